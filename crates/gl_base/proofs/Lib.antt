@@ -1,0 +1,9 @@
+pub mod AtPositions
+pub mod ChipWords
+pub mod Decimals
+pub mod FirstRows
+pub mod Labels
+pub mod Names
+pub mod Order
+pub mod Padding
+pub mod Seen

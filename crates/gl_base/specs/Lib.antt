@@ -1,0 +1,15 @@
+pub mod Bits
+pub mod ChipWord
+pub mod Count
+pub mod Decimal
+pub mod Errno
+pub mod Label
+pub mod Lines
+pub mod Name
+pub mod Ordered
+pub mod Padded
+pub mod Path
+pub mod Planned
+pub mod Positions
+pub mod Refusals
+pub mod Rows

@@ -1,0 +1,14 @@
+//! Vectors with room.
+ghost use Rattle.std.specs.Prelude.{◌≡◌, ◌<◌, ◌≤◌, [], ◌∷◌, ◌++◌, length, vec_capacity};
+
+/// Adds an item behind the others, where there is room for it, and takes no memory.
+pub fn push_within<T: Drop>(items: &mut Vec<T>, item: T)
+    requires { length items.old.items < vec_capacity items.old }
+    ensures items { items.new.items ≡ items.old.items ++ item ∷ [] }
+    ensures capacity { vec_capacity items.old ≤ vec_capacity items.new }
+{
+    match items.push(item) {
+        Ok(()) => {}
+        Err(_) => {}
+    }
+}
