@@ -1,0 +1,6 @@
+//! The places and their chips.
+#![tactic(auto)]
+
+mod registry;
+
+pub use registry::{Chip, Registry};
