@@ -1,0 +1,15 @@
+//! Where a session's bytes come from and where its output goes: the traits [`Source`] and [`Sink`],
+//! their implementations in memory, and those over standard input and output.
+#![tactic(auto)]
+
+mod memory_sink;
+mod memory_source;
+mod standard;
+#[cfg(test)]
+mod tests;
+mod traits;
+
+pub use memory_sink::MemSink;
+pub use memory_source::MemSource;
+pub use standard::{StdSink, StdSource};
+pub use traits::{Sink, SinkFault, Source, SourceFault};
