@@ -1,0 +1,37 @@
+//! How a run ends.
+ghost use Rattle.std.specs.Prelude.{◌≡◌};
+
+/// How a run ends. The causes stand in the order in which they are looked for, but for `Ran`.
+#[derive(Clone, Copy, Debug, PartialEq, Eq)]
+pub enum Status {
+    /// The session ran, and its text was written.
+    Ran,
+    /// The words are none that the program takes.
+    Usage,
+    /// The bytes are no session.
+    Refused,
+    /// The session could not be read.
+    ReadFault,
+    /// The output could not be written.
+    WriteFault,
+    /// Memory is wanted.
+    NoMemory,
+}
+
+impl Status {
+    ghost use Rattle.gl_session.specs.Status.{status_number};
+
+    /// The number that the process ends with: 0, 2, 3, 4, 5 and 6, in the order above.
+    pub fn number(self) -> u8
+        ensures { result ≡ status_number self }
+    {
+        match self {
+            Status::Ran => 0,
+            Status::Usage => 2,
+            Status::Refused => 3,
+            Status::ReadFault => 4,
+            Status::WriteFault => 5,
+            Status::NoMemory => 6,
+        }
+    }
+}
