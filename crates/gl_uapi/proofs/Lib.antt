@@ -1,0 +1,10 @@
+pub mod ChangedLaws
+pub mod ChipLaws
+pub mod EventLaws
+pub mod InfoLaws
+pub mod NameFields
+pub mod Periods
+pub mod Reading
+pub mod RequestLaws
+pub mod ValuesLaws
+pub mod Writing

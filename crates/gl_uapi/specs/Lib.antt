@@ -1,0 +1,9 @@
+pub mod ChipInfo
+pub mod Command
+pub mod Fields
+pub mod InfoChanged
+pub mod LineConfig
+pub mod LineEvent
+pub mod LineInfo
+pub mod LineRequest
+pub mod LineValues
