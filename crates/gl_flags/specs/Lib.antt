@@ -1,0 +1,3 @@
+pub mod FlagFault
+pub mod LineFlags
+pub mod Table
