@@ -1,0 +1,2 @@
+pub mod ConfigFault
+pub mod Setting

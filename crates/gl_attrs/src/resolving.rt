@@ -1,0 +1,110 @@
+//! A configuration's settings, line by line.
+
+ghost use Rattle.std.specs.Prelude.{◌≡◌, ◌<◌, ◌≤◌, None, Some, IfOk, IfErr};
+ghost use Rattle.gl_base.specs.Positions.{table_from};
+ghost use Rattle.std.specs.Option.{option_map};
+ghost use Rattle.gl_uapi.specs.LineConfig.{attribute_in};
+ghost use Rattle.gl_attrs.specs.Setting.{attribute_for, flags_for, value_for, period_for, settings_for, resolved_for, unset};
+ghost use Rattle.gl_attrs.specs.ConfigFault.{config_fault, line_fault};
+
+use gl_base::{Errno, Resolved, Settings, flag, has_bit};
+use gl_flags::check;
+use gl_uapi::layout::{
+    ATTRIBUTE_DEBOUNCE, ATTRIBUTE_FLAGS, ATTRIBUTE_OUTPUT_VALUES, ATTRIBUTES_MAX,
+};
+use gl_uapi::{AttrRef, ConfigRef};
+
+/// What the settings of a line past those of the request are.
+const UNSET: Settings = Settings {
+    flags: 0,
+    value: false,
+    debounce_us: 0,
+};
+
+/// The settings of the first `lines` lines, 1 to 64 of them, of a request with this configuration. Past
+/// them the array has no flags, the value false and no period.
+///
+/// The refusals, the first case that holds:
+///
+/// - `Inval`: more than ten attributes, or padding that isn't zero.
+/// - For each line in order, what [`check`] says of its flags; then `Inval` where a debounce attribute
+///   has the line and its flags lack `INPUT`.
+pub fn resolve(config: ConfigRef<'_>, lines: u32) -> Result<Resolved, Errno>
+    requires some { 0 < lines }
+    requires room { lines ≤ 64 }
+    ensures set { IfOk result (λ resolved. resolved ≡ resolved_for config.entry lines) }
+    ensures passed { IfOk result (λ _. config_fault config.entry lines ≡ None) }
+    ensures refused { IfErr result (λ errno. config_fault config.entry lines ≡ Some errno) }
+{
+    if config.num_attrs() > ATTRIBUTES_MAX || !config.padding_is_zero() {
+        return Err(Errno::Inval);
+    }
+    let mut settings = unset_lines();
+    for i in 0..lines {
+        match line_settings(&config, i) {
+            Ok(line) => settings[i as usize] = line,
+            Err(errno) => return Err(errno),
+        }
+    }
+    Ok(Resolved {
+        count: lines,
+        lines: settings,
+    })
+}
+
+/// Settings of no line.
+#[tactic(auto, unfolding(gl_base::specs::Positions::table_from))]
+fn unset_lines() -> [Settings; 64]
+    ensures { result ≡ table_from (λ _. unset) 0 64 }
+{
+    [UNSET; 64]
+}
+
+/// The settings of the line at place `i` of the request, or why it can't have them.
+fn line_settings(config: &ConfigRef<'_>, i: u32) -> Result<Settings, Errno>
+    requires { i < 64 }
+    ensures set { IfOk result (λ settings. settings ≡ settings_for config.now i) }
+    ensures passed { IfOk result (λ _. line_fault config.now i ≡ None) }
+    ensures refused { IfErr result (λ errno. line_fault config.now i ≡ Some errno) }
+{
+    let flags = match attribute_of(config, ATTRIBUTE_FLAGS, i) {
+        Some(attribute) => attribute.value(),
+        None => config.flags(),
+    };
+    let value = match attribute_of(config, ATTRIBUTE_OUTPUT_VALUES, i) {
+        Some(attribute) => has_bit(attribute.value(), i),
+        None => false,
+    };
+    let (debounced, debounce_us) = match attribute_of(config, ATTRIBUTE_DEBOUNCE, i) {
+        Some(attribute) => (true, attribute.period()),
+        None => (false, 0),
+    };
+    match check(flags) {
+        Err(errno) => Err(errno),
+        Ok(checked) => {
+            if debounced && !checked.has(flag::INPUT) {
+                return Err(Errno::Inval);
+            }
+            Ok(Settings {
+                flags,
+                value,
+                debounce_us,
+            })
+        }
+    }
+}
+
+/// The first attribute of this kind whose mask has the line at place `i` of the request.
+fn attribute_of<'a>(config: &ConfigRef<'a>, id: u32, i: u32) -> Option<AttrRef<'a>>
+    requires { i < 64 }
+    ensures { option_map attribute_in result ≡ attribute_for id config.now i }
+{
+    let count = config.num_attrs().min(ATTRIBUTES_MAX);
+    for k in 0..count {
+        let attribute = config.attr(k);
+        if attribute.id() == id && has_bit(attribute.mask(), i) {
+            return Some(attribute);
+        }
+    }
+    None
+}
