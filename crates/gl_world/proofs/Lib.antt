@@ -1,0 +1,4 @@
+pub mod Histories
+pub mod Phases
+pub mod Removals
+pub mod Happenings

@@ -1,0 +1,5 @@
+pub mod Ranks
+pub mod History
+pub mod Laws
+pub mod Removal
+pub mod Events
