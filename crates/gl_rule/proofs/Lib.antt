@@ -1,0 +1,13 @@
+pub mod Sums
+pub mod Change
+pub mod Guards
+pub mod Turns
+pub mod Commits
+pub mod Places
+pub mod Entering
+pub mod Leaving
+pub mod Closing
+pub mod Splits
+pub mod Joins
+pub mod Ends
+pub mod Consequences
