@@ -1,0 +1,37 @@
+-- What a port tells, and what calls make of it.
+use Rattle.std.specs.Prelude.{ℕ, Option, Some, None, Result, Ok, Err}
+use Rattle.gl_base.specs.Count.{counted_up}
+use Rattle.gl_base.specs.Planned.{planned_call}
+use Rattle.gl_driver.specs.declared.op.Op.{Op}
+use Rattle.gl_driver.specs.declared.op.Asked.{Asked}
+use Rattle.gl_driver.specs.declared.op.DriverFault.{DriverFault}
+
+-- how many driver calls went through the port, the call that its plan names by its number among them, and the last call
+pub record Told : Type 0 where
+  pub calls : ℕ
+  pub plan : Option ℕ
+  pub last : Option Asked
+
+-- a new port tells no call and no plan
+abbrev pub new_port : Told
+new_port = record { calls = 0; plan = None; last = None }
+
+-- the `nth` call from now on is to fail
+abbrev pub with_plan : ℕ → Option Told → Option Told
+with_plan nth (Some t) = Some (record t { plan = planned_call t.calls nth })
+with_plan nth None = None
+
+-- one more call went through it
+abbrev pub with_call : Op → Option ℕ → Option Told → Option Told
+with_call op answer (Some t) = Some (record { calls = counted_up t.calls; plan = t.plan; last = Some (record { op = op; answer = answer }) })
+with_call op answer None = None
+
+-- what a driver answered, or nothing where it failed
+abbrev pub answer_of : Result ℕ DriverFault → Option ℕ
+answer_of (Ok bits) = Some bits
+answer_of (Err fault) = None
+
+-- a failure is counted
+abbrev pub faults_after : Option ℕ → ℕ → ℕ
+faults_after (Some bits) faults = faults
+faults_after None faults = counted_up faults

@@ -1,0 +1,67 @@
+//! The trait of drivers.
+ghost use Rattle.std.specs.Prelude.{◌≡◌, ◌≢◌, ℕ, ◌≤◌, Bool, true, List, [], length, IfErr, IfSome};
+ghost use Rattle.gl_world.specs.declared.history.Entry.{Entry};
+ghost use Rattle.gl_gate.specs.Values.{IsPassOf};
+ghost use Rattle.gl_gate.specs.Calls.{IsInside, HoldsNoTurn};
+ghost use Rattle.gl_base.specs.Count.{counted_up, Rises};
+ghost use Rattle.gl_base.specs.Planned.{planned_answer};
+ghost use Rattle.gl_driver.specs.declared.op.Op.{Op};
+ghost use Rattle.gl_driver.specs.Told.{with_call, answer_of};
+ghost use Rattle.gl_driver.specs.Calls.{FitsOp, MayMakeEntries, IsBack};
+
+use crate::op::{DriverFault, Op};
+use crate::port::Port;
+use gl_base::PLACES;
+use gl_gate::{Gate, Pass};
+use gl_world::Machine;
+use std::sync::Wait;
+
+/// What stands for a chip's hardware. It is asked by a pass that is inside the chip's place and holds no turn,
+/// so that calls of several passes run side by side. The design of drivers is this project's choice.
+pub trait Driver<M: Machine>: Sync + Drop {
+    /// What an actor asks it through.
+    type Port: Port;
+
+    /// How many entries of its own one call makes at most.
+    const ENTRIES: u32;
+
+    /// How many entries of its own one call makes at most.
+    ghost ENTRIES: { ℕ };
+
+    /// Whether its answers are planned: a failure at exactly the call that the port's plan names, else 0.
+    ghost is_planned: { Bool };
+
+    /// The entries of its own that a call may make: of the port as it was, the place, the operation, and the
+    /// entries with their replies.
+    ghost OwnEntries: { Self.Port → ℕ → Op → List (Entry M M.Call M.Reply M.Gift) → Type 0 };
+
+    /// Asks the driver of the chip at a place. The answer of a `Get` is the bits of its lines.
+    ///
+    /// A fault comes only where the port counted one in this call.
+    fn call<R: Wait>(
+        &self,
+        rt: &R,
+        gate: &Gate<M>,
+        port: &mut Self::Port,
+        pass: &mut Pass<M>,
+        place: u8,
+        op: &Op,
+    ) -> Result<u64, DriverFault>
+        requires gate { IsPassOf gate.now pass.old }
+        requires inside { IsInside pass.old.view place }
+        requires no_turn { HoldsNoTurn pass.old.view }
+        requires op { FitsOp op.now }
+        requires entries { Self.ENTRIES ≢ 0 → MayMakeEntries M.Machine PLACES gate.now pass.old.view place }
+        ensures gate { IsPassOf gate.now pass.new }
+        ensures pass { (own : List (Entry M M.Call M.Reply M.Gift)) × (length own ≤ Self.ENTRIES)
+            × Self.OwnEntries port.old place op.now own × IsBack M.Machine pass.old.view own pass.new.view }
+        ensures told { Self.Port.told port.new ≡ with_call op.now (answer_of result) (Self.Port.told port.old) }
+        ensures never_falls { Self.Port.faults port.old ≤ Self.Port.faults port.new }
+        ensures fault { IfErr result (λ _. Rises (Self.Port.faults port.old) (Self.Port.faults port.new)) }
+        ensures planned { Self.is_planned ≡ true
+            → IfSome (Self.Port.told port.old) (λ t. answer_of result ≡ planned_answer t.plan (counted_up t.calls)) };
+
+    /// A driver that makes no entries owns none.
+    ghost owns_none: { Self.ENTRIES ≡ 0 → (port : Self.Port) (place : ℕ) (op : Op) (own : List (Entry M M.Call M.Reply M.Gift))
+        → Self.OwnEntries port place op own → own ≡ [] };
+}

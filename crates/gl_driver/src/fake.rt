@@ -1,0 +1,112 @@
+//! A driver that answers from a list of levels.
+ghost use Rattle.std.specs.Prelude.{◌≡◌, ℕ, ◌≤◌, ◌<◌, ◌^◌, false, List, [], length};
+ghost use Rattle.gl_world.specs.declared.history.Entry.{Entry};
+ghost use Rattle.gl_gate.specs.Values.{IsPassOf};
+ghost use Rattle.gl_gate.specs.Calls.{IsInside, HoldsNoTurn};
+ghost use Rattle.gl_driver.specs.Told.{with_call, answer_of};
+ghost use Rattle.gl_driver.specs.Calls.{FitsOp, IsBack};
+ghost use Rattle.gl_driver.specs.Levels.{level_at, bits_at, answer_from};
+
+use crate::driver::Driver;
+use crate::op::{DriverFault, Op};
+use crate::port::Port;
+use crate::sim::SimPort;
+use gl_gate::{Gate, Pass};
+use gl_world::Machine;
+use std::marker::Model;
+use std::sync::Wait;
+
+/// A driver whose lines have fixed levels, as a list by offset. Lines past the list are 0. It never waits and
+/// never fails, and answers 0 to all that is no question for levels.
+#[derive(Drop)]
+pub struct FakeDriver {
+    levels: Vec<bool>,
+}
+
+impl Model for FakeDriver {
+    ghost use Rattle.std.specs.Prelude.{List, Bool};
+
+    ghost Value = { List Bool };
+
+    ghost view = { λ d. d.levels.items };
+}
+
+/// The level of a line.
+fn level(levels: &[bool], offset: u32) -> bool
+    ensures { result ≡ level_at levels.now offset }
+{
+    match levels.get(offset as usize) {
+        Some(level) => *level,
+        None => false,
+    }
+}
+
+/// The levels of lines as bits, the first line's lowest.
+fn bits_of(levels: &[bool], offsets: &[u32]) -> u64
+    requires { length offsets.now ≤ 64 }
+    ensures bits { result ≡ bits_at levels.now offsets.now }
+    ensures few { result < 2 ^ length offsets.now }
+{
+    match offsets.split_first() {
+        Some((first, others)) => 2 * bits_of(levels, others) + u64::from(level(levels, *first)),
+        None => 0,
+    }
+}
+
+impl FakeDriver {
+    /// A driver whose lines have these levels.
+    pub fn new(levels: Vec<bool>) -> FakeDriver
+        ensures { result ≡ levels.items }
+    {
+        FakeDriver { levels }
+    }
+
+    /// What the driver answers.
+    fn answer(&self, op: &Op) -> u64
+        requires { FitsOp op.now }
+        ensures { result ≡ answer_from self.now op.now }
+    {
+        match op {
+            Op::Get { lines } => bits_of(self.levels.as_slice(), lines.offsets()),
+            _ => 0,
+        }
+    }
+}
+
+impl<M: Machine> Driver<M> for FakeDriver {
+    type Port = SimPort;
+
+    const ENTRIES: u32 = 0;
+
+    ghost ENTRIES = { 0 };
+
+    ghost is_planned = { false };
+
+    ghost OwnEntries = { λ _ _ _ own. own ≡ [] };
+
+    fn call<R: Wait>(
+        &self,
+        _rt: &R,
+        gate: &Gate<M>,
+        port: &mut SimPort,
+        pass: &mut Pass<M>,
+        place: u8,
+        op: &Op,
+    ) -> Result<u64, DriverFault>
+        requires gate { IsPassOf gate.now pass.old }
+        requires inside { IsInside pass.old.view place }
+        requires no_turn { HoldsNoTurn pass.old.view }
+        requires op { FitsOp op.now }
+        ensures answer { result ≡ Ok (answer_from self.now op.now) }
+        ensures gate { IsPassOf gate.now pass.new }
+        ensures pass { (own : List (Entry M M.Call M.Reply M.Gift)) × (length own ≤ 0)
+            × (own ≡ []) × IsBack M.Machine pass.old.view own pass.new.view }
+        ensures told { ⟦<SimPort as Port>⟧.told port.new
+            ≡ with_call op.now (answer_of result) (⟦<SimPort as Port>⟧.told port.old) }
+        ensures never_falls { ⟦<SimPort as Port>⟧.faults port.old ≤ ⟦<SimPort as Port>⟧.faults port.new }
+    {
+        port.take_down(op, Some(self.answer(op)))
+    }
+
+    ghost owns_none = { λ _ _ _ _ _ is. is };
+}

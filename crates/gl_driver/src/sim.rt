@@ -1,0 +1,123 @@
+//! The simulated driver and its port.
+ghost use Rattle.std.specs.Prelude.{◌≡◌, ◌≢◌, ℕ, ◌≤◌, ◌^◌, true, false, [], Some, None, IsTrue, IfErr};
+ghost use Rattle.std.proofs.Common.{refl};
+ghost use Rattle.gl_base.specs.Count.{counted_up, Rises};
+ghost use Rattle.gl_base.specs.Planned.{names_call};
+ghost use Rattle.gl_driver.specs.Told.{new_port, with_call, answer_of, faults_after};
+
+use crate::driver::Driver;
+use crate::op::{Asked, DriverFault, Op};
+use crate::port::Port;
+use gl_gate::{Gate, Pass};
+use gl_world::Machine;
+use std::sync::Wait;
+
+/// One more, up to the end of a `u64`.
+fn count_up(count: u64) -> u64
+    ensures { result ≡ counted_up count }
+{
+    count.saturating_add(1)
+}
+
+/// A port that tells all that went through it.
+#[derive(Drop)]
+pub struct SimPort {
+    calls: u64,
+    /// The call that fails, by its number among all calls, counted from 1.
+    plan: Option<u128>,
+    last: Option<Asked>,
+    faults: u64,
+}
+
+impl Port for SimPort {
+    ghost told = { λ p. Some record { calls = p.calls; plan = p.plan; last = p.last } };
+
+    ghost faults = { λ p. p.faults };
+
+    fn faults(&self) -> u64 {
+        self.faults
+    }
+
+    fn plan(&mut self, nth: u32) {
+        self.plan = if nth == 0 {
+            None
+        } else {
+            Some(u128::from(self.calls) + u128::from(nth))
+        };
+    }
+}
+
+impl SimPort {
+    /// A port through which no call went, with no plan.
+    pub fn new() -> SimPort
+        ensures told { ⟦<SimPort as Port>⟧.told result ≡ Some new_port }
+        ensures faults { ⟦<SimPort as Port>⟧.faults result ≡ 0 }
+    {
+        SimPort {
+            calls: 0,
+            plan: None,
+            last: None,
+            faults: 0,
+        }
+    }
+
+    /// The plan names the next call.
+    pub(crate) fn fails_next(&self) -> bool
+        ensures { result ≡ names_call self.now.plan (counted_up self.now.calls) }
+    {
+        match self.plan {
+            Some(call) => call == u128::from(count_up(self.calls)),
+            None => false,
+        }
+    }
+
+    /// Takes down a call and its answer, and counts a failure.
+    pub(crate) fn take_down(&mut self, op: &Op, answer: Option<u64>) -> Result<u64, DriverFault>
+        ensures answer { answer_of result ≡ answer }
+        ensures told { ⟦<SimPort as Port>⟧.told self.new ≡ with_call op.now answer (⟦<SimPort as Port>⟧.told self.old) }
+        ensures faults { self.new.faults ≡ faults_after answer self.old.faults }
+        ensures never_falls { self.old.faults ≤ self.new.faults }
+        ensures fault { IfErr result (λ _. Rises self.old.faults self.new.faults) }
+    {
+        self.calls = count_up(self.calls);
+        self.last = Some(Asked { op: *op, answer });
+        match answer {
+            Some(bits) => Ok(bits),
+            None => {
+                self.faults = count_up(self.faults);
+                Err(DriverFault)
+            }
+        }
+    }
+}
+
+/// A driver without hardware: it never waits, answers 0, and fails as its port plans.
+#[derive(Clone, Copy, Debug)]
+pub struct SimDriver;
+
+impl<M: Machine> Driver<M> for SimDriver {
+    type Port = SimPort;
+
+    const ENTRIES: u32 = 0;
+
+    ghost ENTRIES = { 0 };
+
+    ghost is_planned = { true };
+
+    ghost OwnEntries = { λ _ _ _ own. own ≡ [] };
+
+    fn call<R: Wait>(
+        &self,
+        _rt: &R,
+        _gate: &Gate<M>,
+        port: &mut SimPort,
+        _pass: &mut Pass<M>,
+        _place: u8,
+        op: &Op,
+    ) -> Result<u64, DriverFault> {
+        let answer = if port.fails_next() { None } else { Some(0) };
+        port.take_down(op, answer)
+    }
+
+    ghost owns_none = { λ _ _ _ _ _ is. is };
+}
