@@ -1,0 +1,5 @@
+pub mod Adder
+pub mod AdderLaws
+pub mod House
+pub mod HouseLaws
+pub mod Free

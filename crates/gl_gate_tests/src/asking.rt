@@ -1,0 +1,41 @@
+//! Calls of drivers by passes of the adder's gate.
+ghost use Rattle.std.specs.Prelude.{◌≡◌, ℕ, ◌<◌, false};
+ghost use Rattle.gl_gate.specs.Values.{IsPassOf};
+ghost use Rattle.gl_gate.specs.Calls.{IsOutside, HoldsNoTurn};
+
+use crate::adder::Adder;
+use gl_base::Lines;
+use gl_driver::{Driver, DriverFault, Op};
+use gl_gate::{Gate, Pass};
+use std::sync::Wait;
+
+/// Asks a driver for the levels of lines 0 and 2 of the chip at place 0. Nothing where the place is closed.
+pub fn ask<R: Wait, D: Driver<Adder>>(
+    rt: &R,
+    driver: &D,
+    gate: &Gate<Adder>,
+    port: &mut D::Port,
+    pass: &mut Pass<Adder>,
+) -> Option<Result<u64, DriverFault>>
+    requires entries { D.ENTRIES ≡ 0 }
+    requires gate { IsPassOf gate.now pass.old }
+    requires place { 0 < gate.now.places }
+    requires outside { IsOutside pass.old.view 0 }
+    requires no_turn { HoldsNoTurn pass.old.view }
+    ensures gate { IsPassOf gate.now pass.new }
+    ensures no_turn { HoldsNoTurn pass.new.view }
+    ensures inside { pass.new.view.inside ≡ pass.old.view.inside }
+    ensures number { pass.new.view.number ≡ pass.old.view.number }
+{
+    let mut offsets = [0u32; 64];
+    offsets[1] = 2;
+    let op = Op::Get {
+        lines: Lines { count: 2, offsets },
+    };
+    if !gate.enter(pass, 0) {
+        return None;
+    }
+    let answer = driver.call(rt, gate, port, pass, 0, &op);
+    gate.leave(pass, 0);
+    Some(answer)
+}

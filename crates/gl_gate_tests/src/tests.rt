@@ -1,0 +1,283 @@
+ghost use Rattle.std.specs.Prelude.{◌≡◌, ℕ, ◌<◌, []};
+ghost use Rattle.gl_gate_tests.specs.Free.{OwesNothing};
+ghost use Rattle.gl_gate.specs.Values.{IsPassOf};
+ghost use Rattle.gl_gate.specs.Calls.{SamePass, HoldsNoTurn};
+
+use crate::adder::Adder;
+use crate::adding::{add, add_many, add_pairs};
+use crate::asking::ask;
+use crate::errand::Answer;
+use crate::house::House;
+use crate::removal::{begin, finish, turn_away, work};
+use gl_base::{Errno, Phase};
+use gl_driver::{DriverFault, FakeDriver, HoldDriver, Port, SimDriver, SimPort};
+use gl_gate::{Gate, Pass};
+use std::sync::Wait;
+use std::test::Fail;
+use std::thread::{Threads, join};
+
+/// A pass, and how many of its calls were answered.
+type Answered = (Pass<Adder>, u32);
+
+/// Two passes that make as many calls each, in two threads.
+fn two_threads<R: Threads + Wait + Sync>(
+    rt: &R,
+    gate: &Gate<Adder>,
+    first: Pass<Adder>,
+    second: Pass<Adder>,
+    count: u32,
+) -> (Answered, Answered)
+    requires first { IsPassOf gate.now first × OwesNothing first.view }
+    requires second { IsPassOf gate.now second × OwesNothing second.view }
+    ensures first { IsPassOf gate.now result.0.0 × SamePass first.view result.0.0.view }
+    ensures second { IsPassOf gate.now result.1.0 × SamePass second.view result.1.0.view }
+{
+    join(
+        rt,
+        || -> Answered
+            requires { IsPassOf gate.now first × OwesNothing first.view }
+            ensures { IsPassOf gate.entry.now result.0 × SamePass first.view result.0.view }
+        { add_many(rt, gate, first, count) },
+        || -> Answered
+            requires { IsPassOf gate.now second × OwesNothing second.view }
+            ensures { IsPassOf gate.entry.now result.0 × SamePass second.view result.0.view }
+        { add_many(rt, gate, second, count) },
+    )
+}
+
+/// Two passes that make as many pairs of calls each, in two threads.
+fn two_threads_of_pairs<R: Threads + Wait + Sync>(
+    rt: &R,
+    gate: &Gate<Adder>,
+    first: Pass<Adder>,
+    second: Pass<Adder>,
+    count: u32,
+) -> (Answered, Answered)
+    requires first { IsPassOf gate.now first × OwesNothing first.view }
+    requires second { IsPassOf gate.now second × OwesNothing second.view }
+    ensures first { IsPassOf gate.now result.0.0 × SamePass first.view result.0.0.view }
+    ensures second { IsPassOf gate.now result.1.0 × SamePass second.view result.1.0.view }
+{
+    join(
+        rt,
+        || -> Answered
+            requires { IsPassOf gate.now first × OwesNothing first.view }
+            ensures { IsPassOf gate.entry.now result.0 × SamePass first.view result.0.view }
+        { add_pairs(rt, gate, first, count) },
+        || -> Answered
+            requires { IsPassOf gate.now second × OwesNothing second.view }
+            ensures { IsPassOf gate.entry.now result.0 × SamePass second.view result.0.view }
+        { add_pairs(rt, gate, second, count) },
+    )
+}
+
+/// Four passes that make as many pairs of calls each, in four threads.
+fn four_threads_of_pairs<R: Threads + Wait + Sync>(
+    rt: &R,
+    gate: &Gate<Adder>,
+    first: Pass<Adder>,
+    second: Pass<Adder>,
+    third: Pass<Adder>,
+    fourth: Pass<Adder>,
+    count: u32,
+) -> ((Answered, Answered), (Answered, Answered))
+    requires first { IsPassOf gate.now first × OwesNothing first.view }
+    requires second { IsPassOf gate.now second × OwesNothing second.view }
+    requires third { IsPassOf gate.now third × OwesNothing third.view }
+    requires fourth { IsPassOf gate.now fourth × OwesNothing fourth.view }
+    ensures first { IsPassOf gate.now result.0.0.0 × SamePass first.view result.0.0.0.view }
+    ensures second { IsPassOf gate.now result.0.1.0 × SamePass second.view result.0.1.0.view }
+    ensures third { IsPassOf gate.now result.1.0.0 × SamePass third.view result.1.0.0.view }
+    ensures fourth { IsPassOf gate.now result.1.1.0 × SamePass fourth.view result.1.1.0.view }
+{
+    join(
+        rt,
+        || -> (Answered, Answered)
+            requires first { IsPassOf gate.now first × OwesNothing first.view }
+            requires second { IsPassOf gate.now second × OwesNothing second.view }
+            ensures first { IsPassOf gate.entry.now result.0.0 × SamePass first.view result.0.0.view }
+            ensures second { IsPassOf gate.entry.now result.1.0 × SamePass second.view result.1.0.view }
+        { two_threads_of_pairs(rt, gate, first, second, count) },
+        || -> (Answered, Answered)
+            requires third { IsPassOf gate.now third × OwesNothing third.view }
+            requires fourth { IsPassOf gate.now fourth × OwesNothing fourth.view }
+            ensures third { IsPassOf gate.entry.now result.0.0 × SamePass third.view result.0.0.view }
+            ensures fourth { IsPassOf gate.entry.now result.1.0 × SamePass fourth.view result.1.0.view }
+        { two_threads_of_pairs(rt, gate, third, fourth, count) },
+    )
+}
+
+#[test]
+fn two_threads_make_two_thousand_calls_and_the_kth_reply_is_k(rt: HostRuntime) -> Result<(), Fail> {
+    let Ok((gate, mut first)) = Gate::new(rt.alloc(), Adder { value: 0 }, 1, 2000) else {
+        panic!(rt; "no memory")
+    };
+    let second = gate.split(&mut first);
+    let ((mut first, by_first), (second, by_second)) = two_threads(&rt, &gate, first, second, 1000);
+    gate.join(&mut first, second);
+    let (machine, history) = gate.finish(first);
+    assert!(rt; by_first == 1000 && by_second == 1000);
+    assert!(rt; machine.value == 2000 && history.len() == 2000);
+    for k in 0..history.len() {
+        assert!(rt; history[k].reply == k as u64);
+    }
+    Ok(())
+}
+
+#[test]
+fn with_room_for_one_the_second_call_is_full(rt: HostRuntime) -> Result<(), Fail> {
+    let Ok((gate, mut pass)) = Gate::new(rt.alloc(), Adder { value: 0 }, 1, 1) else {
+        panic!(rt; "no memory")
+    };
+    assert!(rt; add(&rt, &gate, &mut pass) == Ok(0));
+    assert!(rt; add(&rt, &gate, &mut pass) == Err(Errno::Full));
+    let (machine, history) = gate.finish(pass);
+    assert!(rt; machine.value == 1 && history.len() == 1);
+    Ok(())
+}
+
+#[test]
+fn four_threads_pay_all_that_they_owe(rt: HostRuntime) -> Result<(), Fail> {
+    let Ok((gate, mut first)) = Gate::new(rt.alloc(), Adder { value: 0 }, 1, 800) else {
+        panic!(rt; "no memory")
+    };
+    let second = gate.split(&mut first);
+    let third = gate.split(&mut first);
+    let fourth = gate.split(&mut first);
+    let (((mut first, a), (second, b)), ((third, c), (fourth, d))) = four_threads_of_pairs(
+        &rt, &gate, first, second, third, fourth, 100,
+    );
+    gate.join(&mut first, second);
+    gate.join(&mut first, third);
+    gate.join(&mut first, fourth);
+    let (machine, history) = gate.finish(first);
+    assert!(rt; a == 100 && b == 100 && c == 100 && d == 100);
+    assert!(rt; machine.value == 800 && history.len() == 800);
+    Ok(())
+}
+
+#[test]
+fn a_removal_waits_for_those_inside(rt: HostRuntime) -> Result<(), Fail> {
+    let house = House {
+        phase: Phase::Up,
+        remover: 0,
+    };
+    let Ok((gate, mut first)) = Gate::new(rt.alloc(), house, 1, 10) else {
+        panic!(rt; "no memory")
+    };
+    let mut remover = gate.split(&mut first);
+    let mut late = gate.split(&mut first);
+    assert!(rt; gate.enter(&mut first, 0));
+    assert!(rt; begin(&rt, &gate, &mut remover));
+    gate.close_place(&mut remover, 0);
+    assert!(rt; !gate.look(&mut remover, 0));
+    assert!(rt; !gate.enter(&mut late, 0));
+    assert!(rt; turn_away(&rt, &gate, &mut late) == Ok(Answer::NoDev));
+    assert!(rt; work(&rt, &gate, &mut first) == Ok(Answer::Done));
+    gate.leave(&mut first, 0);
+    assert!(rt; gate.look(&mut remover, 0));
+    gate.drain(&rt, &mut remover, 0);
+    assert!(rt; finish(&rt, &gate, &mut remover) == Answer::Done);
+    gate.join(&mut first, remover);
+    gate.join(&mut first, late);
+    let (house, history) = gate.finish(first);
+    assert!(rt; house.phase == Phase::Gone && history.len() == 4);
+    Ok(())
+}
+
+/// An answer of a driver, with the port and the pass through which it was asked.
+type Asked = (Option<Result<u64, DriverFault>>, SimPort, Pass<Adder>);
+
+/// One call of a driver, through a port and a pass that come back.
+fn ask_once<R: Wait>(
+    rt: &R,
+    driver: &HoldDriver,
+    gate: &Gate<Adder>,
+    mut pass: Pass<Adder>,
+) -> Asked
+    requires gate { IsPassOf gate.now pass }
+    requires place { 0 < gate.now.places }
+    requires outside { pass.view.inside ≡ [] }
+    requires no_turn { HoldsNoTurn pass.view }
+    ensures gate { IsPassOf gate.now result.2 }
+    ensures outside { result.2.view.inside ≡ [] }
+    ensures number { result.2.view.number ≡ pass.view.number }
+{
+    let mut port = SimPort::new();
+    let answer = ask(rt, driver, gate, &mut port, &mut pass);
+    (answer, port, pass)
+}
+
+/// Two calls of a driver, in two threads.
+fn ask_in_two_threads<R: Threads + Wait + Sync>(
+    rt: &R,
+    driver: &HoldDriver,
+    gate: &Gate<Adder>,
+    first: Pass<Adder>,
+    second: Pass<Adder>,
+) -> (Asked, Asked)
+    requires first { IsPassOf gate.now first × (first.view.inside ≡ []) × HoldsNoTurn first.view }
+    requires second { IsPassOf gate.now second × (second.view.inside ≡ []) × HoldsNoTurn second.view }
+    requires place { 0 < gate.now.places }
+    ensures first { IsPassOf gate.now result.0.2 × (result.0.2.view.number ≡ first.view.number) }
+    ensures second { IsPassOf gate.now result.1.2 × (result.1.2.view.number ≡ second.view.number) }
+    ensures outside { result.1.2.view.inside ≡ [] }
+{
+    join(
+        rt,
+        || -> Asked
+            requires pass { IsPassOf gate.now first × (first.view.inside ≡ []) × HoldsNoTurn first.view }
+            requires place { 0 < gate.now.places }
+            ensures pass { IsPassOf gate.entry.now result.2 × (result.2.view.number ≡ first.view.number) }
+        { ask_once(rt, driver, gate, first) },
+        || -> Asked
+            requires pass { IsPassOf gate.now second × (second.view.inside ≡ []) × HoldsNoTurn second.view }
+            requires place { 0 < gate.now.places }
+            ensures pass { IsPassOf gate.entry.now result.2 × (result.2.view.number ≡ second.view.number) }
+            ensures outside { result.2.view.inside ≡ [] }
+        { ask_once(rt, driver, gate, second) },
+    )
+}
+
+#[test]
+fn two_driver_calls_run_beside_each_other(rt: HostRuntime) -> Result<(), Fail> {
+    let Ok((gate, mut first)) = Gate::new(rt.alloc(), Adder { value: 0 }, 1, 1) else {
+        panic!(rt; "no memory")
+    };
+    let driver = HoldDriver::new(2);
+    let second = gate.split(&mut first);
+    let ((a, one, _first), (b, two, _second)) = ask_in_two_threads(
+        &rt, &driver, &gate, first, second,
+    );
+    assert!(rt; a == Some(Ok(0)) && b == Some(Ok(0)));
+    assert!(rt; one.faults() == 0 && two.faults() == 0);
+    Ok(())
+}
+
+#[test]
+fn a_kept_driver_call_that_stays_alone_fails_by_the_count(rt: HostRuntime) -> Result<(), Fail> {
+    let Ok((gate, pass)) = Gate::new(rt.alloc(), Adder { value: 0 }, 1, 1) else {
+        panic!(rt; "no memory")
+    };
+    let driver = HoldDriver::new(2);
+    let (answer, port, _pass) = ask_once(&rt, &driver, &gate, pass);
+    assert!(rt; answer == Some(Err(DriverFault)));
+    assert!(rt; port.faults() == 1);
+    Ok(())
+}
+
+#[test]
+fn drivers_answer_as_planned_and_from_their_levels(rt: HostRuntime) -> Result<(), Fail> {
+    let Ok((gate, mut pass)) = Gate::new(rt.alloc(), Adder { value: 0 }, 1, 1) else {
+        panic!(rt; "no memory")
+    };
+    let mut port = SimPort::new();
+    port.plan(2);
+    assert!(rt; ask(&rt, &SimDriver, &gate, &mut port, &mut pass) == Some(Ok(0)));
+    assert!(rt; ask(&rt, &SimDriver, &gate, &mut port, &mut pass) == Some(Err(DriverFault)));
+    assert!(rt; ask(&rt, &SimDriver, &gate, &mut port, &mut pass) == Some(Ok(0)));
+    assert!(rt; port.faults() == 1);
+    let fake = FakeDriver::new(vec![in rt.alloc(); false, true, true]?);
+    assert!(rt; ask(&rt, &fake, &gate, &mut port, &mut pass) == Some(Ok(2)));
+    Ok(())
+}
