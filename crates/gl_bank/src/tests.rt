@@ -1,0 +1,90 @@
+//! What lines show, by the rules for outputs, open drain, open source, active low and bias.
+
+use crate::{Bank, Change, flip};
+use gl_base::{Settings, flag};
+use std::test::Fail;
+
+/// The word of some flags.
+const OUT: u64 = 1 << flag::OUTPUT;
+
+const IN: u64 = 1 << flag::INPUT;
+
+const LOW: u64 = 1 << flag::ACTIVE_LOW;
+
+const DRAIN: u64 = 1 << flag::OPEN_DRAIN;
+
+const SOURCE: u64 = 1 << flag::OPEN_SOURCE;
+
+const UP: u64 = 1 << flag::BIAS_PULL_UP;
+
+const DOWN: u64 = 1 << flag::BIAS_PULL_DOWN;
+
+#[test]
+fn a_line_shows_its_drive_or_its_pull(rt: HostRuntime) -> Result<(), Fail> {
+    // flags, value, pull before; level, logical value
+    let cases = [
+        (OUT, true, false, true, true),
+        (OUT | LOW, true, true, false, true),
+        (OUT | DRAIN, true, false, false, false),
+        (OUT | DRAIN, true, true, true, true),
+        (OUT | DRAIN, false, true, false, false),
+        (OUT | SOURCE, false, true, true, true),
+        (OUT | SOURCE, true, false, true, true),
+        (IN, true, true, true, true),
+        (IN | LOW, false, true, true, false),
+        (IN | UP, false, false, true, true),
+        (IN | DOWN, false, true, false, false),
+    ];
+    for (flags, value, up, level, logical) in cases {
+        let mut bank = Bank::new(rt.alloc(), 4)?;
+        bank.fit(3);
+        let _ = bank.set_pull(2, up);
+        bank.apply(
+            2,
+            Settings {
+                flags,
+                value,
+                debounce_us: 0,
+            },
+        );
+        assert_eq!(rt; bank.level(2), level, "flags {flags}");
+        assert_eq!(rt; bank.logical(2), logical, "flags {flags}");
+    }
+    Ok(())
+}
+
+#[test]
+fn a_release_keeps_the_direction_and_a_kept_output_drives_its_pull(
+    rt: HostRuntime,
+) -> Result<(), Fail> {
+    let mut bank = Bank::new(rt.alloc(), 1)?;
+    assert_eq!(rt; bank.set_pull(0, true), Some(Change { rose: true }));
+    assert_eq!(rt; bank.set_pull(0, true), None);
+    bank.apply(
+        0,
+        Settings {
+            flags: OUT,
+            value: false,
+            debounce_us: 9,
+        },
+    );
+    assert_eq!(rt; bank.line(0).debounce_us, 9);
+    assert_eq!(rt; bank.set_pull(0, false), None);
+    bank.drive(0, true);
+    assert!(rt; bank.level(0));
+    bank.release(0);
+    assert!(rt; bank.is_output(0) && !bank.level(0));
+    let _ = bank.set_pull(0, true);
+    bank.apply(
+        0,
+        Settings {
+            flags: 0,
+            value: false,
+            debounce_us: 0,
+        },
+    );
+    let _ = bank.set_pull(0, false);
+    assert!(rt; bank.level(0) && !bank.pull(0));
+    assert!(rt; flip(LOW, false) && !flip(IN, false));
+    Ok(())
+}
