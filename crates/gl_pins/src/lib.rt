@@ -1,0 +1,10 @@
+//! The pins of a chip: which line each maps to, and which are held for another function.
+#![tactic(auto)]
+
+mod pins;
+mod range;
+#[cfg(test)]
+mod tests;
+
+pub use pins::{PINS_MAX, Pins, RANGES_MAX};
+pub use range::PinRange;
