@@ -1,0 +1,43 @@
+-- The timers of the lines, after the kernel's software debouncing of the GPIO character device. A table has
+-- a row for each line of each place, by place and then by offset; a line that isn't debounced has no timer.
+use Rattle.std.specs.Prelude.{ℕ, Bool, ◌+◌, ◌*◌, List, Option, Some, None, replicate, slice_index_or, slice_set}
+use Rattle.std.specs.Option.{option_map}
+use Rattle.gl_base.specs.Positions.{change_at}
+use Rattle.gl_base.specs.declared.limits.TheConstants.{LINES_MAX, PLACES}
+use Rattle.gl_debounce.specs.declared.timer.Timer.{Timer}
+
+-- where the line stands in the table
+abbrev pub line_number : ℕ → ℕ → ℕ
+line_number place offset = place * LINES_MAX + offset
+
+-- the line's timer, if it has one
+abbrev pub timer_at : List (Option Timer) → ℕ → ℕ → Option Timer
+timer_at lines place offset = slice_index_or lines (line_number place offset) None
+
+-- the table in which no line has a timer
+unfoldable pub no_timers : List (Option Timer)
+no_timers = replicate (PLACES * LINES_MAX) None
+
+-- the table with the line's timer changed; a line without one stays without
+abbrev pub with_timer : (Timer → Timer) → ℕ → ℕ → List (Option Timer) → List (Option Timer)
+with_timer f place offset lines = change_at None (line_number place offset) (option_map f) lines
+
+-- the table in which the line has this timer
+abbrev pub with_new_timer : Timer → ℕ → ℕ → List (Option Timer) → List (Option Timer)
+with_new_timer timer place offset lines = slice_set lines (line_number place offset) (Some timer)
+
+-- the timer of a line that has settled at this level
+abbrev pub still : Bool → Timer
+still level = record { raw = level; settled = level; deadline = None }
+
+-- the timer without its deadline
+abbrev pub without_deadline : Timer → Timer
+without_deadline timer = record timer { deadline = None }
+
+-- the timer after an edge to this level, which is to settle at the deadline
+abbrev pub with_raw : Bool → ℕ → Timer → Timer
+with_raw level deadline timer = record timer { raw = level; deadline = Some deadline }
+
+-- the timer whose level has settled
+abbrev pub settled_at_raw : Timer → Timer
+settled_at_raw timer = record { raw = timer.raw; settled = timer.raw; deadline = None }

@@ -1,0 +1,113 @@
+//! One line's timer.
+
+ghost use Rattle.std.specs.Prelude.{◌≡◌, ◌<◌};
+ghost use Rattle.gl_debounce.specs.Fire.{comes_before, fired_at};
+ghost use Rattle.gl_debounce.specs.Timer.{settled_at_raw, still, with_raw, without_deadline};
+
+use gl_base::{LINES_MAX, PLACES};
+
+/// How many lines there are: each place has room for `LINES_MAX`.
+pub(crate) const TABLE_SIZE: usize = PLACES as usize * LINES_MAX as usize;
+
+/// What is kept of a line that is debounced.
+#[derive(Clone, Copy, PartialEq, Eq, Debug)]
+pub struct Timer {
+    /// The line's level.
+    pub raw: bool,
+    /// The level that it settled at last.
+    pub settled: bool,
+    /// When its level is to settle, in nanoseconds of the monotonic clock, if it isn't settled.
+    pub deadline: Option<u64>,
+}
+
+/// A line whose level has settled.
+#[derive(Clone, Copy, PartialEq, Eq, Debug)]
+pub struct Fired {
+    /// The place of its chip.
+    pub place: u8,
+    /// Its offset on the chip.
+    pub offset: u32,
+    /// When it was to settle, in nanoseconds of the monotonic clock.
+    pub deadline: u64,
+    /// The level that it settled at.
+    pub level: bool,
+    /// Whether this is another level than that which it settled at before.
+    pub changed: bool,
+}
+
+impl Timer {
+    /// The timer of a line that has settled at this level.
+    pub(crate) fn still(level: bool) -> Timer
+        ensures { result ≡ still level }
+    {
+        Timer {
+            raw: level,
+            settled: level,
+            deadline: None,
+        }
+    }
+
+    /// The timer without its deadline.
+    pub(crate) fn without_deadline(self) -> Timer
+        ensures { result ≡ without_deadline self }
+    {
+        Timer {
+            deadline: None,
+            ..self
+        }
+    }
+
+    /// The timer after an edge to this level.
+    pub(crate) fn with_raw(self, level: bool, deadline: u64) -> Timer
+        ensures { result ≡ with_raw level deadline self }
+    {
+        Timer {
+            raw: level,
+            deadline: Some(deadline),
+            ..self
+        }
+    }
+
+    /// The timer whose level has settled.
+    pub(crate) fn settled_at_raw(self) -> Timer
+        ensures { result ≡ settled_at_raw self }
+    {
+        Timer::still(self.raw)
+    }
+}
+
+/// The line with number `n`, if its deadline has come.
+pub(crate) fn fired_at(now: u64, n: usize, timer: Option<Timer>) -> Option<Fired>
+    requires { n < TABLE_SIZE }
+    ensures { result ≡ fired_at now n timer }
+{
+    match timer {
+        None => None,
+        Some(timer) => match timer.deadline {
+            None => None,
+            Some(deadline) => {
+                if deadline <= now {
+                    Some(Fired {
+                        place: (n / LINES_MAX as usize) as u8,
+                        offset: (n % LINES_MAX as usize) as u32,
+                        deadline,
+                        level: timer.raw,
+                        changed: timer.raw != timer.settled,
+                    })
+                } else {
+                    None
+                }
+            }
+        },
+    }
+}
+
+/// Whether a line settles before another: by deadline, place and offset.
+pub(crate) fn comes_before(first: &Fired, second: &Fired) -> bool
+    ensures { result ≡ comes_before first.now second.now }
+{
+    first.deadline < second.deadline
+        || (first.deadline == second.deadline
+            && (first.place < second.place
+                || (first.place == second.place && first.offset < second.offset)))
+}
