@@ -1,0 +1,5 @@
+use Rattle.gl_request.proofs.Numbers.{events_of-more}
+use Rattle.gl_request.proofs.laws.events_are_the_edges.Goals as goal
+
+pub returns : goal.returns
+returns c = events_of-more

@@ -1,0 +1,117 @@
+-- The requests of lines, after the kernel's GPIO character device. A table has a row for each request, in the
+-- order of their claims.
+use Rattle.std.specs.Prelude.{ℕ, Bool, false, true, ◌+◌, ◌%◌, ◌^◌, ◌≤◌, ◌&&◌, ◌==◌, not, nat_lt, if◌then◌else◌, List, Option, Some, None, find, replicate, slice_index, slice_index_or, slice_set}
+use Rattle.circular_buffer.specs.Buffer.{Buffer}
+use Rattle.gl_base.specs.Bits.{has_bit}
+use Rattle.gl_base.specs.declared.flag.TheConstants.{EDGE_FALLING, EDGE_RISING}
+use Rattle.gl_base.specs.declared.settings.Resolved.{Resolved}
+use Rattle.gl_base.specs.declared.settings.Settings.{Settings}
+use Rattle.gl_uapi.specs.declared.layout.TheConstants.{EVENT_FALLING, EVENT_RISING}
+use Rattle.gl_uapi.specs.declared.line_events.Event.{Event}
+use Rattle.gl_ring.specs.Waiting.{left, pushed}
+use Rattle.gl_request.specs.declared.row.Claim.{Claim}
+use Rattle.gl_request.specs.declared.row.Row.{Row}
+
+-- the request has this number
+abbrev pub is_number : ℕ → Row → Bool
+is_number fd row = row.fd == fd
+
+-- the request of a number
+abbrev pub request_at : List Row → ℕ → Option Row
+request_at rows fd = find (is_number fd) rows
+
+-- it is an unfinished claim of this actor
+abbrev pub is_claim_of : ℕ → Row → Bool
+is_claim_of actor row = not row.held && row.actor == actor
+
+-- an unfinished claim of an actor
+abbrev pub claim_by : List Row → ℕ → Option Row
+claim_by rows actor = find (is_claim_of actor) rows
+
+-- no event of any line yet
+unfoldable pub no_counts : List ℕ
+no_counts = replicate 64 0
+
+-- what a claim begins as
+abbrev pub row_of : Claim → Buffer Event → Row
+row_of claim ring = record {
+  fd = claim.fd;
+  place = claim.place;
+  actor = claim.actor;
+  held = false;
+  lines = claim.lines;
+  settings = claim.settings;
+  ring = ring;
+  count = 0;
+  line_counts = no_counts;
+}
+
+-- what a request was claimed as, with its settings as they are now
+abbrev pub claim_of : Row → Claim
+claim_of row = record { fd = row.fd; place = row.place; actor = row.actor; lines = row.lines; settings = row.settings }
+
+-- the request, finished
+abbrev pub held : Row → Row
+held row = record row { held = true }
+
+-- the request with other settings
+abbrev pub configured : Resolved → Row → Row
+configured settings row = record row { settings = settings }
+
+-- settings of no line
+abbrev pub no_settings : Settings
+no_settings = record { flags = 0; value = false; debounce_us = 0 }
+
+-- the settings of the line at place i of the request, if it has so many
+abbrev pub settings_at : ℕ → Row → Option Settings
+settings_at i row = if nat_lt i row.lines.count then Some (slice_index_or row.settings.lines i no_settings) else None
+
+-- the flag that has a direction monitored
+abbrev pub direction_flag : Bool → ℕ
+direction_flag rising = if rising then EDGE_RISING else EDGE_FALLING
+
+-- the number that tells of a direction
+abbrev pub direction_id : Bool → ℕ
+direction_id rising = if rising then EVENT_RISING else EVENT_FALLING
+
+-- the direction of the line at place i is monitored
+abbrev pub is_monitored : ℕ → Bool → Row → Bool
+is_monitored i rising row = has_bit (slice_index_or row.settings.lines i no_settings).flags (direction_flag rising)
+
+-- the number after this one; numbers wrap
+abbrev pub next_number : ℕ → ℕ
+next_number n = (n + 1) % 2 ^ 32
+
+-- the event that an edge of the line at place i is: numbered when it happens
+abbrev pub numbered : ℕ → Bool → ℕ → Row → Event
+numbered i rising timestamp row = record {
+  timestamp = timestamp;
+  id = direction_id rising;
+  offset = slice_index row.lines.offsets i;
+  seqno = next_number row.count;
+  line_seqno = next_number (slice_index row.line_counts i);
+}
+
+-- the request after that event
+abbrev pub with_event : ℕ → Bool → ℕ → Row → Row
+with_event i rising timestamp row = record row {
+  ring = pushed (numbered i rising timestamp row) row.ring;
+  count = next_number row.count;
+  line_counts = slice_set row.line_counts i (next_number (slice_index row.line_counts i));
+}
+
+-- the event that an edge is, if its direction is monitored
+abbrev pub event_of : ℕ → Bool → ℕ → Row → Option Event
+event_of i rising timestamp row = if is_monitored i rising row then Some (numbered i rising timestamp row) else None
+
+-- the request after an edge
+abbrev pub noted : ℕ → Bool → ℕ → Row → Row
+noted i rising timestamp row = if is_monitored i rising row then with_event i rising timestamp row else row
+
+-- the request after a read with room for so many events
+abbrev pub read_from : ℕ → Row → Row
+read_from max row = record row { ring = left max row.ring }
+
+-- the request has at most 64 lines
+abbrev pub HasFewLines : Row → Type 0
+HasFewLines row = row.lines.count ≤ 64

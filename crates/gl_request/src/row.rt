@@ -1,0 +1,117 @@
+//! One request.
+
+ghost use Rattle.std.specs.Prelude.{◌≡◌, ◌<◌};
+ghost use Rattle.gl_request.specs.Request.{claim_of, direction_flag, event_of, noted, row_of};
+
+use gl_base::{Lines, Resolved, flag, has_bit};
+use gl_ring::EdgeRing;
+use gl_uapi::Event;
+use gl_uapi::layout::{EVENT_FALLING, EVENT_RISING};
+
+/// What a request begins as.
+#[derive(Clone, Copy, PartialEq, Eq, Debug)]
+pub struct Claim {
+    /// The number of the request's file.
+    pub fd: u32,
+    /// The place of the chip.
+    pub place: u8,
+    /// Who asks.
+    pub actor: u8,
+    /// The lines.
+    pub lines: Lines,
+    /// How they are to be configured.
+    pub settings: Resolved,
+}
+
+/// A request.
+#[derive(Drop)]
+pub struct Row {
+    /// The number of the request's file.
+    pub fd: u32,
+    /// The place of the chip.
+    pub place: u8,
+    /// Who asked.
+    pub actor: u8,
+    /// The request is finished: its lines are held. Else it is a claim of them.
+    pub held: bool,
+    /// The lines.
+    pub lines: Lines,
+    /// How they are configured.
+    pub settings: Resolved,
+    /// The events that wait.
+    pub ring: EdgeRing,
+    /// The number of the last event, modulo 2^32; 0 before the first.
+    pub count: u32,
+    /// The number of the last event of each line, modulo 2^32; 0 before the first.
+    pub line_counts: [u32; 64],
+}
+
+impl Row {
+    /// What a claim begins as.
+    #[tactic(auto, unfolding(crate::specs::Request::no_counts))]
+    pub(crate) fn begin(claim: Claim, ring: EdgeRing) -> Row
+        ensures { result ≡ row_of claim ring }
+    {
+        Row {
+            fd: claim.fd,
+            place: claim.place,
+            actor: claim.actor,
+            held: false,
+            lines: claim.lines,
+            settings: claim.settings,
+            ring,
+            count: 0,
+            line_counts: [0; 64],
+        }
+    }
+
+    /// What the request was claimed as, with its settings as they are now.
+    pub(crate) fn claimed_as(&self) -> Claim
+        ensures { result ≡ claim_of self.now }
+    {
+        Claim {
+            fd: self.fd,
+            place: self.place,
+            actor: self.actor,
+            lines: self.lines,
+            settings: self.settings,
+        }
+    }
+
+    /// Notes an edge of the line at place `i`, which is an event where its direction is monitored.
+    pub(crate) fn note(&mut self, i: u32, rising: bool, timestamp: u64) -> Option<Event>
+        requires { i < 64 }
+        ensures row { self.new ≡ noted i rising timestamp self.old }
+        ensures event { result ≡ event_of i rising timestamp self.old }
+    {
+        let place = i as usize;
+        if !has_bit(self.settings.lines[place].flags, direction_flag(rising)) {
+            return None;
+        }
+        let seqno = self.count.wrapping_add(1);
+        let line_seqno = self.line_counts[place].wrapping_add(1);
+        let event = Event {
+            timestamp,
+            id: if rising { EVENT_RISING } else { EVENT_FALLING },
+            offset: self.lines.offsets[place],
+            seqno,
+            line_seqno,
+        };
+        self.count = seqno;
+        self.line_counts[place] = line_seqno;
+        self.ring.push(event);
+        Some(event)
+    }
+}
+
+/// The flag that has a direction monitored.
+fn direction_flag(rising: bool) -> u32
+    ensures flag { result ≡ direction_flag rising }
+    ensures within { result < 64 }
+{
+    if rising {
+        flag::EDGE_RISING
+    } else {
+        flag::EDGE_FALLING
+    }
+}

@@ -1,0 +1,272 @@
+//! The table of requests.
+
+ghost use Rattle.std.specs.Prelude.{◌≡◌, ◌*◌, ◌<◌, ◌≤◌, ◌++◌, ◌∷◌, [], None, IfOk, IfSome, IsOkUnless, length, drop, vec_capacity, find, position};
+ghost use Rattle.std.specs.List.{flat_map};
+ghost use Rattle.std.specs.Option.{option_and_then, option_map, option_map_or};
+ghost use Rattle.gl_base.specs.Rows.{change_first, without_first};
+ghost use Rattle.gl_uapi.specs.LineEvent.{event_bytes};
+ghost use Rattle.gl_ring.specs.Waiting.{taken, taken_count};
+ghost use Rattle.gl_request.specs.Request.{claim_by, claim_of, configured, event_of, held, is_claim_of, is_number, noted, read_from, request_at, row_of, settings_at};
+
+use crate::row::{Claim, Row};
+use gl_base::{Errno, FILES_MAX, Lines, Resolved, Settings, push_within};
+use gl_ring::EdgeRing;
+use gl_uapi::Event;
+use gl_uapi::layout::LINE_EVENT_SIZE;
+use std::alloc::Global;
+use std::marker::Model;
+
+/// The requests, in the order of their claims: where each claim has a higher number than those before, in
+/// the order of their numbers. Contracts see the list of them.
+#[derive(Drop)]
+pub struct Requests {
+    rows: Vec<Row>,
+}
+
+impl Model for Requests {
+    ghost use Rattle.std.specs.Prelude.{List, ◌≤◌, length, vec_capacity};
+    ghost use Rattle.gl_base.specs.Rows.{Each};
+    ghost use Rattle.gl_base.specs.declared.limits.TheConstants.{FILES_MAX};
+    ghost use Rattle.gl_request.specs.declared.row.Row.{Row};
+
+    ghost Value = { List Row };
+
+    ghost use Rattle.gl_request.specs.Request.{HasFewLines};
+
+    ghost view = { λ r. r.rows.items };
+
+    ghost invariant = { λ r. (FILES_MAX ≤ vec_capacity r.rows) × (length r.rows.items ≤ FILES_MAX) × Each HasFewLines r.rows.items };
+}
+
+impl Requests {
+    /// A table without requests, with room for `FILES_MAX` of them. `NoMemory` is its one refusal.
+    pub fn new(alloc: Global) -> Result<Requests, Errno>
+        ensures ok { IfOk result (λ requests. requests ≡ []) }
+        ensures memory_alone { IsOkUnless result Errno.NoMemory }
+    {
+        let rows = Vec::with_capacity(alloc, FILES_MAX as usize)?;
+        Ok(Requests { rows })
+    }
+
+    /// How many requests there are.
+    pub fn len(&self) -> u32
+        ensures len { result ≡ length self.now }
+        ensures within { result ≤ FILES_MAX }
+    {
+        self.rows.len() as u32
+    }
+
+    /// Adds a claim, behind the others. No event of it waits.
+    #[tactic(auto, using(crate::proofs::Found::kept))]
+    pub fn claim(&mut self, claim: Claim, ring: EdgeRing)
+        requires room { length self.old < FILES_MAX }
+        requires lines { claim.lines.count ≤ 64 }
+        ensures { self.new ≡ self.old ++ row_of claim ring ∷ [] }
+    {
+        push_within(&mut self.rows, Row::begin(claim, ring));
+    }
+
+    /// The number of an actor's unfinished claim, or None where the actor has none.
+    #[tactic(auto, using(crate::proofs::Found::found))]
+    pub fn pending(&self, actor: u8) -> Option<u32>
+        ensures { result ≡ option_map (λ row. row.fd) (claim_by self.now actor) }
+    {
+        match claim_place(&self.rows, actor) {
+            Some(at) => Some(self.rows[at].fd),
+            None => None,
+        }
+    }
+
+    /// The claim of this number is finished: its lines are held.
+    #[tactic(auto, using(crate::proofs::Found::kept))]
+    pub fn settle(&mut self, fd: u32)
+        ensures { self.new ≡ change_first (is_number fd) held self.old }
+    {
+        settle_row(&mut self.rows, fd);
+    }
+
+    /// Takes the request of this number out, and answers its ring, or None where there is no such request.
+    #[tactic(auto, using(crate::proofs::Found::kept))]
+    pub fn release(&mut self, fd: u32) -> Option<EdgeRing>
+        ensures rows { self.new ≡ without_first (is_number fd) self.old }
+        ensures ring { result ≡ option_map (λ row. row.ring) (request_at self.old fd) }
+    {
+        take_row(&mut self.rows, fd)
+    }
+
+    /// What the request of this number was claimed as, with its settings as they are now.
+    #[tactic(auto, using(crate::proofs::Found::found, crate::proofs::Found::few_lines))]
+    pub fn claimed_as(&self, fd: u32) -> Option<Claim>
+        ensures claim { result ≡ option_map claim_of (request_at self.now fd) }
+        ensures few { IfSome result (λ claim. claim.lines.count ≤ 64) }
+    {
+        match place_of(&self.rows, fd) {
+            Some(at) => Some(self.rows[at].claimed_as()),
+            None => None,
+        }
+    }
+
+    /// The place of the chip of the request of this number.
+    #[tactic(auto, using(crate::proofs::Found::found))]
+    pub fn place(&self, fd: u32) -> Option<u8>
+        ensures { result ≡ option_map (λ row. row.place) (request_at self.now fd) }
+    {
+        match place_of(&self.rows, fd) {
+            Some(at) => Some(self.rows[at].place),
+            None => None,
+        }
+    }
+
+    /// The lines of the request of this number.
+    #[tactic(auto, using(crate::proofs::Found::found, crate::proofs::Found::few_lines))]
+    pub fn lines(&self, fd: u32) -> Option<Lines>
+        ensures lines { result ≡ option_map (λ row. row.lines) (request_at self.now fd) }
+        ensures few { IfSome result (λ lines. lines.count ≤ 64) }
+    {
+        match place_of(&self.rows, fd) {
+            Some(at) => Some(self.rows[at].lines),
+            None => None,
+        }
+    }
+
+    /// The settings of the line at place `i` of the request of this number, or None where there is no such
+    /// request or it has no such line.
+    #[tactic(auto, using(crate::proofs::Found::found, crate::proofs::Found::few_lines))]
+    pub fn settings(&self, fd: u32, i: u32) -> Option<Settings>
+        ensures { result ≡ option_and_then (settings_at i) (request_at self.now fd) }
+    {
+        match place_of(&self.rows, fd) {
+            Some(at) => {
+                let row = &self.rows[at];
+                if i < row.lines.count.min(64) {
+                    Some(row.settings.lines[i as usize])
+                } else {
+                    None
+                }
+            }
+            None => None,
+        }
+    }
+
+    /// The request of this number has these settings from now on. Its events and their numbers go on.
+    #[tactic(auto, using(crate::proofs::Found::kept))]
+    pub fn configure(&mut self, fd: u32, settings: &Resolved)
+        ensures { self.new ≡ change_first (is_number fd) (configured settings.now) self.old }
+    {
+        configure_row(&mut self.rows, fd, settings);
+    }
+
+    /// An edge has come to the line at place `i`, 0 to 63, of the request of this number. Where its direction
+    /// is monitored it is an event: it is numbered, waits, and is the answer.
+    #[tactic(auto, using(crate::proofs::Found::kept))]
+    pub fn edge(&mut self, fd: u32, i: u32, rising: bool, timestamp: u64) -> Option<Event>
+        requires { i < 64 }
+        ensures rows { self.new ≡ change_first (is_number fd) (noted i rising timestamp) self.old }
+        ensures event { result ≡ option_and_then (event_of i rising timestamp) (request_at self.old fd) }
+    {
+        note_edge(&mut self.rows, fd, i, rising, timestamp)
+    }
+
+    /// How many events of the request of this number wait.
+    #[tactic(auto, using(crate::proofs::Found::found))]
+    pub fn waiting(&self, fd: u32) -> u32
+        ensures { result ≡ option_map_or (λ row. length row.ring.items) (request_at self.now fd) 0 }
+    {
+        match place_of(&self.rows, fd) {
+            Some(at) => self.rows[at].ring.len(),
+            None => 0,
+        }
+    }
+
+    /// Moves the first events of the request of this number that wait into `out`, at most `max` of them, as
+    /// bytes one after the other, and answers how many. What stands behind them in `out` stays.
+    #[tactic(auto, using(crate::proofs::Found::kept))]
+    pub fn read(&mut self, fd: u32, max: u32, out: &mut [u8]) -> u32
+        requires { LINE_EVENT_SIZE * max ≤ length out.old }
+        ensures count { result ≡ option_map_or (λ row. taken_count max row.ring) (request_at self.old fd) 0 }
+        ensures rows { self.new ≡ change_first (is_number fd) (read_from max) self.old }
+        ensures out { out.new ≡ flat_map event_bytes (option_map_or (λ row. taken max row.ring) (request_at self.old fd) [])
+            ++ drop (LINE_EVENT_SIZE * result) out.old }
+    {
+        read_row(&mut self.rows, fd, max, out)
+    }
+}
+
+/// Where the request of a number stands.
+fn place_of(rows: &[Row], fd: u32) -> Option<usize>
+    ensures { result ≡ position (is_number fd) rows.now }
+{
+    rows.iter().position(|row| row.fd == fd)
+}
+
+/// Where an actor's unfinished claim stands.
+fn claim_place(rows: &[Row], actor: u8) -> Option<usize>
+    ensures { result ≡ position (is_claim_of actor) rows.now }
+{
+    rows.iter().position(|row| !row.held && row.actor == actor)
+}
+
+#[tactic(auto, using(crate::proofs::Found::found))]
+fn settle_row(rows: &mut Vec<Row>, fd: u32)
+    ensures rows { rows.new.items ≡ change_first (is_number fd) held rows.old.items }
+    ensures capacity { vec_capacity rows.new ≡ vec_capacity rows.old }
+{
+    match place_of(rows, fd) {
+        Some(at) => rows[at].held = true,
+        None => {}
+    }
+}
+
+#[tactic(auto, using(crate::proofs::Found::found))]
+fn take_row(rows: &mut Vec<Row>, fd: u32) -> Option<EdgeRing>
+    ensures rows { rows.new.items ≡ without_first (is_number fd) rows.old.items }
+    ensures ring { result ≡ option_map (λ row. row.ring) (request_at rows.old.items fd) }
+    ensures capacity { vec_capacity rows.new ≡ vec_capacity rows.old }
+{
+    match place_of(rows, fd) {
+        Some(at) => {
+            let row = rows.remove(at);
+            Some(row.ring)
+        }
+        None => None,
+    }
+}
+
+#[tactic(auto, using(crate::proofs::Found::found))]
+fn configure_row(rows: &mut Vec<Row>, fd: u32, settings: &Resolved)
+    ensures rows { rows.new.items ≡ change_first (is_number fd) (configured settings.now) rows.old.items }
+    ensures capacity { vec_capacity rows.new ≡ vec_capacity rows.old }
+{
+    match place_of(rows, fd) {
+        Some(at) => rows[at].settings = *settings,
+        None => {}
+    }
+}
+
+#[tactic(auto, using(crate::proofs::Found::found))]
+fn note_edge(rows: &mut Vec<Row>, fd: u32, i: u32, rising: bool, timestamp: u64) -> Option<Event>
+    requires { i < 64 }
+    ensures rows { rows.new.items ≡ change_first (is_number fd) (noted i rising timestamp) rows.old.items }
+    ensures event { result ≡ option_and_then (event_of i rising timestamp) (request_at rows.old.items fd) }
+    ensures capacity { vec_capacity rows.new ≡ vec_capacity rows.old }
+{
+    match place_of(rows, fd) {
+        Some(at) => rows[at].note(i, rising, timestamp),
+        None => None,
+    }
+}
+
+#[tactic(auto, using(crate::proofs::Found::found))]
+fn read_row(rows: &mut Vec<Row>, fd: u32, max: u32, out: &mut [u8]) -> u32
+    requires { LINE_EVENT_SIZE * max ≤ length out.old }
+    ensures count { result ≡ option_map_or (λ row. taken_count max row.ring) (request_at rows.old.items fd) 0 }
+    ensures rows { rows.new.items ≡ change_first (is_number fd) (read_from max) rows.old.items }
+    ensures out { out.new ≡ flat_map event_bytes (option_map_or (λ row. taken max row.ring) (request_at rows.old.items fd) [])
+        ++ drop (LINE_EVENT_SIZE * result) out.old }
+    ensures capacity { vec_capacity rows.new ≡ vec_capacity rows.old }
+{
+    match place_of(rows, fd) {
+        Some(at) => rows[at].ring.read(max, out),
+        None => 0,
+    }
+}
