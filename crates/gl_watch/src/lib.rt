@@ -1,0 +1,16 @@
+//! The open chip files: the lines that each one watches, and the changes that wait for it.
+//!
+//! A change of a line's information goes to each file that watches the line, as the kernel's GPIO character
+//! device does it (`GPIO_V2_GET_LINEINFO_WATCH_IOCTL`). A file has room for 32 changes.
+#![tactic(auto)]
+
+mod file;
+mod queue;
+mod table;
+#[cfg(test)]
+mod tests;
+mod watches;
+
+pub use file::File;
+pub use queue::{InfoQueue, QUEUE_CHANGES_MAX};
+pub use watches::Watches;

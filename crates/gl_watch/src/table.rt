@@ -1,0 +1,81 @@
+//! Files found, changed and taken out.
+
+ghost use Rattle.std.specs.Prelude.{◌≡◌, ◌*◌, ◌<◌, ◌≤◌, ◌++◌, length, map, min, option_copied, take, drop, vec_capacity};
+ghost use Rattle.std.specs.List.{flat_map, position};
+ghost use Rattle.gl_base.specs.Rows.{change_first, without_first};
+ghost use Rattle.gl_uapi.specs.InfoChanged.{changed_bytes};
+ghost use Rattle.gl_watch.specs.Files.{is_file, file_at, with_watch, notified, waiting_in, without_changes};
+ghost use Rattle.gl_watch.specs.Answers.{changes_of};
+
+use crate::file::File;
+use crate::queue::InfoQueue;
+use gl_base::LINES_MAX;
+use gl_uapi::Changed;
+use gl_uapi::layout::INFO_CHANGED_SIZE;
+
+/// Where the file of a number stands.
+pub(crate) fn position_of(files: &[File], fd: u32) -> Option<usize>
+    ensures { result ≡ position (is_file fd) files.now }
+{
+    files.iter().position(|file| file.fd == fd)
+}
+
+/// The file of a number.
+pub(crate) fn file_at(files: &[File], fd: u32) -> Option<&File>
+    ensures { option_copied result ≡ file_at fd files.now }
+{
+    files.iter().find(|file| file.fd == fd)
+}
+
+/// Takes a file out, and gives its queue.
+pub(crate) fn remove_file(files: &mut Vec<File>, fd: u32) -> Option<InfoQueue>
+    ensures queue { result ≡ changes_of (file_at fd files.old.items) }
+    ensures files { files.new.items ≡ without_first (is_file fd) files.old.items }
+    ensures capacity { vec_capacity files.new ≡ vec_capacity files.old }
+    ensures fewer { length files.new.items ≤ length files.old.items }
+{
+    match position_of(files, fd) {
+        Some(at) => Some(files.remove(at).changes),
+        None => None,
+    }
+}
+
+/// Sets whether a file watches a line.
+pub(crate) fn set_watch(files: &mut Vec<File>, fd: u32, offset: u32, watch: bool)
+    requires { offset < LINES_MAX }
+    ensures files { files.new.items ≡ change_first (is_file fd) (with_watch offset watch) files.old.items }
+    ensures capacity { vec_capacity files.new ≡ vec_capacity files.old }
+    ensures as_many { length files.new.items ≡ length files.old.items }
+{
+    match position_of(files, fd) {
+        Some(at) => files[at].set_watch(offset, watch),
+        None => {}
+    }
+}
+
+/// Tells each file of a change.
+pub(crate) fn notify_all(files: &mut Vec<File>, place: u8, changed: &Changed)
+    requires { changed.now.info.offset < LINES_MAX }
+    ensures files { files.new.items ≡ map (notified place changed.now) files.old.items }
+    ensures capacity { vec_capacity files.new ≡ vec_capacity files.old }
+    ensures as_many { length files.new.items ≡ length files.old.items }
+{
+    for i in 0..files.len() {
+        files[i].notify(place, changed);
+    }
+}
+
+/// Moves a file's first changes into `out`.
+pub(crate) fn read_file(files: &mut Vec<File>, fd: u32, max: u32, out: &mut [u8]) -> u32
+    requires { INFO_CHANGED_SIZE * max ≤ length out.old }
+    ensures count { result ≡ min max (length (waiting_in (file_at fd files.old.items))) }
+    ensures files { files.new.items ≡ change_first (is_file fd) (without_changes result) files.old.items }
+    ensures out { out.new ≡ flat_map changed_bytes (take result (waiting_in (file_at fd files.old.items))) ++ drop (INFO_CHANGED_SIZE * result) out.old }
+    ensures capacity { vec_capacity files.new ≡ vec_capacity files.old }
+    ensures as_many { length files.new.items ≡ length files.old.items }
+{
+    match position_of(files, fd) {
+        Some(at) => files[at].changes.read(max, out),
+        None => 0,
+    }
+}

@@ -1,0 +1,157 @@
+//! The open chip files, in order of their opening.
+
+ghost use Rattle.std.specs.Prelude.{◌≡◌, ◌*◌, ◌<◌, ◌≤◌, [], ◌∷◌, ◌++◌, length, map, min, take, drop, nat_le, true, false, IfOk, IsOkUnless};
+ghost use Rattle.std.specs.List.{flat_map};
+ghost use Rattle.gl_base.specs.Rows.{change_first, without_first};
+ghost use Rattle.gl_uapi.specs.InfoChanged.{changed_bytes};
+
+use crate::file::File;
+use crate::queue::InfoQueue;
+use crate::table::{file_at, notify_all, read_file, remove_file, set_watch};
+use gl_base::{Errno, FILES_MAX, LINES_MAX, push_within};
+use gl_uapi::Changed;
+use gl_uapi::layout::INFO_CHANGED_SIZE;
+use std::alloc::Global;
+use std::marker::Model;
+
+/// The open chip files. Contracts see the list of them, in order of their opening.
+#[derive(Drop)]
+pub struct Watches {
+    files: Vec<File>,
+}
+
+impl Model for Watches {
+    ghost use Rattle.std.specs.Prelude.{◌≤◌, List, length, vec_capacity};
+    ghost use Rattle.gl_base.specs.declared.limits.TheConstants.{FILES_MAX};
+    ghost use Rattle.gl_watch.specs.declared.file.File.{File};
+
+    ghost Value = { List File };
+
+    ghost view = { λ w. w.files.items };
+
+    ghost invariant = { λ w. (FILES_MAX ≤ vec_capacity w.files) × (length w.files.items ≤ FILES_MAX) };
+}
+
+impl Watches {
+    ghost use Rattle.gl_watch.specs.Files.{is_file, file_at, new_file, with_watch, watch_refusal, unwatch_refusal, notified, waiting_in, without_changes};
+    ghost use Rattle.gl_watch.specs.Answers.{answer, unless, changes_of, place_of};
+
+    /// No open file, with room for all that may be open. `NoMemory` alone is refused.
+    pub fn new(alloc: Global) -> Result<Watches, Errno>
+        ensures ok { IfOk result (λ watches. watches ≡ []) }
+        ensures memory_alone { IsOkUnless result Errno.NoMemory }
+    {
+        match Vec::with_capacity(alloc, FILES_MAX as usize) {
+            Ok(files) => Ok(Watches { files }),
+            Err(_) => Err(Errno::NoMemory),
+        }
+    }
+
+    /// Opens a file on the chip of a place, with a queue for its changes. It watches no line.
+    #[tactic(auto, unfolding(crate::specs::Files::no_lines))]
+    pub fn add(&mut self, fd: u32, place: u8, queue: InfoQueue)
+        requires { length self.old < FILES_MAX }
+        ensures { self.new ≡ self.old ++ new_file fd place queue ∷ [] }
+    {
+        let file = File {
+            fd,
+            place,
+            watched: [false; LINES_MAX as usize],
+            changes: queue,
+        };
+        push_within(&mut self.files, file);
+    }
+
+    /// Whether no more file can be opened.
+    pub fn is_full(&self) -> bool
+        ensures { result ≡ nat_le FILES_MAX (length self.now) }
+    {
+        self.files.len() >= FILES_MAX as usize
+    }
+
+    /// Closes a file, and gives its queue back with the changes that waited. None comes exactly without such
+    /// a file.
+    pub fn remove(&mut self, fd: u32) -> Option<InfoQueue>
+        ensures queue { result ≡ changes_of (file_at fd self.old) }
+        ensures files { self.new ≡ without_first (is_file fd) self.old }
+    {
+        remove_file(&mut self.files, fd)
+    }
+
+    /// The place of a file's chip. None comes exactly without such a file.
+    pub fn place(&self, fd: u32) -> Option<u8>
+        ensures { result ≡ place_of (file_at fd self.now) }
+    {
+        match file_at(&self.files, fd) {
+            Some(file) => Some(file.place),
+            None => None,
+        }
+    }
+
+    /// Makes a file watch a line. `Busy` comes exactly where this file watches it, and then nothing changes;
+    /// without such a file nothing changes either.
+    pub fn watch(&mut self, fd: u32, offset: u32) -> Result<(), Errno>
+        requires { offset < LINES_MAX }
+        ensures answer { result ≡ answer (watch_refusal offset (file_at fd self.old)) }
+        ensures files { self.new ≡ unless (watch_refusal offset (file_at fd self.old)) (change_first (is_file fd) (with_watch offset true) self.old) self.old }
+    {
+        match file_at(&self.files, fd) {
+            Some(file) => {
+                if file.is_watching(offset) {
+                    return Err(Errno::Busy);
+                }
+            }
+            None => {}
+        }
+        set_watch(&mut self.files, fd, offset, true);
+        Ok(())
+    }
+
+    /// Makes a file watch a line no more. `Busy` comes exactly where this file doesn't watch it, and then
+    /// nothing changes; without such a file nothing changes either.
+    pub fn unwatch(&mut self, fd: u32, offset: u32) -> Result<(), Errno>
+        requires { offset < LINES_MAX }
+        ensures answer { result ≡ answer (unwatch_refusal offset (file_at fd self.old)) }
+        ensures files { self.new ≡ unless (unwatch_refusal offset (file_at fd self.old)) (change_first (is_file fd) (with_watch offset false) self.old) self.old }
+    {
+        match file_at(&self.files, fd) {
+            Some(file) => {
+                if !file.is_watching(offset) {
+                    return Err(Errno::Busy);
+                }
+            }
+            None => {}
+        }
+        set_watch(&mut self.files, fd, offset, false);
+        Ok(())
+    }
+
+    /// Tells each file of the place that watches the changed line. A file with 32 changes keeps those.
+    pub fn notify(&mut self, place: u8, changed: &Changed)
+        requires { changed.now.info.offset < LINES_MAX }
+        ensures { self.new ≡ map (notified place changed.now) self.old }
+    {
+        notify_all(&mut self.files, place, changed);
+    }
+
+    /// How many changes wait for a file; 0 without such a file.
+    pub fn waiting(&self, fd: u32) -> u32
+        ensures { result ≡ length (waiting_in (file_at fd self.now)) }
+    {
+        match file_at(&self.files, fd) {
+            Some(file) => file.changes.len(),
+            None => 0,
+        }
+    }
+
+    /// Moves a file's first changes into `out`, at most `max` of them, as bytes one after the other, and
+    /// answers how many. What stands behind them in `out` stays.
+    pub fn read(&mut self, fd: u32, max: u32, out: &mut [u8]) -> u32
+        requires { INFO_CHANGED_SIZE * max ≤ length out.old }
+        ensures count { result ≡ min max (length (waiting_in (file_at fd self.old))) }
+        ensures files { self.new ≡ change_first (is_file fd) (without_changes result) self.old }
+        ensures out { out.new ≡ flat_map changed_bytes (take result (waiting_in (file_at fd self.old))) ++ drop (INFO_CHANGED_SIZE * result) out.old }
+    {
+        read_file(&mut self.files, fd, max, out)
+    }
+}
