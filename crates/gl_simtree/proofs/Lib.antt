@@ -1,0 +1,4 @@
+pub mod Banks
+pub mod Found
+pub mod Planning
+pub mod Spelled

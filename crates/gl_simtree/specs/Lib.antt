@@ -1,0 +1,10 @@
+pub mod Calls
+pub mod Cuts
+pub mod Formed
+pub mod Forms
+pub mod Nodes
+pub mod Plans
+pub mod Room
+pub mod Rows
+pub mod Spelling
+pub mod Values
