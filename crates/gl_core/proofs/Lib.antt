@@ -1,0 +1,15 @@
+pub mod Boards
+pub mod Columns
+pub mod Phases
+pub mod PhaseLaws
+pub mod TreeStates
+pub mod Soundness
+pub mod Refusing
+pub mod Taking
+pub mod TwoActors
+pub mod Holds
+pub mod Requests
+pub mod Claims
+pub mod Written
+pub mod SoundRequests
+pub mod OneRemoval

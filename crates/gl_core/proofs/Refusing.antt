@@ -1,0 +1,135 @@
+-- A refused call leaves all as it was.
+use Rattle.std.proofs.Common.{◌≡◌, ℕ, true, false, not, nat_le, length, take, ◌==◌, refl, List, [], ◌∷◌, Option, Some, None, Result, Ok, Err, sym}
+use Rattle.std.proofs.lemmas.Bool.{false≢true}
+use Rattle.gl_base.specs.Refusals.{first_of, when}
+use Rattle.gl_base.specs.declared.errno.Errno.TheVariants.{BadF, Busy, Inval, NoSpc}
+use Rattle.gl_base.specs.declared.limits.TheConstants.{PLACES}
+use Rattle.gl_irq.specs.Irq.{act_refusal}
+use Rattle.gl_simtree.specs.Calls.{live_refusal, mkdir_refusal, remove_refusal, rmdir_refusal, write_refusal}
+use Rattle.gl_simtree.specs.Nodes.{node_at}
+use Rattle.gl_uapi.specs.Fields.{number_at}
+use Rattle.gl_uapi.specs.declared.layout.TheConstants.{INFO_CHANGED_SIZE, LINE_EVENT_SIZE}
+use Rattle.gl_watch.specs.Files.{file_at, unwatch_refusal, watch_refusal}
+use Rattle.gl_core.specs.Asked.{asked_in, request_fault}
+use Rattle.gl_core.specs.Chips.{place_refusal, places_left}
+use Rattle.gl_core.specs.Clock.{clock_refusal}
+use Rattle.gl_core.specs.Commands.{info_refusal, offset_named}
+use Rattle.gl_core.specs.Pins.{irq_line, pin_refusal}
+use Rattle.gl_core.specs.Places.{kind_at, lines_at, place_at}
+use Rattle.gl_core.specs.Pulls.{is_simulated, level_refusal}
+use Rattle.gl_core.specs.Reading.{changes_for, events_for, read_refusal}
+use Rattle.gl_core.specs.Removal.{is_unplugged_by, removed_places, unplug_refusal}
+use Rattle.gl_base.specs.declared.errno.Errno.{Errno}
+use Rattle.gl_uapi.specs.Command.{command_of, size_of}
+use Rattle.gl_uapi.specs.declared.commands.Command.{Command}
+use Rattle.gl_uapi.specs.declared.commands.Command.TheVariants.{ChipInfo, LineInfo, Watch, Unwatch, GetLine, SetConfig, GetValues, SetValues}
+use Rattle.gl_core.specs.declared.call.Call.TheVariants.{Probe, Unplug, MakeDir, RemoveDir, Write, Read, Live, Remove, Tick, Pin, Irq, Pull, Level, Interrupt, OpenChip, Find, Ioctl, ReadEdges, ReadInfo, PollLine, PollChip, Close, Refused as RefusedCall}
+use Rattle.gl_core.specs.declared.call.Part.{Part}
+use Rattle.gl_core.specs.declared.call.Part.TheVariants.{Whole, Ask, Tell}
+use Rattle.gl_core.specs.Claiming.{claim_at, claim_by, claim_refusal, told_claim}
+use Rattle.gl_core.specs.Ioctl.{act_on, by_number, checked, in_part}
+use Rattle.gl_core.specs.OpenFiles.{chip_file_refusal, command_refusal, in_parts, on_request, request_file_refusal}
+use Rattle.gl_core.specs.Opening.{found, is_open, open_at, open_refusal}
+use Rattle.gl_core.specs.Outcome.{Outcome, unless}
+use Rattle.gl_core.specs.Refusing.{LeavesAll, RefusalsLeaveAll, fails_claim}
+use Rattle.gl_core.specs.Tree.{read_outcome}
+use Rattle.gl_core.specs.World.{World, Request, request_at}
+use Rattle.gl_base.specs.declared.lines.Lines.{Lines}
+use Rattle.gl_base.specs.declared.settings.Resolved.{Resolved}
+
+-- by a refusal, or else by what the call does
+leaves_unless : (r : Option Errno) (w : World) (out : Outcome) → LeavesAll w out → LeavesAll w (unless r w out)
+leaves_unless None w out leaves = leaves
+leaves_unless (Some errno) w out leaves = λ h. (refl, refl)
+
+leaves_in_parts : (part : Part) (act : ℕ → World → Outcome) (w : World) → ((bits : ℕ) → LeavesAll w (act bits w)) → LeavesAll w (in_parts part act w)
+leaves_in_parts Whole act w leaves = λ h. (refl, refl)
+leaves_in_parts Ask act w leaves = λ h. absurd h
+leaves_in_parts (Tell None) act w leaves = λ h. (refl, refl)
+leaves_in_parts (Tell (Some bits)) act w leaves = leaves bits
+
+leaves_on_request : (act : Lines → Resolved → World → Outcome) (r : Option Request) (w : World)
+    → ((lines : Lines) (settings : Resolved) → LeavesAll w (act lines settings w)) → LeavesAll w (on_request act r w)
+leaves_on_request act None w leaves = λ h. (refl, refl)
+leaves_on_request act (Some request) w leaves = leaves request.lines request.settings
+
+leaves_act : (actor place fd : ℕ) (command : Command) (bytes : List ℕ) (part : Part) (w : World) → LeavesAll w (act_on actor place fd command bytes part w)
+leaves_act actor place fd ChipInfo bytes part w = λ h. absurd h
+leaves_act actor place fd LineInfo bytes part w = leaves_unless (info_refusal place bytes w) w _ (λ h. absurd h)
+leaves_act actor place fd Watch bytes part w = leaves_unless (first_of (info_refusal place bytes w ∷ watch_refusal (offset_named bytes) (file_at fd w.files) ∷ [])) w _ (λ h. absurd h)
+leaves_act actor place fd Unwatch bytes part w = leaves_unless (first_of (when (nat_le (lines_at w place) (number_at 4 0 bytes)) Inval ∷ unwatch_refusal (number_at 4 0 bytes) (file_at fd w.files) ∷ [])) w _ (λ h. absurd h)
+leaves_act actor place fd GetLine bytes part w =
+    leaves_unless (request_fault bytes) w _ (leaves_unless (claim_refusal place actor (asked_in bytes) w) w _ (λ h. absurd h))
+leaves_act actor place fd SetConfig bytes part w =
+    leaves_on_request _ (request_at w.requests fd) w (λ lines settings. leaves_unless _ w _ (leaves_in_parts part _ w (λ bits h. absurd h)))
+leaves_act actor place fd GetValues bytes part w =
+    leaves_on_request _ (request_at w.requests fd) w (λ lines settings. leaves_unless _ w _ (leaves_in_parts part _ w (λ bits h. absurd h)))
+leaves_act actor place fd SetValues bytes part w =
+    leaves_on_request _ (request_at w.requests fd) w (λ lines settings. leaves_unless _ w _ (leaves_in_parts part _ w (λ bits h. absurd h)))
+
+leaves_told : (bits len : ℕ) (bytes : List ℕ) (r : Option Request) (w : World) → LeavesAll w (told_claim (Some bits) len bytes r w)
+leaves_told bits len bytes None w = λ h. (refl, refl)
+leaves_told bits len bytes (Some request) w = λ h. absurd h
+
+leaves_checked : (actor place fd len : ℕ) (command : Command) (bytes : List ℕ) (part : Part) (w : World) → LeavesAll w (checked actor place fd len command bytes part w)
+leaves_checked actor place fd len command bytes part w =
+    leaves_unless (command_refusal place fd len command part w) w _ (leaves_act actor place fd command (take (size_of command) bytes) part w)
+
+leaves_part : (actor place fd len : ℕ) (command : Command) (bytes : List ℕ) (part : Part) (w : World)
+    → fails_claim (Some command) part ≡ false → LeavesAll w (in_part actor place fd len command bytes part w)
+leaves_part actor place fd len GetLine bytes Whole w e = leaves_checked actor place fd len GetLine bytes Whole w
+leaves_part actor place fd len GetLine bytes Ask w e = leaves_checked actor place fd len GetLine bytes Ask w
+leaves_part actor place fd len GetLine bytes (Tell None) w e = absurd (false≢true (sym e))
+leaves_part actor place fd len GetLine bytes (Tell (Some bits)) w e = leaves_told bits len bytes (claim_at place (claim_by w.requests actor)) w
+leaves_part actor place fd len ChipInfo bytes part w e = leaves_checked actor place fd len ChipInfo bytes part w
+leaves_part actor place fd len LineInfo bytes part w e = leaves_checked actor place fd len LineInfo bytes part w
+leaves_part actor place fd len Watch bytes part w e = leaves_checked actor place fd len Watch bytes part w
+leaves_part actor place fd len Unwatch bytes part w e = leaves_checked actor place fd len Unwatch bytes part w
+leaves_part actor place fd len SetConfig bytes part w e = leaves_checked actor place fd len SetConfig bytes part w
+leaves_part actor place fd len GetValues bytes part w e = leaves_checked actor place fd len GetValues bytes part w
+leaves_part actor place fd len SetValues bytes part w e = leaves_checked actor place fd len SetValues bytes part w
+
+leaves_number : (actor place fd len : ℕ) (command : Option Command) (bytes : List ℕ) (part : Part) (w : World)
+    → fails_claim command part ≡ false → LeavesAll w (by_number actor place fd len command bytes part w)
+leaves_number actor place fd len None bytes part w e = λ h. (refl, refl)
+leaves_number actor place fd len (Some command) bytes part w e = leaves_part actor place fd len command bytes part w e
+
+leaves_open : (place : Option ℕ) (w : World) → LeavesAll w (open_at place w)
+leaves_open None w = λ h. (refl, refl)
+leaves_open (Some place) w = leaves_unless (open_refusal place w) w _ (λ h. absurd h)
+
+leaves_found : (lines : List (ℕ × ℕ)) (w : World) → LeavesAll w (found lines w)
+leaves_found [] w = λ h. (refl, refl)
+leaves_found (line ∷ lines) w = λ h. absurd h
+
+leaves_read : (answer : Result (List ℕ) Errno) (w : World) → LeavesAll w (read_outcome answer w)
+leaves_read (Ok text) w = λ h. absurd h
+leaves_read (Err errno) w = λ h. (refl, refl)
+
+pub refusals_leave_all : RefusalsLeaveAll
+refusals_leave_all w actor (Probe label lines kind) e = leaves_unless (when (nat_le PLACES (length w.chips)) NoSpc) w _ (λ h. absurd h)
+refusals_leave_all w actor (Unplug place false) e = leaves_unless (unplug_refusal place w) w _ (λ h. absurd h)
+refusals_leave_all w actor (Unplug place true) e = leaves_unless (when (not (is_unplugged_by actor w place)) Busy) w _ (λ h. absurd h)
+refusals_leave_all w actor (MakeDir path) e = leaves_unless (mkdir_refusal (node_at path) w.tree) w _ (λ h. absurd h)
+refusals_leave_all w actor (RemoveDir path) e = leaves_unless (rmdir_refusal (node_at path) w.tree) w _ (λ h. absurd h)
+refusals_leave_all w actor (Write path value) e = leaves_unless (write_refusal (node_at path) value w.tree) w _ (λ h. absurd h)
+refusals_leave_all w actor (Read path) e = leaves_read _ w
+refusals_leave_all w actor (Live device) e = leaves_unless (live_refusal device (places_left w) w.tree) w _ (λ h. absurd h)
+refusals_leave_all w actor (Remove device false) e = leaves_unless (remove_refusal device w.tree) w _ (λ h. absurd h)
+refusals_leave_all w actor (Remove device true) e = leaves_unless (when (length (removed_places device actor w) == 0) Busy) w _ (λ h. absurd h)
+refusals_leave_all w actor (Tick mono real) e = leaves_unless (clock_refusal mono real w) w _ (λ h. absurd h)
+refusals_leave_all w actor (Pin place what) e = leaves_unless (first_of (place_refusal place w ∷ pin_refusal (lines_at w place) (place_at w place) what ∷ [])) w _ (λ h. absurd h)
+refusals_leave_all w actor (Irq place offset what) e = leaves_unless (first_of (place_refusal place w ∷ act_refusal (place_at w place).irqs offset what (irq_line (place_at w place) offset) ∷ [])) w _ (λ h. absurd h)
+refusals_leave_all w actor (Pull place offset up) e = leaves_unless (level_refusal place offset (is_simulated (kind_at w place)) w) w _ (λ h. absurd h)
+refusals_leave_all w actor (Level place offset pull) e = leaves_unless (level_refusal place offset (is_simulated (kind_at w place)) w) w _ (λ h. absurd h)
+refusals_leave_all w actor (Interrupt place offset up) e = leaves_unless (level_refusal place offset (not (is_simulated (kind_at w place))) w) w _ (λ h. absurd h)
+refusals_leave_all w actor (OpenChip word) e = leaves_open _ w
+refusals_leave_all w actor (Find place name) e = leaves_found _ w
+refusals_leave_all w actor (Ioctl place fd cmd len bytes part) e = leaves_number actor place fd len (command_of cmd) bytes part w e
+refusals_leave_all w actor (ReadEdges place fd len) e = leaves_unless (first_of (request_file_refusal place fd w ∷ read_refusal LINE_EVENT_SIZE len (length (events_for fd w)) ∷ [])) w _ (λ h. absurd h)
+refusals_leave_all w actor (ReadInfo place fd len) e = leaves_unless (first_of (chip_file_refusal place fd w ∷ read_refusal INFO_CHANGED_SIZE len (length (changes_for fd w)) ∷ [])) w _ (λ h. absurd h)
+refusals_leave_all w actor (PollLine place fd) e = leaves_unless (request_file_refusal place fd w) w _ (λ h. absurd h)
+refusals_leave_all w actor (PollChip place fd) e = leaves_unless (chip_file_refusal place fd w) w _ (λ h. absurd h)
+refusals_leave_all w actor (Close fd) e = leaves_unless (when (not (is_open fd w)) BadF) w _ (λ h. absurd h)
+refusals_leave_all w actor (RefusedCall place true) e = λ h. absurd h
+refusals_leave_all w actor (RefusedCall place false) e = λ h. (refl, refl)

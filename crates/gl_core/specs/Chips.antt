@@ -1,0 +1,94 @@
+-- The chips of a world: making them, and what a place tells of its chip. From the kernel's document on GPIO drivers;
+-- that a place is used once in a machine's life is this project's choice.
+use Rattle.std.specs.Prelude.{ℕ, zero, suc, ◌+◌, ◌-◌, Bool, true, false, nat_le, List, [], ◌∷◌, ◌++◌, length, replicate, Option, None, slice_index_or}
+use Rattle.gl_bank.specs.Level.{first_levels}
+use Rattle.gl_base.specs.Refusals.{when}
+use Rattle.gl_base.specs.declared.errno.Errno.{Errno}
+use Rattle.gl_base.specs.declared.errno.Errno.TheVariants.{NoEnt, NoSpc}
+use Rattle.gl_base.specs.declared.kind.Kind.{Kind}
+use Rattle.gl_base.specs.declared.limits.TheConstants.{PLACES}
+use Rattle.gl_base.specs.declared.phase.Phase.{Phase}
+use Rattle.gl_base.specs.declared.phase.Phase.TheVariants.{Absent, Up, Leaving, Gone}
+use Rattle.gl_desc.specs.Desc.{first_desc}
+use Rattle.gl_irq.specs.Irq.{first_irq}
+use Rattle.gl_pins.specs.Pins.{no_pins}
+use Rattle.gl_registry.specs.Chips.{chip_at, new_chip}
+use Rattle.gl_registry.specs.declared.registry.Chip.{Chip}
+use Rattle.gl_core.specs.declared.place.Origin.{Origin}
+use Rattle.gl_core.specs.declared.place.Place.{Place}
+use Rattle.gl_core.specs.Outcome.{Outcome, numbers, unless}
+use Rattle.gl_core.specs.Places.{no_origin}
+use Rattle.gl_core.specs.World.{World}
+
+-- the n places from this one on
+abbrev pub places_from : ℕ → ℕ → List ℕ
+places_from place zero = []
+places_from place (suc n) = place ∷ places_from (place + 1) n
+
+-- the places at which a chip was made, in order
+abbrev pub used_places : World → List ℕ
+used_places w = places_from 0 (length w.chips)
+
+-- how many places are left
+abbrev pub places_left : World → ℕ
+places_left w = PLACES - length w.chips
+
+-- how far the chip of a place has come
+abbrev pub phase_at : World → ℕ → Phase
+phase_at w place = (chip_at w.chips place).phase
+
+-- where the chip of a place comes from, and who removes it
+abbrev pub origin_at : World → ℕ → Origin
+origin_at w place = slice_index_or w.origins place no_origin
+
+-- the chip is there, and its removal hasn't begun
+abbrev pub is_up : Phase → Bool
+is_up Absent = false
+is_up Up = true
+is_up Leaving = false
+is_up Gone = false
+
+-- the chip's removal has begun, and hasn't ended
+abbrev pub is_leaving : Phase → Bool
+is_leaving Absent = false
+is_leaving Up = false
+is_leaving Leaving = true
+is_leaving Gone = false
+
+-- no chip was ever made
+abbrev pub is_absent : Phase → Bool
+is_absent Absent = true
+is_absent Up = false
+is_absent Leaving = false
+is_absent Gone = false
+
+-- why a call that names a place is refused: no chip was ever made there
+abbrev pub place_refusal : ℕ → World → Option Errno
+place_refusal place w = when (is_absent (phase_at w place)) NoEnt
+
+-- where a new chip comes from
+abbrev pub new_origin : Kind → Option (List ℕ) → Origin
+new_origin kind device = record { kind = kind; device = device; remover = None }
+
+-- the tables of a new chip with so many lines
+abbrev pub new_place : ℕ → Place
+new_place lines = record {
+  descs = replicate lines first_desc;
+  bank = replicate lines first_levels;
+  irqs = replicate lines first_irq;
+  pins = no_pins;
+}
+
+-- the world with some chips more, each with its origin and its tables
+abbrev pub with_chips : List Chip → List Origin → List Place → World → World
+with_chips chips origins places w = record w {
+  chips = w.chips ++ chips;
+  origins = w.origins ++ origins;
+  places = w.places ++ places;
+}
+
+-- Probe makes a chip outside the tree at the next place, and answers this place: ENOSPC where all places were used.
+abbrev pub probe : List ℕ → ℕ → Kind → World → Outcome
+probe label lines kind w =
+    unless (when (nat_le PLACES (length w.chips)) NoSpc) w
+    (numbers (length w.chips) (with_chips (new_chip label lines ∷ []) (new_origin kind None ∷ []) (new_place lines ∷ []) w))

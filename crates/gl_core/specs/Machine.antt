@@ -1,0 +1,62 @@
+-- The machine: all that the trait of machines asks of one, over worlds. A legal history, the world after one, and what the
+-- laws say are those of every machine.
+use Rattle.std.specs.Prelude.{ℕ, List, Option}
+use Rattle.gl_world.specs.History.{Legal, fold}
+use Rattle.gl_world.specs.declared.history.Entry.{Entry}
+use Rattle.gl_world.specs.declared.machine.Machine.{Ghosts}
+use Rattle.gl_core.specs.declared.call.Call.{Call}
+use Rattle.gl_core.specs.declared.gift.Gift.{Gift}
+use Rattle.gl_core.specs.declared.reply.Reply.{Reply}
+use Rattle.gl_core.specs.Chips.{origin_at, phase_at}
+use Rattle.gl_core.specs.Entries.{awaited_call, begins, begun_places, ends, guarded_place, is_last_removal, last_call, refused_place}
+use Rattle.gl_core.specs.Fits.{Fits, FitsCall, Leaves}
+use Rattle.gl_core.specs.Kept.{Kept, StandsFor}
+use Rattle.gl_core.specs.Sound.{IsSound}
+use Rattle.gl_core.specs.Step.{step}
+use Rattle.gl_core.specs.World.{World, opening}
+
+abbrev pub world_after : World → ℕ → Call → World
+world_after w actor call = (step w actor call).world
+
+abbrev pub reply_of : World → ℕ → Call → Reply
+reply_of w actor call = (step w actor call).reply
+
+abbrev pub bytes_of : World → ℕ → Call → List ℕ
+bytes_of w actor call = (step w actor call).bytes
+
+-- the actor that removes the chip of a place
+abbrev pub remover_of : World → ℕ → Option ℕ
+remover_of w place = (origin_at w place).remover
+
+-- the machine, over what is kept of its worlds
+abbrev pub machine : Ghosts Kept Call Reply Gift
+machine = record {
+  World = World;
+  opening = opening;
+  stands_for = StandsFor;
+  Sound = IsSound;
+  world_after = world_after;
+  reply_of = reply_of;
+  bytes_of = bytes_of;
+  FitsCall = FitsCall;
+  Fits = Fits;
+  Leaves = Leaves;
+  begins = begins;
+  ends = ends;
+  place_of = guarded_place;
+  refused_at = refused_place;
+  phase_of = phase_at;
+  remover_of = remover_of;
+  is_last_removal = is_last_removal;
+  begun_places = begun_places;
+  last_call = last_call;
+  awaited_call = awaited_call;
+}
+
+-- a history that the machine can have
+abbrev pub IsLegal : List (Entry Kept Call Reply Gift) → Type 0
+IsLegal history = Legal machine history
+
+-- the world after a history
+abbrev pub world_of : List (Entry Kept Call Reply Gift) → World
+world_of history = fold machine history

@@ -1,0 +1,36 @@
+-- What a call does: the world after it, the reply, and the bytes that it writes from the start of the buffer.
+use Rattle.std.specs.Prelude.{ℕ, List, [], Option, Some, None}
+use Rattle.gl_base.specs.declared.errno.Errno.{Errno}
+use Rattle.gl_core.specs.declared.reply.Reply.{Reply}
+use Rattle.gl_core.specs.declared.reply.Reply.TheVariants.{Done, Number, Refused}
+use Rattle.gl_core.specs.World.{World}
+
+pub record Outcome : Type 0 where
+  pub world : World
+  pub reply : Reply
+  pub bytes : List ℕ
+
+-- the world as it is, or another one, and a reply; nothing is written
+abbrev pub replies : Reply → World → Outcome
+replies reply w = record { world = w; reply = reply; bytes = [] }
+
+-- the call was done
+abbrev pub done : World → Outcome
+done w = replies Done w
+
+-- a number is the answer
+abbrev pub numbers : ℕ → World → Outcome
+numbers n w = replies (Number n) w
+
+-- the call is refused: the world stays, and nothing is written
+abbrev pub refused : Errno → World → Outcome
+refused errno w = replies (Refused errno) w
+
+-- the call is refused where there is a refusal; else it does this
+abbrev pub unless : Option Errno → World → Outcome → Outcome
+unless (Some errno) w out = refused errno w
+unless None w out = out
+
+-- the call was done, and these bytes are written
+abbrev pub writes : List ℕ → World → Outcome
+writes bytes w = record { world = w; reply = Done; bytes = bytes }

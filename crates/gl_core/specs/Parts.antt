@@ -1,0 +1,105 @@
+-- Which entries of the history one call of the device makes. That a command which asks the driver makes two, and a removal
+-- two, is this project's choice.
+use Rattle.std.specs.Prelude.{◌≡◌, ℕ, Bool, true, false, ◌&&◌, nat_le, List, [], ◌∷◌, ◌++◌, Option, Some, None}
+use Rattle.std.specs.Bool.{beq}
+use Rattle.gl_uapi.specs.Command.{command_of, size_of}
+use Rattle.gl_uapi.specs.declared.commands.Command.{Command}
+use Rattle.gl_world.specs.History.{entry}
+use Rattle.gl_world.specs.declared.history.Entry.{Entry}
+use Rattle.gl_core.specs.declared.call.Call.{Call}
+use Rattle.gl_core.specs.declared.call.Call.TheVariants.{Ioctl, PollLine, PollChip, Refused as RefusedCall}
+use Rattle.gl_core.specs.declared.call.Part.TheVariants.{Whole, Ask, Tell}
+use Rattle.gl_core.specs.declared.gift.Gift.{Gift}
+use Rattle.gl_core.specs.declared.reply.Reply.{Reply}
+use Rattle.gl_core.specs.Entries.{begins, guarded_place, last_call}
+use Rattle.gl_core.specs.OpenFiles.{asks_driver, is_for_chips}
+use Rattle.gl_core.specs.Step.{guard_reply}
+
+-- a command as it is handed in: a handle's place and number, whether it is a chip's, and the command's number, the
+-- buffer's length and its bytes
+pub record Ioctled : Type 0 where
+  pub place : ℕ
+  pub fd : ℕ
+  pub of_chip : Bool
+  pub cmd : ℕ
+  pub len : ℕ
+  pub bytes : List ℕ
+
+-- A call of the device: one call of the machine, a removal by its first call, or a command on an open file.
+pub data DeviceCall : Type 0 where
+  Once : Call → DeviceCall
+  Removing : Call → DeviceCall
+  Commanding : Ioctled → DeviceCall
+
+-- the driver is asked for a command of the handle's kind of file whose structure the buffer has room for
+abbrev pub is_asked : Bool → ℕ → Option Command → Bool
+is_asked of_chip len None = false
+is_asked of_chip len (Some command) = asks_driver command && (beq of_chip (is_for_chips command) && nat_le (size_of command) len)
+
+-- the call of a command in one of its parts
+abbrev pub in_whole : Ioctled → Call
+in_whole c = Ioctl c.place c.fd c.cmd c.len c.bytes Whole
+
+abbrev pub in_ask : Ioctled → Call
+in_ask c = Ioctl c.place c.fd c.cmd c.len c.bytes Ask
+
+abbrev pub in_tell : Option ℕ → Ioctled → Call
+in_tell answer c = Ioctl c.place c.fd c.cmd c.len c.bytes (Tell answer)
+
+-- the place whose guard the call of the device enters
+abbrev pub guard_of : DeviceCall → Option ℕ
+guard_of (Once call) = guarded_place call
+guard_of (Removing first) = None
+guard_of (Commanding c) = Some c.place
+
+-- the call is a poll
+abbrev pub is_poll : DeviceCall → Bool
+is_poll (Once (PollLine place fd)) = true
+is_poll (Once (PollChip place fd)) = true
+is_poll _ = false
+
+-- The entries of an actor, in the histories of a machine M.
+module _ {M : Type 0} (actor : ℕ) where
+  -- one entry
+  abbrev pub MakesOne : Call → List (Entry M Call Reply Gift) → Type 0
+  MakesOne call made = (reply : Reply) × (made ≡ entry actor call reply ∷ [])
+
+  -- what stands behind a first entry: where it owes a second one, the entries between them and the second; else nothing
+  abbrev pub MakesRest : Bool → Call → List (Entry M Call Reply Gift) → List (Entry M Call Reply Gift) → Type 0
+  MakesRest false second between rest = (rest ≡ []) × (between ≡ [])
+  MakesRest true second between rest = (reply : Reply) × (rest ≡ between ++ entry actor second reply ∷ [])
+
+  -- two entries, where the first is answered so that it owes a second one
+  abbrev pub MakesTwo : Call → Call → List (Entry M Call Reply Gift) → List (Entry M Call Reply Gift) → Type 0
+  MakesTwo first second between made =
+      (reply : Reply) × (rest : List (Entry M Call Reply Gift)) × (made ≡ entry actor first reply ∷ rest)
+      × MakesRest (begins first reply) second between rest
+
+  -- A command: the ask, and after Go the driver's own entries and then the tell, which holds the driver's answer. Where the
+  -- driver isn't asked, the command is whole.
+  abbrev pub MakesCommand : Bool → Option ℕ → Ioctled → List (Entry M Call Reply Gift) → List (Entry M Call Reply Gift) → Type 0
+  MakesCommand true answer c own made = MakesTwo (in_ask c) (in_tell answer c) own made
+  MakesCommand false answer c own made = MakesOne (in_whole c) made × (own ≡ [])
+
+  -- What a call of the device makes where its guard, if it has one, lets it in. A removal makes its first entry and, after
+  -- Done, its last one.
+  abbrev pub MakesInside : DeviceCall → Option ℕ → List (Entry M Call Reply Gift) → List (Entry M Call Reply Gift) → Type 0
+  MakesInside (Once call) answer own made = MakesOne call made × (own ≡ [])
+  MakesInside (Removing first) answer own made = MakesTwo first (last_call first) [] made × (own ≡ [])
+  MakesInside (Commanding c) answer own made = MakesCommand (is_asked c.of_chip c.len (command_of c.cmd)) answer c own made
+
+  -- at the closed guard of a place: the entry that records just that
+  abbrev pub MakesRefused : ℕ → Bool → List (Entry M Call Reply Gift) → Type 0
+  MakesRefused place poll made = made ≡ entry actor (RefusedCall place poll) (guard_reply poll) ∷ []
+
+  -- what a call makes, by the guard that it enters and whether that was closed
+  abbrev pub MakesAt : Option ℕ → Bool → DeviceCall → Option ℕ → List (Entry M Call Reply Gift) → List (Entry M Call Reply Gift) → Type 0
+  MakesAt None closed call answer own made = MakesInside call answer own made
+  MakesAt (Some place) false call answer own made = MakesInside call answer own made
+  MakesAt (Some place) true call answer own made = MakesRefused place (is_poll call) made × (own ≡ [])
+
+  -- The entries that one call of the device makes: `closed` tells whether the closed bit stood at its guard, `answer` is
+  -- what the driver answered, where it was asked, and `own` are the entries that the driver made for it. What the caller is
+  -- answered is the reply of the last entry.
+  abbrev pub Makes : Bool → DeviceCall → Option ℕ → List (Entry M Call Reply Gift) → List (Entry M Call Reply Gift) → Type 0
+  Makes closed call answer own made = MakesAt (guard_of call) closed call answer own made

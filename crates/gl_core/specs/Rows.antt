@@ -1,0 +1,25 @@
+-- Worked runs, by name: their calls, and what these are answered.
+pub mod ActiveLowEdges
+pub mod CallBehindGone
+pub mod ChipInfo
+pub mod Debounce
+pub mod FirstAttribute
+pub mod Histories
+pub mod HogAndLocks
+pub mod InterruptLocks
+pub mod Pins
+pub mod PlacesUsed
+pub mod PlannedFault
+pub mod RemovedChip
+pub mod RemovedDevice
+pub mod RequestFaults
+pub mod RequestHeader
+pub mod SmallRing
+pub mod SoftDebounce
+pub mod Structures
+pub mod TwoActorsBefore
+pub mod TwoActorsBehind
+pub mod TwoLines
+pub mod TwoRemovals
+pub mod Values
+pub mod WatchQueue

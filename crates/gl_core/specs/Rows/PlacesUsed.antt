@@ -1,0 +1,15 @@
+-- There are 16 places, and the 17th chip finds none.
+use Rattle.std.specs.Prelude.{List, [], ◌∷◌, ◌++◌, codes, map}
+use Rattle.gl_base.specs.declared.errno.Errno.TheVariants.{NoSpc}
+use Rattle.gl_base.specs.declared.kind.Kind.TheVariants.{Simulated}
+use Rattle.gl_base.specs.Positions.{table_from}
+use Rattle.gl_core.specs.declared.call.Call.TheVariants.{Probe}
+use Rattle.gl_core.specs.declared.reply.Reply.TheVariants.{Number, Refused}
+use Rattle.gl_core.specs.Rows.Structures.{by}
+use Rattle.gl_core.specs.Run.{Answer, Made, says}
+
+unfoldable pub run : List Made
+run = map (λ place. by 0 (Probe (codes "x") 1 Simulated)) (table_from (λ place. place) 0 17)
+
+unfoldable pub given : List Answer
+given = map (λ place. says (Number place)) (table_from (λ place. place) 0 16) ++ says (Refused NoSpc) ∷ []
