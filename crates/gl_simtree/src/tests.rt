@@ -4,6 +4,7 @@ use crate::node::{Directory, File, Node};
 use crate::parse::node_at;
 use crate::{BankPlan, Tree};
 use gl_base::{Errno, Name, Path};
+use gl_desc::HogWay;
 use std::test::Fail;
 
 fn path(text: &str) -> Result<Path, Fail> {
@@ -194,6 +195,14 @@ fn a_board_of_three_banks_becomes_three_chips(rt: HostRuntime) -> Result<(), Fai
             (lines, names, hogs),
             "{label}"
         );
+        for (offset, name) in plan.names.iter() {
+            assert_eq!(rt; *offset, 3);
+            assert_eq!(rt; name.as_bytes(), b"BUTTON".as_slice());
+        }
+        for hog in plan.hogs.iter() {
+            assert_eq!(rt; hog.offset, 3);
+            assert!(rt; hog.way == HogWay::High);
+        }
     }
     let files = [
         ("board/live", "1"),
