@@ -1,4 +1,4 @@
--- The laws of a machine, as the trait states them.
+-- The laws of a machine over its worlds, as the trait states them. (Two more of the trait speak of calls alone.)
 use Rattle.std.specs.Prelude.{◌≡◌, ℕ, ◌<◌, ◌≤◌, true, Some, Contains}
 use Rattle.gl_world.specs.declared.machine.Machine.{Ghosts}
 use Rattle.gl_world.specs.History.{stage}

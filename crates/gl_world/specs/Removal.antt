@@ -47,7 +47,7 @@ module _ {M C R G : Type 0} (m : Ghosts M C R G) where
   StrangersRemoveNothing = (actor : ℕ) (history : List (Entry M C R G)) (p : ℕ) → Answered m history → entries_of actor history ≡ []
       → Removes (fold m history) actor p → ⊥
 
-  -- a call that has nothing to do with removals: it begins none, and ends none
+  -- an entry that begins no removal, and whose call is the last one of none
   abbrev pub IsQuiet : Entry M C R G → Type 0
   IsQuiet e = ((bytes : List ℕ) → m.begun_places e.call e.reply bytes ≡ []) × (m.is_last_removal e.call ≡ false)
 
