@@ -69,7 +69,7 @@ module _ (u : Request → Bool) where
     | false ↦ (λ h. size_none rows h)
   ] e
 
-edge_same : (offset : ℕ) (rising : Bool) (timestamp a : ℕ) (x : Request) → is_claim_of a (with_edge offset rising timestamp x) ≡ true → is_claim_of a x ≡ true
+pub edge_same : (offset : ℕ) (rising : Bool) (timestamp a : ℕ) (x : Request) → is_claim_of a (with_edge offset rising timestamp x) ≡ true → is_claim_of a x ≡ true
 edge_same offset rising timestamp a x h = elim (is_monitored offset rising x) as (λ b. is_claim_of a (cond b (record x { past = with_item x.capacity (record { timestamp = timestamp; rising = rising; offset = offset }) x.past }) x) ≡ true → is_claim_of a x ≡ true) [ true ↦ (λ k. k) | false ↦ (λ k. k) ] h
 
 no_number : (o : Option Request) → is_some (option_map (λ (x : Request). x.fd) o) ≡ false → is_some o ≡ false
@@ -86,7 +86,7 @@ claim_finds_none place actor asked w e =
     size_none (is_claim_of actor) w.requests (no_number (find (is_claim_of actor) w.requests) (nothing_when (is_some (claim_number w.requests actor)) Busy two.0))
 
 -- no actor has two unfinished claims among these
-abbrev OneEach : List Request → Type 0
+abbrev pub OneEach : List Request → Type 0
 OneEach rows = (a : ℕ) → length (filter (is_claim_of a) rows) ≤ 1
 
 le_trans : (a b c : ℕ) → a ≤ b → b ≤ c → a ≤ c
@@ -109,7 +109,7 @@ claimed place actor bytes w f e one a =
       | false ↦ (λ ne. le_trans (length (filter (is_claim_of a) (w.requests ++ claim ∷ []))) (length (claims_of a w)) 1 (size_push_other (is_claim_of a) w.requests claim ne) (one a))
     ] refl
 
-keeps : (w : World) (actor : ℕ) (call : Call) → OneEach w.requests → OneEach (step w actor call).world.requests
+pub keeps : (w : World) (actor : ℕ) (call : Call) → OneEach w.requests → OneEach (step w actor call).world.requests
 keeps w actor call = step_keeps OneEach
     (λ fd offset rising timestamp rows. changed (has_number fd) (with_edge offset rising timestamp) rows (λ a x. edge_same offset rising timestamp a x))
     (λ fd settings rows. changed (has_number fd) (λ request. record request { settings = settings request.settings }) rows (λ a x h. h))

@@ -1,34 +1,49 @@
--- A removal that has begun isn't begun again.
-use Rattle.std.proofs.Common.{Bool, not, List, [], ◌∷◌, Option, Some, None, sym, subst}
-use Rattle.gl_base.specs.Refusals.{first_of, when}
-use Rattle.gl_base.specs.declared.errno.Errno.{Errno}
-use Rattle.gl_base.specs.declared.errno.Errno.TheVariants.{Busy, Inval, NoEnt, Perm}
-use Rattle.gl_base.specs.declared.phase.Phase.{Phase}
-use Rattle.gl_simtree.specs.Calls.{is_live}
-use Rattle.gl_simtree.specs.Forms.{is_device}
-use Rattle.gl_simtree.specs.Rows.{has, state_of}
-use Rattle.gl_simtree.specs.declared.node.Directory.TheVariants.{Device}
-use Rattle.gl_core.specs.Chips.{place_refusal}
-use Rattle.gl_core.specs.OneRemoval.{OneRemoval}
-use Rattle.gl_core.specs.Outcome.{Outcome, unless}
-use Rattle.gl_core.specs.Refusing.{IsRefused}
-use Rattle.gl_core.specs.Removal.{is_alone, phase_refusal, remove_begun, unplug_begun}
-use Rattle.gl_core.specs.World.{World}
+-- An actor that calls the device, one call after another, has at most one unfinished removal, and a device that is leaving has one.
+use Rattle.std.proofs.Common.{◌≡◌, Option, Some, None, ℕ, List, ◌++◌, sym, ◌∙◌, false, arith, inl, inr}
+use Rattle.gl_simtree.specs.Calls.{is_leaving}
+use Rattle.gl_simtree.specs.Rows.{state_of}
+use Rattle.gl_world.specs.History.{entries_of}
+use Rattle.gl_world.specs.declared.history.Entry.{Entry}
+use Rattle.gl_core.specs.declared.call.Call.{Call}
+use Rattle.gl_core.specs.declared.gift.Gift.{Gift}
+use Rattle.gl_core.specs.declared.reply.Reply.{Reply}
+use Rattle.gl_core.specs.Calling.{AreOfCalls}
+use Rattle.gl_core.specs.Kept.{Kept}
+use Rattle.gl_core.specs.Machine.{IsLegal, machine, world_of}
+use Rattle.gl_core.specs.OneRemoval.{HasNoRemoval, HasAtMostOneRemoval, OneRemoval}
+use Rattle.gl_core.specs.World.{World, opening}
+use Rattle.gl_core.proofs.Awaiting.{Awaits, Leads, Moves, leads_awaited}
+use Rattle.gl_core.proofs.Calling.{all_lead}
+use Rattle.gl_core.proofs.Leading.{leads_to}
+use Rattle.gl_core.proofs.Devices.{removed_by_one, sound_world}
+use Rattle.gl_core.proofs.MachineLaws.{machine_laws}
+use Rattle.gl_core.proofs.Soundness.{chosen}
 
-refused_third : (a b : Option Errno) (rest : List (Option Errno)) (w : World) (out : Outcome) → IsRefused (unless (first_of (a ∷ b ∷ Some Busy ∷ rest)) w out).reply
-refused_third (Some e) b rest w out = tt
-refused_third None (Some e) rest w out = tt
-refused_third None None rest w out = tt
+-- at first nobody removes anything
+opens_free : (actor : ℕ) → Awaits machine actor opening None
+opens_free actor p at = let low = machine_laws.opens_places p in let two = at.0 in absurd (omega arith)
+
+after : (history : List (Entry Kept Call Reply Gift)) (actor : ℕ) (new : Option Call) → IsLegal history → Leads machine None (entries_of actor history) new → Awaits machine actor (world_of history) new
+after history actor new legal leads = leads_awaited machine machine_laws actor opening history None new machine_laws.opens_sound legal.0 leads (opens_free actor)
+
+one_awaited : (actor : ℕ) (w : World) (awaited : Option Call) → Awaits machine actor w awaited → HasAtMostOneRemoval actor w
+one_awaited actor w None awaits place other at too = absurd (awaits place at)
+one_awaited actor w (Some call) awaits place other at too = awaits place at ∙ sym (awaits other too)
+
+none_between : (history : List (Entry Kept Call Reply Gift)) → IsLegal history → (actor : ℕ) → AreOfCalls actor (entries_of actor history) → HasNoRemoval actor (world_of history)
+none_between history legal actor calls = after history actor None legal (all_lead actor (entries_of actor history) calls)
 
 pub one_removal : OneRemoval
 one_removal = record {
-  of_a_chip = λ w actor place leaving.
-      subst (λ (phase : Phase). IsRefused (unless (first_of (place_refusal place w ∷ when (not (is_alone w place)) Perm ∷ phase_refusal phase ∷ [])) w (unplug_begun actor place w)).reply)
-      (sym leaving) (refused_third (place_refusal place w) (when (not (is_alone w place)) Perm) [] w (unplug_begun actor place w));
-  of_a_device = λ w actor device leaving.
-      let form = when (not (is_device device)) Inval in
-      let there = when (not (has (Device device) w.tree)) NoEnt in
-      let live = when (not (is_live (state_of device w.tree))) Perm in
-      subst (λ (b : Bool). IsRefused (unless (first_of (form ∷ there ∷ when b Busy ∷ live ∷ [])) w (remove_begun actor device w)).reply)
-      (sym leaving) (refused_third form there (live ∷ []) w (remove_begun actor device w));
+  during_a_call = λ history legal actor calls.
+      let leads = leads_to (Moves machine) None None (entries_of actor history) calls.to_come (all_lead actor (entries_of actor history ++ calls.to_come) calls.whole) in
+      one_awaited actor (world_of history) leads.0 (after history actor leads.0 legal leads.1);
+  between_calls = λ history legal actor calls. none_between history legal actor calls;
+  device_is_seen = λ history legal device leaving. removed_by_one device (world_of history) ((sound_world history).devices device) leaving;
+  none_is_leaving = λ history legal calls device. elim (chosen (is_leaving (state_of device (world_of history).tree))) as (λ _. is_leaving (state_of device (world_of history).tree) ≡ false) [
+    | inl t ↦
+        (let one = removed_by_one device (world_of history) ((sound_world history).devices device) t in
+        absurd (none_between history legal one.actor (calls one.actor) one.place one.removes))
+    | inr f ↦ f
+  ];
 }

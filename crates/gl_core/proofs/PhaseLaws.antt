@@ -13,11 +13,12 @@ use Rattle.gl_core.specs.declared.call.Call.{Call}
 use Rattle.gl_core.specs.declared.call.Call.TheVariants.{Probe, Unplug, MakeDir, RemoveDir, Write, Read, Live, Remove, Tick, Pin, Irq, Pull, Level, Interrupt, OpenChip, Find, Ioctl, ReadEdges, ReadInfo, PollLine, PollChip, Close, Refused as RefusedCall}
 use Rattle.gl_core.specs.declared.call.Part.TheVariants.{Whole, Ask, Tell}
 use Rattle.gl_core.specs.declared.reply.Reply.{Reply}
-use Rattle.gl_core.specs.Chips.{is_leaving, is_up, origin_at, phase_at, places_from}
+use Rattle.gl_core.specs.Chips.{is_leaving, is_up, phase_at, places_from}
 use Rattle.gl_core.specs.Entries.{awaited_call, begins, begun_places, ending_call, ends, is_last_removal, last_call, places_named}
 use Rattle.gl_core.specs.Machine.{bytes_of, remover_of, reply_of, world_after}
 use Rattle.gl_core.specs.Outcome.{Outcome, done, unless}
-use Rattle.gl_core.specs.Removal.{end_at, is_actor, is_alone, is_device_named, is_of, is_removed_by, is_removed_of, is_unplugged_by, is_up_of, leave_at, remove_begun, remove_ended, removal_bytes, removed_places, unplug_begun, unplug_refusal, up_places}
+use Rattle.gl_core.specs.Places.{origin_at}
+use Rattle.gl_core.specs.Removal.{end_at, is_actor, is_outside_tree, is_device_named, is_of, is_removing, is_removing_of, is_unplugging, is_up_of, leave_at, remove_begun, remove_ended, removal_bytes, removed_places, unplug_begun, unplug_refusal, up_places}
 use Rattle.gl_core.specs.Sound.{IsSound}
 use Rattle.gl_core.specs.World.{World, opening}
 use Rattle.gl_core.proofs.Phases.{actor_is, among, both, ended, Stays, Comes, Goes_away, Ends, goes, is_up_rank, left, named_are, rank_is_leaving, same_number, stage, unplug_finds, within_chips}
@@ -113,7 +114,7 @@ only_place : (place p : ℕ) → Contains (place ∷ []) p → p ≡ place
 only_place place p (zero, lt, e) = sym e
 only_place place p (suc k, lt, e) = absurd (omega arith)
 
-begun_unplug : (w : World) (actor place p : ℕ) → length w.origins ≡ length w.chips → (stage w place ≡ 1) × (is_alone w place ≡ true) → Contains (place ∷ []) p → Begun w (leave_at (λ k. k == place) actor w) actor p (Unplug place true)
+begun_unplug : (w : World) (actor place p : ℕ) → length w.origins ≡ length w.chips → (stage w place ≡ 1) × (is_outside_tree w place ≡ true) → Contains (place ∷ []) p → Begun w (leave_at (λ k. k == place) actor w) actor p (Unplug place true)
 begun_unplug w actor place p columns finds c =
     let is_p : p ≡ place = only_place place p c in
     let t : (p == place) ≡ true = grind (arith, nat_tests) in
@@ -121,7 +122,7 @@ begun_unplug w actor place p columns finds c =
     let device : (origin_at (leave_at (λ k. k == place) actor w) p).device ≡ None = l.same_device ∙ ap (λ k. (origin_at w k).device) is_p ∙ alone_is (origin_at w place).device finds.1 in
     (l.is_leaving_now, l.by_actor, ap (ending_call p) device ∙ ap (λ k. Unplug k true) is_p)
 
-unplug_begins : (r : Option Errno) (w : World) (actor place p : ℕ) → length w.origins ≡ length w.chips → (r ≡ None → (stage w place ≡ 1) × (is_alone w place ≡ true))
+unplug_begins : (r : Option Errno) (w : World) (actor place p : ℕ) → length w.origins ≡ length w.chips → (r ≡ None → (stage w place ≡ 1) × (is_outside_tree w place ≡ true))
     → Contains (begun_places (Unplug place false) (unless r w (unplug_begun actor place w)).reply (unless r w (unplug_begun actor place w)).bytes) p → Begun w (unless r w (unplug_begun actor place w)).world actor p (Unplug place true)
 unplug_begins None w actor place p columns finds c = begun_unplug w actor place p columns (finds refl) c
 unplug_begins (Some e) w actor place p columns finds c = absurd (no_member p c)
@@ -201,20 +202,20 @@ both_true false b e h = absurd (true≢false (sym e))
 
 unplug_ends : (w : World) (by p : ℕ) → stage w p ≡ 2 → remover_of w p ≡ Some by → (origin_at w p).device ≡ None → stage (world_after w by (Unplug p true)) p ≡ 3
 unplug_ends w by p leaving remover alone =
-    let is_alone_there : is_alone w p ≡ true = ap is_none alone in
-    let removed : is_removed_by by w p ≡ true = both_true (is_leaving (phase_at w p)) (is_actor by (origin_at w p).remover) (rank_is_leaving (phase_at w p) leaving) (actor_is by (origin_at w p).remover remover) in
+    let is_alone_there : is_outside_tree w p ≡ true = ap is_none alone in
+    let removed : is_removing by w p ≡ true = both_true (is_leaving (phase_at w p)) (is_actor by (origin_at w p).remover) (rank_is_leaving (phase_at w p) leaving) (actor_is by (origin_at w p).remover remover) in
     let t : (p == p) ≡ true = grind (arith, nat_tests) in
-    accepted (is_unplugged_by by w p) w (done (end_at (λ k. k == p) w)) p (both_true (is_alone w p) (is_removed_by by w p) is_alone_there removed)
+    accepted (is_unplugging by w p) w (done (end_at (λ k. k == p) w)) p (both_true (is_outside_tree w p) (is_removing by w p) is_alone_there removed)
     (ended (λ k. k == p) w (end_at (λ k. k == p) w) p refl leaving t)
 
 remove_ends : (w : World) (by p : ℕ) (device : List ℕ) → stage w p ≡ 2 → remover_of w p ≡ Some by → (origin_at w p).device ≡ Some device → stage (world_after w by (Remove device true)) p ≡ 3
 remove_ends w by p device leaving remover of_device =
     let is_of_there : is_of device w p ≡ true = is_that_device device (origin_at w p).device of_device in
-    let removed : is_removed_by by w p ≡ true = both_true (is_leaving (phase_at w p)) (is_actor by (origin_at w p).remover) (rank_is_leaving (phase_at w p) leaving) (actor_is by (origin_at w p).remover remover) in
-    let t : is_removed_of device by w p ≡ true = both_true (is_of device w p) (is_removed_by by w p) is_of_there removed in
+    let removed : is_removing by w p ≡ true = both_true (is_leaving (phase_at w p)) (is_actor by (origin_at w p).remover) (rank_is_leaving (phase_at w p) leaving) (actor_is by (origin_at w p).remover remover) in
+    let t : is_removing_of device by w p ≡ true = both_true (is_of device w p) (is_removing by w p) is_of_there removed in
     let lt : p < length w.chips = within_chips w.chips p (omega arith) in
-    accepted_remove (length (removed_places device by w) == 0) w (remove_ended by device w) p (one_passes (is_removed_of device by w) 0 (length w.chips) p (omega arith) (omega arith) t)
-    (ended (is_removed_of device by w) w (remove_ended by device w).world p refl leaving t)
+    accepted_remove (length (removed_places device by w) == 0) w (remove_ended by device w) p (one_passes (is_removing_of device by w) 0 (length w.chips) p (omega arith) (omega arith) t)
+    (ended (is_removing_of device by w) w (remove_ended by device w).world p refl leaving t)
 
 ends_by : (o : Option (List ℕ)) (w : World) (by p : ℕ) → stage w p ≡ 2 → remover_of w p ≡ Some by → (origin_at w p).device ≡ o → stage (world_after w by (ending_call p o)) p ≡ 3
 ends_by None w by p leaving remover e = unplug_ends w by p leaving remover e

@@ -21,11 +21,11 @@ use Rattle.gl_world.specs.Ranks.{rank}
 use Rattle.gl_core.specs.declared.call.Call.{Call}
 use Rattle.gl_core.specs.declared.call.Call.TheVariants.{Probe, Unplug, MakeDir, RemoveDir, Write, Read, Live, Remove, Tick, Pin, Irq, Pull, Level, Interrupt, OpenChip, Find, Ioctl, ReadEdges, ReadInfo, PollLine, PollChip, Close, Refused as RefusedCall}
 use Rattle.gl_core.specs.declared.place.Origin.{Origin}
-use Rattle.gl_core.specs.Chips.{is_absent, is_leaving, is_up, new_origin, origin_at, phase_at, place_refusal, places_from, places_left}
+use Rattle.gl_core.specs.Chips.{is_absent, is_leaving, is_up, new_origin, phase_at, place_refusal, places_from, places_left}
 use Rattle.gl_core.specs.Entries.{begun_places, is_last_removal, places_named}
 use Rattle.gl_core.specs.Outcome.{Outcome, unless}
-use Rattle.gl_core.specs.Places.{no_origin}
-use Rattle.gl_core.specs.Removal.{change_where, end_at, is_actor, is_alone, is_of, is_removed_by, is_removed_of, is_unplugged_by, is_up_of, leave_at, phase_refusal, removal_bytes, remove_begun, remove_ended, removed_by, unplug_begun, unplug_refusal, up_places}
+use Rattle.gl_core.specs.Places.{no_origin, origin_at}
+use Rattle.gl_core.specs.Removal.{change_where, end_at, is_actor, is_outside_tree, is_of, is_removing, is_removing_of, is_unplugging, is_up_of, leave_at, phase_refusal, removal_bytes, remove_begun, remove_ended, removed_by, unplug_begun, unplug_refusal, up_places}
 use Rattle.gl_core.specs.Sound.{IsSound, IsSoundFor}
 use Rattle.gl_core.specs.Step.{step}
 use Rattle.gl_core.specs.Tree.{chip_of_bank, gone_live, origin_of_bank}
@@ -274,13 +274,13 @@ named_are device w row = ap (λ ps. places_named (removal_bytes ps)) (up_places_
 -- the calls that make a removal
 
 -- an unplug that isn't refused finds its chip up, and of no device
-pub unplug_finds : (w : World) (place : ℕ) → unplug_refusal place w ≡ None → (stage w place ≡ 1) × (is_alone w place ≡ true)
+pub unplug_finds : (w : World) (place : ℕ) → unplug_refusal place w ≡ None → (stage w place ≡ 1) × (is_outside_tree w place ≡ true)
 unplug_finds w place e =
-    let one = nothing_first (place_refusal place w) (first_of (when (not (is_alone w place)) Perm ∷ phase_refusal (phase_at w place) ∷ [])) e in
-    let two = nothing_first (when (not (is_alone w place)) Perm) (first_of (phase_refusal (phase_at w place) ∷ [])) one.1 in
+    let one = nothing_first (place_refusal place w) (first_of (when (not (is_outside_tree w place)) Perm ∷ phase_refusal (phase_at w place) ∷ [])) e in
+    let two = nothing_first (when (not (is_outside_tree w place)) Perm) (first_of (phase_refusal (phase_at w place) ∷ [])) one.1 in
     let three = nothing_first (phase_refusal (phase_at w place)) None two.1 in (
       unplugged_is_up (phase_at w place) (nothing_when (is_absent (phase_at w place)) NoEnt one.0) three.0,
-      not_false (is_alone w place) (nothing_when (not (is_alone w place)) Perm two.0),
+      not_false (is_outside_tree w place) (nothing_when (not (is_outside_tree w place)) Perm two.0),
     )
 
 -- an actor that may not be there
@@ -291,7 +291,7 @@ is_that_actor actor (Some other) e = ap Some (same_number other actor e)
 pub actor_is : (actor : ℕ) (o : Option ℕ) → o ≡ Some actor → is_actor actor o ≡ true
 actor_is actor o e = ap (is_actor actor) e ∙ eq-eqb actor actor refl
 
-pub removed_finds : (w : World) (actor p : ℕ) → is_removed_by actor w p ≡ true → (stage w p ≡ 2) × ((origin_at w p).remover ≡ Some actor)
+pub removed_finds : (w : World) (actor p : ℕ) → is_removing actor w p ≡ true → (stage w p ≡ 2) × ((origin_at w p).remover ≡ Some actor)
 removed_finds w actor p e =
     let h = both (is_leaving (phase_at w p)) (is_actor actor (origin_at w p).remover) e in
     (is_leaving_rank (phase_at w p) h.0, is_that_actor actor (origin_at w p).remover h.1)
@@ -311,7 +311,7 @@ begin_unplug_goes w actor place p columns = goes_unless (unplug_refusal place w)
       Stays (ap (λ (c : Chip). rank c.phase) n.0) (λ _. n.1))
 ])
 
-end_goes : (test : ℕ → Bool) (w : World) (out : Outcome) (actor : ℕ) (call : Call) (p : ℕ) → ((k : ℕ) → test k ≡ true → is_removed_by actor w k ≡ true)
+end_goes : (test : ℕ → Bool) (w : World) (out : Outcome) (actor : ℕ) (call : Call) (p : ℕ) → ((k : ℕ) → test k ≡ true → is_removing actor w k ≡ true)
     → out.world.chips ≡ (end_at test w).chips → out.world.origins ≡ w.origins → is_last_removal call ≡ true → Goes w out actor call p
 end_goes test w out actor call p removed is_chips is_origins last = elim (chosen (test p)) as (λ _. Goes w out actor call p) [
   | inl t ↦
@@ -321,10 +321,10 @@ end_goes test w out actor call p removed is_chips is_origins last = elim (chosen
 ]
 
 end_unplug_goes : (w : World) (actor place p : ℕ) → Goes w (step w actor (Unplug place true)) actor (Unplug place true) p
-end_unplug_goes w actor place p = goes_unless (when (not (is_unplugged_by actor w place)) Busy) w _ actor (Unplug place true) p (λ e.
+end_unplug_goes w actor place p = goes_unless (when (not (is_unplugging actor w place)) Busy) w _ actor (Unplug place true) p (λ e.
     end_goes (λ k. k == place) w _ actor (Unplug place true) p
     (λ k t. let is_k : k ≡ place = same_number k place t in
-    ap (is_removed_by actor w) is_k ∙ (both (is_alone w place) (is_removed_by actor w place) (not_false (is_unplugged_by actor w place) (nothing_when (not (is_unplugged_by actor w place)) Busy e))).1)
+    ap (is_removing actor w) is_k ∙ (both (is_outside_tree w place) (is_removing actor w place) (not_false (is_unplugging actor w place) (nothing_when (not (is_unplugging actor w place)) Busy e))).1)
     refl refl refl)
 
 begin_remove_goes : (w : World) (actor : ℕ) (device : List ℕ) (p : ℕ) → IsSound w → Goes w (step w actor (Remove device false)) actor (Remove device false) p
@@ -342,8 +342,8 @@ begin_remove_goes w actor device p sound = goes_unless (remove_refusal device w.
 
 end_remove_goes : (w : World) (actor : ℕ) (device : List ℕ) (p : ℕ) → Goes w (step w actor (Remove device true)) actor (Remove device true) p
 end_remove_goes w actor device p = goes_unless _ w (remove_ended actor device w) actor (Remove device true) p (λ e.
-    end_goes (is_removed_of device actor w) w (remove_ended actor device w) actor (Remove device true) p
-    (λ k t. (both (is_of device w k) (is_removed_by actor w k) t).1)
+    end_goes (is_removing_of device actor w) w (remove_ended actor device w) actor (Remove device true) p
+    (λ k t. (both (is_of device w k) (is_removing actor w k) t).1)
     refl refl refl)
 
 pub goes : (w : World) (actor : ℕ) (call : Call) (p : ℕ) → IsSound w → Goes w (step w actor call) actor call p

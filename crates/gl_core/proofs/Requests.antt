@@ -33,11 +33,12 @@ use Rattle.gl_core.specs.declared.call.Part.{Part}
 use Rattle.gl_core.specs.declared.call.Part.TheVariants.{Whole, Ask, Tell}
 use Rattle.gl_core.specs.declared.reply.Reply.TheVariants.{Go}
 use Rattle.gl_core.specs.Asked.{asked_in, request_fault}
+use Rattle.gl_core.specs.Calling.{is_get_line_call}
 use Rattle.gl_core.specs.Claiming.{claim, claim_at, claim_by, claim_lines, claim_refusal, held, hold_claim, new_claim, told_claim, with_descs}
 use Rattle.gl_core.specs.Clock.{clock_refusal, fire, settle, settle_each, tick}
 use Rattle.gl_core.specs.Configure.{configure, configure_each, configure_from, settings_of, with_levels}
 use Rattle.gl_core.specs.Configuring.{config_refusal, is_directed, reconfigure, reconfigure_from, set_config, settings_after, with_settings}
-use Rattle.gl_core.specs.Edges.{deadline_of, edge, edge_for, event_time, raw_edge, raw_edge_for, watcher, with_edge}
+use Rattle.gl_core.specs.Edges.{deadline_of, edge, edge_for, event_time, raw_edge, raw_edge_for, input_holder, with_edge}
 use Rattle.gl_core.specs.Ioctl.{act_on, by_number, checked, in_part}
 use Rattle.gl_core.specs.Notify.{notify, notify_each}
 use Rattle.gl_core.specs.Opening.{close, close_request, found, is_open, named_at, open_at, searched, without_request}
@@ -47,19 +48,35 @@ use Rattle.gl_core.specs.Places.{kind_at, place_at, with_place}
 use Rattle.gl_core.specs.Bits.{has_bit_below}
 use Rattle.gl_core.specs.Pulls.{is_simulated, level_refusal, pull, pull_change, pull_line}
 use Rattle.gl_core.specs.Reading.{events_for, read_from, read_refusal, take_events}
+use Rattle.gl_core.specs.Refusing.{is_get_line}
 use Rattle.gl_core.specs.Step.{step}
 use Rattle.gl_core.specs.Tree.{read_outcome}
 use Rattle.gl_core.specs.Values.{bits_in, drive_from, driven_with, get_values, mask_in, set_values, set_values_refusal, values_of}
 use Rattle.gl_core.specs.World.{World, Request, has_number, request_at}
+use Rattle.gl_core.proofs.Phases.{some_none}
 
+claim_by_any : (place : ℕ) (o : Option Request) (request : Request) → claim_at place o ≡ Some request → o ≡ Some request
+claim_by_any place None request e = e
+claim_by_any place (Some x) request e = elim (x.place == place) as (λ b. cond b (Some x) None ≡ Some request → Some x ≡ Some request) [
+  | true ↦ (λ h. h)
+  | false ↦ (λ h. absurd (some_none request (sym h)))
+] e
+
+-- `Before` is what is known of the world in which the call is made, and `May` of the actor where the call is a GET_LINE
 module _
     (P : List Request → Type 0)
+    (Before : World → Type 0)
+    (May : ℕ → Type 0)
     (edges : (fd offset : ℕ) (rising : Bool) (timestamp : ℕ) (rows : List Request) → P rows → P (change_first (has_number fd) (with_edge offset rising timestamp) rows))
     (settings_set : (fd : ℕ) (settings : Resolved → Resolved) (rows : List Request) → P rows → P (change_first (has_number fd) (λ request. record request { settings = settings request.settings }) rows))
-    (finished : (fd : ℕ) (rows : List Request) → P rows → P (change_first (has_number fd) held rows))
     (reads : (fd max : ℕ) (rows : List Request) → P rows → P (change_first (has_number fd) (read_from max) rows))
-    (gone : (fd : ℕ) (rows : List Request) → P rows → P (without_first (has_number fd) rows))
-    (claimed : (place actor : ℕ) (bytes : List ℕ) (w : World) → request_fault bytes ≡ None → claim_refusal place actor (asked_in bytes) w ≡ None
+    (finished : (w : World) (actor : ℕ) (request : Request) → Before w → May actor → claim_by w.requests actor ≡ Some request
+    → P w.requests → P (change_first (has_number request.fd) held w.requests))
+    (dropped : (w : World) (actor : ℕ) (request : Request) → Before w → May actor → claim_by w.requests actor ≡ Some request
+    → P w.requests → P (without_first (has_number request.fd) w.requests))
+    (closed : (w : World) (fd : ℕ) (request : Request) → Before w → is_open fd w ≡ true → request_at w.requests fd ≡ Some request
+    → P w.requests → P (without_first (has_number request.fd) w.requests))
+    (claimed : (place actor : ℕ) (bytes : List ℕ) (w : World) → May actor → request_fault bytes ≡ None → claim_refusal place actor (asked_in bytes) w ≡ None
     → P w.requests → P (w.requests ++ new_claim w.next place actor (asked_in bytes) ∷ []))
   where
     abbrev Keeps : World → World → Type 0
@@ -98,7 +115,7 @@ module _
     edge_for_keep (Some fd) offset line up mono w = edges fd offset (flipped line.flags up) (event_time line.flags mono w.real) w.requests
 
     edge_keep : (place offset : ℕ) (up : Bool) (mono : ℕ) (w : World) → Keeps w (edge place offset up mono w)
-    edge_keep place offset up mono w = edge_for_keep (watcher (place_at w place) offset) offset (levels_at (place_at w place).bank offset) up mono w
+    edge_keep place offset up mono w = edge_for_keep (input_holder (place_at w place) offset) offset (levels_at (place_at w place).bank offset) up mono w
 
     raw_edge_for_keep : (o : Option ℕ) (place offset : ℕ) (up : Bool) (w : World) → Keeps w (raw_edge_for o place offset up w)
     raw_edge_for_keep None place offset up w = as_was w
@@ -108,7 +125,7 @@ module _
 
     raw_edge_keep : (place offset : ℕ) (o : Option Change) (w : World) → Keeps w (raw_edge place offset o w)
     raw_edge_keep place offset None w = as_was w
-    raw_edge_keep place offset (Some change) w = raw_edge_for_keep (watcher (place_at w place) offset) place offset change.rose w
+    raw_edge_keep place offset (Some change) w = raw_edge_for_keep (input_holder (place_at w place) offset) place offset change.rose w
 
     settle_keep : (line : Fired) (w : World) → Keeps w (settle line w)
     settle_keep line w =
@@ -175,44 +192,49 @@ module _
         let act : ℕ → World → Outcome = λ answered v. done (drive_from place (mask_in bytes) (bits_in bytes) 0 (offsets_of lines) v) in
         keeps_else (set_values_refusal place lines (mask_in bytes) w) w (in_parts part act w) (in_parts_keep part act w (λ bits. drive_from_keep place (mask_in bytes) (bits_in bytes) 0 (offsets_of lines) w))
 
-    told_claim_keep : (answer : Option ℕ) (len : ℕ) (bytes : List ℕ) (o : Option Request) (w : World) → Keeps w (told_claim answer len bytes o w).world
-    told_claim_keep answer len bytes None w = as_was w
-    told_claim_keep None len bytes (Some request) w = gone request.fd w.requests
-    told_claim_keep (Some bits) len bytes (Some request) w =
+    told_claim_keep : (actor place : ℕ) (answer : Option ℕ) (len : ℕ) (bytes : List ℕ) (o : Option Request) (w : World) → Before w → May actor
+        → claim_at place (claim_by w.requests actor) ≡ o → Keeps w (told_claim answer len bytes o w).world
+    told_claim_keep actor place answer len bytes None w before may e = as_was w
+    told_claim_keep actor place None len bytes (Some request) w before may e = dropped w actor request before may (claim_by_any place (claim_by w.requests actor) request e)
+    told_claim_keep actor place (Some bits) len bytes (Some request) w before may e =
         let offsets : List ℕ = offsets_of request.lines in
         let lines_held : World = with_place request.place (with_descs offsets settled) (record w { requests = change_first (has_number request.fd) held w.requests }) in
         let set : World = configure_each request.place request.lines request.settings lines_held in
-        then w lines_held (hold_claim request w) (finished request.fd w.requests)
+        then w lines_held (hold_claim request w) (finished w actor request before may (claim_by_any place (claim_by w.requests actor) request e))
         (then lines_held set (hold_claim request w) (configure_from_keep request.place request.settings 0 offsets lines_held) (notify_each_keep request.place offsets CHANGED_REQUESTED set))
 
-    act_on_keeps : (actor place fd : ℕ) (command : Command) (bytes : List ℕ) (part : Part) (w : World) → Keeps w (act_on actor place fd command bytes part w).world
-    act_on_keeps actor place fd ChipInfo bytes part w = λ p. p
-    act_on_keeps actor place fd LineInfo bytes part w = (stayed w (act_on actor place fd LineInfo bytes part w).world (stay _ w _ refl))
-    act_on_keeps actor place fd Watch bytes part w = (stayed w (act_on actor place fd Watch bytes part w).world (stay _ w _ refl))
-    act_on_keeps actor place fd Unwatch bytes part w = (stayed w (act_on actor place fd Unwatch bytes part w).world (stay _ w _ refl))
-    act_on_keeps actor place fd GetLine bytes part w = keeps_unless (request_fault bytes) w (claim place actor (asked_in bytes) w) (λ f. keeps_unless (claim_refusal place actor (asked_in bytes) w) w (replies (Go w.next) (claim_lines place actor (asked_in bytes) w)) (λ e. claimed place actor bytes w f e))
-    act_on_keeps actor place fd SetConfig bytes part w = (on_request_keep (set_config place fd bytes part) (request_at w.requests fd) w (λ lines settings. set_config_keep place fd bytes part lines settings w))
-    act_on_keeps actor place fd GetValues bytes part w = (on_request_keep (get_values place bytes part) (request_at w.requests fd) w (λ lines settings. get_values_keep place bytes part lines settings w))
-    act_on_keeps actor place fd SetValues bytes part w = (on_request_keep (set_values place bytes part) (request_at w.requests fd) w (λ lines settings. set_values_keep place bytes part lines settings w))
+    act_on_keeps : (actor place fd : ℕ) (command : Command) (bytes : List ℕ) (part : Part) (w : World) → (is_get_line (Some command) ≡ true → May actor)
+        → Keeps w (act_on actor place fd command bytes part w).world
+    act_on_keeps actor place fd ChipInfo bytes part w may = λ p. p
+    act_on_keeps actor place fd LineInfo bytes part w may = (stayed w (act_on actor place fd LineInfo bytes part w).world (stay _ w _ refl))
+    act_on_keeps actor place fd Watch bytes part w may = (stayed w (act_on actor place fd Watch bytes part w).world (stay _ w _ refl))
+    act_on_keeps actor place fd Unwatch bytes part w may = (stayed w (act_on actor place fd Unwatch bytes part w).world (stay _ w _ refl))
+    act_on_keeps actor place fd GetLine bytes part w may = keeps_unless (request_fault bytes) w (claim place actor (asked_in bytes) w) (λ f. keeps_unless (claim_refusal place actor (asked_in bytes) w) w (replies (Go w.next) (claim_lines place actor (asked_in bytes) w)) (λ e. claimed place actor bytes w (may refl) f e))
+    act_on_keeps actor place fd SetConfig bytes part w may = (on_request_keep (set_config place fd bytes part) (request_at w.requests fd) w (λ lines settings. set_config_keep place fd bytes part lines settings w))
+    act_on_keeps actor place fd GetValues bytes part w may = (on_request_keep (get_values place bytes part) (request_at w.requests fd) w (λ lines settings. get_values_keep place bytes part lines settings w))
+    act_on_keeps actor place fd SetValues bytes part w may = (on_request_keep (set_values place bytes part) (request_at w.requests fd) w (λ lines settings. set_values_keep place bytes part lines settings w))
 
-    checked_keeps : (actor place fd len : ℕ) (command : Command) (bytes : List ℕ) (part : Part) (w : World) → Keeps w (checked actor place fd len command bytes part w).world
-    checked_keeps actor place fd len command bytes part w = keeps_unless (command_refusal place fd len command part w) w (act_on actor place fd command (take (size_of command) bytes) part w) (λ e. act_on_keeps actor place fd command (take (size_of command) bytes) part w)
+    checked_keeps : (actor place fd len : ℕ) (command : Command) (bytes : List ℕ) (part : Part) (w : World) → (is_get_line (Some command) ≡ true → May actor)
+        → Keeps w (checked actor place fd len command bytes part w).world
+    checked_keeps actor place fd len command bytes part w may = keeps_unless (command_refusal place fd len command part w) w (act_on actor place fd command (take (size_of command) bytes) part w) (λ e. act_on_keeps actor place fd command (take (size_of command) bytes) part w may)
 
-    in_part_keeps : (actor place fd len : ℕ) (command : Command) (bytes : List ℕ) (part : Part) (w : World) → Keeps w (in_part actor place fd len command bytes part w).world
-    in_part_keeps actor place fd len ChipInfo bytes part w = checked_keeps actor place fd len ChipInfo bytes part w
-    in_part_keeps actor place fd len LineInfo bytes part w = checked_keeps actor place fd len LineInfo bytes part w
-    in_part_keeps actor place fd len Watch bytes part w = checked_keeps actor place fd len Watch bytes part w
-    in_part_keeps actor place fd len Unwatch bytes part w = checked_keeps actor place fd len Unwatch bytes part w
-    in_part_keeps actor place fd len GetLine bytes Whole w = checked_keeps actor place fd len GetLine bytes Whole w
-    in_part_keeps actor place fd len GetLine bytes Ask w = checked_keeps actor place fd len GetLine bytes Ask w
-    in_part_keeps actor place fd len GetLine bytes (Tell answer) w = (told_claim_keep answer len bytes (claim_at place (claim_by w.requests actor)) w)
-    in_part_keeps actor place fd len SetConfig bytes part w = checked_keeps actor place fd len SetConfig bytes part w
-    in_part_keeps actor place fd len GetValues bytes part w = checked_keeps actor place fd len GetValues bytes part w
-    in_part_keeps actor place fd len SetValues bytes part w = checked_keeps actor place fd len SetValues bytes part w
+    in_part_keeps : (actor place fd len : ℕ) (command : Command) (bytes : List ℕ) (part : Part) (w : World) → Before w → (is_get_line (Some command) ≡ true → May actor)
+        → Keeps w (in_part actor place fd len command bytes part w).world
+    in_part_keeps actor place fd len ChipInfo bytes part w before may = checked_keeps actor place fd len ChipInfo bytes part w may
+    in_part_keeps actor place fd len LineInfo bytes part w before may = checked_keeps actor place fd len LineInfo bytes part w may
+    in_part_keeps actor place fd len Watch bytes part w before may = checked_keeps actor place fd len Watch bytes part w may
+    in_part_keeps actor place fd len Unwatch bytes part w before may = checked_keeps actor place fd len Unwatch bytes part w may
+    in_part_keeps actor place fd len GetLine bytes Whole w before may = checked_keeps actor place fd len GetLine bytes Whole w may
+    in_part_keeps actor place fd len GetLine bytes Ask w before may = checked_keeps actor place fd len GetLine bytes Ask w may
+    in_part_keeps actor place fd len GetLine bytes (Tell answer) w before may = told_claim_keep actor place answer len bytes (claim_at place (claim_by w.requests actor)) w before (may refl) refl
+    in_part_keeps actor place fd len SetConfig bytes part w before may = checked_keeps actor place fd len SetConfig bytes part w may
+    in_part_keeps actor place fd len GetValues bytes part w before may = checked_keeps actor place fd len GetValues bytes part w may
+    in_part_keeps actor place fd len SetValues bytes part w before may = checked_keeps actor place fd len SetValues bytes part w may
 
-    by_number_keeps : (actor place fd len : ℕ) (command : Option Command) (bytes : List ℕ) (part : Part) (w : World) → Keeps w (by_number actor place fd len command bytes part w).world
-    by_number_keeps actor place fd len None bytes part w = λ p. p
-    by_number_keeps actor place fd len (Some command) bytes part w = in_part_keeps actor place fd len command bytes part w
+    by_number_keeps : (actor place fd len : ℕ) (command : Option Command) (bytes : List ℕ) (part : Part) (w : World) → Before w → (is_get_line command ≡ true → May actor)
+        → Keeps w (by_number actor place fd len command bytes part w).world
+    by_number_keeps actor place fd len None bytes part w before may = λ p. p
+    by_number_keeps actor place fd len (Some command) bytes part w before may = in_part_keeps actor place fd len command bytes part w before may
 
     -- the other calls
 
@@ -228,16 +250,21 @@ module _
     read_outcome_keep (Ok text) w = as_was w
     read_outcome_keep (Err errno) w = as_was w
 
-    close_request_keep : (o : Option Request) (w : World) → Keeps w (close_request o w)
-    close_request_keep None w = as_was w
-    close_request_keep (Some request) w =
-        then w (without_request request w) (close_request (Some request) w) (gone request.fd w.requests)
-        (notify_each_keep request.place (offsets_of request.lines) CHANGED_RELEASED (without_request request w))
+    close_request_keep : (fd : ℕ) (o : Option Request) (w v : World) → v.requests ≡ w.requests → Before w → is_open fd w ≡ true → request_at w.requests fd ≡ o → Keeps w (close_request o v)
+    close_request_keep fd None w v same before is e = stayed w v same
+    close_request_keep fd (Some request) w v same before is e =
+        then w (without_request request v) (close_request (Some request) v) (λ p. subst (λ rows. P (without_first (has_number request.fd) rows)) (sym same) (closed w fd request before is e p))
+        (notify_each_keep request.place (offsets_of request.lines) CHANGED_RELEASED (without_request request v))
 
-    close_keep : (fd : ℕ) (w : World) → Keeps w (close fd w).world
-    close_keep fd w =
+    is_open_there : (b : Bool) → when (not b) BadF ≡ None → b ≡ true
+    is_open_there true e = refl
+    is_open_there false e = absurd (some_none BadF e)
+
+    close_keep : (fd : ℕ) (w : World) → Before w → Keeps w (close fd w).world
+    close_keep fd w before =
         let without : World = record w { files = without_first (is_file fd) w.files } in
-        keeps_else (when (not (is_open fd w)) BadF) w (done (close_request (request_at w.requests fd) without)) (close_request_keep (request_at w.requests fd) without)
+        keeps_unless (when (not (is_open fd w)) BadF) w (done (close_request (request_at w.requests fd) without))
+        (λ e. close_request_keep fd (request_at w.requests fd) w without refl before (is_open_there (is_open fd w) e) refl)
 
     pull_line_keep : (place offset : ℕ) (up : Bool) (w : World) → Keeps w (pull_line place offset up w)
     pull_line_keep place offset up w =
@@ -247,29 +274,47 @@ module _
     calm : (w : World) (actor : ℕ) (call : Call) → (step w actor call).world.requests ≡ w.requests → Keeps w (step w actor call).world
     calm w actor call e = (stayed w (step w actor call).world e)
 
-    pub step_keeps : (w : World) (actor : ℕ) (call : Call) → Keeps w (step w actor call).world
-    step_keeps w actor (Probe label lines kind) = calm w actor (Probe label lines kind) (stay _ w _ refl)
-    step_keeps w actor (Unplug place false) = calm w actor (Unplug place false) (stay _ w _ refl)
-    step_keeps w actor (Unplug place true) = calm w actor (Unplug place true) (stay _ w _ refl)
-    step_keeps w actor (MakeDir path) = calm w actor (MakeDir path) (stay _ w _ refl)
-    step_keeps w actor (RemoveDir path) = calm w actor (RemoveDir path) (stay _ w _ refl)
-    step_keeps w actor (Write path value) = calm w actor (Write path value) (stay _ w _ refl)
-    step_keeps w actor (Read path) = (read_outcome_keep (read_answer (node_at path) w.tree) w)
-    step_keeps w actor (Live device) = calm w actor (Live device) (stay _ w _ refl)
-    step_keeps w actor (Remove device false) = calm w actor (Remove device false) (stay _ w _ refl)
-    step_keeps w actor (Remove device true) = calm w actor (Remove device true) (stay _ w _ refl)
-    step_keeps w actor (Tick mono real) = (tick_keep mono real w)
-    step_keeps w actor (Pin place what) = calm w actor (Pin place what) (stay _ w _ refl)
-    step_keeps w actor (Irq place offset what) = calm w actor (Irq place offset what) (stay _ w _ refl)
-    step_keeps w actor (Pull place offset up) = (keeps_else (level_refusal place offset (is_simulated (kind_at w place)) w) w (done (pull_line place offset up w)) (pull_line_keep place offset up w))
-    step_keeps w actor (Level place offset pull) = calm w actor (Level place offset pull) (stay _ w _ refl)
-    step_keeps w actor (Interrupt place offset up) = (keeps_else (level_refusal place offset (not (is_simulated (kind_at w place))) w) w (done (pull_line place offset up w)) (pull_line_keep place offset up w))
-    step_keeps w actor (OpenChip word) = (open_at_keep (place_of_word w.chips word) w)
-    step_keeps w actor (Find place name) = (found_keep (flat_map (named_at name w) (searched place w)) w)
-    step_keeps w actor (Ioctl place fd cmd len bytes part) = by_number_keeps actor place fd len (command_of cmd) bytes part w
-    step_keeps w actor (ReadEdges place fd len) = (keeps_else (first_of (request_file_refusal place fd w ∷ read_refusal LINE_EVENT_SIZE len (length (events_for fd w)) ∷ [])) w (take_events fd len w) (reads fd (len / LINE_EVENT_SIZE) w.requests))
-    step_keeps w actor (ReadInfo place fd len) = calm w actor (ReadInfo place fd len) (stay _ w _ refl)
-    step_keeps w actor (PollLine place fd) = calm w actor (PollLine place fd) (stay _ w _ refl)
-    step_keeps w actor (PollChip place fd) = calm w actor (PollChip place fd) (stay _ w _ refl)
-    step_keeps w actor (Close fd) = (close_keep fd w)
-    step_keeps w actor (RefusedCall place poll) = λ p. p
+    pub world_keeps : (w : World) (actor : ℕ) (call : Call) → Before w → (is_get_line_call call ≡ true → May actor) → Keeps w (step w actor call).world
+    world_keeps w actor (Probe label lines kind) before may = calm w actor (Probe label lines kind) (stay _ w _ refl)
+    world_keeps w actor (Unplug place false) before may = calm w actor (Unplug place false) (stay _ w _ refl)
+    world_keeps w actor (Unplug place true) before may = calm w actor (Unplug place true) (stay _ w _ refl)
+    world_keeps w actor (MakeDir path) before may = calm w actor (MakeDir path) (stay _ w _ refl)
+    world_keeps w actor (RemoveDir path) before may = calm w actor (RemoveDir path) (stay _ w _ refl)
+    world_keeps w actor (Write path value) before may = calm w actor (Write path value) (stay _ w _ refl)
+    world_keeps w actor (Read path) before may = (read_outcome_keep (read_answer (node_at path) w.tree) w)
+    world_keeps w actor (Live device) before may = calm w actor (Live device) (stay _ w _ refl)
+    world_keeps w actor (Remove device false) before may = calm w actor (Remove device false) (stay _ w _ refl)
+    world_keeps w actor (Remove device true) before may = calm w actor (Remove device true) (stay _ w _ refl)
+    world_keeps w actor (Tick mono real) before may = (tick_keep mono real w)
+    world_keeps w actor (Pin place what) before may = calm w actor (Pin place what) (stay _ w _ refl)
+    world_keeps w actor (Irq place offset what) before may = calm w actor (Irq place offset what) (stay _ w _ refl)
+    world_keeps w actor (Pull place offset up) before may = (keeps_else (level_refusal place offset (is_simulated (kind_at w place)) w) w (done (pull_line place offset up w)) (pull_line_keep place offset up w))
+    world_keeps w actor (Level place offset pull) before may = calm w actor (Level place offset pull) (stay _ w _ refl)
+    world_keeps w actor (Interrupt place offset up) before may = (keeps_else (level_refusal place offset (not (is_simulated (kind_at w place))) w) w (done (pull_line place offset up w)) (pull_line_keep place offset up w))
+    world_keeps w actor (OpenChip word) before may = (open_at_keep (place_of_word w.chips word) w)
+    world_keeps w actor (Find place name) before may = (found_keep (flat_map (named_at name w) (searched place w)) w)
+    world_keeps w actor (Ioctl place fd cmd len bytes part) before may = by_number_keeps actor place fd len (command_of cmd) bytes part w before may
+    world_keeps w actor (ReadEdges place fd len) before may = (keeps_else (first_of (request_file_refusal place fd w ∷ read_refusal LINE_EVENT_SIZE len (length (events_for fd w)) ∷ [])) w (take_events fd len w) (reads fd (len / LINE_EVENT_SIZE) w.requests))
+    world_keeps w actor (ReadInfo place fd len) before may = calm w actor (ReadInfo place fd len) (stay _ w _ refl)
+    world_keeps w actor (PollLine place fd) before may = calm w actor (PollLine place fd) (stay _ w _ refl)
+    world_keeps w actor (PollChip place fd) before may = calm w actor (PollChip place fd) (stay _ w _ refl)
+    world_keeps w actor (Close fd) before may = close_keep fd w before
+    world_keeps w actor (RefusedCall place poll) before may = λ p. p
+
+-- the same where nothing is known of the world or of the actor
+module _
+    (P : List Request → Type 0)
+    (edges : (fd offset : ℕ) (rising : Bool) (timestamp : ℕ) (rows : List Request) → P rows → P (change_first (has_number fd) (with_edge offset rising timestamp) rows))
+    (settings_set : (fd : ℕ) (settings : Resolved → Resolved) (rows : List Request) → P rows → P (change_first (has_number fd) (λ request. record request { settings = settings request.settings }) rows))
+    (finished : (fd : ℕ) (rows : List Request) → P rows → P (change_first (has_number fd) held rows))
+    (reads : (fd max : ℕ) (rows : List Request) → P rows → P (change_first (has_number fd) (read_from max) rows))
+    (gone : (fd : ℕ) (rows : List Request) → P rows → P (without_first (has_number fd) rows))
+    (claimed : (place actor : ℕ) (bytes : List ℕ) (w : World) → request_fault bytes ≡ None → claim_refusal place actor (asked_in bytes) w ≡ None
+    → P w.requests → P (w.requests ++ new_claim w.next place actor (asked_in bytes) ∷ []))
+  where
+    pub step_keeps : (w : World) (actor : ℕ) (call : Call) → P w.requests → P (step w actor call).world.requests
+    step_keeps w actor call = world_keeps P (λ w. Unit {0}) (λ actor. Unit {0}) edges settings_set reads
+        (λ w actor request before may by. finished request.fd w.requests)
+        (λ w actor request before may by. gone request.fd w.requests)
+        (λ w fd request before is at. gone request.fd w.requests)
+        (λ place actor bytes w may. claimed place actor bytes w) w actor call tt (λ is. tt)

@@ -29,8 +29,10 @@ use Rattle.gl_core.specs.Kept.{IsSoundRequest, kept_count}
 use Rattle.gl_core.specs.OpenFiles.{number_refusal}
 use Rattle.gl_core.specs.Places.{place_at}
 use Rattle.gl_core.specs.Reading.{read_from}
-use Rattle.gl_core.specs.SoundRequests.{KeptRequestsKeepEdges, RequestsStaySound}
+use Rattle.gl_core.specs.SoundRequests.{HasSoundRequests, KeptRequestsKeepEdges, RequestsStaySound}
+use Rattle.gl_core.specs.Step.{step}
 use Rattle.gl_core.specs.World.{World, Request, has_number}
+use Rattle.gl_core.specs.declared.call.Call.{Call}
 use Rattle.gl_core.specs.declared.place.Place.{Place}
 use Rattle.gl_core.proofs.Phases.{nothing_first, nothing_when, some_none}
 use Rattle.gl_core.proofs.Requests.{step_keeps}
@@ -57,7 +59,7 @@ edge_sound offset rising timestamp x s = elim (is_monitored offset rising x) as 
       (let edge : Edge = record { timestamp = timestamp; rising = rising; offset = offset } in
       let h : length (x.past.all ++ edge ∷ []) ≡ length x.past.all + 1 = length-append x.past.all (edge ∷ []) in
       let before : x.past.next ≤ length x.past.all = s.in_order in
-      record { in_order = omega arith; lines_differ = s.lines_differ })
+      record { in_order = omega arith; at_most = s.at_most; lines_differ = s.lines_differ })
   | false ↦ s
 ]
 
@@ -65,7 +67,7 @@ read_sound : (room : ℕ) (x : Request) → IsSoundRequest x → IsSoundRequest 
 read_sound room x s =
     let before : x.past.next ≤ length x.past.all = s.in_order in
     let left : length (drop x.past.next x.past.all) ≡ length x.past.all - x.past.next = length-drop x.past.next x.past.all in
-    record { in_order = omega arith; lines_differ = s.lines_differ }
+    record { in_order = omega arith; at_most = s.at_most; lines_differ = s.lines_differ }
 
 -- the lines of a new claim differ
 
@@ -74,14 +76,14 @@ unfolding table_from
 length-table_from f i zero = refl
 length-table_from f i (suc n) = ap suc (length-table_from f (suc i) n)
 
-first_none : (f : ℕ → Option Errno) (i n k : ℕ) → first_fault f i n ≡ None → k < n → f (i + k) ≡ None
+pub first_none : (f : ℕ → Option Errno) (i n k : ℕ) → first_fault f i n ≡ None → k < n → f (i + k) ≡ None
 first_none f i zero k e lt = absurd (omega arith)
 first_none f i (suc n) zero e lt = let z : i + 0 ≡ i = omega arith in ap f z ∙ (nothing_first (f i) (first_fault f (i + 1) n) e).0
 first_none f i (suc n) (suc k) e lt =
     let z : i + suc k ≡ (i + 1) + k = omega arith in
     ap f z ∙ first_none f (i + 1) n k (nothing_first (f i) (first_fault f (i + 1) n) e).1 (omega arith)
 
-or_false : (a b : Bool) → (a || b) ≡ false → (a ≡ false) × (b ≡ false)
+pub or_false : (a b : Bool) → (a || b) ≡ false → (a ≡ false) × (b ≡ false)
 or_false true b e = absurd (true≢false e)
 or_false false b e = (refl, e)
 
@@ -92,15 +94,15 @@ none_passes p (x ∷ xs) zero k e lt in_xs = absurd (omega arith)
 none_passes p (x ∷ xs) (suc i) zero e lt in_xs = (or_false (p x) (list_any p (take i xs)) e).0
 none_passes p (x ∷ xs) (suc i) (suc k) e lt in_xs = none_passes p xs i k (or_false (p x) (list_any p (take i xs)) e).1 (omega arith) (omega arith)
 
-map_none : (o : Option LineFault) → option_map errno_of o ≡ None → o ≡ None
+pub map_none : (o : Option LineFault) → option_map errno_of o ≡ None → o ≡ None
 map_none None e = refl
 map_none (Some fault) e = absurd (some_none (errno_of fault) e)
 
-first_two : (a b : Option LineFault) → option_or a b ≡ None → (a ≡ None) × (b ≡ None)
+pub first_two : (a b : Option LineFault) → option_or a b ≡ None → (a ≡ None) × (b ≡ None)
 first_two None b e = (refl, e)
 first_two (Some x) b e = absurd (some_none x e)
 
-fault_when : (b : Bool) (fault : LineFault) → when b fault ≡ None → b ≡ false
+pub fault_when : (b : Bool) (fault : LineFault) → when b fault ≡ None → b ≡ false
 fault_when true fault e = absurd (some_none fault e)
 fault_when false fault e = refl
 
@@ -156,6 +158,7 @@ order (suc i) (suc j) = elim (order i j) as (λ _. (suc i ≡ suc j) ⊎ ((suc i
 claim_sound : (place actor : ℕ) (bytes : List ℕ) (w : World) → request_fault bytes ≡ None → claim_refusal place actor (asked_in bytes) w ≡ None → IsSoundRequest (new_claim w.next place actor (asked_in bytes))
 claim_sound place actor bytes w f e = record {
   in_order = omega arith;
+  at_most = few_lines bytes f;
   lines_differ = λ i j i_in j_in same. elim (order i j) as (λ _. i ≡ j) [
     | inl is ↦ is
     | inr h ↦ (elim h as (λ _. i ≡ j) [
@@ -165,15 +168,19 @@ claim_sound place actor bytes w f e = record {
   ];
 }
 
-pub requests_stay_sound : RequestsStaySound
-requests_stay_sound w actor call = step_keeps (Each IsSoundRequest)
+stay_sound : (w : World) (actor : ℕ) (call : Call) → HasSoundRequests w → HasSoundRequests (step w actor call).world
+stay_sound w actor call = step_keeps (Each IsSoundRequest)
     (λ fd offset rising timestamp rows. each_change (has_number fd) (with_edge offset rising timestamp) rows (edge_sound offset rising timestamp))
-    (λ fd settings rows. each_change (has_number fd) (λ request. record request { settings = settings request.settings }) rows (λ x s. record { in_order = s.in_order; lines_differ = s.lines_differ }))
-    (λ fd rows. each_change (has_number fd) held rows (λ x s. record { in_order = s.in_order; lines_differ = s.lines_differ }))
+    (λ fd settings rows. each_change (has_number fd) (λ request. record request { settings = settings request.settings }) rows
+    (λ x s. record { in_order = s.in_order; at_most = s.at_most; lines_differ = s.lines_differ }))
+    (λ fd rows. each_change (has_number fd) held rows (λ x s. record { in_order = s.in_order; at_most = s.at_most; lines_differ = s.lines_differ }))
     (λ fd room rows. each_change (has_number fd) (read_from room) rows (read_sound room))
     (λ fd rows. each_without (has_number fd) rows)
     (λ place actor bytes v f e s. each_push v.requests (new_claim v.next place actor (asked_in bytes)) s (claim_sound place actor bytes v f e))
     w actor call
+
+pub requests_stay_sound : RequestsStaySound
+requests_stay_sound = record { opens = tt; stay = stay_sound }
 
 -- what is kept of a request keeps its edges
 
@@ -189,7 +196,8 @@ kept_is request i lt =
     ap (λ b. cond b (line_count (slice_index request.lines.offsets i) request.past.all % 2 ^ 32) 0) within
 
 pub kept_requests_keep_edges : KeptRequestsKeepEdges
-kept_requests_keep_edges request s few =
+kept_requests_keep_edges request s =
+    let few : request.lines.count ≤ 64 = s.at_most in
     let size : length (table_from (kept_count request) 0 64) ≡ 64 = length-table_from (kept_count request) 0 64 in
     record {
       count = refl;

@@ -16,7 +16,7 @@ use Rattle.gl_base.specs.declared.phase.Phase.TheVariants.{Absent, Up, Leaving, 
 use Rattle.gl_pins.specs.PinRange.{is_among}
 use Rattle.gl_registry.specs.Chips.{chip_at, moved_on, new_chip, no_chip}
 use Rattle.gl_registry.specs.declared.registry.Chip.{Chip}
-use Rattle.gl_simtree.specs.Calls.{is_leaving as is_leaving_state, is_live, leaving_state, live_refusal, remove_refusal, rmdir_refusal, removed}
+use Rattle.gl_simtree.specs.Calls.{is_leaving as is_leaving_state, is_live, leaving_state, live_refusal, mkdir_refusal, remove_refusal, rmdir_refusal, removed}
 use Rattle.gl_simtree.specs.Forms.{is_device}
 use Rattle.gl_simtree.specs.Nodes.{node_at}
 use Rattle.gl_simtree.specs.Rows.{banks_of, has, state_of}
@@ -28,11 +28,11 @@ use Rattle.gl_world.specs.Ranks.{rank}
 use Rattle.gl_core.specs.declared.call.Call.{Call}
 use Rattle.gl_core.specs.declared.call.Call.TheVariants.{Probe, Unplug, MakeDir, RemoveDir, Write, Read, Live, Remove, Tick, Pin, Irq, Pull, Level, Interrupt, OpenChip, Find, Ioctl, ReadEdges, ReadInfo, PollLine, PollChip, Close, Refused as RefusedCall}
 use Rattle.gl_core.specs.declared.place.Origin.{Origin}
-use Rattle.gl_core.specs.Chips.{is_leaving, is_up, new_origin, origin_at, phase_at, places_from, places_left}
+use Rattle.gl_core.specs.Chips.{is_leaving, is_up, new_origin, phase_at, places_from, places_left}
 use Rattle.gl_core.specs.Outcome.{Outcome, done, unless}
-use Rattle.gl_core.specs.Places.{no_origin}
-use Rattle.gl_core.specs.Removal.{change_where, end_at, is_actor, is_alone, is_device_named, is_of, is_removed_by, is_removed_of, is_unplugged_by, is_up_of, leave_at, remove_begun, remove_ended, removed_by, removed_places, unplug_begun, unplug_refusal}
-use Rattle.gl_core.specs.Sound.{IsSound, IsSoundFor, is_leaving_of}
+use Rattle.gl_core.specs.Places.{no_origin, origin_at}
+use Rattle.gl_core.specs.Removal.{change_where, end_at, is_actor, is_outside_tree, is_device_named, is_of, is_removing, is_removing_of, is_unplugging, is_up_of, leave_at, remove_begun, remove_ended, removed_by, removed_places, unplug_begun, unplug_refusal}
+use Rattle.gl_core.specs.Sound.{HasOneDirectory, IsSound, IsSoundFor, is_leaving_of}
 use Rattle.gl_core.specs.Step.{step}
 use Rattle.gl_core.specs.Tree.{chip_of_bank, gone_live, origin_of_bank}
 use Rattle.gl_core.specs.World.{World, opening}
@@ -40,13 +40,13 @@ use Rattle.gl_core.proofs.Boards.{Board, board, keeps, raw_edge-board, tick-boar
 use Rattle.gl_core.proofs.Columns.{length-change_where, read_before, read_behind, read_past}
 use Rattle.gl_core.proofs.Phases.{both, ended, is_up_rank, left, not_ended, not_false, not_left, nothing_first, nothing_when, rank_is_leaving, removed_finds, actor_is, same_number, stage, unplug_finds}
 use Rattle.gl_core.proofs.PhaseLaws.{alone_is, device_is}
-use Rattle.gl_core.proofs.TreeStates.{StateKept, made_keeps, removed_keeps, state_of_other, state_same, state_set, written_keeps}
+use Rattle.gl_core.proofs.TreeStates.{StateKept, leaving_is_there, made_keeps, removed_keeps, set_one, state_of_another, state_same, state_set, written_keeps}
 
-chosen : (b : Bool) → (b ≡ true) ⊎ (b ≡ false)
+pub chosen : (b : Bool) → (b ≡ true) ⊎ (b ≡ false)
 chosen true = inl refl
 chosen false = inr refl
 
-split : (a b : ℕ) → (a < b) ⊎ (b ≤ a)
+pub split : (a b : ℕ) → (a < b) ⊎ (b ≤ a)
 split a zero = inr (omega arith)
 split zero (suc b) = inl (omega arith)
 split (suc a) (suc b) = elim (split a b) as (λ _. (suc a < suc b) ⊎ (suc b ≤ suc a)) [ inl h ↦ inl (omega arith) | inr h ↦ inr (omega arith) ]
@@ -59,13 +59,35 @@ rebuilt b = record opening { chips = b.0; origins = b.1; tree = b.2 }
 to_board : (w : World) → IsSound w → IsSound (rebuilt (board w))
 to_board w s = record {
   columns = s.columns;
-  devices = λ device. let d = s.devices device in record { first = d.first; count = d.count; within = d.within; stand = d.stand; idle = d.idle; leaving = d.leaving; one_remover = d.one_remover };
+  devices = λ device. let d = s.devices device in record {
+    one_directory = d.one_directory;
+    first = d.first;
+    count = d.count;
+    within = d.within;
+    stand = d.stand;
+    live_has_up = d.live_has_up;
+    idle = d.idle;
+    leaving = d.leaving;
+    leaving_has_remover = d.leaving_has_remover;
+    one_remover = d.one_remover;
+  };
 }
 
 from_board : (w : World) → IsSound (rebuilt (board w)) → IsSound w
 from_board w s = record {
   columns = s.columns;
-  devices = λ device. let d = s.devices device in record { first = d.first; count = d.count; within = d.within; stand = d.stand; idle = d.idle; leaving = d.leaving; one_remover = d.one_remover };
+  devices = λ device. let d = s.devices device in record {
+    one_directory = d.one_directory;
+    first = d.first;
+    count = d.count;
+    within = d.within;
+    stand = d.stand;
+    live_has_up = d.live_has_up;
+    idle = d.idle;
+    leaving = d.leaving;
+    leaving_has_remover = d.leaving_has_remover;
+    one_remover = d.one_remover;
+  };
 }
 
 same_board : (w v : World) → board v ≡ board w → IsSound w → IsSound v
@@ -96,14 +118,25 @@ remover_alike : (device : List ℕ) (w v : World) (p : ℕ) → Alike device w v
 remover_alike device w v p (Same c o) h = ap (λ (x : Origin). x.remover) o
 remover_alike device w v p (Foreign a b) h = absurd (true≢false (sym (both (is_of device w p) (is_leaving (phase_at w p)) h).0 ∙ a))
 
+-- an actor that removes a chip of the device removes it still
+removing_alike : (device : List ℕ) (actor : ℕ) (w v : World) (p : ℕ) → Alike device w v p → is_removing_of device actor w p ≡ true → is_removing_of device actor v p ≡ true
+removing_alike device actor w v p (Same c o) h = ap (λ (x : Origin). is_device_named device x.device && (is_leaving (phase_at v p) && is_actor actor x.remover)) o
+    ∙ ap (λ (x : Chip). is_of device w p && (is_leaving x.phase && is_actor actor (origin_at w p).remover)) c ∙ h
+removing_alike device actor w v p (Foreign a b) h = absurd (true≢false (sym (both (is_of device w p) (is_removing actor w p) h).0 ∙ a))
+
 untouched : (device : List ℕ) (w v : World) → ((p : ℕ) → Alike device w v p) → length w.chips ≤ length v.chips → StateKept device w.tree v.tree → IsSoundFor device w → IsSoundFor device v
 untouched device w v alike longer kept s = record {
+  one_directory = kept.one_directory;
   first = s.first;
   count = s.count;
   within = (let h : s.first + s.count ≤ length w.chips = s.within in omega arith);
   stand = λ p. up_alike device w v p (alike p) ∙ s.stand p;
-  idle = λ h p. up_alike device w v p (alike p) ∙ s.idle (kept.not_live h) p;
-  leaving = λ p h. kept.still_leaving (s.leaving p (sym (leaving_alike device w v p (alike p)) ∙ h));
+  live_has_up = λ h. s.live_has_up (sym (ap is_live kept.same_state) ∙ h);
+  idle = λ h p. up_alike device w v p (alike p) ∙ s.idle (sym (ap is_live kept.same_state) ∙ h) p;
+  leaving = λ p h. ap is_leaving_state kept.same_state ∙ s.leaving p (sym (leaving_alike device w v p (alike p)) ∙ h);
+  leaving_has_remover = λ h.
+      (let r = s.leaving_has_remover (sym (ap is_leaving_state kept.same_state) ∙ h) in
+      (r.0, r.1, removing_alike device r.0 w v r.1 (alike r.1) r.2));
   one_remover = λ p q h k.
       (let wp : is_leaving_of device w p ≡ true = sym (leaving_alike device w v p (alike p)) ∙ h in
       let wq : is_leaving_of device w q ≡ true = sym (leaving_alike device w v q (alike q)) ∙ k in
@@ -111,10 +144,11 @@ untouched device w v alike longer kept s = record {
 }
 
 -- the tree alone changes
-with_tree : (w v : World) → v.chips ≡ w.chips → v.origins ≡ w.origins → ((device : List ℕ) → StateKept device w.tree v.tree) → IsSound w → IsSound v
+with_tree : (w v : World) → v.chips ≡ w.chips → v.origins ≡ w.origins → ((device : List ℕ) → HasOneDirectory device w.tree → StateKept device w.tree v.tree) → IsSound w → IsSound v
 with_tree w v c o kept s = record {
   columns = ap length o ∙ s.columns ∙ sym (ap length c);
-  devices = λ device. untouched device w v (λ p. Same (ap (λ cs. chip_at cs p) c) (ap (λ os. slice_index_or os p no_origin) o)) (let h : length v.chips ≡ length w.chips = ap length c in omega arith) (kept device) (s.devices device);
+  devices = λ device. untouched device w v (λ p. Same (ap (λ cs. chip_at cs p) c) (ap (λ os. slice_index_or os p no_origin) o)) (let h : length v.chips ≡ length w.chips = ap length c in omega arith)
+      (kept device (s.devices device).one_directory) (s.devices device);
 }
 
 -- chips that are made
@@ -143,7 +177,9 @@ length_mapped f (x ∷ xs) = ap suc (length_mapped f xs)
 probe_sound : (w : World) (actor : ℕ) (label : List ℕ) (lines : ℕ) (kind : _) → IsSound w → IsSound (step w actor (Probe label lines kind)).world
 probe_sound w actor label lines kind s = sound_unless _ w _ s (λ e. record {
   columns = (let h = s.columns in length_added w.origins (new_origin kind None ∷ []) ∙ ap (λ n. n + 1) h ∙ sym (length_added w.chips (new_chip label lines ∷ [])));
-  devices = λ device. untouched device w _ (added_alike device w _ (new_chip label lines ∷ []) (new_origin kind None ∷ []) s.columns refl refl (refl, tt)) (let h : length (w.chips ++ new_chip label lines ∷ []) ≡ length w.chips + 1 = length_added w.chips (new_chip label lines ∷ []) in omega arith) (state_same device w.tree w.tree refl) (s.devices device);
+  devices = λ device. untouched device w _ (added_alike device w _ (new_chip label lines ∷ []) (new_origin kind None ∷ []) s.columns refl refl (refl, tt))
+      (let h : length (w.chips ++ new_chip label lines ∷ []) ≡ length w.chips + 1 = length_added w.chips (new_chip label lines ∷ []) in omega arith)
+      (state_same device w.tree (s.devices device).one_directory) (s.devices device);
 })
 
 -- unplugs
@@ -154,7 +190,7 @@ of_alone device o h = ap (is_device_named device) (alone_is o h)
 length_left : (test : ℕ → Bool) (actor : ℕ) (w : World) → length w.origins ≡ length w.chips → length (leave_at test actor w).origins ≡ length (leave_at test actor w).chips
 length_left test actor w h = length-change_where test (removed_by actor) 0 w.origins ∙ h ∙ sym (length-change_where test moved_on 0 w.chips)
 
-begin_unplug_alike : (device : List ℕ) (w : World) (actor place : ℕ) → length w.origins ≡ length w.chips → (stage w place ≡ 1) × (is_alone w place ≡ true) → (p : ℕ) → Alike device w (leave_at (λ k. k == place) actor w) p
+begin_unplug_alike : (device : List ℕ) (w : World) (actor place : ℕ) → length w.origins ≡ length w.chips → (stage w place ≡ 1) × (is_outside_tree w place ≡ true) → (p : ℕ) → Alike device w (leave_at (λ k. k == place) actor w) p
 begin_unplug_alike device w actor place columns finds p = elim (chosen (p == place)) as (λ _. Alike device w (leave_at (λ k. k == place) actor w) p) [
   | inl t ↦
       (let is_p : p ≡ place = same_number p place t in
@@ -169,7 +205,7 @@ begin_unplug_sound w actor place s = sound_unless (unplug_refusal place w) w (un
   columns = length_left (λ k. k == place) actor w s.columns;
   devices = λ device. untouched device w (leave_at (λ k. k == place) actor w) (begin_unplug_alike device w actor place s.columns (unplug_finds w place e))
       (let h : length (change_where (λ k. k == place) moved_on 0 w.chips) ≡ length w.chips = length-change_where (λ k. k == place) moved_on 0 w.chips in omega arith)
-      (state_same device w.tree w.tree refl) (s.devices device);
+      (state_same device w.tree (s.devices device).one_directory) (s.devices device);
 })
 
 end_alike : (test : ℕ → Bool) (device : List ℕ) (w v : World) → v.chips ≡ (end_at test w).chips → v.origins ≡ w.origins → ((k : ℕ) → test k ≡ true → is_of device w k ≡ false) → (p : ℕ) → Alike device w v p
@@ -179,14 +215,14 @@ end_alike test device w v c o foreign p = elim (chosen (test p)) as (λ _. Alike
 ]
 
 end_unplug_sound : (w : World) (actor place : ℕ) → IsSound w → IsSound (step w actor (Unplug place true)).world
-end_unplug_sound w actor place s = sound_unless (when (not (is_unplugged_by actor w place)) Busy) w (done (end_at (λ k. k == place) w)) s (λ e.
-    let unplugged = both (is_alone w place) (is_removed_by actor w place) (not_false (is_unplugged_by actor w place) (nothing_when (not (is_unplugged_by actor w place)) Busy e)) in
+end_unplug_sound w actor place s = sound_unless (when (not (is_unplugging actor w place)) Busy) w (done (end_at (λ k. k == place) w)) s (λ e.
+    let unplugged = both (is_outside_tree w place) (is_removing actor w place) (not_false (is_unplugging actor w place) (nothing_when (not (is_unplugging actor w place)) Busy e)) in
     record {
       columns = s.columns ∙ sym (length-change_where (λ k. k == place) moved_on 0 w.chips);
       devices = λ device. untouched device w (end_at (λ k. k == place) w)
           (end_alike (λ k. k == place) device w (end_at (λ k. k == place) w) refl refl (λ k t. ap (is_of device w) (same_number k place t) ∙ of_alone device (origin_at w place).device unplugged.0))
           (let h : length (change_where (λ k. k == place) moved_on 0 w.chips) ≡ length w.chips = length-change_where (λ k. k == place) moved_on 0 w.chips in omega arith)
-          (state_same device w.tree w.tree refl) (s.devices device);
+          (state_same device w.tree (s.devices device).one_directory) (s.devices device);
     })
 
 -- removals of devices
@@ -265,18 +301,38 @@ begun_places_are w actor device s live p = elim (chosen (is_up_of device w p)) a
       ))
 ]
 
+-- the first chip of a device whose removal has begun is removed by this actor
+first_is_removed : (w : World) (actor : ℕ) (device : List ℕ) (s : IsSound w) → is_live (state_of device w.tree) ≡ true
+    → is_removing_of device actor (remove_begun actor device w).world (s.devices device).first ≡ true
+first_is_removed w actor device s live =
+    let d = s.devices device in
+    let v : World = (remove_begun actor device w).world in
+    let up : is_up_of device w d.first ≡ true = d.stand d.first ∙ first_among d.first d.count (d.live_has_up live) in
+    let h = both (is_of device w d.first) (is_up (phase_at w d.first)) up in
+    let l = left (is_up_of device w) actor w v d.first s.columns refl refl (is_up_rank (phase_at w d.first) h.1) up in
+    let of_it : is_of device v d.first ≡ true = ap (is_device_named device) l.same_device ∙ h.0 in
+    ap (λ b. b && is_removing actor v d.first) of_it ∙ ap (λ b. b && is_actor actor (origin_at v d.first).remover) (rank_is_leaving (phase_at v d.first) l.is_leaving_now)
+    ∙ actor_is actor (origin_at v d.first).remover l.by_actor
+  where
+    first_among : (first count : ℕ) → 0 < count → is_among first count first ≡ true
+    first_among first count h = grind (arith, nat_tests)
+
 begin_remove_own : (w : World) (actor : ℕ) (device : List ℕ) → IsSound w → remove_refusal device w.tree ≡ None → IsSoundFor device (remove_begun actor device w).world
 begin_remove_own w actor device s e =
     let finds = remove_finds device w.tree e in
     let places = begun_places_are w actor device s finds.1 in
     let state : state_of device (remove_begun actor device w).world.tree ≡ leaving_state (state_of device w.tree) = state_set device (leaving_state (state_of device w.tree)) w.tree finds.0 in
+    let leaves : is_leaving_state (state_of device (remove_begun actor device w).world.tree) ≡ true = ap is_leaving_state state ∙ live_leaves (state_of device w.tree) finds.1 in
     record {
+      one_directory = set_one device device (leaving_state (state_of device w.tree)) w.tree (s.devices device).one_directory;
       first = 0;
       count = 0;
       within = omega arith;
       stand = λ p. (places p).0 ∙ none_among p;
+      live_has_up = λ h. absurd (not_both (state_of device (remove_begun actor device w).world.tree) h leaves);
       idle = λ _ p. (places p).0;
-      leaving = λ p _. ap is_leaving_state state ∙ live_leaves (state_of device w.tree) finds.1;
+      leaving = λ p _. leaves;
+      leaving_has_remover = λ _. (actor, (s.devices device).first, first_is_removed w actor device s finds.1);
       one_remover = λ p q h k. (places p).1 h ∙ sym ((places q).1 k);
     }
 
@@ -289,7 +345,7 @@ begin_remove_sound w actor device s = sound_unless (remove_refusal device w.tree
   devices = λ other. elim (chosen (bytes_eq device other)) as (λ _. IsSoundFor other (remove_begun actor device w).world) [
     | inl t ↦ subst (λ d. IsSoundFor d (remove_begun actor device w).world) ((bytes_eq-Decides device other).0 t) (begin_remove_own w actor device s e)
     | inr ne ↦ untouched other w (remove_begun actor device w).world (begin_remove_other w actor device other s.columns ne) (same_length (is_up_of device w) w.chips)
-        (state_same other w.tree (remove_begun actor device w).world.tree (state_of_other device other (leaving_state (state_of device w.tree)) w.tree ne)) (s.devices other)
+        (state_of_another device other (leaving_state (state_of device w.tree)) w.tree ne (s.devices other).one_directory) (s.devices other)
   ];
 })
 
@@ -301,58 +357,63 @@ some_passes test i (suc n) h = elim (test i) as (λ b. test i ≡ b → (length 
   | false ↦ (λ _ k. some_passes test (i + 1) n k)
 ] refl h
 
-end_remove_own : (w : World) (actor : ℕ) (device : List ℕ) → IsSound w → (q : ℕ) → is_removed_of device actor w q ≡ true → IsSoundFor device (remove_ended actor device w).world
+end_remove_own : (w : World) (actor : ℕ) (device : List ℕ) → IsSound w → (q : ℕ) → is_removing_of device actor w q ≡ true → IsSoundFor device (remove_ended actor device w).world
 end_remove_own w actor device s q removed =
     let v : World = (remove_ended actor device w).world in
     let d = s.devices device in
-    let hq = both (is_of device w q) (is_removed_by actor w q) removed in
+    let hq = both (is_of device w q) (is_removing actor w q) removed in
     let fq = removed_finds w actor q hq.1 in
     let q_leaving : is_leaving_of device w q ≡ true = ap (λ b. b && is_leaving (phase_at w q)) hq.0 ∙ rank_is_leaving (phase_at w q) fq.0 in
     let idle : is_live (state_of device w.tree) ≡ false = leaving_not_live (state_of device w.tree) (d.leaving q q_leaving) in
-    let places : (p : ℕ) → (is_up_of device v p ≡ false) × (is_leaving_of device v p ≡ false) = λ p. elim (chosen (is_removed_of device actor w p)) as (λ _. (is_up_of device v p ≡ false) × (is_leaving_of device v p ≡ false)) [
+    let places : (p : ℕ) → (is_up_of device v p ≡ false) × (is_leaving_of device v p ≡ false) = λ p. elim (chosen (is_removing_of device actor w p)) as (λ _. (is_up_of device v p ≡ false) × (is_leaving_of device v p ≡ false)) [
       | inl t ↦
-          (let h = both (is_of device w p) (is_removed_by actor w p) t in
-          gone_no_more (is_of device v p) (phase_at v p) (ended (is_removed_of device actor w) w v p refl (removed_finds w actor p h.1).0 t))
+          (let h = both (is_of device w p) (is_removing actor w p) t in
+          gone_no_more (is_of device v p) (phase_at v p) (ended (is_removing_of device actor w) w v p refl (removed_finds w actor p h.1).0 t))
       | inr f ↦
-          (let same : Alike device w v p = Same (not_ended (is_removed_of device actor w) w v p refl f) refl in (
+          (let same : Alike device w v p = Same (not_ended (is_removing_of device actor w) w v p refl f) refl in (
             up_alike device w v p same ∙ d.idle idle p,
             leaving_alike device w v p same ∙ elim (chosen (is_leaving_of device w p)) as (λ _. is_leaving_of device w p ≡ false) [
               | inl g ↦
                   (let hp = both (is_of device w p) (is_leaving (phase_at w p)) g in
                   let by : is_actor actor (origin_at w p).remover ≡ true = actor_is actor (origin_at w p).remover (d.one_remover p q g q_leaving ∙ fq.1) in
-                  let yes : is_removed_of device actor w p ≡ true = ap (λ b. b && is_removed_by actor w p) hp.0 ∙ ap (λ b. b && is_actor actor (origin_at w p).remover) hp.1 ∙ by in
+                  let yes : is_removing_of device actor w p ≡ true = ap (λ b. b && is_removing actor w p) hp.0 ∙ ap (λ b. b && is_actor actor (origin_at w p).remover) hp.1 ∙ by in
                   absurd (true≢false (sym yes ∙ f)))
               | inr isnt ↦ isnt
             ],
           ))
     ] in
+    let off : state_of device v.tree ≡ Off = state_set device Off w.tree (leaving_is_there device w.tree (d.leaving q q_leaving)) in
     record {
+      one_directory = set_one device device Off w.tree d.one_directory;
       first = 0;
       count = 0;
       within = omega arith;
       stand = λ p. (places p).0 ∙ none_among p;
+      live_has_up = λ h. absurd (true≢false (sym h ∙ ap is_live off));
       idle = λ _ p. (places p).0;
       leaving = λ p h. absurd (true≢false (sym h ∙ (places p).1));
+      leaving_has_remover = λ h. absurd (true≢false (sym h ∙ ap is_leaving_state off));
       one_remover = λ p k h _. absurd (true≢false (sym h ∙ (places p).1));
     }
 
 end_remove_sound : (w : World) (actor : ℕ) (device : List ℕ) → IsSound w → IsSound (step w actor (Remove device true)).world
 end_remove_sound w actor device s = sound_unless (when (length (removed_places device actor w) == 0) Busy) w (remove_ended actor device w) s (λ e.
-    let one = some_passes (is_removed_of device actor w) 0 (length w.chips) (nothing_when (length (removed_places device actor w) == 0) Busy e) in
+    let one = some_passes (is_removing_of device actor w) 0 (length w.chips) (nothing_when (length (removed_places device actor w) == 0) Busy e) in
     record {
-      columns = s.columns ∙ sym (length-change_where (is_removed_of device actor w) moved_on 0 w.chips);
+      columns = s.columns ∙ sym (length-change_where (is_removing_of device actor w) moved_on 0 w.chips);
       devices = λ other. elim (chosen (bytes_eq device other)) as (λ _. IsSoundFor other (remove_ended actor device w).world) [
         | inl t ↦ subst (λ d. IsSoundFor d (remove_ended actor device w).world) ((bytes_eq-Decides device other).0 t) (end_remove_own w actor device s one.0 one.1)
         | inr ne ↦ untouched other w (remove_ended actor device w).world
-            (end_alike (is_removed_of device actor w) other w (remove_ended actor device w).world refl refl (λ k t. of_other device other (origin_at w k).device ne (both (is_of device w k) (is_removed_by actor w k) t).0))
-            (same_length (is_removed_of device actor w) w.chips)
-            (state_same other w.tree (remove_ended actor device w).world.tree (state_of_other device other Off w.tree ne)) (s.devices other)
+            (end_alike (is_removing_of device actor w) other w (remove_ended actor device w).world refl refl (λ k t. of_other device other (origin_at w k).device ne (both (is_of device w k) (is_removing actor w k) t).0))
+            (same_length (is_removing_of device actor w) w.chips)
+            (state_of_another device other Off w.tree ne (s.devices other).one_directory) (s.devices other)
       ];
     })
 
 -- a device that goes live
 
-live_finds : (device : List ℕ) (left : ℕ) (tree : List Row) → live_refusal device left tree ≡ None → (has (Device device) tree ≡ true) × (is_leaving_state (state_of device tree) ≡ false) × (is_live (state_of device tree) ≡ false)
+live_finds : (device : List ℕ) (left : ℕ) (tree : List Row) → live_refusal device left tree ≡ None
+    → (has (Device device) tree ≡ true) × (is_leaving_state (state_of device tree) ≡ false) × (is_live (state_of device tree) ≡ false) × ((length (banks_of device tree) == 0) ≡ false)
 live_finds device left tree e =
     let room = when (nat_lt left (length (banks_of device tree))) NoSpc in
     let empty = when (length (banks_of device tree) == 0) Inval in
@@ -362,10 +423,12 @@ live_finds device left tree e =
     let one = nothing_first (when (not (is_device device)) Inval) (first_of (there ∷ busy ∷ live ∷ empty ∷ room ∷ [])) e in
     let two = nothing_first there (first_of (busy ∷ live ∷ empty ∷ room ∷ [])) one.1 in
     let three = nothing_first busy (first_of (live ∷ empty ∷ room ∷ [])) two.1 in
-    let four = nothing_first live (first_of (empty ∷ room ∷ [])) three.1 in (
+    let four = nothing_first live (first_of (empty ∷ room ∷ [])) three.1 in
+    let five = nothing_first empty (first_of (room ∷ [])) four.1 in (
       not_false (has (Device device) tree) (nothing_when (not (has (Device device) tree)) NoEnt two.0),
       nothing_when (is_leaving_state (state_of device tree)) Busy three.0,
       nothing_when (is_live (state_of device tree)) Perm four.0,
+      nothing_when (length (banks_of device tree) == 0) Inval five.0,
     )
 
 foreign_banks : (device other : List ℕ) (banks : List Row) → bytes_eq device other ≡ false → Each (λ (o : Origin). is_device_named other o.device ≡ false) (map (origin_of_bank device) banks)
@@ -424,14 +487,20 @@ live_own w device s e =
     let size : length (w.chips ++ map chip_of_bank (banks_of device w.tree)) ≡ length w.chips + length (banks_of device w.tree) =
     length_added w.chips (map chip_of_bank (banks_of device w.tree)) ∙ ap (λ n. length w.chips + n) (length_mapped chip_of_bank (banks_of device w.tree)) in
     record {
+      one_directory = set_one device device (LiveState (length w.chips)) w.tree (s.devices device).one_directory;
       first = length w.chips;
       count = length (banks_of device w.tree);
       within = omega arith;
       stand = λ p. (places p).0;
+      live_has_up = λ _. some_bank (length (banks_of device w.tree)) finds.3;
       idle = λ h p. absurd (true≢false (sym (ap is_live state) ∙ h));
       leaving = λ p h. absurd (true≢false (sym h ∙ (places p).1));
+      leaving_has_remover = λ h. absurd (true≢false (sym h ∙ ap is_leaving_state state));
       one_remover = λ p q h _. absurd (true≢false (sym h ∙ (places p).1));
     }
+  where
+    some_bank : (n : ℕ) → (n == 0) ≡ false → 0 < n
+    some_bank n h = grind (arith, nat_tests)
 
 live_sound : (w : World) (actor : ℕ) (device : List ℕ) → IsSound w → IsSound (step w actor (Live device)).world
 live_sound w actor device s = sound_unless (live_refusal device (places_left w) w.tree) w (gone_live device w) s (λ e.
@@ -444,7 +513,7 @@ live_sound w actor device s = sound_unless (live_refusal device (places_left w) 
         | inr ne ↦ untouched other w (gone_live device w).world
             (added_alike other w (gone_live device w).world (map chip_of_bank banks) (map (origin_of_bank device) banks) s.columns refl refl (foreign_banks device other banks ne))
             (let h : length (w.chips ++ map chip_of_bank banks) ≡ length w.chips + length (map chip_of_bank banks) = length_added w.chips (map chip_of_bank banks) in omega arith)
-            (state_same other w.tree (gone_live device w).world.tree (state_of_other device other (LiveState (length w.chips)) w.tree ne)) (s.devices other)
+            (state_of_another device other (LiveState (length w.chips)) w.tree ne (s.devices other).one_directory) (s.devices other)
       ];
     })
 
@@ -454,12 +523,15 @@ pub opens : IsSound opening
 opens = record {
   columns = refl;
   devices = λ device. record {
+    one_directory = omega arith;
     first = 0;
     count = 0;
     within = omega arith;
     stand = λ p. none_among p;
+    live_has_up = λ h. absurd (true≢false (sym h));
     idle = λ _ p. refl;
     leaving = λ p h. absurd (true≢false (sym h));
+    leaving_has_remover = λ h. absurd (true≢false (sym h));
     one_remover = λ p q h _. absurd (true≢false (sym h));
   };
 }
@@ -471,8 +543,8 @@ pub keeps_sound : (w : World) (actor : ℕ) (call : Call) → IsSound w → IsSo
 keeps_sound w actor (Probe label lines kind) s = probe_sound w actor label lines kind s
 keeps_sound w actor (Unplug place false) s = begin_unplug_sound w actor place s
 keeps_sound w actor (Unplug place true) s = end_unplug_sound w actor place s
-keeps_sound w actor (MakeDir path) s = sound_unless _ w _ s (λ _. with_tree w _ refl refl (made_keeps (node_at path) w.tree) s)
-keeps_sound w actor (RemoveDir path) s = sound_unless (rmdir_refusal (node_at path) w.tree) w _ s (λ e. with_tree w _ refl refl (λ device. removed_keeps (node_at path) w.tree device e) s)
+keeps_sound w actor (MakeDir path) s = sound_unless (mkdir_refusal (node_at path) w.tree) w _ s (λ e. with_tree w _ refl refl (λ device one. made_keeps (node_at path) w.tree device e one) s)
+keeps_sound w actor (RemoveDir path) s = sound_unless (rmdir_refusal (node_at path) w.tree) w _ s (λ e. with_tree w _ refl refl (λ device one. removed_keeps (node_at path) w.tree device e one) s)
 keeps_sound w actor (Write path value) s = sound_unless _ w _ s (λ _. with_tree w _ refl refl (written_keeps (node_at path) value w.tree) s)
 keeps_sound w actor (Read path) s = same w actor (Read path) (read_outcome-board _ w) s
 keeps_sound w actor (Live device) s = live_sound w actor device s

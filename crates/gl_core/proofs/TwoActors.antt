@@ -14,11 +14,11 @@ use Rattle.gl_core.specs.Rows.TwoActorsBefore.{run as run_before, given as given
 use Rattle.gl_core.specs.Rows.TwoActorsBehind.{run as run_behind, given as given_behind}
 
 -- no place is none
-none_is_some : (p : ℕ) → (let none : Option ℕ = None in none ≡ Some p) → ⊥
+pub none_is_some : (p : ℕ) → (let none : Option ℕ = None in none ≡ Some p) → ⊥
 none_is_some p e = cc
 
 -- what holds of a place holds of each that a call names
-at_place : (P : ℕ → Type 0) (place : ℕ) → P place → (p : ℕ) → Some place ≡ Some p → P p
+pub at_place : (P : ℕ → Type 0) (place : ℕ) → P place → (p : ℕ) → Some place ≡ Some p → P p
 at_place P place h p e = let same : place ≡ p = cc in subst P same h
 
 pub legal_before : IsLegal (history run_before given_before)

@@ -1,6 +1,6 @@
 -- The chips of a world: making them, and what a place tells of its chip. From the kernel's document on GPIO drivers;
 -- that a place is used once in a machine's life is this project's choice.
-use Rattle.std.specs.Prelude.{ℕ, zero, suc, ◌+◌, ◌-◌, Bool, true, false, nat_le, List, [], ◌∷◌, ◌++◌, length, replicate, Option, None, slice_index_or}
+use Rattle.std.specs.Prelude.{ℕ, zero, suc, ◌+◌, ◌-◌, Bool, true, false, nat_le, List, [], ◌∷◌, ◌++◌, length, replicate, Option, None}
 use Rattle.gl_bank.specs.Level.{first_levels}
 use Rattle.gl_base.specs.Refusals.{when}
 use Rattle.gl_base.specs.declared.errno.Errno.{Errno}
@@ -17,7 +17,6 @@ use Rattle.gl_registry.specs.declared.registry.Chip.{Chip}
 use Rattle.gl_core.specs.declared.place.Origin.{Origin}
 use Rattle.gl_core.specs.declared.place.Place.{Place}
 use Rattle.gl_core.specs.Outcome.{Outcome, numbers, unless}
-use Rattle.gl_core.specs.Places.{no_origin}
 use Rattle.gl_core.specs.World.{World}
 
 -- the n places from this one on
@@ -36,10 +35,6 @@ places_left w = PLACES - length w.chips
 -- how far the chip of a place has come
 abbrev pub phase_at : World → ℕ → Phase
 phase_at w place = (chip_at w.chips place).phase
-
--- where the chip of a place comes from, and who removes it
-abbrev pub origin_at : World → ℕ → Origin
-origin_at w place = slice_index_or w.origins place no_origin
 
 -- the chip is there, and its removal hasn't begun
 abbrev pub is_up : Phase → Bool

@@ -28,8 +28,8 @@ request_number (Held fd) = Some fd
 request_number Hog = None
 
 -- the number of the request that holds a line as an input
-abbrev pub watcher : Place → ℕ → Option ℕ
-watcher place offset = if (levels_at place.bank offset).output then None else request_number (desc_at place.descs offset).holder
+abbrev pub input_holder : Place → ℕ → Option ℕ
+input_holder place offset = if (levels_at place.bank offset).output then None else request_number (desc_at place.descs offset).holder
 
 -- where a line stands in a request
 abbrev pub place_in : ℕ → Lines → ℕ
@@ -48,24 +48,24 @@ with_edge offset rising timestamp request =
 
 -- when an event of a line with these flags happens: at this moment of the monotonic clock, or of the real one
 abbrev pub event_time : ℕ → ℕ → ℕ → ℕ
-event_time flags mono real = if has_bit flags EVENT_CLOCK_REALTIME then real else mono
+event_time flags moment real = if has_bit flags EVENT_CLOCK_REALTIME then real else moment
 
 -- the world after an edge of a line to a physical level, for the request that holds it as an input, if one does. The
 -- direction of an event is that of the logical value: a physical rise of an ACTIVE_LOW line is a falling event.
 abbrev pub edge_for : Option ℕ → ℕ → Levels → Bool → ℕ → World → World
-edge_for None offset line up mono w = w
-edge_for (Some fd) offset line up mono w = record w {
-  requests = change_first (has_number fd) (with_edge offset (flipped line.flags up) (event_time line.flags mono w.real)) w.requests;
+edge_for None offset line up moment w = w
+edge_for (Some fd) offset line up moment w = record w {
+  requests = change_first (has_number fd) (with_edge offset (flipped line.flags up) (event_time line.flags moment w.real)) w.requests;
 }
 
 -- an edge of the line at an offset of a place, at a moment of the monotonic clock
 abbrev pub edge : ℕ → ℕ → Bool → ℕ → World → World
-edge place offset up mono w =
-    edge_for (watcher (place_at w place) offset) offset (levels_at (place_at w place).bank offset) up mono w
+edge place offset up moment w =
+    edge_for (input_holder (place_at w place) offset) offset (levels_at (place_at w place).bank offset) up moment w
 
 -- when a line that is debounced settles: its period, which is in microseconds, from now on
 abbrev pub deadline_of : Levels → ℕ → ℕ
-deadline_of line mono = mono + 1000 * line.debounce_us
+deadline_of line moment = moment + 1000 * line.debounce_us
 
 -- a raw edge: an edge at once where the line isn't debounced, else a level that is to settle at the deadline
 abbrev pub raw_edge_for : Option ℕ → ℕ → ℕ → Bool → World → World
@@ -80,4 +80,4 @@ raw_edge_for (Some fd) place offset up w =
 -- as an input, and nothing where none does
 abbrev pub raw_edge : ℕ → ℕ → Option Change → World → World
 raw_edge place offset None w = w
-raw_edge place offset (Some change) w = raw_edge_for (watcher (place_at w place) offset) place offset change.rose w
+raw_edge place offset (Some change) w = raw_edge_for (input_holder (place_at w place) offset) place offset change.rose w

@@ -7,7 +7,8 @@ use Rattle.gl_core.specs.declared.call.Part.{Part}
 use Rattle.gl_core.specs.declared.call.Part.TheVariants.{Whole, Ask, Tell}
 use Rattle.gl_core.specs.declared.reply.Reply.{Reply}
 use Rattle.gl_core.specs.declared.reply.Reply.TheVariants.{Done, Go}
-use Rattle.gl_core.specs.Chips.{origin_at, places_from}
+use Rattle.gl_core.specs.Chips.{places_from}
+use Rattle.gl_core.specs.Places.{origin_at}
 use Rattle.gl_core.specs.World.{World}
 
 abbrev pub is_done : Reply → Bool

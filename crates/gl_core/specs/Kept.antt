@@ -1,5 +1,5 @@
 -- What the core keeps of a world. All of it but the edges of the requests: of these it keeps the events that wait, and how
--- many there were, as far as numbers of 32 bits go.
+-- many there were, as far as numbers of 32 bits go (`seqno` and `line_seqno` of `linux/gpio.h`).
 use Rattle.std.specs.Prelude.{◌≡◌, ℕ, ◌%◌, ◌^◌, ◌≤◌, nat_lt, if◌then◌else◌, List, length, map, slice_index, Option}
 use Rattle.circular_buffer.specs.Buffer.{buffer}
 use Rattle.gl_base.specs.Positions.{table_from}
@@ -62,9 +62,11 @@ kept_of w = record {
   real = w.real;
 }
 
--- what is true of each request: no more of its edges were taken or dropped than there are, and no line stands in it twice
+-- what is true of each request: no more of its edges were taken or dropped than there are, it has at most 64 lines, and no
+-- line stands in it twice
 pub record IsSoundRequest (request : Request) : Type 0 where
   pub in_order : request.past.next ≤ length request.past.all
+  pub at_most : request.lines.count ≤ 64
   pub lines_differ : HasDifferentLines (kept_request request)
 
 -- what is kept stands for a world

@@ -33,7 +33,11 @@ pub mod Parts
 pub mod Refusing
 pub mod Taking
 pub mod Holds
+pub mod Calling
+pub mod Holders
 pub mod OneClaim
 pub mod OneRemoval
+pub mod Devices
 pub mod Written
 pub mod SoundRequests
+pub mod Names

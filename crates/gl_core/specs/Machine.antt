@@ -1,16 +1,17 @@
 -- The machine: all that the trait of machines asks of one, over worlds. A legal history, the world after one, and what the
 -- laws say are those of every machine.
-use Rattle.std.specs.Prelude.{ℕ, List, Option}
+use Rattle.std.specs.Prelude.{◌≡◌, ℕ, true, false, List, Option}
 use Rattle.gl_world.specs.History.{Legal, fold}
 use Rattle.gl_world.specs.declared.history.Entry.{Entry}
 use Rattle.gl_world.specs.declared.machine.Machine.{Ghosts}
 use Rattle.gl_core.specs.declared.call.Call.{Call}
 use Rattle.gl_core.specs.declared.gift.Gift.{Gift}
 use Rattle.gl_core.specs.declared.reply.Reply.{Reply}
-use Rattle.gl_core.specs.Chips.{origin_at, phase_at}
+use Rattle.gl_core.specs.Chips.{phase_at}
 use Rattle.gl_core.specs.Entries.{awaited_call, begins, begun_places, ends, guarded_place, is_last_removal, last_call, refused_place}
 use Rattle.gl_core.specs.Fits.{Fits, FitsCall, Leaves}
 use Rattle.gl_core.specs.Kept.{Kept, StandsFor}
+use Rattle.gl_core.specs.Places.{origin_at}
 use Rattle.gl_core.specs.Sound.{IsSound}
 use Rattle.gl_core.specs.Step.{step}
 use Rattle.gl_core.specs.World.{World, opening}
@@ -52,6 +53,11 @@ machine = record {
   last_call = last_call;
   awaited_call = awaited_call;
 }
+
+-- the laws that every machine has and that speak of its calls alone: what fits is in range, and no call that ends begins
+pub record CallLaws : Type 0 where
+  pub fits_calls : (call : Call) (gift : Gift) (out : List ℕ) → Fits call gift out → FitsCall call
+  pub ends_not_begins : (call : Call) (reply : Reply) → ends call ≡ true → begins call reply ≡ false
 
 -- a history that the machine can have
 abbrev pub IsLegal : List (Entry Kept Call Reply Gift) → Type 0

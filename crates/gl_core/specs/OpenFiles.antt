@@ -33,9 +33,9 @@ is_place place None = false
 is_place place (Some other) = other == place
 
 -- a request, where there is one, holds its lines, and they are of this place
-abbrev pub holds_at : ℕ → Option Request → Bool
-holds_at place None = false
-holds_at place (Some request) = request.held && request.place == place
+abbrev pub is_held_at : ℕ → Option Request → Bool
+is_held_at place None = false
+is_held_at place (Some request) = request.held && request.place == place
 
 -- the number is that of an open chip file of this place
 abbrev pub is_chip_file : ℕ → ℕ → World → Bool
@@ -43,7 +43,7 @@ is_chip_file place fd w = is_place place (place_of (file_at fd w.files))
 
 -- the number is that of an open request of this place; a claim isn't open yet
 abbrev pub is_request_file : ℕ → ℕ → World → Bool
-is_request_file place fd w = holds_at place (request_at w.requests fd)
+is_request_file place fd w = is_held_at place (request_at w.requests fd)
 
 -- a call that is for chip files alone: EBADF where no open file of the place has the number, EINVAL where a request has it
 abbrev pub chip_file_refusal : ℕ → ℕ → World → Option Errno

@@ -63,17 +63,17 @@ with_lines_freed offsets place = record place {
 }
 
 -- the timers with no deadline of some lines of a place running
-abbrev pub with_deadlines_cleared : ℕ → List ℕ → List (Option Timer) → List (Option Timer)
-with_deadlines_cleared place [] timers = timers
-with_deadlines_cleared place (offset ∷ offsets) timers =
-    with_deadlines_cleared place offsets (with_timer without_deadline place offset timers)
+abbrev pub without_deadlines_at : ℕ → List ℕ → List (Option Timer) → List (Option Timer)
+without_deadlines_at place [] timers = timers
+without_deadlines_at place (offset ∷ offsets) timers =
+    without_deadlines_at place offsets (with_timer without_deadline place offset timers)
 
 -- the world without a request, whose lines are let go of
 abbrev pub without_request : Request → World → World
 without_request request w =
     with_place request.place (with_lines_freed (offsets_of request.lines)) (record w {
       requests = without_first (has_number request.fd) w.requests;
-      timers = with_deadlines_cleared request.place (offsets_of request.lines) w.timers;
+      timers = without_deadlines_at request.place (offsets_of request.lines) w.timers;
     })
 
 -- a request is closed: its lines are let go of, and each is told of as released, in the order of the request

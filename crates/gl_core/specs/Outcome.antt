@@ -1,4 +1,5 @@
--- What a call does: the world after it, the reply, and the bytes that it writes from the start of the buffer.
+-- What a call does: the world after it, the reply, and the bytes that it writes from the start of the buffer. That a refused
+-- call changes nothing is this project's choice where the kernel's documents are silent.
 use Rattle.std.specs.Prelude.{ℕ, List, [], Option, Some, None}
 use Rattle.gl_base.specs.declared.errno.Errno.{Errno}
 use Rattle.gl_core.specs.declared.reply.Reply.{Reply}
@@ -22,7 +23,7 @@ done w = replies Done w
 abbrev pub numbers : ℕ → World → Outcome
 numbers n w = replies (Number n) w
 
--- the call is refused: the world stays, and nothing is written
+-- the call is refused, and this is the world after it: the one before it, but for a claim whose driver failed; nothing is written
 abbrev pub refused : Errno → World → Outcome
 refused errno w = replies (Refused errno) w
 

@@ -7,7 +7,7 @@ use Rattle.gl_uapi.specs.declared.commands.Command.{Command}
 use Rattle.gl_world.specs.History.{entry}
 use Rattle.gl_world.specs.declared.history.Entry.{Entry}
 use Rattle.gl_core.specs.declared.call.Call.{Call}
-use Rattle.gl_core.specs.declared.call.Call.TheVariants.{Ioctl, PollLine, PollChip, Refused as RefusedCall}
+use Rattle.gl_core.specs.declared.call.Call.TheVariants.{Unplug, Remove, Ioctl, PollLine, PollChip, Refused as RefusedCall}
 use Rattle.gl_core.specs.declared.call.Part.TheVariants.{Whole, Ask, Tell}
 use Rattle.gl_core.specs.declared.gift.Gift.{Gift}
 use Rattle.gl_core.specs.declared.reply.Reply.{Reply}
@@ -17,7 +17,7 @@ use Rattle.gl_core.specs.Step.{guard_reply}
 
 -- a command as it is handed in: a handle's place and number, whether it is a chip's, and the command's number, the
 -- buffer's length and its bytes
-pub record Ioctled : Type 0 where
+pub record CommandIn : Type 0 where
   pub place : ℕ
   pub fd : ℕ
   pub of_chip : Bool
@@ -25,31 +25,55 @@ pub record Ioctled : Type 0 where
   pub len : ℕ
   pub bytes : List ℕ
 
--- A call of the device: one call of the machine, a removal by its first call, or a command on an open file.
+-- what a removal takes away: the chip of a place, or all chips of a device
+pub data RemovalOf : Type 0 where
+  OfChip : ℕ → RemovalOf
+  OfDevice : List ℕ → RemovalOf
+
+-- A call of the device: one call of the machine, a removal, or a command on an open file.
 pub data DeviceCall : Type 0 where
   Once : Call → DeviceCall
-  Removing : Call → DeviceCall
-  Commanding : Ioctled → DeviceCall
+  Removing : RemovalOf → DeviceCall
+  Commanding : CommandIn → DeviceCall
+
+-- a call that is whole by itself: it is no part of a removal or of a command, and no record of a closed guard
+abbrev pub is_single : Call → Bool
+is_single (Unplug place last) = false
+is_single (Remove device last) = false
+is_single (Ioctl place fd cmd len bytes part) = false
+is_single (RefusedCall place poll) = false
+is_single _ = true
+
+-- the device has this call
+abbrev pub is_of_device : DeviceCall → Bool
+is_of_device (Once call) = is_single call
+is_of_device (Removing removal) = true
+is_of_device (Commanding c) = true
+
+-- the first call of a removal; the last one is `last_call` of it
+abbrev pub first_call : RemovalOf → Call
+first_call (OfChip place) = Unplug place false
+first_call (OfDevice device) = Remove device false
 
 -- the driver is asked for a command of the handle's kind of file whose structure the buffer has room for
-abbrev pub is_asked : Bool → ℕ → Option Command → Bool
-is_asked of_chip len None = false
-is_asked of_chip len (Some command) = asks_driver command && (beq of_chip (is_for_chips command) && nat_le (size_of command) len)
+abbrev pub is_driver_asked : Bool → ℕ → Option Command → Bool
+is_driver_asked of_chip len None = false
+is_driver_asked of_chip len (Some command) = asks_driver command && (beq of_chip (is_for_chips command) && nat_le (size_of command) len)
 
 -- the call of a command in one of its parts
-abbrev pub in_whole : Ioctled → Call
+abbrev pub in_whole : CommandIn → Call
 in_whole c = Ioctl c.place c.fd c.cmd c.len c.bytes Whole
 
-abbrev pub in_ask : Ioctled → Call
+abbrev pub in_ask : CommandIn → Call
 in_ask c = Ioctl c.place c.fd c.cmd c.len c.bytes Ask
 
-abbrev pub in_tell : Option ℕ → Ioctled → Call
+abbrev pub in_tell : Option ℕ → CommandIn → Call
 in_tell answer c = Ioctl c.place c.fd c.cmd c.len c.bytes (Tell answer)
 
 -- the place whose guard the call of the device enters
 abbrev pub guard_of : DeviceCall → Option ℕ
 guard_of (Once call) = guarded_place call
-guard_of (Removing first) = None
+guard_of (Removing removal) = None
 guard_of (Commanding c) = Some c.place
 
 -- the call is a poll
@@ -57,6 +81,12 @@ abbrev pub is_poll : DeviceCall → Bool
 is_poll (Once (PollLine place fd)) = true
 is_poll (Once (PollChip place fd)) = true
 is_poll _ = false
+
+-- what the caller of the device is answered: the reply of the last entry that its call made
+abbrev pub last_reply : {M : Type 0} → List (Entry M Call Reply Gift) → Option Reply
+last_reply [] = None
+last_reply (e ∷ []) = Some e.reply
+last_reply (e ∷ next ∷ later) = last_reply (next ∷ later)
 
 -- The entries of an actor, in the histories of a machine M.
 module _ {M : Type 0} (actor : ℕ) where
@@ -77,7 +107,7 @@ module _ {M : Type 0} (actor : ℕ) where
 
   -- A command: the ask, and after Go the driver's own entries and then the tell, which holds the driver's answer. Where the
   -- driver isn't asked, the command is whole.
-  abbrev pub MakesCommand : Bool → Option ℕ → Ioctled → List (Entry M Call Reply Gift) → List (Entry M Call Reply Gift) → Type 0
+  abbrev pub MakesCommand : Bool → Option ℕ → CommandIn → List (Entry M Call Reply Gift) → List (Entry M Call Reply Gift) → Type 0
   MakesCommand true answer c own made = MakesTwo (in_ask c) (in_tell answer c) own made
   MakesCommand false answer c own made = MakesOne (in_whole c) made × (own ≡ [])
 
@@ -85,21 +115,22 @@ module _ {M : Type 0} (actor : ℕ) where
   -- Done, its last one.
   abbrev pub MakesInside : DeviceCall → Option ℕ → List (Entry M Call Reply Gift) → List (Entry M Call Reply Gift) → Type 0
   MakesInside (Once call) answer own made = MakesOne call made × (own ≡ [])
-  MakesInside (Removing first) answer own made = MakesTwo first (last_call first) [] made × (own ≡ [])
-  MakesInside (Commanding c) answer own made = MakesCommand (is_asked c.of_chip c.len (command_of c.cmd)) answer c own made
+  MakesInside (Removing removal) answer own made = MakesTwo (first_call removal) (last_call (first_call removal)) [] made × (own ≡ [])
+  MakesInside (Commanding c) answer own made = MakesCommand (is_driver_asked c.of_chip c.len (command_of c.cmd)) answer c own made
 
   -- at the closed guard of a place: the entry that records just that
-  abbrev pub MakesRefused : ℕ → Bool → List (Entry M Call Reply Gift) → Type 0
-  MakesRefused place poll made = made ≡ entry actor (RefusedCall place poll) (guard_reply poll) ∷ []
+  abbrev pub MakesRefusedEntry : ℕ → Bool → List (Entry M Call Reply Gift) → Type 0
+  MakesRefusedEntry place poll made = made ≡ entry actor (RefusedCall place poll) (guard_reply poll) ∷ []
 
   -- what a call makes, by the guard that it enters and whether that was closed
   abbrev pub MakesAt : Option ℕ → Bool → DeviceCall → Option ℕ → List (Entry M Call Reply Gift) → List (Entry M Call Reply Gift) → Type 0
   MakesAt None closed call answer own made = MakesInside call answer own made
   MakesAt (Some place) false call answer own made = MakesInside call answer own made
-  MakesAt (Some place) true call answer own made = MakesRefused place (is_poll call) made × (own ≡ [])
+  MakesAt (Some place) true call answer own made = MakesRefusedEntry place (is_poll call) made × (own ≡ [])
 
   -- The entries that one call of the device makes: `closed` tells whether the closed bit stood at its guard, `answer` is
-  -- what the driver answered, where it was asked, and `own` are the entries that the driver made for it. What the caller is
-  -- answered is the reply of the last entry.
+  -- what the driver answered, where it was asked, and `own` are the entries that the driver made for it: which these may be,
+  -- the driver decides. What the caller is answered is their `last_reply`, and the bytes that the step writes there. A call that
+  -- is refused for want of memory, or because the history is full, makes none.
   abbrev pub Makes : Bool → DeviceCall → Option ℕ → List (Entry M Call Reply Gift) → List (Entry M Call Reply Gift) → Type 0
-  Makes closed call answer own made = MakesAt (guard_of call) closed call answer own made
+  Makes closed call answer own made = (is_of_device call ≡ true) × MakesAt (guard_of call) closed call answer own made

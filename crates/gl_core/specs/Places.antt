@@ -1,4 +1,5 @@
--- The places of a world: each chip's kind, its number of lines and its lines' tables.
+-- The places of a world: each chip's kind, its number of lines and its lines' tables. That chips stand at places is this
+-- project's choice, after the numbers of the kernel's GPIO chips.
 use Rattle.std.specs.Prelude.{ℕ, [], None, slice_index_or}
 use Rattle.gl_base.specs.Positions.{change_at}
 use Rattle.gl_base.specs.declared.kind.Kind.{Kind}
@@ -21,9 +22,13 @@ no_origin = record { kind = Simulated; device = None; remover = None }
 abbrev pub place_at : World → ℕ → Place
 place_at w place = slice_index_or w.places place no_place
 
--- whether the chip of a place is simulated
+-- where the chip of a place comes from, and who removes it
+abbrev pub origin_at : World → ℕ → Origin
+origin_at w place = slice_index_or w.origins place no_origin
+
+-- whether the chip of a place is simulated or remote
 abbrev pub kind_at : World → ℕ → Kind
-kind_at w place = (slice_index_or w.origins place no_origin).kind
+kind_at w place = (origin_at w place).kind
 
 -- how many lines the chip of a place has
 abbrev pub lines_at : World → ℕ → ℕ

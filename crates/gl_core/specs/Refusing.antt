@@ -1,17 +1,26 @@
--- What a refused call leaves: the world as it was, and the buffer.
-use Rattle.std.specs.Prelude.{◌≡◌, ℕ, Bool, true, false, [], Option, Some, None}
+-- What a refused call leaves: the world as it was, and the buffer. There is one exception, and this says what it leaves.
+use Rattle.std.specs.Prelude.{◌≡◌, ℕ, Bool, true, false, ◌&&◌, List, [], ◌∷◌, ◌++◌, Option, Some, None}
+use Rattle.std.specs.List.{find}
+use Rattle.gl_base.specs.Lines.{offsets_of}
+use Rattle.gl_base.specs.Positions.{change_at, change_each}
+use Rattle.gl_base.specs.declared.errno.Errno.TheVariants.{Io}
+use Rattle.gl_desc.specs.Desc.{first_desc, freed}
 use Rattle.gl_uapi.specs.Command.{command_of}
 use Rattle.gl_uapi.specs.declared.commands.Command.{Command}
 use Rattle.gl_uapi.specs.declared.commands.Command.TheVariants.{ChipInfo, LineInfo, Watch, Unwatch, GetLine, SetConfig, GetValues, SetValues}
 use Rattle.gl_core.specs.declared.call.Call.{Call}
 use Rattle.gl_core.specs.declared.call.Call.TheVariants.{Ioctl}
 use Rattle.gl_core.specs.declared.call.Part.{Part}
-use Rattle.gl_core.specs.declared.call.Part.TheVariants.{Whole, Ask, Tell}
+use Rattle.gl_core.specs.declared.call.Part.TheVariants.{Tell}
+use Rattle.gl_core.specs.declared.place.Place.{Place}
 use Rattle.gl_core.specs.declared.reply.Reply.{Reply}
 use Rattle.gl_core.specs.declared.reply.Reply.TheVariants.{Done, Number, Go, Found, Text, Ready, Refused}
+use Rattle.gl_core.specs.Claiming.{claim_at, claim_by}
+use Rattle.gl_core.specs.Entries.{is_tell}
 use Rattle.gl_core.specs.Outcome.{Outcome}
+use Rattle.gl_core.specs.Places.{no_place}
 use Rattle.gl_core.specs.Step.{step}
-use Rattle.gl_core.specs.World.{World}
+use Rattle.gl_core.specs.World.{World, Request, has_number}
 
 -- the reply is a refusal
 abbrev pub IsRefused : Reply → Type 0
@@ -39,18 +48,47 @@ is_get_line (Some SetConfig) = false
 is_get_line (Some GetValues) = false
 is_get_line (Some SetValues) = false
 
--- a request of lines is told that the driver failed
-abbrev pub fails_claim : Option Command → Part → Bool
-fails_claim command Whole = false
-fails_claim command Ask = false
-fails_claim command (Tell None) = is_get_line command
-fails_claim command (Tell (Some bits)) = false
+-- a request of lines is told what the driver answered
+abbrev pub tells_claim : Call → Bool
+tells_claim (Ioctl place fd cmd len bytes part) = is_get_line (command_of cmd) && is_tell part
+tells_claim _ = false
 
--- the call is such a tell: the one whose refusal changes the world, since the claim is gone
-abbrev pub is_failed_claim : Call → Bool
-is_failed_claim (Ioctl place fd cmd len bytes part) = fails_claim (command_of cmd) part
-is_failed_claim _ = false
+-- the reply is EIO
+abbrev pub is_io : Reply → Bool
+is_io (Refused Io) = true
+is_io _ = false
 
--- each refused call but that leaves all as it was
-abbrev pub RefusalsLeaveAll : Type 0
-RefusalsLeaveAll = (w : World) (actor : ℕ) (call : Call) → is_failed_claim call ≡ false → LeavesAll w (step w actor call)
+-- the one refusal that changes the world: a request of lines is told, and refused with EIO
+abbrev pub is_failed_claim : Call → Reply → Bool
+is_failed_claim call reply = tells_claim call && is_io reply
+
+-- One row of a table is gone: the first that passes a test. The rows in front of it and those behind it stay.
+pub record LosesOne {X : Type 0} (test : X → Bool) (row : X) (before after : List X) : Type 0 where
+  pub front : List X
+  pub back : List X
+  pub is_first : find test before ≡ Some row
+  pub was : before ≡ front ++ row ∷ back
+  pub is_now : after ≡ front ++ back
+
+-- the tables of all places with these lines of one place let go of
+abbrev pub with_lines_free : ℕ → List ℕ → List Place → List Place
+with_lines_free place offsets places = change_at no_place place (λ tables. record tables { descs = change_each first_desc offsets freed tables.descs }) places
+
+-- What that refusal is: the driver failed; the actor had an unfinished claim at the place; of the requests just this claim is
+-- gone, and of the tables of all places just its lines are let go of; all else of the world stays, and nothing is written.
+pub record DropsClaim (actor place : ℕ) (part : Part) (w : World) (out : Outcome) : Type 0 where
+  pub driver_failed : part ≡ Tell None
+  pub claim : Request
+  pub was_unfinished : claim_at place (claim_by w.requests actor) ≡ Some claim
+  pub claim_goes : LosesOne (has_number claim.fd) claim w.requests out.world.requests
+  pub lines_go_free : out.world.places ≡ with_lines_free claim.place (offsets_of claim.lines) w.places
+  pub all_else_stays : out.world ≡ record w { requests = out.world.requests; places = out.world.places }
+  pub writes_nothing : out.bytes ≡ []
+
+-- Each refused call but that one leaves all as it was; and that one drops the claim.
+pub record RefusalsLeaveAll : Type 0 where
+  pub leaves : (w : World) (actor : ℕ) (call : Call)
+      → let out = step w actor call in is_failed_claim call out.reply ≡ false → LeavesAll w out
+  pub drops_claim : (w : World) (actor place fd cmd len : ℕ) (bytes : List ℕ) (part : Part)
+      → let call = Ioctl place fd cmd len bytes part in let out = step w actor call in
+      is_failed_claim call out.reply ≡ true → DropsClaim actor place part w out

@@ -17,8 +17,9 @@ use Rattle.gl_simtree.specs.Calls.{leaving_state, remove_refusal}
 use Rattle.gl_simtree.specs.Rows.{state_of, with_state}
 use Rattle.gl_simtree.specs.declared.row.State.TheVariants.{Off}
 use Rattle.gl_core.specs.declared.place.Origin.{Origin}
-use Rattle.gl_core.specs.Chips.{is_leaving, is_up, origin_at, phase_at, place_refusal, used_places}
+use Rattle.gl_core.specs.Chips.{is_leaving, is_up, phase_at, place_refusal, used_places}
 use Rattle.gl_core.specs.Outcome.{Outcome, done, unless, writes}
+use Rattle.gl_core.specs.Places.{origin_at}
 use Rattle.gl_core.specs.World.{World}
 
 module _ {X : Type 0} where
@@ -42,12 +43,12 @@ abbrev pub is_of : List ℕ → World → ℕ → Bool
 is_of device w place = is_device_named device (origin_at w place).device
 
 -- the chip of a place is of no device of the tree
-abbrev pub is_alone : World → ℕ → Bool
-is_alone w place = is_none (origin_at w place).device
+abbrev pub is_outside_tree : World → ℕ → Bool
+is_outside_tree w place = is_none (origin_at w place).device
 
 -- this actor's removal of the chip of a place has begun, and hasn't ended
-abbrev pub is_removed_by : ℕ → World → ℕ → Bool
-is_removed_by actor w place = is_leaving (phase_at w place) && is_actor actor (origin_at w place).remover
+abbrev pub is_removing : ℕ → World → ℕ → Bool
+is_removing actor w place = is_leaving (phase_at w place) && is_actor actor (origin_at w place).remover
 
 -- the origin of a chip whose removal this actor begins
 abbrev pub removed_by : ℕ → Origin → Origin
@@ -87,7 +88,7 @@ phase_refusal Gone = Some NoDev
 abbrev pub unplug_refusal : ℕ → World → Option Errno
 unplug_refusal place w = first_of
     (place_refusal place w
-    ∷ when (not (is_alone w place)) Perm
+    ∷ when (not (is_outside_tree w place)) Perm
     ∷ phase_refusal (phase_at w place)
     ∷ [])
 
@@ -100,13 +101,13 @@ abbrev pub begin_unplug : ℕ → ℕ → World → Outcome
 begin_unplug actor place w = unless (unplug_refusal place w) w (unplug_begun actor place w)
 
 -- the place is that of an unplug which this actor has begun and not ended
-abbrev pub is_unplugged_by : ℕ → World → ℕ → Bool
-is_unplugged_by actor w place = is_alone w place && is_removed_by actor w place
+abbrev pub is_unplugging : ℕ → World → ℕ → Bool
+is_unplugging actor w place = is_outside_tree w place && is_removing actor w place
 
 -- the last call of an unplug: EBUSY where this actor has begun no such unplug, or has ended it
 abbrev pub end_unplug : ℕ → ℕ → World → Outcome
 end_unplug actor place w =
-    unless (when (not (is_unplugged_by actor w place)) Busy) w (done (end_at (λ p. p == place) w))
+    unless (when (not (is_unplugging actor w place)) Busy) w (done (end_at (λ p. p == place) w))
 
 -- the chip of a place is of this device and is up
 abbrev pub is_up_of : List ℕ → World → ℕ → Bool
@@ -127,16 +128,16 @@ abbrev pub begin_remove : ℕ → List ℕ → World → Outcome
 begin_remove actor device w = unless (remove_refusal device w.tree) w (remove_begun actor device w)
 
 -- the chip of a place is of this device, and this actor's removal of it has begun and hasn't ended
-abbrev pub is_removed_of : List ℕ → ℕ → World → ℕ → Bool
-is_removed_of device actor w place = is_of device w place && is_removed_by actor w place
+abbrev pub is_removing_of : List ℕ → ℕ → World → ℕ → Bool
+is_removing_of device actor w place = is_of device w place && is_removing actor w place
 
 -- the places of a device's chips that this actor removes, in order
 abbrev pub removed_places : List ℕ → ℕ → World → List ℕ
-removed_places device actor w = filter (is_removed_of device actor w) (used_places w)
+removed_places device actor w = filter (is_removing_of device actor w) (used_places w)
 
 -- the removal of all chips of a device has ended: they are Gone, and the device is off
 abbrev pub remove_ended : ℕ → List ℕ → World → Outcome
-remove_ended actor device w = done (end_at (is_removed_of device actor w) (record w { tree = with_state device Off w.tree }))
+remove_ended actor device w = done (end_at (is_removing_of device actor w) (record w { tree = with_state device Off w.tree }))
 
 -- the last call of that removal: EBUSY where this actor has begun no such removal, or has ended it
 abbrev pub end_remove : ℕ → List ℕ → World → Outcome

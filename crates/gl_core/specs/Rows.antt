@@ -1,15 +1,23 @@
 -- Worked runs, by name: their calls, and what these are answered.
 pub mod ActiveLowEdges
+pub mod Board
 pub mod CallBehindGone
 pub mod ChipInfo
+pub mod Clocks
 pub mod Debounce
+pub mod DeviceCalls
 pub mod FirstAttribute
 pub mod Histories
 pub mod HogAndLocks
 pub mod InterruptLocks
+pub mod InterruptTable
+pub mod LiteralBytes
+pub mod LockedLines
 pub mod Pins
 pub mod PlacesUsed
 pub mod PlannedFault
+pub mod Reconfigured
+pub mod RemoteChip
 pub mod RemovedChip
 pub mod RemovedDevice
 pub mod RequestFaults
@@ -19,6 +27,7 @@ pub mod SoftDebounce
 pub mod Structures
 pub mod TwoActorsBefore
 pub mod TwoActorsBehind
+pub mod TwoChips
 pub mod TwoLines
 pub mod TwoRemovals
 pub mod Values

@@ -1,4 +1,5 @@
--- The world: all that the machine knows, as plain data. A place is a position in a list, and so is the offset of a line.
+-- The world: all that the machine knows, as plain data. A place is a position in a list, and so is the offset of a line. What
+-- there is to know is that of the kernel's documents on the GPIO character device, on GPIO drivers and on gpio-sim.
 use Rattle.std.specs.Prelude.{ℕ, Bool, ◌==◌, List, [], Option}
 use Rattle.std.specs.List.{find}
 use Rattle.gl_base.specs.declared.lines.Lines.{Lines}

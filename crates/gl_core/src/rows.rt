@@ -4,15 +4,23 @@
 
 ghost use Rattle.std.specs.Prelude.{◌≡◌, take};
 ghost use Rattle.gl_core.specs.Rows.ActiveLowEdges.{given as active_low_edges_given, run as active_low_edges_run};
+ghost use Rattle.gl_core.specs.Rows.Board.{given as board_given, run as board_run};
 ghost use Rattle.gl_core.specs.Rows.CallBehindGone.{given as call_behind_gone_given, run as call_behind_gone_run};
 ghost use Rattle.gl_core.specs.Rows.ChipInfo.{given as chip_info_given, run as chip_info_run};
+ghost use Rattle.gl_core.specs.Rows.Clocks.{given as clocks_given, run as clocks_run};
 ghost use Rattle.gl_core.specs.Rows.Debounce.{given as debounce_given, run as debounce_run};
+ghost use Rattle.gl_core.specs.Rows.DeviceCalls.{given as device_calls_given, run as device_calls_run};
 ghost use Rattle.gl_core.specs.Rows.FirstAttribute.{given as first_attribute_given, run as first_attribute_run};
 ghost use Rattle.gl_core.specs.Rows.HogAndLocks.{given as hog_and_locks_given, run as hog_and_locks_run};
 ghost use Rattle.gl_core.specs.Rows.InterruptLocks.{given as interrupt_locks_given, run as interrupt_locks_run};
+ghost use Rattle.gl_core.specs.Rows.InterruptTable.{given as interrupt_table_given, run as interrupt_table_run};
+ghost use Rattle.gl_core.specs.Rows.LiteralBytes.{given as literal_bytes_given, run as literal_bytes_run};
+ghost use Rattle.gl_core.specs.Rows.LockedLines.{given as locked_lines_given, run as locked_lines_run};
 ghost use Rattle.gl_core.specs.Rows.Pins.{given as pins_given, run as pins_run};
 ghost use Rattle.gl_core.specs.Rows.PlacesUsed.{given as places_used_given, run as places_used_run};
 ghost use Rattle.gl_core.specs.Rows.PlannedFault.{given as planned_fault_given, run as planned_fault_run};
+ghost use Rattle.gl_core.specs.Rows.Reconfigured.{given as reconfigured_given, run as reconfigured_run};
+ghost use Rattle.gl_core.specs.Rows.RemoteChip.{given as remote_chip_given, run as remote_chip_run};
 ghost use Rattle.gl_core.specs.Rows.RemovedChip.{given as removed_chip_given, run as removed_chip_run};
 ghost use Rattle.gl_core.specs.Rows.RemovedDevice.{given as removed_device_given, run as removed_device_run};
 ghost use Rattle.gl_core.specs.Rows.RequestFaults.{given as request_faults_given, run as request_faults_run};
@@ -21,11 +29,15 @@ ghost use Rattle.gl_core.specs.Rows.SmallRing.{given as small_ring_given, run as
 ghost use Rattle.gl_core.specs.Rows.SoftDebounce.{given as soft_debounce_given, run as soft_debounce_run};
 ghost use Rattle.gl_core.specs.Rows.TwoActorsBefore.{given as two_actors_before_given, run as two_actors_before_run};
 ghost use Rattle.gl_core.specs.Rows.TwoActorsBehind.{given as two_actors_behind_given, run as two_actors_behind_run};
+ghost use Rattle.gl_core.specs.Rows.TwoChips.{given as two_chips_given, run as two_chips_run};
 ghost use Rattle.gl_core.specs.Rows.TwoLines.{given as two_lines_given, run as two_lines_run};
 ghost use Rattle.gl_core.specs.Rows.TwoRemovals.{given as two_removals_given, run as two_removals_run};
 ghost use Rattle.gl_core.specs.Rows.Values.{given as values_given, run as values_run};
 ghost use Rattle.gl_core.specs.Rows.WatchQueue.{given as watch_queue_given, run as watch_queue_run};
-ghost use Rattle.gl_core.specs.Machine.{IsLegal};
+ghost use Rattle.gl_world.specs.History.{entries_of};
+ghost use Rattle.gl_core.specs.Calling.{AreOfCalls, AreOfCallsSoFar};
+ghost use Rattle.gl_core.specs.Machine.{IsLegal, world_of};
+ghost use Rattle.gl_core.specs.OneRemoval.{HasAtMostOneRemoval};
 ghost use Rattle.gl_core.specs.Rows.Histories.{history};
 ghost use Rattle.gl_core.specs.Run.{answers};
 
@@ -74,6 +86,23 @@ pub fn interrupt_locks()
     ensures { answers interrupt_locks_run ≡ interrupt_locks_given }
 {}
 
+/// The interrupt locks, case by case: what each call on a line's interrupt is answered, whether the line is free, claimed or
+/// held, and how. (A hogged line's: `two_chips`.)
+pub fn interrupt_table()
+    ensures { answers interrupt_table_run ≡ interrupt_table_given }
+{}
+
+/// A line under an enabled lock can be no output, a line without an interrupt tells of no edges and isn't debounced, and a line
+/// that is to tell of edges or is debounced keeps its interrupt.
+pub fn locked_lines()
+    ensures { answers locked_lines_run ≡ locked_lines_given }
+{}
+
+/// A remote chip: its levels come by interrupts and its values from the driver, and no pull or bias changes them.
+pub fn remote_chip()
+    ensures { answers remote_chip_run ≡ remote_chip_given }
+{}
+
 /// A line whose pin is held for another function can't be requested until the pin is dropped.
 pub fn pins()
     ensures { answers pins_run ≡ pins_given }
@@ -104,9 +133,19 @@ pub fn removed_device()
     ensures { answers removed_device_run ≡ removed_device_given }
 {}
 
+/// A device of three banks: its chips, a line found by name, its removal, and what it refuses until this has ended.
+pub fn board()
+    ensures { answers board_run ≡ board_given }
+{}
+
 /// The information on a chip, a buffer that is too short for it, and a number that is no command's.
 pub fn chip_info()
     ensures { answers chip_info_run ≡ chip_info_given }
+{}
+
+/// Each structure that is read or written, byte by byte, without the words that make bytes of numbers and names.
+pub fn literal_bytes()
+    ensures { answers literal_bytes_run ≡ literal_bytes_given }
 {}
 
 /// A request whose driver fails is refused and told to nobody; its number isn't given again, and its line is free.
@@ -129,6 +168,22 @@ pub fn soft_debounce()
     ensures { answers soft_debounce_run ≡ soft_debounce_given }
 {}
 
+/// The monotonic and the real clock: which one an event has, what clocks are refused, and in which order debounced lines settle.
+pub fn clocks()
+    ensures { answers clocks_run ≡ clocks_given }
+{}
+
+/// What a new configuration changes of a line that is to settle, is monitored, active low or to be set, and what it leaves.
+pub fn reconfigured()
+    ensures { answers reconfigured_run ≡ reconfigured_given }
+{}
+
+/// Two chips beside each other: whose files are told of a change, what a hogged line's interrupt is answered, and who ends a
+/// removal.
+pub fn two_chips()
+    ensures { answers two_chips_run ≡ two_chips_given }
+{}
+
 /// A command on a chip that is gone: the step answers it, and no legal history has it, since the chip's guard is closed.
 pub fn call_behind_gone()
     ensures { answers call_behind_gone_run ≡ call_behind_gone_given }
@@ -140,13 +195,35 @@ pub fn two_actors_are_legal()
     ensures behind { IsLegal (history two_actors_behind_run two_actors_behind_given) }
 {}
 
+/// In both orders each of the two actors calls the device, one call after another; while actor 2's call goes on, it
+/// has made its first entry only.
+pub fn two_actors_call_the_device()
+    ensures first_before { AreOfCalls 1 (entries_of 1 (history two_actors_before_run two_actors_before_given)) }
+    ensures second_before { AreOfCalls 2 (entries_of 2 (history two_actors_before_run two_actors_before_given)) }
+    ensures first_behind { AreOfCalls 1 (entries_of 1 (history two_actors_behind_run two_actors_behind_given)) }
+    ensures second_behind { AreOfCalls 2 (entries_of 2 (history two_actors_behind_run two_actors_behind_given)) }
+    ensures second_so_far { AreOfCallsSoFar 2 (entries_of 2 (history (take 4 two_actors_behind_run) two_actors_behind_given)) }
+{}
+
+/// An actor calls the device, one call after another. The machine answers its entries so, such a history is legal, and the
+/// entries are those of whole calls: of commands, one with its driver's own entries between the ask and the tell, of a device's
+/// removal, of a poll and a command at a closed guard, and of others.
+pub fn device_calls()
+    ensures answers { answers device_calls_run ≡ device_calls_given }
+    ensures legal { IsLegal (history device_calls_run device_calls_given) }
+    ensures calls { AreOfCalls 0 (entries_of 0 (history device_calls_run device_calls_given)) }
+{}
+
 /// A history with a command on a chip that is gone is one that the machine can't have; without the command it can.
 pub fn no_call_stands_behind_gone()
     ensures before { IsLegal (history (take 4 call_behind_gone_run) call_behind_gone_given) }
     ensures whole { IsLegal (history call_behind_gone_run call_behind_gone_given) → ⊥ }
 {}
 
-/// An actor has begun the removals of two chips and ended neither: no rule of the machine forbids it.
+/// An actor has begun the removals of two chips and ended neither. The machine answers so, such a history is legal,
+/// and in its world the actor has more than one unfinished removal: no rule of the machine forbids it.
 pub fn two_removals()
-    ensures { answers two_removals_run ≡ two_removals_given }
+    ensures answers { answers two_removals_run ≡ two_removals_given }
+    ensures legal { IsLegal (history (take 4 two_removals_run) two_removals_given) }
+    ensures two { HasAtMostOneRemoval 1 (world_of (history (take 4 two_removals_run) two_removals_given)) → ⊥ }
 {}

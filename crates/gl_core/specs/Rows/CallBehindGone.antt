@@ -6,7 +6,7 @@ use Rattle.gl_uapi.specs.declared.commands.Command.TheVariants.{ChipInfo}
 use Rattle.gl_core.specs.declared.call.Call.TheVariants.{OpenChip, Probe, Unplug}
 use Rattle.gl_core.specs.declared.call.Part.TheVariants.{Whole}
 use Rattle.gl_core.specs.declared.reply.Reply.TheVariants.{Done, Number}
-use Rattle.gl_core.specs.Rows.Structures.{by, called}
+use Rattle.gl_core.specs.Rows.Structures.{by, ioctl}
 use Rattle.gl_core.specs.Run.{Answer, Made, says, shows}
 
 unfoldable pub run : List Made
@@ -15,7 +15,7 @@ run =
     ∷ by 1 (OpenChip (codes "0"))
     ∷ by 2 (Unplug 0 false)
     ∷ by 2 (Unplug 0 true)
-    ∷ by 1 (called 3 ChipInfo (zeros 68) Whole)
+    ∷ by 1 (ioctl 0 3 ChipInfo (zeros 68) Whole)
     ∷ []
 
 unfoldable pub given : List Answer

@@ -8,8 +8,12 @@ use Rattle.gl_core.specs.declared.reply.Reply.TheVariants.{Number, Refused}
 use Rattle.gl_core.specs.Rows.Structures.{by}
 use Rattle.gl_core.specs.Run.{Answer, Made, says}
 
+-- a chip of four lines, and then 16 times one of one line
 unfoldable pub run : List Made
-run = map (λ place. by 0 (Probe (codes "x") 1 Simulated)) (table_from (λ place. place) 0 17)
+run =
+    by 0 (Probe (codes "demo") 4 Simulated)
+    ∷ map (λ place. by 0 (Probe (codes "x") 1 Simulated)) (table_from (λ place. place) 1 16)
 
+-- places 0 to 15, and no place for the last one
 unfoldable pub given : List Answer
 given = map (λ place. says (Number place)) (table_from (λ place. place) 0 16) ++ says (Refused NoSpc) ∷ []

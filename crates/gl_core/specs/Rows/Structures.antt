@@ -1,15 +1,16 @@
 -- The calls of worked runs, and the structures of `linux/gpio.h` that they hand in and get, by their fields.
-use Rattle.std.specs.Prelude.{ℕ, Bool, List, [], ◌∷◌, ◌++◌, codes, length, flat_map, Some}
+use Rattle.std.specs.Prelude.{ℕ, Bool, List, [], ◌∷◌, ◌++◌, codes, length, flat_map, map, Some}
 use Rattle.gl_base.specs.Padded.{padded}
+use Rattle.gl_base.specs.declared.errno.Errno.{Errno}
 use Rattle.gl_base.specs.declared.kind.Kind.TheVariants.{Simulated}
 use Rattle.gl_uapi.specs.Command.{number_of}
 use Rattle.gl_uapi.specs.Fields.{number_bytes, zeros}
 use Rattle.gl_uapi.specs.declared.commands.Command.{Command}
 use Rattle.gl_core.specs.declared.call.Call.{Call}
-use Rattle.gl_core.specs.declared.call.Call.TheVariants.{Ioctl, OpenChip, Probe, Pull}
+use Rattle.gl_core.specs.declared.call.Call.TheVariants.{Ioctl, OpenChip, Probe, Pull, Tick}
 use Rattle.gl_core.specs.declared.call.Part.{Part}
 use Rattle.gl_core.specs.declared.call.Part.TheVariants.{Ask, Tell}
-use Rattle.gl_core.specs.declared.reply.Reply.TheVariants.{Go, Number}
+use Rattle.gl_core.specs.declared.reply.Reply.TheVariants.{Done, Go, Number, Refused}
 use Rattle.gl_core.specs.Run.{Answer, Made, says}
 
 -- an attribute of this kind, for the lines of a mask
@@ -49,13 +50,13 @@ change information timestamp kind = information ++ number_bytes 8 timestamp ++ n
 abbrev pub by : ℕ → Call → Made
 by actor call = record { actor = actor; call = call }
 
--- a command on the file of a number at place 0, with its structure in the buffer
-abbrev pub called : ℕ → Command → List ℕ → Part → Call
-called fd name structure part = Ioctl 0 fd (number_of name) (length structure) (padded 592 structure) part
+-- a command on the file of a number at a place, with its structure in the buffer
+abbrev pub ioctl : ℕ → ℕ → Command → List ℕ → Part → Call
+ioctl place fd name structure part = Ioctl place fd (number_of name) (length structure) (padded 592 structure) part
 
--- the same, by actor 0
+-- the same at place 0, by actor 0
 abbrev pub command : ℕ → Command → List ℕ → Part → Made
-command fd name structure part = by 0 (called fd name structure part)
+command fd name structure part = by 0 (ioctl 0 fd name structure part)
 
 -- a command whose driver is asked, and a driver that answers 0
 abbrev pub ask_and_tell : ℕ → Command → List ℕ → List Made
@@ -80,3 +81,22 @@ gives number bytes = record { reply = Number number; bytes = bytes }
 -- what the ask and the tell of GET_LINE are answered: the number of the request's file, and the request with it
 abbrev pub opened : ℕ → (ℕ → List ℕ) → List Answer
 opened fd asked = says (Go fd) ∷ gives fd (asked fd) ∷ []
+
+-- a call of actor 0 that is done, and one that is refused
+abbrev pub does : Call → Made × Answer
+does call = (by 0 call, says Done)
+
+abbrev pub fails : Call → Errno → Made × Answer
+fails call errno = (by 0 call, says (Refused errno))
+
+-- the clocks are set
+abbrev pub ticks : ℕ → ℕ → Made × Answer
+ticks mono real = does (Tick mono real)
+
+-- the calls of some exchanges, each of which is a call beside what it is answered
+abbrev pub calls_in : List (Made × Answer) → List Made
+calls_in exchanges = map (λ exchange. exchange.0) exchanges
+
+-- the answers of some exchanges
+abbrev pub answers_in : List (Made × Answer) → List Answer
+answers_in exchanges = map (λ exchange. exchange.1) exchanges

@@ -1,16 +1,12 @@
-use Rattle.gl_core.proofs.PhaseLaws.{begins_it, begins_them, ends_it, finishes, forward, opens_low, stays}
-use Rattle.gl_core.proofs.Soundness.{keeps_sound, opens}
+use Rattle.gl_core.proofs.MachineLaws.{machine_laws}
+use Rattle.gl_core.proofs.PhaseLaws.{never_both}
 use Rattle.gl_core.proofs.laws.machine_has_laws.Goals as goal
 
 pub returns : goal.returns
 returns c = record {
-  opens_sound = opens;
-  keeps_sound = λ w by call s f. keeps_sound w by call s;
-  opens_places = opens_low;
-  goes_forward = λ w by call p s f. forward w by call p s;
-  ends_place = λ w by call p s f. ends_it w by call p s;
-  begins_place = λ w by call p s f. begins_it w by call p s;
-  begins_removal = λ w by call p s f. begins_them w by call p s;
-  removal_stays = λ w by call p s f. stays w by call p s;
-  ends_removal = λ w by call p s f. finishes w by call p;
+  worlds = machine_laws;
+  calls = record {
+    fits_calls = λ call gift out fits. fits.fits_call;
+    ends_not_begins = never_both;
+  };
 }

@@ -6,8 +6,9 @@ use Rattle.gl_watch.specs.Files.{no_lines}
 use Rattle.gl_core.specs.Bits.{bits_where}
 use Rattle.gl_core.specs.Rows.TwoRemovals.{run, given}
 use Rattle.gl_core.specs.Run.{answers_from}
+use Rattle.gl_core.proofs.TwoRemovals.{both_legal, not_one}
 use Rattle.gl_core.proofs.rows.two_removals.Goals as goal
 
 pub returns : goal.returns
 unfolding answers_from run given table_from no_timers number_at number_bytes stretch stretches zeros no_lines bits_where
-returns c = refl
+returns c = record { answers = refl; legal = both_legal; two = not_one }

@@ -1,0 +1,52 @@
+-- Actors that call the device, one call after another: which entries a history then has of an actor. This is the
+-- project's choice.
+use Rattle.std.specs.Prelude.{◌≡◌, ℕ, Bool, false, List, [], ◌∷◌, ◌++◌, Option}
+use Rattle.gl_base.specs.Rows.{Each}
+use Rattle.gl_uapi.specs.Command.{command_of}
+use Rattle.gl_world.specs.Removal.{AllQuiet}
+use Rattle.gl_world.specs.declared.history.Entry.{Entry}
+use Rattle.gl_core.specs.declared.call.Call.{Call}
+use Rattle.gl_core.specs.declared.call.Call.TheVariants.{Ioctl}
+use Rattle.gl_core.specs.declared.gift.Gift.{Gift}
+use Rattle.gl_core.specs.declared.reply.Reply.{Reply}
+use Rattle.gl_core.specs.Kept.{Kept}
+use Rattle.gl_core.specs.Machine.{machine}
+use Rattle.gl_core.specs.Parts.{DeviceCall, Makes}
+use Rattle.gl_core.specs.Refusing.{is_get_line}
+
+-- the call is the command GET_LINE, in any of its parts
+abbrev pub is_get_line_call : Call → Bool
+is_get_line_call (Ioctl place fd cmd len bytes part) = is_get_line (command_of cmd)
+is_get_line_call _ = false
+
+-- A call of the device as an actor made it: whether the guard was closed, what the driver answered, the entries that the
+-- driver made for it, and all entries that the call made.
+pub record Called : Type 0 where
+  pub closed : Bool
+  pub call : DeviceCall
+  pub answer : Option ℕ
+  pub own : List (Entry Kept Call Reply Gift)
+  pub made : List (Entry Kept Call Reply Gift)
+
+-- the entries are those that such a call makes, and those of the driver have nothing to do with removals and request no
+-- lines
+pub record IsCalled (actor : ℕ) (called : Called) : Type 0 where
+  pub makes : Makes actor called.closed called.call called.answer called.own called.made
+  pub quiet : AllQuiet machine called.own
+  pub no_claims : Each (λ e. is_get_line_call e.call ≡ false) called.own
+
+-- the entries of some calls, one after another
+abbrev pub made_by : List Called → List (Entry Kept Call Reply Gift)
+made_by [] = []
+made_by (called ∷ later) = called.made ++ made_by later
+
+-- the entries are those of whole calls of the device, one after another
+pub record AreOfCalls (actor : ℕ) (entries : List (Entry Kept Call Reply Gift)) : Type 0 where
+  pub calls : List Called
+  pub each : Each (IsCalled actor) calls
+  pub are : entries ≡ made_by calls
+
+-- the same, but the last call may have entries to make yet
+pub record AreOfCallsSoFar (actor : ℕ) (entries : List (Entry Kept Call Reply Gift)) : Type 0 where
+  pub to_come : List (Entry Kept Call Reply Gift)
+  pub whole : AreOfCalls actor (entries ++ to_come)
