@@ -15,7 +15,7 @@ use Rattle.gl_core.specs.Calling.{AreOfCalls, Called, IsCalled, made_by}
 use Rattle.gl_core.specs.Entries.{begins, last_call, places_named}
 use Rattle.gl_core.specs.Kept.{Kept}
 use Rattle.gl_core.specs.Machine.{machine}
-use Rattle.gl_core.specs.Parts.{DeviceCall, Once, Removing, Commanding, CommandIn, RemovalOf, OfChip, OfDevice, MakesAt, MakesCommand, MakesInside, MakesRest, first_call, guard_of, in_ask, in_tell, in_whole, is_driver_asked, is_of_device, is_poll, is_single}
+use Rattle.gl_core.specs.Parts.{DeviceCall, Once, Removing, Commanding, CommandIn, RemovalOf, OfChip, OfDevice, MakesAt, MakesCommand, MakesInside, MakesRest, first_call, guard_of, in_ask, in_tell, in_whole, is_driver_asked, device_has, is_poll, is_single}
 use Rattle.gl_core.specs.Step.{guard_reply}
 use Rattle.gl_core.proofs.Awaiting.{Leads, Moves, quiet_leads}
 use Rattle.gl_core.proofs.Leading.{leads_on}
@@ -77,12 +77,12 @@ module _ (actor : ℕ) where
   command_leads true answer c own made quiet makes = subst (λ es. Leads machine None es None) (sym makes.2)
       (quiet_then (entry actor (in_ask c) makes.0) makes.1 (λ bytes. refl, refl) (rest_leads (in_tell answer c) own makes.1 (begins (in_ask c) makes.0) (λ reply. (λ bytes. refl, refl)) quiet makes.3))
 
-  inside_leads : (call : DeviceCall) (answer : Option ℕ) (own made : List (Entry Kept Call Reply Gift)) → is_of_device call ≡ true → AllQuiet machine own → MakesInside actor call answer own made → Leads machine None made None
+  inside_leads : (call : DeviceCall) (answer : Option ℕ) (own made : List (Entry Kept Call Reply Gift)) → device_has call ≡ true → AllQuiet machine own → MakesInside actor call answer own made → Leads machine None made None
   inside_leads (Once call) answer own made is quiet makes = subst (λ es. Leads machine None es None) (sym makes.0.1) (quiet_then (entry actor call makes.0.0) [] (single_is_quiet actor call makes.0.0 is) refl)
   inside_leads (Removing removal) answer own made is quiet makes = subst (λ es. Leads machine None es None) (sym makes.0.2) (removal_leads removal makes.0.0 makes.0.1 (begins (first_call removal) makes.0.0) refl makes.0.3)
   inside_leads (Commanding c) answer own made is quiet makes = command_leads (is_driver_asked c.of_chip c.len (command_of c.cmd)) answer c own made quiet makes
 
-  guard_leads : (guard : Option ℕ) (closed : Bool) (call : DeviceCall) (answer : Option ℕ) (own made : List (Entry Kept Call Reply Gift)) → is_of_device call ≡ true → AllQuiet machine own → MakesAt actor guard closed call answer own made → Leads machine None made None
+  guard_leads : (guard : Option ℕ) (closed : Bool) (call : DeviceCall) (answer : Option ℕ) (own made : List (Entry Kept Call Reply Gift)) → device_has call ≡ true → AllQuiet machine own → MakesAt actor guard closed call answer own made → Leads machine None made None
   guard_leads None closed call answer own made is quiet makes = inside_leads call answer own made is quiet makes
   guard_leads (Some place) false call answer own made is quiet makes = inside_leads call answer own made is quiet makes
   guard_leads (Some place) true call answer own made is quiet makes = subst (λ es. Leads machine None es None) (sym makes.0)

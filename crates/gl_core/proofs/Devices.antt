@@ -56,8 +56,8 @@ agrees device w s = record {
     | inl t ↦ t
     | inr f ↦ absurd (true≢false (sym up.1 ∙ s.idle f up.0))
   ];
-  leaving_has_leaving = λ leaving. let r = s.leaving_has_remover leaving in (r.1, removing_is_leaving device r.0 w r.1 r.2);
-  leaving_is_leaving = λ leaving. s.leaving leaving.0 leaving.1;
+  leaving_has_chip = λ leaving. let r = s.leaving_has_remover leaving in (r.1, removing_is_leaving device r.0 w r.1 r.2);
+  chip_is_leaving = λ leaving. s.leaving leaving.0 leaving.1;
 }
 
 -- the last call of a device's removal

@@ -20,7 +20,7 @@ use Rattle.gl_core.specs.Entries.{begins, is_go, last_call}
 use Rattle.gl_core.specs.Kept.{Kept}
 use Rattle.gl_core.specs.Machine.{IsLegal, world_of}
 use Rattle.gl_core.specs.OneClaim.{CallsFinishClaims, claims_of, first_get_line, is_ask_call, is_tell_at}
-use Rattle.gl_core.specs.Parts.{DeviceCall, Once, Removing, Commanding, CommandIn, RemovalOf, OfChip, OfDevice, MakesAt, MakesCommand, MakesInside, MakesRest, first_call, guard_of, in_ask, in_tell, in_whole, is_driver_asked, is_of_device, is_poll, is_single}
+use Rattle.gl_core.specs.Parts.{DeviceCall, Once, Removing, Commanding, CommandIn, RemovalOf, OfChip, OfDevice, MakesAt, MakesCommand, MakesInside, MakesRest, first_call, guard_of, in_ask, in_tell, in_whole, is_driver_asked, device_has, is_poll, is_single}
 use Rattle.gl_core.specs.Refusing.{is_get_line}
 use Rattle.gl_core.specs.Step.{guard_reply}
 use Rattle.gl_core.specs.World.{World, Request, opening}
@@ -94,7 +94,7 @@ module _ (actor : ℕ) where
     | false ↦ (λ other. other_leads asked answer c own made other others makes)
   ] refl
 
-  inside_leads : (call : DeviceCall) (answer : Option ℕ) (own made : List (Entry Kept Call Reply Gift)) → is_of_device call ≡ true → NonePasses own
+  inside_leads : (call : DeviceCall) (answer : Option ℕ) (own made : List (Entry Kept Call Reply Gift)) → device_has call ≡ true → NonePasses own
       → MakesInside actor call answer own made → Leads None made None
   inside_leads (Once call) answer own made is others makes = subst (λ es. Leads None es None) (sym makes.0.1) (others_lead None (entry actor call makes.0.0 ∷ []) (single_is_other call is, tt))
   inside_leads (Removing removal) answer own made is others makes = subst (λ es. Leads None es None) (sym makes.0.2)
@@ -102,7 +102,7 @@ module _ (actor : ℕ) where
       ((removal_is_other removal).0, rest_is_other (last_call (first_call removal)) [] makes.0.1 (begins (first_call removal) makes.0.0) (removal_is_other removal).1 tt makes.0.3))
   inside_leads (Commanding c) answer own made is others makes = command_leads (is_driver_asked c.of_chip c.len (command_of c.cmd)) answer c own made others makes
 
-  guard_leads : (guard : Option ℕ) (closed : Bool) (call : DeviceCall) (answer : Option ℕ) (own made : List (Entry Kept Call Reply Gift)) → is_of_device call ≡ true
+  guard_leads : (guard : Option ℕ) (closed : Bool) (call : DeviceCall) (answer : Option ℕ) (own made : List (Entry Kept Call Reply Gift)) → device_has call ≡ true
       → NonePasses own → MakesAt actor guard closed call answer own made → Leads None made None
   guard_leads None closed call answer own made is others makes = inside_leads call answer own made is others makes
   guard_leads (Some place) false call answer own made is others makes = inside_leads call answer own made is others makes

@@ -39,7 +39,7 @@ one_removal = record {
       let leads = leads_to (Moves machine) None None (entries_of actor history) calls.to_come (all_lead actor (entries_of actor history ++ calls.to_come) calls.whole) in
       one_awaited actor (world_of history) leads.0 (after history actor leads.0 legal leads.1);
   between_calls = λ history legal actor calls. none_between history legal actor calls;
-  device_is_seen = λ history legal device leaving. removed_by_one device (world_of history) ((sound_world history).devices device) leaving;
+  is_removed_by_one = λ history legal device leaving. removed_by_one device (world_of history) ((sound_world history).devices device) leaving;
   none_is_leaving = λ history legal calls device. elim (chosen (is_leaving (state_of device (world_of history).tree))) as (λ _. is_leaving (state_of device (world_of history).tree) ≡ false) [
     | inl t ↦
         (let one = removed_by_one device (world_of history) ((sound_world history).devices device) t in

@@ -125,7 +125,8 @@ module _ {X : Type 0} where
         record {
           front = [];
           back = xs;
-          is_first = is;
+          passes = subst (λ y. test y ≡ true) here e;
+          none_in_front = refl;
           was = ap (λ y. y ∷ xs) here;
           is_now = ap (λ b. cond b xs (x ∷ without_first test xs)) e;
         })
@@ -134,7 +135,8 @@ module _ {X : Type 0} where
         record {
           front = x ∷ behind.front;
           back = behind.back;
-          is_first = is;
+          passes = behind.passes;
+          none_in_front = ap (λ b. cond b (Some x) (find test behind.front)) e ∙ behind.none_in_front;
           was = ap (λ ys. x ∷ ys) behind.was;
           is_now = ap (λ b. cond b xs (x ∷ without_first test xs)) e ∙ ap (λ ys. x ∷ ys) behind.is_now;
         })

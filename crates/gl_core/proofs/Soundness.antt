@@ -32,7 +32,7 @@ use Rattle.gl_core.specs.Chips.{is_leaving, is_up, new_origin, phase_at, places_
 use Rattle.gl_core.specs.Outcome.{Outcome, done, unless}
 use Rattle.gl_core.specs.Places.{no_origin, origin_at}
 use Rattle.gl_core.specs.Removal.{change_where, end_at, is_actor, is_outside_tree, is_device_named, is_of, is_removing, is_removing_of, is_unplugging, is_up_of, leave_at, remove_begun, remove_ended, removed_by, removed_places, unplug_begun, unplug_refusal}
-use Rattle.gl_core.specs.Sound.{HasOneDirectory, IsSound, IsSoundFor, is_leaving_of}
+use Rattle.gl_core.specs.Sound.{HasAtMostOneDirectory, IsSound, IsSoundFor, is_leaving_of}
 use Rattle.gl_core.specs.Step.{step}
 use Rattle.gl_core.specs.Tree.{chip_of_bank, gone_live, origin_of_bank}
 use Rattle.gl_core.specs.World.{World, opening}
@@ -144,7 +144,7 @@ untouched device w v alike longer kept s = record {
 }
 
 -- the tree alone changes
-with_tree : (w v : World) → v.chips ≡ w.chips → v.origins ≡ w.origins → ((device : List ℕ) → HasOneDirectory device w.tree → StateKept device w.tree v.tree) → IsSound w → IsSound v
+with_tree : (w v : World) → v.chips ≡ w.chips → v.origins ≡ w.origins → ((device : List ℕ) → HasAtMostOneDirectory device w.tree → StateKept device w.tree v.tree) → IsSound w → IsSound v
 with_tree w v c o kept s = record {
   columns = ap length o ∙ s.columns ∙ sym (ap length c);
   devices = λ device. untouched device w v (λ p. Same (ap (λ cs. chip_at cs p) c) (ap (λ os. slice_index_or os p no_origin) o)) (let h : length v.chips ≡ length w.chips = ap length c in omega arith)

@@ -1,5 +1,5 @@
 -- A read takes just what it gives, and of its own file alone.
-use Rattle.std.proofs.Common.{◌≡◌, ℕ, zero, true, false, cond, ◌+◌, ◌-◌, ◌*◌, ◌/◌, Bool, refl, sym, ap, ◌∙◌, min, List, [], ◌∷◌, ◌++◌, length, take, drop, suc, Option, Some, None, inl, inr, arith}
+use Rattle.std.proofs.Common.{◌≡◌, ℕ, zero, true, false, cond, ◌+◌, ◌-◌, ◌*◌, ◌/◌, Bool, refl, sym, ap, ◌∙◌, min, List, [], ◌∷◌, ◌++◌, length, take, drop, suc, subst, Option, Some, None, inl, inr, arith}
 use Rattle.std.specs.Prelude.{◌≢◌, find, flat_map, not, ◌==◌, ◌||◌}
 use Rattle.std.specs.Option.{option_map, option_map_or}
 use Rattle.std.proofs.lemmas.Bool.{cases_Bool, false≢true}
@@ -50,7 +50,8 @@ module _ {X : Type 0} where
           front = [];
           row = row;
           back = xs;
-          is_first = is;
+          passes = subst (λ y. test y ≡ true) here e;
+          none_in_front = refl;
           was = ap (λ y. y ∷ xs) here;
           is_now = ap (λ b. cond b (f x ∷ xs) (x ∷ change_first test f xs)) e ∙ ap (λ y. y ∷ xs) (ap f here ∙ same);
         })
@@ -60,7 +61,8 @@ module _ {X : Type 0} where
           front = x ∷ behind.front;
           row = behind.row;
           back = behind.back;
-          is_first = ap (λ b. cond b (Some x) (find test xs)) e ∙ behind.is_first;
+          passes = behind.passes;
+          none_in_front = ap (λ b. cond b (Some x) (find test behind.front)) e ∙ behind.none_in_front;
           was = ap (λ ys. x ∷ ys) behind.was;
           is_now = ap (λ b. cond b (f x ∷ xs) (x ∷ change_first test f xs)) e ∙ ap (λ ys. x ∷ ys) behind.is_now;
         })

@@ -23,7 +23,7 @@ use Rattle.gl_simtree.specs.declared.row.Row.{Row}
 use Rattle.gl_simtree.specs.declared.row.Row.TheVariants.{Device as DeviceRow, Bank as BankRow, Line as LineRow, Hog as HogRow}
 use Rattle.gl_simtree.specs.declared.row.State.{State}
 use Rattle.gl_simtree.specs.declared.row.State.TheVariants.{Off, Live, Leaving}
-use Rattle.gl_core.specs.Sound.{HasOneDirectory}
+use Rattle.gl_core.specs.Sound.{HasAtMostOneDirectory}
 use Rattle.gl_core.proofs.Phases.{nothing_first, nothing_when}
 
 -- rows, found
@@ -155,7 +155,7 @@ found_no_more test (x ∷ rows) h = elim (test x) as (λ b. test x ≡ b → len
 
 -- a device has one directory still
 
-pub set_one : (device other : List ℕ) (s : State) (rows : List Row) → HasOneDirectory other rows → HasOneDirectory other (with_state device s rows)
+pub set_one : (device other : List ℕ) (s : State) (rows : List Row) → HasAtMostOneDirectory other rows → HasAtMostOneDirectory other (with_state device s rows)
 set_one device other s rows h =
     let same : count_of (is_row_of (Device other)) (with_state device s rows) ≡ count_of (is_row_of (Device other)) rows =
     count_change (is_row_of (Device other)) (is_row_of (Device device)) (row_with_state s) rows (set_is_row other s) in
@@ -179,12 +179,12 @@ leaving_is_there device (x ∷ rows) h = elim (is_row_of (Device device) x) as (
 -- what stays of a device: its state, and that it has one directory
 pub record StateKept (device : List ℕ) (old new : List Row) : Type 0 where
   pub same_state : state_of device new ≡ state_of device old
-  pub one_directory : HasOneDirectory device new
+  pub one_directory : HasAtMostOneDirectory device new
 
-pub state_same : (device : List ℕ) (rows : List Row) → HasOneDirectory device rows → StateKept device rows rows
+pub state_same : (device : List ℕ) (rows : List Row) → HasAtMostOneDirectory device rows → StateKept device rows rows
 state_same device rows h = record { same_state = refl; one_directory = h }
 
-pub state_of_another : (device other : List ℕ) (s : State) (rows : List Row) → bytes_eq device other ≡ false → HasOneDirectory other rows → StateKept other rows (with_state device s rows)
+pub state_of_another : (device other : List ℕ) (s : State) (rows : List Row) → bytes_eq device other ≡ false → HasAtMostOneDirectory other rows → StateKept other rows (with_state device s rows)
 state_of_another device other s rows ne h = record { same_state = state_of_other device other s rows ne; one_directory = set_one device other s rows h }
 
 new_is_off : (directory : Directory) → row_state (Some (new_row directory)) ≡ Off
@@ -212,17 +212,17 @@ new_or_none (Device e) rows device h = elim (bytes_eq device e) as (λ b. bytes_
   | false ↦ (λ _. inl refl)
 ] refl
 
-made_one : (directory : Directory) (rows : List Row) (device : List ℕ) → has directory rows ≡ false → HasOneDirectory device rows → HasOneDirectory device (rows ++ new_row directory ∷ [])
+made_one : (directory : Directory) (rows : List Row) (device : List ℕ) → has directory rows ≡ false → HasAtMostOneDirectory device rows → HasAtMostOneDirectory device (rows ++ new_row directory ∷ [])
 made_one directory rows device none h =
     let push : count_of (is_row_of (Device device)) (rows ++ new_row directory ∷ []) ≡ count_of (is_row_of (Device device)) rows + count_of (is_row_of (Device device)) (new_row directory ∷ []) =
     count_push (is_row_of (Device device)) rows (new_row directory) in
     let one : count_of (is_row_of (Device device)) (new_row directory ∷ []) ≤ 1 = count_one (is_row_of (Device device)) (new_row directory) in
-    elim (new_or_none directory rows device none) as (λ _. HasOneDirectory device (rows ++ new_row directory ∷ [])) [
+    elim (new_or_none directory rows device none) as (λ _. HasAtMostOneDirectory device (rows ++ new_row directory ∷ [])) [
       | inl e ↦ omega arith
       | inr e ↦ omega arith
     ]
 
-pub made_keeps : (node : Option Node) (rows : List Row) (device : List ℕ) → mkdir_refusal node rows ≡ None → HasOneDirectory device rows → StateKept device rows (made node rows)
+pub made_keeps : (node : Option Node) (rows : List Row) (device : List ℕ) → mkdir_refusal node rows ≡ None → HasAtMostOneDirectory device rows → StateKept device rows (made node rows)
 made_keeps None rows device e h = state_same device rows h
 made_keeps (Some (FileNode directory file)) rows device e h = state_same device rows h
 made_keeps (Some (DirectoryNode directory)) rows device e h = record {
@@ -266,7 +266,7 @@ written_alike Direction value (DeviceRow device state) = (λ d. refl, refl)
 written_alike Direction value (BankRow device bank lines label) = (λ d. refl, refl)
 written_alike Direction value (LineRow device bank line name) = (λ d. refl, refl)
 
-pub written_keeps : (node : Option Node) (value : List ℕ) (rows : List Row) (device : List ℕ) → HasOneDirectory device rows → StateKept device rows (written node value rows)
+pub written_keeps : (node : Option Node) (value : List ℕ) (rows : List Row) (device : List ℕ) → HasAtMostOneDirectory device rows → StateKept device rows (written node value rows)
 written_keeps None value rows device h = state_same device rows h
 written_keeps (Some (DirectoryNode directory)) value rows device h = state_same device rows h
 written_keeps (Some (FileNode directory file)) value rows device h =
@@ -296,7 +296,7 @@ stays_as_it_is : (directory : Directory) (rows : List Row) (device : List ℕ) �
     → state_of device (without_first (is_row_of directory) rows) ≡ state_of device rows
 stays_as_it_is directory rows device h = ap row_state (find_without (is_row_of (Device device)) (is_row_of directory) rows h)
 
-removed_state : (directory : Directory) (rows : List Row) (device : List ℕ) → is_busy (device_of directory) rows ≡ false → HasOneDirectory device rows
+removed_state : (directory : Directory) (rows : List Row) (device : List ℕ) → is_busy (device_of directory) rows ≡ false → HasAtMostOneDirectory device rows
     → state_of device (without_first (is_row_of directory) rows) ≡ state_of device rows
 removed_state (Bank e bank) rows device idle h = stays_as_it_is (Bank e bank) rows device (in_device e bank)
   where
@@ -328,7 +328,7 @@ removed_state (Device e) rows device idle h = elim (bytes_eq e device) as (λ b.
   | false ↦ (λ ne. stays_as_it_is (Device e) rows device (λ x k. (other_row e device Off x ne k).0))
 ] refl
 
-pub removed_keeps : (node : Option Node) (rows : List Row) (device : List ℕ) → rmdir_refusal node rows ≡ None → HasOneDirectory device rows → StateKept device rows (removed node rows)
+pub removed_keeps : (node : Option Node) (rows : List Row) (device : List ℕ) → rmdir_refusal node rows ≡ None → HasAtMostOneDirectory device rows → StateKept device rows (removed node rows)
 removed_keeps None rows device e h = state_same device rows h
 removed_keeps (Some (FileNode directory file)) rows device e h = state_same device rows h
 removed_keeps (Some (DirectoryNode directory)) rows device e h =

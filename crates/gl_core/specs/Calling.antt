@@ -1,4 +1,4 @@
--- Actors that call the device, one call after another: which entries a history then has of an actor. This is the
+-- Actors that call the device (the layer over the gate, and no device of the tree), one call after another: which entries a history then has of an actor. This is the
 -- project's choice.
 use Rattle.std.specs.Prelude.{◌≡◌, ℕ, Bool, false, List, [], ◌∷◌, ◌++◌, Option}
 use Rattle.gl_base.specs.Rows.{Each}
@@ -46,7 +46,7 @@ pub record AreOfCalls (actor : ℕ) (entries : List (Entry Kept Call Reply Gift)
   pub each : Each (IsCalled actor) calls
   pub are : entries ≡ made_by calls
 
--- the same, but the last call may have entries to make yet
+-- the same with some entries to come: those that the last call has to make yet, and maybe those of further calls
 pub record AreOfCallsSoFar (actor : ℕ) (entries : List (Entry Kept Call Reply Gift)) : Type 0 where
   pub to_come : List (Entry Kept Call Reply Gift)
   pub whole : AreOfCalls actor (entries ++ to_come)

@@ -30,8 +30,8 @@ HasLeaving device w = (place : ℕ) × (is_leaving_of device w place ≡ true)
 pub record StateAgrees (device : List ℕ) (w : World) : Type 0 where
   pub live_has_up : is_live (state_of device w.tree) ≡ true → HasUp device w
   pub up_is_live : HasUp device w → is_live (state_of device w.tree) ≡ true
-  pub leaving_has_leaving : is_leaving (state_of device w.tree) ≡ true → HasLeaving device w
-  pub leaving_is_leaving : HasLeaving device w → is_leaving (state_of device w.tree) ≡ true
+  pub leaving_has_chip : is_leaving (state_of device w.tree) ≡ true → HasLeaving device w
+  pub chip_is_leaving : HasLeaving device w → is_leaving (state_of device w.tree) ≡ true
 
 -- In each world that a legal history leads to, the state of each device agrees with its chips. The last call of a device's
 -- removal that is answered Done leaves the device off.

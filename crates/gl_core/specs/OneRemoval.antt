@@ -50,7 +50,7 @@ pub record OneRemoval : Type 0 where
       → (actor : ℕ) → AreOfCallsSoFar actor (entries_of actor history) → HasAtMostOneRemoval actor (world_of history)
   pub between_calls : (history : List (Entry Kept Call Reply Gift)) → IsLegal history
       → (actor : ℕ) → AreOfCalls actor (entries_of actor history) → HasNoRemoval actor (world_of history)
-  pub device_is_seen : (history : List (Entry Kept Call Reply Gift)) → IsLegal history
+  pub is_removed_by_one : (history : List (Entry Kept Call Reply Gift)) → IsLegal history
       → (device : List ℕ) → is_leaving (state_of device (world_of history).tree) ≡ true → IsRemovedByOne device (world_of history)
   pub none_is_leaving : (history : List (Entry Kept Call Reply Gift)) → IsLegal history
       → ((actor : ℕ) → AreOfCalls actor (entries_of actor history)) → (device : List ℕ) → is_leaving (state_of device (world_of history).tree) ≡ false

@@ -45,10 +45,10 @@ is_single (RefusedCall place poll) = false
 is_single _ = true
 
 -- the device has this call
-abbrev pub is_of_device : DeviceCall → Bool
-is_of_device (Once call) = is_single call
-is_of_device (Removing removal) = true
-is_of_device (Commanding c) = true
+abbrev pub device_has : DeviceCall → Bool
+device_has (Once call) = is_single call
+device_has (Removing removal) = true
+device_has (Commanding c) = true
 
 -- the first call of a removal; the last one is `last_call` of it
 abbrev pub first_call : RemovalOf → Call
@@ -133,4 +133,4 @@ module _ {M : Type 0} (actor : ℕ) where
   -- the driver decides. What the caller is answered is their `last_reply`, and the bytes that the step writes there. A call that
   -- is refused for want of memory, or because the history is full, makes none.
   abbrev pub Makes : Bool → DeviceCall → Option ℕ → List (Entry M Call Reply Gift) → List (Entry M Call Reply Gift) → Type 0
-  Makes closed call answer own made = (is_of_device call ≡ true) × MakesAt (guard_of call) closed call answer own made
+  Makes closed call answer own made = (device_has call ≡ true) × MakesAt (guard_of call) closed call answer own made

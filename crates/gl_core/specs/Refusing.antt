@@ -2,9 +2,9 @@
 use Rattle.std.specs.Prelude.{◌≡◌, ℕ, Bool, true, false, ◌&&◌, List, [], ◌∷◌, ◌++◌, Option, Some, None}
 use Rattle.std.specs.List.{find}
 use Rattle.gl_base.specs.Lines.{offsets_of}
-use Rattle.gl_base.specs.Positions.{change_at, change_each}
+use Rattle.gl_base.specs.Positions.{change_at}
 use Rattle.gl_base.specs.declared.errno.Errno.TheVariants.{Io}
-use Rattle.gl_desc.specs.Desc.{first_desc, freed}
+use Rattle.gl_desc.specs.Desc.{freed}
 use Rattle.gl_uapi.specs.Command.{command_of}
 use Rattle.gl_uapi.specs.declared.commands.Command.{Command}
 use Rattle.gl_uapi.specs.declared.commands.Command.TheVariants.{ChipInfo, LineInfo, Watch, Unwatch, GetLine, SetConfig, GetValues, SetValues}
@@ -15,7 +15,7 @@ use Rattle.gl_core.specs.declared.call.Part.TheVariants.{Tell}
 use Rattle.gl_core.specs.declared.place.Place.{Place}
 use Rattle.gl_core.specs.declared.reply.Reply.{Reply}
 use Rattle.gl_core.specs.declared.reply.Reply.TheVariants.{Done, Number, Go, Found, Text, Ready, Refused}
-use Rattle.gl_core.specs.Claiming.{claim_at, claim_by}
+use Rattle.gl_core.specs.Claiming.{claim_at, claim_by, with_descs}
 use Rattle.gl_core.specs.Entries.{is_tell}
 use Rattle.gl_core.specs.Outcome.{Outcome}
 use Rattle.gl_core.specs.Places.{no_place}
@@ -62,17 +62,19 @@ is_io _ = false
 abbrev pub is_failed_claim : Call → Reply → Bool
 is_failed_claim call reply = tells_claim call && is_io reply
 
--- One row of a table is gone: the first that passes a test. The rows in front of it and those behind it stay.
+-- One row of a table is gone: the first that passes a test, as none in front of it does. The rows in front of it and those
+-- behind it stay.
 pub record LosesOne {X : Type 0} (test : X → Bool) (row : X) (before after : List X) : Type 0 where
   pub front : List X
   pub back : List X
-  pub is_first : find test before ≡ Some row
+  pub passes : test row ≡ true
+  pub none_in_front : find test front ≡ None
   pub was : before ≡ front ++ row ∷ back
   pub is_now : after ≡ front ++ back
 
--- the tables of all places with these lines of one place let go of
-abbrev pub with_lines_free : ℕ → List ℕ → List Place → List Place
-with_lines_free place offsets places = change_at no_place place (λ tables. record tables { descs = change_each first_desc offsets freed tables.descs }) places
+-- the tables of all places where nobody has these lines of one place any more; their levels stay
+abbrev pub with_lines_unclaimed : ℕ → List ℕ → List Place → List Place
+with_lines_unclaimed place offsets places = change_at no_place place (with_descs offsets freed) places
 
 -- What that refusal is: the driver failed; the actor had an unfinished claim at the place; of the requests just this claim is
 -- gone, and of the tables of all places just its lines are let go of; all else of the world stays, and nothing is written.
@@ -81,7 +83,7 @@ pub record DropsClaim (actor place : ℕ) (part : Part) (w : World) (out : Outco
   pub claim : Request
   pub was_unfinished : claim_at place (claim_by w.requests actor) ≡ Some claim
   pub claim_goes : LosesOne (has_number claim.fd) claim w.requests out.world.requests
-  pub lines_go_free : out.world.places ≡ with_lines_free claim.place (offsets_of claim.lines) w.places
+  pub lines_go_free : out.world.places ≡ with_lines_unclaimed claim.place (offsets_of claim.lines) w.places
   pub all_else_stays : out.world ≡ record w { requests = out.world.requests; places = out.world.places }
   pub writes_nothing : out.bytes ≡ []
 

@@ -17,12 +17,12 @@ abbrev pub is_leaving_of : List ℕ → World → ℕ → Bool
 is_leaving_of device w place = is_of device w place && is_leaving (phase_at w place)
 
 -- a device has one directory at most
-abbrev pub HasOneDirectory : List ℕ → List Row → Type 0
-HasOneDirectory device tree = length (filter (is_row_of (Device device)) tree) ≤ 1
+abbrev pub HasAtMostOneDirectory : List ℕ → List Row → Type 0
+HasAtMostOneDirectory device tree = length (filter (is_row_of (Device device)) tree) ≤ 1
 
 -- what is true of a device and of its chips
 pub record IsSoundFor (device : List ℕ) (w : World) : Type 0 where
-  pub one_directory : HasOneDirectory device w.tree
+  pub one_directory : HasAtMostOneDirectory device w.tree
   -- those that are up stand one behind the other, from a first place on
   pub first : ℕ
   pub count : ℕ

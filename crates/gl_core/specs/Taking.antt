@@ -1,5 +1,5 @@
 -- What a read takes: just what it gives, the first of what waits, as many whole items as fit, and of its own file alone.
-use Rattle.std.specs.Prelude.{◌≡◌, ◌≢◌, ◌*◌, ◌/◌, ℕ, Bool, min, List, ◌∷◌, ◌++◌, length, flat_map, Some, find}
+use Rattle.std.specs.Prelude.{◌≡◌, ◌≢◌, ◌*◌, ◌/◌, ℕ, Bool, true, min, List, ◌∷◌, ◌++◌, length, flat_map, None, find}
 use Rattle.gl_uapi.specs.InfoChanged.{changed_bytes}
 use Rattle.gl_uapi.specs.LineEvent.{event_bytes}
 use Rattle.gl_uapi.specs.declared.layout.TheConstants.{INFO_CHANGED_SIZE, LINE_EVENT_SIZE}
@@ -24,8 +24,8 @@ OnNumberOrRefusal (Text text) P = ⊥
 OnNumberOrRefusal (Ready bits) P = ⊥
 OnNumberOrRefusal (Refused errno) P = Unit {0}
 
--- Of the items that waited, a read of `len` bytes gave the first, and the others wait still. It gave as many as there is room
--- for items of this size, wrote their bytes, and answered how many bytes they have.
+-- Of the items that waited, a read of `len` bytes gave the first, and the others wait still. It gave as many as waited and had
+-- room, wrote their bytes, and answered how many bytes they have.
 pub record Takes {X : Type 0} (spell : X → List ℕ) (size len : ℕ) (before after : List X) (bytes : List ℕ) (n : ℕ) : Type 0 where
   pub given : List X
   pub in_order : before ≡ given ++ after
@@ -33,12 +33,14 @@ pub record Takes {X : Type 0} (spell : X → List ℕ) (size len : ℕ) (before 
   pub spelled : bytes ≡ flat_map spell given
   pub number : n ≡ size * length given
 
--- One row of a table was changed: the first that passes a test. The rows in front of it and those behind it stay.
+-- One row of a table was changed: the first that passes a test, as none in front of it does. The rows in front of it and those
+-- behind it stay.
 pub record ChangesOne {X : Type 0} (test : X → Bool) (change : X → X) (before after : List X) : Type 0 where
   pub front : List X
   pub row : X
   pub back : List X
-  pub is_first : find test before ≡ Some row
+  pub passes : test row ≡ true
+  pub none_in_front : find test front ≡ None
   pub was : before ≡ front ++ row ∷ back
   pub is_now : after ≡ front ++ change row ∷ back
 

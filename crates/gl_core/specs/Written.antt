@@ -82,12 +82,12 @@ abbrev pub RepliesTellLengths : Type 0
 RepliesTellLengths = (w : World) (actor : ℕ) (call : Call) → LengthsRestOn w call
     → let out = step w actor call in length out.bytes ≡ bytes_written call out.reply
 
--- the names in the changes that wait are names: at first, and behind each call that finds a world whose names are names
+-- the names in the changes that wait are names: at first, and each call that finds a world whose names are names keeps it so
 pub record ChangesKeepNames : Type 0 where
   pub at_first : HasNamedChanges opening
   pub kept : (w : World) → HasNames w → HasNamedChanges w → (actor : ℕ) (call : Call) → HasNamedChanges (step w actor call).world
 
--- Along histories none of these conditions is left: in each world that a legal history of calls with names leads to, the names
+-- Behind a legal history of calls with names a call has only to be in range: in each world that it leads to, the names
 -- in the changes that wait are names, and the reply of each call in range tells how many bytes it has written.
 pub record LegalRepliesTellLengths : Type 0 where
   pub changes : (history : List (Entry Kept Call Reply Gift)) → IsLegal history → NamesHistory history → HasNamedChanges (world_of history)

@@ -32,8 +32,8 @@ pub fn replies_tell_lengths()
     ensures behind_a_history { LegalRepliesTellLengths }
 {}
 
-/// The names in the changes that wait are names: at first, as none waits, and behind each call that finds a world
-/// whose names are names.
+/// The names in the changes that wait are names: at first, as none waits, and each call that finds a world whose names
+/// are names keeps it so.
 pub fn changes_keep_names()
     ensures { ChangesKeepNames }
 {}

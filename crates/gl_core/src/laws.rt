@@ -43,7 +43,9 @@ pub fn one_claim()
 
 /// An actor that calls the device, one call after another, has no unfinished claim between its calls, and none when
 /// it asks for lines. While a call goes on, a claim that the actor has is of the place of the tell that it makes next.
-/// Where its next GET_LINE is a tell, it has just this claim, and the tell is answered EIO or the claim's number.
+/// Where its next GET_LINE is a tell, it has just one claim, of that place, and the tell is answered EIO or the claim's
+/// number: in each world that a legal history leads to, where a driver's own entries have nothing to do with removals
+/// and request no lines.
 pub fn calls_finish_claims()
     ensures { CallsFinishClaims }
 {}

@@ -92,13 +92,14 @@ pub fn interrupt_table()
     ensures { answers interrupt_table_run ≡ interrupt_table_given }
 {}
 
-/// A line under an enabled lock can be no output, a line without an interrupt tells of no edges and isn't debounced, and a line
-/// that is to tell of edges or is debounced keeps its interrupt.
+/// A line under an enabled lock can't be requested or configured as an output, a line without an interrupt tells of no
+/// edges and isn't debounced, and a line that is to tell of edges or is debounced keeps its interrupt.
 pub fn locked_lines()
     ensures { answers locked_lines_run ≡ locked_lines_given }
 {}
 
-/// A remote chip: its levels come by interrupts and its values from the driver, and no pull or bias changes them.
+/// A remote chip: its levels come by interrupts, its values from the driver or, of a debounced line, from where it
+/// settled, and no pull or bias changes them.
 pub fn remote_chip()
     ensures { answers remote_chip_run ≡ remote_chip_given }
 {}
@@ -173,7 +174,8 @@ pub fn clocks()
     ensures { answers clocks_run ≡ clocks_given }
 {}
 
-/// What a new configuration changes of a line that is to settle, is monitored, active low or to be set, and what it leaves.
+/// What a new configuration changes of a line that is to settle, is monitored or is to be set, and what it leaves;
+/// and the value of a line that is active low and debounced.
 pub fn reconfigured()
     ensures { answers reconfigured_run ≡ reconfigured_given }
 {}
@@ -205,7 +207,7 @@ pub fn two_actors_call_the_device()
     ensures second_so_far { AreOfCallsSoFar 2 (entries_of 2 (history (take 4 two_actors_behind_run) two_actors_behind_given)) }
 {}
 
-/// An actor calls the device, one call after another. The machine answers its entries so, such a history is legal, and the
+/// An actor calls the device, one call after another. The machine answers its entries so, their history is legal, and the
 /// entries are those of whole calls: of commands, one with its driver's own entries between the ask and the tell, of a device's
 /// removal, of a poll and a command at a closed guard, and of others.
 pub fn device_calls()
@@ -220,7 +222,7 @@ pub fn no_call_stands_behind_gone()
     ensures whole { IsLegal (history call_behind_gone_run call_behind_gone_given) → ⊥ }
 {}
 
-/// An actor has begun the removals of two chips and ended neither. The machine answers so, such a history is legal,
+/// An actor has begun the removals of two chips and ended neither. The machine answers so, their history is legal,
 /// and in its world the actor has more than one unfinished removal: no rule of the machine forbids it.
 pub fn two_removals()
     ensures answers { answers two_removals_run ≡ two_removals_given }

@@ -1,5 +1,5 @@
 -- The timers of the lines, after the kernel's software debouncing of the GPIO character device. A table has
--- a row for each line of each place, by place and then by offset; a line that isn't debounced has no timer.
+-- a row for each line of each place, by place and then by offset; a line that never was debounced has no timer.
 use Rattle.std.specs.Prelude.{ℕ, Bool, ◌+◌, ◌*◌, List, Option, Some, None, replicate, slice_index_or, slice_set}
 use Rattle.std.specs.Option.{option_map}
 use Rattle.gl_base.specs.Positions.{change_at}

@@ -3,14 +3,14 @@
 -- below 2^63, and clocks that are refused change nothing. Debounced lines whose deadlines have come with one tick settle in
 -- order of deadline, and those of one deadline in order of offset; the deadline is the time of the event, or on a line that
 -- asks for the real clock this clock as the tick has set it. A poll tells whether something waits.
-use Rattle.std.specs.Prelude.{ℕ, Bool, List, [], ◌∷◌, ◌++◌, codes, true, false, Some}
+use Rattle.std.specs.Prelude.{ℕ, List, [], ◌∷◌, ◌++◌, codes, true, false, Some}
 use Rattle.gl_base.specs.declared.errno.Errno.TheVariants.{Again, BadF, Inval}
 use Rattle.gl_uapi.specs.declared.commands.Command.TheVariants.{GetLine, Watch}
 use Rattle.gl_core.specs.declared.call.Call.{Call}
-use Rattle.gl_core.specs.declared.call.Call.TheVariants.{PollChip, PollLine, Pull, ReadEdges, ReadInfo, Tick}
+use Rattle.gl_core.specs.declared.call.Call.TheVariants.{PollChip, PollLine, ReadEdges, ReadInfo, Tick}
 use Rattle.gl_core.specs.declared.call.Part.TheVariants.{Whole, Ask, Tell}
-use Rattle.gl_core.specs.declared.reply.Reply.TheVariants.{Done, Go, Ready}
-use Rattle.gl_core.specs.Rows.Structures.{answers_in, attribute, by, calls_in, change, command, config, event, fails, four_lines, four_lines_given, gives, info, request, ticks}
+use Rattle.gl_core.specs.declared.reply.Reply.TheVariants.{Go, Ready}
+use Rattle.gl_core.specs.Rows.Structures.{answers_in, attribute, by, calls_in, change, command, config, event, fails, four_lines, four_lines_given, gives, info, pulls, request, ticks}
 use Rattle.gl_core.specs.Run.{Answer, Made, says, shows}
 
 -- both edges of lines 0 and 1, and line 0 by the real clock
@@ -27,10 +27,6 @@ requests asked fd =
     (command 3 GetLine (asked 0) Ask, says (Go fd))
     ∷ (command 3 GetLine (asked 0) (Tell (Some 0)), gives fd (asked fd))
     ∷ []
-
--- a line is pulled
-abbrev pub pulls : ℕ → Bool → Made × Answer
-pulls offset up = (by 0 (Pull 0 offset up), says Done)
 
 -- something waits for a request or for a chip file (1), or nothing (0)
 abbrev pub polls : Call → ℕ → Made × Answer

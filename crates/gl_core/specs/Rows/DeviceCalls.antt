@@ -15,8 +15,8 @@ use Rattle.gl_core.specs.Run.{Answer, Made, says, shows}
 abbrev pub asked : ℕ → List ℕ
 asked fd = request [] (config 0x34 []) 1 0 fd
 
--- The device goes live, and its chip is opened. The line is requested, and before the driver answers it pulls the line up and reads
--- its level. The line is asked for once more; its value is asked for, in a buffer that is too short and of a driver that fails.
+-- The device goes live, and its chip is opened. The line is requested, and before it answers the driver pulls the line up and reads
+-- its level. The line is asked for once more; its value is asked for in a buffer that is too short, and then of a driver that fails.
 abbrev pub live : List (Made × Answer)
 live =
     does (MakeDir (codes "d"))

@@ -1,8 +1,8 @@
 -- The interrupt locks, case by case. Every call is refused on a line that isn't there. A lock is refused where the line is
 -- claimed, then where it has no interrupt, then where it is an output that isn't open-drain; else the line is locked and
 -- enabled, and so it is where it was locked before. Unlocking and disabling are refused where the line isn't locked, and
--- never else. Enabling is refused where the line isn't locked, then where it is claimed, then where it is an output that
--- isn't open-drain. The interrupt is taken for good, unless the line is locked or claimed. A line that a request holds can be
+-- in no other case. Enabling is refused where the line isn't locked, then where it is claimed, then where it is an output that
+-- isn't open-drain. The interrupt is taken for good, unless the line is locked or claimed, or held as in `LockedLines`. A line that a request holds can be
 -- locked as one that nobody has.
 use Rattle.std.specs.Prelude.{ℕ, List, [], ◌∷◌, ◌++◌, Some, None}
 use Rattle.gl_base.specs.declared.errno.Errno.TheVariants.{Busy, Inval, Io, NoEnt, NxIo}

@@ -1,6 +1,6 @@
 -- What interrupts and requests are to each other. The interrupt of a line that is held with an edge flag or with a debounce
--- period can't be taken, and a line without an interrupt can't be held with one. A line under an enabled lock can be no
--- output, open-drain or not, by a request or by a new configuration; under a lock that is disabled it can, and locking
+-- period can't be taken, and a line without an interrupt can't be held with one. A line under an enabled lock can't become
+-- an output, open-drain or not, by a request or by a new configuration; under a lock that is disabled it can, and locking
 -- again enables. A new configuration is checked once more when the driver has answered.
 use Rattle.std.specs.Prelude.{ℕ, List, [], ◌∷◌, ◌++◌, Some}
 use Rattle.gl_base.specs.declared.errno.Errno.TheVariants.{Busy, Io, NxIo}

@@ -2,13 +2,13 @@
 -- configuration gives the line meanwhile, and its deadline stays where the period does. The edges that are monitored are the
 -- new ones alone. The value of a debounced line is that of the level at which it has settled, inverted on an active-low line. And
 -- values are set only on lines that are outputs still when the driver has answered.
-use Rattle.std.specs.Prelude.{ℕ, Bool, List, [], ◌∷◌, ◌++◌, true, false, Some}
+use Rattle.std.specs.Prelude.{ℕ, List, [], ◌∷◌, ◌++◌, true, false, Some}
 use Rattle.gl_base.specs.declared.errno.Errno.TheVariants.{Again, Perm}
 use Rattle.gl_uapi.specs.declared.commands.Command.TheVariants.{GetLine, GetValues, SetConfig, SetValues}
-use Rattle.gl_core.specs.declared.call.Call.TheVariants.{Level, Pull, ReadEdges}
+use Rattle.gl_core.specs.declared.call.Call.TheVariants.{Level, ReadEdges}
 use Rattle.gl_core.specs.declared.call.Part.TheVariants.{Ask, Tell}
 use Rattle.gl_core.specs.declared.reply.Reply.TheVariants.{Done, Go, Number, Refused}
-use Rattle.gl_core.specs.Rows.Structures.{answers_in, attribute, by, calls_in, command, config, does, event, fails, four_lines, four_lines_given, gives, ioctl, request, ticks, values}
+use Rattle.gl_core.specs.Rows.Structures.{answers_in, attribute, by, calls_in, command, config, event, fails, four_lines, four_lines_given, gives, ioctl, pulls, request, ticks, values}
 use Rattle.gl_core.specs.Run.{Answer, Made, says, shows}
 
 -- one line is requested with this configuration, and its request has this number
@@ -31,10 +31,7 @@ has_value fd bit =
     ∷ (command fd GetValues (values 0 0x1) (Tell (Some 0)), shows (values bit 0x1))
     ∷ []
 
--- a line is pulled, and has this level
-abbrev pub pulls : ℕ → Bool → Made × Answer
-pulls offset up = does (Pull 0 offset up)
-
+-- a line has this level
 abbrev pub has_level : ℕ → ℕ → Made × Answer
 has_level offset level = (by 0 (Level 0 offset false), says (Number level))
 

@@ -93,6 +93,10 @@ fails call errno = (by 0 call, says (Refused errno))
 abbrev pub ticks : ℕ → ℕ → Made × Answer
 ticks mono real = does (Tick mono real)
 
+-- a line of the chip at place 0 is pulled up or down
+abbrev pub pulls : ℕ → Bool → Made × Answer
+pulls offset up = does (Pull 0 offset up)
+
 -- the calls of some exchanges, each of which is a call beside what it is answered
 abbrev pub calls_in : List (Made × Answer) → List Made
 calls_in exchanges = map (λ exchange. exchange.0) exchanges

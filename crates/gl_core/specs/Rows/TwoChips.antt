@@ -1,5 +1,5 @@
 -- Two chips beside each other, one of a device with hogged lines and one that was probed. A change of a line goes to no file
--- of the other chip that watches the same offset. A hogged line's interrupt can be locked and taken as that of a line which nobody
+-- of the other chip that watches the same offset. A hogged line's interrupt can be locked and taken away like that of a line which nobody
 -- has claimed: only its direction and its interrupt decide. A removal is ended by the actor that began it, once, and where none
 -- was begun there is none to end, at a place without a chip as well.
 use Rattle.std.specs.Prelude.{ℕ, List, [], ◌∷◌, ◌++◌, codes, true, false, Some}
