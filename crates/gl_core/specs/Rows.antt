@@ -4,8 +4,10 @@ pub mod Board
 pub mod CallBehindGone
 pub mod ChipInfo
 pub mod Clocks
+pub mod Deadlines
 pub mod Debounce
 pub mod DeviceCalls
+pub mod Directions
 pub mod FirstAttribute
 pub mod Histories
 pub mod HogAndLocks

@@ -8,8 +8,10 @@ ghost use Rattle.gl_core.specs.Rows.Board.{given as board_given, run as board_ru
 ghost use Rattle.gl_core.specs.Rows.CallBehindGone.{given as call_behind_gone_given, run as call_behind_gone_run};
 ghost use Rattle.gl_core.specs.Rows.ChipInfo.{given as chip_info_given, run as chip_info_run};
 ghost use Rattle.gl_core.specs.Rows.Clocks.{given as clocks_given, run as clocks_run};
+ghost use Rattle.gl_core.specs.Rows.Deadlines.{given as deadlines_given, run as deadlines_run};
 ghost use Rattle.gl_core.specs.Rows.Debounce.{given as debounce_given, run as debounce_run};
 ghost use Rattle.gl_core.specs.Rows.DeviceCalls.{given as device_calls_given, run as device_calls_run};
+ghost use Rattle.gl_core.specs.Rows.Directions.{given as directions_given, run as directions_run};
 ghost use Rattle.gl_core.specs.Rows.FirstAttribute.{given as first_attribute_given, run as first_attribute_run};
 ghost use Rattle.gl_core.specs.Rows.HogAndLocks.{given as hog_and_locks_given, run as hog_and_locks_run};
 ghost use Rattle.gl_core.specs.Rows.InterruptLocks.{given as interrupt_locks_given, run as interrupt_locks_run};
@@ -228,4 +230,15 @@ pub fn two_removals()
     ensures answers { answers two_removals_run ≡ two_removals_given }
     ensures legal { IsLegal (history (take 4 two_removals_run) two_removals_given) }
     ensures two { HasAtMostOneRemoval 1 (world_of (history (take 4 two_removals_run) two_removals_given)) → ⊥ }
+{}
+
+/// Deadlines that don't run any more: of a line whose period is changed, of a request that is closed, and of a chip that is gone.
+/// The last call of the run is a read on that chip, which the step answers and no legal history has.
+pub fn deadlines()
+    ensures { answers deadlines_run ≡ deadlines_given }
+{}
+
+/// What hogged, active-low and kept outputs are driven with, and what a line without a direction flag keeps.
+pub fn directions()
+    ensures { answers directions_run ≡ directions_given }
 {}
