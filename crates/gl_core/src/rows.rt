@@ -233,7 +233,7 @@ pub fn two_removals()
 {}
 
 /// Deadlines that don't run any more: of a line whose period is changed, of a request that is closed, and of a chip that is gone.
-/// The last call of the run is a read on that chip, which the step answers and no legal history has.
+/// The last call of the run is a read on that chip.
 pub fn deadlines()
     ensures { answers deadlines_run ≡ deadlines_given }
 {}

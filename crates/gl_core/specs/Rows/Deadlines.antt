@@ -1,7 +1,7 @@
 -- Which deadlines don't run any more. That of a line whose debounce period is changed: the line has settled at the level that it
 -- has then. Those of a request's lines when it is closed, whoever requests them next, and those of a chip's lines when it is gone;
--- while it is leaving they run. Other lines' deadlines go on. The last read is one that no legal history has, since the chip's
--- guard is closed by then: the step answers it, and nothing else tells what became of the deadline of a chip that is gone.
+-- while it is leaving they run. Other lines' deadlines go on. The last read is one that no legal history has, since its chip is
+-- gone: the step answers it all the same, and without such a call nothing tells what became of the deadlines of a chip that is gone.
 use Rattle.std.specs.Prelude.{ℕ, List, [], ◌∷◌, ◌++◌, codes, true, false, Some}
 use Rattle.gl_base.specs.declared.errno.Errno.TheVariants.{Again}
 use Rattle.gl_base.specs.declared.kind.Kind.TheVariants.{Simulated}
