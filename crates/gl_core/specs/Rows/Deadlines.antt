@@ -9,8 +9,7 @@ use Rattle.gl_uapi.specs.declared.commands.Command.TheVariants.{GetLine}
 use Rattle.gl_core.specs.declared.call.Call.TheVariants.{Close, OpenChip, Probe, Pull, ReadEdges, Unplug}
 use Rattle.gl_core.specs.declared.call.Part.TheVariants.{Ask, Tell}
 use Rattle.gl_core.specs.declared.reply.Reply.TheVariants.{Go, Number}
-use Rattle.gl_core.specs.Rows.Reconfigured.{configures, debounced, has_value, pulls, requests}
-use Rattle.gl_core.specs.Rows.Structures.{answers_in, attribute, by, calls_in, config, does, event, fails, four_lines, four_lines_given, gives, ioctl, request, ticks}
+use Rattle.gl_core.specs.Rows.Structures.{answers_in, attribute, by, calls_in, config, configures, debounced, does, event, fails, four_lines, four_lines_given, gives, has_value, ioctl, pulls, request, requests, ticks}
 use Rattle.gl_core.specs.Run.{Answer, Made, says, shows}
 
 -- two lines are requested with this configuration, at a place by its chip's file, and their request has this number

@@ -9,8 +9,7 @@ use Rattle.gl_uapi.specs.declared.commands.Command.TheVariants.{GetLine, GetValu
 use Rattle.gl_core.specs.declared.call.Call.TheVariants.{Close, Level, Live, MakeDir, OpenChip, ReadEdges, ReadInfo, Write}
 use Rattle.gl_core.specs.declared.call.Part.TheVariants.{Whole, Ask, Tell}
 use Rattle.gl_core.specs.declared.reply.Reply.TheVariants.{Done, Go, Number, Refused}
-use Rattle.gl_core.specs.Rows.Reconfigured.{configures, has_level, has_value, pulls, requests}
-use Rattle.gl_core.specs.Rows.Structures.{answers_in, attribute, by, calls_in, change, command, config, does, event, fails, gives, info, request, ticks, values}
+use Rattle.gl_core.specs.Rows.Structures.{answers_in, attribute, by, calls_in, change, command, config, configures, does, event, fails, gives, has_level, has_value, info, pulls, request, requests, ticks, values}
 use Rattle.gl_core.specs.Run.{Answer, Made, says, shows}
 
 -- a line has these flags, and a consumer without a name

@@ -2,42 +2,14 @@
 -- configuration gives the line meanwhile, and its deadline stays where the period does. The edges that are monitored are the
 -- new ones alone. The value of a debounced line is that of the level at which it has settled, inverted on an active-low line. And
 -- values are set only on lines that are outputs still when the driver has answered.
-use Rattle.std.specs.Prelude.{ℕ, List, [], ◌∷◌, ◌++◌, true, false, Some}
+use Rattle.std.specs.Prelude.{List, [], ◌∷◌, ◌++◌, true, false, Some}
 use Rattle.gl_base.specs.declared.errno.Errno.TheVariants.{Again, Perm}
-use Rattle.gl_uapi.specs.declared.commands.Command.TheVariants.{GetLine, GetValues, SetConfig, SetValues}
-use Rattle.gl_core.specs.declared.call.Call.TheVariants.{Level, ReadEdges}
+use Rattle.gl_uapi.specs.declared.commands.Command.TheVariants.{SetValues}
+use Rattle.gl_core.specs.declared.call.Call.TheVariants.{ReadEdges}
 use Rattle.gl_core.specs.declared.call.Part.TheVariants.{Ask, Tell}
-use Rattle.gl_core.specs.declared.reply.Reply.TheVariants.{Done, Go, Number, Refused}
-use Rattle.gl_core.specs.Rows.Structures.{answers_in, attribute, by, calls_in, command, config, event, fails, four_lines, four_lines_given, gives, ioctl, pulls, request, ticks, values}
-use Rattle.gl_core.specs.Run.{Answer, Made, says, shows}
-
--- one line is requested with this configuration, and its request has this number
-abbrev pub requests : ℕ → List ℕ → ℕ → List (Made × Answer)
-requests offset configuration fd =
-    let asked : ℕ → List ℕ = request (offset ∷ []) configuration 1 0 in
-    (command 3 GetLine (asked 0) Ask, says (Go fd)) ∷ (command 3 GetLine (asked 0) (Tell (Some 0)), gives fd (asked fd)) ∷ []
-
--- a request is configured anew, by actor 1
-abbrev pub configures : ℕ → List ℕ → List (Made × Answer)
-configures fd configuration =
-    (by 1 (ioctl 0 fd SetConfig configuration Ask), says (Go 0))
-    ∷ (by 1 (ioctl 0 fd SetConfig configuration (Tell (Some 0))), says Done)
-    ∷ []
-
--- the value of a request's one line
-abbrev pub has_value : ℕ → ℕ → List (Made × Answer)
-has_value fd bit =
-    (command fd GetValues (values 0 0x1) Ask, says (Go 0))
-    ∷ (command fd GetValues (values 0 0x1) (Tell (Some 0)), shows (values bit 0x1))
-    ∷ []
-
--- a line has this level
-abbrev pub has_level : ℕ → ℕ → Made × Answer
-has_level offset level = (by 0 (Level 0 offset false), says (Number level))
-
--- these flags, and a period of 1000 microseconds
-abbrev pub debounced : ℕ → List ℕ
-debounced flags = config flags (attribute 3 1000 0x1 ∷ [])
+use Rattle.gl_core.specs.declared.reply.Reply.TheVariants.{Done, Go, Refused}
+use Rattle.gl_core.specs.Rows.Structures.{answers_in, attribute, by, calls_in, command, config, configures, debounced, event, fails, four_lines, four_lines_given, gives, has_level, has_value, pulls, requests, ticks, values}
+use Rattle.gl_core.specs.Run.{Answer, Made, says}
 
 -- Line 0 rises, and is pulled down by a new configuration of the same period. At its deadline it is high all the same, which is
 -- an event. With another period it settles at its level at once, which is no event.

@@ -1,17 +1,18 @@
 -- The calls of worked runs, and the structures of `linux/gpio.h` that they hand in and get, by their fields.
-use Rattle.std.specs.Prelude.{ℕ, Bool, List, [], ◌∷◌, ◌++◌, codes, length, flat_map, map, Some}
+use Rattle.std.specs.Prelude.{ℕ, Bool, false, List, [], ◌∷◌, ◌++◌, codes, length, flat_map, map, Some}
 use Rattle.gl_base.specs.Padded.{padded}
 use Rattle.gl_base.specs.declared.errno.Errno.{Errno}
 use Rattle.gl_base.specs.declared.kind.Kind.TheVariants.{Simulated}
 use Rattle.gl_uapi.specs.Command.{number_of}
 use Rattle.gl_uapi.specs.Fields.{number_bytes, zeros}
 use Rattle.gl_uapi.specs.declared.commands.Command.{Command}
+use Rattle.gl_uapi.specs.declared.commands.Command.TheVariants.{GetLine, GetValues, SetConfig}
 use Rattle.gl_core.specs.declared.call.Call.{Call}
-use Rattle.gl_core.specs.declared.call.Call.TheVariants.{Ioctl, OpenChip, Probe, Pull, Tick}
+use Rattle.gl_core.specs.declared.call.Call.TheVariants.{Ioctl, Level, OpenChip, Probe, Pull, Tick}
 use Rattle.gl_core.specs.declared.call.Part.{Part}
 use Rattle.gl_core.specs.declared.call.Part.TheVariants.{Ask, Tell}
 use Rattle.gl_core.specs.declared.reply.Reply.TheVariants.{Done, Go, Number, Refused}
-use Rattle.gl_core.specs.Run.{Answer, Made, says}
+use Rattle.gl_core.specs.Run.{Answer, Made, says, shows}
 
 -- an attribute of this kind, for the lines of a mask
 abbrev pub attribute : ℕ → ℕ → ℕ → List ℕ
@@ -96,6 +97,34 @@ ticks mono real = does (Tick mono real)
 -- a line of the chip at place 0 is pulled up or down
 abbrev pub pulls : ℕ → Bool → Made × Answer
 pulls offset up = does (Pull 0 offset up)
+
+-- one line is requested with this configuration, and its request has this number
+abbrev pub requests : ℕ → List ℕ → ℕ → List (Made × Answer)
+requests offset configuration fd =
+    let asked : ℕ → List ℕ = request (offset ∷ []) configuration 1 0 in
+    (command 3 GetLine (asked 0) Ask, says (Go fd)) ∷ (command 3 GetLine (asked 0) (Tell (Some 0)), gives fd (asked fd)) ∷ []
+
+-- a request is configured anew, by actor 1
+abbrev pub configures : ℕ → List ℕ → List (Made × Answer)
+configures fd configuration =
+    (by 1 (ioctl 0 fd SetConfig configuration Ask), says (Go 0))
+    ∷ (by 1 (ioctl 0 fd SetConfig configuration (Tell (Some 0))), says Done)
+    ∷ []
+
+-- the value of a request's one line
+abbrev pub has_value : ℕ → ℕ → List (Made × Answer)
+has_value fd bit =
+    (command fd GetValues (values 0 0x1) Ask, says (Go 0))
+    ∷ (command fd GetValues (values 0 0x1) (Tell (Some 0)), shows (values bit 0x1))
+    ∷ []
+
+-- a line has this level
+abbrev pub has_level : ℕ → ℕ → Made × Answer
+has_level offset level = (by 0 (Level 0 offset false), says (Number level))
+
+-- these flags, and a period of 1000 microseconds
+abbrev pub debounced : ℕ → List ℕ
+debounced flags = config flags (attribute 3 1000 0x1 ∷ [])
 
 -- the calls of some exchanges, each of which is a call beside what it is answered
 abbrev pub calls_in : List (Made × Answer) → List Made
