@@ -142,8 +142,8 @@ act_written actor place fd len Watch bytes part w low names =
     writes_unless (if_done 256) (first_of (info_refusal place bytes w ∷ watch_refusal (offset_named bytes) (file_at fd w.files) ∷ [])) w _ (λ errno. refl)
     (info_written w (with_watched fd (offset_named bytes) true w) refl names place (offset_named bytes))
 act_written actor place fd len Unwatch bytes part w low names =
-    writes_unless (command_writes Unwatch len) (first_of (when (nat_le (lines_at w place) (number_at 4 0 bytes)) Inval ∷ unwatch_refusal (number_at 4 0 bytes) (file_at fd w.files) ∷ [])) w _
-    (λ errno. refl) refl
+    writes_unless (if_done 4) (first_of (when (nat_le (lines_at w place) (number_at 4 0 bytes)) Inval ∷ unwatch_refusal (number_at 4 0 bytes) (file_at fd w.files) ∷ [])) w _
+    (λ errno. refl) (length-number_bytes 4 (number_at 4 0 bytes))
 act_written actor place fd len GetLine bytes part w low names =
     writes_unless (command_writes GetLine len) (request_fault bytes) w _ (λ errno. refl)
     (writes_unless (command_writes GetLine len) (claim_refusal place actor (asked_in bytes) w) w _ (λ errno. refl) refl)

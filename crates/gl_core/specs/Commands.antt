@@ -8,12 +8,12 @@ use Rattle.gl_base.specs.declared.errno.Errno.{Errno}
 use Rattle.gl_base.specs.declared.errno.Errno.TheVariants.{Inval}
 use Rattle.gl_registry.specs.Chips.{chip_at}
 use Rattle.gl_uapi.specs.ChipInfo.{chip_bytes}
-use Rattle.gl_uapi.specs.Fields.{is_zero_at, number_at}
+use Rattle.gl_uapi.specs.Fields.{is_zero_at, number_at, number_bytes}
 use Rattle.gl_uapi.specs.LineInfo.{info_bytes}
 use Rattle.gl_uapi.specs.declared.layout.TheConstants.{INFO_OFFSET, INFO_PADDING, INFO_PADDING_SIZE}
 use Rattle.gl_watch.specs.Files.{file_at, is_file, unwatch_refusal, watch_refusal, with_watch}
 use Rattle.gl_core.specs.Information.{info_of, line_at}
-use Rattle.gl_core.specs.Outcome.{Outcome, done, unless, writes}
+use Rattle.gl_core.specs.Outcome.{Outcome, unless, writes}
 use Rattle.gl_core.specs.Places.{lines_at, place_at}
 use Rattle.gl_core.specs.World.{World}
 
@@ -52,9 +52,9 @@ watch_line place fd bytes w =
     (write_info place (offset_named bytes) (with_watched fd (offset_named bytes) true w))
 
 -- GET_LINEINFO_UNWATCH, whose structure is the offset alone: refused where the chip has no such line, or where this file
--- doesn't watch it; the file watches it no more
+-- doesn't watch it; the file watches it no more, and the offset is written, as it was handed in
 abbrev pub unwatch_line : ℕ → ℕ → List ℕ → World → Outcome
 unwatch_line place fd bytes w =
     let offset = number_at 4 0 bytes in
     unless (first_of (when (nat_le (lines_at w place) offset) Inval ∷ unwatch_refusal offset (file_at fd w.files) ∷ [])) w
-    (done (with_watched fd offset false w))
+    (writes (number_bytes 4 offset) (with_watched fd offset false w))

@@ -49,7 +49,7 @@ abbrev pub command_writes : Command → ℕ → Reply → ℕ
 command_writes ChipInfo len reply = if_done (size_of ChipInfo) reply
 command_writes LineInfo len reply = if_done (size_of LineInfo) reply
 command_writes Watch len reply = if_done (size_of Watch) reply
-command_writes Unwatch len reply = 0
+command_writes Unwatch len reply = if_done (size_of Unwatch) reply
 command_writes GetLine len reply = if_number (min len (size_of GetLine)) reply
 command_writes SetConfig len reply = 0
 command_writes GetValues len reply = if_done (size_of GetValues) reply

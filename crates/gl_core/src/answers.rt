@@ -19,10 +19,10 @@ pub fn reads_take_what_they_give()
     ensures changes { ReadsTakeChanges }
 {}
 
-/// The reply of a call tells how many bytes it has written. GET_CHIPINFO, GET_LINEINFO, GET_LINEINFO_WATCH and
-/// GET_VALUES that were done: as many as their structure has. GET_LINE that answers a number: its structure, as
-/// far as the buffer goes. The first call of a removal that was done: two. A read: as many as it answers. Every
-/// other call and every other reply: none.
+/// The reply of a call tells how many bytes it has written. GET_CHIPINFO, GET_LINEINFO, GET_LINEINFO_WATCH,
+/// GET_LINEINFO_UNWATCH and GET_VALUES that were done: as many as their structure has. GET_LINE that answers a
+/// number: its structure, as far as the buffer goes. The first call of a removal that was done: two. A read: as many
+/// as it answers. Every other call and every other reply: none.
 ///
 /// For a command this rests on the world's names being names, on its place and on the length of the bytes that
 /// it is called with, and for a read of changes on the names in the changes that wait. All this is so in each world

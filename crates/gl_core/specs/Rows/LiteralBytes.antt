@@ -161,5 +161,5 @@ given =
     ∷ says (Go 0)
     ∷ says Done
     ∷ record { reply = Number 288; bytes = configured_out }
-    ∷ says Done
+    ∷ shows (0x02 ∷ 0x00 ∷ 0x00 ∷ 0x00 ∷ [])
     ∷ []

@@ -50,6 +50,6 @@ given =
     ∷ flat_map round_given (table_from (λ fd. fd) 4 17)
     ++ gives 9216 (flat_map changes (table_from (λ fd. fd) 4 16))
     ∷ says (Refused Again)
-    ∷ says Done
+    ∷ shows (number_bytes 4 0)
     ∷ says (Refused Busy)
     ∷ []
