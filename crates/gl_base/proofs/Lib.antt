@@ -1,9 +1,12 @@
 pub mod AtPositions
 pub mod ChipWords
+pub mod Cutting
 pub mod Decimals
 pub mod FirstRows
 pub mod Labels
 pub mod Names
 pub mod Order
 pub mod Padding
+pub mod Runs
 pub mod Seen
+pub mod Sizes

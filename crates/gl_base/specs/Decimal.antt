@@ -2,6 +2,7 @@
 -- What a text of a session may be read as is this project's choice.
 use Rattle.std.specs.Prelude.{ℕ, ◌+◌, ◌-◌, ◌*◌, ◌^◌, Bool, ◌==◌, ◌&&◌, nat_lt, nat_le, if◌then◌else◌, List, [], ◌∷◌, length, slice_index, Option, Some, None}
 use Rattle.std.specs.Str.{all_ascii_digits}
+use Rattle.gl_base.specs.declared.limits.TheConstants.{DIGITS_MAX}
 pub use Rattle.std.specs.Fmt.{decimal}
 
 -- the number that digits write behind those of n; 48 is `0`
@@ -19,7 +20,7 @@ is_fitting text = all_ascii_digits text && nat_lt (text_value text) (2 ^ 64)
 
 -- a number: 1 to 20 decimal digits, which may begin with zeros, whose value fits in 64 bits
 abbrev pub is_number : List ℕ → Bool
-is_number text = nat_lt 0 (length text) && nat_le (length text) 20 && is_fitting text
+is_number text = nat_lt 0 (length text) && nat_le (length text) DIGITS_MAX && is_fitting text
 
 -- the number that a text is, if it is one
 abbrev pub number_of_text : List ℕ → Option ℕ

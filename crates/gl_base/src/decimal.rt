@@ -4,10 +4,8 @@ ghost use Rattle.std.specs.Char.{is_ascii_digit};
 ghost use Rattle.gl_base.specs.Decimal.{decimal, is_fitting, text_value, number_of_text, has_leading_zero, plain_number_of_text};
 
 use crate::errno::Errno;
+use crate::limits::DIGITS_MAX;
 use itoa::Buffer;
-
-/// How many digits a number has at most: those of 2^64 - 1.
-const DIGITS_MAX: usize = 20;
 
 /// The number that a text is: 1 to 20 decimal digits whose value fits in 64 bits. The digits may begin
 /// with zeros. This form is this project's choice.

@@ -37,6 +37,10 @@ impl Name {
     /// How many bytes a name has at most.
     pub const LONGEST: usize = 31;
 
+    /// How many bytes a name field has (`linux/gpio.h`, `GPIO_MAX_NAME_SIZE`): those of a name, and at
+    /// least one 0.
+    pub const FIELD: usize = 32;
+
     /// The name of no bytes.
     pub fn empty() -> Name
         ensures { result ≡ [] }

@@ -1,5 +1,7 @@
 //! How the lines of a request are configured.
 
+use crate::limits::LINES_PER_REQUEST;
+
 /// How one line is configured.
 #[derive(Clone, Copy, PartialEq, Eq, Debug)]
 pub struct Settings {
@@ -20,5 +22,5 @@ pub struct Resolved {
     /// How many lines there are.
     pub count: u32,
     /// Each line's settings.
-    pub lines: [Settings; 64],
+    pub lines: [Settings; LINES_PER_REQUEST as usize],
 }

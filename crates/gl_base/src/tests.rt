@@ -7,8 +7,20 @@ use std::test::Fail;
 #[test]
 fn errors_have_the_numbers_and_names_of_linux(rt: HostRuntime) {
     let errors = [
+        (Errno::Perm, 1, "EPERM"),
         (Errno::NoEnt, 2, "ENOENT"),
+        (Errno::Io, 5, "EIO"),
+        (Errno::NxIo, 6, "ENXIO"),
+        (Errno::BadF, 9, "EBADF"),
+        (Errno::Again, 11, "EAGAIN"),
+        (Errno::NoMemory, 12, "ENOMEM"),
+        (Errno::Fault, 14, "EFAULT"),
         (Errno::Busy, 16, "EBUSY"),
+        (Errno::Exist, 17, "EEXIST"),
+        (Errno::NoDev, 19, "ENODEV"),
+        (Errno::Inval, 22, "EINVAL"),
+        (Errno::MFile, 24, "EMFILE"),
+        (Errno::NoSpc, 28, "ENOSPC"),
         (Errno::OpNotSupp, 95, "EOPNOTSUPP"),
         (Errno::Full, 1000, "FULL"),
     ];
@@ -106,4 +118,102 @@ fn the_lines_of_a_request_are_its_first_offsets(rt: HostRuntime) {
     };
     lines.offsets[1] = 5;
     assert_eq!(rt; lines.offsets(), [0, 5].as_slice());
+}
+
+#[test]
+fn times_are_seconds_with_nine_digits(rt: HostRuntime) -> Result<(), Fail> {
+    let mut out = Vec::new(rt.alloc());
+    put_seconds(1_500_000_000, &mut out)?;
+    put_right_justified(3, b' ', 7, &mut out)?;
+    put_right_justified(3, b' ', 1234, &mut out)?;
+    put_repeated(2, b'-', &mut out)?;
+    put_seconds(7, &mut out)?;
+    assert_eq!(rt;
+        out.as_slice(),
+        b"1.500000000  71234--0.000000007".as_slice()
+    );
+    Ok(())
+}
+
+#[test]
+fn results_are_looked_at_by_what_they_tell(rt: HostRuntime) -> Result<(), Fail> {
+    let mut bytes = ByteList::new(rt.alloc());
+    bytes.push_all(b"ab")?;
+    bytes.push_all(b"c")?;
+    let told = Got::Bytes(ByteList::of(bytes.into_vec()));
+    assert_eq!(rt; told.bytes(), b"abc".as_slice());
+    assert_eq!(rt; told.refusal(), None);
+    assert_eq!(rt; told.ready(), 0);
+    assert_eq!(rt; Got::Refused(Errno::Busy).refusal(), Some(Errno::Busy));
+    assert_eq!(rt; Got::Ready(6).ready(), 6);
+    Ok(())
+}
+
+#[test]
+fn words_have_their_places(rt: HostRuntime) -> Result<(), Fail> {
+    let line = b"  open  A gpiochip0 ";
+    let first = next_word(1, line).ok_or("open")?;
+    assert_eq!(rt; (first.at, first.word), (3, b"open".as_slice()));
+    let second = next_word(9, b"A gpiochip0 ").ok_or("A")?;
+    assert_eq!(rt; (second.at, second.rest_at), (9, 11));
+    assert!(rt; next_word(20, b"  ").is_none());
+    assert_eq!(rt; nth_word(2, 1, line), Some(b"gpiochip0".as_slice()));
+    assert_eq!(rt; nth_word(3, 1, line), None);
+    assert_eq!(rt; split_first(b"a\n\nb", b'\n').1, Some(b"\nb".as_slice()));
+    Ok(())
+}
+
+#[test]
+fn bytes_are_read_and_written_as_text(rt: HostRuntime) -> Result<(), Fail> {
+    let pieces = [
+        ("00fF", Some(2)),
+        ("00*1024", Some(1024)),
+        ("00*1025", None),
+        ("00*0", None),
+        ("00*068", None),
+        ("0000*8", None),
+        ("0x", None),
+        ("abc", None),
+        ("-", None),
+        ("", None),
+    ];
+    for (word, size) in pieces {
+        assert_eq!(rt; piece_size(word.as_bytes()), size, "{word}");
+    }
+    let mut bytes = Vec::new(rt.alloc());
+    for word in ["0aF0", "7f*2", "00*7", "10", "00*9"] {
+        put_piece(word.as_bytes(), &mut bytes)?;
+    }
+    let mut text = Vec::new(rt.alloc());
+    put_bytes(&bytes, &mut text)?;
+    assert_eq!(rt;
+        text.as_slice(),
+        b"0af07f7f0000000000000010 00*9".as_slice()
+    );
+    text.clear();
+    put_bytes(&[], &mut text)?;
+    assert_eq!(rt; text.as_slice(), b"-".as_slice());
+    Ok(())
+}
+
+#[test]
+fn commands_have_words_and_numbers(rt: HostRuntime) {
+    let words = [
+        ("GET_CHIPINFO", Some(0x8044_B401)),
+        ("GET_LINEINFO", Some(0xC100_B405)),
+        ("WATCH", Some(0xC100_B406)),
+        ("GET_LINE", Some(0xC250_B407)),
+        ("UNWATCH", Some(0xC004_B40C)),
+        ("SET_CONFIG", Some(0xC110_B40D)),
+        ("GET_VALUES", Some(0xC010_B40E)),
+        ("SET_VALUES", Some(0xC010_B40F)),
+        ("0xC250b407", Some(0xC250_B407)),
+        ("0xffffffff", Some(0xFFFF_FFFF)),
+        ("0XC250B407", None),
+        ("0xC250B40", None),
+        ("get_line", None),
+    ];
+    for (word, number) in words {
+        assert_eq!(rt; command_number(word.as_bytes()), number, "{word}");
+    }
 }
