@@ -11,7 +11,7 @@ use Rattle.gl_attrs.specs.Setting.{covers}
 unfoldable pub found_from : (Attribute → Bool) → List ℕ → ℕ → ℕ → Option Attribute
 found_from test config k n = find test (map attribute_in (stretches 24 (32 + 24 * k) n config))
 
--- the attribute at place k, and those behind it
+-- the attribute at position k, and those behind it
 pub found_from-at : (test : Attribute → Bool) (config : List ℕ) (k n : ℕ) → k < n
     → found_from test config k (n - k) ≡ cond (test (attribute_in (stretch (32 + 24 * k) 24 config))) (Some (attribute_in (stretch (32 + 24 * k) 24 config))) (found_from test config (k + 1) (n - (k + 1)))
 unfolding found_from stretches

@@ -11,7 +11,7 @@ use Rattle.gl_uapi.specs.Fields.{is_zero_at}
 use Rattle.gl_uapi.specs.declared.layout.TheConstants.{ATTRIBUTES_MAX, ATTRIBUTE_DEBOUNCE, CONFIG_PADDING, CONFIG_PADDING_SIZE}
 use Rattle.gl_attrs.specs.Setting.{attribute_for, flags_for, num_attrs}
 
--- why the line at place i of the request can't have its settings: its flags don't go together, or it is to
+-- why the line at position i of the request can't have its settings: its flags don't go together, or it is to
 -- be debounced and isn't to be an input
 abbrev pub line_fault : List ℕ → ℕ → Option Errno
 line_fault config i = first_of (

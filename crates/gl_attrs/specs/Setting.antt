@@ -4,6 +4,8 @@ use Rattle.std.specs.Prelude.{ℕ, Bool, false, ◌==◌, ◌&&◌, min, nat_lt,
 use Rattle.std.specs.Option.{option_map_or}
 use Rattle.gl_base.specs.Bits.{has_bit}
 use Rattle.gl_base.specs.Positions.{table_from}
+use Rattle.gl_base.specs.Settings.{no_settings}
+use Rattle.gl_base.specs.declared.limits.TheConstants.{LINES_PER_REQUEST}
 use Rattle.gl_base.specs.declared.settings.Resolved.{Resolved}
 use Rattle.gl_base.specs.declared.settings.Settings.{Settings}
 use Rattle.gl_uapi.specs.Fields.{number_at}
@@ -18,7 +20,7 @@ num_attrs config = number_at 4 CONFIG_NUM_ATTRS config
 abbrev pub attributes : List ℕ → List Attribute
 attributes config = first_attributes (min (num_attrs config) ATTRIBUTES_MAX) config
 
--- the attribute is of this kind, and its mask has the line at place i of the request
+-- the attribute is of this kind, and its mask has the line at position i of the request
 abbrev pub covers : ℕ → ℕ → Attribute → Bool
 covers id i attribute = (attribute.id == id) && has_bit attribute.mask i
 
@@ -38,18 +40,14 @@ value_for config i = option_map_or (λ a. has_bit a.value i) (attribute_for ATTR
 abbrev pub period_for : List ℕ → ℕ → ℕ
 period_for config i = option_map_or (λ a. a.period) (attribute_for ATTRIBUTE_DEBOUNCE config i) 0
 
--- the settings of the line at place i of the request
+-- the settings of the line at position i of the request
 abbrev pub settings_for : List ℕ → ℕ → Settings
 settings_for config i = record { flags = flags_for config i; value = value_for config i; debounce_us = period_for config i }
 
--- what stands in place of a line's settings past the lines of the request
-abbrev pub unset : Settings
-unset = record { flags = 0; value = false; debounce_us = 0 }
-
--- what stands at place i where n lines have settings
-abbrev pub settings_or_unset : List ℕ → ℕ → ℕ → Settings
-settings_or_unset config n i = if nat_lt i n then settings_for config i else unset
+-- what stands at position i where n lines have settings
+abbrev pub settings_or_none : List ℕ → ℕ → ℕ → Settings
+settings_or_none config n i = if nat_lt i n then settings_for config i else no_settings
 
 -- the settings of n lines, in order
 abbrev pub resolved_for : List ℕ → ℕ → Resolved
-resolved_for config n = record { count = n; lines = table_from (settings_or_unset config n) 0 64 }
+resolved_for config n = record { count = n; lines = table_from (settings_or_none config n) 0 LINES_PER_REQUEST }

@@ -6,6 +6,7 @@
 //! choice. No call takes memory.
 #![tactic(auto)]
 
+pub mod laws;
 mod resolving;
 
 pub use resolving::resolve;

@@ -1,13 +1,15 @@
 //! A configuration's settings, line by line.
 
 ghost use Rattle.std.specs.Prelude.{◌≡◌, ◌<◌, ◌≤◌, None, Some, IfOk, IfErr};
+ghost use Rattle.gl_base.specs.Lines.{IsLineCount};
 ghost use Rattle.gl_base.specs.Positions.{table_from};
+ghost use Rattle.gl_base.specs.Settings.{no_settings};
 ghost use Rattle.std.specs.Option.{option_map};
 ghost use Rattle.gl_uapi.specs.LineConfig.{attribute_in};
-ghost use Rattle.gl_attrs.specs.Setting.{attribute_for, flags_for, value_for, period_for, settings_for, resolved_for, unset};
+ghost use Rattle.gl_attrs.specs.Setting.{attribute_for, flags_for, value_for, period_for, settings_for, resolved_for};
 ghost use Rattle.gl_attrs.specs.ConfigFault.{config_fault, line_fault};
 
-use gl_base::{Errno, Resolved, Settings, flag, has_bit};
+use gl_base::{Errno, LINES_PER_REQUEST, Resolved, Settings, flag, has_bit};
 use gl_flags::check;
 use gl_uapi::layout::{
     ATTRIBUTE_DEBOUNCE, ATTRIBUTE_FLAGS, ATTRIBUTE_OUTPUT_VALUES, ATTRIBUTES_MAX,
@@ -15,7 +17,7 @@ use gl_uapi::layout::{
 use gl_uapi::{AttrRef, ConfigRef};
 
 /// What the settings of a line past those of the request are.
-const UNSET: Settings = Settings {
+const NO_SETTINGS: Settings = Settings {
     flags: 0,
     value: false,
     debounce_us: 0,
@@ -30,8 +32,7 @@ const UNSET: Settings = Settings {
 /// - For each line in order, what [`check`] says of its flags; then `Inval` where a debounce attribute
 ///   has the line and its flags lack `INPUT`.
 pub fn resolve(config: ConfigRef<'_>, lines: u32) -> Result<Resolved, Errno>
-    requires some { 0 < lines }
-    requires room { lines ≤ 64 }
+    requires { IsLineCount lines }
     ensures set { IfOk result (λ resolved. resolved ≡ resolved_for config.entry lines) }
     ensures passed { IfOk result (λ _. config_fault config.entry lines ≡ None) }
     ensures refused { IfErr result (λ errno. config_fault config.entry lines ≡ Some errno) }
@@ -39,7 +40,7 @@ pub fn resolve(config: ConfigRef<'_>, lines: u32) -> Result<Resolved, Errno>
     if config.num_attrs() > ATTRIBUTES_MAX || !config.padding_is_zero() {
         return Err(Errno::Inval);
     }
-    let mut settings = unset_lines();
+    let mut settings = lines_without_settings();
     for i in 0..lines {
         match line_settings(&config, i) {
             Ok(line) => settings[i as usize] = line,
@@ -54,15 +55,15 @@ pub fn resolve(config: ConfigRef<'_>, lines: u32) -> Result<Resolved, Errno>
 
 /// Settings of no line.
 #[tactic(auto, unfolding(gl_base::specs::Positions::table_from))]
-fn unset_lines() -> [Settings; 64]
-    ensures { result ≡ table_from (λ _. unset) 0 64 }
+fn lines_without_settings() -> [Settings; LINES_PER_REQUEST as usize]
+    ensures { result ≡ table_from (λ _. no_settings) 0 LINES_PER_REQUEST }
 {
-    [UNSET; 64]
+    [NO_SETTINGS; LINES_PER_REQUEST as usize]
 }
 
-/// The settings of the line at place `i` of the request, or why it can't have them.
+/// The settings of the line at position `i` of the request, or why it can't have them.
 fn line_settings(config: &ConfigRef<'_>, i: u32) -> Result<Settings, Errno>
-    requires { i < 64 }
+    requires { i < LINES_PER_REQUEST }
     ensures set { IfOk result (λ settings. settings ≡ settings_for config.now i) }
     ensures passed { IfOk result (λ _. line_fault config.now i ≡ None) }
     ensures refused { IfErr result (λ errno. line_fault config.now i ≡ Some errno) }
@@ -94,9 +95,9 @@ fn line_settings(config: &ConfigRef<'_>, i: u32) -> Result<Settings, Errno>
     }
 }
 
-/// The first attribute of this kind whose mask has the line at place `i` of the request.
+/// The first attribute of this kind whose mask has the line at position `i` of the request.
 fn attribute_of<'a>(config: &ConfigRef<'a>, id: u32, i: u32) -> Option<AttrRef<'a>>
-    requires { i < 64 }
+    requires { i < LINES_PER_REQUEST }
     ensures { option_map attribute_in result ≡ attribute_for id config.now i }
 {
     let count = config.num_attrs().min(ATTRIBUTES_MAX);

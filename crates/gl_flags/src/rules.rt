@@ -1,8 +1,9 @@
 //! Whether flags go together.
 
-ghost use Rattle.std.specs.Prelude.{◌≡◌, None, Some, IfOk, IfErr};
+ghost use Rattle.std.specs.Prelude.{◌≡◌};
+ghost use Rattle.gl_base.specs.Refusals.{answer};
 ghost use Rattle.gl_flags.specs.FlagFault.{flag_fault, has_bias, has_drive, has_edge, has_two_biases, has_unknown};
-ghost use Rattle.gl_flags.specs.LineFlags.{bits_of};
+ghost use Rattle.gl_flags.specs.LineFlags.{bits_of, flags_of};
 
 use crate::LineFlags;
 use bitflags::Flags;
@@ -15,8 +16,7 @@ use gl_base::{Errno, flag};
 /// - `Inval`: `INPUT` with `OUTPUT`; an edge without `INPUT`; `OPEN_DRAIN` with `OPEN_SOURCE`; a drive
 ///   without `OUTPUT`; a bias without a direction; two biases.
 pub fn check(bits: u64) -> Result<LineFlags, Errno>
-    ensures passed { IfOk result (λ flags. (flag_fault bits ≡ None) × (bits_of flags ≡ bits)) }
-    ensures refused { IfErr result (λ errno. flag_fault bits ≡ Some errno) }
+    ensures { result ≡ answer (flag_fault bits) (flags_of bits) }
 {
     let flags = LineFlags::from_bits_retain(bits);
     match fault(flags) {

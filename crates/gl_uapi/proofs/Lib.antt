@@ -2,7 +2,9 @@ pub mod ChangedLaws
 pub mod ChipLaws
 pub mod EventLaws
 pub mod InfoLaws
+pub mod Moving
 pub mod NameFields
+pub mod NewRequests
 pub mod Periods
 pub mod Reading
 pub mod RequestLaws

@@ -1,5 +1,5 @@
 -- What is left where fields are written one after the other.
-use Rattle.std.proofs.Common.{ℕ, ◌≡◌, ◌+◌, ◌≤◌, List, ◌++◌, [], length, take, drop, refl, sym, ap, ◌∙◌, append_assoc, arith, length-append, length-drop}
+use Rattle.std.proofs.Common.{ℕ, ◌≡◌, ◌+◌, ◌≤◌, List, ◌++◌, [], length, take, drop, refl, sym, ap, ◌∙◌, append_assoc, add-zero, zero-add, arith, length-append, length-drop}
 use Rattle.std.proofs.lemmas.List.{drop-append-le, take-append-drop, drop-drop, drop_at, length-take-le, take_at}
 use Rattle.gl_uapi.specs.Fields.{number_bytes, overwritten, zeros}
 use Rattle.gl_uapi.proofs.Reading.{length-number_bytes, length-zeros}
@@ -53,3 +53,33 @@ zeros_written written n new after = piece_written written (zeros n) new n (lengt
 -- what was written is the front
 pub front_written : {front start bytes : List ℕ} {a : ℕ} → Written front start a bytes → take a bytes ≡ front
 front_written {front} {start} {bytes} {a} written = ap (take a) written.holds ∙ take_at front (drop a start) a written.long
+
+-- pieces are written one after the other from a place on: nothing so far
+pub started : (a : ℕ) (start : List ℕ) → a ≤ length start → Written (take a start) start a start
+started a start fits = record { long = length-take-le a start fits; holds = sym (take-append-drop a start) }
+
+-- a whole piece has been written over those from a place on
+pub overwritten_by : {start bytes : List ℕ} (a b : ℕ) (piece : List ℕ) → Written (take a start ++ piece) start b bytes → b ≡ a + length piece
+    → bytes ≡ overwritten a piece start
+overwritten_by {start} a b piece written e =
+    written.holds ∙ append_assoc (take a start) piece (drop b start) ∙ ap (λ n. take a start ++ (piece ++ drop n start)) e
+
+-- a piece behind another
+pub overwritten_more : (a b : ℕ) (p q xs ys zs : List ℕ) → a ≤ length xs → ys ≡ overwritten a p xs → b ≡ a + length p → zs ≡ overwritten b q ys
+    → zs ≡ overwritten a (p ++ q) xs
+overwritten_more a b p q xs ys zs fits first there second =
+    let one = piece_written (started a xs fits) p ys (length p) refl first in
+    let two = piece_written one q zs (length q) refl (second ∙ ap (λ n. overwritten n q ys) there) in
+    let whole : Written (take a xs ++ (p ++ q)) xs (a + length p + length q) zs = record {
+      long = ap length (sym (append_assoc (take a xs) p q)) ∙ two.long;
+      holds = two.holds ∙ ap (λ fs. fs ++ drop (a + length p + length q) xs) (append_assoc (take a xs) p q);
+    } in
+    overwritten_by a (a + length p + length q) (p ++ q) whole (omega (arith, length-append p q))
+
+-- no piece
+pub overwritten_none : (a : ℕ) (xs : List ℕ) → xs ≡ overwritten a [] xs
+overwritten_none a xs = sym (ap (λ n. take a xs ++ drop n xs) (add-zero a) ∙ take-append-drop a xs)
+
+-- a piece over the front
+pub overwritten_front : (n : ℕ) (p xs ys : List ℕ) → length p ≡ n → ys ≡ overwritten 0 p xs → ys ≡ p ++ drop n xs
+overwritten_front n p xs ys long e = e ∙ ap (λ k. p ++ drop k xs) (zero-add (length p) ∙ long)

@@ -2,7 +2,7 @@
 use Rattle.std.specs.Prelude.{ℕ, ◌==◌, List, [], ◌∷◌, Option, find}
 use Rattle.gl_uapi.specs.declared.commands.Command.{Command}
 use Rattle.gl_uapi.specs.declared.commands.Command.TheVariants.{ChipInfo, LineInfo, Watch, Unwatch, GetLine, SetConfig, GetValues, SetValues}
-use Rattle.gl_uapi.specs.declared.commands.TheConstants.{GET_CHIPINFO, GET_LINEINFO, GET_LINEINFO_WATCH, GET_LINE, GET_LINEINFO_UNWATCH, LINE_SET_CONFIG, LINE_GET_VALUES, LINE_SET_VALUES}
+use Rattle.gl_base.specs.declared.command.TheConstants.{GET_CHIPINFO, GET_LINEINFO, GET_LINEINFO_WATCH, GET_LINE, GET_LINEINFO_UNWATCH, LINE_SET_CONFIG, LINE_GET_VALUES, LINE_SET_VALUES}
 use Rattle.gl_uapi.specs.declared.layout.TheConstants.{CHIP_INFO_SIZE, LINE_INFO_SIZE, UNWATCH_SIZE, LINE_REQUEST_SIZE, LINE_CONFIG_SIZE, LINE_VALUES_SIZE}
 
 -- the number of a command

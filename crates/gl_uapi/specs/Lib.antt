@@ -7,3 +7,4 @@ pub mod LineEvent
 pub mod LineInfo
 pub mod LineRequest
 pub mod LineValues
+pub mod NewRequest

@@ -1,7 +1,8 @@
 -- A request for lines, `struct gpio_v2_line_request` of `linux/gpio.h`.
 use Rattle.std.specs.Prelude.{ℕ, ℤ, ◌≡◌, ◌+◌, ◌*◌, ◌<◌, List, length, map, slice_index}
 use Rattle.std.specs.Int.{cast_signed, w32}
-use Rattle.gl_uapi.specs.declared.layout.TheConstants.{LINES_PER_REQUEST, LINE_CONFIG_SIZE, LINE_REQUEST_SIZE, NAME_SIZE, REQUEST_CONFIG, REQUEST_CONSUMER, REQUEST_EVENT_BUFFER_SIZE, REQUEST_FD, REQUEST_NUM_LINES, REQUEST_OFFSETS, REQUEST_OFFSET_SIZE, REQUEST_PADDING, REQUEST_PADDING_SIZE}
+use Rattle.gl_base.specs.declared.limits.TheConstants.{LINES_PER_REQUEST}
+use Rattle.gl_uapi.specs.declared.layout.TheConstants.{LINE_CONFIG_SIZE, LINE_REQUEST_SIZE, NAME_SIZE, REQUEST_CONFIG, REQUEST_CONSUMER, REQUEST_EVENT_BUFFER_SIZE, REQUEST_FD, REQUEST_NUM_LINES, REQUEST_OFFSETS, REQUEST_OFFSET_SIZE, REQUEST_PADDING, REQUEST_PADDING_SIZE}
 use Rattle.gl_uapi.specs.Fields.{number_at, stretch, stretches}
 use Rattle.gl_uapi.specs.LineConfig.{Config, SpellsConfig, config_in}
 

@@ -7,23 +7,10 @@ use crate::layout::{
     CHIP_INFO_SIZE, LINE_CONFIG_SIZE, LINE_INFO_SIZE, LINE_REQUEST_SIZE, LINE_VALUES_SIZE,
     UNWATCH_SIZE,
 };
-
-/// The number of `GPIO_GET_CHIPINFO_IOCTL`.
-pub const GET_CHIPINFO: u32 = 0x8044_B401;
-/// The number of `GPIO_V2_GET_LINEINFO_IOCTL`.
-pub const GET_LINEINFO: u32 = 0xC100_B405;
-/// The number of `GPIO_V2_GET_LINEINFO_WATCH_IOCTL`.
-pub const GET_LINEINFO_WATCH: u32 = 0xC100_B406;
-/// The number of `GPIO_V2_GET_LINE_IOCTL`.
-pub const GET_LINE: u32 = 0xC250_B407;
-/// The number of `GPIO_GET_LINEINFO_UNWATCH_IOCTL`.
-pub const GET_LINEINFO_UNWATCH: u32 = 0xC004_B40C;
-/// The number of `GPIO_V2_LINE_SET_CONFIG_IOCTL`.
-pub const LINE_SET_CONFIG: u32 = 0xC110_B40D;
-/// The number of `GPIO_V2_LINE_GET_VALUES_IOCTL`.
-pub const LINE_GET_VALUES: u32 = 0xC010_B40E;
-/// The number of `GPIO_V2_LINE_SET_VALUES_IOCTL`.
-pub const LINE_SET_VALUES: u32 = 0xC010_B40F;
+use gl_base::command::{
+    GET_CHIPINFO, GET_LINE, GET_LINEINFO, GET_LINEINFO_UNWATCH, GET_LINEINFO_WATCH,
+    LINE_GET_VALUES, LINE_SET_CONFIG, LINE_SET_VALUES,
+};
 
 /// A command: the first five are those of a chip's file, the others those of a request's file.
 #[derive(Clone, Copy, PartialEq, Eq, Debug)]

@@ -1,10 +1,10 @@
 //! Lengths and offsets of the structures, in bytes, and the numbers that their fields hold, as
 //! `linux/gpio.h` has them. Each stands here alone.
 
+use gl_base::Name;
+
 /// The length of a name field, `GPIO_MAX_NAME_SIZE`: at most 31 bytes of a name, then zeros.
-pub const NAME_SIZE: usize = 32;
-/// The most lines that a request has, `GPIO_V2_LINES_MAX`.
-pub const LINES_PER_REQUEST: u32 = 64;
+pub const NAME_SIZE: usize = Name::FIELD;
 /// The attributes that a configuration and a line's information have room for,
 /// `GPIO_V2_LINE_NUM_ATTRS_MAX`.
 pub const ATTRIBUTES_MAX: u32 = 10;
@@ -128,6 +128,8 @@ pub const EVENT_PADDING_SIZE: usize = 24;
 
 /// The length of the structure that stops the watching of a line: its offset alone.
 pub const UNWATCH_SIZE: usize = 4;
+/// The line's offset.
+pub const UNWATCH_OFFSET: usize = 0;
 
 /// An attribute of flags, `GPIO_V2_LINE_ATTR_ID_FLAGS`.
 pub const ATTRIBUTE_FLAGS: u32 = 1;

@@ -17,6 +17,9 @@ mod line_events;
 mod line_infos;
 mod line_requests;
 mod line_values;
+mod new_requests;
+pub mod numbers;
+mod unwatch;
 
 pub use chip_infos::{ChipRef, write_chip_info};
 pub use commands::Command;
@@ -24,8 +27,12 @@ pub use info_changes::{Changed, ChangedRef, write_info_changed};
 pub use line_configs::{AttrRef, ConfigRef};
 pub use line_events::{Event, EventsRef, write_event};
 pub use line_infos::{Info, InfoRef, write_line_info};
-pub use line_requests::{RequestRef, write_fd};
+pub use line_requests::{RequestRef, write_fd, write_request_answer};
 pub use line_values::{ValuesRef, write_values};
+pub use new_requests::{
+    AttributeValue, NewAttribute, write_attribute, write_config, write_request,
+};
+pub use unwatch::UnwatchRef;
 
 #[cfg(test)]
 mod tests;

@@ -69,7 +69,7 @@ impl<'a> ConfigRef<'a> {
         are_zero(self.bytes, CONFIG_PADDING, CONFIG_PADDING_SIZE)
     }
 
-    /// The attribute in place `i`, 0 to 9, whether `num_attrs` counts it or not.
+    /// The attribute at position `i`, 0 to 9, whether `num_attrs` counts it or not.
     pub fn attr(&self, i: u32) -> AttrRef<'a>
         requires { i < ATTRIBUTES_MAX }
         ensures { result ≡ stretch (CONFIG_ATTRIBUTES + CONFIG_ATTRIBUTE_SIZE * i) CONFIG_ATTRIBUTE_SIZE self.now }
@@ -120,7 +120,7 @@ impl<'a> AttrRef<'a> {
         u32_at(self.bytes, ATTRIBUTE_VALUE)
     }
 
-    /// The lines that have the attribute: bit `i` is the line at place `i` of the request.
+    /// The lines that have the attribute: bit `i` is the line at position `i` of the request.
     pub fn mask(&self) -> u64
         ensures { result ≡ number_at 8 CONFIG_ATTRIBUTE_MASK self.now }
     {

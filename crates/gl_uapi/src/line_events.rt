@@ -59,7 +59,7 @@ impl<'a> EventsRef<'a> {
         (self.bytes.len() / LINE_EVENT_SIZE) as u32
     }
 
-    /// The event in place `i`, counted from 0.
+    /// The event at position `i`, counted from 0.
     pub fn get(&self, i: u32) -> Event
         requires { i < length self.now / LINE_EVENT_SIZE }
         ensures { result ≡ event_in (stretch (LINE_EVENT_SIZE * i) LINE_EVENT_SIZE self.now) }

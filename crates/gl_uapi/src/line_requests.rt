@@ -4,13 +4,14 @@ ghost use Rattle.std.specs.Prelude.{◌≡◌, ◌+◌, ◌*◌, ◌<◌, ◌≤
 ghost use Rattle.std.specs.Int.{cast_signed, cast_unsigned, w32};
 ghost use Rattle.gl_uapi.specs.Fields.{is_zero_at, number_at, number_bytes, overwritten, stretch};
 
-use crate::fields::{are_zero, bytes_at, i32_at, name_at, put_i32, u32_at};
+use crate::fields::{are_zero, bytes_at, i32_at, name_at, put_i32, put_u32, u32_at};
 use crate::layout::{
-    LINE_CONFIG_SIZE, LINE_REQUEST_SIZE, LINES_PER_REQUEST, NAME_SIZE, REQUEST_CONFIG,
-    REQUEST_CONSUMER, REQUEST_EVENT_BUFFER_SIZE, REQUEST_FD, REQUEST_NUM_LINES,
-    REQUEST_OFFSET_SIZE, REQUEST_OFFSETS, REQUEST_PADDING, REQUEST_PADDING_SIZE,
+    LINE_CONFIG_SIZE, LINE_REQUEST_SIZE, NAME_SIZE, REQUEST_CONFIG, REQUEST_CONSUMER,
+    REQUEST_EVENT_BUFFER_SIZE, REQUEST_FD, REQUEST_NUM_LINES, REQUEST_OFFSET_SIZE, REQUEST_OFFSETS,
+    REQUEST_PADDING, REQUEST_PADDING_SIZE,
 };
 use crate::line_configs::ConfigRef;
+use gl_base::LINES_PER_REQUEST;
 use std::marker::Model;
 
 /// A request for lines (`struct gpio_v2_line_request`), 592 bytes: contracts see the bytes.
@@ -43,7 +44,7 @@ impl<'a> RequestRef<'a> {
         Some(RequestRef { bytes })
     }
 
-    /// The offset on the chip of the line at place `i`, 0 to 63, of the request.
+    /// The offset on the chip of the line at position `i`, 0 to 63, of the request.
     pub fn offset(&self, i: u32) -> u32
         requires { i < LINES_PER_REQUEST }
         ensures { result ≡ number_at 4 (REQUEST_OFFSETS + REQUEST_OFFSET_SIZE * i) self.now }
@@ -103,4 +104,15 @@ pub fn write_fd(out: &mut [u8], fd: i32)
     ensures { out.new ≡ overwritten REQUEST_FD (number_bytes 4 (cast_unsigned w32 fd)) out.old }
 {
     put_i32(out, REQUEST_FD, fd);
+}
+
+/// Writes a request's answer, which is the request with the number of its file in bytes 588 to 591, as far
+/// as the buffer goes.
+pub fn write_request_answer(out: &mut [u8], request: &[u8; LINE_REQUEST_SIZE], fd: u32)
+    requires { length out.old ≤ LINE_REQUEST_SIZE }
+    ensures { out.new ≡ take (length out.old) (overwritten REQUEST_FD (number_bytes 4 fd) request.now) }
+{
+    let mut answer = *request;
+    put_u32(&mut answer, REQUEST_FD, fd);
+    out.copy_from_slice(&answer[..out.len()]);
 }

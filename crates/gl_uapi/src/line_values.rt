@@ -39,7 +39,7 @@ impl<'a> ValuesRef<'a> {
         })
     }
 
-    /// The values, a bit a line: bit `i` is the line at place `i` of the request.
+    /// The values, a bit a line: bit `i` is the line at position `i` of the request.
     pub fn bits(&self) -> u64
         ensures { result ≡ number_at 8 VALUES_BITS self.now }
     {

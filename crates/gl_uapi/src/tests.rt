@@ -1,161 +1,14 @@
-//! What no clause says: that the numbers of the layout are those of `linux/gpio.h`, and that a value goes
-//! through the writers and the views and stays the same.
+//! What no clause says: that the commands are those of `linux/gpio.h`, and that a value goes through the
+//! writers and the views and stays the same.
 
-use crate::layout::{
-    ATTRIBUTE_DEBOUNCE, ATTRIBUTE_FLAGS, ATTRIBUTE_ID, ATTRIBUTE_OUTPUT_VALUES, ATTRIBUTE_PADDING,
-    ATTRIBUTE_VALUE, ATTRIBUTES_MAX, CHANGED_CONFIG, CHANGED_INFO, CHANGED_KIND, CHANGED_PADDING,
-    CHANGED_RELEASED, CHANGED_REQUESTED, CHANGED_TIMESTAMP, CHIP_INFO_SIZE, CHIP_LABEL, CHIP_LINES,
-    CHIP_NAME, CONFIG_ATTRIBUTE_MASK, CONFIG_ATTRIBUTE_SIZE, CONFIG_ATTRIBUTES, CONFIG_FLAGS,
-    CONFIG_NUM_ATTRS, CONFIG_PADDING, EVENT_FALLING, EVENT_ID, EVENT_LINE_SEQNO, EVENT_OFFSET,
-    EVENT_PADDING, EVENT_RISING, EVENT_SEQNO, EVENT_TIMESTAMP, INFO_ATTRIBUTES, INFO_CHANGED_SIZE,
-    INFO_CONSUMER, INFO_FLAGS, INFO_NAME, INFO_NUM_ATTRS, INFO_OFFSET, INFO_PADDING,
-    LINE_ATTRIBUTE_SIZE, LINE_CONFIG_SIZE, LINE_EVENT_SIZE, LINE_INFO_SIZE, LINE_REQUEST_SIZE,
-    LINE_VALUES_SIZE, LINES_PER_REQUEST, NAME_SIZE, REQUEST_CONFIG, REQUEST_CONSUMER,
-    REQUEST_EVENT_BUFFER_SIZE, REQUEST_FD, REQUEST_NUM_LINES, REQUEST_OFFSETS, REQUEST_PADDING,
-    VALUES_BITS, VALUES_MASK,
-};
 use crate::{
-    Changed, ChangedRef, ChipRef, Command, ConfigRef, Event, EventsRef, Info, InfoRef, RequestRef,
-    ValuesRef, write_chip_info, write_event, write_fd, write_info_changed, write_line_info,
-    write_values,
+    AttributeValue, Changed, ChangedRef, ChipRef, Command, ConfigRef, Event, EventsRef, Info,
+    InfoRef, NewAttribute, RequestRef, UnwatchRef, ValuesRef, write_attribute, write_chip_info,
+    write_config, write_event, write_fd, write_info_changed, write_line_info, write_request,
+    write_request_answer, write_values,
 };
 use gl_base::Name;
 use std::test::Fail;
-
-/// Lengths and offsets as a C compiler gets them from `linux/gpio.h` by `sizeof` and `offsetof`. Below
-/// each structure stand its fields.
-#[test]
-fn layout_is_that_of_the_header(rt: HostRuntime) {
-    let layout = [
-        // struct gpiochip_info
-        (CHIP_INFO_SIZE, 68),
-        // name
-        (CHIP_NAME, 0),
-        // label
-        (CHIP_LABEL, 32),
-        // lines
-        (CHIP_LINES, 64),
-        // struct gpio_v2_line_values
-        (LINE_VALUES_SIZE, 16),
-        // bits
-        (VALUES_BITS, 0),
-        // mask
-        (VALUES_MASK, 8),
-        // struct gpio_v2_line_attribute
-        (LINE_ATTRIBUTE_SIZE, 16),
-        // id
-        (ATTRIBUTE_ID, 0),
-        // padding
-        (ATTRIBUTE_PADDING, 4),
-        // flags, values, debounce_period_us
-        (ATTRIBUTE_VALUE, 8),
-        // struct gpio_v2_line_config_attribute
-        (CONFIG_ATTRIBUTE_SIZE, 24),
-        // mask
-        (CONFIG_ATTRIBUTE_MASK, 16),
-        // struct gpio_v2_line_config
-        (LINE_CONFIG_SIZE, 272),
-        // flags
-        (CONFIG_FLAGS, 0),
-        // num_attrs
-        (CONFIG_NUM_ATTRS, 8),
-        // padding
-        (CONFIG_PADDING, 12),
-        // attrs
-        (CONFIG_ATTRIBUTES, 32),
-        // struct gpio_v2_line_request
-        (LINE_REQUEST_SIZE, 592),
-        // offsets
-        (REQUEST_OFFSETS, 0),
-        // consumer
-        (REQUEST_CONSUMER, 256),
-        // config
-        (REQUEST_CONFIG, 288),
-        // num_lines
-        (REQUEST_NUM_LINES, 560),
-        // event_buffer_size
-        (REQUEST_EVENT_BUFFER_SIZE, 564),
-        // padding
-        (REQUEST_PADDING, 568),
-        // fd
-        (REQUEST_FD, 588),
-        // struct gpio_v2_line_info
-        (LINE_INFO_SIZE, 256),
-        // name
-        (INFO_NAME, 0),
-        // consumer
-        (INFO_CONSUMER, 32),
-        // offset
-        (INFO_OFFSET, 64),
-        // num_attrs
-        (INFO_NUM_ATTRS, 68),
-        // flags
-        (INFO_FLAGS, 72),
-        // attrs
-        (INFO_ATTRIBUTES, 80),
-        // padding
-        (INFO_PADDING, 240),
-        // struct gpio_v2_line_info_changed
-        (INFO_CHANGED_SIZE, 288),
-        // info
-        (CHANGED_INFO, 0),
-        // timestamp_ns
-        (CHANGED_TIMESTAMP, 256),
-        // event_type
-        (CHANGED_KIND, 264),
-        // padding
-        (CHANGED_PADDING, 268),
-        // struct gpio_v2_line_event
-        (LINE_EVENT_SIZE, 48),
-        // timestamp_ns
-        (EVENT_TIMESTAMP, 0),
-        // id
-        (EVENT_ID, 8),
-        // offset
-        (EVENT_OFFSET, 12),
-        // seqno
-        (EVENT_SEQNO, 16),
-        // line_seqno
-        (EVENT_LINE_SEQNO, 20),
-        // padding
-        (EVENT_PADDING, 24),
-        // GPIO_MAX_NAME_SIZE
-        (NAME_SIZE, 32),
-    ];
-    for (ours, header) in layout {
-        assert_eq!(rt; ours, header);
-    }
-}
-
-/// The numbers that fields hold, as a C compiler gets them from `linux/gpio.h`.
-#[test]
-fn numbers_are_those_of_the_header(rt: HostRuntime) {
-    let numbers = [
-        // GPIO_V2_LINES_MAX
-        (LINES_PER_REQUEST, 64),
-        // GPIO_V2_LINE_NUM_ATTRS_MAX
-        (ATTRIBUTES_MAX, 10),
-        // GPIO_V2_LINE_ATTR_ID_FLAGS
-        (ATTRIBUTE_FLAGS, 1),
-        // GPIO_V2_LINE_ATTR_ID_OUTPUT_VALUES
-        (ATTRIBUTE_OUTPUT_VALUES, 2),
-        // GPIO_V2_LINE_ATTR_ID_DEBOUNCE
-        (ATTRIBUTE_DEBOUNCE, 3),
-        // GPIO_V2_LINE_EVENT_RISING_EDGE
-        (EVENT_RISING, 1),
-        // GPIO_V2_LINE_EVENT_FALLING_EDGE
-        (EVENT_FALLING, 2),
-        // GPIO_V2_LINE_CHANGED_REQUESTED
-        (CHANGED_REQUESTED, 1),
-        // GPIO_V2_LINE_CHANGED_RELEASED
-        (CHANGED_RELEASED, 2),
-        // GPIO_V2_LINE_CHANGED_CONFIG
-        (CHANGED_CONFIG, 3),
-    ];
-    for (ours, header) in numbers {
-        assert_eq!(rt; ours, header);
-    }
-}
 
 /// The commands' numbers as a C compiler gets them from `linux/gpio.h`, and their structures' lengths.
 #[test]
@@ -297,5 +150,62 @@ fn requests_are_read(rt: HostRuntime) -> Result<(), Fail> {
     let attribute = config.attr(0);
     assert_eq!(rt; (attribute.id(), attribute.value()), (3, 1000));
     assert_eq!(rt; (attribute.period(), attribute.mask()), (1000, 2));
+    Ok(())
+}
+
+/// A request that a client wrote, with an attribute for both of its lines.
+#[test]
+fn requests_are_read_as_written(rt: HostRuntime) -> Result<(), Fail> {
+    let consumer = Name::of(b"gpioset").ok_or("consumer")?;
+    let values = NewAttribute {
+        value: AttributeValue::OutputValues(2),
+        mask: 3,
+    };
+    let mut bytes = [0xFFu8; 592];
+    write_request(&mut bytes, &[5, 7], &consumer, 8, &[values], 0);
+    let request = RequestRef::of(&bytes).ok_or("request")?;
+    assert_eq!(rt;
+        (request.offset(0), request.offset(1), request.offset(2)),
+        (5, 7, 0)
+    );
+    assert!(rt; Name::read(request.consumer()) == consumer);
+    assert_eq!(rt; (request.num_lines(), request.event_buffer_size()), (2, 0));
+    let config = request.config();
+    assert_eq!(rt; (config.flags(), config.num_attrs()), (8, 1));
+    let attribute = config.attr(0);
+    assert_eq!(rt; (attribute.id(), attribute.value()), (2, 2));
+    assert_eq!(rt; attribute.mask(), 3);
+    assert!(rt; config.padding_is_zero() && request.padding_is_zero());
+    let mut config = [0xFFu8; 272];
+    let period = NewAttribute {
+        value: AttributeValue::Debounce(1000),
+        mask: 1,
+    };
+    write_config(&mut config, 0x34, &[period]);
+    assert!(rt; config[32] == 3 && config[40] == 0xe8 && config[41] == 3 && config[48] == 1);
+    let mut attribute = [0xFFu8; 24];
+    write_attribute(&mut attribute, &period);
+    assert_eq!(rt; attribute[..], config[32..56]);
+    Ok(())
+}
+
+#[test]
+fn a_request_is_answered_as_far_as_the_buffer_goes(rt: HostRuntime) -> Result<(), Fail> {
+    let mut whole = [7; 592];
+    write_request_answer(&mut whole, &[0; 592], 5);
+    assert_eq!(rt; RequestRef::of(&whole).ok_or("592 bytes")?.fd(), 5);
+    let mut short = [7; 590];
+    write_request_answer(&mut short, &[0; 592], 0x0102_0304);
+    assert_eq!(rt; &short[587..], [0, 4, 3].as_slice());
+    Ok(())
+}
+
+#[test]
+fn a_line_to_be_watched_no_more_is_its_offset(rt: HostRuntime) -> Result<(), Fail> {
+    assert_eq!(rt;
+        UnwatchRef::of(&[9, 0, 0, 0, 1]).ok_or("5 bytes")?.offset(),
+        9
+    );
+    assert!(rt; UnwatchRef::of(&[9, 0, 0]).is_none());
     Ok(())
 }

@@ -12,7 +12,7 @@ use Rattle.gl_attrs.proofs.resolving.resolve.Goals as goal
 pub loop-i-init : goal.loop-i-init
 loop-i-init c =
     let all : c.args.lines - 0 ≡ c.args.lines = omega arith in
-    (ap (first_fault (line_fault c.args.config) 0) all, c.unset_lines-settings.ensures ∙ none_filled c.args.config)
+    (ap (first_fault (line_fault c.args.config) 0) all, c.lines_without_settings-settings.ensures ∙ none_filled c.args.config)
 
 pub returns-in-Err-clause-refused : goal.returns-in-Err-clause-refused
 returns-in-Err-clause-refused c =
