@@ -1,7 +1,8 @@
 //! Where a session's bytes come from and where its output goes: the traits [`Source`] and [`Sink`],
-//! their implementations in memory, and those over standard input and output.
+//! their implementations in memory, and those over std's readers and writers, as standard input and output.
 #![tactic(auto)]
 
+mod adapters;
 mod memory_sink;
 mod memory_source;
 mod standard;
@@ -9,6 +10,7 @@ mod standard;
 mod tests;
 mod traits;
 
+pub use adapters::{ReadSource, WriteSink};
 pub use memory_sink::MemSink;
 pub use memory_source::MemSource;
 pub use standard::{StdSink, StdSource};

@@ -1,11 +1,11 @@
 //! A sink in memory, whose room, pieces and failures are chosen when it is made.
-ghost use Rattle.std.specs.Prelude.{◌≡◌, ◌<◌, ◌≤◌, ◌⊎◌, ◌↔◌, IfOk, OnErr, IsErr, IsTrue, IsOkUnless, length, take, Some, []};
+ghost use Rattle.std.specs.Prelude.{◌≡◌, ◌<◌, ◌≤◌, ◌⊎◌, ◌↔◌, IfOk, OnOk, OnErr, IsErr, IsTrue, IsOkUnless, length, take, Some, []};
 ghost use Rattle.std.specs.Io.KnownBytes.{Keeps, Appends};
 ghost use Rattle.gl_base.specs.Count.{Rises};
 ghost use Rattle.gl_io.specs.Memory.{is_to_fail};
 
 use super::traits::{Sink, SinkFault};
-use gl_base::Errno;
+use gl_base::{Errno, count_up};
 use std::alloc::Global;
 use std::marker::Model;
 
@@ -86,6 +86,7 @@ impl Sink for MemSink {
         ensures some { IfOk result (λ count. 0 < length piece.now → 0 < count) }
         ensures appended { IfOk result (λ count. Appends (Some self.old.held) (Some self.new.held) (take count piece.now)) }
         ensures never_falls { self.old.faults ≤ self.new.faults }
+        ensures no_fault { OnOk result (self.new.faults ≡ self.old.faults) }
         ensures fault { OnErr result (Rises self.old.faults self.new.faults) }
         ensures kept { OnErr result (Keeps (Some self.old.held) (Some self.new.held)) }
 
@@ -99,9 +100,9 @@ impl Sink for MemSink {
     {
         let space = self.room as usize - self.bytes.len();
         let fails = is_refused(&self.fails, self.calls, space, piece.len());
-        self.calls = self.calls.saturating_add(1);
+        self.calls = count_up(self.calls);
         if fails {
-            self.faults = self.faults.saturating_add(1);
+            self.faults = count_up(self.faults);
             return Err(SinkFault);
         }
         let count = piece.len().min(self.piece as usize).min(space);

@@ -1,9 +1,10 @@
 //! A source in memory, whose pieces and failures are chosen when it is made.
-ghost use Rattle.std.specs.Prelude.{◌≡◌, ◌<◌, ◌≤◌, ◌++◌, ◌↔◌, min, IfOk, OnErr, IsErr, IsTrue, length, take, drop, Some};
+ghost use Rattle.std.specs.Prelude.{◌≡◌, ◌<◌, ◌≤◌, ◌++◌, ◌↔◌, min, IfOk, OnOk, OnErr, IsErr, IsTrue, length, take, drop, Some};
 ghost use Rattle.std.specs.Io.KnownBytes.{Keeps, Consumes, IsAtEnd};
 ghost use Rattle.gl_base.specs.Count.{Rises};
 
 use super::traits::{Source, SourceFault};
+use gl_base::count_up;
 use std::marker::Model;
 
 /// Bytes in memory, handed out in pieces of a chosen length.
@@ -70,6 +71,7 @@ impl Source for MemSource {
         ensures taken { IfOk result (λ count. Consumes (Some self.old.left) (Some self.new.left) (take count buf.new)) }
         ensures end { IfOk result (λ count. count ≡ 0 → 0 < length buf.old → IsAtEnd (Some self.new.left)) }
         ensures never_falls { self.old.faults ≤ self.new.faults }
+        ensures no_fault { OnOk result (self.new.faults ≡ self.old.faults) }
         ensures fault { OnErr result (Rises self.old.faults self.new.faults) }
         ensures kept { OnErr result (Keeps (Some self.old.left) (Some self.new.left)) }
 
@@ -83,9 +85,9 @@ impl Source for MemSource {
         ensures failed { OnErr result ((self.new ≡ after_failed_take self.old) × (buf.new ≡ buf.old)) }
     {
         let fails = self.fails.contains(&self.calls);
-        self.calls = self.calls.saturating_add(1);
+        self.calls = count_up(self.calls);
         if fails {
-            self.faults = self.faults.saturating_add(1);
+            self.faults = count_up(self.faults);
             return Err(SourceFault);
         }
         let (_, rest) = self.bytes.split_at(self.at);

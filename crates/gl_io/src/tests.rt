@@ -1,6 +1,6 @@
 //! What no clause says: that each call succeeds with ample memory, and the traits' methods at the
 //! concrete types, through their bounds.
-use super::{MemSink, MemSource, Sink, SinkFault, Source, SourceFault};
+use super::{MemSink, MemSource, ReadSource, Sink, SinkFault, Source, SourceFault, WriteSink};
 use std::alloc::Global;
 use std::test::Fail;
 
@@ -43,4 +43,16 @@ fn sink_holds_what_fits_and_fails_when_told(rt: HostRuntime) -> Result<(), Fail>
     assert_eq!(rt; faults, 2);
     assert_eq!(rt; sink.as_slice(), b"gpigp".as_slice());
     Ok(())
+}
+
+#[test]
+fn a_reader_is_a_source_and_a_writer_a_sink(rt: HostRuntime) {
+    let mut source = ReadSource::new(b"gpio".as_slice());
+    let (answers, faults) = four_takes(&mut source);
+    assert_eq!(rt; answers, [Ok(3), Ok(1), Ok(0), Ok(0)]);
+    assert_eq!(rt; faults, 0);
+    let mut sink = WriteSink::new(Vec::new(rt.alloc()));
+    let (answers, faults) = four_puts(&mut sink, b"gpio");
+    assert_eq!(rt; answers, [Ok(4), Ok(4), Ok(4), Ok(4)]);
+    assert_eq!(rt; faults, 0);
 }

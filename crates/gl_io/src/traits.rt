@@ -1,5 +1,5 @@
 //! What a session is handed to read from and to write to.
-ghost use Rattle.std.specs.Prelude.{◌≡◌, ℕ, ◌<◌, ◌≤◌, Option, List, None, IfOk, OnErr, length, take};
+ghost use Rattle.std.specs.Prelude.{◌≡◌, ℕ, ◌<◌, ◌≤◌, Option, List, None, IfOk, OnOk, OnErr, length, take};
 ghost use Rattle.std.specs.Io.KnownBytes.{Keeps, Appends, Consumes, IsAtEnd};
 ghost use Rattle.gl_base.specs.Count.{Rises};
 
@@ -36,6 +36,9 @@ pub trait Source {
         ensures end { IfOk result (λ count. count ≡ 0 → 0 < length buf.old → IsAtEnd (left self.new)) }
         ensures never_falls { fault_count self.old ≤ fault_count self.new }
 
+        // A call that moved bytes, or found the end, counts nothing.
+        ensures no_fault { OnOk result (fault_count self.new ≡ fault_count self.old) }
+
         // A fault comes only where the count rose in this call, and then nothing was taken.
         ensures fault { OnErr result (Rises (fault_count self.old) (fault_count self.new)) }
         ensures kept { OnErr result (Keeps (left self.old) (left self.new)) };
@@ -59,6 +62,9 @@ pub trait Sink {
         ensures some { IfOk result (λ count. 0 < length piece.now → 0 < count) }
         ensures appended { IfOk result (λ count. Appends (held self.old) (held self.new) (take count piece.now)) }
         ensures never_falls { fault_count self.old ≤ fault_count self.new }
+
+        // A call that took bytes counts nothing.
+        ensures no_fault { OnOk result (fault_count self.new ≡ fault_count self.old) }
 
         // A fault comes only where the count rose in this call, and then nothing was appended.
         ensures fault { OnErr result (Rises (fault_count self.old) (fault_count self.new)) }

@@ -28,7 +28,7 @@ pub struct Registry {
 }
 
 impl Model for Registry {
-    ghost use Rattle.std.specs.Prelude.{List, ◌≤◌, length, vec_capacity};
+    ghost use Rattle.std.specs.Prelude.{List, ◌≡◌, ◌≤◌, length, vec_capacity};
     ghost use Rattle.gl_base.specs.declared.limits.TheConstants.{PLACES};
     ghost use Rattle.gl_registry.specs.declared.registry.Chip.{Chip};
 
@@ -36,7 +36,7 @@ impl Model for Registry {
 
     ghost view = { λ r. r.chips.items };
 
-    ghost invariant = { λ r. (length r.chips.items ≤ PLACES) × (PLACES ≤ vec_capacity r.chips) };
+    ghost invariant = { λ r. (length r.chips.items ≤ PLACES) × (vec_capacity r.chips ≡ PLACES) };
 }
 
 impl Registry {
@@ -111,6 +111,21 @@ impl Registry {
         ensures { result ≡ (chip_at self.now place).lines }
     {
         chip_at(&self.chips, usize::from(place)).lines
+    }
+
+    /// The chip at a place; one without label, lines and phase where no chip was made.
+    pub fn chip(&self, place: u8) -> Chip
+        ensures { result ≡ chip_at self.now place }
+    {
+        chip_at(&self.chips, usize::from(place))
+    }
+
+    /// How many chips the registry has room for. It is always all places, since no call but `new` takes
+    /// memory.
+    pub fn capacity(&self) -> u32
+        ensures { result ≡ PLACES }
+    {
+        self.chips.capacity() as u32
     }
 
     /// How many places are left.
@@ -191,6 +206,7 @@ mod tests {
         assert_eq!(rt; registry.left(), 14);
         assert_eq!(rt; registry.label(1), label);
         assert_eq!(rt; registry.lines(1), 8);
+        assert_eq!(rt; registry.chip(1).lines, 8);
         registry.go_on(0);
         assert_eq!(rt; registry.phase(0), Phase::Leaving);
         let words = [
