@@ -74,6 +74,14 @@ impl Timers {
         }
     }
 
+    /// How many lines there are, with a timer or without: `LINES_MAX` for each place.
+    pub fn len(&self) -> usize
+        ensures len { result ≡ length self.now }
+        ensures whole { result ≡ PLACES * LINES_MAX }
+    {
+        self.lines.len()
+    }
+
     /// The level that the line settled at last, or None where it isn't debounced.
     pub fn settled(&self, place: u8, offset: u32) -> Option<bool>
         requires place { place < PLACES }
@@ -89,6 +97,7 @@ impl Timers {
     /// The first line whose deadline has come, by deadline, place and offset: its level has settled now.
     /// None where no deadline has come.
     pub fn fire(&mut self, now: u64) -> Option<Fired>
+        ensures lines { length self.old ≡ PLACES * LINES_MAX }
         ensures first { result ≡ slice_get (fires now self.old) 0 }
         ensures timers { self.new ≡ after_first result self.old }
     {

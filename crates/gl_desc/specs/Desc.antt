@@ -26,11 +26,11 @@ is_free (Claimed fd) = false
 is_free (Held fd) = false
 is_free Hog = false
 
--- an offset stands earlier in a request than at place i
+-- an offset stands earlier in a request than at position i
 abbrev pub stands_earlier : List ℕ → ℕ → Bool
 stands_earlier offsets i = list_any (λ offset. offset == slice_index offsets i) (take i offsets)
 
--- what is wrong with the line at place i of a request, first case first: it isn't there; somebody has it; it stands
+-- what is wrong with the line at position i of a request, first case first: it isn't there; somebody has it; it stands
 -- earlier in the request, which counts as held
 abbrev pub line_fault : List Desc → List ℕ → ℕ → Option LineFault
 line_fault descs offsets i = first_of

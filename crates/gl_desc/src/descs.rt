@@ -1,7 +1,8 @@
 //! Who has the lines of one chip, by offset.
 ghost use Rattle.std.specs.Prelude.{◌≡◌, ◌<◌, ◌≤◌, length, take, replicate, IfOk, OnOk, OnErr, IsOkUnless};
 ghost use Rattle.std.specs.Result.{result_err};
-ghost use Rattle.gl_base.specs.Lines.{offsets_of};
+ghost use Rattle.gl_base.specs.Lines.{IsLineCount, offsets_of};
+ghost use Rattle.gl_base.specs.declared.limits.TheConstants.{LINES_PER_REQUEST};
 ghost use Rattle.gl_base.specs.Positions.{change_at, change_each, first_fault};
 ghost use Rattle.gl_desc.specs.Desc.{first_desc, desc_at, stands_earlier, line_fault, claim_fault, claimed, settled, freed, named, hogged};
 
@@ -52,7 +53,7 @@ impl Descs {
     /// the request.
     #[tactic(auto, using(crate::proofs::Lengths::as_many_lines))]
     pub fn claim(&mut self, lines: &Lines, fd: u32, consumer: Name) -> Result<(), LineFault>
-        requires { lines.now.count ≤ 64 }
+        requires { IsLineCount lines.now.count }
         ensures fault { result_err result ≡ claim_fault self.old lines.now }
         ensures ok { OnOk result (self.new ≡ change_each first_desc (offsets_of lines.now) (claimed fd consumer) self.old) }
         ensures err { OnErr result (self.new ≡ self.old) }
@@ -67,9 +68,9 @@ impl Descs {
         }
     }
 
-    /// What is wrong with the line at place `i` of a request, if something is.
+    /// What is wrong with the line at position `i` of a request, if something is.
     pub fn line_fault(&self, lines: &Lines, i: u32) -> Option<LineFault>
-        requires { i < 64 }
+        requires { i < LINES_PER_REQUEST }
         ensures { result ≡ line_fault self.now lines.now.offsets i }
     {
         line_fault(&self.lines, lines, i)
@@ -78,7 +79,7 @@ impl Descs {
     /// The lines that a request claimed are held by it. A line that isn't claimed stays as it is.
     #[tactic(auto, using(crate::proofs::Lengths::as_many_lines))]
     pub fn settle(&mut self, lines: &Lines)
-        requires { lines.now.count ≤ 64 }
+        requires { IsLineCount lines.now.count }
         ensures lines { self.new ≡ change_each first_desc (offsets_of lines.now) settled self.old }
         ensures as_many { length self.new ≡ length self.old }
     {
@@ -88,7 +89,7 @@ impl Descs {
     /// Nobody has the lines of a request any more.
     #[tactic(auto, using(crate::proofs::Lengths::as_many_lines))]
     pub fn free(&mut self, lines: &Lines)
-        requires { lines.now.count ≤ 64 }
+        requires { IsLineCount lines.now.count }
         ensures lines { self.new ≡ change_each first_desc (offsets_of lines.now) freed self.old }
         ensures as_many { length self.new ≡ length self.old }
     {
@@ -142,7 +143,7 @@ impl Descs {
     }
 }
 
-/// Whether the offset at place `i` stands earlier.
+/// Whether the offset at position `i` stands earlier.
 fn stands_earlier(offsets: &[u32], i: usize) -> bool
     requires { i < length offsets.now }
     ensures { result ≡ stands_earlier offsets.now i }
@@ -151,9 +152,9 @@ fn stands_earlier(offsets: &[u32], i: usize) -> bool
     offsets[..i].iter().any(|other| *other == offset)
 }
 
-/// What is wrong with the line at place `i` of a request.
+/// What is wrong with the line at position `i` of a request.
 fn line_fault(descs: &[Desc], lines: &Lines, i: u32) -> Option<LineFault>
-    requires { i < 64 }
+    requires { i < LINES_PER_REQUEST }
     ensures { result ≡ line_fault descs.now lines.now.offsets i }
 {
     let offset = lines.offsets[i as usize] as usize;
@@ -169,7 +170,7 @@ fn line_fault(descs: &[Desc], lines: &Lines, i: u32) -> Option<LineFault>
 /// What is wrong with the first faulty line of a request.
 #[tactic(auto, using(gl_base::proofs::AtPositions::first_fault_more, gl_base::proofs::AtPositions::first_fault_here, gl_base::proofs::AtPositions::first_fault_all))]
 fn first_faulty(descs: &[Desc], lines: &Lines) -> Option<LineFault>
-    requires { lines.now.count ≤ 64 }
+    requires { IsLineCount lines.now.count }
     ensures { result ≡ claim_fault descs.now lines.now }
 {
     for i in 0..lines.count {

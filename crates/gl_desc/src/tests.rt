@@ -1,6 +1,7 @@
 //! Who has a line, and what is wrong with the lines of a request.
 
-ghost use Rattle.std.specs.Prelude.{◌≤◌, length};
+ghost use Rattle.std.specs.Prelude.{length};
+ghost use Rattle.gl_base.specs.Lines.{IsLineCount};
 
 use crate::{Descs, Holder, LineFault};
 use gl_base::{Lines, Name};
@@ -8,8 +9,8 @@ use std::test::Fail;
 
 /// The lines of a request.
 fn lines(offsets: &[u32]) -> Lines
-    requires { length offsets.now ≤ 64 }
-    ensures { result.count ≤ 64 }
+    requires { IsLineCount (length offsets.now) }
+    ensures { IsLineCount result.count }
 {
     let mut all = [0; 64];
     all[..offsets.len()].copy_from_slice(offsets);

@@ -1,7 +1,7 @@
 //! The interrupts of the lines of one chip, by offset.
-ghost use Rattle.std.specs.Prelude.{◌≡◌, ◌<◌, length, take, replicate, IfOk, OnOk, OnErr, IsOkUnless};
-ghost use Rattle.std.specs.Result.{result_err};
+ghost use Rattle.std.specs.Prelude.{◌≡◌, ◌<◌, length, take, replicate, IfOk, IsOkUnless};
 ghost use Rattle.gl_base.specs.Positions.{change_at};
+ghost use Rattle.gl_base.specs.Refusals.{answer, unless};
 ghost use Rattle.gl_irq.specs.Irq.{first_irq, irq_at, done, act_refusal};
 
 use crate::irq::{Irq, IrqLine, carry_out, refusal};
@@ -56,9 +56,8 @@ impl Irqs {
     ///   open-drain.
     /// - `Never`: `Busy` for a line that is locked, claimed, or held with an edge flag or a period.
     pub fn act(&mut self, offset: u32, what: IrqDo, line: IrqLine) -> Result<(), Errno>
-        ensures refusal { result_err result ≡ act_refusal self.old offset what line }
-        ensures ok { OnOk result (self.new ≡ change_at first_irq offset (done what) self.old) }
-        ensures err { OnErr result (self.new ≡ self.old) }
+        ensures answer { result ≡ answer (act_refusal self.old offset what line) tt }
+        ensures irqs { self.new ≡ unless (act_refusal self.old offset what line) (change_at first_irq offset (done what) self.old) self.old }
         ensures as_many { length self.new ≡ length self.old }
     {
         act(&mut self.lines, offset as usize, what, &line)
@@ -99,9 +98,8 @@ impl Irqs {
 
 /// Does something with the interrupt of the line at an offset.
 fn act(irqs: &mut [Irq], offset: usize, what: IrqDo, line: &IrqLine) -> Result<(), Errno>
-    ensures refusal { result_err result ≡ act_refusal irqs.old offset what line.now }
-    ensures ok { OnOk result (irqs.new ≡ change_at first_irq offset (done what) irqs.old) }
-    ensures err { OnErr result (irqs.new ≡ irqs.old) }
+    ensures answer { result ≡ answer (act_refusal irqs.old offset what line.now) tt }
+    ensures irqs { irqs.new ≡ unless (act_refusal irqs.old offset what line.now) (change_at first_irq offset (done what) irqs.old) irqs.old }
     ensures as_many { length irqs.new ≡ length irqs.old }
 {
     if offset >= irqs.len() {

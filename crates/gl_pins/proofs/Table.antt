@@ -1,5 +1,5 @@
 -- What is kept true of the ranges and the held pins.
-use Rattle.std.proofs.Common.{◌≡◌, ℕ, ◌<◌, ◌≤◌, Bool, true, false, cond, ◌||◌, List, [], ◌∷◌, ◌++◌, length, get_or, refl, arith}
+use Rattle.std.proofs.Common.{◌≡◌, ℕ, ◌<◌, ◌≤◌, Bool, true, false, cond, ◌||◌, List, [], ◌∷◌, ◌++◌, length, get_or, refl, ◌∙◌, arith}
 use Rattle.std.specs.Prelude.{nat_eq}
 use Rattle.std.specs.List.{list_any, IsDistinct, AllByRecursion}
 use Rattle.std.proofs.lemmas.Cmp.{nat_eq_equiv}
@@ -37,22 +37,22 @@ held_count : (held : List ℕ) → IsDistinct nat_eq held → Each (λ pin. pin 
 held_count held distinct below = length-le_from_distinct_below held PINS_MAX distinct (below_each held below)
 
 -- the pins with one more held
-pub table_with_held : (ranges : List PinRange) (held : List ℕ) (range_room held_room more pin : ℕ) → IsPinTable ranges held range_room held_room → pin < PINS_MAX → holds_pin held pin ≡ false → held_room ≤ more → IsPinTable ranges (held ++ pin ∷ []) range_room more
+pub table_with_held : (ranges : List PinRange) (held : List ℕ) (range_room held_room more pin : ℕ) → IsPinTable ranges held range_room held_room → pin < PINS_MAX → holds_pin held pin ≡ false → more ≡ held_room → IsPinTable ranges (held ++ pin ∷ []) range_room more
 table_with_held ranges held range_room held_room more pin table below new room = record {
   within = table.within;
   few_ranges = table.few_ranges;
-  range_room_left = table.range_room_left;
+  all_ranges = table.all_ranges;
   distinct = IsDistinct-push nat_eq_equiv held pin table.distinct new;
   below = Each-push (λ p. p < PINS_MAX) held pin table.below below;
-  held_room_left = omega (arith, table.held_room_left, room);
+  all_pins = room ∙ table.all_pins;
 }
 
 -- there is room for it
 pub held_room : (ranges : List PinRange) (held : List ℕ) (range_room held_room pin : ℕ) → IsPinTable ranges held range_room held_room → pin < PINS_MAX → holds_pin held pin ≡ false → length held < held_room
 held_room ranges held range_room room pin table below new =
-    let more = table_with_held ranges held range_room room room pin table below new (omega arith) in
+    let more = table_with_held ranges held range_room room room pin table below new refl in
     let count : length (held ++ pin ∷ []) ≤ PINS_MAX = held_count (held ++ pin ∷ []) more.distinct more.below in
-    omega (arith, count, length_push held pin, table.held_room_left)
+    omega (arith, count, length_push held pin, table.all_pins)
 
 All-without_first : (P : ℕ → Type 0) (test : ℕ → Bool) (xs : List ℕ) → AllByRecursion P xs → AllByRecursion P (without_first test xs)
 All-without_first P test [] s = s
@@ -68,20 +68,20 @@ pub table_without_held : (ranges : List PinRange) (held : List ℕ) (range_room 
 table_without_held ranges held range_room held_room pin table = record {
   within = table.within;
   few_ranges = table.few_ranges;
-  range_room_left = table.range_room_left;
+  all_ranges = table.all_ranges;
   distinct = IsDistinct-without_first (nat_eq pin) held table.distinct;
   below = Each-without_first (λ p. p < PINS_MAX) (nat_eq pin) held table.below;
-  held_room_left = table.held_room_left;
+  all_pins = table.all_pins;
 }
 
 -- no range and no held pin
-pub table_of_none : (range_room held_room : ℕ) → RANGES_MAX ≤ range_room → PINS_MAX ≤ held_room → IsPinTable [] [] range_room held_room
+pub table_of_none : (range_room held_room : ℕ) → range_room ≡ RANGES_MAX → held_room ≡ PINS_MAX → IsPinTable [] [] range_room held_room
 unfolding IsDistinct
 table_of_none range_room held_room ranges held = record {
   within = tt;
   few_ranges = omega arith;
-  range_room_left = ranges;
+  all_ranges = ranges;
   distinct = tt;
   below = tt;
-  held_room_left = held;
+  all_pins = held;
 }

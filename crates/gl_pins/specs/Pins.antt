@@ -1,5 +1,5 @@
 -- The pins of a chip. The refusals and their order are this project's choice.
-use Rattle.std.specs.Prelude.{ℕ, ◌+◌, ◌^◌, ◌<◌, ◌≤◌, Bool, false, not, ◌==◌, nat_eq, nat_lt, nat_le, is_none, List, [], ◌∷◌, ◌++◌, length, Option, Some, None}
+use Rattle.std.specs.Prelude.{◌≡◌, ℕ, ◌+◌, ◌^◌, ◌<◌, ◌≤◌, Bool, false, not, ◌==◌, nat_eq, nat_lt, nat_le, is_none, List, [], ◌∷◌, ◌++◌, length, Option, Some, None}
 use Rattle.std.specs.List.{find, list_any, IsDistinct}
 use Rattle.std.specs.Option.{option_map}
 use Rattle.gl_base.specs.Refusals.{when, first_of}
@@ -82,7 +82,7 @@ IsWithin range = (range.offset + range.count < 2 ^ 32) × (range.pin + range.cou
 pub record IsPinTable (ranges : List PinRange) (held : List ℕ) (range_room held_room : ℕ) : Type 0 where
   pub within : Each IsWithin ranges
   pub few_ranges : length ranges ≤ RANGES_MAX
-  pub range_room_left : RANGES_MAX ≤ range_room
+  pub all_ranges : range_room ≡ RANGES_MAX
   pub distinct : IsDistinct nat_eq held
   pub below : Each (λ pin. pin < PINS_MAX) held
-  pub held_room_left : PINS_MAX ≤ held_room
+  pub all_pins : held_room ≡ PINS_MAX

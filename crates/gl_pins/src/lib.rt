@@ -1,6 +1,7 @@
 //! The pins of a chip: which line each maps to, and which are held for another function.
 #![tactic(auto)]
 
+pub mod laws;
 mod pins;
 mod range;
 #[cfg(test)]

@@ -51,6 +51,15 @@ impl Pins {
         Ok(Pins { ranges, held })
     }
 
+    /// How many ranges and held pins there is room for. These are always `RANGES_MAX` and `PINS_MAX`, since no
+    /// call but `new` takes memory.
+    pub fn capacity(&self) -> (usize, usize)
+        ensures ranges { result.0 ≡ RANGES_MAX }
+        ensures held { result.1 ≡ PINS_MAX }
+    {
+        (self.ranges.capacity(), self.held.capacity())
+    }
+
     /// Maps `count` lines from `offset` on, of a chip of so many `lines`, to as many pins from `pin` on. A
     /// refused call changes nothing. `Inval` comes where `count` is 0, where the lines or the pins pass
     /// their end, or where the lines or the pins overlap those of another range; then `NoSpc` where the

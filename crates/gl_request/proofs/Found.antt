@@ -1,41 +1,42 @@
 -- The row of a number, and what each row keeps.
-use Rattle.std.proofs.Common.{ℕ, Bool, true, false, cond, ◌≡◌, ◌≤◌, List, ◌∷◌, ◌++◌, [], get_or, set, Some, ap, sym, ◌∙◌}
+use Rattle.std.proofs.Common.{ℕ, Bool, true, false, cond, ◌≡◌, List, ◌∷◌, ◌++◌, [], get_or, set, Some, ap, sym, ◌∙◌}
 use Rattle.std.specs.Prelude.{position}
+use Rattle.gl_base.specs.Lines.{IsLineCount}
 use Rattle.gl_base.specs.Rows.{Each, change_first, without_first}
 use Rattle.gl_base.proofs.FirstRows.{at_position, change_first-no_position, change_first-position, find-no_position, find-position, length-change_first, length-without_first-le, without_first-no_position, without_first-position, Each-at, Each-change_first, Each-push, Each-without_first}
 use Rattle.gl_base.specs.declared.settings.Resolved.{Resolved}
-use Rattle.gl_request.specs.declared.row.Row.{Row}
-use Rattle.gl_request.specs.Request.{HasFewLines, configured, held, is_monitored, noted, read_from, with_event}
+use Rattle.gl_request.specs.declared.row.RequestRow.{RequestRow}
+use Rattle.gl_request.specs.Request.{HasLines, configured, held, is_monitored, noted, read_from, with_event}
 
--- the row that was read at the place of the first that passes
-pub change_first-read : (test : Row → Bool) (f : Row → Row) (rows : List Row) (i : ℕ) (row : Row) → position test rows ≡ Some i → row ≡ get_or rows i row
+-- the row that was read at the position of the first that passes
+pub change_first-read : (test : RequestRow → Bool) (f : RequestRow → RequestRow) (rows : List RequestRow) (i : ℕ) (row : RequestRow) → position test rows ≡ Some i → row ≡ get_or rows i row
     → change_first test f rows ≡ set rows i (f row)
-change_first-read test f rows i row at read = change_first-position test f rows i row at ∙ ap (λ (r : Row). set rows i (f r)) (sym read)
+change_first-read test f rows i row at read = change_first-position test f rows i row at ∙ ap (λ (r : RequestRow). set rows i (f r)) (sym read)
 
 pub ruleset found = (at_position, change_first-read, change_first-no_position, find-position, find-no_position, without_first-position, without_first-no_position)
 
-pub few_held : (test : Row → Bool) (rows : List Row) → Each HasFewLines rows → Each HasFewLines (change_first test held rows)
-few_held test rows each = Each-change_first HasFewLines test held rows (λ row few. few) each
+pub lines_held : (test : RequestRow → Bool) (rows : List RequestRow) → Each HasLines rows → Each HasLines (change_first test held rows)
+lines_held test rows each = Each-change_first HasLines test held rows (λ row some. some) each
 
-pub few_configured : (settings : Resolved) (test : Row → Bool) (rows : List Row) → Each HasFewLines rows → Each HasFewLines (change_first test (configured settings) rows)
-few_configured settings test rows each = Each-change_first HasFewLines test (configured settings) rows (λ row few. few) each
+pub lines_configured : (settings : Resolved) (test : RequestRow → Bool) (rows : List RequestRow) → Each HasLines rows → Each HasLines (change_first test (configured settings) rows)
+lines_configured settings test rows each = Each-change_first HasLines test (configured settings) rows (λ row some. some) each
 
-pub few_read : (max : ℕ) (test : Row → Bool) (rows : List Row) → Each HasFewLines rows → Each HasFewLines (change_first test (read_from max) rows)
-few_read max test rows each = Each-change_first HasFewLines test (read_from max) rows (λ row few. few) each
+pub lines_read : (max : ℕ) (test : RequestRow → Bool) (rows : List RequestRow) → Each HasLines rows → Each HasLines (change_first test (read_from max) rows)
+lines_read max test rows each = Each-change_first HasLines test (read_from max) rows (λ row some. some) each
 
-pub few_noted : (i : ℕ) (rising : Bool) (time : ℕ) (test : Row → Bool) (rows : List Row) → Each HasFewLines rows → Each HasFewLines (change_first test (noted i rising time) rows)
-few_noted i rising time test rows each =
-    Each-change_first HasFewLines test (noted i rising time) rows
-    (λ row few. elim (is_monitored i rising row) as (λ b. HasFewLines (cond b (with_event i rising time row) row)) [ true ↦ few | false ↦ few ]) each
+pub lines_noted : (i : ℕ) (rising : Bool) (time : ℕ) (test : RequestRow → Bool) (rows : List RequestRow) → Each HasLines rows → Each HasLines (change_first test (noted i rising time) rows)
+lines_noted i rising time test rows each =
+    Each-change_first HasLines test (noted i rising time) rows
+    (λ row some. elim (is_monitored i rising row) as (λ b. HasLines (cond b (with_event i rising time row) row)) [ true ↦ some | false ↦ some ]) each
 
-pub few_without : (test : Row → Bool) (rows : List Row) → Each HasFewLines rows → Each HasFewLines (without_first test rows)
-few_without test rows each = Each-without_first HasFewLines test rows each
+pub lines_without : (test : RequestRow → Bool) (rows : List RequestRow) → Each HasLines rows → Each HasLines (without_first test rows)
+lines_without test rows each = Each-without_first HasLines test rows each
 
-pub few_more : (rows : List Row) (row : Row) → Each HasFewLines rows → row.lines.count ≤ 64 → Each HasFewLines (rows ++ row ∷ [])
-few_more rows row each few = Each-push HasFewLines rows row each few
+pub lines_more : (rows : List RequestRow) (row : RequestRow) → Each HasLines rows → IsLineCount row.lines.count → Each HasLines (rows ++ row ∷ [])
+lines_more rows row each some = Each-push HasLines rows row each some
 
-pub ruleset kept = (length-change_first, length-without_first-le, few_held, few_configured, few_read, few_noted, few_without, few_more)
+pub ruleset kept = (length-change_first, length-without_first-le, lines_held, lines_configured, lines_read, lines_noted, lines_without, lines_more)
 
--- a row that was found has few lines
-pub few_lines : (test : Row → Bool) (rows : List Row) (i : ℕ) (d : Row) → position test rows ≡ Some i → Each HasFewLines rows → (get_or rows i d).lines.count ≤ 64
-few_lines test rows i d at each = Each-at HasFewLines rows i d each (at_position test rows i at)
+-- a row that was found has 1 to 64 lines
+pub lines_found : (test : RequestRow → Bool) (rows : List RequestRow) (i : ℕ) (d : RequestRow) → position test rows ≡ Some i → Each HasLines rows → IsLineCount (get_or rows i d).lines.count
+lines_found test rows i d at each = Each-at HasLines rows i d each (at_position test rows i at)

@@ -1,32 +1,21 @@
 -- The numbers of a request's events.
-use Rattle.std.proofs.Common.{ℕ, suc, Bool, true, false, cond, eqb, ◌≡◌, ◌+◌, ◌-◌, ◌%◌, ◌^◌, ◌<◌, ◌≤◌, List, [], ◌∷◌, ◌++◌, length, get_or, set, drop, min, max, refl, sym, ap, ◌∙◌, inl, inr, arith, append_assoc, length-set, get_or-set_same, get_or-set_other}
+use Rattle.std.proofs.Common.{ℕ, Bool, true, false, cond, eqb, ◌≡◌, ◌+◌, ◌-◌, ◌%◌, ◌^◌, ◌<◌, List, [], ◌∷◌, ◌++◌, length, get_or, set, drop, min, max, refl, sym, ap, ◌∙◌, inl, inr, arith, length-set, get_or-set_same, get_or-set_other}
 use Rattle.std.specs.List.{count_by}
 use Rattle.std.proofs.Math.Nat.{mod-add-mod}
 use Rattle.std.proofs.lemmas.Bool.{cases_eq, cases_lt, eq-eqb, ne_eqb}
 use Rattle.std.proofs.lemmas.List.Sums.{fold-append}
-use Rattle.std.proofs.lemmas.List.{append-nil, get_or-replicate, get_or_past, length-drop, length-replicate, length_push}
+use Rattle.std.proofs.lemmas.List.{get_or-replicate, get_or_past, length-drop, length-replicate, length_push}
 use Rattle.circular_buffer.specs.Buffer.{buffer}
+use Rattle.gl_base.specs.Lines.{IsLineCount}
+use Rattle.gl_ring.specs.Edges.{Edge, HasDifferentLines, event_behind, events_of, line_count}
 use Rattle.gl_ring.specs.Waiting.{Past, left, pushed, waiting}
+use Rattle.gl_ring.proofs.Edges.{events_of-more, length-events_behind}
 use Rattle.gl_ring.proofs.Lasting.{left-waiting, pushed-waiting}
 use Rattle.gl_uapi.specs.declared.line_events.Event.{Event}
 use Rattle.gl_request.specs.declared.row.Claim.{Claim}
-use Rattle.gl_request.specs.declared.row.Row.{Row}
-use Rattle.gl_request.specs.Numbering.{Edge, HasDifferentLines, KeepsEdges, edge_of, event_behind, events_behind, events_of, line_count}
+use Rattle.gl_request.specs.declared.row.RequestRow.{RequestRow}
+use Rattle.gl_request.specs.Numbering.{KeepsEdges, edge_of}
 use Rattle.gl_request.specs.Request.{next_number, no_counts, numbered, read_from, row_of, with_event}
-
-length-events_behind : (before edges : List Edge) → length (events_behind before edges) ≡ length edges
-length-events_behind before [] = refl
-length-events_behind before (edge ∷ edges) = ap suc (length-events_behind (before ++ edge ∷ []) edges)
-
-events_behind-more : (before edges : List Edge) (edge : Edge) → events_behind before (edges ++ edge ∷ []) ≡ events_behind before edges ++ event_behind (before ++ edges) edge ∷ []
-events_behind-more before [] edge = ap (λ es. event_behind es edge ∷ []) (sym (append-nil before))
-events_behind-more before (first ∷ edges) edge =
-    ap (λ events. event_behind before first ∷ events)
-    (events_behind-more (before ++ first ∷ []) edges edge
-    ∙ ap (λ es. events_behind (before ++ first ∷ []) edges ++ event_behind es edge ∷ []) (append_assoc before (first ∷ []) edges))
-
-pub events_of-more : (edges : List Edge) (edge : Edge) → events_of (edges ++ edge ∷ []) ≡ events_of edges ++ event_behind edges edge ∷ []
-events_of-more edges edge = events_behind-more [] edges edge
 
 -- one more of a line
 count_more : (test : Edge → Bool) (edges : List Edge) (edge : Edge) (b : Bool) → test edge ≡ b → count_by test (edges ++ edge ∷ []) ≡ count_by test edges + cond b 1 0
@@ -41,17 +30,19 @@ no_count i =
       | inr past ↦ get_or_past no_counts i 0 (omega (arith, length-replicate {A = ℕ} 64 0))
     ]
 
-pub no_edges : (claim : Claim) (capacity : ℕ) → claim.lines.count ≤ 64 → KeepsEdges (row_of claim (buffer [] capacity)) [] 0
+pub no_edges : (claim : Claim) (capacity : ℕ) → IsLineCount claim.lines.count → KeepsEdges (row_of claim (buffer [] capacity)) [] 0
 unfolding no_counts
 no_edges claim capacity few = record {
   count = refl;
-  slots = omega (arith, few, length-replicate {A = ℕ} 64 0);
+  slots = length-replicate {A = ℕ} 64 0;
+  few = few.1;
   line_counts = λ i below. no_count i;
+  other_counts = λ i past. no_count i;
   ring = refl;
   within = omega arith;
 }
 
-pub edge_numbered : (row : Row) (edges : List Edge) (next i : ℕ) (rising : Bool) (timestamp : ℕ) → KeepsEdges row edges next → i < row.lines.count
+pub edge_numbered : (row : RequestRow) (edges : List Edge) (next i : ℕ) (rising : Bool) (timestamp : ℕ) → KeepsEdges row edges next → i < row.lines.count
     → numbered i rising timestamp row ≡ event_behind edges (edge_of i rising timestamp row)
 edge_numbered row edges next i rising timestamp keeps below =
     let seqno : next_number row.count ≡ (length edges + 1) % 2 ^ 32 = ap next_number keeps.count ∙ mod-add-mod (length edges) (2 ^ 32) 1 in
@@ -60,7 +51,7 @@ edge_numbered row edges next i rising timestamp keeps below =
     simp (seqno, line_seqno)
 
 -- the numbers of the lines, one edge on
-lines_kept : (row : Row) (edges : List Edge) (next i j : ℕ) (rising : Bool) (timestamp : ℕ) → KeepsEdges row edges next → HasDifferentLines row
+lines_kept : (row : RequestRow) (edges : List Edge) (next i j : ℕ) (rising : Bool) (timestamp : ℕ) → KeepsEdges row edges next → HasDifferentLines row.lines
     → i < row.lines.count → j < row.lines.count
     → get_or (set row.line_counts i (next_number (get_or row.line_counts i 0))) j 0 ≡ line_count (get_or row.lines.offsets j 0) (edges ++ edge_of i rising timestamp row ∷ []) % 2 ^ 32
 lines_kept row edges next i j rising timestamp keeps different here there =
@@ -71,7 +62,7 @@ lines_kept row edges next i j rising timestamp keeps different here there =
       | inl same ↦
           (let slot : get_or (set row.line_counts i (next_number (get_or row.line_counts i 0))) j 0 ≡ next_number (get_or row.line_counts i 0) =
           ap (λ k. get_or (set row.line_counts i (next_number (get_or row.line_counts i 0))) k 0) same
-          ∙ get_or-set_same row.line_counts i (next_number (get_or row.line_counts i 0)) 0 (omega (arith, keeps.slots)) in
+          ∙ get_or-set_same row.line_counts i (next_number (get_or row.line_counts i 0)) 0 (omega (arith, keeps.slots, keeps.few)) in
           let one : line_count offset (edges ++ edge ∷ []) ≡ line_count offset edges + 1 =
           count_more test edges edge true (eq-eqb (get_or row.lines.offsets i 0) offset (ap (λ k. get_or row.lines.offsets k 0) (sym same))) in
           let before : get_or row.line_counts i 0 ≡ line_count offset edges % 2 ^ 32 =
@@ -86,10 +77,10 @@ lines_kept row edges next i j rising timestamp keeps different here there =
           slot ∙ keeps.line_counts j there ∙ ap (λ n. n % 2 ^ 32) (sym (none ∙ as_before)))
     ]
 
-pub edge_kept : (row : Row) (edges : List Edge) (next i : ℕ) (rising : Bool) (timestamp : ℕ) → KeepsEdges row edges next → HasDifferentLines row
-    → i < row.lines.count → 1 ≤ row.ring.capacity
+pub edge_kept : (row : RequestRow) (edges : List Edge) (next i : ℕ) (rising : Bool) (timestamp : ℕ) → KeepsEdges row edges next → HasDifferentLines row.lines
+    → i < row.lines.count
     → KeepsEdges (with_event i rising timestamp row) (edges ++ edge_of i rising timestamp row ∷ []) (max next (length edges + 1 - row.ring.capacity))
-edge_kept row edges next i rising timestamp keeps different below some =
+edge_kept row edges next i rising timestamp keeps different below =
     let edge : Edge = edge_of i rising timestamp row in
     let event : Event = event_behind edges edge in
     let capacity : ℕ = row.ring.capacity in
@@ -99,8 +90,10 @@ edge_kept row edges next i rising timestamp keeps different below some =
     let next_after : max next (length (events_of edges) + 1 - capacity) ≡ max next (length edges + 1 - capacity) = ap (λ n. max next (n + 1 - capacity)) long in
     record {
       count = ap next_number keeps.count ∙ mod-add-mod (length edges) (2 ^ 32) 1 ∙ ap (λ n. n % 2 ^ 32) (sym (length_push edges edge));
-      slots = omega (arith, keeps.slots, length-set row.line_counts i (next_number (get_or row.line_counts i 0)));
+      slots = length-set row.line_counts i (next_number (get_or row.line_counts i 0)) ∙ keeps.slots;
+      few = keeps.few;
       line_counts = λ j there. lines_kept row edges next i j rising timestamp keeps different below there;
+      other_counts = λ j past. get_or-set_other row.line_counts i j (next_number (get_or row.line_counts i 0)) 0 (λ e. omega (arith, e, past, below)) ∙ keeps.other_counts j past;
       ring =
           ap (λ (e : Event). pushed e row.ring) is_event ∙ ap (pushed event) keeps.ring
           ∙ pushed-waiting capacity event past (omega (arith, keeps.within, long))
@@ -109,14 +102,16 @@ edge_kept row edges next i rising timestamp keeps different below some =
       within = omega (arith, keeps.within, length_push edges edge);
     }
 
-pub read_kept : (row : Row) (edges : List Edge) (next max : ℕ) → KeepsEdges row edges next → KeepsEdges (read_from max row) edges (next + min max (length edges - next))
+pub read_kept : (row : RequestRow) (edges : List Edge) (next max : ℕ) → KeepsEdges row edges next → KeepsEdges (read_from max row) edges (next + min max (length edges - next))
 read_kept row edges next max keeps =
     let past : Past Event = record { all = events_of edges; next = next } in
     let left_over : length (waiting past) ≡ length edges - next = length-drop next (events_of edges) ∙ ap (λ n. n - next) (length-events_behind [] edges) in
     record {
       count = keeps.count;
       slots = keeps.slots;
+      few = keeps.few;
       line_counts = keeps.line_counts;
+      other_counts = keeps.other_counts;
       ring =
           ap (left max) keeps.ring ∙ left-waiting row.ring.capacity max past
           ∙ ap (λ (n : ℕ). buffer (drop (next + min max n) (events_of edges)) row.ring.capacity) left_over;

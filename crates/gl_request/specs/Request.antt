@@ -1,39 +1,41 @@
 -- The requests of lines, after the kernel's GPIO character device. A table has a row for each request, in the
 -- order of their claims.
-use Rattle.std.specs.Prelude.{ℕ, Bool, false, true, ◌+◌, ◌%◌, ◌^◌, ◌≤◌, ◌&&◌, ◌==◌, not, nat_lt, if◌then◌else◌, List, Option, Some, None, find, replicate, slice_index, slice_index_or, slice_set}
+use Rattle.std.specs.Prelude.{ℕ, Bool, false, true, ◌+◌, ◌%◌, ◌^◌, ◌&&◌, ◌==◌, not, nat_lt, if◌then◌else◌, List, Option, Some, None, find, replicate, slice_index, slice_index_or, slice_set}
 use Rattle.circular_buffer.specs.Buffer.{Buffer}
 use Rattle.gl_base.specs.Bits.{has_bit}
-use Rattle.gl_base.specs.declared.flag.TheConstants.{EDGE_FALLING, EDGE_RISING}
+use Rattle.gl_base.specs.Lines.{IsLineCount}
+use Rattle.gl_base.specs.Settings.{no_settings}
+use Rattle.gl_base.specs.declared.limits.TheConstants.{LINES_PER_REQUEST}
 use Rattle.gl_base.specs.declared.settings.Resolved.{Resolved}
 use Rattle.gl_base.specs.declared.settings.Settings.{Settings}
-use Rattle.gl_uapi.specs.declared.layout.TheConstants.{EVENT_FALLING, EVENT_RISING}
 use Rattle.gl_uapi.specs.declared.line_events.Event.{Event}
+use Rattle.gl_ring.specs.Edges.{direction_flag, direction_id}
 use Rattle.gl_ring.specs.Waiting.{left, pushed}
 use Rattle.gl_request.specs.declared.row.Claim.{Claim}
-use Rattle.gl_request.specs.declared.row.Row.{Row}
+use Rattle.gl_request.specs.declared.row.RequestRow.{RequestRow}
 
 -- the request has this number
-abbrev pub is_number : ℕ → Row → Bool
+abbrev pub is_number : ℕ → RequestRow → Bool
 is_number fd row = row.fd == fd
 
 -- the request of a number
-abbrev pub request_at : List Row → ℕ → Option Row
+abbrev pub request_at : List RequestRow → ℕ → Option RequestRow
 request_at rows fd = find (is_number fd) rows
 
 -- it is an unfinished claim of this actor
-abbrev pub is_claim_of : ℕ → Row → Bool
+abbrev pub is_claim_of : ℕ → RequestRow → Bool
 is_claim_of actor row = not row.held && row.actor == actor
 
 -- an unfinished claim of an actor
-abbrev pub claim_by : List Row → ℕ → Option Row
+abbrev pub claim_by : List RequestRow → ℕ → Option RequestRow
 claim_by rows actor = find (is_claim_of actor) rows
 
 -- no event of any line yet
 unfoldable pub no_counts : List ℕ
-no_counts = replicate 64 0
+no_counts = replicate LINES_PER_REQUEST 0
 
 -- what a claim begins as
-abbrev pub row_of : Claim → Buffer Event → Row
+abbrev pub row_of : Claim → Buffer Event → RequestRow
 row_of claim ring = record {
   fd = claim.fd;
   place = claim.place;
@@ -47,43 +49,31 @@ row_of claim ring = record {
 }
 
 -- what a request was claimed as, with its settings as they are now
-abbrev pub claim_of : Row → Claim
+abbrev pub claim_of : RequestRow → Claim
 claim_of row = record { fd = row.fd; place = row.place; actor = row.actor; lines = row.lines; settings = row.settings }
 
 -- the request, finished
-abbrev pub held : Row → Row
+abbrev pub held : RequestRow → RequestRow
 held row = record row { held = true }
 
 -- the request with other settings
-abbrev pub configured : Resolved → Row → Row
+abbrev pub configured : Resolved → RequestRow → RequestRow
 configured settings row = record row { settings = settings }
 
--- settings of no line
-abbrev pub no_settings : Settings
-no_settings = record { flags = 0; value = false; debounce_us = 0 }
-
--- the settings of the line at place i of the request, if it has so many
-abbrev pub settings_at : ℕ → Row → Option Settings
+-- the settings of the line at position i of the request, if it has so many
+abbrev pub settings_at : ℕ → RequestRow → Option Settings
 settings_at i row = if nat_lt i row.lines.count then Some (slice_index_or row.settings.lines i no_settings) else None
 
--- the flag that has a direction monitored
-abbrev pub direction_flag : Bool → ℕ
-direction_flag rising = if rising then EDGE_RISING else EDGE_FALLING
-
--- the number that tells of a direction
-abbrev pub direction_id : Bool → ℕ
-direction_id rising = if rising then EVENT_RISING else EVENT_FALLING
-
--- the direction of the line at place i is monitored
-abbrev pub is_monitored : ℕ → Bool → Row → Bool
+-- the direction of the line at position i is monitored
+abbrev pub is_monitored : ℕ → Bool → RequestRow → Bool
 is_monitored i rising row = has_bit (slice_index_or row.settings.lines i no_settings).flags (direction_flag rising)
 
 -- the number after this one; numbers wrap
 abbrev pub next_number : ℕ → ℕ
 next_number n = (n + 1) % 2 ^ 32
 
--- the event that an edge of the line at place i is: numbered when it happens
-abbrev pub numbered : ℕ → Bool → ℕ → Row → Event
+-- the event that an edge of the line at position i is: numbered when it happens
+abbrev pub numbered : ℕ → Bool → ℕ → RequestRow → Event
 numbered i rising timestamp row = record {
   timestamp = timestamp;
   id = direction_id rising;
@@ -93,7 +83,7 @@ numbered i rising timestamp row = record {
 }
 
 -- the request after that event
-abbrev pub with_event : ℕ → Bool → ℕ → Row → Row
+abbrev pub with_event : ℕ → Bool → ℕ → RequestRow → RequestRow
 with_event i rising timestamp row = record row {
   ring = pushed (numbered i rising timestamp row) row.ring;
   count = next_number row.count;
@@ -101,17 +91,17 @@ with_event i rising timestamp row = record row {
 }
 
 -- the event that an edge is, if its direction is monitored
-abbrev pub event_of : ℕ → Bool → ℕ → Row → Option Event
+abbrev pub event_of : ℕ → Bool → ℕ → RequestRow → Option Event
 event_of i rising timestamp row = if is_monitored i rising row then Some (numbered i rising timestamp row) else None
 
 -- the request after an edge
-abbrev pub noted : ℕ → Bool → ℕ → Row → Row
+abbrev pub noted : ℕ → Bool → ℕ → RequestRow → RequestRow
 noted i rising timestamp row = if is_monitored i rising row then with_event i rising timestamp row else row
 
 -- the request after a read with room for so many events
-abbrev pub read_from : ℕ → Row → Row
+abbrev pub read_from : ℕ → RequestRow → RequestRow
 read_from max row = record row { ring = left max row.ring }
 
--- the request has at most 64 lines
-abbrev pub HasFewLines : Row → Type 0
-HasFewLines row = row.lines.count ≤ 64
+-- the request has 1 to 64 lines
+abbrev pub HasLines : RequestRow → Type 0
+HasLines row = IsLineCount row.lines.count

@@ -1,9 +1,10 @@
 //! One request.
 
 ghost use Rattle.std.specs.Prelude.{◌≡◌, ◌<◌};
-ghost use Rattle.gl_request.specs.Request.{claim_of, direction_flag, event_of, noted, row_of};
+ghost use Rattle.gl_ring.specs.Edges.{direction_flag};
+ghost use Rattle.gl_request.specs.Request.{claim_of, event_of, noted, row_of};
 
-use gl_base::{Lines, Resolved, flag, has_bit};
+use gl_base::{LINES_PER_REQUEST, Lines, Resolved, flag, has_bit};
 use gl_ring::EdgeRing;
 use gl_uapi::Event;
 use gl_uapi::layout::{EVENT_FALLING, EVENT_RISING};
@@ -25,7 +26,7 @@ pub struct Claim {
 
 /// A request.
 #[derive(Drop)]
-pub struct Row {
+pub struct RequestRow {
     /// The number of the request's file.
     pub fd: u32,
     /// The place of the chip.
@@ -43,16 +44,16 @@ pub struct Row {
     /// The number of the last event, modulo 2^32; 0 before the first.
     pub count: u32,
     /// The number of the last event of each line, modulo 2^32; 0 before the first.
-    pub line_counts: [u32; 64],
+    pub line_counts: [u32; LINES_PER_REQUEST as usize],
 }
 
-impl Row {
+impl RequestRow {
     /// What a claim begins as.
     #[tactic(auto, unfolding(crate::specs::Request::no_counts))]
-    pub(crate) fn begin(claim: Claim, ring: EdgeRing) -> Row
+    pub(crate) fn begin(claim: Claim, ring: EdgeRing) -> RequestRow
         ensures { result ≡ row_of claim ring }
     {
-        Row {
+        RequestRow {
             fd: claim.fd,
             place: claim.place,
             actor: claim.actor,
@@ -61,7 +62,7 @@ impl Row {
             settings: claim.settings,
             ring,
             count: 0,
-            line_counts: [0; 64],
+            line_counts: [0; LINES_PER_REQUEST as usize],
         }
     }
 
@@ -78,27 +79,27 @@ impl Row {
         }
     }
 
-    /// Notes an edge of the line at place `i`, which is an event where its direction is monitored.
+    /// Notes an edge of the line at position `i`, which is an event where its direction is monitored.
     pub(crate) fn note(&mut self, i: u32, rising: bool, timestamp: u64) -> Option<Event>
-        requires { i < 64 }
+        requires { i < LINES_PER_REQUEST }
         ensures row { self.new ≡ noted i rising timestamp self.old }
         ensures event { result ≡ event_of i rising timestamp self.old }
     {
-        let place = i as usize;
-        if !has_bit(self.settings.lines[place].flags, direction_flag(rising)) {
+        let position = i as usize;
+        if !has_bit(self.settings.lines[position].flags, direction_flag(rising)) {
             return None;
         }
         let seqno = self.count.wrapping_add(1);
-        let line_seqno = self.line_counts[place].wrapping_add(1);
+        let line_seqno = self.line_counts[position].wrapping_add(1);
         let event = Event {
             timestamp,
             id: if rising { EVENT_RISING } else { EVENT_FALLING },
-            offset: self.lines.offsets[place],
+            offset: self.lines.offsets[position],
             seqno,
             line_seqno,
         };
         self.count = seqno;
-        self.line_counts[place] = line_seqno;
+        self.line_counts[position] = line_seqno;
         self.ring.push(event);
         Some(event)
     }

@@ -3,13 +3,14 @@
 ghost use Rattle.std.specs.Prelude.{◌≡◌, ◌*◌, ◌<◌, ◌≤◌, ◌++◌, ◌∷◌, [], None, IfOk, IfSome, IsOkUnless, length, drop, vec_capacity, find, position};
 ghost use Rattle.std.specs.List.{flat_map};
 ghost use Rattle.std.specs.Option.{option_and_then, option_map, option_map_or};
+ghost use Rattle.gl_base.specs.Lines.{IsLineCount};
 ghost use Rattle.gl_base.specs.Rows.{change_first, without_first};
 ghost use Rattle.gl_uapi.specs.LineEvent.{event_bytes};
 ghost use Rattle.gl_ring.specs.Waiting.{taken, taken_count};
 ghost use Rattle.gl_request.specs.Request.{claim_by, claim_of, configured, event_of, held, is_claim_of, is_number, noted, read_from, request_at, row_of, settings_at};
 
-use crate::row::{Claim, Row};
-use gl_base::{Errno, FILES_MAX, Lines, Resolved, Settings, push_within};
+use crate::row::{Claim, RequestRow};
+use gl_base::{Errno, FILES_MAX, LINES_PER_REQUEST, Lines, Resolved, Settings, push_within};
 use gl_ring::EdgeRing;
 use gl_uapi::Event;
 use gl_uapi::layout::LINE_EVENT_SIZE;
@@ -20,22 +21,22 @@ use std::marker::Model;
 /// the order of their numbers. Contracts see the list of them.
 #[derive(Drop)]
 pub struct Requests {
-    rows: Vec<Row>,
+    rows: Vec<RequestRow>,
 }
 
 impl Model for Requests {
-    ghost use Rattle.std.specs.Prelude.{List, ◌≤◌, length, vec_capacity};
+    ghost use Rattle.std.specs.Prelude.{List, ◌≡◌, ◌≤◌, length, vec_capacity};
     ghost use Rattle.gl_base.specs.Rows.{Each};
     ghost use Rattle.gl_base.specs.declared.limits.TheConstants.{FILES_MAX};
-    ghost use Rattle.gl_request.specs.declared.row.Row.{Row};
+    ghost use Rattle.gl_request.specs.declared.row.RequestRow.{RequestRow};
 
-    ghost Value = { List Row };
+    ghost Value = { List RequestRow };
 
-    ghost use Rattle.gl_request.specs.Request.{HasFewLines};
+    ghost use Rattle.gl_request.specs.Request.{HasLines};
 
     ghost view = { λ r. r.rows.items };
 
-    ghost invariant = { λ r. (FILES_MAX ≤ vec_capacity r.rows) × (length r.rows.items ≤ FILES_MAX) × Each HasFewLines r.rows.items };
+    ghost invariant = { λ r. (vec_capacity r.rows ≡ FILES_MAX) × (length r.rows.items ≤ FILES_MAX) × Each HasLines r.rows.items };
 }
 
 impl Requests {
@@ -56,14 +57,21 @@ impl Requests {
         self.rows.len() as u32
     }
 
+    /// How many requests there is room for. It is always `FILES_MAX`, since no call but `new` takes memory.
+    pub fn capacity(&self) -> u32
+        ensures { result ≡ FILES_MAX }
+    {
+        self.rows.capacity() as u32
+    }
+
     /// Adds a claim, behind the others. No event of it waits.
     #[tactic(auto, using(crate::proofs::Found::kept))]
     pub fn claim(&mut self, claim: Claim, ring: EdgeRing)
         requires room { length self.old < FILES_MAX }
-        requires lines { claim.lines.count ≤ 64 }
+        requires lines { IsLineCount claim.lines.count }
         ensures { self.new ≡ self.old ++ row_of claim ring ∷ [] }
     {
-        push_within(&mut self.rows, Row::begin(claim, ring));
+        push_within(&mut self.rows, RequestRow::begin(claim, ring));
     }
 
     /// The number of an actor's unfinished claim, or None where the actor has none.
@@ -71,7 +79,7 @@ impl Requests {
     pub fn pending(&self, actor: u8) -> Option<u32>
         ensures { result ≡ option_map (λ row. row.fd) (claim_by self.now actor) }
     {
-        match claim_place(&self.rows, actor) {
+        match claim_position(&self.rows, actor) {
             Some(at) => Some(self.rows[at].fd),
             None => None,
         }
@@ -95,13 +103,25 @@ impl Requests {
     }
 
     /// What the request of this number was claimed as, with its settings as they are now.
-    #[tactic(auto, using(crate::proofs::Found::found, crate::proofs::Found::few_lines))]
+    #[tactic(auto, using(crate::proofs::Found::found, crate::proofs::Found::lines_found))]
     pub fn claimed_as(&self, fd: u32) -> Option<Claim>
         ensures claim { result ≡ option_map claim_of (request_at self.now fd) }
-        ensures few { IfSome result (λ claim. claim.lines.count ≤ 64) }
+        ensures lines { IfSome result (λ claim. IsLineCount claim.lines.count) }
     {
-        match place_of(&self.rows, fd) {
+        match position_of(&self.rows, fd) {
             Some(at) => Some(self.rows[at].claimed_as()),
+            None => None,
+        }
+    }
+
+    /// Whether the request of this number is finished, so that its lines are held; false for a claim. None
+    /// comes exactly without such a request.
+    #[tactic(auto, using(crate::proofs::Found::found))]
+    pub fn is_held(&self, fd: u32) -> Option<bool>
+        ensures { result ≡ option_map (λ row. row.held) (request_at self.now fd) }
+    {
+        match position_of(&self.rows, fd) {
+            Some(at) => Some(self.rows[at].held),
             None => None,
         }
     }
@@ -111,34 +131,34 @@ impl Requests {
     pub fn place(&self, fd: u32) -> Option<u8>
         ensures { result ≡ option_map (λ row. row.place) (request_at self.now fd) }
     {
-        match place_of(&self.rows, fd) {
+        match position_of(&self.rows, fd) {
             Some(at) => Some(self.rows[at].place),
             None => None,
         }
     }
 
     /// The lines of the request of this number.
-    #[tactic(auto, using(crate::proofs::Found::found, crate::proofs::Found::few_lines))]
+    #[tactic(auto, using(crate::proofs::Found::found, crate::proofs::Found::lines_found))]
     pub fn lines(&self, fd: u32) -> Option<Lines>
         ensures lines { result ≡ option_map (λ row. row.lines) (request_at self.now fd) }
-        ensures few { IfSome result (λ lines. lines.count ≤ 64) }
+        ensures count { IfSome result (λ lines. IsLineCount lines.count) }
     {
-        match place_of(&self.rows, fd) {
+        match position_of(&self.rows, fd) {
             Some(at) => Some(self.rows[at].lines),
             None => None,
         }
     }
 
-    /// The settings of the line at place `i` of the request of this number, or None where there is no such
+    /// The settings of the line at position `i` of the request of this number, or None where there is no such
     /// request or it has no such line.
-    #[tactic(auto, using(crate::proofs::Found::found, crate::proofs::Found::few_lines))]
+    #[tactic(auto, using(crate::proofs::Found::found, crate::proofs::Found::lines_found))]
     pub fn settings(&self, fd: u32, i: u32) -> Option<Settings>
         ensures { result ≡ option_and_then (settings_at i) (request_at self.now fd) }
     {
-        match place_of(&self.rows, fd) {
+        match position_of(&self.rows, fd) {
             Some(at) => {
                 let row = &self.rows[at];
-                if i < row.lines.count.min(64) {
+                if i < row.lines.count.min(LINES_PER_REQUEST) {
                     Some(row.settings.lines[i as usize])
                 } else {
                     None
@@ -156,11 +176,11 @@ impl Requests {
         configure_row(&mut self.rows, fd, settings);
     }
 
-    /// An edge has come to the line at place `i`, 0 to 63, of the request of this number. Where its direction
+    /// An edge has come to the line at position `i`, 0 to 63, of the request of this number. Where its direction
     /// is monitored it is an event: it is numbered, waits, and is the answer.
     #[tactic(auto, using(crate::proofs::Found::kept))]
     pub fn edge(&mut self, fd: u32, i: u32, rising: bool, timestamp: u64) -> Option<Event>
-        requires { i < 64 }
+        requires { i < LINES_PER_REQUEST }
         ensures rows { self.new ≡ change_first (is_number fd) (noted i rising timestamp) self.old }
         ensures event { result ≡ option_and_then (event_of i rising timestamp) (request_at self.old fd) }
     {
@@ -172,7 +192,7 @@ impl Requests {
     pub fn waiting(&self, fd: u32) -> u32
         ensures { result ≡ option_map_or (λ row. length row.ring.items) (request_at self.now fd) 0 }
     {
-        match place_of(&self.rows, fd) {
+        match position_of(&self.rows, fd) {
             Some(at) => self.rows[at].ring.len(),
             None => 0,
         }
@@ -193,37 +213,37 @@ impl Requests {
 }
 
 /// Where the request of a number stands.
-fn place_of(rows: &[Row], fd: u32) -> Option<usize>
+fn position_of(rows: &[RequestRow], fd: u32) -> Option<usize>
     ensures { result ≡ position (is_number fd) rows.now }
 {
     rows.iter().position(|row| row.fd == fd)
 }
 
 /// Where an actor's unfinished claim stands.
-fn claim_place(rows: &[Row], actor: u8) -> Option<usize>
+fn claim_position(rows: &[RequestRow], actor: u8) -> Option<usize>
     ensures { result ≡ position (is_claim_of actor) rows.now }
 {
     rows.iter().position(|row| !row.held && row.actor == actor)
 }
 
 #[tactic(auto, using(crate::proofs::Found::found))]
-fn settle_row(rows: &mut Vec<Row>, fd: u32)
+fn settle_row(rows: &mut Vec<RequestRow>, fd: u32)
     ensures rows { rows.new.items ≡ change_first (is_number fd) held rows.old.items }
     ensures capacity { vec_capacity rows.new ≡ vec_capacity rows.old }
 {
-    match place_of(rows, fd) {
+    match position_of(rows, fd) {
         Some(at) => rows[at].held = true,
         None => {}
     }
 }
 
 #[tactic(auto, using(crate::proofs::Found::found))]
-fn take_row(rows: &mut Vec<Row>, fd: u32) -> Option<EdgeRing>
+fn take_row(rows: &mut Vec<RequestRow>, fd: u32) -> Option<EdgeRing>
     ensures rows { rows.new.items ≡ without_first (is_number fd) rows.old.items }
     ensures ring { result ≡ option_map (λ row. row.ring) (request_at rows.old.items fd) }
     ensures capacity { vec_capacity rows.new ≡ vec_capacity rows.old }
 {
-    match place_of(rows, fd) {
+    match position_of(rows, fd) {
         Some(at) => {
             let row = rows.remove(at);
             Some(row.ring)
@@ -233,31 +253,37 @@ fn take_row(rows: &mut Vec<Row>, fd: u32) -> Option<EdgeRing>
 }
 
 #[tactic(auto, using(crate::proofs::Found::found))]
-fn configure_row(rows: &mut Vec<Row>, fd: u32, settings: &Resolved)
+fn configure_row(rows: &mut Vec<RequestRow>, fd: u32, settings: &Resolved)
     ensures rows { rows.new.items ≡ change_first (is_number fd) (configured settings.now) rows.old.items }
     ensures capacity { vec_capacity rows.new ≡ vec_capacity rows.old }
 {
-    match place_of(rows, fd) {
+    match position_of(rows, fd) {
         Some(at) => rows[at].settings = *settings,
         None => {}
     }
 }
 
 #[tactic(auto, using(crate::proofs::Found::found))]
-fn note_edge(rows: &mut Vec<Row>, fd: u32, i: u32, rising: bool, timestamp: u64) -> Option<Event>
-    requires { i < 64 }
+fn note_edge(
+    rows: &mut Vec<RequestRow>,
+    fd: u32,
+    i: u32,
+    rising: bool,
+    timestamp: u64,
+) -> Option<Event>
+    requires { i < LINES_PER_REQUEST }
     ensures rows { rows.new.items ≡ change_first (is_number fd) (noted i rising timestamp) rows.old.items }
     ensures event { result ≡ option_and_then (event_of i rising timestamp) (request_at rows.old.items fd) }
     ensures capacity { vec_capacity rows.new ≡ vec_capacity rows.old }
 {
-    match place_of(rows, fd) {
+    match position_of(rows, fd) {
         Some(at) => rows[at].note(i, rising, timestamp),
         None => None,
     }
 }
 
 #[tactic(auto, using(crate::proofs::Found::found))]
-fn read_row(rows: &mut Vec<Row>, fd: u32, max: u32, out: &mut [u8]) -> u32
+fn read_row(rows: &mut Vec<RequestRow>, fd: u32, max: u32, out: &mut [u8]) -> u32
     requires { LINE_EVENT_SIZE * max ≤ length out.old }
     ensures count { result ≡ option_map_or (λ row. taken_count max row.ring) (request_at rows.old.items fd) 0 }
     ensures rows { rows.new.items ≡ change_first (is_number fd) (read_from max) rows.old.items }
@@ -265,7 +291,7 @@ fn read_row(rows: &mut Vec<Row>, fd: u32, max: u32, out: &mut [u8]) -> u32
         ++ drop (LINE_EVENT_SIZE * result) out.old }
     ensures capacity { vec_capacity rows.new ≡ vec_capacity rows.old }
 {
-    match place_of(rows, fd) {
+    match position_of(rows, fd) {
         Some(at) => rows[at].ring.read(max, out),
         None => 0,
     }

@@ -180,13 +180,13 @@ numbered_append n (Came x ∷ before) behind =
     ap (λ ts. Came (n + 1) ∷ ts) (numbered_append (n + 1) before behind ∙ ap (λ k. numbered (n + 1) before ++ numbered k behind) e)
 numbered_append n (Read max ∷ before) behind = ap (λ ts. Read max ∷ ts) (numbered_append n before behind)
 
-given_append : {X : Type 0} (ring : Buffer X) (before behind : List (Turn X)) → given ring (before ++ behind) ≡ given ring before ++ given (after ring before) behind
+pub given_append : {X : Type 0} (ring : Buffer X) (before behind : List (Turn X)) → given ring (before ++ behind) ≡ given ring before ++ given (after ring before) behind
 given_append ring [] behind = refl
 given_append ring (Came x ∷ before) behind = given_append (pushed x ring) before behind
 given_append ring (Read max ∷ before) behind =
     ap (λ xs. taken max ring ++ xs) (given_append (left max ring) before behind) ∙ sym (append_assoc (taken max ring) (given (left max ring) before) (given (after (left max ring) before) behind))
 
-after_append : {X : Type 0} (ring : Buffer X) (before behind : List (Turn X)) → after ring (before ++ behind) ≡ after (after ring before) behind
+pub after_append : {X : Type 0} (ring : Buffer X) (before behind : List (Turn X)) → after ring (before ++ behind) ≡ after (after ring before) behind
 after_append ring [] behind = refl
 after_append ring (Came x ∷ before) behind = after_append (pushed x ring) before behind
 after_append ring (Read max ∷ before) behind = after_append (left max ring) before behind

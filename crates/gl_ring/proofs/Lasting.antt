@@ -18,6 +18,6 @@ pushed-waiting {X} capacity x past within =
 pub left-waiting : {X : Type 0} (capacity max : ℕ) (past : Past X) → left max (buffer (waiting past) capacity) ≡ buffer (waiting (read_by max past)) capacity
 left-waiting {X} capacity max past = ap (λ (xs : List X). buffer xs capacity) (drop-drop (min max (length (waiting past))) past.next past.all)
 
-pub next_within : {X : Type 0} (capacity : ℕ) (x : X) (past : Past X) → 1 ≤ capacity → past.next ≤ length past.all
+pub next_within : {X : Type 0} (capacity : ℕ) (x : X) (past : Past X) → past.next ≤ length past.all
     → (with_item capacity x past).next ≤ length (with_item capacity x past).all
-next_within capacity x past some within = omega (arith, length_push past.all x)
+next_within capacity x past within = omega (arith, length_push past.all x)

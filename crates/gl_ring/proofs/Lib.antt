@@ -1,5 +1,5 @@
 pub mod Gaps
 pub mod Lasting
-pub mod Moving
 pub mod Naming
 pub mod Order
+pub mod Edges

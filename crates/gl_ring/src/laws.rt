@@ -7,6 +7,8 @@ ghost use Rattle.gl_uapi.specs.declared.line_events.Event.{Event};
 ghost use Rattle.gl_ring.specs.Waiting.{Past, left, pushed, read_by, waiting, with_item};
 ghost use Rattle.gl_ring.specs.Run.{IsMissing, IsSubsequence, Turn, WasOvertaken, came, given, numbers_read};
 
+use crate::ring::RING_EVENTS_MAX;
+
 /// A ring holds what waits of all that has come to it: the last events, from the first that was neither
 /// read nor dropped.
 pub fn ring_holds_the_last()
@@ -14,7 +16,7 @@ pub fn ring_holds_the_last()
         → pushed event (buffer (waiting past) capacity) ≡ buffer (waiting (with_item capacity event past)) capacity }
     ensures read { (capacity max : ℕ) (past : Past Event)
         → left max (buffer (waiting past) capacity) ≡ buffer (waiting (read_by max past)) capacity }
-    ensures within { (capacity : ℕ) (event : Event) (past : Past Event) → 1 ≤ capacity → past.next ≤ length past.all
+    ensures within { (capacity : ℕ) (event : Event) (past : Past Event) → past.next ≤ length past.all
         → (with_item capacity event past).next ≤ length (with_item capacity event past).all }
 {}
 
@@ -35,4 +37,9 @@ pub fn numbers_name_the_events()
 pub fn gaps_are_the_oldest()
     ensures { (capacity k : ℕ) (turns : List (Turn Event)) → 1 ≤ k → k ≤ length (came turns)
         → (IsMissing capacity turns k ↔ WasOvertaken capacity turns k) }
+{}
+
+/// The limits are these numbers.
+pub fn limits_by_value()
+    ensures { RING_EVENTS_MAX ≡ 1024 }
 {}

@@ -13,7 +13,8 @@ use gl_uapi::{Event, write_event};
 use std::alloc::Global;
 use std::marker::Model;
 
-/// How many events a ring holds at most. This is this project's choice.
+/// How many events a ring holds at most, as gpiolib has it: 16 for each of the 64 lines that a request may
+/// have.
 pub const RING_EVENTS_MAX: u32 = 1024;
 
 /// Events that wait, the oldest first, and how many there may be. Contracts see the items and the

@@ -3,8 +3,8 @@ use Rattle.std.proofs.Common.{◌≡◌, ℕ, ◌+◌, ◌<◌, ◌&&◌, Bool, 
 use Rattle.std.proofs.lemmas.List.{drop_more}
 use Rattle.std.specs.Str.{bytes_eq}
 use Rattle.std.specs.List.{filter}
-use Rattle.gl_simtree.specs.declared.row.Row.{Row}
-use Rattle.gl_simtree.specs.declared.row.Row.TheVariants.{Device as DeviceRow, Bank as BankRow, Line as LineRow, Hog as HogRow}
+use Rattle.gl_simtree.specs.declared.row.TreeRow.{TreeRow}
+use Rattle.gl_simtree.specs.declared.row.TreeRow.TheVariants.{Device as DeviceRow, Bank as BankRow, Line as LineRow, Hog as HogRow}
 use Rattle.gl_simtree.specs.declared.node.Directory.TheVariants.{Device, Bank}
 use Rattle.gl_simtree.specs.Rows.{is_row_of, is_row_in}
 
@@ -18,7 +18,7 @@ module _ {X : Type 0} where
   filter-drop-out p xs i d lt e = ap (filter p) (drop_more xs i d lt) ∙ ap (λ b. cond b (get_or xs i d ∷ filter p (drop (i + 1) xs)) (filter p (drop (i + 1) xs))) e
 
 -- the row of a bank is in its device
-pub bank_is_in : (device bank : List ℕ) (row : Row) → is_row_of (Bank device bank) row ≡ true → is_row_in (Device device) row ≡ true
+pub bank_is_in : (device bank : List ℕ) (row : TreeRow) → is_row_of (Bank device bank) row ≡ true → is_row_in (Device device) row ≡ true
 bank_is_in device bank (DeviceRow a b) e = cc
 bank_is_in device bank (BankRow a b c d) e = first (bytes_eq device a) (bytes_eq bank b) e
   where

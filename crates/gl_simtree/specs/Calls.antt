@@ -15,22 +15,13 @@ use Rattle.gl_simtree.specs.declared.node.Node.{Node}
 use Rattle.gl_simtree.specs.declared.node.Node.TheVariants.{Directory as DirectoryNode, File as FileNode}
 use Rattle.gl_simtree.specs.declared.row.State.{State}
 use Rattle.gl_simtree.specs.declared.row.State.TheVariants.{Off, Live, Leaving}
-use Rattle.gl_simtree.specs.declared.row.Row.{Row}
+use Rattle.gl_simtree.specs.declared.row.TreeRow.{TreeRow}
 use Rattle.gl_simtree.specs.Forms.{is_device}
 use Rattle.gl_simtree.specs.Rows.{is_row_of, is_row_in, new_row, device_of, row_at, has, has_parent, state_of, is_busy, banks_of}
 use Rattle.gl_simtree.specs.Values.{row_written, shown}
 
--- a call that changes the tree: refused, or the rows after it
-abbrev pub answer : Option Errno → Result (Unit {0}) Errno
-answer None = Ok tt
-answer (Some errno) = Err errno
-
-abbrev pub unless : Option Errno → List Row → List Row → List Row
-unless None new old = new
-unless (Some errno) new old = old
-
 -- mkdir
-abbrev pub mkdir_refusal : Option Node → List Row → Option Errno
+abbrev pub mkdir_refusal : Option Node → List TreeRow → Option Errno
 mkdir_refusal (Some (DirectoryNode directory)) rows = first_of
     (when (not (has_parent directory rows)) NoEnt
     ∷ when (is_busy (device_of directory) rows) Busy
@@ -39,12 +30,12 @@ mkdir_refusal (Some (DirectoryNode directory)) rows = first_of
     ∷ [])
 mkdir_refusal _ rows = Some Inval
 
-abbrev pub made : Option Node → List Row → List Row
+abbrev pub made : Option Node → List TreeRow → List TreeRow
 made (Some (DirectoryNode directory)) rows = rows ++ new_row directory ∷ []
 made _ rows = rows
 
 -- rmdir
-abbrev pub rmdir_refusal : Option Node → List Row → Option Errno
+abbrev pub rmdir_refusal : Option Node → List TreeRow → Option Errno
 rmdir_refusal (Some (DirectoryNode directory)) rows = first_of
     (when (not (has directory rows)) NoEnt
     ∷ when (is_busy (device_of directory) rows) Busy
@@ -52,7 +43,7 @@ rmdir_refusal (Some (DirectoryNode directory)) rows = first_of
     ∷ [])
 rmdir_refusal _ rows = Some Inval
 
-abbrev pub removed : Option Node → List Row → List Row
+abbrev pub removed : Option Node → List TreeRow → List TreeRow
 removed (Some (DirectoryNode directory)) rows = without_first (is_row_of directory) rows
 removed _ rows = rows
 
@@ -61,7 +52,7 @@ abbrev pub is_chip_name : File → Bool
 is_chip_name ChipName = true
 is_chip_name _ = false
 
-abbrev pub write_to : Directory → File → List ℕ → Option Row → List Row → Option Errno
+abbrev pub write_to : Directory → File → List ℕ → Option TreeRow → List TreeRow → Option Errno
 write_to directory file value None rows = Some NoEnt
 write_to directory file value (Some row) rows = first_of
     (when (is_chip_name file) Perm
@@ -69,21 +60,21 @@ write_to directory file value (Some row) rows = first_of
     ∷ when (is_none (row_written file value row)) Inval
     ∷ [])
 
-abbrev pub write_refusal : Option Node → List ℕ → List Row → Option Errno
+abbrev pub write_refusal : Option Node → List ℕ → List TreeRow → Option Errno
 write_refusal (Some (FileNode directory LiveFile)) value rows = Some Inval
 write_refusal (Some (FileNode directory file)) value rows = write_to directory file value (row_at directory rows) rows
 write_refusal _ value rows = Some Inval
 
-abbrev pub written : Option Node → List ℕ → List Row → List Row
+abbrev pub written : Option Node → List ℕ → List TreeRow → List TreeRow
 written (Some (FileNode directory file)) value rows = change_first (is_row_of directory) (λ row. unwrap_or (row_written file value row) row) rows
 written _ value rows = rows
 
 -- read
-abbrev pub shown_of : File → Option Row → List Row → Result (List ℕ) Errno
+abbrev pub shown_of : File → Option TreeRow → List TreeRow → Result (List ℕ) Errno
 shown_of file None rows = Err NoEnt
 shown_of file (Some row) rows = Ok (shown file row rows)
 
-abbrev pub read_answer : Option Node → List Row → Result (List ℕ) Errno
+abbrev pub read_answer : Option Node → List TreeRow → Result (List ℕ) Errno
 read_answer (Some (FileNode directory file)) rows = shown_of file (row_at directory rows) rows
 read_answer _ rows = Err Inval
 
@@ -96,7 +87,7 @@ abbrev pub is_leaving : State → Bool
 is_leaving (Leaving first) = true
 is_leaving _ = false
 
-abbrev pub live_refusal : List ℕ → ℕ → List Row → Option Errno
+abbrev pub live_refusal : List ℕ → ℕ → List TreeRow → Option Errno
 live_refusal device left rows = first_of
     (when (not (is_device device)) Inval
     ∷ when (not (has (Device device) rows)) NoEnt
@@ -106,13 +97,8 @@ live_refusal device left rows = first_of
     ∷ when (nat_lt left (length (banks_of device rows))) NoSpc
     ∷ [])
 
--- the number of a device's banks, where it can go live
-abbrev pub bank_count : Option Errno → List ℕ → List Row → Result ℕ Errno
-bank_count None device rows = Ok (length (banks_of device rows))
-bank_count (Some errno) device rows = Err errno
-
 -- `live` to 0
-abbrev pub remove_refusal : List ℕ → List Row → Option Errno
+abbrev pub remove_refusal : List ℕ → List TreeRow → Option Errno
 remove_refusal device rows = first_of
     (when (not (is_device device)) Inval
     ∷ when (not (has (Device device) rows)) NoEnt

@@ -6,8 +6,8 @@ use Rattle.gl_simtree.specs.declared.node.Directory.{Directory}
 use Rattle.gl_simtree.specs.declared.node.Directory.TheVariants.{Device, Bank, Line, Hog}
 use Rattle.gl_simtree.specs.declared.node.Node.{Node}
 use Rattle.gl_simtree.specs.declared.node.Node.TheVariants.{Directory as DirectoryNode, File as FileNode}
-use Rattle.gl_simtree.specs.declared.row.Row.{Row}
-use Rattle.gl_simtree.specs.declared.row.Row.TheVariants.{Device as DeviceRow, Bank as BankRow, Line as LineRow, Hog as HogRow}
+use Rattle.gl_simtree.specs.declared.row.TreeRow.{TreeRow}
+use Rattle.gl_simtree.specs.declared.row.TreeRow.TheVariants.{Device as DeviceRow, Bank as BankRow, Line as LineRow, Hog as HogRow}
 
 abbrev pub IsFormedDirectory : Directory → Type 0
 IsFormedDirectory (Device device) = IsTrue (is_device device)
@@ -19,7 +19,7 @@ abbrev pub IsFormedNode : Node → Type 0
 IsFormedNode (DirectoryNode directory) = IsFormedDirectory directory
 IsFormedNode (FileNode directory file) = IsFormedDirectory directory
 
-abbrev pub IsFormedRow : Row → Type 0
+abbrev pub IsFormedRow : TreeRow → Type 0
 IsFormedRow (DeviceRow device state) = IsTrue (is_device device)
 IsFormedRow (BankRow device bank lines label) = IsTrue (is_device device) × IsTrue (is_bank bank) × (1 ≤ lines) × (lines ≤ LINES_MAX)
 IsFormedRow (LineRow device bank line name) = IsTrue (is_device device) × IsTrue (is_bank bank)

@@ -11,8 +11,8 @@ use Rattle.gl_simtree.specs.declared.node.File.{File}
 use Rattle.gl_simtree.specs.declared.node.File.TheVariants.{Live as LiveFile, ChipName, NumLines, Label, LineName, HogName, Direction}
 use Rattle.gl_simtree.specs.declared.row.State.{State}
 use Rattle.gl_simtree.specs.declared.row.State.TheVariants.{Live}
-use Rattle.gl_simtree.specs.declared.row.Row.{Row}
-use Rattle.gl_simtree.specs.declared.row.Row.TheVariants.{Device as DeviceRow, Bank as BankRow, Line as LineRow, Hog as HogRow}
+use Rattle.gl_simtree.specs.declared.row.TreeRow.{TreeRow}
+use Rattle.gl_simtree.specs.declared.row.TreeRow.TheVariants.{Device as DeviceRow, Bank as BankRow, Line as LineRow, Hog as HogRow}
 use Rattle.gl_simtree.specs.Rows.{is_busy_state, state_of, bank_number}
 
 abbrev pub lines_within : Option ℕ → Option ℕ
@@ -42,7 +42,7 @@ some_text [] = None
 some_text (byte ∷ bytes) = Some (byte ∷ bytes)
 
 -- the row after a write to its file, where the value is one of the file's
-abbrev pub row_written : File → List ℕ → Row → Option Row
+abbrev pub row_written : File → List ℕ → TreeRow → Option TreeRow
 row_written NumLines value (BankRow device bank lines label) = option_map (λ lines. BankRow device bank lines label) (lines_of_text value)
 row_written Label value (BankRow device bank lines label) = option_map (λ label. BankRow device bank lines label) (some_text value)
 row_written LineName value (LineRow device bank line name) = option_map (λ name. LineRow device bank line name) (some_text value)
@@ -59,7 +59,7 @@ abbrev pub live_text : State → List ℕ
 live_text state = if is_busy_state state then codes "1" else codes "0"
 
 -- what a file of a row reads as, where the tree has these rows
-abbrev pub shown : File → Row → List Row → List ℕ
+abbrev pub shown : File → TreeRow → List TreeRow → List ℕ
 shown LiveFile (DeviceRow device state) rows = live_text state
 shown ChipName (BankRow device bank lines label) rows = chip_name_of (state_of device rows) (bank_number device bank rows)
 shown NumLines (BankRow device bank lines label) rows = decimal lines

@@ -5,7 +5,7 @@ ghost use Rattle.gl_simtree.specs.Forms.{is_device, is_bank};
 ghost use Rattle.gl_simtree.specs.Formed.{IsFormedRow};
 
 use crate::node::Directory;
-use crate::row::Row;
+use crate::row::TreeRow;
 use crate::search;
 use gl_base::{Errno, LINES_MAX, Name, push_within};
 use gl_desc::Hog;
@@ -16,7 +16,7 @@ use std::alloc::Global;
 pub struct BankPlan {
     /// Its label.
     pub label: Name,
-    /// How many lines it has, from 1 to 128.
+    /// How many lines it has, from 1 to 128; 0 for a plan of nothing.
     pub lines: u32,
     /// The name of each line that has a directory, with its offset, in order of the offsets. A line whose
     /// name was never written has the empty one.
@@ -30,6 +30,8 @@ impl BankPlan {
 
     /// A plan of nothing, with room for the names and hogs of any bank. `NoMemory` alone is refused.
     pub fn new(alloc: Global) -> Result<BankPlan, Errno>
+        ensures label { IfOk result (λ plan. plan.label ≡ []) }
+        ensures lines { IfOk result (λ plan. plan.lines ≡ 0) }
         ensures names { IfOk result (λ plan. plan.names.items ≡ []) }
         ensures hogs { IfOk result (λ plan. plan.hogs.items ≡ []) }
         ensures room { IfOk result HasRoom }
@@ -51,17 +53,18 @@ impl BankPlan {
     }
 
     /// Fills the plan anew with what a row becomes: a bank becomes a chip, any other row nothing.
-    pub(crate) fn fill(&mut self, rows: &[Row], row: &Row)
+    pub(crate) fn fill(&mut self, rows: &[TreeRow], row: &TreeRow)
         requires formed { IsFormedRow row.now }
         requires room { HasRoom self.old }
         ensures label { self.new.label ≡ planned_label (Some row.now) }
         ensures lines { self.new.lines ≡ planned_lines (Some row.now) }
+        ensures few { self.new.lines ≤ LINES_MAX }
         ensures names { self.new.names.items ≡ planned_names (Some row.now) rows.now }
         ensures hogs { self.new.hogs.items ≡ planned_hogs (Some row.now) rows.now }
         ensures room { HasRoom self.new }
     {
         match row {
-            Row::Bank {
+            TreeRow::Bank {
                 device,
                 bank,
                 lines,
@@ -72,7 +75,7 @@ impl BankPlan {
                 fill_names(&mut self.names, rows, device, bank, *lines);
                 fill_hogs(&mut self.hogs, rows, device, bank, *lines);
             }
-            Row::Device { .. } | Row::Line { .. } | Row::Hog { .. } => self.clear(),
+            TreeRow::Device { .. } | TreeRow::Line { .. } | TreeRow::Hog { .. } => self.clear(),
         }
     }
 
@@ -107,11 +110,17 @@ fn chip_label(device: &Name, bank: &Name, label: &Name) -> Name
 }
 
 /// The names of a bank's lines, in order of their offsets.
-fn fill_names(names: &mut Vec<(u32, Name)>, rows: &[Row], device: &Name, bank: &Name, lines: u32)
+fn fill_names(
+    names: &mut Vec<(u32, Name)>,
+    rows: &[TreeRow],
+    device: &Name,
+    bank: &Name,
+    lines: u32,
+)
     requires lines { lines ≤ LINES_MAX }
     requires room { LINES_MAX ≤ vec_capacity names.old }
     ensures names { names.new.items ≡ names_from device.now bank.now rows.now 0 lines }
-    ensures room { vec_capacity names.old ≤ vec_capacity names.new }
+    ensures room { vec_capacity names.new ≡ vec_capacity names.old }
 {
     names.clear();
     for offset in 0..lines {
@@ -130,23 +139,23 @@ fn fill_names(names: &mut Vec<(u32, Name)>, rows: &[Row], device: &Name, bank: &
 }
 
 /// The name of a line directory, with its offset.
-fn push_name(names: &mut Vec<(u32, Name)>, row: Option<&Row>)
+fn push_name(names: &mut Vec<(u32, Name)>, row: Option<&TreeRow>)
     requires { length names.old.items < vec_capacity names.old }
     ensures names { names.new.items ≡ names.old.items ++ line_name (option_copied row.entry) }
     ensures count { length names.new.items ≤ length names.old.items + 1 }
-    ensures room { vec_capacity names.old ≤ vec_capacity names.new }
+    ensures room { vec_capacity names.new ≡ vec_capacity names.old }
 {
-    if let Some(Row::Line { line, name, .. }) = row {
+    if let Some(TreeRow::Line { line, name, .. }) = row {
         push_within(names, (*line, *name));
     }
 }
 
 /// The hogs of a bank's lines, in order of their offsets.
-fn fill_hogs(hogs: &mut Vec<Hog>, rows: &[Row], device: &Name, bank: &Name, lines: u32)
+fn fill_hogs(hogs: &mut Vec<Hog>, rows: &[TreeRow], device: &Name, bank: &Name, lines: u32)
     requires lines { lines ≤ LINES_MAX }
     requires room { LINES_MAX ≤ vec_capacity hogs.old }
     ensures hogs { hogs.new.items ≡ hogs_from device.now bank.now rows.now 0 lines }
-    ensures room { vec_capacity hogs.old ≤ vec_capacity hogs.new }
+    ensures room { vec_capacity hogs.new ≡ vec_capacity hogs.old }
 {
     hogs.clear();
     for offset in 0..lines {
@@ -165,14 +174,14 @@ fn fill_hogs(hogs: &mut Vec<Hog>, rows: &[Row], device: &Name, bank: &Name, line
 }
 
 /// The hog of a hog directory.
-fn push_hog(hogs: &mut Vec<Hog>, row: Option<&Row>)
+fn push_hog(hogs: &mut Vec<Hog>, row: Option<&TreeRow>)
     requires { length hogs.old.items < vec_capacity hogs.old }
     ensures hogs { hogs.new.items ≡ hogs.old.items ++ line_hog (option_copied row.entry) }
     ensures count { length hogs.new.items ≤ length hogs.old.items + 1 }
-    ensures room { vec_capacity hogs.old ≤ vec_capacity hogs.new }
+    ensures room { vec_capacity hogs.new ≡ vec_capacity hogs.old }
 {
     if let Some(
-        Row::Hog {
+        TreeRow::Hog {
             line,
             name,
             way,

@@ -43,7 +43,7 @@ impl State {
 
 /// A directory of the tree with its values.
 #[derive(Clone, Copy, PartialEq, Eq, Debug)]
-pub enum Row {
+pub enum TreeRow {
     /// A device.
     Device {
         device: Name,
@@ -73,33 +73,33 @@ pub enum Row {
     },
 }
 
-impl Row {
+impl TreeRow {
     ghost use Rattle.gl_simtree.specs.Rows.{is_row_of, is_row_in, new_row, row_with_state};
     ghost use Rattle.gl_simtree.specs.Formed.{IsFormedDirectory, IsFormedRow};
 
     /// The row of a new directory, with its values at first.
-    pub fn new(directory: &Directory) -> Row
+    pub fn new(directory: &Directory) -> TreeRow
         ensures row { result ≡ new_row directory.now }
         ensures formed { IsFormedDirectory directory.now → IsFormedRow result }
     {
         match directory {
-            Directory::Device { device } => Row::Device {
+            Directory::Device { device } => TreeRow::Device {
                 device: *device,
                 state: State::Off,
             },
-            Directory::Bank { device, bank } => Row::Bank {
+            Directory::Bank { device, bank } => TreeRow::Bank {
                 device: *device,
                 bank: *bank,
                 lines: 1,
                 label: Name::empty(),
             },
-            Directory::Line { device, bank, line } => Row::Line {
+            Directory::Line { device, bank, line } => TreeRow::Line {
                 device: *device,
                 bank: *bank,
                 line: *line,
                 name: Name::empty(),
             },
-            Directory::Hog { device, bank, line } => Row::Hog {
+            Directory::Hog { device, bank, line } => TreeRow::Hog {
                 device: *device,
                 bank: *bank,
                 line: *line,
@@ -114,16 +114,17 @@ impl Row {
         ensures { result ≡ is_row_of directory.now self.now }
     {
         match (self, directory) {
-            (Row::Device { device, .. }, Directory::Device { device: wanted }) => wanted == device,
+            (TreeRow::Device { device, .. }, Directory::Device { device: wanted }) => wanted
+                == device,
             (
-                Row::Bank { device, bank, .. },
+                TreeRow::Bank { device, bank, .. },
                 Directory::Bank {
                     device: wanted,
                     bank: of,
                 },
             ) => wanted == device && of == bank,
             (
-                Row::Line {
+                TreeRow::Line {
                     device,
                     bank,
                     line,
@@ -136,7 +137,7 @@ impl Row {
                 },
             ) => { wanted == device && of == bank && at == line }
             (
-                Row::Hog {
+                TreeRow::Hog {
                     device,
                     bank,
                     line,
@@ -157,16 +158,17 @@ impl Row {
         ensures { result ≡ is_row_in directory.now self.now }
     {
         match (self, directory) {
-            (Row::Bank { device, .. }, Directory::Device { device: wanted }) => wanted == device,
+            (TreeRow::Bank { device, .. }, Directory::Device { device: wanted }) => wanted
+                == device,
             (
-                Row::Line { device, bank, .. },
+                TreeRow::Line { device, bank, .. },
                 Directory::Bank {
                     device: wanted,
                     bank: of,
                 },
             ) => wanted == device && of == bank,
             (
-                Row::Hog {
+                TreeRow::Hog {
                     device,
                     bank,
                     line,
@@ -188,8 +190,8 @@ impl Row {
         ensures formed { IsFormedRow self.old → IsFormedRow self.new }
     {
         match self {
-            Row::Device { state, .. } => *state = to,
-            Row::Bank { .. } | Row::Line { .. } | Row::Hog { .. } => {}
+            TreeRow::Device { state, .. } => *state = to,
+            TreeRow::Bank { .. } | TreeRow::Line { .. } | TreeRow::Hog { .. } => {}
         }
     }
 }

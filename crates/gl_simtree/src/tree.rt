@@ -1,8 +1,10 @@
 //! The tree and its calls.
-ghost use Rattle.std.specs.Prelude.{◌≡◌, ◌≤◌, [], IfOk, IsOkUnless, Some, slice_get};
+ghost use Rattle.std.specs.Prelude.{◌≡◌, ◌≤◌, [], IfOk, IsOkUnless, Some, slice_get, length};
 ghost use Rattle.gl_simtree.specs.Nodes.{node_at};
-ghost use Rattle.gl_simtree.specs.Calls.{answer, unless, mkdir_refusal, made, rmdir_refusal, removed, write_to, write_refusal, written, read_answer, live_refusal, bank_count, remove_refusal, leaving_state};
+ghost use Rattle.gl_base.specs.Refusals.{answer, unless};
+ghost use Rattle.gl_simtree.specs.Calls.{mkdir_refusal, made, rmdir_refusal, removed, write_to, write_refusal, written, read_answer, live_refusal, remove_refusal, leaving_state};
 ghost use Rattle.gl_simtree.specs.Plans.{planned_label, planned_lines, planned_names, planned_hogs};
+ghost use Rattle.gl_base.specs.declared.limits.TheConstants.{LINES_MAX};
 ghost use Rattle.gl_simtree.specs.Room.{HasRoom};
 ghost use Rattle.gl_simtree.specs.Rows.{row_at, with_state, state_of, banks_of};
 
@@ -10,7 +12,7 @@ use crate::limits::DIRECTORIES_MAX;
 use crate::node::{Directory, File, Node};
 use crate::parse::node_at;
 use crate::plan::BankPlan;
-use crate::row::{Row, State};
+use crate::row::{State, TreeRow};
 use crate::{edit, form, search};
 use gl_base::{Errno, Name, Path, push_within};
 use std::alloc::Global;
@@ -20,22 +22,22 @@ use std::marker::Model;
 /// order of their making.
 #[derive(Drop)]
 pub struct Tree {
-    rows: Vec<Row>,
+    rows: Vec<TreeRow>,
 }
 
 impl Model for Tree {
-    ghost use Rattle.std.specs.Prelude.{List, ◌≤◌, length, vec_capacity};
-    ghost use Rattle.gl_simtree.specs.declared.row.Row.{Row};
+    ghost use Rattle.std.specs.Prelude.{List, ◌≡◌, ◌≤◌, length, vec_capacity};
+    ghost use Rattle.gl_simtree.specs.declared.row.TreeRow.{TreeRow};
     ghost use Rattle.gl_simtree.specs.declared.limits.TheConstants.{DIRECTORIES_MAX};
 
-    ghost Value = { List Row };
+    ghost Value = { List TreeRow };
 
     ghost use Rattle.gl_base.specs.Rows.{Each};
     ghost use Rattle.gl_simtree.specs.Formed.{IsFormedRow};
 
     ghost view = { λ t. t.rows.items };
 
-    ghost invariant = { λ t. (DIRECTORIES_MAX ≤ vec_capacity t.rows) × (length t.rows.items ≤ DIRECTORIES_MAX) × Each IsFormedRow t.rows.items };
+    ghost invariant = { λ t. (vec_capacity t.rows ≡ DIRECTORIES_MAX) × (length t.rows.items ≤ DIRECTORIES_MAX) × Each IsFormedRow t.rows.items };
 }
 
 impl Tree {
@@ -50,11 +52,19 @@ impl Tree {
         }
     }
 
+    /// How many directories there is room for. It is always `DIRECTORIES_MAX`, since no call but `new` takes
+    /// memory.
+    pub fn capacity(&self) -> usize
+        ensures { result ≡ DIRECTORIES_MAX }
+    {
+        self.rows.capacity()
+    }
+
     /// Makes a directory. The refusals, first case first: `Inval` where the path is of no directory's form,
     /// `NoEnt` without the parent, `Busy` in a device that is live or leaving, `Exist` where it is there,
     /// `NoSpc` where there are 1024 directories.
     pub fn mkdir(&mut self, path: &Path) -> Result<(), Errno>
-        ensures answer { result ≡ answer (mkdir_refusal (node_at path.now) self.old) }
+        ensures answer { result ≡ answer (mkdir_refusal (node_at path.now) self.old) tt }
         ensures tree { self.new ≡ unless (mkdir_refusal (node_at path.now) self.old) (made (node_at path.now) self.old) self.old }
     {
         let directory = match node_at(path) {
@@ -73,14 +83,14 @@ impl Tree {
         if self.rows.len() >= DIRECTORIES_MAX {
             return Err(Errno::NoSpc);
         }
-        push_within(&mut self.rows, Row::new(&directory));
+        push_within(&mut self.rows, TreeRow::new(&directory));
         Ok(())
     }
 
     /// Removes a directory. The refusals, first case first: `Inval` where the path is of no directory's form,
     /// `NoEnt` where it isn't there, `Busy` in a device that is live or leaving, `Busy` with directories in it.
     pub fn rmdir(&mut self, path: &Path) -> Result<(), Errno>
-        ensures answer { result ≡ answer (rmdir_refusal (node_at path.now) self.old) }
+        ensures answer { result ≡ answer (rmdir_refusal (node_at path.now) self.old) tt }
         ensures tree { self.new ≡ unless (rmdir_refusal (node_at path.now) self.old) (removed (node_at path.now) self.old) self.old }
     {
         let directory = match node_at(path) {
@@ -101,7 +111,7 @@ impl Tree {
     /// `live`, which the other calls change; `NoEnt` without the directory; `Perm` for `chip_name`; `Busy` in
     /// a device that is live or leaving; `Inval` for a value that isn't one of the file's.
     pub fn write(&mut self, path: &Path, value: &Name) -> Result<(), Errno>
-        ensures answer { result ≡ answer (write_refusal (node_at path.now) value.now self.old) }
+        ensures answer { result ≡ answer (write_refusal (node_at path.now) value.now self.old) tt }
         ensures tree { self.new ≡ unless (write_refusal (node_at path.now) value.now self.old) (written (node_at path.now) value.now self.old) self.old }
     {
         let (directory, file) = match node_at(path) {
@@ -116,7 +126,7 @@ impl Tree {
 
     /// Writes a file of a directory; `live` isn't written.
     fn write_file(&mut self, directory: &Directory, file: File, value: &Name) -> Result<(), Errno>
-        ensures answer { result ≡ answer (write_to directory.now file value.now (row_at directory.now self.old) self.old) }
+        ensures answer { result ≡ answer (write_to directory.now file value.now (row_at directory.now self.old) self.old) tt }
         ensures tree { self.new ≡ unless (write_to directory.now file value.now (row_at directory.now self.old) self.old) (written (Some (Node.File directory.now file)) value.now self.old) self.old }
     {
         let row = match search::row_at(&self.rows, directory) {
@@ -158,7 +168,7 @@ impl Tree {
     /// is leaving, `Perm` where it is live, `Inval` without a bank, `NoSpc` where fewer places are left than
     /// it has banks.
     pub fn check_live(&self, device: &Name, left: u32) -> Result<u32, Errno>
-        ensures { result ≡ bank_count (live_refusal device.now left self.now) device.now self.now }
+        ensures { result ≡ answer (live_refusal device.now left self.now) (length (banks_of device.now self.now)) }
     {
         if !form::is_device(device.as_bytes()) {
             return Err(Errno::Inval);
@@ -185,7 +195,7 @@ impl Tree {
     /// another form, `NoEnt` where the device isn't there, `Busy` where it is leaving, `Perm` where it isn't
     /// live.
     pub fn check_remove(&self, device: &Name) -> Result<(), Errno>
-        ensures { result ≡ answer (remove_refusal device.now self.now) }
+        ensures { result ≡ answer (remove_refusal device.now self.now) tt }
     {
         if !form::is_device(device.as_bytes()) {
             return Err(Errno::Inval);
@@ -228,6 +238,7 @@ impl Tree {
         requires { HasRoom plan.old }
         ensures label { plan.new.label ≡ planned_label (slice_get (banks_of device.now self.now) bank) }
         ensures lines { plan.new.lines ≡ planned_lines (slice_get (banks_of device.now self.now) bank) }
+        ensures few { plan.new.lines ≤ LINES_MAX }
         ensures names { plan.new.names.items ≡ planned_names (slice_get (banks_of device.now self.now) bank) self.now }
         ensures hogs { plan.new.hogs.items ≡ planned_hogs (slice_get (banks_of device.now self.now) bank) self.now }
         ensures room { HasRoom plan.new }

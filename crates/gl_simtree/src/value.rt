@@ -5,7 +5,7 @@ ghost use Rattle.gl_simtree.specs.Values.{lines_of_text, way_of_text, text_of_wa
 
 use crate::limits::DIRECTORIES_MAX;
 use crate::node::File;
-use crate::row::{Row, State};
+use crate::row::{State, TreeRow};
 use crate::search;
 use gl_base::{LINES_MAX, Name, read_plain_decimal};
 use gl_desc::HogWay;
@@ -57,30 +57,30 @@ fn text_of_way(way: HogWay) -> Name
     }
 }
 
-impl Row {
+impl TreeRow {
     ghost use Rattle.gl_simtree.specs.Values.{row_written, shown};
     ghost use Rattle.gl_simtree.specs.Formed.{IsFormedRow};
 
     /// The row after a write to one of its files, where the value is one of the file's.
-    pub(crate) fn written(&self, file: File, value: &Name) -> Option<Row>
+    pub(crate) fn written(&self, file: File, value: &Name) -> Option<TreeRow>
         ensures row { result ≡ row_written file value.now self.now }
         ensures formed { IfSome result (λ row. IsFormedRow self.now → IsFormedRow row) }
     {
         match self {
-            Row::Device { .. } => None,
-            Row::Bank {
+            TreeRow::Device { .. } => None,
+            TreeRow::Bank {
                 device,
                 bank,
                 lines,
                 label,
             } => bank_written(device, bank, *lines, label, file, value),
-            Row::Line {
+            TreeRow::Line {
                 device,
                 bank,
                 line,
                 ..
             } => line_written(device, bank, *line, file, value),
-            Row::Hog {
+            TreeRow::Hog {
                 device,
                 bank,
                 line,
@@ -91,23 +91,26 @@ impl Row {
     }
 
     /// What a file of the row reads as, where the tree has these rows.
-    pub(crate) fn shown(&self, file: File, rows: &[Row]) -> Name
+    pub(crate) fn shown(&self, file: File, rows: &[TreeRow]) -> Name
         requires { length rows.now ≤ DIRECTORIES_MAX }
         ensures { result ≡ shown file self.now rows.now }
     {
         match (self, file) {
-            (Row::Device { state, .. }, File::Live) => live_text(*state),
-            (Row::Bank { device, bank, .. }, File::ChipName) => {
+            (TreeRow::Device { state, .. }, File::Live) => live_text(*state),
+            (TreeRow::Bank { device, bank, .. }, File::ChipName) => {
                 chip_name_of(
                     search::state_of(rows, device),
                     search::bank_number(rows, device, bank),
                 )
             }
-            (Row::Bank { lines, .. }, File::NumLines) => Name::with_number(b"", u64::from(*lines)),
-            (Row::Bank { label, .. }, File::Label) => *label,
-            (Row::Line { name, .. }, File::LineName) => *name,
-            (Row::Hog { name, .. }, File::HogName) => *name,
-            (Row::Hog { way, .. }, File::Direction) => text_of_way(*way),
+            (TreeRow::Bank { lines, .. }, File::NumLines) => Name::with_number(
+                b"",
+                u64::from(*lines),
+            ),
+            (TreeRow::Bank { label, .. }, File::Label) => *label,
+            (TreeRow::Line { name, .. }, File::LineName) => *name,
+            (TreeRow::Hog { name, .. }, File::HogName) => *name,
+            (TreeRow::Hog { way, .. }, File::Direction) => text_of_way(*way),
             _ => Name::empty(),
         }
     }
@@ -143,16 +146,16 @@ fn bank_written(
     label: &Name,
     file: File,
     value: &Name,
-) -> Option<Row>
-    ensures row { result ≡ row_written file value.now (Row.Bank device.now bank.now lines label.now) }
-    ensures formed { IfSome result (λ row. IsFormedRow (Row.Bank device.now bank.now lines label.now) → IsFormedRow row) }
+) -> Option<TreeRow>
+    ensures row { result ≡ row_written file value.now (TreeRow.Bank device.now bank.now lines label.now) }
+    ensures formed { IfSome result (λ row. IsFormedRow (TreeRow.Bank device.now bank.now lines label.now) → IsFormedRow row) }
 {
     let (lines, label) = match file {
         File::NumLines => (lines_of_text(value)?, *label),
         File::Label => (lines, some_text(value)?),
         _ => return None,
     };
-    Some(Row::Bank {
+    Some(TreeRow::Bank {
         device: *device,
         bank: *bank,
         lines,
@@ -161,15 +164,15 @@ fn bank_written(
 }
 
 /// The row of a line after a write to its file.
-fn line_written(device: &Name, bank: &Name, line: u32, file: File, value: &Name) -> Option<Row>
-    ensures row { result ≡ row_written file value.now (Row.Line device.now bank.now line []) }
-    ensures formed { IfSome result (λ row. IsFormedRow (Row.Line device.now bank.now line []) → IsFormedRow row) }
+fn line_written(device: &Name, bank: &Name, line: u32, file: File, value: &Name) -> Option<TreeRow>
+    ensures row { result ≡ row_written file value.now (TreeRow.Line device.now bank.now line []) }
+    ensures formed { IfSome result (λ row. IsFormedRow (TreeRow.Line device.now bank.now line []) → IsFormedRow row) }
 {
     let name = match file {
         File::LineName => some_text(value)?,
         _ => return None,
     };
-    Some(Row::Line {
+    Some(TreeRow::Line {
         device: *device,
         bank: *bank,
         line,
@@ -186,16 +189,16 @@ fn hog_written(
     way: HogWay,
     file: File,
     value: &Name,
-) -> Option<Row>
-    ensures row { result ≡ row_written file value.now (Row.Hog device.now bank.now line name.now way) }
-    ensures formed { IfSome result (λ row. IsFormedRow (Row.Hog device.now bank.now line name.now way) → IsFormedRow row) }
+) -> Option<TreeRow>
+    ensures row { result ≡ row_written file value.now (TreeRow.Hog device.now bank.now line name.now way) }
+    ensures formed { IfSome result (λ row. IsFormedRow (TreeRow.Hog device.now bank.now line name.now way) → IsFormedRow row) }
 {
     let (name, way) = match file {
         File::HogName => (some_text(value)?, way),
         File::Direction => (*name, way_of_text(value)?),
         _ => return None,
     };
-    Some(Row::Hog {
+    Some(TreeRow::Hog {
         device: *device,
         bank: *bank,
         line,

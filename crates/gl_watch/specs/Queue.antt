@@ -1,5 +1,5 @@
--- The changes that wait for a file, in order (the kernel's GPIO character device). That a full queue drops the newest
--- change is this project's choice.
+-- The changes that wait for a file, in order (the kernel's GPIO character device). A full queue drops the newest
+-- change, as gpiolib's does.
 use Rattle.std.specs.Prelude.{if◌then◌else◌, nat_lt, List, [], ◌∷◌, ◌++◌, length}
 use Rattle.gl_uapi.specs.declared.info_changes.Changed.{Changed}
 use Rattle.gl_watch.specs.declared.queue.TheConstants.{QUEUE_CHANGES_MAX}

@@ -10,7 +10,7 @@ use gl_uapi::Changed;
 /// An open chip file: its number, its chip's place, the lines that it watches, and the changes that wait
 /// for it.
 #[derive(Drop)]
-pub struct File {
+pub struct ChipFile {
     /// The file's number.
     pub fd: u32,
     /// The place of its chip.
@@ -21,7 +21,7 @@ pub struct File {
     pub changes: InfoQueue,
 }
 
-impl File {
+impl ChipFile {
     ghost use Rattle.gl_watch.specs.Files.{is_watching, with_watch, notified};
 
     /// Whether the file watches a line.

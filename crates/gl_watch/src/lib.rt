@@ -5,12 +5,13 @@
 #![tactic(auto)]
 
 mod file;
+pub mod laws;
 mod queue;
 mod table;
 #[cfg(test)]
 mod tests;
 mod watches;
 
-pub use file::File;
+pub use file::ChipFile;
 pub use queue::{InfoQueue, QUEUE_CHANGES_MAX};
 pub use watches::Watches;

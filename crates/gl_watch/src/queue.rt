@@ -13,8 +13,8 @@ use gl_uapi::{Changed, write_info_changed};
 use std::alloc::Global;
 use std::marker::Model;
 
-/// How many changes wait for a file at most. The number is that of the kernel's character device; that the
-/// newest change is dropped where it is reached is this project's choice.
+/// How many changes wait for a file at most. Where so many wait, the newest change is dropped. Both are as
+/// gpiolib has it: its queue for a chip's file has 32 changes, and one that doesn't fit is dropped.
 pub const QUEUE_CHANGES_MAX: usize = 32;
 
 /// Changes that wait, the oldest first. Contracts see the list of them.

@@ -7,28 +7,28 @@ ghost use Rattle.gl_uapi.specs.InfoChanged.{changed_bytes};
 ghost use Rattle.gl_watch.specs.Files.{is_file, file_at, with_watch, notified, waiting_in, without_changes};
 ghost use Rattle.gl_watch.specs.Answers.{changes_of};
 
-use crate::file::File;
+use crate::file::ChipFile;
 use crate::queue::InfoQueue;
 use gl_base::LINES_MAX;
 use gl_uapi::Changed;
 use gl_uapi::layout::INFO_CHANGED_SIZE;
 
 /// Where the file of a number stands.
-pub(crate) fn position_of(files: &[File], fd: u32) -> Option<usize>
+pub(crate) fn position_of(files: &[ChipFile], fd: u32) -> Option<usize>
     ensures { result ≡ position (is_file fd) files.now }
 {
     files.iter().position(|file| file.fd == fd)
 }
 
 /// The file of a number.
-pub(crate) fn file_at(files: &[File], fd: u32) -> Option<&File>
+pub(crate) fn file_at(files: &[ChipFile], fd: u32) -> Option<&ChipFile>
     ensures { option_copied result ≡ file_at fd files.now }
 {
     files.iter().find(|file| file.fd == fd)
 }
 
 /// Takes a file out, and gives its queue.
-pub(crate) fn remove_file(files: &mut Vec<File>, fd: u32) -> Option<InfoQueue>
+pub(crate) fn remove_file(files: &mut Vec<ChipFile>, fd: u32) -> Option<InfoQueue>
     ensures queue { result ≡ changes_of (file_at fd files.old.items) }
     ensures files { files.new.items ≡ without_first (is_file fd) files.old.items }
     ensures capacity { vec_capacity files.new ≡ vec_capacity files.old }
@@ -41,7 +41,7 @@ pub(crate) fn remove_file(files: &mut Vec<File>, fd: u32) -> Option<InfoQueue>
 }
 
 /// Sets whether a file watches a line.
-pub(crate) fn set_watch(files: &mut Vec<File>, fd: u32, offset: u32, watch: bool)
+pub(crate) fn set_watch(files: &mut Vec<ChipFile>, fd: u32, offset: u32, watch: bool)
     requires { offset < LINES_MAX }
     ensures files { files.new.items ≡ change_first (is_file fd) (with_watch offset watch) files.old.items }
     ensures capacity { vec_capacity files.new ≡ vec_capacity files.old }
@@ -54,7 +54,7 @@ pub(crate) fn set_watch(files: &mut Vec<File>, fd: u32, offset: u32, watch: bool
 }
 
 /// Tells each file of a change.
-pub(crate) fn notify_all(files: &mut Vec<File>, place: u8, changed: &Changed)
+pub(crate) fn notify_all(files: &mut Vec<ChipFile>, place: u8, changed: &Changed)
     requires { changed.now.info.offset < LINES_MAX }
     ensures files { files.new.items ≡ map (notified place changed.now) files.old.items }
     ensures capacity { vec_capacity files.new ≡ vec_capacity files.old }
@@ -66,7 +66,7 @@ pub(crate) fn notify_all(files: &mut Vec<File>, place: u8, changed: &Changed)
 }
 
 /// Moves a file's first changes into `out`.
-pub(crate) fn read_file(files: &mut Vec<File>, fd: u32, max: u32, out: &mut [u8]) -> u32
+pub(crate) fn read_file(files: &mut Vec<ChipFile>, fd: u32, max: u32, out: &mut [u8]) -> u32
     requires { INFO_CHANGED_SIZE * max ≤ length out.old }
     ensures count { result ≡ min max (length (waiting_in (file_at fd files.old.items))) }
     ensures files { files.new.items ≡ change_first (is_file fd) (without_changes result) files.old.items }

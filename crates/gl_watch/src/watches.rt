@@ -2,10 +2,11 @@
 
 ghost use Rattle.std.specs.Prelude.{◌≡◌, ◌*◌, ◌<◌, ◌≤◌, [], ◌∷◌, ◌++◌, length, map, min, take, drop, nat_le, true, false, IfOk, IsOkUnless};
 ghost use Rattle.std.specs.List.{flat_map};
+ghost use Rattle.gl_base.specs.Refusals.{answer, unless};
 ghost use Rattle.gl_base.specs.Rows.{change_first, without_first};
 ghost use Rattle.gl_uapi.specs.InfoChanged.{changed_bytes};
 
-use crate::file::File;
+use crate::file::ChipFile;
 use crate::queue::InfoQueue;
 use crate::table::{file_at, notify_all, read_file, remove_file, set_watch};
 use gl_base::{Errno, FILES_MAX, LINES_MAX, push_within};
@@ -17,24 +18,24 @@ use std::marker::Model;
 /// The open chip files. Contracts see the list of them, in order of their opening.
 #[derive(Drop)]
 pub struct Watches {
-    files: Vec<File>,
+    files: Vec<ChipFile>,
 }
 
 impl Model for Watches {
-    ghost use Rattle.std.specs.Prelude.{◌≤◌, List, length, vec_capacity};
+    ghost use Rattle.std.specs.Prelude.{◌≡◌, ◌≤◌, List, length, vec_capacity};
     ghost use Rattle.gl_base.specs.declared.limits.TheConstants.{FILES_MAX};
-    ghost use Rattle.gl_watch.specs.declared.file.File.{File};
+    ghost use Rattle.gl_watch.specs.declared.file.ChipFile.{ChipFile};
 
-    ghost Value = { List File };
+    ghost Value = { List ChipFile };
 
     ghost view = { λ w. w.files.items };
 
-    ghost invariant = { λ w. (FILES_MAX ≤ vec_capacity w.files) × (length w.files.items ≤ FILES_MAX) };
+    ghost invariant = { λ w. (vec_capacity w.files ≡ FILES_MAX) × (length w.files.items ≤ FILES_MAX) };
 }
 
 impl Watches {
     ghost use Rattle.gl_watch.specs.Files.{is_file, file_at, new_file, with_watch, watch_refusal, unwatch_refusal, notified, waiting_in, without_changes};
-    ghost use Rattle.gl_watch.specs.Answers.{answer, unless, changes_of, place_of};
+    ghost use Rattle.gl_watch.specs.Answers.{changes_of, place_of};
 
     /// No open file, with room for all that may be open. `NoMemory` alone is refused.
     pub fn new(alloc: Global) -> Result<Watches, Errno>
@@ -53,13 +54,28 @@ impl Watches {
         requires { length self.old < FILES_MAX }
         ensures { self.new ≡ self.old ++ new_file fd place queue ∷ [] }
     {
-        let file = File {
+        let file = ChipFile {
             fd,
             place,
             watched: [false; LINES_MAX as usize],
             changes: queue,
         };
         push_within(&mut self.files, file);
+    }
+
+    /// How many files are open.
+    pub fn len(&self) -> u32
+        ensures len { result ≡ length self.now }
+        ensures within { result ≤ FILES_MAX }
+    {
+        self.files.len() as u32
+    }
+
+    /// How many files there is room for. It is always `FILES_MAX`, since no call but `new` takes memory.
+    pub fn capacity(&self) -> u32
+        ensures { result ≡ FILES_MAX }
+    {
+        self.files.capacity() as u32
     }
 
     /// Whether no more file can be opened.
@@ -92,7 +108,7 @@ impl Watches {
     /// without such a file nothing changes either.
     pub fn watch(&mut self, fd: u32, offset: u32) -> Result<(), Errno>
         requires { offset < LINES_MAX }
-        ensures answer { result ≡ answer (watch_refusal offset (file_at fd self.old)) }
+        ensures answer { result ≡ answer (watch_refusal offset (file_at fd self.old)) tt }
         ensures files { self.new ≡ unless (watch_refusal offset (file_at fd self.old)) (change_first (is_file fd) (with_watch offset true) self.old) self.old }
     {
         match file_at(&self.files, fd) {
@@ -111,7 +127,7 @@ impl Watches {
     /// nothing changes; without such a file nothing changes either.
     pub fn unwatch(&mut self, fd: u32, offset: u32) -> Result<(), Errno>
         requires { offset < LINES_MAX }
-        ensures answer { result ≡ answer (unwatch_refusal offset (file_at fd self.old)) }
+        ensures answer { result ≡ answer (unwatch_refusal offset (file_at fd self.old)) tt }
         ensures files { self.new ≡ unless (unwatch_refusal offset (file_at fd self.old)) (change_first (is_file fd) (with_watch offset false) self.old) self.old }
     {
         match file_at(&self.files, fd) {

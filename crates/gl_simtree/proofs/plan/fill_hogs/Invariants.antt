@@ -8,4 +8,4 @@ abbrev pub invariant-loop-offset : goal.invariant-loop-offset
 invariant-loop-offset l =
     (l.hogs.items ++ hogs_from l.device l.bank l.rows l.offset (l.lines - l.offset) ≡ hogs_from l.device l.bank l.rows 0 l.lines)
     × (length l.hogs.items ≤ l.offset) × (l.lines ≤ LINES_MAX) × (LINES_MAX ≤ vec_capacity l.hogs)
-    × (vec_capacity l.initial.hogs ≤ vec_capacity l.hogs)
+    × (vec_capacity l.hogs ≡ vec_capacity l.initial.hogs)

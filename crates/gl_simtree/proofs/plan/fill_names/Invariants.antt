@@ -8,4 +8,4 @@ abbrev pub invariant-loop-offset : goal.invariant-loop-offset
 invariant-loop-offset l =
     (l.names.items ++ names_from l.device l.bank l.rows l.offset (l.lines - l.offset) ≡ names_from l.device l.bank l.rows 0 l.lines)
     × (length l.names.items ≤ l.offset) × (l.lines ≤ LINES_MAX) × (LINES_MAX ≤ vec_capacity l.names)
-    × (vec_capacity l.initial.names ≤ vec_capacity l.names)
+    × (vec_capacity l.names ≡ vec_capacity l.initial.names)

@@ -1,7 +1,7 @@
 use Rattle.std.proofs.Common.{◌≡◌, Some, sym, ◌∙◌, ap}
 use Rattle.std.specs.List.{position}
 use Rattle.gl_base.proofs.FirstRows.{find-position, find-no_position, without_first-position, without_first-no_position}
-use Rattle.gl_watch.specs.declared.file.File.{File}
+use Rattle.gl_watch.specs.declared.file.ChipFile.{ChipFile}
 use Rattle.gl_watch.specs.Files.{is_file}
 use Rattle.gl_watch.specs.Answers.{changes_of}
 use Rattle.gl_watch.proofs.table.remove_file.Goals as goal
@@ -10,7 +10,7 @@ pub returns-in-Some-clause-queue : goal.returns-in-Some-clause-queue
 returns-in-Some-clause-queue c =
     let test = is_file c.args.fd in
     let at : position test c.args.files.now.items ≡ Some c.in-Some.at = sym (c.in-Some.ensures ∙ ap (position test) c.deref.ensures.value) in
-    ap (λ (file : File). changes_of (Some file)) c.remove.ensures.value ∙ sym (ap changes_of (find-position test c.args.files.now.items c.in-Some.at c.remove.result at))
+    ap (λ (file : ChipFile). changes_of (Some file)) c.remove.ensures.value ∙ sym (ap changes_of (find-position test c.args.files.now.items c.in-Some.at c.remove.result at))
 
 pub returns-in-Some-clause-files : goal.returns-in-Some-clause-files
 returns-in-Some-clause-files c =

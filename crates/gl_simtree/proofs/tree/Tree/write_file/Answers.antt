@@ -3,11 +3,12 @@ use Rattle.std.proofs.lemmas.Grind.{common_steps}
 use Rattle.std.specs.List.{find}
 use Rattle.gl_base.specs.Rows.{Each, change_first}
 use Rattle.gl_base.proofs.FirstRows.{Each-find}
-use Rattle.gl_simtree.specs.declared.row.Row.{Row}
+use Rattle.gl_simtree.specs.declared.row.TreeRow.{TreeRow}
 use Rattle.gl_simtree.specs.Formed.{IsFormedRow}
 use Rattle.gl_simtree.specs.Rows.{is_row_of, row_at}
 use Rattle.gl_simtree.specs.Values.{row_written}
-use Rattle.gl_simtree.specs.Calls.{unless, write_to}
+use Rattle.gl_base.specs.Refusals.{unless}
+use Rattle.gl_simtree.specs.Calls.{write_to}
 use Rattle.gl_simtree.proofs.Found.{change_first-found}
 use Rattle.gl_simtree.proofs.tree.Tree.write_file.Goals as goal
 
@@ -15,7 +16,7 @@ pub returns-in-Some-written-clause-tree : goal.returns-in-Some-written-clause-tr
 returns-in-Some-written-clause-tree c =
     let test = is_row_of c.args.directory.now in
     let rows = c.args.self.now in
-    let change : Row → Row = λ row. unwrap_or (row_written c.args.file c.args.value.now row) row in
+    let change : TreeRow → TreeRow = λ row. unwrap_or (row_written c.args.file c.args.value.now row) row in
     let found : find test rows ≡ Some c.in-Some.row.now = grind (arith, common_steps, c.in-Some.ensures, c.self.view_is, c.deref.ensures.value) in
     let passes : write_to c.args.directory.now c.args.file c.args.value.now (row_at c.args.directory.now rows) rows ≡ None = grind (arith, common_steps, found, c.is_busy.ensures, c.eq.ensures, c.written.ensures) in
     let put : change c.in-Some.row.now ≡ c.in-Some-written.row = grind (arith, common_steps, c.in-Some-written.ensures) in

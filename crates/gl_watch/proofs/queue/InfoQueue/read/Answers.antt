@@ -3,7 +3,8 @@ use Rattle.std.specs.List.{slice_get}
 use Rattle.std.proofs.lemmas.List.{drop-drop}
 use Rattle.circular_buffer.specs.Buffer.{Buffer, buffer}
 use Rattle.gl_uapi.specs.declared.info_changes.Changed.{Changed}
-use Rattle.gl_watch.proofs.Moving.{change_written}
+use Rattle.gl_uapi.proofs.Moving.{item_written}
+use Rattle.gl_uapi.specs.InfoChanged.{changed_bytes}
 use Rattle.gl_watch.proofs.queue.InfoQueue.read.Goals as goal
 
 pub loop-i-preserved : goal.loop-i-preserved
@@ -15,6 +16,6 @@ loop-i-preserved c =
     ap (λ (queue : Buffer Changed). slice_get queue.items 0) (sym left) ∙ sym c.pop_front.ensures.value ∙ c.unwrap-changed.ensures in (
       c.pop_front.ensures.items ∙ ap (λ (queue : Buffer Changed). buffer (drop 1 queue.items) queue.capacity) left
           ∙ ap (λ (changes : List Changed). buffer changes c.self.inside.changes.capacity) (drop-drop 1 i items),
-      change_written items c.args.out.now c.loop-i.out c.write_info_changed.new.out i c.unwrap-changed.result (omega arith) (omega (arith, c.write_info_changed.auto.out)) next c.loop-i.invariant.1 c.write_info_changed.ensures.bytes,
+      item_written changed_bytes 288 items c.args.out.now c.loop-i.out c.write_info_changed.new.out i c.unwrap-changed.result (omega arith) (omega (arith, c.write_info_changed.auto.out)) next c.loop-i.invariant.1 c.write_info_changed.ensures.bytes,
       c.loop-i.invariant.2,
     )
