@@ -1,5 +1,6 @@
 -- What a call of a driver needs of a pass, and what it leaves of it.
 use Rattle.std.specs.Prelude.{◌≡◌, ℕ, ◌≤◌, List, ◌++◌}
+use Rattle.gl_base.specs.Lines.{IsLineCount}
 use Rattle.gl_world.specs.declared.machine.Machine.{Ghosts}
 use Rattle.gl_world.specs.declared.history.Entry.{Entry}
 use Rattle.gl_world.specs.History.{StartsWith}
@@ -10,15 +11,11 @@ use Rattle.gl_gate.specs.Calls.{IsInside, HoldsNoTurn, KnowsAsMuch}
 use Rattle.gl_driver.specs.declared.op.Op.{Op}
 use Rattle.gl_driver.specs.declared.op.Op.TheVariants.{Get, Set, Apply}
 
--- a request has 1 to 64 lines
-abbrev pub IsCount : ℕ → Type 0
-IsCount count = (1 ≤ count) × (count ≤ 64)
-
 -- an operation on 1 to 64 lines, with as many settings
 abbrev pub FitsOp : Op → Type 0
-FitsOp (Get lines) = IsCount lines.count
-FitsOp (Set lines mask bits) = IsCount lines.count
-FitsOp (Apply lines settings) = IsCount lines.count × (settings.count ≡ lines.count)
+FitsOp (Get lines) = IsLineCount lines.count
+FitsOp (Set lines mask bits) = IsLineCount lines.count
+FitsOp (Apply lines settings) = IsLineCount lines.count × (settings.count ≡ lines.count)
 
 module _ {M C R G : Type 0} (m : Ghosts M C R G) where
   -- a driver that makes entries of its own needs a gate of so many places, and a pass that owes one second entry at most and is inside no other place
@@ -30,6 +27,7 @@ module _ {M C R G : Type 0} (m : Ghosts M C R G) where
   -- the pass after a call of a driver which made these entries of its own
   pub record IsBack (v : View M C R G) (own : List (Entry M C R G)) (w : View M C R G) : Type 0 where
     pub number : w.number ≡ v.number
+    pub room : w.room ≡ v.room
     pub inside : w.inside ≡ v.inside
     pub no_turn : HoldsNoTurn w
     pub owed : owes m w ≡ owes m v

@@ -1,7 +1,7 @@
 -- What a port tells, and what calls make of it.
-use Rattle.std.specs.Prelude.{ℕ, Option, Some, None, Result, Ok, Err}
+use Rattle.std.specs.Prelude.{ℕ, if◌then◌else◌, Option, Some, None, Result, Ok, Err}
 use Rattle.gl_base.specs.Count.{counted_up}
-use Rattle.gl_base.specs.Planned.{planned_call}
+use Rattle.gl_base.specs.Planned.{planned_call, names_call}
 use Rattle.gl_driver.specs.declared.op.Op.{Op}
 use Rattle.gl_driver.specs.declared.op.Asked.{Asked}
 use Rattle.gl_driver.specs.declared.op.DriverFault.{DriverFault}
@@ -30,6 +30,11 @@ with_call op answer None = None
 abbrev pub answer_of : Result ℕ DriverFault → Option ℕ
 answer_of (Ok bits) = Some bits
 answer_of (Err fault) = None
+
+-- what comes of an answer where a driver fails as its port plans: a failure at the call that the plan names, else this answer
+abbrev pub unless_planned : Option ℕ → Option Told → Option ℕ
+unless_planned answer (Some t) = if names_call t.plan (counted_up t.calls) then None else answer
+unless_planned answer None = answer
 
 -- a failure is counted
 abbrev pub faults_after : Option ℕ → ℕ → ℕ

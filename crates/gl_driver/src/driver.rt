@@ -6,7 +6,7 @@ ghost use Rattle.gl_gate.specs.Calls.{IsInside, HoldsNoTurn};
 ghost use Rattle.gl_base.specs.Count.{counted_up, Rises};
 ghost use Rattle.gl_base.specs.Planned.{planned_answer};
 ghost use Rattle.gl_driver.specs.declared.op.Op.{Op};
-ghost use Rattle.gl_driver.specs.Told.{with_call, answer_of};
+ghost use Rattle.gl_driver.specs.Told.{with_call, answer_of, faults_after};
 ghost use Rattle.gl_driver.specs.Calls.{FitsOp, MayMakeEntries, IsBack};
 
 use crate::op::{DriverFault, Op};
@@ -37,7 +37,8 @@ pub trait Driver<M: Machine>: Sync + Drop {
 
     /// Asks the driver of the chip at a place. The answer of a `Get` is the bits of its lines.
     ///
-    /// A fault comes only where the port counted one in this call.
+    /// A fault comes only where the port counted one in this call, and the port's count is changed by nothing
+    /// else.
     fn call<R: Wait>(
         &self,
         rt: &R,
@@ -56,6 +57,7 @@ pub trait Driver<M: Machine>: Sync + Drop {
         ensures pass { (own : List (Entry M M.Call M.Reply M.Gift)) × (length own ≤ Self.ENTRIES)
             × Self.OwnEntries port.old place op.now own × IsBack M.Machine pass.old.view own pass.new.view }
         ensures told { Self.Port.told port.new ≡ with_call op.now (answer_of result) (Self.Port.told port.old) }
+        ensures counted { Self.Port.faults port.new ≡ faults_after (answer_of result) (Self.Port.faults port.old) }
         ensures never_falls { Self.Port.faults port.old ≤ Self.Port.faults port.new }
         ensures fault { IfErr result (λ _. Rises (Self.Port.faults port.old) (Self.Port.faults port.new)) }
         ensures planned { Self.is_planned ≡ true

@@ -1,9 +1,10 @@
 //! A driver that answers from a list of levels.
-ghost use Rattle.std.specs.Prelude.{◌≡◌, ℕ, ◌≤◌, ◌<◌, ◌^◌, false, List, [], length};
+ghost use Rattle.std.specs.Prelude.{◌≡◌, ℕ, ◌≤◌, ◌<◌, ◌^◌, false, Some, IfErr, List, [], length};
 ghost use Rattle.gl_world.specs.declared.history.Entry.{Entry};
 ghost use Rattle.gl_gate.specs.Values.{IsPassOf};
 ghost use Rattle.gl_gate.specs.Calls.{IsInside, HoldsNoTurn};
-ghost use Rattle.gl_driver.specs.Told.{with_call, answer_of};
+ghost use Rattle.gl_base.specs.Count.{Rises};
+ghost use Rattle.gl_driver.specs.Told.{with_call, answer_of, unless_planned, faults_after};
 ghost use Rattle.gl_driver.specs.Calls.{FitsOp, IsBack};
 ghost use Rattle.gl_driver.specs.Levels.{level_at, bits_at, answer_from};
 
@@ -11,13 +12,14 @@ use crate::driver::Driver;
 use crate::op::{DriverFault, Op};
 use crate::port::Port;
 use crate::sim::SimPort;
+use gl_base::LINES_PER_REQUEST;
 use gl_gate::{Gate, Pass};
 use gl_world::Machine;
 use std::marker::Model;
 use std::sync::Wait;
 
-/// A driver whose lines have fixed levels, as a list by offset. Lines past the list are 0. It never waits and
-/// never fails, and answers 0 to all that is no question for levels.
+/// A driver whose lines have fixed levels, as a list by offset. Lines past the list are 0. It never waits, answers
+/// 0 to all that is no question for levels, and fails as its port plans.
 #[derive(Drop)]
 pub struct FakeDriver {
     levels: Vec<bool>,
@@ -43,7 +45,7 @@ fn level(levels: &[bool], offset: u32) -> bool
 
 /// The levels of lines as bits, the first line's lowest.
 fn bits_of(levels: &[bool], offsets: &[u32]) -> u64
-    requires { length offsets.now ≤ 64 }
+    requires { length offsets.now ≤ LINES_PER_REQUEST }
     ensures bits { result ≡ bits_at levels.now offsets.now }
     ensures few { result < 2 ^ length offsets.now }
 {
@@ -97,15 +99,19 @@ impl<M: Machine> Driver<M> for FakeDriver {
         requires inside { IsInside pass.old.view place }
         requires no_turn { HoldsNoTurn pass.old.view }
         requires op { FitsOp op.now }
-        ensures answer { result ≡ Ok (answer_from self.now op.now) }
+        ensures answer { answer_of result
+            ≡ unless_planned (Some (answer_from self.now op.now)) (⟦<SimPort as Port>⟧.told port.old) }
         ensures gate { IsPassOf gate.now pass.new }
         ensures pass { (own : List (Entry M M.Call M.Reply M.Gift)) × (length own ≤ 0)
             × (own ≡ []) × IsBack M.Machine pass.old.view own pass.new.view }
         ensures told { ⟦<SimPort as Port>⟧.told port.new
             ≡ with_call op.now (answer_of result) (⟦<SimPort as Port>⟧.told port.old) }
+        ensures counted { ⟦<SimPort as Port>⟧.faults port.new
+            ≡ faults_after (answer_of result) (⟦<SimPort as Port>⟧.faults port.old) }
         ensures never_falls { ⟦<SimPort as Port>⟧.faults port.old ≤ ⟦<SimPort as Port>⟧.faults port.new }
+        ensures fault { IfErr result (λ _. Rises (⟦<SimPort as Port>⟧.faults port.old) (⟦<SimPort as Port>⟧.faults port.new)) }
     {
-        port.take_down(op, Some(self.answer(op)))
+        port.answer(op, Some(self.answer(op)))
     }
 
     ghost owns_none = { λ _ _ _ _ _ is. is };

@@ -1,22 +1,26 @@
 //! A driver that keeps calls until others are made.
-ghost use Rattle.std.specs.Prelude.{◌≡◌, ℕ, ◌≤◌, false, []};
+ghost use Rattle.std.specs.Prelude.{◌≡◌, ℕ, ◌≤◌, false, IfOk, IfErr, List, [], length};
+ghost use Rattle.gl_world.specs.declared.history.Entry.{Entry};
+ghost use Rattle.gl_gate.specs.Values.{IsPassOf};
+ghost use Rattle.gl_gate.specs.Calls.{IsInside, HoldsNoTurn};
+ghost use Rattle.gl_base.specs.Count.{Rises};
+ghost use Rattle.gl_driver.specs.Told.{with_call, answer_of, unless_planned, faults_after};
+ghost use Rattle.gl_driver.specs.Calls.{FitsOp, IsBack};
 
 use crate::driver::Driver;
 use crate::op::{DriverFault, Op};
+use crate::port::Port;
 use crate::sim::SimPort;
+use crate::waiting::waits_for;
 use gl_gate::{Gate, Pass};
 use gl_world::Machine;
-use std::hint::spin_loop;
 use std::marker::Model;
 use std::sync::Wait;
 use std::sync::atomic::{AtomicBool, AtomicU64, Ordering};
 
-/// How often a kept call looks whether it may go on. Then it fails.
-const TURNS: u32 = 100_000_000;
-
-/// A driver that keeps each of its first calls until one more was made, which shows that calls run side by
-/// side. It answers 0. A call that is kept for too long fails, and its port counts the failure. Contracts see
-/// the driver as the number of the call that lets the others go on.
+/// A driver that keeps each of its first calls until the one behind them is answered, which shows that calls run side by
+/// side. It answers 0 and fails as its port plans. A call that is kept for 100,000,000 turns fails too. Contracts
+/// see the driver as the number of the call that lets the others go on.
 #[derive(Drop)]
 pub struct HoldDriver {
     /// How many calls it keeps.
@@ -48,21 +52,10 @@ impl HoldDriver {
         }
     }
 
-    /// Waits until the kept calls may go on. False where that takes too many turns.
-    fn waits(&self) -> bool {
-        for _ in 0..TURNS {
-            if self.open.load(Ordering::SeqCst) {
-                return true;
-            }
-            spin_loop();
-        }
-        false
-    }
-
     /// One call: true where it is answered.
     fn goes_on(&self) -> bool {
         if self.made.fetch_add(1, Ordering::SeqCst) < self.kept {
-            return self.waits();
+            return waits_for(&self.open);
         }
         self.open.store(true, Ordering::SeqCst);
         true
@@ -83,14 +76,30 @@ impl<M: Machine> Driver<M> for HoldDriver {
     fn call<R: Wait>(
         &self,
         _rt: &R,
-        _gate: &Gate<M>,
+        gate: &Gate<M>,
         port: &mut SimPort,
-        _pass: &mut Pass<M>,
-        _place: u8,
+        pass: &mut Pass<M>,
+        place: u8,
         op: &Op,
-    ) -> Result<u64, DriverFault> {
+    ) -> Result<u64, DriverFault>
+        requires gate { IsPassOf gate.now pass.old }
+        requires inside { IsInside pass.old.view place }
+        requires no_turn { HoldsNoTurn pass.old.view }
+        requires op { FitsOp op.now }
+        ensures zero { IfOk result (λ bits. bits ≡ 0) }
+        ensures planned_failure { answer_of result ≡ unless_planned (answer_of result) (⟦<SimPort as Port>⟧.told port.old) }
+        ensures gate { IsPassOf gate.now pass.new }
+        ensures pass { (own : List (Entry M M.Call M.Reply M.Gift)) × (length own ≤ 0)
+            × (own ≡ []) × IsBack M.Machine pass.old.view own pass.new.view }
+        ensures told { ⟦<SimPort as Port>⟧.told port.new
+            ≡ with_call op.now (answer_of result) (⟦<SimPort as Port>⟧.told port.old) }
+        ensures counted { ⟦<SimPort as Port>⟧.faults port.new
+            ≡ faults_after (answer_of result) (⟦<SimPort as Port>⟧.faults port.old) }
+        ensures never_falls { ⟦<SimPort as Port>⟧.faults port.old ≤ ⟦<SimPort as Port>⟧.faults port.new }
+        ensures fault { IfErr result (λ _. Rises (⟦<SimPort as Port>⟧.faults port.old) (⟦<SimPort as Port>⟧.faults port.new)) }
+    {
         let answer = if self.goes_on() { Some(0) } else { None };
-        port.take_down(op, answer)
+        port.answer(op, answer)
     }
 
     ghost owns_none = { λ _ _ _ _ _ is. is };

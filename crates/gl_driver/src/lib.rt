@@ -5,13 +5,17 @@
 mod driver;
 mod fake;
 mod hold;
+mod latch;
+pub mod laws;
 mod op;
 mod port;
 mod sim;
+mod waiting;
 
 pub use driver::Driver;
 pub use fake::FakeDriver;
 pub use hold::HoldDriver;
+pub use latch::{FirstCallDriver, KeepsFirstCall, Latch, LatchDriver};
 pub use op::{Asked, DriverFault, Op};
 pub use port::Port;
 pub use sim::{SimDriver, SimPort};

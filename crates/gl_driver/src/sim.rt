@@ -3,21 +3,15 @@ ghost use Rattle.std.specs.Prelude.{◌≡◌, ◌≢◌, ℕ, ◌≤◌, ◌^�
 ghost use Rattle.std.proofs.Common.{refl};
 ghost use Rattle.gl_base.specs.Count.{counted_up, Rises};
 ghost use Rattle.gl_base.specs.Planned.{names_call};
-ghost use Rattle.gl_driver.specs.Told.{new_port, with_call, answer_of, faults_after};
+ghost use Rattle.gl_driver.specs.Told.{new_port, with_call, answer_of, unless_planned, faults_after};
 
 use crate::driver::Driver;
 use crate::op::{Asked, DriverFault, Op};
 use crate::port::Port;
+use gl_base::count_up;
 use gl_gate::{Gate, Pass};
 use gl_world::Machine;
 use std::sync::Wait;
-
-/// One more, up to the end of a `u64`.
-fn count_up(count: u64) -> u64
-    ensures { result ≡ counted_up count }
-{
-    count.saturating_add(1)
-}
 
 /// A port that tells all that went through it.
 #[derive(Drop)]
@@ -62,13 +56,26 @@ impl SimPort {
     }
 
     /// The plan names the next call.
-    pub(crate) fn fails_next(&self) -> bool
+    fn fails_next(&self) -> bool
         ensures { result ≡ names_call self.now.plan (counted_up self.now.calls) }
     {
         match self.plan {
             Some(call) => call == u128::from(count_up(self.calls)),
             None => false,
         }
+    }
+
+    /// Takes down a call that fails where the plan names it, and else has this answer.
+    pub(crate) fn answer(&mut self, op: &Op, answer: Option<u64>) -> Result<u64, DriverFault>
+        ensures answer { answer_of result ≡ unless_planned answer (⟦<SimPort as Port>⟧.told self.old) }
+        ensures told { ⟦<SimPort as Port>⟧.told self.new
+            ≡ with_call op.now (answer_of result) (⟦<SimPort as Port>⟧.told self.old) }
+        ensures faults { self.new.faults ≡ faults_after (answer_of result) self.old.faults }
+        ensures never_falls { self.old.faults ≤ self.new.faults }
+        ensures fault { IfErr result (λ _. Rises self.old.faults self.new.faults) }
+    {
+        let answer = if self.fails_next() { None } else { answer };
+        self.take_down(op, answer)
     }
 
     /// Takes down a call and its answer, and counts a failure.
@@ -95,6 +102,13 @@ impl SimPort {
 #[derive(Clone, Copy, Debug)]
 pub struct SimDriver;
 
+impl SimDriver {
+    /// The driver. There is nothing to it: all that it answers is in its ports.
+    pub fn new() -> SimDriver {
+        SimDriver
+    }
+}
+
 impl<M: Machine> Driver<M> for SimDriver {
     type Port = SimPort;
 
@@ -115,8 +129,7 @@ impl<M: Machine> Driver<M> for SimDriver {
         _place: u8,
         op: &Op,
     ) -> Result<u64, DriverFault> {
-        let answer = if port.fails_next() { None } else { Some(0) };
-        port.take_down(op, answer)
+        port.answer(op, Some(0))
     }
 
     ghost owns_none = { λ _ _ _ _ _ is. is };

@@ -1,5 +1,5 @@
 -- From the turn to what the call tells.
-use Rattle.std.proofs.Common.{◌≡◌, ℕ, ◌+◌, ◌≤◌, ◌<◌, List, [], ◌∷◌, ◌++◌, length, length-append, drop, sym, refl, ap, ◌∙◌, subst, arith, Bool, true, false}
+use Rattle.std.proofs.Common.{◌≡◌, ℕ, ◌+◌, ◌≤◌, ◌<◌, List, [], ◌∷◌, ◌++◌, length, length-append, ltb, drop, sym, refl, ap, ◌∙◌, subst, arith, Bool, true, false}
 use Rattle.std.proofs.lemmas.List.{append_assoc, append-nil}
 use Rattle.std.specs.Prelude.{cond}
 use mathlib.Core.Option as maybe
@@ -9,7 +9,7 @@ use Rattle.gl_world.specs.declared.history.Entry.{Entry}
 use Rattle.gl_world.specs.History.{StartsWith, Answered, Legal, fold, fold_from, begun_in, ended_in, owed, entry, entries_of}
 use Rattle.gl_world.specs.Laws.{Laws}
 use Rattle.gl_world.specs.Removal.{Removes}
-use Rattle.gl_world.proofs.Histories.{fold_snoc, fold_append, answered_snoc, answered_prefix, answered_rest, placed_snoc, entries_same, entries_append, begun_snoc, ended_snoc, owed_ends, owed_more}
+use Rattle.gl_world.proofs.Histories.{fold_snoc, fold_append, answered_snoc, answered_prefix, answered_rest, placed_snoc, entries_same, entries_other, entries_append, begun_snoc, ended_snoc, owed_ends, owed_more}
 use Rattle.gl_world.proofs.Phases.{fold_sound, removal_before, removal_after, stage_since}
 use Rattle.gl_world.proofs.Removals.{own_removals, strangers}
 use Rattle.gl_rule.specs.declared.held.Held.{Held}
@@ -26,6 +26,10 @@ nothing_more : {A : Type 0} (xs ys : List A) → xs ++ ys ≡ xs → ys ≡ []
 nothing_more xs [] e = refl
 nothing_more xs (y ∷ ys) e = let l = length-append xs (y ∷ ys) in let k : length (xs ++ y ∷ ys) ≡ length xs = ap (λ l. length l) e in absurd (omega arith)
 
+begins_with_both : {A : Type 0} (xs ys : List A) (c : Bool) → StartsWith (cond c ys xs) (cond c xs ys) → StartsWith (cond c ys xs) xs × StartsWith (cond c ys xs) ys
+begins_with_both xs ys true h = (h, ([], sym (append-nil ys)))
+begins_with_both xs ys false h = (([], sym (append-nil xs)), h)
+
 module _ {M C R G : Type 0} where
   -- what came between two beginnings of the history that have the same entries of an actor has none of them
   pub none_between : (n : ℕ) (seen later between mine : List (Entry M C R G)) → later ≡ seen ++ between → entries_of n later ≡ mine → entries_of n seen ≡ mine → entries_of n between ≡ []
@@ -37,6 +41,19 @@ module _ {M C R G : Type 0} (m : Ghosts M C R G) where
       → (owed m (mine ++ e ∷ []) + cond {A = ℕ} b 1 0 ≡ owed m mine + cond (m.begins e.call e.reply) 1 0) × (ended_in m (mine ++ e ∷ []) ≤ begun_in m (mine ++ e ∷ []))
   owed_after mine e paid may true is = let b = begun_snoc m mine e in let d = ended_snoc m mine e in let some = may is in let one : cond {A = ℕ} (m.ends e.call) 1 0 ≡ 1 = ap (λ (x : Bool). cond {A = ℕ} x 1 0) is in (omega arith, omega arith)
   owed_after mine e paid may false is = let b = begun_snoc m mine e in let d = ended_snoc m mine e in let none : cond {A = ℕ} (m.ends e.call) 1 0 ≡ 0 = ap (λ (x : Bool). cond {A = ℕ} x 1 0) is in (omega arith, omega arith)
+
+  -- the longer of what two passes have seen begins with what each of them has seen
+  taken_in : (v w b : View M C R G) → b ≡ taking_in v w → Learnt m b → StartsWith b.seen v.seen × StartsWith b.seen w.seen
+  taken_in v w b is learnt = subst (λ (x : View M C R G). StartsWith x.seen v.seen × StartsWith x.seen w.seen) (sym is)
+      (begins_with_both v.seen w.seen (ltb (length v.seen) (length w.seen)) (subst (λ (x : View M C R G). StartsWith x.seen x.had_seen) is learnt.had_seen))
+
+  -- what a pass had seen before a join is a beginning of what it has seen after it
+  pub join_seen : (v' v w b b' : View M C R G) → v ≡ v' → b ≡ taking_in v w → b' ≡ b → Learnt m b → StartsWith b'.seen v'.seen
+  join_seen v' v w b b' e is same learnt = subst (λ (x : View M C R G × View M C R G). StartsWith x.1.seen x.0.seen) (λ i. (e i, sym same i)) ((taken_in v w b is learnt).0)
+
+  -- what the other pass had seen before a join is a beginning of what the pass has seen after it
+  pub join_seen_other : (v w w' b b' : View M C R G) → w ≡ w' → b ≡ taking_in v w → b' ≡ b → Learnt m b → StartsWith b'.seen w'.seen
+  join_seen_other v w w' b b' e is same learnt = subst (λ (x : View M C R G × View M C R G). StartsWith x.1.seen x.0.seen) (λ i. (e i, sym same i)) (taken_in v w b is learnt).1
 
 module _ {M C R G : Type 0} (m : Ghosts M C R G) (laws : Laws m) where
   -- what an actor removes stays as it is while its own entries stay
@@ -93,10 +110,12 @@ module _ {M C R G : Type 0} (m : Ghosts M C R G) (laws : Laws m) where
           seen = seen_is;
           mine = λ i. at.mine i ++ entry (sym is i) call reply ∷ [];
           others = none;
+          strangers = λ zero_is. let no = at.strangers zero_is in (no.0, λ n far. entries_other n b.0.seen e (λ same. let own_number : a.0.number ≡ n = is ∙ same in absurd (omega arith)) ∙ no.1 n far);
           world = ap (λ l. fold m l) seen_is ∙ fold_snoc m m.opening before e';
           answer = made.answer ∙ (λ i. m.reply_of (fold m (whole i)) (sym is i) call);
           bytes = made.bytes ∙ (λ i. m.bytes_of (fold m (whole i)) (sym is i) call ++ drop (length (m.bytes_of (fold m (whole i)) (sym is i) call)) old);
           owed = subst (λ l. owed m l + cond (m.ends call) 1 0 ≡ owed m a.0.mine + cond (m.begins call reply) 1 0) (λ i. sym at.mine i ++ entry actor call reply ∷ []) (owed_after m a.0.mine (entry actor call reply) paid may.ends (m.ends call) refl).0;
+          passed = at.passed;
           room = λ g. let p = room g in subst (λ (x : List (Entry M C R G) × ℕ). length x.0 < x.1) (λ i. (whole i, at.same.room i)) p;
           legal = legal;
           forward = λ p. stage_since m laws w.seen a.0.seen p legal.0 begins;
@@ -115,7 +134,9 @@ module _ {M C R G : Type 0} (m : Ghosts M C R G) (laws : Laws m) where
           mine = at.mine;
           full = subst (λ k. k ≤ length b.0.seen) at.same.room full;
           not_second = ends;
+          passed = ap (λ n. n + 1) at.passed;
           legal = at.legal;
+          strangers = at.strangers;
           removes = λ p removes. (removals_stay a.0.number a.0.seen b.0.seen a.0.mine at.seen at.legal.0 after own p).0 removes;
         },
         record { no_slot = refl; no_ticket = refl; no_turn = refl; no_knock = at.no_knock ∙ rests.no_knock; live = at.turn.live },
@@ -144,6 +165,7 @@ module _ {M C R G : Type 0} (m : Ghosts M C R G) (laws : Laws m) where
     few_made = keeps.few_made;
     own = own_after a.0 f.0 call reply old new acts keeps.own same.number;
     legal = acts.legal;
+    strangers = λ zero_is. let no = acts.strangers (sym same.number ∙ zero_is) in (subst (λ k. 1 ≤ k) (sym same.made) no.0, λ n far. no.1 n (subst (λ k. k ≤ n) same.made far));
     few_owed = few_after a.0 f.0 call reply old new acts may keeps.few_owed not_both;
     paid = subst (λ l. ended_in m l ≤ begun_in m l) (sym acts.mine) (owed_after m a.0.mine (entry a.0.number call reply) keeps.paid may.ends (m.ends call) refl).1;
   }
@@ -156,6 +178,7 @@ module _ {M C R G : Type 0} (m : Ghosts M C R G) (laws : Laws m) where
     few_made = keeps.few_made;
     own = subst (λ (x : Seated M C R G). entries_of x.0.number x.0.seen ≡ x.0.mine) (sym is) at.own;
     legal = refused.legal;
+    strangers = λ zero_is. let no = refused.strangers (sym same.number ∙ zero_is) in (subst (λ k. 1 ≤ k) (sym same.made) no.0, λ n far. no.1 n (subst (λ k. k ≤ n) same.made far));
     few_owed = subst (λ l. owed m l ≤ 2) (sym refused.mine) keeps.few_owed;
     paid = subst (λ l. ended_in m l ≤ begun_in m l) (sym refused.mine) keeps.paid;
   }
@@ -164,13 +187,8 @@ module _ {M C R G : Type 0} (m : Ghosts M C R G) (laws : Laws m) where
   pub join_removals : (v' v w b b' : View M C R G) → v ≡ v' → b ≡ taking_in v w → b' ≡ b → Learnt m b → HasItsOwn v → (p : ℕ)
       → (Removes m (fold m b'.seen) v'.number p → Removes m (fold m v'.seen) v'.number p) × (Removes m (fold m v'.seen) v'.number p → Removes m (fold m b'.seen) v'.number p)
   join_removals v' v w b b' e is same learnt own p = let T : View M C R G → View M C R G → Type 0 = λ x y. (Removes m (fold m y.seen) x.number p → Removes m (fold m x.seen) x.number p) × (Removes m (fold m x.seen) x.number p → Removes m (fold m y.seen) x.number p) in
-      let number : b.number ≡ v.number = ap (λ (x : View M C R G). x.number) is in let mine : b.mine ≡ v.mine = ap (λ (x : View M C R G). x.mine) is in let had : b.had_seen ≡ v.seen = ap (λ (x : View M C R G). x.had_seen) is in
-      let begins : StartsWith b.seen v.seen = subst (λ l. StartsWith b.seen l) had learnt.had_seen in
+      let number : b.number ≡ v.number = ap (λ (x : View M C R G). x.number) is in let mine : b.mine ≡ v.mine = ap (λ (x : View M C R G). x.mine) is in let begins : StartsWith b.seen v.seen = (taken_in m v w b is learnt).0 in
       subst (λ (x : View M C R G × View M C R G). T x.0 x.1) (λ i. (e i, sym same i)) (removals_stay v.number v.seen b.seen v.mine begins learnt.legal.0 (ap (λ k. entries_of k b.seen) (sym number) ∙ (learnt.own ∙ mine)) own p)
-
-  -- what a pass had seen before a join is a beginning of what it has seen after it
-  pub join_seen : (v' v w b b' : View M C R G) → v ≡ v' → b ≡ taking_in v w → b' ≡ b → Learnt m b → StartsWith b'.seen v'.seen
-  join_seen v' v w b b' e is same learnt = subst (λ (x : View M C R G × View M C R G). StartsWith x.1.seen x.0.seen) (λ i. (e i, sym same i)) (subst (λ l. StartsWith b.seen l) (ap (λ (x : View M C R G). x.had_seen) is) learnt.had_seen)
 
   -- a pass that made no entry removes nothing
   pub new_removes : (v v' : View M C R G) → v.mine ≡ [] → v' ≡ v → Learnt m v → RemovesNothing m v'

@@ -29,6 +29,8 @@ module _ {M C R G : Type 0} (m : Ghosts M C R G) (laws : Laws m) (places : ℕ) 
     pub seen : StartsWith h.history.items v.seen
     pub mine : entries_of v.number h.history.items ≡ v.mine
     pub joined : HasAllOf v.joined h.history.items
+    -- a number that no pass was given has no entry
+    pub others : (n : ℕ) → v.made ≤ n → entries_of n h.history.items ≡ []
 
   pub finished : (id : ℕ) (v : View M C R G) (words : List ℕ) (slots : List (Held M C R G)) (h : Held M C R G) → Final (Seen (Rule m places) id v) words slots → v.spent ≡ false → v.turn ≡ false → v.number ≡ 0 → length v.joined + 1 ≡ v.made
       → get_elem? slots 0 ≡ some h → Finished v h
@@ -40,6 +42,8 @@ module _ {M C R G : Type 0} (m : Ghosts M C R G) (laws : Laws m) (places : ℕ) 
         seen = subst (λ l. StartsWith l v.seen) (sym log) old.seen;
         mine = ap (λ l. entries_of v.number l) log ∙ (ap (λ k. entries_of k r.log) old.number ∙ old.mine);
         joined = λ k j e. ap (λ l. entries_of j.number l) log ∙ (old.joined k j e).1;
+        others = λ n far. let made : v.made ≡ length s.views = (r.first v (subst (λ k. get_elem? s.views k ≡ some v) (sym old.number ∙ first) at)).1 in
+            ap (λ l. entries_of n l) log ∙ (r.others n (subst (λ k. k ≤ n) made far)).0;
       }
 
   pub opened : (room : ℕ) (machine : M) (h : Held M C R G) (words : List ℕ) (slots : List (Held M C R G)) → length words ≡ places + 2 → ((i : ℕ) → get_or words i 0 ≡ 0) → slots ≡ h ∷ [] → m.stands_for machine m.opening

@@ -1,4 +1,5 @@
 pub mod Turns
+pub mod Grown
 pub mod Calls
 pub mod Finish
 pub mod Knocks

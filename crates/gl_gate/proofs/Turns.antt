@@ -73,10 +73,12 @@ module _ {M C R G : Type 0} (m : Ghosts M C R G) where
         turn = record { held = h; slot = refl; turn = refl; live = rests.live; in_slot = finds.in_slot; room_left = finds.room_left };
         seen = finds.begins;
         mine = refl;
+        passed = refl;
         same = record { number = refl; room = refl; joined = refl; made = refl; inside = refl; closed = refl; drained = refl };
         no_knock = refl;
         legal = finds.legal;
         own = finds.own;
+        strangers = finds.strangers;
         closed = finds.closed;
         named = finds.inside;
       }

@@ -9,7 +9,8 @@ use Rattle.gl_world.specs.Removal.{Removes, RemovalsGoOn}
 use Rattle.gl_rule.specs.declared.view.View.{View}
 use Rattle.gl_rule.specs.declared.view.Joined.{Joined}
 use Rattle.gl_rule.specs.Sums.{times}
-use Rattle.gl_rule.specs.Turn.{owes}
+use Rattle.gl_rule.specs.Turn.{NoStrangers, owes}
+use Rattle.gl_world.specs.Ranks.{IsClosing}
 
 module _ {M C R G : Type 0} where
   abbrev pub IsInside : View M C R G → ℕ → Type 0
@@ -81,18 +82,22 @@ module _ {M C R G : Type 0} (m : Ghosts M C R G) where
     pub seen : w.seen ≡ (v.seen ++ between) ++ entry v.number call reply ∷ []
     pub mine : w.mine ≡ v.mine ++ entry v.number call reply ∷ []
     pub others : entries_of v.number between ≡ []
+    -- the first pass has seen no entry of a number that no pass was made with
+    pub strangers : NoStrangers v w.seen
     -- the world now, the reply and the bytes are the machine's
     pub world : fold m w.seen ≡ m.world_after (fold m (v.seen ++ between)) v.number call
     pub answer : reply ≡ m.reply_of (fold m (v.seen ++ between)) v.number call
     pub bytes : let bytes = m.bytes_of (fold m (v.seen ++ between)) v.number call in new ≡ bytes ++ drop (length bytes) old
     -- it owes one more where the call begins, and one less where it is a second entry
     pub owed : owes m w + cond (m.ends call) 1 0 ≡ owes m v + cond (m.begins call reply) 1 0
+    -- it passed no turn on
+    pub passed : w.passed ≡ v.passed
     -- there was room, where the call is no second entry
     pub room : m.ends call ≡ false → length (v.seen ++ between) < v.room
     pub legal : Legal m w.seen
     -- phases went forward; a place that it knows closed is Leaving or Gone now
     pub forward : (p : ℕ) → stage m (fold m v.seen) p ≤ stage m (fold m w.seen) p
-    pub closed : (p : ℕ) → KnowsClosed v p → 2 ≤ stage m (fold m w.seen) p
+    pub closed : (p : ℕ) → KnowsClosed v p → IsClosing (stage m (fold m w.seen) p)
     pub removals : RemovalsGoOn m v.number v.seen between call reply
 
   -- The history was full: it had at least `room` entries when the pass had its turn, and the call is no second entry.
@@ -101,6 +106,9 @@ module _ {M C R G : Type 0} (m : Ghosts M C R G) where
     pub mine : w.mine ≡ v.mine
     pub full : v.room ≤ length w.seen
     pub not_second : m.ends call ≡ false
+    -- it passed one turn on
+    pub passed : w.passed ≡ v.passed + 1
     pub legal : Legal m w.seen
+    pub strangers : NoStrangers v w.seen
     -- what the pass removes is as it was
     pub removes : (p : ℕ) → Removes m (fold m w.seen) v.number p → Removes m (fold m v.seen) v.number p

@@ -1,15 +1,17 @@
 -- A seat on its way through one turn.
-use Rattle.std.specs.Prelude.{◌≡◌, ℕ, ◌+◌, ◌-◌, ◌%◌, ◌<◌, ◌≤◌, List, [], ◌∷◌, ◌++◌, Some, true, false, length, drop}
+use Rattle.std.specs.Prelude.{◌≡◌, ℕ, ◌+◌, ◌-◌, ◌%◌, ◌≤◌, List, [], ◌∷◌, ◌++◌, Some, true, false, length, drop}
 use Rattle.gl_world.specs.declared.machine.Machine.{Ghosts}
 use Rattle.gl_world.specs.declared.history.Entry.{Entry}
 use Rattle.gl_world.specs.History.{StartsWith, Legal, fold, stage, entry, entries_of}
 use Rattle.gl_rule.specs.declared.held.Held.{Held}
 use Rattle.gl_rule.specs.Sums.{number_or_zero}
-use Rattle.gl_rule.specs.Turn.{Seated, InSlot, owes}
+use Rattle.gl_rule.specs.Turn.{Seated, InSlot, NoStrangers, owes}
 use Rattle.gl_rule.specs.Plays.{Finds}
 use Rattle.gl_rule.specs.Commit.{MayCommit}
 use Rattle.gl_rule.specs.Views.{with_ticket, with_turn}
 use Rattle.gl_gate.specs.Calls.{IsInside, KnowsClosed, SamePass}
+use Rattle.gl_world.specs.Ranks.{IsClosing, IsNotGone}
+use Rattle.gl_rule.specs.Words.{word_values}
 
 module _ {M C R G : Type 0} where
   -- with a ticket, before its turn
@@ -22,7 +24,7 @@ module _ {M C R G : Type 0} where
   -- it drew the ticket that the word showed
   pub record Drew (a : Seated M C R G) (found : ℕ) (b : Seated M C R G) : Type 0 where
     pub view : b.0 ≡ with_ticket a.0 (number_or_zero b.0.ticket)
-    pub ticket : found ≡ number_or_zero b.0.ticket % 18446744073709551616
+    pub ticket : found ≡ number_or_zero b.0.ticket % word_values
     pub waits : Waits b
 
 module _ {M C R G : Type 0} (m : Ghosts M C R G) where
@@ -61,9 +63,11 @@ module _ {M C R G : Type 0} (m : Ghosts M C R G) where
     pub turn : HasTurn b
     pub seen : StartsWith b.0.seen a.0.seen
     pub mine : b.0.mine ≡ a.0.mine
+    pub passed : b.0.passed ≡ a.0.passed
     pub same : SamePass a.0 b.0
     pub no_knock : b.0.knocking ≡ a.0.knocking
     pub legal : Legal m b.0.seen
     pub own : entries_of b.0.number b.0.seen ≡ b.0.mine
-    pub closed : (p : ℕ) → KnowsClosed a.0 p → 2 ≤ stage m (fold m b.0.seen) p
-    pub named : (p : ℕ) → IsInside a.0 p → stage m (fold m b.0.seen) p < 3
+    pub strangers : NoStrangers a.0 b.0.seen
+    pub closed : (p : ℕ) → KnowsClosed a.0 p → IsClosing (stage m (fold m b.0.seen) p)
+    pub named : (p : ℕ) → IsInside a.0 p → IsNotGone (stage m (fold m b.0.seen) p)

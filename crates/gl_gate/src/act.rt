@@ -1,6 +1,7 @@
 //! The call that makes an entry.
 ghost use Rattle.std.specs.Prelude.{◌≡◌, IfOk, IfErr};
 ghost use Rattle.gl_base.specs.declared.errno.Errno.TheVariants.{Full};
+ghost use Rattle.gl_world.specs.Worlds.{NothingBehindGone};
 ghost use Rattle.gl_gate.specs.Values.{IsPassOf};
 ghost use Rattle.gl_gate.specs.Calls.{SamePass, HasItsOwn, HoldsNoTurn, MayCall, MayName, MayEndRemoval, Acts, Refuses};
 
@@ -13,6 +14,8 @@ use std::sync::Wait;
 impl<M: Machine> Gate<M> {
     /// Makes a call on the machine: waits for the pass's turn, and makes it then. The call's entry is the
     /// last that the pass has seen afterwards.
+    ///
+    /// What it has seen is legal, so no guarded call stands in it behind the entry that made its place Gone.
     ///
     /// `Full` where the history had at least `room` entries and the call is no second entry. Nothing was
     /// called then.
@@ -37,6 +40,7 @@ impl<M: Machine> Gate<M> {
         ensures gift { IfOk result (λ r. M.Leaves call r gift.old gift.new) }
         ensures full { IfErr result (λ e. e ≡ Full) }
         ensures refuses { IfErr result (λ _. Refuses M.Machine pass.old.view call pass.new.view) }
+        ensures nothing_behind_gone { NothingBehindGone M.Machine }
         ensures untouched { IfErr result (λ _. (gift.new ≡ gift.old) × (out.new ≡ out.old)) }
     {
         let number = pass.number;

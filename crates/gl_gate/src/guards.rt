@@ -1,6 +1,7 @@
 //! The guards of places.
 ghost use Rattle.std.specs.Prelude.{◌≡◌, ℕ, ◌+◌, ◌<◌, ◌↔◌, IsTrue, true, false};
 ghost use Rattle.gl_world.specs.History.{fold};
+ghost use Rattle.gl_world.specs.Events.{DrainedStaysEmpty};
 ghost use Rattle.gl_world.specs.Removal.{Removes};
 ghost use Rattle.gl_rule.specs.Sums.{without};
 ghost use Rattle.gl_rule.specs.Views.{with_inside, without_inside, with_closed, with_drained};
@@ -73,7 +74,7 @@ impl<M: Machine> Gate<M> {
     }
 
     /// Looks once how many are inside a place or at its door. True where it counted nobody; a place that
-    /// the pass knew closed is drained then.
+    /// the pass knew closed is drained then, and stays empty whatever happens.
     pub fn look(&self, pass: &mut Pass<M>, place: u8) -> bool
         requires gate { IsPassOf self.now pass.old }
         requires place { place < self.now.places }
@@ -83,6 +84,7 @@ impl<M: Machine> Gate<M> {
         ensures empty { IsTrue result → KnowsClosed pass.old.view place
             → pass.new.view ≡ with_drained pass.old.view place }
         ensures drained { IsTrue result → KnowsClosed pass.old.view place → KnowsDrained pass.new.view place }
+        ensures stays_empty { DrainedStaysEmpty M.Machine }
         ensures knows { KnowsAsMuch pass.old.view pass.new.view }
     {
         let found = self

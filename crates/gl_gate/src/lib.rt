@@ -8,6 +8,7 @@
 mod act;
 mod gate;
 mod guards;
+pub mod laws;
 mod pass;
 mod passes;
 mod threads;

@@ -34,17 +34,19 @@ impl<M: Machine> Model for Pass<M> {
 impl<M: Machine> Pass<M> {
     ghost use Rattle.std.specs.Prelude.{◌≡◌, ◌≤◌};
     ghost use Rattle.gl_world.specs.History.{Legal};
-    ghost use Rattle.gl_rule.specs.Turn.{owes};
+    ghost use Rattle.gl_rule.specs.Turn.{NoStrangers, owes};
     ghost use Rattle.gl_gate.specs.Calls.{HasItsOwn, HoldsNoTurn};
 
     /// The number of the pass: the actor of its entries. The first pass of a gate has 0.
     ///
     /// Between calls every pass has its own entries in what it has seen, which is legal, owes two second
-    /// entries at most, and holds no turn.
+    /// entries at most, and holds no turn. The first pass has seen no entry of a number that no pass was made
+    /// with, so all that it has seen is its own where it is the only pass.
     pub fn number(&self) -> u8
         ensures number { result ≡ self.now.view.number }
         ensures own { HasItsOwn self.now.view }
         ensures legal { Legal M.Machine self.now.view.seen }
+        ensures strangers { NoStrangers self.now.view self.now.view.seen }
         ensures owed { owes M.Machine self.now.view ≤ 2 }
         ensures no_turn { HoldsNoTurn self.now.view }
     {

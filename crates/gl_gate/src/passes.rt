@@ -108,6 +108,7 @@ impl<M: Machine> Gate<M> {
         requires outside { other.view.inside ≡ [] }
         ensures joined { pass.new ≡ knowing pass.old (taking_in pass.old.view other.view) }
         ensures seen { StartsWith pass.new.view.seen pass.old.view.seen }
+        ensures other_seen { StartsWith pass.new.view.seen other.view.seen }
         ensures knows { KnowsAsMuch pass.old.view pass.new.view }
         ensures own { HasItsOwn pass.new.view }
         ensures removes { (p : ℕ) → Removes M.Machine (fold M.Machine pass.new.view.seen) pass.old.view.number p
@@ -135,6 +136,7 @@ impl<M: Machine> Gate<M> {
         ensures seen { StartsWith result.1.items pass.view.seen }
         ensures mine { entries_of 0 result.1.items ≡ pass.view.mine }
         ensures joined { HasAllOf pass.view.joined result.1.items }
+        ensures others { (n : ℕ) → pass.view.made ≤ n → entries_of n result.1.items ≡ [] }
     {
         let Pass {
             seat,

@@ -1,23 +1,12 @@
 -- The house: place 0, its phase and who removes it.
 use Rattle.std.specs.Prelude.{ℕ, zero, suc, ◌==◌, cond, Bool, true, false, Option, Some, None, List, [], ◌∷◌}
 use Rattle.gl_base.specs.declared.phase.Phase.{Phase}
-use Rattle.gl_base.specs.declared.phase.Phase.TheVariants.{Absent, Up, Leaving, Gone}
+use Rattle.gl_base.specs.declared.phase.Phase.TheVariants.{Absent, Leaving, Gone}
+use Rattle.gl_base.specs.Phases.{is_up, is_leaving}
 use Rattle.gl_gate_tests.specs.declared.errand.Errand.{Errand}
 use Rattle.gl_gate_tests.specs.declared.errand.Errand.TheVariants.{Work, Remove, Finish, TurnedAway}
 use Rattle.gl_gate_tests.specs.declared.errand.Answer.{Answer}
 use Rattle.gl_gate_tests.specs.declared.errand.Answer.TheVariants.{Done, Busy, NoDev}
-
-abbrev pub is_up : Phase → Bool
-is_up Absent = false
-is_up Up = true
-is_up Leaving = false
-is_up Gone = false
-
-abbrev pub is_leaving : Phase → Bool
-is_leaving Absent = false
-is_leaving Up = false
-is_leaving Leaving = true
-is_leaving Gone = false
 
 abbrev pub may_finish : Phase × ℕ → ℕ → Bool
 may_finish w a = cond (is_leaving w.0) (w.1 == a) false

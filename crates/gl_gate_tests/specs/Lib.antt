@@ -3,3 +3,4 @@ pub mod AdderLaws
 pub mod House
 pub mod HouseLaws
 pub mod Free
+pub mod Noting

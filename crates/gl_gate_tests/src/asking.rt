@@ -1,13 +1,26 @@
 //! Calls of drivers by passes of the adder's gate.
-ghost use Rattle.std.specs.Prelude.{◌≡◌, ℕ, ◌<◌, false};
+ghost use Rattle.std.specs.Prelude.{◌≡◌, ℕ, ◌<◌, false, []};
 ghost use Rattle.gl_gate.specs.Values.{IsPassOf};
 ghost use Rattle.gl_gate.specs.Calls.{IsOutside, HoldsNoTurn};
+ghost use Rattle.gl_driver.specs.Calls.{FitsOp};
+ghost use Rattle.gl_gate_tests.specs.Free.{OwesNothing};
 
 use crate::adder::Adder;
-use gl_base::Lines;
+use gl_base::{Lines, PLACES};
 use gl_driver::{Driver, DriverFault, Op};
 use gl_gate::{Gate, Pass};
 use std::sync::Wait;
+
+/// Asks for the levels of lines 0 and 2.
+fn levels_of_two() -> Op
+    ensures { FitsOp result }
+{
+    let mut offsets = [0u32; 64];
+    offsets[1] = 2;
+    Op::Get {
+        lines: Lines { count: 2, offsets },
+    }
+}
 
 /// Asks a driver for the levels of lines 0 and 2 of the chip at place 0. Nothing where the place is closed.
 pub fn ask<R: Wait, D: Driver<Adder>>(
@@ -27,11 +40,35 @@ pub fn ask<R: Wait, D: Driver<Adder>>(
     ensures inside { pass.new.view.inside ≡ pass.old.view.inside }
     ensures number { pass.new.view.number ≡ pass.old.view.number }
 {
-    let mut offsets = [0u32; 64];
-    offsets[1] = 2;
-    let op = Op::Get {
-        lines: Lines { count: 2, offsets },
-    };
+    let op = levels_of_two();
+    if !gate.enter(pass, 0) {
+        return None;
+    }
+    let answer = driver.call(rt, gate, port, pass, 0, &op);
+    gate.leave(pass, 0);
+    Some(answer)
+}
+
+/// The same of a driver that may make entries of its own.
+pub fn ask_for_entries<R: Wait, D: Driver<Adder>>(
+    rt: &R,
+    driver: &D,
+    gate: &Gate<Adder>,
+    port: &mut D::Port,
+    pass: &mut Pass<Adder>,
+) -> Option<Result<u64, DriverFault>>
+    requires gate { IsPassOf gate.now pass.old }
+    requires places { gate.now.places ≡ PLACES }
+    requires free { OwesNothing pass.old.view }
+    requires outside { pass.old.view.inside ≡ [] }
+    requires no_turn { HoldsNoTurn pass.old.view }
+    ensures gate { IsPassOf gate.now pass.new }
+    ensures no_turn { HoldsNoTurn pass.new.view }
+    ensures free { OwesNothing pass.new.view }
+    ensures outside { pass.new.view.inside ≡ [] }
+    ensures number { pass.new.view.number ≡ pass.old.view.number }
+{
+    let op = levels_of_two();
     if !gate.enter(pass, 0) {
         return None;
     }

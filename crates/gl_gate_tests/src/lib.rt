@@ -7,6 +7,7 @@ mod asking;
 mod errand;
 mod house;
 mod kind;
+mod noting;
 mod removal;
 #[cfg(test)]
 mod tests;

@@ -5,14 +5,18 @@ ghost use Rattle.gl_gate.specs.Calls.{SamePass, HoldsNoTurn};
 
 use crate::adder::Adder;
 use crate::adding::{add, add_many, add_pairs};
-use crate::asking::ask;
+use crate::asking::{ask, ask_for_entries};
 use crate::errand::Answer;
 use crate::house::House;
+use crate::noting::{NotingDriver, QuietPort};
 use crate::removal::{begin, finish, turn_away, work};
-use gl_base::{Errno, Phase};
-use gl_driver::{DriverFault, FakeDriver, HoldDriver, Port, SimDriver, SimPort};
+use gl_base::{Errno, PLACES, Phase};
+use gl_driver::{
+    DriverFault, FakeDriver, HoldDriver, Latch, LatchDriver, Port, SimDriver, SimPort,
+};
 use gl_gate::{Gate, Pass};
 use std::sync::Wait;
+use std::sync::atomic::Ordering;
 use std::test::Fail;
 use std::thread::{Threads, join};
 
@@ -278,6 +282,54 @@ fn drivers_answer_as_planned_and_from_their_levels(rt: HostRuntime) -> Result<()
     assert!(rt; ask(&rt, &SimDriver, &gate, &mut port, &mut pass) == Some(Ok(0)));
     assert!(rt; port.faults() == 1);
     let fake = FakeDriver::new(vec![in rt.alloc(); false, true, true]?);
+    port.plan(2);
     assert!(rt; ask(&rt, &fake, &gate, &mut port, &mut pass) == Some(Ok(2)));
+    assert!(rt; ask(&rt, &fake, &gate, &mut port, &mut pass) == Some(Err(DriverFault)));
+    Ok(())
+}
+
+#[test]
+fn a_latch_keeps_the_first_call_alone(rt: HostRuntime) -> Result<(), Fail> {
+    let Ok((gate, mut pass)) = Gate::new(rt.alloc(), Adder { value: 0 }, 1, 1) else {
+        panic!(rt; "no memory")
+    };
+    let latch = Latch::new();
+    assert!(rt; !latch.entered.load(Ordering::SeqCst) && !latch.go.load(Ordering::SeqCst));
+    let driver = LatchDriver::new(&latch);
+    let mut port = SimPort::new();
+    assert!(rt; ask(&rt, &driver, &gate, &mut port, &mut pass) == Some(Err(DriverFault)));
+    assert!(rt; latch.entered.load(Ordering::SeqCst) && port.faults() == 1);
+    assert!(rt; ask(&rt, &driver, &gate, &mut port, &mut pass) == Some(Ok(0)));
+    Ok(())
+}
+
+#[test]
+fn a_latch_that_is_set_keeps_no_call(rt: HostRuntime) -> Result<(), Fail> {
+    let Ok((gate, mut pass)) = Gate::new(rt.alloc(), Adder { value: 0 }, 1, 1) else {
+        panic!(rt; "no memory")
+    };
+    let latch = Latch::new();
+    let driver = LatchDriver::new(&latch);
+    latch.go.store(true, Ordering::SeqCst);
+    let mut port = SimPort::new();
+    port.plan(2);
+    assert!(rt; ask(&rt, &driver, &gate, &mut port, &mut pass) == Some(Ok(0)));
+    assert!(rt; ask(&rt, &driver, &gate, &mut port, &mut pass) == Some(Err(DriverFault)));
+    Ok(())
+}
+
+#[test]
+fn a_driver_makes_an_entry_of_its_own_until_the_history_is_full(
+    rt: HostRuntime,
+) -> Result<(), Fail> {
+    let Ok((gate, mut pass)) = Gate::new(rt.alloc(), Adder { value: 0 }, PLACES, 1) else {
+        panic!(rt; "no memory")
+    };
+    let mut port = QuietPort::new();
+    assert!(rt; ask_for_entries(&rt, &NotingDriver, &gate, &mut port, &mut pass) == Some(Ok(0)));
+    assert!(rt;
+        ask_for_entries(&rt, &NotingDriver, &gate, &mut port, &mut pass) == Some(Err(DriverFault))
+    );
+    assert!(rt; port.faults() == 1);
     Ok(())
 }

@@ -67,6 +67,9 @@ module _ {M C R G : Type 0} where
 shorter : (a b : ℕ) → ltb a b ≡ true → a ≤ b
 shorter a b e = grind (arith, nat_tests)
 
+not_shorter : (a b : ℕ) → ltb a b ≡ false → b ≤ a
+not_shorter a b e = grind (arith, nat_tests)
+
 not_some : (t : ℕ) → Some t ≡ None → ⊥
 not_some t e = let z : count_some (Some t) ≡ count_some None = ap count_some e in absurd (omega arith)
 
@@ -129,10 +132,10 @@ module _ {M C R G : Type 0} (m : Ghosts M C R G) (places : ℕ) where
       (λ (t' : (j ≢ id) × (get_elem? s.views j ≡ some x)). rest j x t'.0 t.0 t'.1) (at_set s.views id j b x t.1)) (at_set vs other j z x e) in
       let mine' = over id v old in
       let number' : w.number ≡ other = old'.number in
-      let longer_seen : (c : Bool) → ltb (length v.seen) (length w.seen) ≡ c → StartsWith r.log (cond c w.seen v.seen) × (entries_of id (cond c w.seen v.seen) ≡ v.mine) × StartsWith (cond c w.seen v.seen) v.seen
-      = λ c e. elim c as (λ c. ltb (length v.seen) (length w.seen) ≡ c → StartsWith r.log (cond c w.seen v.seen) × (entries_of id (cond c w.seen v.seen) ≡ v.mine) × StartsWith (cond c w.seen v.seen) v.seen) [
+      let longer_seen : (c : Bool) → ltb (length v.seen) (length w.seen) ≡ c → StartsWith r.log (cond c w.seen v.seen) × (entries_of id (cond c w.seen v.seen) ≡ v.mine) × StartsWith (cond c w.seen v.seen) (cond c v.seen w.seen)
+      = λ c e. elim c as (λ c. ltb (length v.seen) (length w.seen) ≡ c → StartsWith r.log (cond c w.seen v.seen) × (entries_of id (cond c w.seen v.seen) ≡ v.mine) × StartsWith (cond c w.seen v.seen) (cond c v.seen w.seen)) [
         | true ↦ (λ e. let le = shorter (length v.seen) (length w.seen) e in (old'.seen, sym (as_many_in id r.log v.seen w.seen old.seen old'.seen le (old.mine ∙ sym old.seen_mine)) ∙ old.mine, begins_of r.log v.seen w.seen old.seen old'.seen le))
-        | false ↦ (λ e. (old.seen, old.seen_mine, ([], sym (append-nil v.seen))))
+        | false ↦ (λ e. (old.seen, old.seen_mine, begins_of r.log w.seen v.seen old'.seen old.seen (not_shorter (length v.seen) (length w.seen) e)))
       ] e in
       let seen = longer_seen (ltb (length v.seen) (length w.seen)) refl in
       let its' = over other w old' in

@@ -1,5 +1,5 @@
 -- A pass draws a ticket, finds its turn, and learns of its own view.
-use Rattle.std.proofs.Common.{◌≡◌, ℕ, ◌+◌, ◌%◌, ◌<◌, ◌≤◌, List, [], ◌∷◌, length, get_or, set, sym, refl, ap, ◌∙◌, subst, arith, length-set, get_or-set_other, get_or-set_same, Option, Some, None, true, false}
+use Rattle.std.proofs.Common.{◌≡◌, ℕ, ◌+◌, ◌%◌, ◌<◌, ◌≤◌, List, [], ◌∷◌, ◌++◌, length, get_or, set, sym, refl, ap, ◌∙◌, subst, arith, length-set, get_or-set_other, get_or-set_same, Option, Some, None, true, false}
 use Rattle.std.proofs.lemmas.List.{append-nil}
 use Rattle.std.proofs.lemmas.Bool.{true≢false, false_from_ne_true}
 use mathlib.Core.Logic.{dite}
@@ -14,12 +14,12 @@ use Rattle.gl_world.specs.declared.machine.Machine.{Ghosts}
 use Rattle.gl_world.specs.declared.history.Entry.{Entry}
 use Rattle.gl_world.specs.History.{Answered, Placed, entries_of}
 use Rattle.gl_world.specs.Laws.{Laws}
-use Rattle.gl_world.proofs.Histories.{answered_prefix, placed_prefix}
+use Rattle.gl_world.proofs.Histories.{answered_prefix, placed_prefix, entries_none}
 use Rattle.gl_rule.specs.declared.held.Held.{Held}
 use Rattle.gl_rule.specs.declared.view.View.{View}
 use Rattle.gl_rule.specs.Sums.{number_or_zero, count_some}
 use Rattle.gl_rule.specs.Views.{with_ticket, with_turn}
-use Rattle.gl_rule.specs.Turn.{InTurn, Seated, tickets, passed_on, owes, InSlot, SlotIs, TurnRule}
+use Rattle.gl_rule.specs.Turn.{InTurn, Seated, tickets, passed_on, owes, InSlot, NoStrangers, SlotIs, TurnRule}
 use Rattle.gl_rule.specs.Rule.{Rule}
 use Rattle.gl_rule.specs.Plays.{TicketTaken, TurnSought, ViewLearnt}
 use Rattle.gl_rule.proofs.Sums.{total_set, total_few, total_at}
@@ -117,6 +117,16 @@ module _ {M C R G : Type 0} (m : Ghosts M C R G) (laws : Laws m) (places : ℕ) 
   few_tickets : (views : List V) → tickets views ≤ length views
   few_tickets views = total_few (λ (v : V). count_some v.ticket) (λ v. at_most_one v.ticket) views
 
+  -- the first pass knows how many passes were made, and no other number has an entry
+  no_strangers : (s : St) (r : TurnRule m s) (id : ℕ) (v : V) → get_elem? s.views id ≡ some v → v.spent ≡ false → NoStrangers v r.log
+  no_strangers s r id v at live zero_is = let first : get_elem? s.views 0 ≡ some v = subst (λ k. get_elem? s.views k ≡ some v) (sym (r.each id v at live).number ∙ zero_is) at in
+      let made : v.made ≡ length s.views = (r.first v first).1 in let some_made = inside_of s.views 0 v first in
+      (omega arith, λ n far. (r.others n (subst (λ k. k ≤ n) made far)).0)
+
+  -- what holds of the history holds of each beginning of it
+  no_strangers_before : (v : V) (seen rest : List (Entry M C R G)) → NoStrangers v (seen ++ rest) → NoStrangers v seen
+  no_strangers_before v seen rest all zero_is = let a = all zero_is in (a.0, λ n far. entries_none n seen rest (a.1 n far))
+
   -- who finds its ticket served finds the turn free
   free_turn : (s : St) (r : TurnRule m s) (id t : ℕ) (v : V) → get_elem? s.views id ≡ some v → v.spent ≡ false → v.turn ≡ false → v.ticket ≡ Some t → get_or s.words 1 0 ≡ t % 18446744073709551616
       → (length r.log + passed_on s.views ≡ t) × ((k : ℕ) → r.holder ≡ Some k → ⊥)
@@ -187,6 +197,7 @@ module _ {M C R G : Type 0} (m : Ghosts M C R G) (laws : Laws m) (places : ℕ) 
               legal = (r.answered, g.placed);
               in_slot = subst (λ k. InSlot m r.log k h) (sym old.room_is) home.2;
               own = ap (λ k. entries_of k r.log) old.number ∙ old.mine;
+              strangers = no_strangers s r id v at live;
               room_left = let is = old.room_is in omega arith;
               closed = λ p h. g.closing p (g.knows_closed id v p at h);
               drained = λ p h. g.closing p (g.knows_drained id v p at h).0;
@@ -217,6 +228,7 @@ module _ {M C R G : Type 0} (m : Ghosts M C R G) (laws : Laws m) (places : ℕ) 
         legal = (answered_prefix m m.opening me.0.seen old.seen.0 (subst (λ l. Answered m l) old.seen.1 r.answered), placed_prefix m m.opening me.0.seen old.seen.0 (subst (λ l. Placed m l) old.seen.1 g.placed));
         few = old.few;
         had_seen = old.had_seen;
+        strangers = no_strangers_before me.0 me.0.seen old.seen.0 (subst (λ l. NoStrangers me.0 l) old.seen.1 (no_strangers s r id me.0 at live));
       },
     ),
   )

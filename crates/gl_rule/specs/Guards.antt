@@ -1,5 +1,5 @@
 -- The rule of the guards. The guard of place p is word p + 2: how many passes are inside or knocking, and
--- the closed bit, which is 2^63.
+-- the closed bit.
 use Rattle.std.specs.Prelude.{◌≡◌, ℕ, ◌+◌, ◌<◌, ◌≤◌, cond, List, [], Bool, true, length, slice_index}
 use mathlib.Core.Option as maybe
 use lib.ListN.{get_elem?}
@@ -10,6 +10,8 @@ use Rattle.gl_world.specs.History.{fold, stage, Placed}
 use Rattle.gl_rule.specs.declared.held.Held.{Held}
 use Rattle.gl_rule.specs.declared.view.View.{View}
 use Rattle.gl_rule.specs.Sums.{total, times}
+use Rattle.gl_world.specs.Ranks.{IsClosing, IsGone, IsNotGone}
+use Rattle.gl_rule.specs.Words.{closed_bit}
 
 module _ {M C R G : Type 0} where
   -- how often the pass is counted in the guard of p
@@ -21,7 +23,7 @@ module _ {M C R G : Type 0} where
 
 -- the guard word of a place
 abbrev pub guard_word : Bool → ℕ → ℕ
-guard_word shut count = cond shut 9223372036854775808 0 + count
+guard_word shut count = cond shut closed_bit 0 + count
 
 module _ {M C R G : Type 0} (m : Ghosts M C R G) (places : ℕ) (log : List (Entry M C R G)) (s : State (Held M C R G) (View M C R G)) where
   pub record GuardRule : Type 0 where
@@ -35,11 +37,11 @@ module _ {M C R G : Type 0} (m : Ghosts M C R G) (places : ℕ) (log : List (Ent
     pub knows_closed : (j : ℕ) (v : View M C R G) (p : ℕ) → get_elem? s.views j ≡ maybe.some v → 0 < times p v.closed → shut p ≡ true
     pub knows_drained : (j : ℕ) (v : View M C R G) (p : ℕ) → get_elem? s.views j ≡ maybe.some v → 0 < times p v.drained → (shut p ≡ true) × (total (times_inside p) s.views ≡ 0)
     -- a closed place is Leaving or Gone, and a place that is Gone is closed
-    pub closing : (p : ℕ) → shut p ≡ true → 2 ≤ stage m (fold m log) p
-    pub gone_closed : (p : ℕ) → stage m (fold m log) p ≡ 3 → shut p ≡ true
+    pub closing : (p : ℕ) → shut p ≡ true → IsClosing (stage m (fold m log) p)
+    pub gone_closed : (p : ℕ) → IsGone (stage m (fold m log) p) → shut p ≡ true
     -- each entry found its place as it had to
     pub placed : Placed m log
     -- nobody is inside a place that is Gone
-    pub stands : (j : ℕ) (v : View M C R G) (p : ℕ) → get_elem? s.views j ≡ maybe.some v → 0 < times p v.inside → stage m (fold m log) p < 3
+    pub stands : (j : ℕ) (v : View M C R G) (p : ℕ) → get_elem? s.views j ≡ maybe.some v → 0 < times p v.inside → IsNotGone (stage m (fold m log) p)
     -- who was joined into another is inside nowhere
     pub nowhere : (j : ℕ) (v : View M C R G) → get_elem? s.views j ≡ maybe.some v → v.spent ≡ true → v.inside ≡ []

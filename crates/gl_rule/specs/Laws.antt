@@ -1,14 +1,16 @@
--- What the rule says of places, in one sentence each.
-use Rattle.std.specs.Prelude.{◌≡◌, ℕ, ◌<◌, ◌≤◌}
+-- What the rule says of the history and of places, in one sentence each.
+use Rattle.std.specs.Prelude.{◌≡◌, ℕ, ◌<◌, List, false}
 use mathlib.Core.Option as maybe
 use lib.ListN.{get_elem?}
 use Rattle.atomic_table.specs.Table.{State}
 use Rattle.gl_world.specs.declared.machine.Machine.{Ghosts}
-use Rattle.gl_world.specs.History.{fold, stage}
+use Rattle.gl_world.specs.declared.history.Entry.{Entry}
+use Rattle.gl_world.specs.History.{StartsWith, Legal, fold, stage}
 use Rattle.gl_rule.specs.declared.held.Held.{Held}
 use Rattle.gl_rule.specs.declared.view.View.{View}
 use Rattle.gl_rule.specs.Sums.{times}
 use Rattle.gl_rule.specs.Rule.{Rule}
+use Rattle.gl_world.specs.Ranks.{IsClosing, IsNotGone}
 
 module _ {M C R G : Type 0} (m : Ghosts M C R G) where
   -- nobody is inside a place that some pass knows drained
@@ -19,9 +21,14 @@ module _ {M C R G : Type 0} (m : Ghosts M C R G) where
   -- a place that some pass knows closed is Leaving or Gone
   abbrev pub ClosedIsLeaving : Type 0
   ClosedIsLeaving = (places : ℕ) (s : State (Held M C R G) (View M C R G)) (rule : Rule m places s) (i p : ℕ) (v : View M C R G) → get_elem? s.views i ≡ maybe.some v
-      → 0 < times p v.closed → 2 ≤ stage m (fold m rule.0.log) p
+      → 0 < times p v.closed → IsClosing (stage m (fold m rule.0.log) p)
 
   -- a place that some pass is inside is not Gone
   abbrev pub InsideIsNotGone : Type 0
   InsideIsNotGone = (places : ℕ) (s : State (Held M C R G) (View M C R G)) (rule : Rule m places s) (i p : ℕ) (v : View M C R G) → get_elem? s.views i ≡ maybe.some v
-      → 0 < times p v.inside → stage m (fold m rule.0.log) p < 3
+      → 0 < times p v.inside → IsNotGone (stage m (fold m rule.0.log) p)
+
+  -- there is one history, which is legal: what each pass that wasn't joined into another has seen is a beginning of it
+  abbrev pub OneHistory : Type 0
+  OneHistory = (places : ℕ) (s : State (Held M C R G) (View M C R G)) → Rule m places s → (history : List (Entry M C R G)) × Legal m history
+      × ((i : ℕ) (v : View M C R G) → get_elem? s.views i ≡ maybe.some v → v.spent ≡ false → StartsWith history v.seen)

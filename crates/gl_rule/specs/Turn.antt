@@ -12,6 +12,7 @@ use Rattle.gl_rule.specs.declared.held.Held.{Held}
 use Rattle.gl_rule.specs.declared.view.View.{View}
 use Rattle.gl_rule.specs.declared.view.Joined.{Joined}
 use Rattle.gl_rule.specs.Sums.{total, count_some}
+use Rattle.gl_rule.specs.Words.{word_values}
 
 -- a ticket lies from the serving number up to the next ticket
 abbrev pub InTurn : ℕ → ℕ → Option ℕ → Type 0
@@ -40,6 +41,10 @@ module _ {M C R G : Type 0} where
   -- 1 for a pass that was not joined into another
   abbrev pub is_live : View M C R G → ℕ
   is_live v = cond v.spent 0 1
+
+  -- of the first pass: no entry here has a number that no pass was made with
+  abbrev pub NoStrangers : View M C R G → List (Entry M C R G) → Type 0
+  NoStrangers v entries = v.number ≡ 0 → (1 ≤ v.made) × ((n : ℕ) → v.made ≤ n → entries_of n entries ≡ [])
 
 module _ {M C R G : Type 0} (m : Ghosts M C R G) where
   -- the second entries that the pass owes
@@ -82,8 +87,8 @@ module _ {M C R G : Type 0} (m : Ghosts M C R G) where
     pub answered : Answered m log
     -- the words
     pub two_words : 2 ≤ length s.words
-    pub serving : slice_index s.words 1 ≡ (length log + passed_on s.views) % 18446744073709551616
-    pub next_ticket : slice_index s.words 0 ≡ ((length log + passed_on s.views) + tickets s.views) % 18446744073709551616
+    pub serving : slice_index s.words 1 ≡ (length log + passed_on s.views) % word_values
+    pub next_ticket : slice_index s.words 0 ≡ ((length log + passed_on s.views) + tickets s.views) % word_values
     -- the passes
     pub few_passes : length s.views ≤ 256
     pub each : (j : ℕ) (v : View M C R G) → get_elem? s.views j ≡ maybe.some v → v.spent ≡ false

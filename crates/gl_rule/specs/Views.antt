@@ -41,9 +41,13 @@ module _ {M C R G : Type 0} where
   abbrev pub longer : List (Entry M C R G) → List (Entry M C R G) → List (Entry M C R G)
   longer xs ys = cond (ltb (length xs) (length ys)) ys xs
 
+  -- the shorter of two histories
+  abbrev pub shorter : List (Entry M C R G) → List (Entry M C R G) → List (Entry M C R G)
+  shorter xs ys = cond (ltb (length xs) (length ys)) xs ys
+
   -- the first took in the second: the longer of what both have seen, the second's own entries, and what both know of places
   abbrev pub taking_in : View M C R G → View M C R G → View M C R G
-  taking_in v w = record v { seen = longer v.seen w.seen; had_seen = v.seen; passed = v.passed + w.passed; joined = v.joined ++ as_joined w ∷ w.joined; closed = v.closed ++ w.closed; drained = v.drained ++ w.drained }
+  taking_in v w = record v { seen = longer v.seen w.seen; had_seen = shorter v.seen w.seen; passed = v.passed + w.passed; joined = v.joined ++ as_joined w ∷ w.joined; closed = v.closed ++ w.closed; drained = v.drained ++ w.drained }
 
   -- it is inside the place
   abbrev pub with_inside : View M C R G → ℕ → View M C R G

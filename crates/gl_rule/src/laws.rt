@@ -1,8 +1,13 @@
-//! What the rule says of places. Each is a function with nothing to do: its contract is the law, and a
+//! What the rule says of the history and of places. Each is a function with nothing to do: its contract is the law, and a
 //! caller gets it by the call.
-ghost use Rattle.gl_rule.specs.Laws.{DrainedIsEmpty, ClosedIsLeaving, InsideIsNotGone};
+ghost use Rattle.gl_rule.specs.Laws.{DrainedIsEmpty, ClosedIsLeaving, InsideIsNotGone, OneHistory};
 
 use gl_world::Machine;
+
+/// There is one history, which is legal: what each pass has seen is a beginning of it.
+pub fn one_history<M: Machine>()
+    ensures { OneHistory M.Machine }
+{}
 
 /// Nobody is inside a place that some pass knows drained.
 pub fn drained_is_empty<M: Machine>()

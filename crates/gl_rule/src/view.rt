@@ -21,7 +21,7 @@ pub struct View<M: Machine> {
     pub room: u64,
     /// The beginning of the history that the pass has seen.
     pub seen: LinkedList<Entry<M>>,
-    /// What it had seen before it last took another pass in.
+    /// When it last took another pass in, the shorter of what the two had seen.
     pub had_seen: LinkedList<Entry<M>>,
     /// The pass's own entries, in order.
     pub mine: LinkedList<Entry<M>>,

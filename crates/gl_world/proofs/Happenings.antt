@@ -10,7 +10,7 @@ use Rattle.gl_world.specs.declared.machine.Machine.{Ghosts}
 use Rattle.gl_world.specs.declared.history.Entry.{Entry}
 use Rattle.gl_world.specs.History.{StartsWith, fold, stage, Legal}
 use Rattle.gl_world.specs.Laws.{Laws}
-use Rattle.gl_world.specs.Events.{Event, Enter, Commit, Leave, Close, Drain, with_pair, without_pair, Moment, beginning, world, next_entry, after, CanHappen, BegunBy, after_all, CanAllHappen, AlwaysLegal, PhasesGoForward, NothingAfterGone}
+use Rattle.gl_world.specs.Events.{Event, Enter, Commit, Leave, Close, Drain, with_pair, without_pair, Moment, beginning, world, next_entry, after, CanHappen, BegunBy, after_all, CanAllHappen, AlwaysLegal, PhasesGoForward, DrainedStaysEmpty, NothingAfterGone}
 use Rattle.gl_world.proofs.Histories.{fold_snoc, answered_snoc, answered_prefix, placed_snoc, placed_prefix, placed_rest}
 use Rattle.gl_world.proofs.Phases.{most_three, fold_sound, stage_since}
 
@@ -151,6 +151,22 @@ module _ {M C R G : Type 0} (m : Ghosts M C R G) (laws : Laws m) where
   phases_go_forward earlier later can p = let s : Moment m = after_all m (beginning m) earlier in let all = always_legal (earlier ++ later) can in
       let more : StartsWith (after_all m (beginning m) (earlier ++ later)).history s.history = subst (λ (x : Moment m). StartsWith x.history s.history) (sym (after_both (beginning m) earlier later)) (grows s later) in
       (stage_since m laws (after_all m (beginning m) (earlier ++ later)).history s.history p all.0 more, (all_happen (beginning m) earlier at_first (can_first (beginning m) earlier later can)).closing p)
+
+  drained_once : (s : Moment m) (e : Event C) (b p : ℕ) → s.drained b p ≡ true → (after m s e).drained b p ≡ true
+  drained_once s (Enter pass place) b p is = is
+  drained_once s (Commit pass call) b p is = is
+  drained_once s (Leave pass place) b p is = is
+  drained_once s (Close pass place) b p is = is
+  drained_once s (Drain pass place) b p is = elim ((b == pass) && (p == place)) as (λ t. cond t true (s.drained b p) ≡ true) [ true ↦ refl | false ↦ is ]
+
+  drained_on : (s : Moment m) (es : List (Event C)) (b p : ℕ) → s.drained b p ≡ true → (after_all m s es).drained b p ≡ true
+  drained_on s [] b p is = is
+  drained_on s (e ∷ es) b p is = drained_on (after m s e) es b p (drained_once s e b p is)
+
+  pub drained_stays_empty : DrainedStaysEmpty m
+  drained_stays_empty earlier later can b p is a = let s : Moment m = after_all m (beginning m) earlier in
+      let still : (after_all m (beginning m) (earlier ++ later)).drained b p ≡ true = ap (λ (x : Moment m). x.drained b p) (after_both (beginning m) earlier later) ∙ drained_on s later b p is in
+      ((all_happen (beginning m) (earlier ++ later) at_first can).empty b p still).1 a
 
   -- a guarded call of a legal history finds its place not Gone
   pub legal_named : (earlier between later : List (Entry M C R G)) (e : Entry M C R G) (p : ℕ) → Legal m (((earlier ++ between) ++ e ∷ []) ++ later) → stage m (fold m earlier) p ≡ 3 → m.place_of e.call ≡ Some p → ⊥

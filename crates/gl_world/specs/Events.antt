@@ -1,9 +1,10 @@
 -- What can happen to a machine when several passes make calls: passes enter and leave places, an entry is
 -- made, a place is closed, and a closed place is found empty. One event after another, in any order.
-use Rattle.std.specs.Prelude.{◌≡◌, ℕ, ◌<◌, ◌≤◌, ◌==◌, ◌&&◌, cond, Bool, true, false, Some, List, [], ◌∷◌, ◌++◌}
+use Rattle.std.specs.Prelude.{◌≡◌, ℕ, ◌≤◌, ◌==◌, ◌&&◌, cond, Bool, true, false, Some, List, [], ◌∷◌, ◌++◌}
 use Rattle.gl_world.specs.declared.machine.Machine.{Ghosts}
 use Rattle.gl_world.specs.declared.history.Entry.{Entry}
 use Rattle.gl_world.specs.History.{entry, fold, stage, Legal}
+use Rattle.gl_world.specs.Ranks.{IsClosing, IsGone, IsLeaving, IsNotClosing, IsNotGone}
 
 -- an event of a pass: at a place, or with the call of the entry that it makes
 pub data Event (C : Type 0) : Type 0 where
@@ -49,7 +50,7 @@ module _ {M C R G : Type 0} (m : Ghosts M C R G) where
   -- an entry of the pass in the history made the place Leaving
   abbrev pub BegunBy : List (Entry M C R G) → ℕ → ℕ → Type 0
   BegunBy history pass place = (earlier : List (Entry M C R G)) × (e : Entry M C R G) × (later : List (Entry M C R G)) × (history ≡ (earlier ++ e ∷ []) ++ later) × (e.actor ≡ pass)
-      × (stage m (fold m earlier) place < 2) × (stage m (fold m (earlier ++ e ∷ [])) place ≡ 2)
+      × IsNotClosing (stage m (fold m earlier) place) × IsLeaving (stage m (fold m (earlier ++ e ∷ [])) place)
 
   -- when an event can happen
   abbrev pub CanHappen : Moment → Event C → Type 0
@@ -57,7 +58,7 @@ module _ {M C R G : Type 0} (m : Ghosts M C R G) where
   CanHappen s (Commit pass call) = m.FitsCall call
       × ((p : ℕ) → m.place_of call ≡ Some p → s.inside pass p ≡ true)
       × ((p : ℕ) → m.refused_at call ≡ Some p → s.closed p ≡ true)
-      × ((p : ℕ) → stage m (world s) p < 3 → stage m (m.world_after (world s) pass call) p ≡ 3 → (b : ℕ) × (s.drained b p ≡ true))
+      × ((p : ℕ) → IsNotGone (stage m (world s) p) → IsGone (stage m (m.world_after (world s) pass call) p) → (b : ℕ) × (s.drained b p ≡ true))
   CanHappen s (Leave pass place) = s.inside pass place ≡ true
   CanHappen s (Close pass place) = BegunBy s.history pass place
   CanHappen s (Drain pass place) = (s.closed place ≡ true) × ((b : ℕ) → s.inside b place ≡ false)
@@ -79,9 +80,14 @@ module _ {M C R G : Type 0} (m : Ghosts M C R G) where
   abbrev pub PhasesGoForward : Type 0
   PhasesGoForward = (earlier later : List (Event C)) → CanAllHappen beginning (earlier ++ later) → (p : ℕ)
       → (stage m (world (after_all beginning earlier)) p ≤ stage m (world (after_all beginning (earlier ++ later))) p)
-      × ((after_all beginning earlier).closed p ≡ true → 2 ≤ stage m (world (after_all beginning earlier)) p)
+      × ((after_all beginning earlier).closed p ≡ true → IsClosing (stage m (world (after_all beginning earlier)) p))
+
+  -- from the moment on at which some pass knows a place drained, nobody is inside it
+  abbrev pub DrainedStaysEmpty : Type 0
+  DrainedStaysEmpty = (earlier later : List (Event C)) → CanAllHappen beginning (earlier ++ later) → (b p : ℕ) → (after_all beginning earlier).drained b p ≡ true
+      → (a : ℕ) → (after_all beginning (earlier ++ later)).inside a p ≡ false
 
   -- no guarded call stands behind the entry that made its place Gone
   abbrev pub NothingAfterGone : Type 0
   NothingAfterGone = (events : List (Event C)) → CanAllHappen beginning events → (earlier between later : List (Entry M C R G)) (e : Entry M C R G) (p : ℕ)
-      → (after_all beginning events).history ≡ ((earlier ++ between) ++ e ∷ []) ++ later → stage m (fold m earlier) p ≡ 3 → m.place_of e.call ≡ Some p → ⊥
+      → (after_all beginning events).history ≡ ((earlier ++ between) ++ e ∷ []) ++ later → IsGone (stage m (fold m earlier) p) → m.place_of e.call ≡ Some p → ⊥

@@ -3,11 +3,12 @@ use Rattle.std.specs.Prelude.{◌≡◌, ℕ, false, Some, List, [], ◌∷◌, 
 use Rattle.gl_world.specs.declared.machine.Machine.{Ghosts}
 use Rattle.gl_world.specs.declared.history.Entry.{Entry}
 use Rattle.gl_world.specs.History.{entry, entries_of, fold, stage, Answered}
+use Rattle.gl_world.specs.Ranks.{IsGone, IsLeaving}
 
 module _ {M C R G : Type 0} (m : Ghosts M C R G) where
   -- the place is Leaving, and this actor removes it
   abbrev pub Removes : m.World → ℕ → ℕ → Type 0
-  Removes w actor place = (stage m w place ≡ 2) × (m.remover_of w place ≡ Some actor)
+  Removes w actor place = IsLeaving (stage m w place) × (m.remover_of w place ≡ Some actor)
 
   -- An actor had seen a history. Others made the entries between, and then it made a call of its own.
   module _ (actor : ℕ) (seen between : List (Entry M C R G)) (call : C) (reply : R) where
@@ -34,7 +35,7 @@ module _ {M C R G : Type 0} (m : Ghosts M C R G) where
       pub goes_on : (p : ℕ) → m.is_last_removal call ≡ false → Removes before_call actor p → Removes after_call actor p
       pub awaits_on : (p : ℕ) → m.is_last_removal call ≡ false → Removes before_call actor p → m.awaited_call after_call p ≡ m.awaited_call before_call p
       -- the call that ends a removal makes its places Gone
-      pub ends : (p : ℕ) → Removes before_call actor p → m.awaited_call before_call p ≡ call → stage m after_call p ≡ 3
+      pub ends : (p : ℕ) → Removes before_call actor p → m.awaited_call before_call p ≡ call → IsGone (stage m after_call p)
 
   -- the places that an actor removes are known from its own entries
   abbrev pub OwnRemovals : Type 0

@@ -1,7 +1,7 @@
 //! The trait of machines.
 ghost use Rattle.std.specs.Prelude.{◌≡◌, ℕ, ◌<◌, ◌≤◌, ◌++◌, List, Contains, Option, Some, Bool, true, false, length, drop};
 ghost use Rattle.gl_base.specs.declared.phase.Phase.{Phase};
-ghost use Rattle.gl_world.specs.Ranks.{rank};
+ghost use Rattle.gl_world.specs.Ranks.{rank, IsGone, IsLeaving, IsNotClosing, IsNotGone};
 
 use gl_base::Phase;
 
@@ -130,7 +130,7 @@ pub trait Machine: Send + Drop {
         → Self.Sound (Self.world_after w by call) };
 
     /// In the opening world no place is Leaving or Gone.
-    ghost opens_places: { (p : ℕ) → rank (Self.phase_of Self.opening p) < 2 };
+    ghost opens_places: { (p : ℕ) → IsNotClosing (rank (Self.phase_of Self.opening p)) };
 
     /// Phases only go forward.
     ghost goes_forward: { (w : Self.World) (by : ℕ) (call : Self.Call) (p : ℕ) → Self.Sound w → Self.FitsCall call
@@ -138,30 +138,30 @@ pub trait Machine: Send + Drop {
 
     /// A place becomes Gone from Leaving alone, by a removal's last entry of the actor that removes it.
     ghost ends_place: { (w : Self.World) (by : ℕ) (call : Self.Call) (p : ℕ) → Self.Sound w → Self.FitsCall call
-        → rank (Self.phase_of w p) < 3 → rank (Self.phase_of (Self.world_after w by call) p) ≡ 3
-        → (rank (Self.phase_of w p) ≡ 2) × (Self.is_last_removal call ≡ true) × (Self.remover_of w p ≡ Some by) };
+        → IsNotGone (rank (Self.phase_of w p)) → IsGone (rank (Self.phase_of (Self.world_after w by call) p))
+        → IsLeaving (rank (Self.phase_of w p)) × (Self.is_last_removal call ≡ true) × (Self.remover_of w p ≡ Some by) };
 
     /// A place becomes Leaving by an entry that names it, and who made this entry removes it.
     ghost begins_place: { (w : Self.World) (by : ℕ) (call : Self.Call) (p : ℕ) → Self.Sound w → Self.FitsCall call
-        → rank (Self.phase_of w p) < 2 → rank (Self.phase_of (Self.world_after w by call) p) ≡ 2
+        → IsNotClosing (rank (Self.phase_of w p)) → IsLeaving (rank (Self.phase_of (Self.world_after w by call) p))
         → (Self.remover_of (Self.world_after w by call) p ≡ Some by)
         × Contains (Self.begun_places call (Self.reply_of w by call) (Self.bytes_of w by call)) p };
 
     /// Each place that a removal's first entry names is Leaving after it, and who made the entry removes it.
     ghost begins_removal: { (w : Self.World) (by : ℕ) (call : Self.Call) (p : ℕ) → Self.Sound w → Self.FitsCall call
         → Contains (Self.begun_places call (Self.reply_of w by call) (Self.bytes_of w by call)) p
-        → (rank (Self.phase_of (Self.world_after w by call) p) ≡ 2)
+        → (IsLeaving (rank (Self.phase_of (Self.world_after w by call) p)))
         × (Self.remover_of (Self.world_after w by call) p ≡ Some by)
         × (Self.awaited_call (Self.world_after w by call) p ≡ Self.last_call call) };
 
     /// While a place is Leaving, it has one remover, and one call ends its removal.
     ghost removal_stays: { (w : Self.World) (by : ℕ) (call : Self.Call) (p : ℕ) → Self.Sound w → Self.FitsCall call
-        → rank (Self.phase_of w p) ≡ 2 → rank (Self.phase_of (Self.world_after w by call) p) ≡ 2
+        → IsLeaving (rank (Self.phase_of w p)) → IsLeaving (rank (Self.phase_of (Self.world_after w by call) p))
         → (Self.remover_of (Self.world_after w by call) p ≡ Self.remover_of w p)
         × (Self.awaited_call (Self.world_after w by call) p ≡ Self.awaited_call w p) };
 
     /// That call of the remover makes the place Gone.
     ghost ends_removal: { (w : Self.World) (by : ℕ) (call : Self.Call) (p : ℕ) → Self.Sound w → Self.FitsCall call
-        → rank (Self.phase_of w p) ≡ 2 → Self.remover_of w p ≡ Some by → Self.awaited_call w p ≡ call
-        → rank (Self.phase_of (Self.world_after w by call) p) ≡ 3 };
+        → IsLeaving (rank (Self.phase_of w p)) → Self.remover_of w p ≡ Some by → Self.awaited_call w p ≡ call
+        → IsGone (rank (Self.phase_of (Self.world_after w by call) p)) };
 }

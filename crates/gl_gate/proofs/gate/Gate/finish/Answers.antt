@@ -28,3 +28,8 @@ pub returns-clause-joined : goal.returns-clause-joined
 returns-clause-joined g c = let met = g.met.M.Machine g.world.𝓛 g.world.𝓜 g.world.𝓡 ((λ s x. x), (λ x. x), (λ x. x), λ x. x) in
     let laws : Laws g.M.Machine = record { opens_sound = met.opens_sound; keeps_sound = met.keeps_sound; opens_places = met.opens_places; goes_forward = met.goes_forward; ends_place = met.ends_place; begins_place = met.begins_place; begins_removal = met.begins_removal; removal_stays = met.removal_stays; ends_removal = met.ends_removal } in
     let k = c.pass.invariant in rw (← c.pass.view_is) (finished g.M.Machine laws c.self.inside.turnstile.table.shared.key.places _ _ _ _ _ c.close_with-closed.ensures.values.2 k.rests.live k.rests.no_turn (ap (λ v. v.view.number) c.pass.view_is ∙ c.requires.first) (subst (λ v. length v.view.joined + 1 ≡ v.view.made) (sym c.pass.view_is) c.requires.all) c.take-machine.ensures.value).joined
+
+pub returns-clause-others : goal.returns-clause-others
+returns-clause-others g c = let met = g.met.M.Machine g.world.𝓛 g.world.𝓜 g.world.𝓡 ((λ s x. x), (λ x. x), (λ x. x), λ x. x) in
+    let laws : Laws g.M.Machine = record { opens_sound = met.opens_sound; keeps_sound = met.keeps_sound; opens_places = met.opens_places; goes_forward = met.goes_forward; ends_place = met.ends_place; begins_place = met.begins_place; begins_removal = met.begins_removal; removal_stays = met.removal_stays; ends_removal = met.ends_removal } in
+    let k = c.pass.invariant in rw (← c.pass.view_is) (finished g.M.Machine laws c.self.inside.turnstile.table.shared.key.places _ _ _ _ _ c.close_with-closed.ensures.values.2 k.rests.live k.rests.no_turn (ap (λ v. v.view.number) c.pass.view_is ∙ c.requires.first) (subst (λ v. length v.view.joined + 1 ≡ v.view.made) (sym c.pass.view_is) c.requires.all) c.take-machine.ensures.value).others

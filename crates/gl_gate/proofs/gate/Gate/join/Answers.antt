@@ -1,7 +1,7 @@
 use Rattle.std.proofs.Common.{rules, ap, sym, ◌∙◌}
 use Rattle.gl_rule.proofs.Joins.{joins}
 use Rattle.gl_rule.proofs.Turns.{learns}
-use Rattle.gl_gate.proofs.Calls.{join_removals}
+use Rattle.gl_gate.proofs.Calls.{join_removals, join_seen, join_seen_other}
 use Rattle.gl_gate.proofs.Knocks.{knows_joined}
 use Rattle.gl_world.specs.Laws.{Laws}
 use Rattle.gl_gate.proofs.gate.Gate.join.Goals as goal
@@ -23,3 +23,9 @@ returns-clause-removes g c = let met = g.met.M.Machine g.world.𝓛 g.world.𝓜
 
 pub returns-clause-knows : goal.returns-clause-knows
 returns-clause-knows g c = knows_joined _ c.pass.inside.seat.me.0 c.other.inside.seat.me.0 _ _ (ap (λ v. v.view) c.pass.view_is) (ap (λ a. a.0) c.join_seat.ensures.2) (ap (λ a. a.0) c.load.ensures.2.0)
+
+pub returns-clause-seen : goal.returns-clause-seen
+returns-clause-seen g c = join_seen g.M.Machine _ c.pass.inside.seat.me.0 c.other.inside.seat.me.0 _ _ (ap (λ v. v.view) c.pass.view_is) (ap (λ a. a.0) c.join_seat.ensures.2) (ap (λ a. a.0) c.load.ensures.2.0) c.load.ensures.2.1
+
+pub returns-clause-other_seen : goal.returns-clause-other_seen
+returns-clause-other_seen g c = join_seen_other g.M.Machine c.pass.inside.seat.me.0 c.other.inside.seat.me.0 _ _ _ (ap (λ v. v.view) c.other.view_is) (ap (λ a. a.0) c.join_seat.ensures.2) (ap (λ a. a.0) c.load.ensures.2.0) c.load.ensures.2.1

@@ -1,0 +1,82 @@
+//! A driver that makes an entry of its own.
+ghost use Rattle.std.specs.Prelude.{◌≡◌, ◌≢◌, ℕ, ◌≤◌, false, None, IfErr, List, [], length};
+ghost use Rattle.std.proofs.Common.{arith};
+ghost use Rattle.gl_world.specs.declared.history.Entry.{Entry};
+ghost use Rattle.gl_gate.specs.Values.{IsPassOf};
+ghost use Rattle.gl_gate.specs.Calls.{IsInside, HoldsNoTurn};
+ghost use Rattle.gl_base.specs.Count.{counted_up, Rises};
+ghost use Rattle.gl_driver.specs.Told.{with_call, answer_of, faults_after};
+ghost use Rattle.gl_driver.specs.Calls.{FitsOp, MayMakeEntries, IsBack};
+ghost use Rattle.gl_gate_tests.specs.Noting.{AreNotes};
+
+use crate::adder::Adder;
+use crate::kind::Kind;
+use gl_base::PLACES;
+use gl_driver::laws::{call_is_own, refusal_is_none};
+use gl_driver::{Driver, DriverFault, Op, Port};
+use gl_gate::{Gate, Pass};
+use std::sync::Wait;
+
+/// A port that tells nothing but how many failures it has counted.
+#[derive(Drop)]
+pub struct QuietPort {
+    faults: u64,
+}
+
+impl QuietPort {
+    /// A port that has counted no failure.
+    pub fn new() -> QuietPort {
+        QuietPort { faults: 0 }
+    }
+}
+
+impl Port for QuietPort {
+    ghost told = { λ _. None };
+
+    ghost faults = { λ p. p.faults };
+
+    fn faults(&self) -> u64 {
+        self.faults
+    }
+
+    fn plan(&mut self, _nth: u32) {}
+}
+
+/// A driver that notes each of its calls in the history, by an addition, and answers the number that stood there.
+/// It fails where the history is full.
+#[derive(Drop)]
+pub struct NotingDriver;
+
+impl Driver<Adder> for NotingDriver {
+    type Port = QuietPort;
+
+    const ENTRIES: u32 = 1;
+
+    ghost ENTRIES = { 1 };
+
+    ghost is_planned = { false };
+
+    ghost OwnEntries = { λ _ _ _ own. AreNotes own };
+
+    fn call<R: Wait>(
+        &self,
+        rt: &R,
+        gate: &Gate<Adder>,
+        port: &mut QuietPort,
+        pass: &mut Pass<Adder>,
+        _place: u8,
+        _op: &Op,
+    ) -> Result<u64, DriverFault> {
+        call_is_own::<Adder>();
+        refusal_is_none::<Adder>();
+        match gate.act(rt, pass, Kind::Alone, &mut (), &mut []) {
+            Ok(number) => Ok(number),
+            Err(_) => {
+                port.faults = port.faults.saturating_add(1);
+                Err(DriverFault)
+            }
+        }
+    }
+
+    ghost owns_none = { λ none. absurd (Prim.omega arith) };
+}
