@@ -1,15 +1,19 @@
-//! The machine: what each call of the library does, one after another.
+//! The core: what is kept of a world of the machine, so that the code can answer the machine's calls.
+//!
+//! What the machine is, its calls and its worlds, stands in `gl_model`.
 #![tactic(auto)]
 
-pub mod answers;
-mod call;
-mod gift;
+mod chips;
+pub mod entries;
+mod interrupts;
 pub mod laws;
-mod place;
-mod reply;
-pub mod rows;
+mod levels;
+mod places;
+mod state;
+mod tree;
 
-pub use call::{Call, Part};
-pub use gift::Gift;
-pub use place::{Origin, Place};
-pub use reply::Reply;
+pub use gl_model::{Call, Gift, Origin, Part, Place, Reply};
+pub use state::Core;
+
+#[cfg(test)]
+mod tests;

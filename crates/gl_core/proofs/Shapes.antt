@@ -1,0 +1,47 @@
+-- The tables keep their shape where those of one place change and keep their lengths.
+use Rattle.std.proofs.Common.{◌≡◌, ℕ, List, Option, Some, None, length, refl, sym, ◌∙◌, subst, inl, inr}
+use Rattle.std.specs.Prelude.{slice_index_or}
+use Rattle.std.proofs.lemmas.Bool.{cases_eq, cases_lt}
+use Rattle.gl_base.specs.Positions.{change_at}
+use Rattle.gl_base.specs.Refusals.{unless}
+use Rattle.gl_base.specs.declared.errno.Errno.{Errno}
+use Rattle.gl_base.specs.declared.irq.IrqDo.{IrqDo}
+use Rattle.gl_base.proofs.AtPositions.{change_at-past, get_or-change_at_other, get_or-change_at_same, length-change_at}
+use Rattle.gl_irq.specs.Irq.{act_refusal, done, first_irq}
+use Rattle.gl_irq.specs.declared.irq.Irq.{Irq}
+use Rattle.gl_registry.specs.Chips.{chip_at}
+use Rattle.gl_registry.specs.declared.registry.Chip.{Chip}
+use Rattle.gl_model.specs.declared.place.Origin.{Origin}
+use Rattle.gl_model.specs.declared.place.Place.{Place}
+use Rattle.gl_model.specs.Interrupts.{irq_line}
+use Rattle.gl_model.specs.Places.{no_place}
+use Rattle.gl_core.specs.Shape.{HasLines, IsShaped, with_irq_done}
+
+pub shape_changed : (chips : List Chip) (origins : List Origin) (places : List Place) (place : ℕ) (f : Place → Place) → ((x : Place) (lines : ℕ) → HasLines lines x → HasLines lines (f x))
+    → IsShaped chips origins places → IsShaped chips origins (change_at no_place place f places)
+shape_changed chips origins places place f keeps shape = record {
+  origins_as_many = shape.origins_as_many;
+  places_as_many = length-change_at no_place place f places ∙ shape.places_as_many;
+  lines = λ p. elim (cases_eq p place) as (λ _. HasLines (chip_at chips p).lines (slice_index_or (change_at no_place place f places) p no_place)) [
+    | inl same ↦ (elim (cases_lt place (length places)) as (λ _. HasLines (chip_at chips p).lines (slice_index_or (change_at no_place place f places) p no_place)) [
+      | inl lt ↦
+          (let here : slice_index_or (change_at no_place place f places) place no_place ≡ f (slice_index_or places place no_place) = get_or-change_at_same no_place place f places no_place lt in
+          subst (λ k. HasLines (chip_at chips k).lines (slice_index_or (change_at no_place place f places) k no_place)) (sym same)
+          (subst (HasLines (chip_at chips place).lines) (sym here) (keeps (slice_index_or places place no_place) (chip_at chips place).lines (shape.lines place))))
+      | inr past ↦ subst (λ l. HasLines (chip_at chips p).lines (slice_index_or l p no_place)) (sym (change_at-past no_place place f places past)) (shape.lines p)
+    ])
+    | inr ne ↦ subst (HasLines (chip_at chips p).lines) (sym (get_or-change_at_other no_place place p f places no_place ne)) (shape.lines p)
+  ];
+}
+
+irqs_kept : (r : Option Errno) (offset : ℕ) (f : Irq → Irq) (irqs : List Irq) → length (unless r (change_at first_irq offset f irqs) irqs) ≡ length irqs
+irqs_kept None offset f irqs = length-change_at first_irq offset f irqs
+irqs_kept (Some e) offset f irqs = refl
+
+pub shape_irq : (chips : List Chip) (origins : List Origin) (places : List Place) (place offset : ℕ) (what : IrqDo) → IsShaped chips origins places
+    → IsShaped chips origins (change_at no_place place (with_irq_done offset what) places)
+shape_irq chips origins places place offset what = shape_changed chips origins places place (with_irq_done offset what) (λ x lines h. record {
+  descs = h.descs;
+  bank = h.bank;
+  irqs = irqs_kept (act_refusal x.irqs offset what (irq_line x offset)) offset (done what) x.irqs ∙ h.irqs;
+})

@@ -1,5 +1,0 @@
-use Rattle.gl_core.proofs.Names.{names_stay}
-use Rattle.gl_core.proofs.laws.names_stay.Goals as goal
-
-pub returns : goal.returns
-returns c = names_stay

@@ -1,5 +1,0 @@
-use Rattle.gl_core.proofs.SoundRequests.{requests_stay_sound}
-use Rattle.gl_core.proofs.laws.requests_stay_sound.Goals as goal
-
-pub returns : goal.returns
-returns c = requests_stay_sound

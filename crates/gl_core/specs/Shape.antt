@@ -1,0 +1,57 @@
+-- What is true of the core's tables at every moment: each chip has its origin, and tables of as many lines as it has. And the
+-- tables that wait for a chip.
+use Rattle.std.specs.Prelude.{◌≡◌, ℕ, ◌+◌, ◌<◌, List, length, take, slice_index_or}
+use Rattle.gl_base.specs.declared.limits.TheConstants.{LINES_MAX, PLACES}
+use Rattle.gl_registry.specs.Chips.{chip_at}
+use Rattle.gl_registry.specs.declared.registry.Chip.{Chip}
+use Rattle.gl_model.specs.declared.place.Origin.{Origin}
+use Rattle.gl_model.specs.declared.place.Place.{Place}
+use Rattle.gl_model.specs.Chips.{new_place}
+use Rattle.gl_model.specs.Places.{no_place}
+use Rattle.gl_base.specs.Positions.{change_at}
+use Rattle.gl_base.specs.Refusals.{unless}
+use Rattle.gl_base.specs.declared.irq.IrqDo.{IrqDo}
+use Rattle.gl_irq.specs.Irq.{act_refusal, done, first_irq}
+use Rattle.gl_model.specs.Interrupts.{irq_line}
+
+-- the tables of a place are of so many lines
+pub record HasLines (lines : ℕ) (place : Place) : Type 0 where
+  pub descs : length place.descs ≡ lines
+  pub bank : length place.bank ≡ lines
+  pub irqs : length place.irqs ≡ lines
+
+-- each chip has its origin and the tables of its lines; past the chips there are none
+pub record IsShaped (chips : List Chip) (origins : List Origin) (places : List Place) : Type 0 where
+  pub origins_as_many : length origins ≡ length chips
+  pub places_as_many : length places ≡ length chips
+  pub lines : (p : ℕ) → HasLines (chip_at chips p).lines (slice_index_or places p no_place)
+
+-- a line of a place that is there
+pub record HasLine (places : List Place) (place offset : ℕ) : Type 0 where
+  pub place_within : place < length places
+  pub within : HasLines (length (slice_index_or places place no_place).descs) (slice_index_or places place no_place)
+  pub offset_within : offset < length (slice_index_or places place no_place).descs
+
+-- how many lines the tables have that wait for a chip
+unfoldable pub lines_max : ℕ
+lines_max = LINES_MAX
+
+-- the tables of a place, for so many lines of it
+abbrev pub fitted : ℕ → Place → Place
+fitted lines place = record place { descs = take lines place.descs; bank = take lines place.bank; irqs = take lines place.irqs }
+
+-- tables that wait for a chip are new
+abbrev pub AreNew : List Place → Type 0
+AreNew places = (k : ℕ) (d : Place) → k < length places → slice_index_or places k d ≡ new_place lines_max
+
+-- the tables that wait are new, and there is room for them among the others
+pub record IsSpare (used spare : List Place) (capacity : ℕ) : Type 0 where
+  pub all_places : length used + length spare ≡ PLACES
+  pub room : capacity ≡ PLACES
+  pub all_new : AreNew spare
+
+-- the tables of a place after something was done with the interrupt of a line, or refused
+abbrev pub with_irq_done : ℕ → IrqDo → Place → Place
+with_irq_done offset what place = record place {
+  irqs = unless (act_refusal place.irqs offset what (irq_line place offset)) (change_at first_irq offset (done what) place.irqs) place.irqs;
+}

@@ -1,0 +1,162 @@
+//! The tables of all places.
+
+ghost use Rattle.std.specs.Prelude.{◌≡◌, ◌<◌, ◌≤◌, ◌+◌, ◌-◌, ◌↔◌, [], ◌∷◌, ◌++◌, length, slice_index_or, take, vec_capacity, IfOk, IfSome, IsOkUnless, IsSome};
+ghost use Rattle.gl_base.specs.declared.limits.TheConstants.{LINES_MAX, PLACES};
+ghost use Rattle.gl_model.specs.Chips.{new_place};
+ghost use Rattle.gl_model.specs.Places.{no_place};
+ghost use Rattle.gl_base.specs.Positions.{change_at};
+ghost use Rattle.gl_base.specs.Refusals.{answer};
+ghost use Rattle.gl_irq.specs.Irq.{act_refusal};
+ghost use Rattle.gl_model.specs.Interrupts.{irq_line, is_claimed};
+ghost use Rattle.gl_core.specs.Shape.{AreNew, HasLine, fitted, lines_max, with_irq_done};
+
+use gl_bank::Bank;
+use gl_base::{Errno, IrqDo, LINES_MAX, PLACES, flag, has_bit, push_within};
+use gl_desc::{Descs, Holder};
+use gl_irq::{IrqLine, Irqs};
+use gl_model::Place;
+use gl_pins::Pins;
+use std::alloc::Global;
+use std::marker::Model;
+
+/// The tables of the places that have a chip, by place, and new ones for all other places. Contracts see the first.
+#[derive(Drop)]
+pub struct Places {
+    used: Vec<Place>,
+    spare: Vec<Place>,
+}
+
+impl Model for Places {
+    ghost use Rattle.std.specs.Prelude.{List, vec_capacity};
+    ghost use Rattle.gl_model.specs.declared.place.Place.{Place};
+    ghost use Rattle.gl_core.specs.Shape.{IsSpare};
+
+    ghost Value = { List Place };
+
+    ghost view = { λ p. p.used.items };
+
+    ghost invariant = { λ p. IsSpare p.used.items p.spare.items (vec_capacity p.used) };
+}
+
+/// The tables of a place that waits for its chip.
+#[tactic(auto, unfolding(crate::specs::Shape::lines_max))]
+fn waiting_place(alloc: Global) -> Result<Place, Errno>
+    ensures ok { IfOk result (λ place. place ≡ new_place lines_max) }
+    ensures memory_alone { IsOkUnless result Errno.NoMemory }
+{
+    Ok(Place {
+        descs: Descs::new(alloc, LINES_MAX)?,
+        bank: Bank::new(alloc, LINES_MAX)?,
+        irqs: Irqs::new(alloc, LINES_MAX)?,
+        pins: Pins::new(alloc)?,
+    })
+}
+
+/// The tables of all places, each of which waits for its chip.
+fn waiting_places(alloc: Global) -> Result<Vec<Place>, Errno>
+    ensures ok { IfOk result (λ places. (length places.items ≡ PLACES) × AreNew places.items) }
+    ensures memory_alone { IsOkUnless result Errno.NoMemory }
+{
+    let mut places = Vec::with_capacity(alloc, usize::from(PLACES))?;
+    for _place in 0..PLACES {
+        push_within(&mut places, waiting_place(alloc)?);
+    }
+    Ok(places)
+}
+
+/// Takes the last item.
+fn take_last<T>(items: &mut Vec<T>) -> Option<T>
+    ensures last { IfSome result (λ x. (0 < length items.old.items) × (x ≡ slice_index_or items.old.items (length items.old.items - 1) x)) }
+    ensures rest { items.new.items ≡ take (length items.old.items - 1) items.old.items }
+    ensures some { IsSome result ↔ (0 < length items.old.items) }
+{
+    items.pop()
+}
+
+/// What the interrupt of a line has to know of the line.
+fn irq_line(place: &Place, offset: u32) -> IrqLine
+    requires descs { offset < length place.now.descs }
+    requires bank { offset < length place.now.bank }
+    ensures { result ≡ irq_line place.now offset }
+{
+    let line = place.bank.line(offset);
+    IrqLine {
+        claimed: is_claimed(place.descs.holder(offset)),
+        output: line.output,
+        open_drain: has_bit(line.flags, flag::OPEN_DRAIN),
+        watched: line.held
+            && (has_bit(line.flags, flag::EDGE_RISING)
+                || has_bit(line.flags, flag::EDGE_FALLING)
+                || line.debounce_us != 0),
+    }
+}
+
+/// A request has claimed the line, and doesn't hold it yet.
+fn is_claimed(holder: Holder) -> bool
+    ensures { result ≡ is_claimed holder }
+{
+    match holder {
+        Holder::Claimed(_) => true,
+        Holder::Free | Holder::Held(_) | Holder::Hog => false,
+    }
+}
+
+/// Does something with the interrupt of a line of a place.
+fn act(places: &mut Vec<Place>, place: u8, offset: u32, what: IrqDo) -> Result<(), Errno>
+    requires { HasLine places.old.items place offset }
+    ensures answer { let tables = slice_index_or places.old.items place no_place in result ≡ answer (act_refusal tables.irqs offset what (irq_line tables offset)) tt }
+    ensures places { places.new.items ≡ change_at no_place place (with_irq_done offset what) places.old.items }
+    ensures capacity { vec_capacity places.new ≡ vec_capacity places.old }
+    ensures as_many { length places.new.items ≡ length places.old.items }
+{
+    let tables = &mut places[usize::from(place)];
+    let line = irq_line(tables, offset);
+    tables.irqs.act(offset, what, line)
+}
+
+impl Places {
+    /// No place has a chip yet. It takes the memory of all tables.
+    pub fn new(alloc: Global) -> Result<Places, Errno>
+        ensures ok { IfOk result (λ places. places ≡ []) }
+        ensures memory_alone { IsOkUnless result Errno.NoMemory }
+    {
+        let used = Vec::with_capacity(alloc, usize::from(PLACES))?;
+        let spare = waiting_places(alloc)?;
+        Ok(Places { used, spare })
+    }
+
+    /// The tables of a place.
+    #[tactic(auto, using(std::proofs::lemmas::List::get_or_default))]
+    pub fn at(&self, place: u8) -> &Place
+        requires { place < length self.now }
+        ensures { result.now ≡ slice_index_or self.now place no_place }
+    {
+        &self.used[usize::from(place)]
+    }
+
+    /// Gives the next place the tables of so many lines. It takes no memory.
+    pub fn open(&mut self, lines: u32)
+        requires room { length self.old < PLACES }
+        requires lines { lines ≤ LINES_MAX }
+        ensures { self.new ≡ self.old ++ new_place lines ∷ [] }
+    {
+        match take_last(&mut self.spare) {
+            None => {}
+            Some(mut place) => {
+                place.descs.fit(lines);
+                place.bank.fit(lines);
+                place.irqs.fit(lines);
+                push_within(&mut self.used, place);
+            }
+        }
+    }
+
+    /// Does something with the interrupt of a line of a place. A refused call changes nothing.
+    pub fn act(&mut self, place: u8, offset: u32, what: IrqDo) -> Result<(), Errno>
+        requires { HasLine self.old place offset }
+        ensures answer { let tables = slice_index_or self.old place no_place in result ≡ answer (act_refusal tables.irqs offset what (irq_line tables offset)) tt }
+        ensures places { self.new ≡ change_at no_place place (with_irq_done offset what) self.old }
+    {
+        act(&mut self.used, place, offset, what)
+    }
+}

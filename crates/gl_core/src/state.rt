@@ -1,0 +1,88 @@
+//! The core.
+
+ghost use Rattle.std.specs.Prelude.{◌≡◌, IfOk, IsOkUnless};
+ghost use Rattle.gl_model.specs.Chips.{phase_at};
+ghost use Rattle.gl_model.specs.World.{World, opening};
+ghost use Rattle.gl_core.specs.Kept.{StandsFor};
+ghost use Rattle.gl_core.specs.Steps.{Tells};
+
+use crate::places::Places;
+use gl_base::{Errno, PLACES, Phase};
+use gl_debounce::Timers;
+use gl_model::{Image, Origin};
+use gl_registry::Registry;
+use gl_request::Requests;
+use gl_simtree::Tree;
+use gl_watch::Watches;
+use std::alloc::Global;
+use std::marker::Model;
+
+/// The machine, as code: all that it keeps of its world. Contracts see it as what is kept (`specs/Kept`), which stands for
+/// worlds.
+#[derive(Drop)]
+pub struct Core {
+    pub(crate) chips: Registry,
+    pub(crate) origins: Vec<Origin>,
+    pub(crate) places: Places,
+    pub(crate) timers: Timers,
+    pub(crate) requests: Requests,
+    pub(crate) files: Watches,
+    pub(crate) tree: Tree,
+    pub(crate) next: u32,
+    pub(crate) mono: u64,
+    pub(crate) real: u64,
+}
+
+impl Model for Core {
+    ghost use Rattle.std.specs.Prelude.{◌≡◌, vec_capacity};
+    ghost use Rattle.gl_base.specs.declared.limits.TheConstants.{PLACES};
+    ghost use Rattle.gl_core.specs.Kept.{Kept};
+    ghost use Rattle.gl_core.specs.Shape.{IsShaped};
+    ghost use Rattle.gl_core.specs.View.{view_of};
+
+    ghost Value = { Kept };
+
+    ghost view = { λ c. view_of c };
+
+    ghost invariant = { λ c. IsShaped c.chips c.origins.items c.places × (vec_capacity c.origins ≡ PLACES) };
+}
+
+impl Image for Core {
+    ghost stands_for = { StandsFor };
+}
+
+impl Core {
+    /// A machine as it opens: without a chip, an open file or a directory. It takes all memory that its calls need, but for
+    /// the gifts that some of them bring. `NoMemory` is its one refusal.
+    pub fn new(alloc: Global) -> Result<Core, Errno>
+        ensures ok { IfOk result (λ core. StandsFor core opening) }
+        ensures memory_alone { IsOkUnless result Errno.NoMemory }
+    {
+        let chips = Registry::new(alloc)?;
+        let origins = Vec::with_capacity(alloc, usize::from(PLACES))?;
+        let places = Places::new(alloc)?;
+        let timers = Timers::new(alloc)?;
+        let requests = Requests::new(alloc)?;
+        let files = Watches::new(alloc)?;
+        let tree = Tree::new(alloc)?;
+        Ok(Core {
+            chips,
+            origins,
+            places,
+            timers,
+            requests,
+            files,
+            tree,
+            next: 3,
+            mono: 0,
+            real: 0,
+        })
+    }
+
+    /// The phase of a place.
+    pub fn phase(&self, place: u8) -> Phase
+        ensures { Tells (λ w. phase_at w place) self.now result }
+    {
+        self.chips.phase(place)
+    }
+}

@@ -1,0 +1,5 @@
+use Rattle.gl_model.proofs.Rings as rings
+use Rattle.gl_model.proofs.answers.rings_keep_order.Goals as goal
+
+pub returns : goal.returns
+returns g c = record { order = rings.rings_keep_order g.K.Image.stands_for; spelled = rings.reads_spell_events }

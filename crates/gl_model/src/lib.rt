@@ -1,0 +1,17 @@
+//! The machine: what each call of the library does, one after another, and the laws of it. Here are its definitions;
+//! code that answers the calls stands above.
+#![tactic(auto)]
+
+pub mod answers;
+mod call;
+mod gift;
+mod image;
+pub mod laws;
+mod place;
+mod reply;
+
+pub use call::{Call, Part};
+pub use gift::Gift;
+pub use image::Image;
+pub use place::{Origin, Place};
+pub use reply::Reply;

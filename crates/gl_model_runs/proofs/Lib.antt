@@ -1,0 +1,4 @@
+pub mod TwoActors
+pub mod TwoRemovals
+pub mod TwoActorsCalls
+pub mod DeviceCalls

@@ -1,0 +1,14 @@
+use Rattle.std.proofs.Common.{refl}
+use Rattle.gl_base.specs.Positions.{table_from}
+use Rattle.gl_debounce.specs.Timer.{no_timers}
+use Rattle.gl_uapi.specs.Fields.{number_at, number_bytes, stretch, stretches, zeros}
+use Rattle.gl_watch.specs.Files.{no_lines}
+use Rattle.gl_model.specs.Bits.{bits_where}
+use Rattle.gl_model_runs.specs.Rows.TwoRemovals.{run, given}
+use Rattle.gl_model_runs.specs.Run.{answers_from}
+use Rattle.gl_model_runs.proofs.TwoRemovals.{both_legal, not_one}
+use Rattle.gl_model_runs.proofs.rows.two_removals.Goals as goal
+
+pub returns : goal.returns
+unfolding answers_from run given table_from no_timers number_at number_bytes stretch stretches zeros no_lines bits_where
+returns g c = record { answers = refl; legal = both_legal g.K.Image.stands_for; two = not_one g.K.Image.stands_for }

@@ -1,0 +1,33 @@
+-- Events are numbered in their request and in their line.
+use Rattle.std.specs.Prelude.{ℕ, List, [], ◌∷◌, ◌++◌, true, false}
+use Rattle.gl_uapi.specs.declared.commands.Command.TheVariants.{GetLine}
+use Rattle.gl_model.specs.declared.call.Call.TheVariants.{ReadEdges}
+use Rattle.gl_model.specs.declared.reply.Reply.TheVariants.{Done}
+use Rattle.gl_model_runs.specs.Rows.Structures.{ask_and_tell, by, config, event, four_lines, four_lines_given, gives, opened, pull, request}
+use Rattle.gl_model_runs.specs.Run.{Answer, Made, says}
+
+-- both edges of lines 0 and 1
+abbrev pub asked : ℕ → List ℕ
+asked fd = request (0 ∷ 1 ∷ []) (config 0x34 []) 2 0 fd
+
+unfoldable pub run : List Made
+run =
+    four_lines
+    ++ ask_and_tell 3 GetLine (asked 0)
+    ++ pull 0 true
+    ∷ pull 1 true
+    ∷ pull 1 false
+    ∷ pull 0 false
+    ∷ by 0 (ReadEdges 0 4 480)
+    ∷ []
+
+unfoldable pub given : List Answer
+given =
+    four_lines_given
+    ++ opened 4 asked
+    ++ says Done
+    ∷ says Done
+    ∷ says Done
+    ∷ says Done
+    ∷ gives 192 (event 0 1 0 1 1 ++ event 0 1 1 2 1 ++ event 0 2 1 3 2 ++ event 0 2 0 4 2)
+    ∷ []
