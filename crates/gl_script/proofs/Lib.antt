@@ -1,0 +1,5 @@
+pub mod Back
+pub mod Blaming
+pub mod Missing
+pub mod Spelling
+pub mod Sums

@@ -1,0 +1,10 @@
+use Rattle.std.proofs.Common.{◌≡◌, ◌+◌, ◌≤◌, min, drop, map}
+use Rattle.std.specs.Prelude.{sum_by}
+use Rattle.gl_script.specs.Cost.{statement_cost}
+use Rattle.gl_script.specs.Meaning.{line_in}
+use Rattle.gl_script.proofs.cost.statements_cost.Given as goal
+
+abbrev pub invariant-loop-statement : goal.invariant-loop-statement
+invariant-loop-statement l =
+    (min (l.total + sum_by statement_cost (map line_in (drop l.statement-index l.statements))) 100001 ≡ min (sum_by statement_cost (map line_in l.statements)) 100001)
+    × (l.total ≤ 100001)

@@ -1,0 +1,13 @@
+pub mod Blame
+pub mod Columns
+pub mod Cost
+pub mod Faults
+pub mod Forms
+pub mod Meaning
+pub mod Reading
+pub mod Refusal
+pub mod Script
+pub mod Section
+pub mod Sentence
+pub mod Spelled
+pub mod Table

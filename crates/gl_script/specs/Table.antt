@@ -1,0 +1,86 @@
+-- The statements: the word that each begins with, and the forms of its further words. This project's choice.
+use Rattle.std.specs.Prelude.{ℕ, Bool, if◌then◌else◌, List, [], ◌∷◌, Option, find, codes}
+use Rattle.std.specs.Str.{bytes_eq}
+use Rattle.gl_script.specs.declared.table.Form.{Form}
+use Rattle.gl_script.specs.declared.table.Form.TheVariants.{FileName, Label, Path, Number, Chip, Word, Command, PinWord, IrqWord, HeldTool}
+use Rattle.gl_script.specs.declared.table.Tail.{Tail}
+use Rattle.gl_script.specs.declared.table.Tail.TheVariants.{NoMore, Anything, Pieces}
+use Rattle.gl_script.specs.declared.table.Shape.{Shape}
+use Rattle.gl_script.specs.declared.table.Keyword.{Keyword}
+use Rattle.gl_script.specs.declared.table.Keyword.TheVariants.{Probe, Unplug, MakeDir, RemoveDir, Write, Read, Clock, Fault, Pin, Irq, Open, Ioctl, Events, Changes, Poll, Close, Detect, Info, Get, Set, Start, Step, Stop}
+use Rattle.gl_script.specs.declared.table.TheConstants.{KEYWORDS}
+
+-- the word of a statement
+abbrev pub keyword_name : Keyword → List ℕ
+keyword_name Probe = codes "probe"
+keyword_name Unplug = codes "unplug"
+keyword_name MakeDir = codes "mkdir"
+keyword_name RemoveDir = codes "rmdir"
+keyword_name Write = codes "write"
+keyword_name Read = codes "read"
+keyword_name Clock = codes "clock"
+keyword_name Fault = codes "fault"
+keyword_name Pin = codes "pin"
+keyword_name Irq = codes "irq"
+keyword_name Open = codes "open"
+keyword_name Ioctl = codes "ioctl"
+keyword_name Events = codes "events"
+keyword_name Changes = codes "changes"
+keyword_name Poll = codes "poll"
+keyword_name Close = codes "close"
+keyword_name Detect = codes "gpiodetect"
+keyword_name Info = codes "gpioinfo"
+keyword_name Get = codes "gpioget"
+keyword_name Set = codes "gpioset"
+keyword_name Start = codes "start"
+keyword_name Step = codes "step"
+keyword_name Stop = codes "stop"
+
+abbrev pub is_keyword : List ℕ → Keyword → Bool
+is_keyword word keyword = bytes_eq (keyword_name keyword) word
+
+-- the statement that a word begins, if it begins one
+abbrev pub keyword_of : List ℕ → Option Keyword
+keyword_of word = find (is_keyword word) KEYWORDS
+
+-- the forms of the further words, and what may stand behind them
+pub record Wanted : Type 0 where
+  pub forms : List Form
+  pub tail : Tail
+
+abbrev pub only : List Form → Wanted
+only forms = record { forms = forms; tail = NoMore }
+
+abbrev pub followed : List Form → Tail → Wanted
+followed forms tail = record { forms = forms; tail = tail }
+
+abbrev pub wanted_of : Shape → Wanted
+wanted_of shape = record { forms = shape.forms.now; tail = shape.tail }
+
+-- one row a statement; the second word, and whether the third is a command that makes a file, decide where a statement has several forms
+abbrev pub wanted : Keyword → List ℕ → Bool → Wanted
+wanted Probe second makes = only (Label ∷ Number 1 128 ∷ [])
+wanted Unplug second makes = only (Chip ∷ [])
+wanted MakeDir second makes = only (Path ∷ [])
+wanted RemoveDir second makes = only (Path ∷ [])
+wanted Write second makes = only (Path ∷ Label ∷ [])
+wanted Read second makes = only (Path ∷ [])
+wanted Clock second makes = only (Number 0 0xFFFFFFFFFFFFFFFF ∷ Number 0 0xFFFFFFFFFFFFFFFF ∷ [])
+wanted Fault second makes = only (Number 1 1000000 ∷ [])
+wanted Pin second makes =
+    if bytes_eq second (codes "range") then only (PinWord ∷ Chip ∷ Number 0 0xFFFFFFFF ∷ Number 0 0xFFFFFFFF ∷ Number 0 0xFFFFFFFF ∷ [])
+    else only (PinWord ∷ Chip ∷ Number 0 0xFFFFFFFF ∷ [])
+wanted Irq second makes = only (IrqWord ∷ Chip ∷ Number 0 0xFFFFFFFF ∷ [])
+wanted Open second makes = only (FileName ∷ Word ∷ [])
+wanted Ioctl second makes = followed (FileName ∷ Command ∷ []) (Pieces makes)
+wanted Events second makes = only (FileName ∷ Number 0 49152 ∷ [])
+wanted Changes second makes = only (FileName ∷ Number 0 9216 ∷ [])
+wanted Poll second makes = only (FileName ∷ [])
+wanted Close second makes = only (FileName ∷ [])
+wanted Detect second makes = followed [] Anything
+wanted Info second makes = followed [] Anything
+wanted Get second makes = followed [] Anything
+wanted Set second makes = followed [] Anything
+wanted Start second makes = followed (FileName ∷ HeldTool ∷ []) Anything
+wanted Step second makes = only (FileName ∷ Number 1 1000 ∷ [])
+wanted Stop second makes = only (FileName ∷ [])

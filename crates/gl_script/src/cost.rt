@@ -1,0 +1,216 @@
+//! The cost of a session.
+ghost use Rattle.std.specs.Prelude.{◌≡◌, ◌+◌, ◌*◌, ◌≤◌, ◌<◌, ◌^◌, ◌||◌, nat_eq, if◌then◌else◌, min, length, map, sum_by, codes, MatchOption};
+ghost use Rattle.std.specs.List.{list_any, starts_with};
+ghost use Rattle.std.specs.Str.{bytes_eq};
+ghost use Rattle.gl_base.specs.CommandWord.{command_number_of};
+ghost use Rattle.gl_base.specs.Words.{words_at, text_at};
+ghost use Rattle.gl_script.specs.Cost.{cost, are_none, cost_by, is_bare, is_chip_option, or_zero, start_cost, section_cost, session_cost, statement_cost};
+ghost use Rattle.gl_script.specs.Faults.{is_get_line};
+ghost use Rattle.gl_script.specs.Meaning.{line_in, said_in};
+
+use crate::faults::{is_get_line, text_at};
+use crate::forms::number_within;
+use crate::section::{Section, Statement};
+use crate::table::{Keyword, keyword_of};
+use gl_base::{COST_MAX, command_number, next_word};
+
+/// The least cost that is over the limit.
+const OVER: u64 = COST_MAX + 1;
+
+/// The cost of sections, if it is at most 100,000.
+pub fn cost_within_limit(sections: &[Section<'_>]) -> Option<u64>
+    ensures { MatchOption result (100000 < session_cost (map said_in sections.now)) (λ cost. (cost ≡ session_cost (map said_in sections.now)) × (session_cost (map said_in sections.now) ≤ 100000)) }
+{
+    let cost = session_cost(sections);
+    if cost > COST_MAX {
+        return None;
+    }
+    Some(cost)
+}
+
+/// The cost of sections, or 100,001 where it is more than 100,000.
+#[tactic(auto, using(crate::proofs::Sums::capped))]
+fn session_cost(sections: &[Section<'_>]) -> u64
+    ensures { result ≡ min (session_cost (map said_in sections.now)) 100001 }
+{
+    let mut total = 0;
+    for section in sections {
+        total = (total + section_cost(section)).min(OVER);
+    }
+    total
+}
+
+/// The cost of a section, or 100,001 where it is more than 100,000.
+#[tactic(auto, using(crate::proofs::Sums::capped))]
+fn section_cost(section: &Section<'_>) -> u64
+    ensures cost { result ≡ min (section_cost (said_in section.now)) 100001 }
+{
+    statements_cost(&section.statements)
+}
+
+/// The cost of statements, or 100,001 where it is more than 100,000.
+#[tactic(auto, using(crate::proofs::Sums::capped))]
+fn statements_cost(statements: &[Statement<'_>]) -> u64
+    ensures cost { result ≡ min (sum_by statement_cost (map line_in statements.now)) 100001 }
+{
+    let mut total = 0;
+    for statement in statements {
+        total = (total + statement_cost(statement)).min(OVER);
+    }
+    total
+}
+
+/// The cost of a statement, or 100,001 where it is more than 100,000.
+fn statement_cost(statement: &Statement<'_>) -> u64
+    ensures cost { result ≡ min (statement_cost (line_in statement.now)) 100001 }
+{
+    match next_word(1, statement.line) {
+        Some(first) => match keyword_of(first.word) {
+            Some(keyword) => keyword_cost(keyword, first.rest_at, first.rest).min(OVER),
+            None => 0,
+        },
+        None => 0,
+    }
+}
+
+/// The cost of a statement by the words behind its first, one row a statement; any number over the limit where it is
+/// over the limit.
+fn keyword_cost(keyword: Keyword, at: usize, line: &[u8]) -> u64
+    requires { at + length line.now + 1 < 2 ^ 64 }
+    ensures { min result 100001 ≡ min (cost keyword (words_at at line.now)) 100001 }
+{
+    match keyword {
+        Keyword::Fault | Keyword::Close | Keyword::Stop => 0,
+        Keyword::Probe
+        | Keyword::MakeDir
+        | Keyword::RemoveDir
+        | Keyword::Read
+        | Keyword::Clock
+        | Keyword::Pin
+        | Keyword::Irq
+        | Keyword::Events
+        | Keyword::Changes
+        | Keyword::Poll => 1,
+        Keyword::Write | Keyword::Unplug | Keyword::Open => 2,
+        Keyword::Ioctl => ioctl_cost(text_at(1, at, line)),
+        Keyword::Detect => detect_cost(at, line),
+        Keyword::Info => info_cost(at, line),
+        Keyword::Get => word_count(at, line) + 7,
+        Keyword::Set => word_count(at, line) + 5,
+        Keyword::Start => start_cost(text_at(1, at, line), word_count(at, line).saturating_sub(2)),
+        Keyword::Step => or_zero(number_within(1, 1000, text_at(1, at, line))) + 1,
+    }
+}
+
+fn ioctl_cost(command: &[u8]) -> u64
+    ensures { result ≡ (if is_get_line (command_number_of command.now) then 3 else 2) }
+{
+    if is_get_line(command_number(command)) {
+        return 3;
+    }
+    2
+}
+
+fn detect_cost(at: usize, line: &[u8]) -> u64
+    requires { at + length line.now + 1 < 2 ^ 64 }
+    ensures { min result 100001 ≡ min (if is_bare (words_at at line.now) then 48 else 3 * length (words_at at line.now)) 100001 }
+{
+    if is_bare(at, line) {
+        return 48;
+    }
+    3 * word_count(at, line)
+}
+
+/// Whether gpiodetect has no chip word, and so tries all places: it has no words, or `--` alone.
+fn is_bare(at: usize, line: &[u8]) -> bool
+    requires { at + length line.now + 1 < 2 ^ 64 }
+    ensures { result ≡ is_bare (words_at at line.now) }
+{
+    match next_word(at, line) {
+        Some(first) => {
+            if first.word == b"--".as_slice() {
+                return has_no_word(first.rest_at, first.rest);
+            }
+            false
+        }
+        None => true,
+    }
+}
+
+fn has_no_word(at: usize, line: &[u8]) -> bool
+    requires { at + length line.now + 1 < 2 ^ 64 }
+    ensures { result ≡ are_none (words_at at line.now) }
+{
+    match next_word(at, line) {
+        Some(_) => false,
+        None => true,
+    }
+}
+
+fn info_cost(at: usize, line: &[u8]) -> u64
+    requires { at + length line.now + 1 < 2 ^ 64 }
+    ensures { result ≡ (if list_any is_chip_option (words_at at line.now) then 131 else 2096) }
+{
+    if names_chip(at, line) {
+        return 131;
+    }
+    2096
+}
+
+/// Whether a word may be gpioinfo's option for a chip.
+fn names_chip(at: usize, line: &[u8]) -> bool
+    requires { at + length line.now + 1 < 2 ^ 64 }
+    ensures { result ≡ list_any is_chip_option (words_at at line.now) }
+{
+    let mut at = at;
+    let mut rest = line;
+    while let Some(found) = next_word(at, rest) {
+        if is_chip_option(found.word) {
+            return true;
+        }
+        at = found.rest_at;
+        rest = found.rest;
+    }
+    false
+}
+
+fn is_chip_option(word: &[u8]) -> bool
+    ensures { result ≡ (bytes_eq word.now (codes "-c") || starts_with nat_eq word.now (codes "--chip")) }
+{
+    word == b"-c".as_slice() || word.starts_with(b"--chip")
+}
+
+fn start_cost(tool: &[u8], count: u64) -> u64
+    requires { count ≤ 100001 }
+    ensures { result ≡ start_cost tool.now count }
+{
+    if tool == b"gpionotify".as_slice() {
+        return 2 * count + 2;
+    }
+    count + 5
+}
+
+fn or_zero(number: Option<u64>) -> u64
+    ensures { result ≡ or_zero number }
+{
+    number.unwrap_or(0)
+}
+
+/// How many words a line has, or 100,001 where it has more.
+fn word_count(at: usize, line: &[u8]) -> u64
+    requires { at + length line.now + 1 < 2 ^ 64 }
+    ensures { result ≡ min (length (words_at at line.now)) 100001 }
+{
+    let mut count = 0;
+    let mut at = at;
+    let mut rest = line;
+    while let Some(found) = next_word(at, rest) {
+        if count == OVER {
+            return OVER;
+        }
+        count += 1;
+        at = found.rest_at;
+        rest = found.rest;
+    }
+    count
+}

@@ -1,0 +1,83 @@
+//! The forms of words.
+ghost use Rattle.std.specs.Prelude.{◌≡◌};
+ghost use Rattle.std.specs.List.{list_all};
+ghost use Rattle.gl_base.specs.Label.{is_label_byte};
+ghost use Rattle.gl_script.specs.Forms.{meets, is_one_of, is_of, is_path_byte, is_there, within, number_within, irq_words};
+
+use crate::table::Form;
+use gl_base::{are_label_bytes, chip_number, command_number, read_decimal};
+
+/// The greatest number of a chip that a word may have.
+const CHIP_MAX: u64 = 63;
+
+/// Whether a word is of a form.
+pub fn meets(form: Form, word: &[u8]) -> bool
+    ensures { result ≡ meets form word.now }
+{
+    match form {
+        Form::FileName => is_label(word, 15),
+        Form::Label => is_label(word, 31),
+        Form::Path => is_path(word),
+        Form::Number { low, high } => number_within(low, high, word).is_some(),
+        Form::Chip => within(0, CHIP_MAX, chip_number(word)).is_some(),
+        Form::Word => word.len() <= 127,
+        Form::Command => command_number(word).is_some(),
+        Form::PinWord => {
+            word == b"range".as_slice() || word == b"hold".as_slice() || word == b"drop".as_slice()
+        }
+        Form::IrqWord => is_irq_word(word),
+        Form::HeldTool => {
+            word == b"gpioset".as_slice()
+                || word == b"gpiomon".as_slice()
+                || word == b"gpionotify".as_slice()
+        }
+    }
+}
+
+/// The number that a word is: 1 to 20 digits whose value is from `low` to `high`. None where it is none.
+pub fn number_within(low: u64, high: u64, word: &[u8]) -> Option<u64>
+    ensures { result ≡ number_within low high word.now }
+{
+    within(low, high, read_decimal(word))
+}
+
+fn within(low: u64, high: u64, number: Option<u64>) -> Option<u64>
+    ensures { result ≡ within low high number }
+{
+    match number {
+        Some(number) if low <= number && number <= high => Some(number),
+        _ => None,
+    }
+}
+
+fn is_irq_word(word: &[u8]) -> bool
+    ensures { result ≡ is_one_of irq_words word.now }
+{
+    word == b"lock".as_slice()
+        || word == b"unlock".as_slice()
+        || word == b"enable".as_slice()
+        || word == b"disable".as_slice()
+        || word == b"none".as_slice()
+}
+
+fn is_label(word: &[u8], most: usize) -> bool
+    ensures { result ≡ is_of is_label_byte most word.now }
+{
+    !word.is_empty() && word.len() <= most && are_label_bytes(word)
+}
+
+fn is_path(word: &[u8]) -> bool
+    ensures { result ≡ is_of is_path_byte 127 word.now }
+{
+    !word.is_empty() && word.len() <= 127 && are_path_bytes(word)
+}
+
+fn are_path_bytes(word: &[u8]) -> bool
+    ensures { result ≡ list_all is_path_byte word.now }
+{
+    word.iter().all(|byte| byte.is_ascii_alphanumeric()
+        || *byte == b'_'
+        || *byte == b'-'
+        || *byte == b'.'
+        || *byte == b'/')
+}

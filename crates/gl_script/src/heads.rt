@@ -1,0 +1,136 @@
+//! The lines that begin a session and its sections.
+ghost use Rattle.std.specs.Prelude.{◌≡◌, ◌<◌, ◌≤◌, ◌+◌, ◌^◌, ◌∷◌, map, length, not, count_by};
+ghost use Rattle.std.specs.List.{list_any};
+ghost use Rattle.gl_base.specs.Refusals.{when};
+ghost use Rattle.gl_base.specs.Words.{span, words_at};
+ghost use Rattle.gl_script.specs.Faults.{spot};
+ghost use Rattle.gl_script.specs.Meaning.{said_in, head_in};
+ghost use Rattle.gl_script.specs.Section.{titled};
+ghost use Rattle.gl_script.specs.Sentence.{is_comment, is_header, kind_of, is_actor, is_after, is_named};
+
+use crate::faults::spot;
+use crate::refusal::{Refusal, RefusalKind, Spot};
+use crate::section::{Head, Section, SectionKind};
+use gl_base::{Found, next_word};
+
+/// Whether one of the sections has a name.
+pub fn is_one_named(sections: &[Section<'_>], name: &[u8]) -> bool
+    ensures { result ≡ list_any (is_named name.now) (map said_in sections.now) }
+{
+    for section in sections {
+        if section.name == name {
+            return true;
+        }
+    }
+    false
+}
+
+/// How many of the sections are actors.
+pub fn actors_among(sections: &[Section<'_>]) -> usize
+    ensures count { result ≡ count_by (λ section. is_actor section.kind) (map said_in sections.now) }
+    ensures few { result ≤ length sections.now }
+{
+    let mut count = 0;
+    for section in sections {
+        if is_actor(section.kind) {
+            count += 1;
+        }
+    }
+    count
+}
+
+/// Whether a section is an actor.
+pub fn is_actor(kind: SectionKind) -> bool
+    ensures { result ≡ is_actor kind }
+{
+    match kind {
+        SectionKind::Actor => true,
+        SectionKind::Setup | SectionKind::After => false,
+    }
+}
+
+/// Whether a section is the last one.
+pub fn is_after(kind: SectionKind) -> bool
+    ensures { result ≡ is_after kind }
+{
+    match kind {
+        SectionKind::After => true,
+        SectionKind::Setup | SectionKind::Actor => false,
+    }
+}
+
+/// Whether a line that begins with a word is passed over.
+pub fn is_comment(word: &[u8]) -> bool
+    ensures { result ≡ is_comment word.now }
+{
+    match word {
+        [first, ..] => *first == b'#',
+        [] => false,
+    }
+}
+
+/// The kind of section that a word begins, if it begins one.
+pub fn kind_of(word: &[u8]) -> Option<SectionKind>
+    ensures { result ≡ kind_of word.now }
+{
+    if word == b"setup".as_slice() {
+        return Some(SectionKind::Setup);
+    }
+    if word == b"actor".as_slice() {
+        return Some(SectionKind::Actor);
+    }
+    if word == b"after".as_slice() {
+        return Some(SectionKind::After);
+    }
+    None
+}
+
+/// The fault of the first line that counts, where it isn't `session 1`.
+pub fn header_fault(first: &Found<'_>) -> Option<Spot>
+    requires word { first.now.at + length first.now.word.now < 2 ^ 32 }
+    requires rest { first.now.rest_at + length first.now.rest.now + 1 < 2 ^ 32 }
+    ensures { result ≡ when (not (is_header (span first.now.at first.now.word.now ∷ words_at first.now.rest_at first.now.rest.now))) (spot first.now.at RefusalKind.Header) }
+{
+    if is_header(first) {
+        return None;
+    }
+    Some(spot(first.at, RefusalKind::Header))
+}
+
+/// Whether a line is `session 1`.
+pub fn is_header(first: &Found<'_>) -> bool
+    requires { first.now.rest_at + length first.now.rest.now + 1 < 2 ^ 32 }
+    ensures { result ≡ is_header (span first.now.at first.now.word.now ∷ words_at first.now.rest_at first.now.rest.now) }
+{
+    let Some(version) = next_word(first.rest_at, first.rest) else {
+        return false;
+    };
+    next_word(version.rest_at, version.rest).is_none()
+        && first.word == b"session".as_slice()
+        && version.word == b"1".as_slice()
+}
+
+/// The head of a section; the name is an actor's.
+pub fn head_of<'a>(kind: SectionKind, name: &'a [u8]) -> Head<'a>
+    ensures { head_in result ≡ titled kind name.now }
+{
+    match kind {
+        SectionKind::Setup => Head::Setup,
+        SectionKind::Actor => Head::Actor(name),
+        SectionKind::After => Head::After,
+    }
+}
+
+/// A fault of a line.
+pub fn refusal(line: u32, column: u32, kind: RefusalKind) -> Refusal
+    ensures { result ≡ record { line = line; column = column; kind = kind } }
+{
+    Refusal { line, column, kind }
+}
+
+/// A fault of the whole text, or want of memory.
+pub fn whole_refusal(kind: RefusalKind) -> Refusal
+    ensures { result ≡ record { line = 0; column = 0; kind = kind } }
+{
+    refusal(0, 0, kind)
+}

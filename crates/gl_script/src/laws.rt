@@ -1,0 +1,37 @@
+//! What makes the definitions of a session trustworthy.
+ghost use Rattle.std.specs.Prelude.{◌≡◌, ℕ, List};
+ghost use Rattle.gl_script.specs.Blame.{FaultsAreOfTheText};
+ghost use Rattle.gl_script.specs.Section.{SaidSection};
+ghost use Rattle.gl_script.specs.Sentence.{Sentence};
+ghost use Rattle.gl_script.specs.Spelled.{Spelled};
+
+use crate::limits::{ACTORS_MAX, PIECES_MAX, SESSION_MAX, WORD_MAX, WORDS_MAX};
+
+/// Bytes say one list of sections at most.
+pub fn sentence_is_single()
+    ensures { (bytes : List ℕ) (some others : List SaidSection) → Sentence bytes some → Sentence bytes others → some ≡ others }
+{}
+
+/// The lines of a sentence that count are its header, and for each section its head and its statements.
+pub fn sentences_are_spelled()
+    ensures { (bytes : List ℕ) (sections : List SaidSection) → Sentence bytes sections → Spelled bytes sections }
+{}
+
+/// Bytes that are spelled as sections are a sentence with these sections.
+pub fn spelled_are_sentences()
+    ensures { (bytes : List ℕ) (sections : List SaidSection) → Spelled bytes sections → Sentence bytes sections }
+{}
+
+/// The first fault of bytes is never want of memory.
+pub fn faults_are_of_the_text()
+    ensures { FaultsAreOfTheText }
+{}
+
+/// The limits are these numbers.
+pub fn limits_by_value()
+    ensures session { SESSION_MAX ≡ 1048576 }
+    ensures word { WORD_MAX ≡ 1300 }
+    ensures words { WORDS_MAX ≡ 128 }
+    ensures pieces { PIECES_MAX ≡ 1024 }
+    ensures actors { ACTORS_MAX ≡ 16 }
+{}

@@ -1,0 +1,30 @@
+//! The text of a session: its sections and statements, or its first fault.
+#![tactic(auto)]
+
+mod cost;
+mod faults;
+mod feed;
+mod forms;
+mod heads;
+mod laws;
+mod limits;
+mod reading;
+mod refusal;
+mod script;
+mod section;
+mod table;
+#[cfg(test)]
+mod tests;
+
+pub use faults::text_at;
+pub use feed::Feed;
+pub use forms::number_within;
+pub use laws::{
+    faults_are_of_the_text, limits_by_value, sentence_is_single, sentences_are_spelled,
+    spelled_are_sentences,
+};
+pub use limits::SESSION_MAX;
+pub use refusal::{Refusal, RefusalKind};
+pub use script::Script;
+pub use section::{Head, SectionKind, Statement};
+pub use table::{Keyword, keyword_of};

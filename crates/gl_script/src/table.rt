@@ -1,0 +1,252 @@
+//! The table of statements: the word that each begins with, and the forms of its further words.
+ghost use Rattle.std.specs.Prelude.{◌≡◌, find, option_copied};
+ghost use Rattle.gl_script.specs.Table.{keyword_name, is_keyword, keyword_of, wanted, wanted_of, only, followed};
+
+/// The form of a word.
+#[derive(Clone, Copy, PartialEq, Eq, Debug)]
+pub enum Form {
+    /// NAME: 1 to 15 letters, digits, `_`, `-`, `.`.
+    FileName,
+    /// LABEL and VALUE: 1 to 31 of the same.
+    Label,
+    /// PATH: 1 to 127 of the same and `/`.
+    Path,
+    /// N: 1 to 20 digits, whose value is from `low` to `high`.
+    Number { low: u64, high: u64 },
+    /// CHIP: `gpiochipN`, `N` or `/dev/gpiochipN`, with N from 0 to 63.
+    Chip,
+    /// WORD: at most 127 bytes.
+    Word,
+    /// COMMAND: the word of a command, or `0x` and eight hexadecimal digits.
+    Command,
+    /// `range`, `hold` or `drop`.
+    PinWord,
+    /// `lock`, `unlock`, `enable`, `disable` or `none`.
+    IrqWord,
+    /// `gpioset`, `gpiomon` or `gpionotify`.
+    HeldTool,
+}
+
+/// What may stand behind the words that have forms.
+#[derive(Clone, Copy, PartialEq, Eq, Debug)]
+pub enum Tail {
+    /// Nothing.
+    NoMore,
+    /// Any words.
+    Anything,
+    /// Pieces of bytes, or `-`; then `as NAME` exactly where the command makes a file.
+    Pieces { makes: bool },
+}
+
+/// The word that a statement begins with.
+#[derive(Clone, Copy, PartialEq, Eq, Debug)]
+pub enum Keyword {
+    /// `probe`.
+    Probe,
+    /// `unplug`.
+    Unplug,
+    /// `mkdir`.
+    MakeDir,
+    /// `rmdir`.
+    RemoveDir,
+    /// `write`.
+    Write,
+    /// `read`.
+    Read,
+    /// `clock`.
+    Clock,
+    /// `fault`.
+    Fault,
+    /// `pin`.
+    Pin,
+    /// `irq`.
+    Irq,
+    /// `open`.
+    Open,
+    /// `ioctl`.
+    Ioctl,
+    /// `events`.
+    Events,
+    /// `changes`.
+    Changes,
+    /// `poll`.
+    Poll,
+    /// `close`.
+    Close,
+    /// `gpiodetect`.
+    Detect,
+    /// `gpioinfo`.
+    Info,
+    /// `gpioget`.
+    Get,
+    /// `gpioset`.
+    Set,
+    /// `start`.
+    Start,
+    /// `step`.
+    Step,
+    /// `stop`.
+    Stop,
+}
+
+/// The forms of a statement's further words, and what may stand behind them.
+#[derive(Clone, Copy, Debug)]
+pub struct Shape {
+    /// The forms.
+    pub forms: &'static [Form],
+    /// What may stand behind.
+    pub tail: Tail,
+}
+
+/// All statements.
+pub const KEYWORDS: [Keyword; 23] = [
+    Keyword::Probe,
+    Keyword::Unplug,
+    Keyword::MakeDir,
+    Keyword::RemoveDir,
+    Keyword::Write,
+    Keyword::Read,
+    Keyword::Clock,
+    Keyword::Fault,
+    Keyword::Pin,
+    Keyword::Irq,
+    Keyword::Open,
+    Keyword::Ioctl,
+    Keyword::Events,
+    Keyword::Changes,
+    Keyword::Poll,
+    Keyword::Close,
+    Keyword::Detect,
+    Keyword::Info,
+    Keyword::Get,
+    Keyword::Set,
+    Keyword::Start,
+    Keyword::Step,
+    Keyword::Stop,
+];
+
+/// A number of 32 bits.
+const BELOW_2_32: Form = Form::Number {
+    low: 0,
+    high: 0xFFFF_FFFF,
+};
+
+/// A number of 64 bits.
+const BELOW_2_64: Form = Form::Number {
+    low: 0,
+    high: 0xFFFF_FFFF_FFFF_FFFF,
+};
+
+impl Keyword {
+    /// The word.
+    pub fn name(self) -> &'static str
+        ensures { result.now ≡ keyword_name self }
+    {
+        match self {
+            Keyword::Probe => "probe",
+            Keyword::Unplug => "unplug",
+            Keyword::MakeDir => "mkdir",
+            Keyword::RemoveDir => "rmdir",
+            Keyword::Write => "write",
+            Keyword::Read => "read",
+            Keyword::Clock => "clock",
+            Keyword::Fault => "fault",
+            Keyword::Pin => "pin",
+            Keyword::Irq => "irq",
+            Keyword::Open => "open",
+            Keyword::Ioctl => "ioctl",
+            Keyword::Events => "events",
+            Keyword::Changes => "changes",
+            Keyword::Poll => "poll",
+            Keyword::Close => "close",
+            Keyword::Detect => "gpiodetect",
+            Keyword::Info => "gpioinfo",
+            Keyword::Get => "gpioget",
+            Keyword::Set => "gpioset",
+            Keyword::Start => "start",
+            Keyword::Step => "step",
+            Keyword::Stop => "stop",
+        }
+    }
+
+    /// The forms of the further words, one row a statement. `second` is the statement's second word, and `makes` says
+    /// whether its third is a command that makes a file.
+    pub fn shape(self, second: &[u8], makes: bool) -> Shape
+        ensures { wanted_of result ≡ wanted self second.now makes }
+    {
+        match self {
+            Keyword::Probe => only(&[Form::Label, Form::Number { low: 1, high: 128 }]),
+            Keyword::Unplug => only(&[Form::Chip]),
+            Keyword::MakeDir => only(&[Form::Path]),
+            Keyword::RemoveDir => only(&[Form::Path]),
+            Keyword::Write => only(&[Form::Path, Form::Label]),
+            Keyword::Read => only(&[Form::Path]),
+            Keyword::Clock => only(&[BELOW_2_64, BELOW_2_64]),
+            Keyword::Fault => only(&[Form::Number {
+                low: 1,
+                high: 1_000_000,
+            }]),
+            Keyword::Pin if second == b"range".as_slice() => only(&[
+                Form::PinWord,
+                Form::Chip,
+                BELOW_2_32,
+                BELOW_2_32,
+                BELOW_2_32,
+            ]),
+            Keyword::Pin => only(&[Form::PinWord, Form::Chip, BELOW_2_32]),
+            Keyword::Irq => only(&[Form::IrqWord, Form::Chip, BELOW_2_32]),
+            Keyword::Open => only(&[Form::FileName, Form::Word]),
+            Keyword::Ioctl => followed(&[Form::FileName, Form::Command], Tail::Pieces { makes }),
+            Keyword::Events => only(&[
+                Form::FileName,
+                Form::Number {
+                    low: 0,
+                    high: 49_152,
+                },
+            ]),
+            Keyword::Changes => only(&[Form::FileName, Form::Number { low: 0, high: 9216 }]),
+            Keyword::Poll => only(&[Form::FileName]),
+            Keyword::Close => only(&[Form::FileName]),
+            Keyword::Detect => followed(&[], Tail::Anything),
+            Keyword::Info => followed(&[], Tail::Anything),
+            Keyword::Get => followed(&[], Tail::Anything),
+            Keyword::Set => followed(&[], Tail::Anything),
+            Keyword::Start => followed(&[Form::FileName, Form::HeldTool], Tail::Anything),
+            Keyword::Step => only(&[Form::FileName, Form::Number { low: 1, high: 1000 }]),
+            Keyword::Stop => only(&[Form::FileName]),
+        }
+    }
+}
+
+fn only(forms: &'static [Form]) -> Shape
+    ensures { wanted_of result ≡ only forms.now }
+{
+    Shape {
+        forms,
+        tail: Tail::NoMore,
+    }
+}
+
+fn followed(forms: &'static [Form], tail: Tail) -> Shape
+    ensures { wanted_of result ≡ followed forms.now tail }
+{
+    Shape { forms, tail }
+}
+
+/// The statement that a word begins, if it begins one.
+pub fn keyword_of(word: &[u8]) -> Option<Keyword>
+    ensures { result ≡ keyword_of word.now }
+{
+    match keyword_among(&KEYWORDS, word) {
+        Some(keyword) => Some(*keyword),
+        None => None,
+    }
+}
+
+fn keyword_among<'a>(keywords: &'a [Keyword], word: &[u8]) -> Option<&'a Keyword>
+    ensures { option_copied result ≡ find (is_keyword word.now) keywords.now }
+{
+    keywords
+        .iter()
+        .find(|keyword| keyword.name().as_bytes() == word)
+}

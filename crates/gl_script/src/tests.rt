@@ -1,0 +1,262 @@
+//! Texts, their first faults and their statements.
+ghost use Rattle.std.specs.Prelude.{◌<◌, ◌≤◌, length};
+
+use super::{Feed, Head, Script, sentence_is_single, sentences_are_spelled, spelled_are_sentences};
+use std::alloc::Global;
+use std::test::Fail;
+
+/// A session with a device of gpio-sim, and three tools.
+const BOARD: &[u8] =
+    b"session 1\nsetup\nmkdir board\nmkdir board/soc\nwrite board/soc/num_lines 8\nwrite board/soc/label soc-gpio\nmkdir board/soc/line3\nwrite board/soc/line3/name BUTTON\nmkdir board/exp\nmkdir board/aux\nwrite board/aux/num_lines 2\nwrite board/live 1\ngpiodetect\ngpioget BUTTON\ngpioinfo -c gpiochip2\n";
+
+/// The line, the column and the kind of the first fault; the cost and `ok` where there is none.
+fn first_fault(alloc: Global, text: &[u8]) -> (u64, u32, &'static str) {
+    match Script::parse(alloc, text) {
+        Ok(script) => (script.cost(), 0, "ok"),
+        Err(refusal) => (u64::from(refusal.line), refusal.column, refusal.kind.word()),
+    }
+}
+
+#[test]
+fn each_kind_of_fault_has_its_place(rt: HostRuntime) {
+    let texts = [
+        ("", (1, 1, "header")),
+        ("# none\n\n", (1, 1, "header")),
+        ("\x7f", (1, 1, "byte")),
+        ("session 1\nsetup\n#\t", (3, 2, "byte")),
+        (" session 2", (1, 2, "header")),
+        ("session 1 1", (1, 1, "header")),
+        ("session 1\n probe demo 4", (2, 2, "section")),
+        ("session 1\nprob", (2, 1, "section")),
+        ("session 1\nsetup\nafter\nsetup", (4, 1, "section")),
+        ("session 1\nafter\nactor a", (3, 1, "section")),
+        ("session 1\nsetup\nprob demo 4", (3, 1, "statement")),
+        ("session 1\nsetup 1", (2, 7, "words")),
+        ("session 1\nactor", (2, 6, "words")),
+        ("session 1\nactor a/b", (2, 7, "word")),
+        ("session 1\nactor a b", (2, 9, "words")),
+        ("session 1\nactor a\nactor b\nactor a", (4, 7, "name")),
+        ("session 1\nsetup\nprobe demo", (3, 11, "words")),
+        ("session 1\nsetup\nprobe demo 4 4", (3, 14, "words")),
+        ("session 1\nsetup\nprobe demo 129", (3, 12, "word")),
+        ("session 1\nsetup\nprobe de/mo 4\nprob", (3, 7, "word")),
+        ("session 1\nsetup\nprob\n#\x7f", (3, 1, "statement")),
+        ("session 1\nsetup\nprobe demo 4\x7f", (3, 13, "byte")),
+        (
+            "session 1\nsetup\nstep m 1000\nprobe demo 4 # 4",
+            (4, 14, "words"),
+        ),
+    ];
+    for (text, fault) in texts {
+        assert_eq!(rt; first_fault(rt.alloc(), text.as_bytes()), fault, "{text}");
+    }
+    sentence_is_single();
+    sentences_are_spelled();
+    spelled_are_sentences();
+}
+
+/// The first fault of a session with this one statement.
+fn statement_fault(alloc: Global, statement: &str) -> Result<(u64, u32, &'static str), Fail> {
+    let mut text = b"session 1\nsetup\n".to_vec(alloc)?;
+    text.extend_from_slice(statement.as_bytes())?;
+    Ok(first_fault(alloc, &text))
+}
+
+#[test]
+fn each_statement_has_its_forms_and_its_cost(rt: HostRuntime) -> Result<(), Fail> {
+    let statements = [
+        ("probe demo 0128", (1, 0, "ok")),
+        ("unplug gpiochip63", (2, 0, "ok")),
+        ("unplug 64", (3, 8, "word")),
+        ("mkdir a/b", (1, 0, "ok")),
+        ("rmdir a b", (3, 9, "words")),
+        ("write a/b c", (2, 0, "ok")),
+        ("write a b/c", (3, 9, "word")),
+        ("read a", (1, 0, "ok")),
+        ("clock 18446744073709551615 0", (1, 0, "ok")),
+        ("clock 18446744073709551616 0", (3, 7, "word")),
+        ("fault 1000000", (0, 0, "ok")),
+        ("fault 0", (3, 7, "word")),
+        ("pin range 0 4294967295 0 1", (1, 0, "ok")),
+        ("pin range 0 1 2", (3, 16, "words")),
+        ("pin hold 0 4294967296", (3, 12, "word")),
+        ("pin drop /dev/gpiochip1 5", (1, 0, "ok")),
+        ("pin keep 0 5", (3, 5, "word")),
+        ("irq none 0 3", (1, 0, "ok")),
+        ("irq on 0 3", (3, 5, "word")),
+        ("open A gpiochip0", (2, 0, "ok")),
+        ("open A-name-of-16-byt gpiochip0", (3, 6, "word")),
+        ("events B 49152", (1, 0, "ok")),
+        ("events B 49153", (3, 10, "word")),
+        ("changes A 9216", (1, 0, "ok")),
+        ("changes A 9217", (3, 11, "word")),
+        ("poll A", (1, 0, "ok")),
+        ("close A", (0, 0, "ok")),
+        ("gpiodetect", (48, 0, "ok")),
+        ("gpiodetect --", (48, 0, "ok")),
+        ("gpiodetect 0 -x", (6, 0, "ok")),
+        ("gpioinfo", (2096, 0, "ok")),
+        ("gpioinfo -c 0", (131, 0, "ok")),
+        ("gpioinfo --chip=0", (131, 0, "ok")),
+        ("gpioget -c 0 1", (10, 0, "ok")),
+        ("gpioset 1=0", (6, 0, "ok")),
+        ("start t gpiomon -c 0 1", (8, 0, "ok")),
+        ("start t gpioset", (5, 0, "ok")),
+        ("start t gpionotify 1 2", (6, 0, "ok")),
+        ("start t gpioget 1", (3, 9, "word")),
+        ("step t 1000", (1001, 0, "ok")),
+        ("step t 1001", (3, 8, "word")),
+        ("stop t", (0, 0, "ok")),
+        ("stop", (3, 5, "words")),
+    ];
+    for (statement, fault) in statements {
+        assert_eq!(rt;
+            statement_fault(rt.alloc(), statement)?,
+            fault,
+            "{statement}"
+        );
+    }
+    Ok(())
+}
+
+#[test]
+fn commands_have_pieces_and_a_name_for_what_they_make(rt: HostRuntime) -> Result<(), Fail> {
+    let statements = [
+        ("ioctl A GET_CHIPINFO 00*68", (2, 0, "ok")),
+        ("ioctl A GET_CHIPINFO -", (2, 0, "ok")),
+        ("ioctl A 0x8044b401 0102 00*66", (2, 0, "ok")),
+        ("ioctl A GET_LINE 00*592 as B", (3, 0, "ok")),
+        ("ioctl A 0xC250b407 - as B", (3, 0, "ok")),
+        ("ioctl A GET_CHIPINFO", (3, 21, "words")),
+        ("ioctl A GET 00", (3, 9, "word")),
+        ("ioctl A GET_CHIPINFO 00*068", (3, 22, "word")),
+        ("ioctl A GET_CHIPINFO 000", (3, 22, "word")),
+        ("ioctl A GET_CHIPINFO 00*1024", (2, 0, "ok")),
+        ("ioctl A GET_CHIPINFO 00*1025", (3, 22, "word")),
+        ("ioctl A GET_CHIPINFO 00*1024 01", (3, 30, "limit")),
+        ("ioctl A GET_CHIPINFO - 00", (3, 24, "words")),
+        ("ioctl A GET_CHIPINFO 00 -", (3, 25, "word")),
+        ("ioctl A GET_CHIPINFO 00 as B", (3, 25, "word")),
+        ("ioctl A GET_LINE as B", (3, 18, "word")),
+        ("ioctl A GET_LINE 00", (3, 20, "words")),
+        ("ioctl A GET_LINE - 00", (3, 20, "word")),
+        ("ioctl A GET_LINE 00 as", (3, 23, "words")),
+        ("ioctl A GET_LINE 00 as B C", (3, 26, "words")),
+    ];
+    for (statement, fault) in statements {
+        assert_eq!(rt;
+            statement_fault(rt.alloc(), statement)?,
+            fault,
+            "{statement}"
+        );
+    }
+    Ok(())
+}
+
+/// A text, and then one byte so many times.
+fn repeated(alloc: Global, text: &[u8], byte: u8, count: usize) -> Result<Vec<u8>, Fail> {
+    let mut bytes = text.to_vec(alloc)?;
+    for _ in 0..count {
+        bytes.push(byte)?;
+    }
+    Ok(bytes)
+}
+
+/// `session 1`, and then one line so many times.
+fn lines(alloc: Global, line: &[u8], count: usize) -> Result<Vec<u8>, Fail> {
+    let mut bytes = b"session 1\n".to_vec(alloc)?;
+    for _ in 0..count {
+        bytes.extend_from_slice(line)?;
+    }
+    Ok(bytes)
+}
+
+#[test]
+fn limits_are_met_to_the_byte(rt: HostRuntime) -> Result<(), Fail> {
+    let alloc = rt.alloc();
+    let texts = [
+        (repeated(alloc, b"session 1\n# ", b'x', 1300)?, (0, 0, "ok")),
+        (
+            repeated(alloc, b"session 1\n# ", b'x', 1301)?,
+            (2, 3, "limit"),
+        ),
+        (
+            repeated(alloc, b"session 1\n", b'#', 1_048_566)?,
+            (2, 1, "limit"),
+        ),
+        (
+            repeated(alloc, b"session 1\n", b'\n', 1_048_566)?,
+            (0, 0, "ok"),
+        ),
+        (
+            repeated(alloc, b"session 1\n", b'\n', 1_048_567)?,
+            (0, 0, "too-long"),
+        ),
+        (lines(alloc, b"# ", 127)?, (0, 0, "ok")),
+        (lines(alloc, b"# ", 129)?, (2, 257, "limit")),
+        (lines(alloc, b"setup\ngpioinfo\n", 1)?, (2096, 0, "ok")),
+    ];
+    for (text, fault) in texts {
+        assert_eq!(rt; first_fault(alloc, &text), fault);
+    }
+    Ok(())
+}
+
+#[test]
+fn sixteen_actors_are_the_most(rt: HostRuntime) -> Result<(), Fail> {
+    let mut text = b"session 1\n".to_vec(rt.alloc())?;
+    for letter in b'a'..=b'p' {
+        text.extend_from_slice(b"actor ")?;
+        text.extend_from_slice(&[letter, b'\n'])?;
+    }
+    assert_eq!(rt; first_fault(rt.alloc(), &text), (0, 0, "ok"));
+    text.extend_from_slice(b"  actor a/ b")?;
+    assert_eq!(rt; first_fault(rt.alloc(), &text), (18, 3, "limit"));
+    Ok(())
+}
+
+#[test]
+fn cost_is_at_most_100000(rt: HostRuntime) -> Result<(), Fail> {
+    let mut text = b"session 1\nactor a\n".to_vec(rt.alloc())?;
+    for _ in 0..99 {
+        text.extend_from_slice(b"step t 1000\n")?;
+    }
+    text.extend_from_slice(b"after\nstep t 900")?;
+    assert_eq!(rt; first_fault(rt.alloc(), &text), (100_000, 0, "ok"));
+    text.extend_from_slice(b"\nread a\n")?;
+    assert_eq!(rt; first_fault(rt.alloc(), &text), (0, 0, "cost"));
+    text.extend_from_slice(b"prob")?;
+    assert_eq!(rt; first_fault(rt.alloc(), &text), (105, 1, "statement"));
+    Ok(())
+}
+
+/// A feed to which a text came in pieces of so many bytes.
+fn fed(alloc: Global, text: &[u8], piece: usize) -> Result<Feed, Fail>
+    requires piece { 0 < piece }
+    requires text { length text.now ≤ 1000 }
+{
+    let mut feed = Feed::new(alloc)?;
+    for piece in text.chunks(piece) {
+        if u64::from(feed.len()) + piece.len() as u64 <= 1000 {
+            feed.feed(piece)?;
+        }
+    }
+    Ok(feed)
+}
+
+#[test]
+fn pieces_of_any_length_give_the_same_statements(rt: HostRuntime) -> Result<(), Fail> {
+    let whole = Script::parse(rt.alloc(), BOARD)?;
+    for piece in [1, 2, 7, 64, 1000] {
+        let feed = fed(rt.alloc(), BOARD, piece)?;
+        let script = feed.script(rt.alloc())?;
+        assert_eq!(rt; script.sections(), 1);
+        assert_eq!(rt; script.cost(), whole.cost());
+        for i in 0..14 {
+            let words = script.statement(0, i).map(|statement| statement.line());
+            let wanted = whole.statement(0, i).map(|statement| statement.line());
+            assert_eq!(rt; words, wanted, "pieces of {piece} bytes");
+        }
+    }
+    Ok(())
+}
