@@ -1,0 +1,41 @@
+-- What programs cost.
+use Rattle.std.proofs.Common.{◌≤◌, ◌+◌, ◌-◌, ℕ, arith}
+use Rattle.gl_base.specs.declared.operation.Got.{Got}
+use Rattle.gl_args.specs.Program.{Program, done, print, ask, then_by}
+use Rattle.gl_args.specs.Costs.{CostsAtMost, entries_of}
+
+-- what costs little costs no more
+pub costs_more : {A : Type 0} (p : Program A) (n m : ℕ) → n ≤ m → CostsAtMost n p → CostsAtMost m p
+costs_more (done value) n m le h = tt
+costs_more (print text p) n m le h = costs_more p n m le h
+costs_more (ask what p) n m le h =
+    (omega (arith, h.0), λ got. costs_more (p got) (n - entries_of what) (m - entries_of what) (omega (arith, h.0)) (h.1 got))
+
+-- one program and then another cost what both cost
+pub costs_then : {A B : Type 0} (p : Program A) (f : A → Program B) (n m : ℕ) → CostsAtMost n p → ((value : A) → CostsAtMost m (f value)) → CostsAtMost (n + m) (then_by p f)
+costs_then (done value) f n m h k = costs_more (f value) m (n + m) (omega arith) (k value)
+costs_then (print text p) f n m h k = costs_then p f n m h k
+costs_then (ask what p) f n m h k = (
+  omega (arith, h.0),
+  λ got.
+      costs_more (then_by (p got) f) (n - entries_of what + m) (n + m - entries_of what) (omega (arith, h.0))
+      (costs_then (p got) f (n - entries_of what) m (h.1 got) k),
+)
+
+-- each value that a program may give has the property, whatever it is answered
+abbrev pub Gives : {A : Type 0} → (A → Type 0) → Program A → Type 0
+Gives P (done value) = P value
+Gives P (print text p) = Gives P p
+Gives P (ask what p) = (got : Got) → Gives P (p got)
+
+-- one program and then another that costs so much behind each value that the first may give
+pub costs_then_given : {A B : Type 0} (P : A → Type 0) (p : Program A) (f : A → Program B) (n m : ℕ) → CostsAtMost n p → Gives P p
+    → ((value : A) → P value → CostsAtMost m (f value)) → CostsAtMost (n + m) (then_by p f)
+costs_then_given P (done value) f n m h g k = costs_more (f value) m (n + m) (omega arith) (k value g)
+costs_then_given P (print text p) f n m h g k = costs_then_given P p f n m h g k
+costs_then_given P (ask what p) f n m h g k = (
+  omega (arith, h.0),
+  λ got.
+      costs_more (then_by (p got) f) (n - entries_of what + m) (n + m - entries_of what) (omega (arith, h.0))
+      (costs_then_given P (p got) f (n - entries_of what) m (h.1 got) (g got) k),
+)

@@ -1,0 +1,7 @@
+pub mod BareWords
+pub mod ChipOptions
+pub mod Costs
+pub mod Divided
+pub mod Fronts
+pub mod LineCounts
+pub mod Programs

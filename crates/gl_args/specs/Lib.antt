@@ -1,0 +1,9 @@
+pub mod Costs
+pub mod Counts
+pub mod Cuts
+pub mod Items
+pub mod LookUps
+pub mod Names
+pub mod Program
+pub mod Tools
+pub mod Values

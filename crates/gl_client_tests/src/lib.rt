@@ -1,0 +1,12 @@
+//! The tools over scripted results, without a device: which operations they ask for, and what they print.
+#![tactic(auto)]
+
+#[cfg(test)]
+mod tests;
+#[cfg(test)]
+mod tests_args;
+#[cfg(test)]
+mod tests_monitor;
+mod transcript;
+
+pub use transcript::{put_call, results_of};

@@ -1,0 +1,153 @@
+//! The words of the tools.
+
+use crate::tests::words_of;
+use gl_args::{ArgFault, Opts, Tool, read_tool};
+use gl_base::{ByteList, Name};
+use std::alloc::Global;
+use std::test::Fail;
+
+/// Whether words are those of a tool.
+fn is_tool(alloc: Global, text: &[u8]) -> Result<bool, Fail> {
+    let words = words_of(alloc, text)?;
+    match read_tool(alloc, &words) {
+        Ok(_) => Ok(true),
+        Err(ArgFault::Usage) => Ok(false),
+        Err(ArgFault::NoMemory) => Err("memory")?,
+    }
+}
+
+/// Words of tools.
+fn right() -> [&'static str; 24] {
+    [
+        "gpiodetect",
+        "gpiodetect --",
+        "gpiodetect 0 gpiochip1 -",
+        "gpioinfo",
+        "gpioinfo --unquoted --chip=0",
+        "gpioinfo -c gpiochip3",
+        "gpioget A",
+        "gpioget -c 0 -s --by-name --unquoted --numeric -l -b pull-up -C me 1",
+        "gpioget 1 --bias=disabled -c 0 --consumer=me --strict --active-low",
+        "gpioget -b pull-down -c 0 -- -x",
+        "gpioget -",
+        "gpioget -c - 1",
+        "gpioget --chip=-x 1",
+        "gpioset A=1 B=off C=inactive D=false E=0 F=on G=active H=true",
+        "gpioset -c 0 -d open-drain -l -b disabled -s --by-name -C x A=B=1",
+        "gpioset --drive=open-source A=1",
+        "gpioset --drive push-pull A=1",
+        "gpiomon -c 0 -p 5 -e rising -n 1 -F %c 1",
+        "gpiomon --debounce-period=4294967295us --edges=both --num-events 1000000 --format=x 1",
+        "gpiomon -p 4294s -e falling --unquoted --strict --by-name -l -b pull-up -C a 1",
+        "gpiomon -p 00000000000000000005ms 1",
+        "gpionotify -c 0 -e requested -n 00001 -F x --unquoted -s --by-name 1",
+        "gpionotify --event released 1",
+        "gpionotify --event=reconfigured 1",
+    ]
+}
+
+/// Words of no tool.
+fn wrong() -> [&'static str; 47] {
+    [
+        "gpioread",
+        "gpiodetect -c 0",
+        "gpiodetect --chip=0",
+        "gpiodetect 12345678901234567890123456789012",
+        "gpioinfo 0",
+        "gpioinfo -c",
+        "gpioinfo -s",
+        "gpioinfo -c 0 -c 0",
+        "gpioget",
+        "gpioget -c 0",
+        "gpioget -c 0 -b sideways 1",
+        "gpioget -c 0 -c 0 1",
+        "gpioget -c 0 --chip=0 1",
+        "gpioget -c -x 1",
+        "gpioget --chip= 1",
+        "gpioget --numeric=1 1",
+        "gpioget -d open-drain 1",
+        "gpioget -cl 1",
+        "gpioget --chip",
+        "gpioget -F x 1",
+        "gpioget --quoted 1",
+        "gpioget 12345678901234567890123456789012",
+        "gpioset 1",
+        "gpioset 1=2",
+        "gpioset =1",
+        "gpioset A=",
+        "gpioset --unquoted A=1",
+        "gpioset --numeric A=1",
+        "gpioset -d sideways A=1",
+        "gpioset A=1 B",
+        "gpiomon -p 4294967296us 1",
+        "gpiomon -p 4295s 1",
+        "gpiomon -p ms 1",
+        "gpiomon -p 5m 1",
+        "gpiomon -p 000000000000000000005 1",
+        "gpiomon -e up 1",
+        "gpiomon --event requested 1",
+        "gpiomon -n 0 1",
+        "gpiomon -n 1000001 1",
+        "gpiomon -n x 1",
+        "gpiomon --numeric 1",
+        "gpiomon --format= 1",
+        "gpionotify -e rising 1",
+        "gpionotify -l 1",
+        "gpionotify -b pull-up 1",
+        "gpionotify -p 5 1",
+        "gpionotify -C me 1",
+    ]
+}
+
+/// Each option of each tool, right and wrong.
+#[test]
+fn words_are_those_of_a_tool_or_its_usage(rt: HostRuntime) -> Result<(), Fail> {
+    for text in right() {
+        assert!(rt; is_tool(rt.alloc(), text.as_bytes())?, "{text}");
+    }
+    for text in wrong() {
+        assert!(rt; !is_tool(rt.alloc(), text.as_bytes())?, "{text}");
+    }
+    Ok(())
+}
+
+/// The options of gpiomon, in any order.
+#[test]
+fn options_are_as_they_were_given(rt: HostRuntime) -> Result<(), Fail> {
+    let alloc = rt.alloc();
+    let text =
+        b"gpiomon 7 --chip=gpiochip2 -l -p 5 -e rising -n 7 -F %c:%o -C me -b disabled -- -x";
+    let words = words_of(alloc, text)?;
+    let opts: Opts = match read_tool(alloc, &words).map_err(|_| "words")? {
+        Tool::Watch(opts) => opts,
+        _ => Err("another tool")?,
+    };
+    let chip = opts.chip.ok_or("chip")?;
+    assert!(rt; chip == Name::of(b"gpiochip2").ok_or("name")?);
+    assert_eq!(rt;
+        (opts.active_low, opts.by_name, opts.strict),
+        (true, false, false)
+    );
+    assert_eq!(rt; (opts.bias, opts.drive, opts.edges), (1024, 0, 16));
+    assert_eq!(rt; (opts.period_us, opts.count), (5000, Some(7)));
+    let format: ByteList = opts.format.ok_or("format")?;
+    assert_eq!(rt; format.as_slice(), b"%c:%o".as_slice());
+    assert_eq!(rt; opts.consumer.as_bytes(), b"me".as_slice());
+    assert_eq!(rt; opts.lines.len(), 2);
+    assert_eq!(rt; opts.lines[1].0.as_bytes(), b"-x".as_slice());
+    Ok(())
+}
+
+/// 64 lines are taken, and 65 aren't.
+#[test]
+fn a_tool_has_at_most_64_lines(rt: HostRuntime) -> Result<(), Fail> {
+    let alloc = rt.alloc();
+    let mut words = words_of(alloc, b"gpioget")?;
+    for _ in 0..64u32 {
+        words.push(b"A")?;
+    }
+    assert!(rt; read_tool(alloc, &words).is_ok());
+    words.push(b"A")?;
+    assert!(rt; read_tool(alloc, &words).is_err());
+    Ok(())
+}

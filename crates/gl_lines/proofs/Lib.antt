@@ -1,0 +1,4 @@
+pub mod Buffers
+pub mod FindingCosts
+pub mod FoundEnds
+pub mod FoundFew

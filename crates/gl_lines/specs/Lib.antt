@@ -1,0 +1,4 @@
+pub mod Bytes
+pub mod Finding
+pub mod FoundLines
+pub mod Texts

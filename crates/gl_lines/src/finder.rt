@@ -1,0 +1,409 @@
+//! How a tool finds its lines, and requests them where it does.
+ghost use Rattle.std.specs.Prelude.{◌≡◌, ℕ, ◌<◌, ◌≤◌, ◌&&◌, not, [], length, drop, None, IfOk, IsOkUnless, MatchOption, is_some, option_copied};
+ghost use Rattle.gl_args.specs.declared.names.ToolName.{ToolName};
+ghost use Rattle.gl_args.specs.Program.{Goes, given};
+ghost use Rattle.gl_lines.specs.Finding.{offset_said, below_32_bits, word_at, fails, fails_at, fails_looking, leaves, chip_closed, requested, known, opened, all_found, looked, looks, chip_slot, named_opened, finds, has_found, left, Stays};
+
+use crate::bytes::request_sent;
+use crate::found_line::{FoundLine, are_apart, offsets_of, place_of};
+use crate::texts::failed_line;
+use crate::words::{path_of_name, path_of_number};
+use gl_args::{Next, Opts, ToolName};
+use gl_base::command::GET_LINE;
+use gl_base::{Do, Errno, Got, Name, read_decimal};
+use std::alloc::Global;
+
+/// Where it stands.
+#[derive(Clone, Copy, Debug)]
+pub enum FinderStage {
+    /// The chip that was named is being opened.
+    OpeningNamed,
+    /// This name is looked for.
+    Looking(Name),
+    /// The chip of the lines is being opened.
+    OpeningFound,
+    /// The lines are being requested.
+    Requesting,
+    /// The chip is being closed behind the request.
+    Closing,
+    /// A refusal was printed, and the chip is open.
+    ChipOpen,
+    /// A refusal was printed, and the request is open.
+    LineOpen,
+    /// What was open is being closed.
+    Leaving,
+    /// The end, and whether the lines were found.
+    Ended(bool),
+}
+
+/// What finds the lines of a tool: the first part of gpioget, gpioset, gpiomon and gpionotify. At its end the tool's
+/// request is open in the slot `made`, or for gpionotify, which requests none, the chip in the slot `base`; or
+/// nothing is, where a refusal was printed.
+#[derive(Drop, Debug)]
+pub struct Finder {
+    /// The tool.
+    pub tool: ToolName,
+    /// The slot of its chip file.
+    pub base: u32,
+    /// The slot of its request.
+    pub made: u32,
+    /// Its options.
+    pub opts: Opts,
+    /// Which line is looked at next.
+    pub next: usize,
+    /// The lines that were found.
+    pub found: Vec<FoundLine>,
+    /// Where it stands.
+    pub stage: FinderStage,
+}
+
+impl Finder {
+    /// It hasn't begun.
+    pub fn new(alloc: Global, tool: ToolName, base: u32, made: u32, opts: Opts) -> Finder
+        ensures tool { result.tool ≡ tool }
+        ensures base { result.base ≡ base }
+        ensures made { result.made ≡ made }
+        ensures opts { result.opts ≡ opts }
+    {
+        Finder {
+            tool,
+            base,
+            made,
+            opts,
+            next: 0,
+            found: Vec::new(alloc),
+            stage: FinderStage::Ended(false),
+        }
+    }
+
+    /// What it does next.
+    pub fn next(&mut self, alloc: Global, got: Option<&Got>) -> Result<Next, Errno>
+        ensures goes { IfOk result (λ next. Goes (given (left self.old) (option_copied got.entry)) next (left self.new)) }
+        ensures stays { Stays self.old self.new }
+        ensures memory_alone { IsOkUnless result Errno.NoMemory }
+    {
+        let none = Got::Done;
+        let got = match got {
+            Some(got) => got,
+            None => &none,
+        };
+        let stage = self.stage;
+        match &stage {
+            FinderStage::OpeningNamed => self.named_opened(alloc, got.refusal()),
+            FinderStage::Looking(word) => self.looked(alloc, word, got),
+            FinderStage::OpeningFound => self.opened(alloc, got.refusal()),
+            FinderStage::Requesting => self.requested(alloc, got.refusal()),
+            FinderStage::Closing => self.chip_closed(alloc, got.refusal()),
+            FinderStage::ChipOpen => Ok(self.leave(self.base)),
+            FinderStage::LineOpen => Ok(self.leave(self.made)),
+            FinderStage::Leaving => {
+                self.stage = FinderStage::Ended(false);
+                Ok(Next::End)
+            }
+            FinderStage::Ended(_) => Ok(Next::End),
+        }
+    }
+
+    /// Whether it has come to its end and found the lines.
+    pub fn has_found(&self) -> bool
+        ensures { result ≡ has_found self.now.stage }
+    {
+        match &self.stage {
+            FinderStage::Ended(ok) => *ok,
+            FinderStage::OpeningNamed
+            | FinderStage::Looking(_)
+            | FinderStage::OpeningFound
+            | FinderStage::Requesting
+            | FinderStage::Closing
+            | FinderStage::ChipOpen
+            | FinderStage::LineOpen
+            | FinderStage::Leaving => false,
+        }
+    }
+
+    /// Begins: the first thing that it does.
+    pub fn begin(&mut self, alloc: Global) -> Result<Next, Errno>
+        ensures goes { IfOk result (λ next. Goes (finds self.old.tool self.old.base self.old.made self.old.opts) next (left self.new)) }
+        ensures stays { Stays self.old self.new }
+        ensures memory_alone { IsOkUnless result Errno.NoMemory }
+    {
+        match &self.opts.chip {
+            Some(chip) => {
+                let word = path_of_name(chip);
+                self.stage = FinderStage::OpeningNamed;
+                Ok(Next::Call(Do::OpenChip {
+                    slot: self.base,
+                    word,
+                }))
+            }
+            None => self.look_first(alloc),
+        }
+    }
+
+    fn named_opened(&mut self, alloc: Global, refusal: Option<Errno>) -> Result<Next, Errno>
+        ensures goes { IfOk result (λ next. Goes (named_opened self.old.tool self.old.base self.old.made self.old.opts refusal) next (left self.new)) }
+        ensures stays { Stays self.old self.new }
+        ensures memory_alone { IsOkUnless result Errno.NoMemory }
+    {
+        match refusal {
+            Some(errno) => self.fail(alloc, errno),
+            None => self.look_first(alloc),
+        }
+    }
+
+    /// Begins to look for the lines.
+    fn look_first(&mut self, alloc: Global) -> Result<Next, Errno>
+        ensures goes { IfOk result (λ next. Goes (looks self.old.tool self.old.base self.old.made self.old.opts self.old.opts.lines.items []) next (left self.new)) }
+        ensures stays { Stays self.old self.new }
+        ensures memory_alone { IsOkUnless result Errno.NoMemory }
+    {
+        self.next = 0;
+        self.found.clear();
+        self.look(alloc)
+    }
+
+    /// Looks for the lines from `next` on.
+    fn look(&mut self, alloc: Global) -> Result<Next, Errno>
+        ensures goes { IfOk result (λ next. Goes (looks self.old.tool self.old.base self.old.made self.old.opts (drop self.old.next self.old.opts.lines.items) self.old.found.items) next (left self.new)) }
+        ensures stays { Stays self.old self.new }
+        ensures memory_alone { IsOkUnless result Errno.NoMemory }
+    {
+        let at = take_offsets(&self.opts, self.next, &mut self.found)?;
+        self.next = at;
+        match name_at(&self.opts, at) {
+            Some(name) => {
+                self.next = at + 1;
+                self.stage = FinderStage::Looking(name);
+                Ok(Next::Call(Do::Find {
+                    slot: self.chip_slot(),
+                    name,
+                }))
+            }
+            None => self.all_found(alloc),
+        }
+    }
+
+    fn chip_slot(&self) -> Option<u32>
+        ensures { result ≡ chip_slot self.now.tool self.now.base self.now.made self.now.opts }
+    {
+        if self.opts.chip.is_some() {
+            return Some(self.base);
+        }
+        None
+    }
+
+    #[tactic(auto, using(gl_args::proofs::Programs::choices))]
+    fn looked(&mut self, alloc: Global, word: &Name, got: &Got) -> Result<Next, Errno>
+        ensures goes { IfOk result (λ next. Goes (looked self.old.tool self.old.base self.old.made self.old.opts (looks self.old.tool self.old.base self.old.made self.old.opts (drop self.old.next self.old.opts.lines.items)) self.old.found.items word.now got.now) next (left self.new)) }
+        ensures stays { Stays self.old self.new }
+        ensures memory_alone { IsOkUnless result Errno.NoMemory }
+    {
+        match got {
+            Got::Found {
+                place,
+                offset,
+                count,
+            } => {
+                if self.opts.strict && *count > 1 {
+                    return self.fail_looking(alloc, Errno::Inval);
+                }
+                self.found.push(FoundLine {
+                    place: *place,
+                    offset: *offset,
+                    name: Some(*word),
+                })?;
+                self.look(alloc)
+            }
+            Got::Refused(errno) => self.fail_looking(alloc, *errno),
+            Got::Done | Got::Number(_) | Got::Text(_) | Got::Bytes(_) | Got::Ready(_) => {
+                self.look(alloc)
+            }
+        }
+    }
+
+    /// All lines are known.
+    #[tactic(auto, using(gl_args::proofs::Programs::choices))]
+    fn all_found(&mut self, alloc: Global) -> Result<Next, Errno>
+        ensures goes { IfOk result (λ next. Goes (all_found self.old.tool self.old.base self.old.made self.old.opts self.old.found.items) next (left self.new)) }
+        ensures stays { Stays self.old self.new }
+        ensures memory_alone { IsOkUnless result Errno.NoMemory }
+    {
+        if self.opts.chip.is_some() {
+            return self.known(alloc);
+        }
+        if are_apart(&self.found) {
+            return self.fail(alloc, Errno::Inval);
+        }
+        let word = path_of_number(place_of(&self.found));
+        self.stage = FinderStage::OpeningFound;
+        Ok(Next::Call(Do::OpenChip {
+            slot: self.base,
+            word,
+        }))
+    }
+
+    fn opened(&mut self, alloc: Global, refusal: Option<Errno>) -> Result<Next, Errno>
+        ensures goes { IfOk result (λ next. Goes (opened self.old.tool self.old.base self.old.made self.old.opts self.old.found.items refusal) next (left self.new)) }
+        ensures stays { Stays self.old self.new }
+        ensures memory_alone { IsOkUnless result Errno.NoMemory }
+    {
+        match refusal {
+            Some(errno) => self.fail(alloc, errno),
+            None => self.known(alloc),
+        }
+    }
+
+    /// All lines are known, and the chip is open: they are requested where the tool requests its lines.
+    #[tactic(auto, using(gl_args::proofs::Programs::choices))]
+    fn known(&mut self, alloc: Global) -> Result<Next, Errno>
+        ensures goes { IfOk result (λ next. Goes (known self.old.tool self.old.base self.old.made self.old.opts self.old.found.items) next (left self.new)) }
+        ensures stays { Stays self.old self.new }
+        ensures memory_alone { IsOkUnless result Errno.NoMemory }
+    {
+        if !self.tool.requests_lines() {
+            self.stage = FinderStage::Ended(true);
+            return Ok(Next::End);
+        }
+        let offsets = offsets_of(alloc, &self.found)?;
+        let bytes = request_sent(self.tool, &self.opts, &offsets);
+        self.stage = FinderStage::Requesting;
+        Ok(Next::Call(Do::Ioctl {
+            slot: self.base,
+            cmd: GET_LINE,
+            len: 592,
+            bytes,
+            made: self.made,
+        }))
+    }
+
+    fn requested(&mut self, alloc: Global, refusal: Option<Errno>) -> Result<Next, Errno>
+        ensures goes { IfOk result (λ next. Goes (requested self.old.tool self.old.base self.old.made self.old.opts self.old.found.items refusal) next (left self.new)) }
+        ensures stays { Stays self.old self.new }
+        ensures memory_alone { IsOkUnless result Errno.NoMemory }
+    {
+        match refusal {
+            Some(errno) => self.fail_open(alloc, errno),
+            None => {
+                self.stage = FinderStage::Closing;
+                Ok(Next::Call(Do::Close { slot: self.base }))
+            }
+        }
+    }
+
+    fn chip_closed(&mut self, alloc: Global, refusal: Option<Errno>) -> Result<Next, Errno>
+        ensures goes { IfOk result (λ next. Goes (chip_closed self.old.tool self.old.base self.old.made self.old.opts self.old.found.items refusal) next (left self.new)) }
+        ensures stays { Stays self.old self.new }
+        ensures memory_alone { IsOkUnless result Errno.NoMemory }
+    {
+        match refusal {
+            Some(errno) => {
+                let text = failed_line(alloc, self.tool, errno)?;
+                self.stage = FinderStage::LineOpen;
+                Ok(Next::Print(text))
+            }
+            None => {
+                self.stage = FinderStage::Ended(true);
+                Ok(Next::End)
+            }
+        }
+    }
+
+    /// Prints a refusal, with nothing open.
+    fn fail(&mut self, alloc: Global, errno: Errno) -> Result<Next, Errno>
+        ensures goes { IfOk result (λ next. Goes (fails self.old.tool self.old.base self.old.made self.old.opts errno) next (left self.new)) }
+        ensures stays { Stays self.old self.new }
+        ensures memory_alone { IsOkUnless result Errno.NoMemory }
+    {
+        let text = failed_line(alloc, self.tool, errno)?;
+        self.stage = FinderStage::Ended(false);
+        Ok(Next::Print(text))
+    }
+
+    /// Prints a refusal, with the chip open.
+    fn fail_open(&mut self, alloc: Global, errno: Errno) -> Result<Next, Errno>
+        ensures goes { IfOk result (λ next. Goes (fails_at self.old.tool self.old.base self.old.made self.old.opts self.old.base errno) next (left self.new)) }
+        ensures stays { Stays self.old self.new }
+        ensures memory_alone { IsOkUnless result Errno.NoMemory }
+    {
+        let text = failed_line(alloc, self.tool, errno)?;
+        self.stage = FinderStage::ChipOpen;
+        Ok(Next::Print(text))
+    }
+
+    /// Prints a refusal while lines are looked for: the chip is open where it was named.
+    #[tactic(auto, using(gl_args::proofs::Programs::choices))]
+    fn fail_looking(&mut self, alloc: Global, errno: Errno) -> Result<Next, Errno>
+        ensures goes { IfOk result (λ next. Goes (fails_looking self.old.tool self.old.base self.old.made self.old.opts errno) next (left self.new)) }
+        ensures stays { Stays self.old self.new }
+        ensures memory_alone { IsOkUnless result Errno.NoMemory }
+    {
+        if self.opts.chip.is_some() {
+            return self.fail_open(alloc, errno);
+        }
+        self.fail(alloc, errno)
+    }
+
+    /// Closes a file for the last time.
+    fn leave(&mut self, slot: u32) -> Next
+        ensures goes { Goes (leaves slot) result (left self.new) }
+        ensures stays { Stays self.old self.new }
+    {
+        self.stage = FinderStage::Leaving;
+        Next::Call(Do::Close { slot })
+    }
+}
+
+/// Takes the offsets of the lines from `next` on, up to the first that is a name, and answers where that is.
+fn take_offsets(opts: &Opts, next: usize, found: &mut Vec<FoundLine>) -> Result<usize, Errno>
+    ensures looks { IfOk result (λ at. (tool : ToolName) (base made : ℕ) →
+        looks tool base made opts.now (drop at opts.now.lines.items) found.new.items ≡ looks tool base made opts.now (drop next opts.now.lines.items) found.old.items) }
+    ensures name { IfOk result (λ at. at < length opts.now.lines.items → offset_said opts.now (word_at opts.now at) ≡ None) }
+    ensures memory_alone { IsOkUnless result Errno.NoMemory }
+{
+    for i in next..opts.lines.len() {
+        match offset_said(opts, &opts.lines[i].0) {
+            Some(offset) => found.push(FoundLine {
+                place: 0,
+                offset,
+                name: None,
+            })?,
+            None => return Ok(i),
+        }
+    }
+    Ok(next.max(opts.lines.len()))
+}
+
+/// The offset that a line's word says, if it says one.
+fn offset_said(opts: &Opts, word: &Name) -> Option<u32>
+    ensures { result ≡ offset_said opts.now word.now }
+{
+    if has_offsets(opts) {
+        return below_32_bits(read_decimal(word.as_bytes()));
+    }
+    None
+}
+
+fn has_offsets(opts: &Opts) -> bool
+    ensures { result ≡ (is_some opts.now.chip && not opts.now.by_name) }
+{
+    opts.chip.is_some() && !opts.by_name
+}
+
+fn below_32_bits(number: Option<u64>) -> Option<u32>
+    ensures { result ≡ below_32_bits number }
+{
+    match number {
+        Some(number) if number < 1 << 32 => Some(number as u32),
+        _ => None,
+    }
+}
+
+/// The word of a line, if there is one.
+fn name_at(opts: &Opts, at: usize) -> Option<Name>
+    ensures { MatchOption result (length opts.now.lines.items ≤ at) (λ name. (at < length opts.now.lines.items) × (name ≡ (word_at opts.now at))) }
+{
+    match opts.lines.get(at) {
+        Some(line) => Some(line.0),
+        None => None,
+    }
+}

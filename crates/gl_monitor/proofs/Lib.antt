@@ -1,0 +1,2 @@
+pub mod MonitorCosts
+pub mod Turns

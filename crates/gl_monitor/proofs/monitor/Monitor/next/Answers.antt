@@ -1,0 +1,14 @@
+use Rattle.gl_args.proofs.Programs.{given_then}
+use Rattle.gl_monitor.proofs.monitor.Monitor.next.Goals as goal
+
+pub returns-in-Begin-clause-goes : goal.returns-in-Begin-clause-goes
+returns-in-Begin-clause-goes c =
+    let h = c.go_on.ensures.goes _ c.in_ok-step-in-Begin.ensures.goes in
+    let stays = c.in_ok-step-in-Begin.ensures.stays in
+    rw c.in-Begin.is (rw stays.opts at (rw stays.made at (rw stays.base at (rw stays.tool at h))))
+
+pub returns-in-Finding-clause-goes : goal.returns-in-Finding-clause-goes
+returns-in-Finding-clause-goes c =
+    let h = c.go_on-in-Finding.ensures.goes _ c.in_ok-step-in-Finding.ensures.goes in
+    let stays = c.in_ok-step-in-Finding.ensures.stays in
+    rw c.in-Finding.is (rw given_then (rw stays.opts at (rw stays.made at (rw stays.base at (rw stays.tool at h)))))

@@ -1,0 +1,4 @@
+pub mod Costs
+pub mod ItemText
+pub mod Items
+pub mod Monitor

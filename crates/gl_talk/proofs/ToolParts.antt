@@ -1,0 +1,144 @@
+-- What a tool's statement costs.
+use Rattle.std.proofs.Common.{◌≡◌, ◌≤◌, ◌+◌, ◌*◌, ℕ, zero, suc, Bool, true, false, cond, List, [], ◌∷◌, length, Option, None, Some, refl, sym, ◌∙◌, ap, subst, arith}
+use Rattle.std.specs.Prelude.{◌||◌, is_some, find, codes}
+use Rattle.std.specs.Str.{bytes_eq}
+use Rattle.std.proofs.lemmas.Slice.Eq.{bytes_eq-Decides}
+use Rattle.std.specs.List.{list_any}
+use Rattle.gl_base.specs.Words.{Span}
+use Rattle.gl_args.specs.declared.names.ToolName.TheVariants.{Detect as DetectName, Info as InfoName, Get as GetName, Set as SetName}
+use Rattle.gl_args.specs.declared.tool.Tool.{Tool}
+use Rattle.gl_args.specs.declared.tool.Tool.TheVariants.{Detect as DetectTool, Info as InfoTool, Get as GetTool, Set as SetTool, Watch as WatchTool, Notify as NotifyTool}
+use Rattle.gl_args.specs.Counts.{line_total}
+use Rattle.gl_args.specs.Counts.{is_bare as are_bare_texts, is_chip_option as is_chip_text}
+use Rattle.gl_args.specs.Items.{Item}
+use Rattle.gl_args.specs.Tools.{Says, SaysTool, said_by}
+use Rattle.gl_args.proofs.LineCounts.{words_few}
+use Rattle.gl_args.proofs.ChipOptions.{chip_info}
+use Rattle.gl_args.proofs.BareWords.{bare_tool}
+use Rattle.gl_values.specs.Costs.{tool_cost, detect_cost, info_cost}
+use Rattle.gl_script.specs.Cost.{is_bare, is_chip_option}
+use Rattle.gl_script.specs.Cost.{cost}
+use Rattle.gl_script.specs.Table.{is_keyword, keyword_name, keyword_of}
+use Rattle.gl_script.specs.declared.table.Keyword.{Keyword}
+use Rattle.gl_script.specs.declared.table.Keyword.TheVariants.{Probe, Unplug, MakeDir, RemoveDir, Write, Read, Clock, Fault, Pin, Irq, Open, Ioctl, Events, Changes, Poll, Close, Detect, Info, Get, Set, Start, Step, Stop}
+use Rattle.gl_script.specs.declared.table.TheConstants.{KEYWORDS}
+use Rattle.gl_talk.specs.ToolWords.{is_tool, word_texts}
+
+-- the texts of words are as many, and are bare and have a chip's option where the words do
+texts_length : (words : List Span) → length (word_texts words) ≡ length words
+texts_length [] = refl
+texts_length (word ∷ words) = omega (arith, texts_length words)
+
+same_bare : (words : List Span) → is_bare words ≡ are_bare_texts (word_texts words)
+same_bare [] = refl
+same_bare (word ∷ []) = refl
+same_bare (word ∷ next ∷ words) = refl
+
+same_any : (words : List Span) → list_any is_chip_option words ≡ list_any is_chip_text (word_texts words)
+same_any [] = refl
+same_any (word ∷ words) = ap (λ b. is_chip_option word || b) (same_any words)
+
+few : (first : Span) (words : List Span) (tool : Tool) → Says (word_texts (first ∷ words)) tool → line_total tool ≤ length words
+few first words tool h = omega (arith, words_few (word_texts (first ∷ words)) tool h, texts_length words)
+
+not_bare : (b : Bool) (n : ℕ) → cond b false false ≡ true → n ≤ 1
+not_bare true n e = cc
+not_bare false n e = cc
+
+bare_short : (words : List Span) → is_bare words ≡ true → length words ≤ 1
+bare_short [] e = omega arith
+bare_short (word ∷ []) e = omega arith
+bare_short (word ∷ next ∷ words) e = not_bare (bytes_eq word.text (codes "--")) (length (word ∷ next ∷ words)) e
+
+detect_if : (n m : ℕ) (bare : Bool) → n ≤ m → (n ≡ 0 → bare ≡ true) → (bare ≡ true → m ≤ 1) → detect_cost n ≤ cond bare 48 (3 * m)
+detect_if zero m true le h k = omega arith
+detect_if zero m false le h k = let e : false ≡ true = h refl in cc
+detect_if (suc n) m true le h k = omega (arith, le, k refl)
+detect_if (suc n) m false le h k = omega (arith, le)
+
+info_if : (chip : Option (List ℕ)) (any : Bool) → (any ≡ true → is_some chip ≡ true) → info_cost chip ≤ cond any 131 2096
+info_if None true h = let e : false ≡ true = h refl in cc
+info_if None false h = omega arith
+info_if (Some chip) true h = omega arith
+info_if (Some chip) false h = omega arith
+
+detect_fits : (first : Span) (words : List Span) (tool : Tool) (items : Option (List Item)) → SaysTool (said_by DetectName items) tool → Says (word_texts (first ∷ words)) tool
+    → tool_cost tool ≤ cond (is_bare words) 48 (3 * length words)
+detect_fits first words tool None s h = absurd s
+detect_fits first words (DetectTool names) (Some items) s h =
+    detect_if (length names.items) (length words) (is_bare words) (few first words (DetectTool names) h)
+    (λ e. same_bare words ∙ bare_tool first.text (word_texts words) (DetectTool names) h e) (bare_short words)
+detect_fits first words (InfoTool opts) (Some items) s h = absurd s
+detect_fits first words (GetTool opts) (Some items) s h = absurd s
+detect_fits first words (SetTool opts) (Some items) s h = absurd s
+detect_fits first words (WatchTool opts) (Some items) s h = absurd s
+detect_fits first words (NotifyTool opts) (Some items) s h = absurd s
+
+info_fits : (first : Span) (words : List Span) (tool : Tool) (items : Option (List Item)) → SaysTool (said_by InfoName items) tool → Says (word_texts (first ∷ words)) tool
+    → tool_cost tool ≤ cond (list_any is_chip_option words) 131 2096
+info_fits first words tool None s h = absurd s
+info_fits first words (InfoTool opts) (Some items) s h =
+    info_if opts.chip (list_any is_chip_option words) (λ e. chip_info first.text (word_texts words) (InfoTool opts) h tt (sym (same_any words) ∙ e))
+info_fits first words (DetectTool names) (Some items) s h = absurd s
+info_fits first words (GetTool opts) (Some items) s h = absurd s
+info_fits first words (SetTool opts) (Some items) s h = absurd s
+info_fits first words (WatchTool opts) (Some items) s h = absurd s
+info_fits first words (NotifyTool opts) (Some items) s h = absurd s
+
+get_fits : (first : Span) (words : List Span) (tool : Tool) (items : Option (List Item)) → SaysTool (said_by GetName items) tool → Says (word_texts (first ∷ words)) tool → tool_cost tool ≤ length words + 7
+get_fits first words tool None s h = absurd s
+get_fits first words (GetTool opts) (Some items) s h = omega (arith, few first words (GetTool opts) h)
+get_fits first words (InfoTool opts) (Some items) s h = absurd s
+get_fits first words (DetectTool names) (Some items) s h = absurd s
+get_fits first words (SetTool opts) (Some items) s h = absurd s
+get_fits first words (WatchTool opts) (Some items) s h = absurd s
+get_fits first words (NotifyTool opts) (Some items) s h = absurd s
+
+set_fits : (first : Span) (words : List Span) (tool : Tool) (items : Option (List Item)) → SaysTool (said_by SetName items) tool → Says (word_texts (first ∷ words)) tool → tool_cost tool ≤ length words + 5
+set_fits first words tool None s h = absurd s
+set_fits first words (SetTool opts) (Some items) s h = omega (arith, few first words (SetTool opts) h)
+set_fits first words (InfoTool opts) (Some items) s h = absurd s
+set_fits first words (DetectTool names) (Some items) s h = absurd s
+set_fits first words (GetTool opts) (Some items) s h = absurd s
+set_fits first words (WatchTool opts) (Some items) s h = absurd s
+set_fits first words (NotifyTool opts) (Some items) s h = absurd s
+
+-- what a search finds passes the test
+found_if : {X : Type 0} (test : X → Bool) (b : Bool) (x k : X) (rest : Option X) → b ≡ test x → (rest ≡ Some k → test k ≡ true) → cond b (Some x) rest ≡ Some k → test k ≡ true
+found_if test true x k rest e h f = let same : x ≡ k = cc in subst (λ y. test y ≡ true) same (sym e)
+found_if test false x k rest e h f = h f
+
+found_passes : {X : Type 0} (test : X → Bool) (xs : List X) (k : X) → find test xs ≡ Some k → test k ≡ true
+found_passes test [] k e = cc
+found_passes test (x ∷ xs) k e = found_if test (test x) x k (find test xs) refl (found_passes test xs k) e
+
+-- a statement's first word is the keyword's
+keyword_word : (text : List ℕ) (keyword : Keyword) → keyword_of text ≡ Some keyword → text ≡ keyword_name keyword
+keyword_word text keyword e = sym ((bytes_eq-Decides (keyword_name keyword) text).0 (found_passes (is_keyword text) KEYWORDS keyword e))
+
+-- a tool's statement costs what its words say
+pub tool_fits : (keyword : Keyword) (first : Span) (words : List Span) (tool : Tool) → keyword_of first.text ≡ Some keyword → is_tool (Some keyword) ≡ true → Says (word_texts (first ∷ words)) tool
+    → tool_cost tool ≤ cost keyword words
+tool_fits Detect first words tool e t h = detect_fits first words tool _ (subst (λ text. Says (text ∷ word_texts words) tool) (keyword_word first.text Detect e) h) h
+tool_fits Info first words tool e t h = info_fits first words tool _ (subst (λ text. Says (text ∷ word_texts words) tool) (keyword_word first.text Info e) h) h
+tool_fits Get first words tool e t h = get_fits first words tool _ (subst (λ text. Says (text ∷ word_texts words) tool) (keyword_word first.text Get e) h) h
+tool_fits Set first words tool e t h = set_fits first words tool _ (subst (λ text. Says (text ∷ word_texts words) tool) (keyword_word first.text Set e) h) h
+tool_fits Probe first words tool e t h = cc
+tool_fits Unplug first words tool e t h = cc
+tool_fits MakeDir first words tool e t h = cc
+tool_fits RemoveDir first words tool e t h = cc
+tool_fits Write first words tool e t h = cc
+tool_fits Read first words tool e t h = cc
+tool_fits Clock first words tool e t h = cc
+tool_fits Fault first words tool e t h = cc
+tool_fits Pin first words tool e t h = cc
+tool_fits Irq first words tool e t h = cc
+tool_fits Open first words tool e t h = cc
+tool_fits Ioctl first words tool e t h = cc
+tool_fits Events first words tool e t h = cc
+tool_fits Changes first words tool e t h = cc
+tool_fits Poll first words tool e t h = cc
+tool_fits Close first words tool e t h = cc
+tool_fits Start first words tool e t h = cc
+tool_fits Step first words tool e t h = cc
+tool_fits Stop first words tool e t h = cc

@@ -1,0 +1,12 @@
+use Rattle.std.proofs.Common.{◌≡◌, ◌+◌, ◌≤◌, ◌++◌, length}
+use Rattle.gl_base.specs.Words.{words_at}
+use Rattle.gl_talk.specs.Words.{bytes_said}
+use Rattle.gl_talk.proofs.words.bytes_in.Given as goal
+
+abbrev pub invariant-loop-found : goal.invariant-loop-found
+invariant-loop-found l =
+    (l.bytes.items ++ bytes_said (words_at l.at l.rest) ≡ bytes_said (words_at l.fn.at l.line))
+    × (l.at + length l.rest ≤ l.fn.at + length l.line)
+
+abbrev pub decreases-loop-found : goal.decreases-loop-found
+decreases-loop-found l = length (words_at l.at l.rest)

@@ -1,0 +1,145 @@
+-- What each statement that is no tool's asks of the device, or how it is refused without a call; and how its result is told.
+-- This project's choice.
+use Rattle.std.specs.Prelude.{ℕ, Bool, true, false, ◌&&◌, ◌==◌, nat_lt, if◌then◌else◌, List, length, min, take, is_some, Option, Some, None, codes}
+use Rattle.std.specs.Str.{bytes_eq}
+use Rattle.gl_base.specs.Padded.{padded}
+use Rattle.gl_base.specs.Words.{Span, text_at}
+use Rattle.gl_base.specs.declared.command.TheConstants.{GET_CHIPINFO, GET_LINEINFO, GET_LINEINFO_WATCH, GET_LINE, LINE_GET_VALUES}
+use Rattle.gl_base.specs.declared.errno.Errno.TheVariants.{BadF, Exist, Inval, NoEnt, Perm}
+use Rattle.gl_base.specs.declared.limits.TheConstants.{PLACES}
+use Rattle.gl_base.specs.declared.operation.Do.TheVariants.{Probe as DoProbe, Unplug as DoUnplug, MakeDir as DoMakeDir, RemoveDir as DoRemoveDir, Write as DoWrite, Read as DoRead, Live as DoLive, Tick as DoTick, Pin as DoPin, Irq as DoIrq, Pull as DoPull, Level as DoLevel, OpenChip as DoOpenChip, Ioctl as DoIoctl, ReadFile as DoReadFile, Poll as DoPoll, Close as DoClose, Plan as DoPlan}
+use Rattle.gl_base.specs.declared.pin.PinDo.{PinDo}
+use Rattle.gl_base.specs.declared.pin.PinDo.TheVariants.{Range, Hold, Release}
+use Rattle.gl_script.specs.declared.table.Keyword.{Keyword}
+use Rattle.gl_script.specs.declared.table.Keyword.TheVariants.{Probe, Unplug, MakeDir, RemoveDir, Write, Read, Clock, Fault, Pin, Irq, Open, Ioctl, Events, Changes, Poll, Close, Detect, Info, Get, Set, Start, Step, Stop}
+use Rattle.gl_talk.specs.declared.paths.LineFile.{LineFile}
+use Rattle.gl_talk.specs.declared.plans.Plan.{Plan}
+use Rattle.gl_talk.specs.declared.plans.Plan.TheVariants.{Nothing, Refuse, Ask}
+use Rattle.gl_talk.specs.declared.plans.Reply.{Reply}
+use Rattle.gl_talk.specs.declared.plans.Reply.TheVariants.{Silent, Value, Level, Bytes, Edges, Infos, Ready, Opened, Closed, Made}
+use Rattle.gl_talk.specs.Open.{File, file_of}
+use Rattle.gl_talk.specs.Paths.{line_file, live_device}
+use Rattle.gl_talk.specs.Words.{name_word, path_word, number_word, place_word, command_word, irq_word, pull_word, live_word, behind_three, bytes_said, made_name}
+
+-- a number of 32 bits
+abbrev pub small_word : List ℕ → ℕ
+small_word word = number_word 0 0xFFFFFFFF word
+
+-- `unplug CHIP`
+abbrev pub unplugs : Option ℕ → Plan
+unplugs None = Refuse NoEnt
+unplugs (Some place) = Ask (DoUnplug place) Silent
+
+-- `pin range CHIP N N N`, `pin hold CHIP N`, `pin drop CHIP N`
+abbrev pub pin_said : List Span → PinDo
+pin_said words =
+    if bytes_eq (text_at 1 words) (codes "range") then Range (small_word (text_at 3 words)) (small_word (text_at 4 words)) (small_word (text_at 5 words))
+    else if bytes_eq (text_at 1 words) (codes "hold") then Hold (small_word (text_at 3 words))
+    else Release (small_word (text_at 3 words))
+
+abbrev pub pins : Option ℕ → List Span → Plan
+pins None words = Refuse NoEnt
+pins (Some place) words = Ask (DoPin place (pin_said words)) Silent
+
+-- `irq lock CHIP N`
+abbrev pub irqs : Option ℕ → List Span → Plan
+irqs None words = Refuse NoEnt
+irqs (Some place) words = Ask (DoIrq place (small_word (text_at 3 words)) (irq_word (text_at 1 words))) Silent
+
+-- `read PATH`: a line's file goes to its chip, every other path to the tree
+abbrev pub reads : Option LineFile → List ℕ → Plan
+reads None path = Ask (DoRead (path_word path)) Value
+reads (Some file) path = if nat_lt file.chip PLACES then Ask (DoLevel file.chip file.offset file.is_pull) (Level file.is_pull) else Refuse NoEnt
+
+-- `write PATH VALUE`: `value` is no file to write; a pull goes to the chip, a device's `live` is a call of its own, every other path goes to the tree
+abbrev pub pulls : LineFile → Option Bool → Plan
+pulls file None = Refuse Inval
+pulls file (Some up) = Ask (DoPull file.chip file.offset up) Silent
+
+abbrev pub writes_line : LineFile → List ℕ → Plan
+writes_line file value =
+    if nat_lt file.chip PLACES then (if file.is_pull then pulls file (pull_word value) else Refuse Perm) else Refuse NoEnt
+
+abbrev pub lives : List ℕ → Option Bool → Plan
+lives device None = Refuse Inval
+lives device (Some up) = Ask (DoLive (name_word device) up) Silent
+
+abbrev pub writes_tree : Option (List ℕ) → List ℕ → List ℕ → Plan
+writes_tree None path value = Ask (DoWrite (path_word path) (name_word value)) Silent
+writes_tree (Some device) path value = lives device (live_word value)
+
+abbrev pub writes : Option LineFile → List ℕ → List ℕ → Plan
+writes (Some file) path value = writes_line file value
+writes None path value = writes_tree (live_device path) path value
+
+-- `open NAME WORD`
+abbrev pub opens : Bool → ℕ → List ℕ → Plan
+opens true slot word = Refuse Exist
+opens false slot word = Ask (DoOpenChip slot (path_word word)) Opened
+
+-- how the result of a command is told
+abbrev pub command_reply : ℕ → Reply
+command_reply number =
+    if number == GET_LINE then Made
+    else if number == GET_CHIPINFO then Bytes
+    else if number == GET_LINEINFO then Bytes
+    else if number == GET_LINEINFO_WATCH then Bytes
+    else if number == LINE_GET_VALUES then Bytes
+    else Silent
+
+-- the name behind `as` is one that the actor has
+abbrev pub takes_name : List Span → List File → Bool
+takes_name words files = (command_word (text_at 2 words) == GET_LINE) && is_some (file_of (made_name words) files)
+
+-- `ioctl NAME COMMAND PIECES.. [as NAME]`
+abbrev pub ioctls_bytes : File → ℕ → ℕ → List ℕ → Plan
+ioctls_bytes file slot command bytes =
+    Ask (DoIoctl file.slot command (min (length bytes) 1024) (padded 592 (take 592 bytes)) slot) (command_reply command)
+
+abbrev pub ioctls : Option File → Bool → ℕ → List Span → Plan
+ioctls None taken slot words = Refuse BadF
+ioctls (Some file) taken slot words =
+    if taken then Refuse Exist else ioctls_bytes file slot (command_word (text_at 2 words)) (bytes_said (behind_three words))
+
+-- `events NAME N` of a request, and `changes NAME N` of a chip's file
+abbrev pub reads_file : Option File → Bool → ℕ → Reply → Plan
+reads_file None is_request len reply = Refuse BadF
+reads_file (Some file) is_request len reply = if is_request then (if file.is_request then Ask (DoReadFile file.slot len) reply else Refuse Inval)
+    else (if file.is_request then Refuse Inval else Ask (DoReadFile file.slot len) reply)
+
+-- `poll NAME`
+abbrev pub polls : Option File → Plan
+polls None = Refuse BadF
+polls (Some file) = Ask (DoPoll file.slot) Ready
+
+-- `close NAME`
+abbrev pub closes : Option File → Plan
+closes None = Refuse BadF
+closes (Some file) = Ask (DoClose file.slot) Closed
+
+-- one row a statement; those of tools have none here
+abbrev pub planned : Option Keyword → List File → ℕ → List Span → Plan
+planned None files slot words = Nothing
+planned (Some Probe) files slot words = Ask (DoProbe (name_word (text_at 1 words)) (number_word 1 128 (text_at 2 words))) Silent
+planned (Some Unplug) files slot words = unplugs (place_word (text_at 1 words))
+planned (Some MakeDir) files slot words = Ask (DoMakeDir (path_word (text_at 1 words))) Silent
+planned (Some RemoveDir) files slot words = Ask (DoRemoveDir (path_word (text_at 1 words))) Silent
+planned (Some Write) files slot words = writes (line_file (text_at 1 words)) (text_at 1 words) (text_at 2 words)
+planned (Some Read) files slot words = reads (line_file (text_at 1 words)) (text_at 1 words)
+planned (Some Clock) files slot words = Ask (DoTick (number_word 0 0xFFFFFFFFFFFFFFFF (text_at 1 words)) (number_word 0 0xFFFFFFFFFFFFFFFF (text_at 2 words))) Silent
+planned (Some Fault) files slot words = Ask (DoPlan (number_word 1 1000000 (text_at 1 words))) Silent
+planned (Some Pin) files slot words = pins (place_word (text_at 2 words)) words
+planned (Some Irq) files slot words = irqs (place_word (text_at 2 words)) words
+planned (Some Open) files slot words = opens (is_some (file_of (text_at 1 words) files)) slot (text_at 2 words)
+planned (Some Ioctl) files slot words = ioctls (file_of (text_at 1 words) files) (takes_name words files) slot words
+planned (Some Events) files slot words = reads_file (file_of (text_at 1 words) files) true (number_word 0 49152 (text_at 2 words)) Edges
+planned (Some Changes) files slot words = reads_file (file_of (text_at 1 words) files) false (number_word 0 9216 (text_at 2 words)) Infos
+planned (Some Poll) files slot words = polls (file_of (text_at 1 words) files)
+planned (Some Close) files slot words = closes (file_of (text_at 1 words) files)
+planned (Some Detect) files slot words = Nothing
+planned (Some Info) files slot words = Nothing
+planned (Some Get) files slot words = Nothing
+planned (Some Set) files slot words = Nothing
+planned (Some Start) files slot words = Nothing
+planned (Some Step) files slot words = Nothing
+planned (Some Stop) files slot words = Nothing

@@ -1,0 +1,76 @@
+-- The values of a statement's words. A word of another form than the statement's says something harmless; a session's words
+-- are of their forms. This project's choice.
+use Rattle.std.specs.Prelude.{ℕ, Bool, true, false, nat_lt, if◌then◌else◌, List, [], ◌∷◌, ◌++◌, Option, Some, None, codes}
+use Rattle.std.specs.Str.{bytes_eq}
+use Rattle.gl_base.specs.BytesText.{piece_bytes}
+use Rattle.gl_base.specs.ChipWord.{chip_number_of}
+use Rattle.gl_base.specs.CommandWord.{command_number_of}
+use Rattle.gl_base.specs.Name.{is_name}
+use Rattle.gl_base.specs.Path.{is_path}
+use Rattle.gl_base.specs.Words.{Span, text_at}
+use Rattle.gl_base.specs.declared.irq.IrqDo.{IrqDo}
+use Rattle.gl_base.specs.declared.irq.IrqDo.TheVariants.{Lock, Unlock, Enable, Disable, Never}
+use Rattle.gl_base.specs.declared.limits.TheConstants.{PLACES}
+use Rattle.gl_script.specs.Forms.{number_within}
+
+abbrev pub name_word : List ℕ → List ℕ
+name_word word = if is_name word then word else []
+
+abbrev pub path_word : List ℕ → List ℕ
+path_word word = if is_path word then word else []
+
+abbrev pub or_else : ℕ → Option ℕ → ℕ
+or_else other None = other
+or_else other (Some n) = n
+
+-- the number that a word is, from low to high; else low
+abbrev pub number_word : ℕ → ℕ → List ℕ → ℕ
+number_word low high word = or_else low (number_within low high word)
+
+-- the place of a chip; none for a number that no place has
+abbrev pub below_places : Option ℕ → Option ℕ
+below_places None = None
+below_places (Some n) = if nat_lt n PLACES then Some n else None
+
+abbrev pub place_word : List ℕ → Option ℕ
+place_word word = below_places (chip_number_of word)
+
+-- the number of a command
+abbrev pub command_word : List ℕ → ℕ
+command_word word = or_else 0 (command_number_of word)
+
+-- what is done with an interrupt
+abbrev pub irq_word : List ℕ → IrqDo
+irq_word word =
+    if bytes_eq word (codes "lock") then Lock
+    else if bytes_eq word (codes "unlock") then Unlock
+    else if bytes_eq word (codes "enable") then Enable
+    else if bytes_eq word (codes "disable") then Disable
+    else Never
+
+-- the direction that the value of a pull names, if it names one
+abbrev pub pull_word : List ℕ → Option Bool
+pull_word word = if bytes_eq word (codes "pull-up") then Some true else if bytes_eq word (codes "pull-down") then Some false else None
+
+-- whether a device comes up, by the value of its `live`, if it is one
+abbrev pub live_word : List ℕ → Option Bool
+live_word word = if bytes_eq word (codes "1") then Some true else if bytes_eq word (codes "0") then Some false else None
+
+-- the words behind the first three
+abbrev pub behind_three : List Span → List Span
+behind_three (a ∷ b ∷ c ∷ words) = words
+behind_three _ = []
+
+-- the bytes of the pieces before `as`
+abbrev pub bytes_said : List Span → List ℕ
+bytes_said [] = []
+bytes_said (word ∷ words) = if bytes_eq word.text (codes "as") then [] else piece_bytes word.text ++ bytes_said words
+
+-- the name behind `as`
+abbrev pub name_behind_as : List Span → List ℕ
+name_behind_as [] = []
+name_behind_as (word ∷ words) = if bytes_eq word.text (codes "as") then text_at 0 words else name_behind_as words
+
+-- the name of the file that a command makes: the one behind `as`, which stands behind the statement's first three words (a file may have the name `as` too)
+abbrev pub made_name : List Span → List ℕ
+made_name words = name_behind_as (behind_three words)

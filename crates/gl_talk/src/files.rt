@@ -1,0 +1,54 @@
+//! The open files of an actor.
+ghost use Rattle.std.specs.Prelude.{◌≡◌, map, is_some, option_map};
+ghost use Rattle.std.specs.List.{position};
+ghost use Rattle.gl_base.specs.Rows.{without_first};
+ghost use Rattle.gl_talk.specs.Open.{file_in, file_of, is_file, is_row};
+
+/// An open file: its name as it stands in the source, and the slot that its operations name.
+#[derive(Clone, Copy, Debug)]
+pub struct FileRow<'a> {
+    /// Its name.
+    pub name: &'a [u8],
+    /// Its slot.
+    pub slot: u32,
+    /// Whether it is a request; else it is a chip's file.
+    pub is_request: bool,
+}
+
+/// The file of a name, if there is one.
+pub fn file_of<'a>(files: &[FileRow<'a>], name: &[u8]) -> Option<FileRow<'a>>
+    ensures { option_map file_in result ≡ file_of name.now (map file_in files.now) }
+{
+    for file in files {
+        if file.name == name {
+            return Some(*file);
+        }
+    }
+    None
+}
+
+/// Whether there is a file of a name.
+pub fn has_file(files: &[FileRow<'_>], name: &[u8]) -> bool
+    ensures { result ≡ is_some (file_of name.now (map file_in files.now)) }
+{
+    file_of(files, name).is_some()
+}
+
+/// Where the file of a name stands.
+fn position_of(files: &[FileRow<'_>], name: &[u8]) -> Option<usize>
+    ensures { result ≡ position (is_row name.now) files.now }
+{
+    files.iter().position(|file| file.name == name)
+}
+
+/// Takes out the file of a name.
+pub fn remove_file(files: &mut Vec<FileRow<'_>>, name: &[u8])
+    ensures { map file_in files.new.items ≡ without_first (is_file name.now) (map file_in files.old.items) }
+{
+    match position_of(files, name) {
+        Some(at) => {
+            let _ = files.remove(at);
+        }
+        None => {}
+    }
+}

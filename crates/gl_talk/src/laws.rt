@@ -1,0 +1,26 @@
+//! What statements cost, whatever they are answered, and that the tables of words are whole. Each law stands as the
+//! contract of a function that does nothing.
+ghost use Rattle.std.specs.Prelude.{◌≡◌, true, Some};
+ghost use Rattle.std.specs.List.{list_any};
+ghost use Rattle.gl_args.specs.LookUps.{same_option};
+ghost use Rattle.gl_args.specs.Names.{tool_named, tool_text};
+ghost use Rattle.gl_args.specs.declared.names.OptionName.{OptionName};
+ghost use Rattle.gl_args.specs.declared.names.TheConstants.{OPTIONS};
+ghost use Rattle.gl_args.specs.declared.names.ToolName.{ToolName};
+ghost use Rattle.gl_script.specs.Table.{keyword_name, keyword_of};
+ghost use Rattle.gl_script.specs.declared.table.Keyword.{Keyword};
+ghost use Rattle.gl_talk.specs.Costs.{StatementsKeepWithinCost};
+
+/// A statement makes at most as many entries of a history as it costs. The closing of a file is
+/// counted where the file is opened.
+pub fn statements_keep_within_cost()
+    ensures { StatementsKeepWithinCost }
+{}
+
+/// Each statement is the one that its word begins, each tool is the one that its name names, and each option of a tool is
+/// in the list of options: no row of these tables is missing.
+pub fn tables_are_whole()
+    ensures statements { (k : Keyword) → keyword_of (keyword_name k) ≡ Some k }
+    ensures tools { (t : ToolName) → tool_named (tool_text t) ≡ Some t }
+    ensures options { (o : OptionName) → list_any (same_option o) OPTIONS ≡ true }
+{}

@@ -1,0 +1,17 @@
+//! The statements of a session as clients of the device: names of files, what each statement asks, and what it prints.
+#![tactic(auto)]
+
+mod files;
+mod laws;
+mod paths;
+mod plans;
+mod replies;
+mod steps;
+mod talk;
+#[cfg(test)]
+mod tests;
+mod tools;
+mod words;
+
+pub use laws::{statements_keep_within_cost, tables_are_whole};
+pub use talk::Talk;

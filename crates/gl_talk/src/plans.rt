@@ -1,0 +1,375 @@
+//! What a statement that is no tool's asks of the device.
+ghost use Rattle.std.specs.Prelude.{◌≡◌, ◌<◌, ◌≤◌, map, is_some, option_map, option_copied, IfOk, IfSome, IsOkUnless, true, false};
+ghost use Rattle.gl_base.specs.Words.{text_at};
+ghost use Rattle.gl_script.specs.Columns.{columns};
+ghost use Rattle.gl_talk.specs.Open.{file_in, file_of};
+ghost use Rattle.gl_talk.specs.Paths.{line_file, live_device};
+ghost use Rattle.gl_talk.specs.Plans.{closes, command_reply, ioctls, ioctls_bytes, irqs, lives, opens, pin_said, pins, planned, polls, pulls, reads, reads_file, takes_name, unplugs, writes, writes_line, writes_tree};
+
+use crate::files::{FileRow, file_of, has_file};
+use crate::paths::{LineFile, line_file, live_device};
+use crate::words::{
+    bytes_said, command_word, first_bytes, irq_word, live_word, made_name, name_word, number_word,
+    path_word, place_word, pull_word, small_word, word,
+};
+use gl_base::command::{GET_CHIPINFO, GET_LINE, GET_LINEINFO, GET_LINEINFO_WATCH, LINE_GET_VALUES};
+use gl_base::{Do, Errno, PLACES, PinDo};
+use gl_script::Keyword;
+use std::alloc::Global;
+
+/// How the result of an operation is told. A refusal is told by the error's name.
+#[derive(Clone, Copy, PartialEq, Eq, Debug)]
+pub enum Reply {
+    /// Nothing is printed.
+    Silent,
+    /// A value of the tree.
+    Value,
+    /// A line's value, or its pull.
+    Level(bool),
+    /// The bytes of a command's structure.
+    Bytes,
+    /// The edges that were read, a line each.
+    Edges,
+    /// The changes that were read, a line each.
+    Infos,
+    /// What is ready.
+    Ready,
+    /// Nothing is printed; the chip's file has the statement's name.
+    Opened,
+    /// Nothing is printed; the name is free.
+    Closed,
+    /// `fd N`; the request has the name behind `as`.
+    Made,
+}
+
+/// What a statement does first.
+#[derive(Clone, Copy, Debug)]
+pub enum Plan {
+    /// Nothing.
+    Nothing,
+    /// It is refused without a call.
+    Refuse(Errno),
+    /// It asks for one operation, and tells the result.
+    Ask(Do, Reply),
+}
+
+/// The greatest number of 64 bits.
+const MOST: u64 = 0xFFFF_FFFF_FFFF_FFFF;
+
+/// What a statement does first: one row a statement. `slot` is a slot of its own.
+pub fn planned(
+    alloc: Global,
+    keyword: Option<Keyword>,
+    files: &[FileRow<'_>],
+    slot: u32,
+    line: &[u8],
+) -> Result<Plan, Errno>
+    ensures ok { IfOk result (λ what. what ≡ planned keyword (map file_in files.now) slot (columns line.now)) }
+    ensures memory_alone { IsOkUnless result Errno.NoMemory }
+{
+    let Some(keyword) = keyword else {
+        return Ok(Plan::Nothing);
+    };
+    match keyword {
+        Keyword::Probe => Ok(Plan::Ask(
+            Do::Probe {
+                label: name_word(word(1, line)),
+                lines: number_word(1, 128, word(2, line)) as u32,
+            },
+            Reply::Silent,
+        )),
+        Keyword::Unplug => Ok(unplugs(place_word(word(1, line)))),
+        Keyword::MakeDir => Ok(Plan::Ask(Do::MakeDir(path_word(word(1, line))), Reply::Silent)),
+        Keyword::RemoveDir => Ok(Plan::Ask(Do::RemoveDir(path_word(word(1, line))), Reply::Silent)),
+        Keyword::Write => Ok(writes(word(1, line), word(2, line))),
+        Keyword::Read => Ok(reads(word(1, line))),
+        Keyword::Clock => Ok(Plan::Ask(
+            Do::Tick {
+                mono: number_word(0, MOST, word(1, line)),
+                real: number_word(0, MOST, word(2, line)),
+            },
+            Reply::Silent,
+        )),
+        Keyword::Fault => Ok(Plan::Ask(
+            Do::Plan {
+                nth: number_word(1, 1_000_000, word(1, line)) as u32,
+            },
+            Reply::Silent,
+        )),
+        Keyword::Pin => Ok(pins(place_word(word(2, line)), line)),
+        Keyword::Irq => Ok(irqs(place_word(word(2, line)), line)),
+        Keyword::Open => Ok(opens(has_file(files, word(1, line)), slot, word(2, line))),
+        Keyword::Ioctl => ioctls(
+            alloc,
+            file_of(files, word(1, line)),
+            takes_name(files, line),
+            slot,
+            line,
+        ),
+        Keyword::Events => Ok(reads_file(
+            file_of(files, word(1, line)),
+            true,
+            number_word(0, 49_152, word(2, line)) as u32,
+            Reply::Edges,
+        )),
+        Keyword::Changes => Ok(reads_file(
+            file_of(files, word(1, line)),
+            false,
+            number_word(0, 9216, word(2, line)) as u32,
+            Reply::Infos,
+        )),
+        Keyword::Poll => Ok(polls(file_of(files, word(1, line)))),
+        Keyword::Close => Ok(closes(file_of(files, word(1, line)))),
+        Keyword::Detect
+        | Keyword::Info
+        | Keyword::Get
+        | Keyword::Set
+        | Keyword::Start
+        | Keyword::Step
+        | Keyword::Stop => Ok(Plan::Nothing),
+    }
+}
+
+fn unplugs(place: Option<u8>) -> Plan
+    ensures { result ≡ unplugs place }
+{
+    match place {
+        Some(place) => Plan::Ask(Do::Unplug { place }, Reply::Silent),
+        None => Plan::Refuse(Errno::NoEnt),
+    }
+}
+
+fn pin_said(line: &[u8]) -> PinDo
+    ensures { result ≡ pin_said (columns line.now) }
+{
+    if word(1, line) == b"range".as_slice() {
+        return PinDo::Range {
+            offset: small_word(word(3, line)),
+            pin: small_word(word(4, line)),
+            count: small_word(word(5, line)),
+        };
+    }
+    if word(1, line) == b"hold".as_slice() {
+        return PinDo::Hold(small_word(word(3, line)));
+    }
+    PinDo::Release(small_word(word(3, line)))
+}
+
+fn pins(place: Option<u8>, line: &[u8]) -> Plan
+    ensures { result ≡ pins place (columns line.now) }
+{
+    match place {
+        Some(place) => Plan::Ask(
+            Do::Pin {
+                place,
+                what: pin_said(line),
+            },
+            Reply::Silent,
+        ),
+        None => Plan::Refuse(Errno::NoEnt),
+    }
+}
+
+fn irqs(place: Option<u8>, line: &[u8]) -> Plan
+    ensures { result ≡ irqs place (columns line.now) }
+{
+    match place {
+        Some(place) => Plan::Ask(
+            Do::Irq {
+                place,
+                offset: small_word(word(3, line)),
+                what: irq_word(word(1, line)),
+            },
+            Reply::Silent,
+        ),
+        None => Plan::Refuse(Errno::NoEnt),
+    }
+}
+
+fn reads(path: &[u8]) -> Plan
+    ensures { result ≡ reads (line_file path.now) path.now }
+{
+    match line_file(path) {
+        Some(file) => {
+            if file.chip >= u32::from(PLACES) {
+                return Plan::Refuse(Errno::NoEnt);
+            }
+            Plan::Ask(
+                Do::Level {
+                    place: file.chip as u8,
+                    offset: file.offset,
+                    pull: file.is_pull,
+                },
+                Reply::Level(file.is_pull),
+            )
+        }
+        None => Plan::Ask(Do::Read(path_word(path)), Reply::Value),
+    }
+}
+
+fn writes(path: &[u8], value: &[u8]) -> Plan
+    ensures { result ≡ writes (line_file path.now) path.now value.now }
+{
+    match line_file(path) {
+        Some(file) => writes_line(&file, value),
+        None => writes_tree(path, value),
+    }
+}
+
+fn writes_line(file: &LineFile, value: &[u8]) -> Plan
+    ensures { result ≡ writes_line file.now value.now }
+{
+    if file.chip >= u32::from(PLACES) {
+        return Plan::Refuse(Errno::NoEnt);
+    }
+    if !file.is_pull {
+        return Plan::Refuse(Errno::Perm);
+    }
+    match pull_word(value) {
+        Some(up) => Plan::Ask(
+            Do::Pull {
+                place: file.chip as u8,
+                offset: file.offset,
+                up,
+            },
+            Reply::Silent,
+        ),
+        None => Plan::Refuse(Errno::Inval),
+    }
+}
+
+fn writes_tree(path: &[u8], value: &[u8]) -> Plan
+    ensures { result ≡ writes_tree (live_device path.now) path.now value.now }
+{
+    match live_device(path) {
+        Some(device) => lives(device, live_word(value)),
+        None => Plan::Ask(
+            Do::Write {
+                path: path_word(path),
+                value: name_word(value),
+            },
+            Reply::Silent,
+        ),
+    }
+}
+
+fn lives(device: &[u8], up: Option<bool>) -> Plan
+    ensures { result ≡ lives device.now up }
+{
+    match up {
+        Some(up) => Plan::Ask(
+            Do::Live {
+                device: name_word(device),
+                up,
+            },
+            Reply::Silent,
+        ),
+        None => Plan::Refuse(Errno::Inval),
+    }
+}
+
+fn opens(is_taken: bool, slot: u32, word: &[u8]) -> Plan
+    ensures { result ≡ opens is_taken slot word.now }
+{
+    if is_taken {
+        return Plan::Refuse(Errno::Exist);
+    }
+    Plan::Ask(
+        Do::OpenChip {
+            slot,
+            word: path_word(word),
+        },
+        Reply::Opened,
+    )
+}
+
+/// Whether the name behind `as` is one that the actor has.
+fn takes_name(files: &[FileRow<'_>], line: &[u8]) -> bool
+    ensures { result ≡ takes_name (columns line.now) (map file_in files.now) }
+{
+    command_word(word(2, line)) == GET_LINE && has_file(files, made_name(line))
+}
+
+/// How the result of a command is told.
+fn command_reply(number: u32) -> Reply
+    ensures { result ≡ command_reply number }
+{
+    match number {
+        GET_LINE => Reply::Made,
+        GET_CHIPINFO | GET_LINEINFO | GET_LINEINFO_WATCH | LINE_GET_VALUES => Reply::Bytes,
+        _ => Reply::Silent,
+    }
+}
+
+fn ioctls(
+    alloc: Global,
+    file: Option<FileRow<'_>>,
+    is_taken: bool,
+    slot: u32,
+    line: &[u8],
+) -> Result<Plan, Errno>
+    ensures ok { IfOk result (λ what. what ≡ ioctls (option_map file_in file.entry) is_taken slot (columns line.now)) }
+    ensures memory_alone { IsOkUnless result Errno.NoMemory }
+{
+    let Some(file) = file else {
+        return Ok(Plan::Refuse(Errno::BadF));
+    };
+    if is_taken {
+        return Ok(Plan::Refuse(Errno::Exist));
+    }
+    let bytes = bytes_said(alloc, line)?;
+    Ok(ioctls_bytes(&file, slot, command_word(word(2, line)), &bytes))
+}
+
+fn ioctls_bytes(file: &FileRow<'_>, slot: u32, command: u32, bytes: &[u8]) -> Plan
+    ensures { result ≡ ioctls_bytes (file_in file.now) slot command bytes.now }
+{
+    Plan::Ask(
+        Do::Ioctl {
+            slot: file.slot,
+            cmd: command,
+            len: bytes.len().min(1024) as u32,
+            bytes: first_bytes(bytes),
+            made: slot,
+        },
+        command_reply(command),
+    )
+}
+
+fn reads_file(file: Option<FileRow<'_>>, is_request: bool, len: u32, reply: Reply) -> Plan
+    ensures { result ≡ reads_file (option_map file_in file.entry) is_request len reply }
+{
+    match file {
+        Some(file) => {
+            if file.is_request != is_request {
+                return Plan::Refuse(Errno::Inval);
+            }
+            Plan::Ask(
+                Do::ReadFile {
+                    slot: file.slot,
+                    len,
+                },
+                reply,
+            )
+        }
+        None => Plan::Refuse(Errno::BadF),
+    }
+}
+
+fn polls(file: Option<FileRow<'_>>) -> Plan
+    ensures { result ≡ polls (option_map file_in file.entry) }
+{
+    match file {
+        Some(file) => Plan::Ask(Do::Poll { slot: file.slot }, Reply::Ready),
+        None => Plan::Refuse(Errno::BadF),
+    }
+}
+
+fn closes(file: Option<FileRow<'_>>) -> Plan
+    ensures { result ≡ closes (option_map file_in file.entry) }
+{
+    match file {
+        Some(file) => Plan::Ask(Do::Close { slot: file.slot }, Reply::Closed),
+        None => Plan::Refuse(Errno::BadF),
+    }
+}

@@ -1,0 +1,230 @@
+//! The steps of a talk.
+ghost use Rattle.std.specs.Prelude.{◌≡◌, ◌+◌, ◌*◌, ◌<◌, ◌≤◌, ◌++◌, ◌∷◌, [], List, true, false, IfOk, OnOk, IsOkUnless, option_copied};
+ghost use Rattle.gl_base.specs.Operation.{refusal, bytes_of};
+ghost use Rattle.gl_base.specs.Words.{text_at};
+ghost use Rattle.gl_args.specs.Program.{Goes, Left, given, goes_on, waits, done, ask, then_left};
+ghost use Rattle.gl_script.specs.Table.{keyword_of};
+ghost use Rattle.gl_values.specs.Client.{client_left};
+ghost use Rattle.gl_talk.specs.Plans.{planned};
+ghost use Rattle.gl_talk.specs.Talk.{Does, Files, ToolDoes, acts, doing, file, files_in, goes, left, quits, refused, replied, shows, slot_in, told, words_in};
+ghost use Rattle.gl_talk.specs.ToolWords.{is_tool};
+
+use crate::files::{FileRow, remove_file};
+use crate::plans::{Plan, Reply, planned};
+use crate::replies::{
+    edges_text, fd_text, infos_text, level_text, line_of, number_of, ready_text, structure_text,
+    value_line,
+};
+use crate::talk::{Stage, Talk};
+use crate::tools::{is_tool, usage_text, words_of};
+use crate::words::{command_word, made_name, word};
+use gl_args::{ArgFault, Next, read_tool};
+use gl_base::{ByteList, Do, Errno, Got};
+use gl_script::keyword_of;
+use gl_values::Client;
+use std::alloc::Global;
+
+impl<'a> Talk<'a> {
+    /// The statement is done.
+    pub(crate) fn end(&mut self) -> Next
+        ensures goes { Goes (done (files_in self.old)) result (left self.new) }
+        ensures goes_on { doing self.new ≡ goes (left self.new) }
+        ensures counted { self.new.begun ≡ self.old.begun }
+    {
+        self.stage = Stage::Idle;
+        Next::End
+    }
+
+    /// Prints a text, and then the statement is done.
+    pub(crate) fn show(&mut self, text: ByteList) -> Next
+        ensures goes { Goes (shows text (files_in self.old)) result (left self.new) }
+        ensures goes_on { doing self.new ≡ goes (left self.new) }
+        ensures counted { self.new.begun ≡ self.old.begun }
+    {
+        self.stage = Stage::Idle;
+        Next::Print(text)
+    }
+
+    /// Prints a refusal, and then the statement is done.
+    pub(crate) fn refuse(&mut self, alloc: Global, errno: Errno) -> Result<Next, Errno>
+        ensures goes { IfOk result (λ next. Goes (refused errno (files_in self.old)) next (left self.new)) }
+        ensures goes_on { OnOk result (doing self.new ≡ goes (left self.new)) }
+        ensures counted { OnOk result (self.new.begun ≡ self.old.begun) }
+        ensures memory_alone { IsOkUnless result Errno.NoMemory }
+    {
+        let text = line_of(alloc, errno.name().as_bytes())?;
+        Ok(self.show(text))
+    }
+
+    /// The first step of the statement that was begun.
+    pub(crate) fn start(&mut self, alloc: Global) -> Result<Next, Errno>
+        requires { self.old.begun ≤ 1048576 }
+        ensures goes { IfOk result (λ next. (p : Files) × Does (files_in self.old) (slot_in self.old) (words_in self.old) p × Goes p next (left self.new)) }
+        ensures goes_on { OnOk result (doing self.new ≡ goes (left self.new)) }
+        ensures counted { OnOk result (self.new.begun ≡ self.old.begun) }
+        ensures memory_alone { IsOkUnless result Errno.NoMemory }
+    {
+        let keyword = keyword_of(word(0, self.line));
+        if is_tool(keyword) {
+            return self.start_tool(alloc);
+        }
+        let plan = planned(alloc, keyword, &self.files, 2 * self.begun, self.line)?;
+        self.act(alloc, &plan)
+    }
+
+    /// The first step of a plan.
+    fn act(&mut self, alloc: Global, plan: &Plan) -> Result<Next, Errno>
+        ensures goes { IfOk result (λ next. Goes (acts plan.now (files_in self.old) (slot_in self.old) (words_in self.old)) next (left self.new)) }
+        ensures goes_on { OnOk result (doing self.new ≡ goes (left self.new)) }
+        ensures counted { OnOk result (self.new.begun ≡ self.old.begun) }
+        ensures memory_alone { IsOkUnless result Errno.NoMemory }
+    {
+        match plan {
+            Plan::Nothing => Ok(self.end()),
+            Plan::Refuse(errno) => self.refuse(alloc, *errno),
+            Plan::Ask(what, reply) => {
+                self.stage = Stage::Waiting(*reply);
+                Ok(Next::Call(*what))
+            }
+        }
+    }
+
+    /// The first step of a tool.
+    fn start_tool(&mut self, alloc: Global) -> Result<Next, Errno>
+        requires { self.old.begun ≤ 1048576 }
+        ensures goes { IfOk result (λ next. (p : Files) × ToolDoes (files_in self.old) (slot_in self.old) (words_in self.old) p × Goes p next (left self.new)) }
+        ensures goes_on { OnOk result (doing self.new ≡ goes (left self.new)) }
+        ensures counted { OnOk result (self.new.begun ≡ self.old.begun) }
+        ensures memory_alone { IsOkUnless result Errno.NoMemory }
+    {
+        let words = words_of(alloc, self.line)?;
+        match read_tool(alloc, &words) {
+            Ok(tool) => {
+                self.client = Client::new(alloc, tool, 2 * self.begun);
+                self.run(alloc, None)
+            }
+            Err(ArgFault::Usage) => {
+                let text = usage_text(alloc, word(0, self.line))?;
+                Ok(self.show(text))
+            }
+            Err(ArgFault::NoMemory) => Err(Errno::NoMemory),
+        }
+    }
+
+    /// The next step of the tool that runs.
+    pub(crate) fn run(&mut self, alloc: Global, got: Option<&Got>) -> Result<Next, Errno>
+        ensures goes { IfOk result (λ next. Goes (given (then_left (client_left self.old.client) (λ _. done (files_in self.old))) (option_copied got.entry)) next (left self.new)) }
+        ensures goes_on { OnOk result (doing self.new ≡ goes (left self.new)) }
+        ensures counted { OnOk result (self.new.begun ≡ self.old.begun) }
+        ensures memory_alone { IsOkUnless result Errno.NoMemory }
+    {
+        match self.client.next(alloc, got)? {
+            Next::Call(what) => {
+                self.stage = Stage::Running;
+                Ok(Next::Call(what))
+            }
+            Next::Print(text) => {
+                self.stage = Stage::Running;
+                Ok(Next::Print(text))
+            }
+            Next::End => Ok(self.end()),
+        }
+    }
+
+    /// Tells the result of the statement's operation.
+    pub(crate) fn reply(
+        &mut self,
+        alloc: Global,
+        reply: Reply,
+        got: Option<&Got>,
+    ) -> Result<Next, Errno>
+        requires { self.old.begun ≤ 1048576 }
+        ensures goes { IfOk result (λ next. Goes (given (waits (λ got. replied reply (files_in self.old) (slot_in self.old) (words_in self.old) got)) (option_copied got.entry)) next (left self.new)) }
+        ensures goes_on { OnOk result (doing self.new ≡ goes (left self.new)) }
+        ensures counted { OnOk result (self.new.begun ≡ self.old.begun) }
+        ensures memory_alone { IsOkUnless result Errno.NoMemory }
+    {
+        let none = Got::Done;
+        let got = match got {
+            Some(got) => got,
+            None => &none,
+        };
+        match got.refusal() {
+            Some(errno) => self.refuse(alloc, errno),
+            None => self.tell(alloc, reply, got),
+        }
+    }
+
+    /// Tells a result that is no refusal.
+    fn tell(&mut self, alloc: Global, reply: Reply, got: &Got) -> Result<Next, Errno>
+        requires { self.old.begun ≤ 1048576 }
+        ensures goes { IfOk result (λ next. Goes (told reply (files_in self.old) (slot_in self.old) (words_in self.old) got.now) next (left self.new)) }
+        ensures goes_on { OnOk result (doing self.new ≡ goes (left self.new)) }
+        ensures counted { OnOk result (self.new.begun ≡ self.old.begun) }
+        ensures memory_alone { IsOkUnless result Errno.NoMemory }
+    {
+        let text = match reply {
+            Reply::Silent => return Ok(self.end()),
+            Reply::Opened => return self.opened(),
+            Reply::Closed => {
+                remove_file(&mut self.files, word(1, self.line));
+                return Ok(self.end());
+            }
+            Reply::Made => return self.made(alloc, got.bytes()),
+            Reply::Value => value_line(alloc, got)?,
+            Reply::Level(is_pull) => line_of(alloc, level_text(is_pull, number_of(got)))?,
+            Reply::Bytes => structure_text(alloc, command_word(word(2, self.line)), got.bytes())?,
+            Reply::Edges => edges_text(alloc, got.bytes())?,
+            Reply::Infos => infos_text(alloc, got.bytes())?,
+            Reply::Ready => line_of(alloc, ready_text(got.ready()))?,
+        };
+        Ok(self.show(text))
+    }
+
+    /// A chip's file was opened.
+    fn opened(&mut self) -> Result<Next, Errno>
+        requires { self.old.begun ≤ 1048576 }
+        ensures goes { IfOk result (λ next. Goes (done (files_in self.old ++ file (text_at 1 (words_in self.old)) (slot_in self.old) false ∷ [])) next (left self.new)) }
+        ensures goes_on { OnOk result (doing self.new ≡ goes (left self.new)) }
+        ensures counted { OnOk result (self.new.begun ≡ self.old.begun) }
+        ensures memory_alone { IsOkUnless result Errno.NoMemory }
+    {
+        self.files.push(FileRow {
+            name: word(1, self.line),
+            slot: 2 * self.begun,
+            is_request: false,
+        })?;
+        Ok(self.end())
+    }
+
+    /// A request was made.
+    fn made(&mut self, alloc: Global, bytes: &[u8]) -> Result<Next, Errno>
+        requires { self.old.begun ≤ 1048576 }
+        ensures goes { IfOk result (λ next. Goes (told Reply.Made (files_in self.old) (slot_in self.old) (words_in self.old) (Got.Bytes bytes.now)) next (left self.new)) }
+        ensures goes_on { OnOk result (doing self.new ≡ goes (left self.new)) }
+        ensures counted { OnOk result (self.new.begun ≡ self.old.begun) }
+        ensures memory_alone { IsOkUnless result Errno.NoMemory }
+    {
+        let text = fd_text(alloc, bytes)?;
+        self.files.push(FileRow {
+            name: made_name(self.line),
+            slot: 2 * self.begun,
+            is_request: true,
+        })?;
+        Ok(self.show(text))
+    }
+
+    /// Closes the file that was opened first, or ends where none is open.
+    pub(crate) fn close(&mut self) -> Next
+        ensures goes { Goes (quits (files_in self.old)) result (left self.new) }
+        ensures goes_on { doing self.new ≡ goes (left self.new) }
+        ensures counted { self.new.begun ≡ self.old.begun }
+    {
+        if self.files.is_empty() {
+            return self.end();
+        }
+        let file = self.files.remove(0);
+        self.stage = Stage::Closing;
+        Next::Call(Do::Close { slot: file.slot })
+    }
+}

@@ -1,0 +1,77 @@
+//! The words of a tool's statement.
+ghost use Rattle.std.specs.Prelude.{◌≡◌, ◌+◌, ◌<◌, ◌^◌, ◌++◌, length, IfOk, OnOk, IsOkUnless, map};
+ghost use Rattle.gl_args.specs.Items.{texts};
+ghost use Rattle.gl_base.specs.Words.{words_at};
+ghost use Rattle.gl_script.specs.Columns.{columns};
+ghost use Rattle.gl_talk.specs.ToolWords.{is_tool, usage_text, word_texts};
+
+use gl_base::{ByteList, Errno, next_word};
+use gl_script::Keyword;
+use std::alloc::Global;
+
+/// Whether a statement is a tool's.
+pub fn is_tool(keyword: Option<Keyword>) -> bool
+    ensures { result ≡ is_tool keyword }
+{
+    let Some(keyword) = keyword else {
+        return false;
+    };
+    match keyword {
+        Keyword::Detect | Keyword::Info | Keyword::Get | Keyword::Set => true,
+        Keyword::Probe
+        | Keyword::Unplug
+        | Keyword::MakeDir
+        | Keyword::RemoveDir
+        | Keyword::Write
+        | Keyword::Read
+        | Keyword::Clock
+        | Keyword::Fault
+        | Keyword::Pin
+        | Keyword::Irq
+        | Keyword::Open
+        | Keyword::Ioctl
+        | Keyword::Events
+        | Keyword::Changes
+        | Keyword::Poll
+        | Keyword::Close
+        | Keyword::Start
+        | Keyword::Step
+        | Keyword::Stop => false,
+    }
+}
+
+/// `TOOL: usage`.
+pub fn usage_text(alloc: Global, tool: &[u8]) -> Result<ByteList, Errno>
+    ensures ok { IfOk result (λ text. text ≡ usage_text tool.now) }
+    ensures memory_alone { IsOkUnless result Errno.NoMemory }
+{
+    let mut text = ByteList::new(alloc);
+    text.push_all(tool)?;
+    text.push_all(b": usage")?;
+    text.push_all(b"\n")?;
+    Ok(text)
+}
+
+/// The words of a line.
+pub fn words_of(alloc: Global, line: &[u8]) -> Result<Vec<&[u8]>, Errno>
+    ensures ok { IfOk result (λ words. texts words.items ≡ word_texts (columns line.now)) }
+    ensures memory_alone { IsOkUnless result Errno.NoMemory }
+{
+    words_in(alloc, 1, line)
+}
+
+fn words_in(alloc: Global, at: usize, line: &[u8]) -> Result<Vec<&[u8]>, Errno>
+    requires { at + length line.now + 1 < 2 ^ 64 }
+    ensures ok { IfOk result (λ words. texts words.items ≡ word_texts (words_at at line.now)) }
+    ensures memory_alone { IsOkUnless result Errno.NoMemory }
+{
+    let mut words = Vec::new(alloc);
+    let mut at = at;
+    let mut rest = line;
+    while let Some(found) = next_word(at, rest) {
+        words.push(found.word)?;
+        at = found.rest_at;
+        rest = found.rest;
+    }
+    Ok(words)
+}

@@ -1,0 +1,5 @@
+pub mod ChipWords
+pub mod DetectCosts
+pub mod InfoCosts
+pub mod InfoLines
+pub mod ToolCosts

@@ -1,0 +1,9 @@
+pub mod Chips
+pub mod Client
+pub mod Costs
+pub mod Detect
+pub mod Get
+pub mod GetText
+pub mod Info
+pub mod InfoText
+pub mod Set

@@ -1,0 +1,218 @@
+//! gpiodetect.
+ghost use Rattle.std.specs.Prelude.{◌≡◌, ◌+◌, ◌<◌, ◌^◌, ◌&&◌, not, [], ◌∷◌, IfOk, IsSome, IsOkUnless, MatchOption, option_copied};
+ghost use Rattle.gl_args.specs.Program.{print, Goes, given, goes_on};
+ghost use Rattle.gl_lines.specs.Texts.{failed_line};
+ghost use Rattle.gl_values.specs.Chips.{is_absent, is_named_by, words_from};
+ghost use Rattle.gl_values.specs.Detect.{tool, detects, left, chips_from, ends, leaves, opened, asked, closed};
+
+use crate::chip::{Chip, chip_line, chip_told, is_absent};
+use gl_args::{Next, ToolName};
+use gl_base::command::GET_CHIPINFO;
+use gl_base::{Do, Errno, Got, Name, PLACES, Path};
+use gl_lines::{failed_line, path_of_name, path_of_number};
+use std::alloc::Global;
+
+/// Where gpiodetect stands.
+#[derive(Clone, Copy, Debug)]
+pub enum DetectStage {
+    /// Before a chip.
+    Next,
+    /// A chip is being opened.
+    Opening,
+    /// Its information is asked for.
+    Asking,
+    /// It is being closed.
+    Closing(Chip),
+    /// A refusal was printed, and the chip is still open.
+    Failed,
+    /// The chip is closed for the last time.
+    Leaving,
+    /// It has ended.
+    Ended,
+}
+
+/// gpiodetect.
+#[derive(Drop, Debug)]
+pub struct Detect {
+    /// Its chip words.
+    pub words: Vec<Name>,
+    /// Which chip comes next.
+    pub next: usize,
+    /// The slot of the chip file.
+    pub base: u32,
+    /// Where it stands.
+    pub stage: DetectStage,
+}
+
+impl Detect {
+    /// gpiodetect with these chip words.
+    pub fn new(words: Vec<Name>, base: u32) -> Detect
+        ensures { left result ≡ goes_on (detects base words.items) }
+    {
+        Detect {
+            words,
+            next: 0,
+            base,
+            stage: DetectStage::Next,
+        }
+    }
+
+    /// What it does next.
+    pub fn next(&mut self, alloc: Global, got: Option<&Got>) -> Result<Next, Errno>
+        ensures goes { IfOk result (λ next. Goes (given (left self.old) (option_copied got.entry)) next (left self.new)) }
+        ensures memory_alone { IsOkUnless result Errno.NoMemory }
+    {
+        let none = Got::Done;
+        let got = match got {
+            Some(got) => got,
+            None => &none,
+        };
+        let stage = self.stage;
+        match &stage {
+            DetectStage::Next => Ok(self.open()),
+            DetectStage::Opening => self.opened(alloc, got.refusal()),
+            DetectStage::Asking => self.asked(alloc, got.refusal(), got.bytes()),
+            DetectStage::Closing(chip) => self.closed(alloc, chip, got.refusal()),
+            DetectStage::Failed => Ok(self.leave()),
+            DetectStage::Leaving | DetectStage::Ended => {
+                self.stage = DetectStage::Ended;
+                Ok(Next::End)
+            }
+        }
+    }
+
+    /// Whether it has words.
+    fn is_named(&self) -> bool
+        ensures { result ≡ is_named_by self.now.words.items }
+    {
+        !self.words.is_empty()
+    }
+
+    /// The word of the next chip, where there is one.
+    #[tactic(auto, using(crate::proofs::ChipWords::words))]
+    fn word(&self) -> Option<Path>
+        ensures word { MatchOption result (words_from self.now.words.items self.now.next ≡ []) (λ word.
+            words_from self.now.words.items self.now.next ≡ word ∷ words_from self.now.words.items (self.now.next + 1)) }
+        ensures small { IsSome result → self.now.next < 2 ^ 63 }
+    {
+        if self.words.is_empty() {
+            if self.next < PLACES as usize {
+                return Some(path_of_number(self.next as u32));
+            }
+            return None;
+        }
+        match self.words.get(self.next) {
+            Some(word) => Some(path_of_name(word)),
+            None => None,
+        }
+    }
+
+    /// Opens the next chip, or ends.
+    fn open(&mut self) -> Next
+        ensures { Goes (chips_from self.old.words.items self.old.next self.old.base) result (left self.new) }
+    {
+        match self.word() {
+            Some(word) => {
+                self.next += 1;
+                self.stage = DetectStage::Opening;
+                Next::Call(Do::OpenChip {
+                    slot: self.base,
+                    word,
+                })
+            }
+            None => {
+                self.stage = DetectStage::Ended;
+                Next::End
+            }
+        }
+    }
+
+    fn opened(&mut self, alloc: Global, refusal: Option<Errno>) -> Result<Next, Errno>
+        ensures goes { IfOk result (λ next. Goes (opened self.old.base (chips_from self.old.words.items self.old.next self.old.base) (is_named_by self.old.words.items) refusal) next (left self.new)) }
+        ensures memory_alone { IsOkUnless result Errno.NoMemory }
+    {
+        match refusal {
+            Some(errno) => {
+                if self.passes_over(errno) {
+                    return Ok(self.open());
+                }
+                self.fail(alloc, errno)
+            }
+            None => {
+                self.stage = DetectStage::Asking;
+                Ok(Next::Call(Do::Ioctl {
+                    slot: self.base,
+                    cmd: GET_CHIPINFO,
+                    len: 68,
+                    bytes: [0; 592],
+                    made: 0,
+                }))
+            }
+        }
+    }
+
+    /// Whether a chip that wasn't opened is passed over.
+    fn passes_over(&self, errno: Errno) -> bool
+        ensures { result ≡ (is_absent errno && not (is_named_by self.now.words.items)) }
+    {
+        is_absent(errno) && !self.is_named()
+    }
+
+    fn asked(&mut self, alloc: Global, refusal: Option<Errno>, bytes: &[u8]) -> Result<Next, Errno>
+        ensures goes { IfOk result (λ next. Goes (asked self.old.base (chips_from self.old.words.items self.old.next self.old.base) refusal bytes.now) next (left self.new)) }
+        ensures memory_alone { IsOkUnless result Errno.NoMemory }
+    {
+        match refusal {
+            Some(errno) => self.fail_open(alloc, errno),
+            None => match chip_told(bytes) {
+                Some(chip) => {
+                    self.stage = DetectStage::Closing(chip);
+                    Ok(Next::Call(Do::Close { slot: self.base }))
+                }
+                None => Ok(self.leave()),
+            },
+        }
+    }
+
+    fn closed(&mut self, alloc: Global, chip: &Chip, refusal: Option<Errno>) -> Result<Next, Errno>
+        ensures goes { IfOk result (λ next. Goes (closed chip.now (chips_from self.old.words.items self.old.next self.old.base) refusal) next (left self.new)) }
+        ensures memory_alone { IsOkUnless result Errno.NoMemory }
+    {
+        match refusal {
+            Some(errno) => self.fail(alloc, errno),
+            None => {
+                let text = chip_line(alloc, chip)?;
+                self.stage = DetectStage::Next;
+                Ok(Next::Print(text))
+            }
+        }
+    }
+
+    /// Prints a refusal, with nothing open.
+    fn fail(&mut self, alloc: Global, errno: Errno) -> Result<Next, Errno>
+        ensures goes { IfOk result (λ next. Goes (print (failed_line tool errno) ends) next (left self.new)) }
+        ensures memory_alone { IsOkUnless result Errno.NoMemory }
+    {
+        let text = failed_line(alloc, ToolName::Detect, errno)?;
+        self.stage = DetectStage::Ended;
+        Ok(Next::Print(text))
+    }
+
+    /// Prints a refusal, with the chip open.
+    fn fail_open(&mut self, alloc: Global, errno: Errno) -> Result<Next, Errno>
+        ensures goes { IfOk result (λ next. Goes (print (failed_line tool errno) (leaves self.old.base)) next (left self.new)) }
+        ensures memory_alone { IsOkUnless result Errno.NoMemory }
+    {
+        let text = failed_line(alloc, ToolName::Detect, errno)?;
+        self.stage = DetectStage::Failed;
+        Ok(Next::Print(text))
+    }
+
+    /// Closes the chip for the last time.
+    fn leave(&mut self) -> Next
+        ensures { Goes (leaves self.old.base) result (left self.new) }
+    {
+        self.stage = DetectStage::Leaving;
+        Next::Call(Do::Close { slot: self.base })
+    }
+}

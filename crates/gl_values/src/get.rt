@@ -1,0 +1,179 @@
+//! gpioget.
+ghost use Rattle.std.specs.Prelude.{◌≡◌, List, Some, IfOk, IsOkUnless, option_copied};
+ghost use Rattle.gl_args.specs.Program.{Goes, given, goes_on, print, then_by};
+ghost use Rattle.gl_lines.specs.declared.found_line.FoundLine.{FoundLine};
+ghost use Rattle.gl_lines.specs.Finding.{Finding, left};
+ghost use Rattle.gl_lines.specs.Texts.{failed_line};
+ghost use Rattle.gl_values.specs.Get.{tool, gets, get, asked, closed, leaves, bits_in, get_left};
+
+use crate::get_text::values_line;
+use gl_args::{Next, Opts, ToolName};
+use gl_base::command::LINE_GET_VALUES;
+use gl_base::{Do, Errno, Got};
+use gl_lines::{Finder, failed_line, values_sent};
+use gl_uapi::ValuesRef;
+use std::alloc::Global;
+
+/// Where gpioget stands.
+#[derive(Clone, Copy, Debug)]
+pub enum GetStage {
+    /// Before its beginning.
+    Begin,
+    /// It finds and requests its lines.
+    Finding,
+    /// The values are asked for.
+    Asking,
+    /// The request is being closed, with these values.
+    Closing(u64),
+    /// A refusal was printed, and the request is open.
+    LineOpen,
+    /// The request is closed for the last time.
+    Leaving,
+    /// It has ended.
+    Ended,
+}
+
+/// gpioget.
+#[derive(Drop, Debug)]
+pub struct Get {
+    /// What finds and requests its lines.
+    pub finder: Finder,
+    /// Where it stands.
+    pub stage: GetStage,
+}
+
+impl Get {
+    /// gpioget with these options. Its chip file has the slot `base`, its request the slot `made`.
+    pub fn new(alloc: Global, opts: Opts, base: u32, made: u32) -> Get
+        ensures { get_left result ≡ goes_on (gets base made opts) }
+    {
+        Get {
+            finder: Finder::new(alloc, ToolName::Get, base, made, opts),
+            stage: GetStage::Begin,
+        }
+    }
+
+    /// What it does next.
+    pub fn next(&mut self, alloc: Global, got: Option<&Got>) -> Result<Next, Errno>
+        ensures goes { IfOk result (λ next. Goes (given (get_left self.old) (option_copied got.entry)) next (get_left self.new)) }
+        ensures memory_alone { IsOkUnless result Errno.NoMemory }
+    {
+        let none = Got::Done;
+        let told = match got {
+            Some(got) => got,
+            None => &none,
+        };
+        let stage = self.stage;
+        match &stage {
+            GetStage::Begin => {
+                let step = self.finder.begin(alloc)?;
+                Ok(self.go_on(step))
+            }
+            GetStage::Finding => {
+                let step = self.finder.next(alloc, got)?;
+                Ok(self.go_on(step))
+            }
+            GetStage::Asking => self.asked(alloc, told.refusal(), told.bytes()),
+            GetStage::Closing(bits) => self.closed(alloc, *bits, told.refusal()),
+            GetStage::LineOpen => Ok(self.leave()),
+            GetStage::Leaving | GetStage::Ended => {
+                self.stage = GetStage::Ended;
+                Ok(Next::End)
+            }
+        }
+    }
+
+    /// Goes on behind a step of what finds its lines.
+    fn go_on(&mut self, step: Next) -> Next
+        ensures { (p : Finding) → Goes p step (left self.old.finder) → Goes (then_by p (get self.old.finder.made self.old.finder.opts)) result (get_left self.new) }
+    {
+        match step {
+            Next::Call(what) => {
+                self.stage = GetStage::Finding;
+                Next::Call(what)
+            }
+            Next::Print(text) => {
+                self.stage = GetStage::Finding;
+                Next::Print(text)
+            }
+            Next::End => {
+                if self.finder.has_found() {
+                    return self.ask();
+                }
+                self.stage = GetStage::Ended;
+                Next::End
+            }
+        }
+    }
+
+    /// Asks for the values.
+    fn ask(&mut self) -> Next
+        ensures { (found : List FoundLine) → Goes (get self.old.finder.made self.old.finder.opts (Some found)) result (get_left self.new) }
+    {
+        self.stage = GetStage::Asking;
+        Next::Call(Do::Ioctl {
+            slot: self.finder.made,
+            cmd: LINE_GET_VALUES,
+            len: 16,
+            bytes: values_sent(self.finder.opts.lines.len()),
+            made: 0,
+        })
+    }
+
+    fn asked(&mut self, alloc: Global, refusal: Option<Errno>, bytes: &[u8]) -> Result<Next, Errno>
+        ensures goes { IfOk result (λ next. Goes (asked self.old.finder.made self.old.finder.opts refusal bytes.now) next (get_left self.new)) }
+        ensures memory_alone { IsOkUnless result Errno.NoMemory }
+    {
+        match refusal {
+            Some(errno) => self.fail_open(alloc, errno),
+            None => {
+                self.stage = GetStage::Closing(bits_in(bytes));
+                Ok(Next::Call(Do::Close {
+                    slot: self.finder.made,
+                }))
+            }
+        }
+    }
+
+    fn closed(&mut self, alloc: Global, bits: u64, refusal: Option<Errno>) -> Result<Next, Errno>
+        ensures goes { IfOk result (λ next. Goes (closed self.old.finder.opts bits refusal) next (get_left self.new)) }
+        ensures memory_alone { IsOkUnless result Errno.NoMemory }
+    {
+        let text = match refusal {
+            Some(errno) => failed_line(alloc, ToolName::Get, errno)?,
+            None => values_line(alloc, &self.finder.opts, bits)?,
+        };
+        self.stage = GetStage::Ended;
+        Ok(Next::Print(text))
+    }
+
+    /// Prints a refusal, with the request open.
+    fn fail_open(&mut self, alloc: Global, errno: Errno) -> Result<Next, Errno>
+        ensures goes { IfOk result (λ next. Goes (print (failed_line tool errno) (leaves self.old.finder.made)) next (get_left self.new)) }
+        ensures memory_alone { IsOkUnless result Errno.NoMemory }
+    {
+        let text = failed_line(alloc, ToolName::Get, errno)?;
+        self.stage = GetStage::LineOpen;
+        Ok(Next::Print(text))
+    }
+
+    /// Closes the request for the last time.
+    fn leave(&mut self) -> Next
+        ensures { Goes (leaves self.old.finder.made) result (get_left self.new) }
+    {
+        self.stage = GetStage::Leaving;
+        Next::Call(Do::Close {
+            slot: self.finder.made,
+        })
+    }
+}
+
+/// The bits of values; 0 where there are too few bytes.
+fn bits_in(bytes: &[u8]) -> u64
+    ensures { result ≡ bits_in bytes.now }
+{
+    match ValuesRef::of(bytes) {
+        Some(values) => values.bits(),
+        None => 0,
+    }
+}

@@ -1,0 +1,310 @@
+//! gpioinfo.
+ghost use Rattle.std.specs.Prelude.{◌≡◌, ◌+◌, ◌<◌, ◌^◌, ◌&&◌, not, [], ◌∷◌, IfOk, IsSome, IsOkUnless, MatchOption, option_copied, is_some};
+ghost use Rattle.gl_args.specs.Program.{print, Goes, given, goes_on};
+ghost use Rattle.gl_lines.specs.Texts.{failed_line};
+ghost use Rattle.gl_values.specs.Chips.{is_absent, words_from, to_words};
+ghost use Rattle.gl_values.specs.Info.{tool, infos, info_left, chips_from, ends, leaves, opened, asked, told, lines_from, line_told, info_told, closed};
+
+use crate::chip::{Chip, chip_head, chip_told, is_absent};
+use crate::info_text::put_line;
+use gl_args::{Next, Opts, ToolName};
+use gl_base::command::{GET_CHIPINFO, GET_LINEINFO};
+use gl_base::{ByteList, Do, Errno, Got, LINES_MAX, Name, PLACES, Path};
+use gl_lines::{failed_line, info_sent, path_of_name, path_of_number};
+use gl_uapi::{Info, InfoRef};
+use std::alloc::Global;
+
+/// Where gpioinfo stands.
+#[derive(Clone, Copy, Debug)]
+pub enum InfoStage {
+    /// Before a chip.
+    Next,
+    /// A chip is being opened.
+    Opening,
+    /// Its information is asked for.
+    Asking,
+    /// The information on one of its lines is asked for.
+    Line,
+    /// It is being closed.
+    Closing,
+    /// A refusal was printed, and the chip is still open.
+    Failed,
+    /// The chip is closed for the last time.
+    Leaving,
+    /// It has ended.
+    Ended,
+}
+
+/// gpioinfo.
+#[derive(Drop, Debug)]
+pub struct InfoTool {
+    /// Its options.
+    pub opts: Opts,
+    /// Which chip comes next.
+    pub next: usize,
+    /// The slot of the chip file.
+    pub base: u32,
+    /// How many lines of the chip are asked.
+    pub total: u32,
+    /// How many of them are left, behind the one that is asked.
+    pub left: u32,
+    /// The chip's text so far.
+    pub text: ByteList,
+    /// Where it stands.
+    pub stage: InfoStage,
+}
+
+impl InfoTool {
+    /// gpioinfo with these options.
+    pub fn new(alloc: Global, opts: Opts, base: u32) -> InfoTool
+        ensures { info_left result ≡ goes_on (infos base opts) }
+    {
+        InfoTool {
+            opts,
+            next: 0,
+            base,
+            total: 0,
+            left: 0,
+            text: ByteList::new(alloc),
+            stage: InfoStage::Next,
+        }
+    }
+
+    /// What it does next.
+    pub fn next(&mut self, alloc: Global, got: Option<&Got>) -> Result<Next, Errno>
+        ensures goes { IfOk result (λ next. Goes (given (info_left self.old) (option_copied got.entry)) next (info_left self.new)) }
+        ensures memory_alone { IsOkUnless result Errno.NoMemory }
+    {
+        let none = Got::Done;
+        let got = match got {
+            Some(got) => got,
+            None => &none,
+        };
+        let stage = self.stage;
+        match &stage {
+            InfoStage::Next => Ok(self.open()),
+            InfoStage::Opening => self.opened(alloc, got.refusal()),
+            InfoStage::Asking => self.asked(alloc, got.refusal(), got.bytes()),
+            InfoStage::Line => self.line_told(alloc, got.refusal(), got.bytes()),
+            InfoStage::Closing => self.closed(alloc, got.refusal()),
+            InfoStage::Failed => Ok(self.leave()),
+            InfoStage::Leaving | InfoStage::Ended => {
+                self.stage = InfoStage::Ended;
+                Ok(Next::End)
+            }
+        }
+    }
+
+    /// The word of the next chip, where there is one.
+    fn word(&self) -> Option<Path>
+        ensures word { MatchOption result (words_from (to_words self.now.opts.chip) self.now.next ≡ []) (λ word.
+            words_from (to_words self.now.opts.chip) self.now.next ≡ word ∷ words_from (to_words self.now.opts.chip) (self.now.next + 1)) }
+        ensures small { IsSome result → self.now.next < 2 ^ 63 }
+    {
+        match &self.opts.chip {
+            Some(chip) => given_word(chip, self.next),
+            None => place_word(self.next),
+        }
+    }
+
+    /// Opens the next chip, or ends.
+    fn open(&mut self) -> Next
+        ensures { Goes (chips_from self.old.base self.old.opts self.old.next) result (info_left self.new) }
+    {
+        match self.word() {
+            Some(word) => {
+                self.next += 1;
+                self.stage = InfoStage::Opening;
+                Next::Call(Do::OpenChip {
+                    slot: self.base,
+                    word,
+                })
+            }
+            None => {
+                self.stage = InfoStage::Ended;
+                Next::End
+            }
+        }
+    }
+
+    fn opened(&mut self, alloc: Global, refusal: Option<Errno>) -> Result<Next, Errno>
+        ensures goes { IfOk result (λ next. Goes (opened self.old.base self.old.opts (chips_from self.old.base self.old.opts self.old.next) refusal) next (info_left self.new)) }
+        ensures memory_alone { IsOkUnless result Errno.NoMemory }
+    {
+        match refusal {
+            Some(errno) => {
+                if self.passes_over(errno) {
+                    return Ok(self.open());
+                }
+                self.fail(alloc, errno)
+            }
+            None => {
+                self.stage = InfoStage::Asking;
+                Ok(Next::Call(Do::Ioctl {
+                    slot: self.base,
+                    cmd: GET_CHIPINFO,
+                    len: 68,
+                    bytes: [0; 592],
+                    made: 0,
+                }))
+            }
+        }
+    }
+
+    /// Whether a chip that wasn't opened is passed over.
+    fn passes_over(&self, errno: Errno) -> bool
+        ensures { result ≡ (is_absent errno && not (is_some self.now.opts.chip)) }
+    {
+        is_absent(errno) && self.opts.chip.is_none()
+    }
+
+    fn asked(&mut self, alloc: Global, refusal: Option<Errno>, bytes: &[u8]) -> Result<Next, Errno>
+        ensures goes { IfOk result (λ next. Goes (asked self.old.base self.old.opts (chips_from self.old.base self.old.opts self.old.next) refusal bytes.now) next (info_left self.new)) }
+        ensures memory_alone { IsOkUnless result Errno.NoMemory }
+    {
+        match refusal {
+            Some(errno) => self.fail_open(alloc, errno),
+            None => match chip_told(bytes) {
+                Some(chip) => self.told(alloc, &chip),
+                None => Ok(self.leave()),
+            },
+        }
+    }
+
+    /// The chip told of itself: its lines are asked.
+    fn told(&mut self, alloc: Global, chip: &Chip) -> Result<Next, Errno>
+        ensures goes { IfOk result (λ next. Goes (told self.old.base self.old.opts (chips_from self.old.base self.old.opts self.old.next) chip.now) next (info_left self.new)) }
+        ensures memory_alone { IsOkUnless result Errno.NoMemory }
+    {
+        self.text = chip_head(alloc, chip)?;
+        self.total = chip.lines.min(LINES_MAX);
+        self.left = self.total;
+        Ok(self.ask_line())
+    }
+
+    /// Asks the next line, or closes the chip.
+    #[tactic(auto, using(crate::proofs::InfoLines::lines))]
+    fn ask_line(&mut self) -> Next
+        ensures { Goes (lines_from self.old.base self.old.opts (chips_from self.old.base self.old.opts self.old.next) self.old.total self.old.left self.old.text) result (info_left self.new) }
+    {
+        if self.left == 0 {
+            self.stage = InfoStage::Closing;
+            return Next::Call(Do::Close { slot: self.base });
+        }
+        let offset = self.total.saturating_sub(self.left);
+        self.left -= 1;
+        self.stage = InfoStage::Line;
+        Next::Call(Do::Ioctl {
+            slot: self.base,
+            cmd: GET_LINEINFO,
+            len: 256,
+            bytes: info_sent(offset),
+            made: 0,
+        })
+    }
+
+    fn line_told(
+        &mut self,
+        alloc: Global,
+        refusal: Option<Errno>,
+        bytes: &[u8],
+    ) -> Result<Next, Errno>
+        ensures goes { IfOk result (λ next. Goes (line_told self.old.base self.old.opts (lines_from self.old.base self.old.opts (chips_from self.old.base self.old.opts self.old.next) self.old.total self.old.left) self.old.total self.old.left self.old.text refusal bytes.now) next (info_left self.new)) }
+        ensures memory_alone { IsOkUnless result Errno.NoMemory }
+    {
+        match refusal {
+            Some(errno) => self.fail_open(alloc, errno),
+            None => match info_told(bytes) {
+                Some(info) => {
+                    let offset = self.total.saturating_sub(self.left).saturating_sub(1);
+                    put_line(alloc, self.opts.unquoted, offset, &info, &mut self.text)?;
+                    Ok(self.ask_line())
+                }
+                None => Ok(self.leave()),
+            },
+        }
+    }
+
+    fn closed(&mut self, alloc: Global, refusal: Option<Errno>) -> Result<Next, Errno>
+        ensures goes { IfOk result (λ next. Goes (closed (chips_from self.old.base self.old.opts self.old.next) self.old.text refusal) next (info_left self.new)) }
+        ensures memory_alone { IsOkUnless result Errno.NoMemory }
+    {
+        match refusal {
+            Some(errno) => self.fail(alloc, errno),
+            None => {
+                let mut text = ByteList::new(alloc);
+                text.push_all(self.text.as_slice())?;
+                self.stage = InfoStage::Next;
+                Ok(Next::Print(text))
+            }
+        }
+    }
+
+    /// Prints a refusal, with nothing open.
+    fn fail(&mut self, alloc: Global, errno: Errno) -> Result<Next, Errno>
+        ensures goes { IfOk result (λ next. Goes (print (failed_line tool errno) ends) next (info_left self.new)) }
+        ensures memory_alone { IsOkUnless result Errno.NoMemory }
+    {
+        let text = failed_line(alloc, ToolName::Info, errno)?;
+        self.stage = InfoStage::Ended;
+        Ok(Next::Print(text))
+    }
+
+    /// Prints a refusal, with the chip open.
+    fn fail_open(&mut self, alloc: Global, errno: Errno) -> Result<Next, Errno>
+        ensures goes { IfOk result (λ next. Goes (print (failed_line tool errno) (leaves self.old.base)) next (info_left self.new)) }
+        ensures memory_alone { IsOkUnless result Errno.NoMemory }
+    {
+        let text = failed_line(alloc, ToolName::Info, errno)?;
+        self.stage = InfoStage::Failed;
+        Ok(Next::Print(text))
+    }
+
+    /// Closes the chip for the last time.
+    fn leave(&mut self) -> Next
+        ensures { Goes (leaves self.old.base) result (info_left self.new) }
+    {
+        self.stage = InfoStage::Leaving;
+        Next::Call(Do::Close { slot: self.base })
+    }
+}
+
+/// The word of the chip that was given, which comes once.
+#[tactic(auto, using(crate::proofs::ChipWords::words))]
+fn given_word(chip: &Name, next: usize) -> Option<Path>
+    ensures word { MatchOption result (words_from (chip.now ∷ []) next ≡ []) (λ word. words_from (chip.now ∷ []) next ≡ word ∷ words_from (chip.now ∷ []) (next + 1)) }
+    ensures small { IsSome result → next < 2 ^ 63 }
+{
+    if next == 0 {
+        return Some(path_of_name(chip));
+    }
+    None
+}
+
+/// The word of the place that comes next.
+#[tactic(auto, using(crate::proofs::ChipWords::words))]
+fn place_word(next: usize) -> Option<Path>
+    ensures word { MatchOption result (words_from [] next ≡ []) (λ word. words_from [] next ≡ word ∷ words_from [] (next + 1)) }
+    ensures small { IsSome result → next < 2 ^ 63 }
+{
+    if next < PLACES as usize {
+        return Some(path_of_number(next as u32));
+    }
+    None
+}
+
+/// The information that bytes tell; None where there are too few of them.
+fn info_told(bytes: &[u8]) -> Option<Info>
+    ensures { result ≡ info_told bytes.now }
+{
+    match InfoRef::of(bytes) {
+        Some(info) => Some(Info {
+            name: Name::read(info.name()),
+            consumer: Name::read(info.consumer()),
+            offset: info.offset(),
+            flags: info.flags(),
+            period: info.period(),
+        }),
+        None => None,
+    }
+}

@@ -1,0 +1,179 @@
+//! gpioset.
+ghost use Rattle.std.specs.Prelude.{◌≡◌, not, is_some, IfOk, IsOkUnless, option_copied};
+ghost use Rattle.gl_args.specs.Program.{Goes, given, goes_on, done, then_by, MatchNext};
+ghost use Rattle.gl_lines.specs.Finding.{Finding, left};
+ghost use Rattle.gl_values.specs.Set.{sets, behind, stops, closes, closed, has_ended, held_of, set_left};
+
+use gl_args::{Next, Opts, ToolName};
+use gl_base::{Do, Errno, Got};
+use gl_lines::{Finder, failed_line};
+use std::alloc::Global;
+
+/// What gpioset does with its request.
+#[derive(Clone, Copy, PartialEq, Eq, Debug)]
+pub enum Hold {
+    /// It closes it at once.
+    No,
+    /// It holds it until it is stopped.
+    Yes,
+}
+
+/// Where gpioset stands.
+#[derive(Clone, Copy, Debug)]
+pub enum SetStage {
+    /// Before its beginning.
+    Begin,
+    /// It finds and requests its lines.
+    Finding,
+    /// It holds its lines.
+    Holding,
+    /// It was stopped.
+    Stopped,
+    /// The request is being closed.
+    Closing,
+    /// It has ended.
+    Ended,
+}
+
+/// gpioset.
+#[derive(Drop, Debug)]
+pub struct Set {
+    /// What finds and requests its lines.
+    pub finder: Finder,
+    /// What it does with its request.
+    pub hold: Hold,
+    /// Where it stands.
+    pub stage: SetStage,
+}
+
+impl Set {
+    /// gpioset with these options. Its chip file has the slot `base`, its request the slot `made`.
+    pub fn new(alloc: Global, opts: Opts, hold: Hold, base: u32, made: u32) -> Set
+        ensures { set_left result ≡ goes_on (sets hold base made opts) }
+    {
+        Set {
+            finder: Finder::new(alloc, ToolName::Set, base, made, opts),
+            hold,
+            stage: SetStage::Begin,
+        }
+    }
+
+    /// What it does next.
+    pub fn next(&mut self, alloc: Global, got: Option<&Got>) -> Result<Next, Errno>
+        ensures goes { IfOk result (λ next. Goes (given (set_left self.old) (option_copied got.entry)) next (set_left self.new)) }
+        ensures rests { IfOk result (λ next. MatchNext next (Unit {0}) (set_left self.new ≡ goes_on (done (held_of self.new)))) }
+        ensures ended { IfOk result (λ next. MatchNext next (Unit {0}) (has_ended self.new.stage ≡ not (is_some (held_of self.new)))) }
+        ensures memory_alone { IsOkUnless result Errno.NoMemory }
+    {
+        let none = Got::Done;
+        let told = match got {
+            Some(got) => got,
+            None => &none,
+        };
+        let stage = self.stage;
+        match &stage {
+            SetStage::Begin => {
+                let step = self.finder.begin(alloc)?;
+                Ok(self.go_on(step))
+            }
+            SetStage::Finding => {
+                let step = self.finder.next(alloc, got)?;
+                Ok(self.go_on(step))
+            }
+            SetStage::Holding => Ok(Next::End),
+            SetStage::Stopped => Ok(self.close()),
+            SetStage::Closing => self.closed(alloc, told.refusal()),
+            SetStage::Ended => Ok(Next::End),
+        }
+    }
+
+    /// Whether it has ended.
+    pub fn ended(&self) -> bool
+        ensures { result ≡ has_ended self.now.stage }
+    {
+        match &self.stage {
+            SetStage::Ended => true,
+            SetStage::Begin
+            | SetStage::Finding
+            | SetStage::Holding
+            | SetStage::Stopped
+            | SetStage::Closing => false,
+        }
+    }
+
+    /// Stops it where it holds its lines: the request is closed next.
+    pub fn stop(&mut self)
+        ensures { set_left self.new ≡ goes_on (stops (held_of self.old)) }
+    {
+        let stage = self.stage;
+        match &stage {
+            SetStage::Holding => self.stage = SetStage::Stopped,
+            SetStage::Begin
+            | SetStage::Finding
+            | SetStage::Stopped
+            | SetStage::Closing
+            | SetStage::Ended => self.stage = SetStage::Ended,
+        }
+    }
+
+    /// Goes on behind a step of what finds its lines.
+    fn go_on(&mut self, step: Next) -> Next
+        ensures goes { (p : Finding) → Goes p step (left self.old.finder) → Goes (then_by p (behind self.old.hold self.old.finder.made)) result (set_left self.new) }
+        ensures rests { MatchNext result (Unit {0}) (set_left self.new ≡ goes_on (done (held_of self.new))) }
+        ensures ended { MatchNext result (Unit {0}) (has_ended self.new.stage ≡ not (is_some (held_of self.new))) }
+    {
+        match step {
+            Next::Call(what) => {
+                self.stage = SetStage::Finding;
+                Next::Call(what)
+            }
+            Next::Print(text) => {
+                self.stage = SetStage::Finding;
+                Next::Print(text)
+            }
+            Next::End => {
+                if !self.finder.has_found() {
+                    self.stage = SetStage::Ended;
+                    return Next::End;
+                }
+                let hold = self.hold;
+                match &hold {
+                    Hold::No => self.close(),
+                    Hold::Yes => {
+                        self.stage = SetStage::Holding;
+                        Next::End
+                    }
+                }
+            }
+        }
+    }
+
+    /// Closes its request.
+    fn close(&mut self) -> Next
+        ensures goes { Goes (closes self.old.finder.made) result (set_left self.new) }
+        ensures asks { MatchNext result (Unit {0}) ⊥ }
+    {
+        self.stage = SetStage::Closing;
+        Next::Call(Do::Close {
+            slot: self.finder.made,
+        })
+    }
+
+    fn closed(&mut self, alloc: Global, refusal: Option<Errno>) -> Result<Next, Errno>
+        ensures goes { IfOk result (λ next. Goes (closed refusal) next (set_left self.new)) }
+        ensures ended { IfOk result (λ next. MatchNext next (Unit {0}) (self.new.stage ≡ SetStage.Ended)) }
+        ensures memory_alone { IsOkUnless result Errno.NoMemory }
+    {
+        match refusal {
+            Some(errno) => {
+                let text = failed_line(alloc, ToolName::Set, errno)?;
+                self.stage = SetStage::Ended;
+                Ok(Next::Print(text))
+            }
+            None => {
+                self.stage = SetStage::Ended;
+                Ok(Next::End)
+            }
+        }
+    }
+}
