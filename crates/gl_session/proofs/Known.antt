@@ -1,7 +1,7 @@
--- A step of a loop that writes a text.
+-- A step of a loop that writes a text, and of one that reads a source.
 use Rattle.std.proofs.Common.{◌≡◌, ◌+◌, ℕ, List, ◌++◌, take, drop, Option, None, Some, sym, ◌∙◌, ap, subst, append_assoc}
 use Rattle.std.proofs.Math.Seq.{take-add}
-use Rattle.std.specs.Io.KnownBytes.{Appends}
+use Rattle.std.specs.Io.KnownBytes.{Appends, Consumes}
 
 appends_more : (a b c : Option (List ℕ)) (xs ys : List ℕ) → Appends a b xs → Appends b c ys → Appends a c (xs ++ ys)
 appends_more None b c xs ys p q = tt
@@ -15,3 +15,10 @@ pub appends_next : (a b c : Option (List ℕ)) (text rest : List ℕ) (at n : �
 appends_next a b c text rest at n p q e =
     let joined : take (at + n) text ≡ take at text ++ take n rest = take-add at n text ∙ ap (λ l. take at text ++ take n l) (sym e) in
     subst (λ l. Appends a c l) (sym joined) (appends_more a b c (take at text) (take n rest) p q)
+
+-- more of the first bytes were read
+pub consumes_more : (a b c : Option (List ℕ)) (xs ys : List ℕ) → Consumes a b xs → Consumes b c ys → Consumes a c (xs ++ ys)
+consumes_more None b c xs ys p q = tt
+consumes_more (Some a) None c xs ys p q = absurd p
+consumes_more (Some a) (Some b) None xs ys p q = absurd q
+consumes_more (Some a) (Some b) (Some c) xs ys p q = p ∙ ap (λ l. xs ++ l) q ∙ sym (append_assoc xs ys c)

@@ -1,8 +1,5 @@
-pub mod Lines
-pub mod Statement
-pub mod Sentence
-pub mod Script
-pub mod Text
+pub mod LeftOut
+pub mod Run
 pub mod Status
 pub mod Streams
-pub mod Run
+pub mod Text

@@ -1,25 +1,26 @@
 //! The top call: from the bytes read to the bytes written and the status.
-ghost use Rattle.std.specs.Prelude.{◌≡◌, ◌≢◌, ◌⊎◌, ℕ, List, [], IfSome};
+ghost use Rattle.std.specs.Prelude.{◌≡◌, ◌≢◌, ◌<◌, ◌≤◌, ◌⊎◌, ◌++◌, ℕ, List, [], None, Some, length, IfSome, OnOk, IsOkUnless};
 ghost use Rattle.std.specs.Io.KnownBytes.{Appends, IsAtEnd};
 ghost use Rattle.gl_base.specs.Count.{Rises};
-ghost use Rattle.gl_session.specs.declared.statement.Statement.{Statement};
-ghost use Rattle.gl_session.specs.Sentence.{Sentence, IsNoSentence};
-ghost use Rattle.gl_session.specs.Streams.{ReadsThrough, AppendsFront};
+ghost use Rattle.gl_script.specs.declared.refusal.Refusal.{Refusal};
+ghost use Rattle.gl_script.specs.Section.{SaidSection};
+ghost use Rattle.gl_session.specs.Streams.{ReadsThrough, LosesFront, AppendsFront};
 ghost use Rattle.gl_session.specs.Text.{session_text};
-ghost use Rattle.gl_session.specs.Run.{usage_line, refused_line, IsOutput, IsRefusal};
+ghost use Rattle.gl_session.specs.Run.{Runs, refusal_of, usage_line, refused_line, IsOutput, IsRefusal};
 
-use crate::script::{ScriptFault, read_session};
+use crate::left_out::left_out;
 use crate::status::Status;
 use crate::streams::{ReadError, read_through, write_all};
-use crate::text::run_statements;
+use crate::text::{put_refusal, run_script};
 use gl_io::{Sink, Source};
+use gl_script::{Feed, Refusal, RefusalKind};
 use std::alloc::Global;
 
 /// Reads a session from the source, runs it, and writes its text to the sink.
 ///
 /// There are no words that it takes. It reads to the end of input, or one byte more than a session may
-/// have, and writes at the end: the text of the session, the line `refused` for bytes that are none, or
-/// the line `usage` for words. The first cause decides, in the order of [`Status`].
+/// have, and writes at the end: the text of the session, the line `refused LINE COLUMN KIND` for bytes that
+/// are none or say what isn't run so far, or the line `usage` for words. The first cause decides, in the order of [`Status`].
 pub fn run<S: Source, K: Sink>(
     alloc: Global,
     words: &[&str],
@@ -27,10 +28,10 @@ pub fn run<S: Source, K: Sink>(
     sink: &mut K,
 ) -> Status
     // A session that ran is read to its end, and its text is written.
-    ensures ran { result ≡ Status.Ran → IfSome (S.left source.old) (λ input. (statements : List Statement) → Sentence input statements →
-        IsAtEnd (S.left source.new) × Appends (K.held sink.old) (K.held sink.new) (session_text statements)) }
+    ensures ran { result ≡ Status.Ran → IfSome (S.left source.old) (λ input. (sections : List SaidSection) → Runs input sections →
+        IsAtEnd (S.left source.new) × Appends (K.held sink.old) (K.held sink.new) (session_text sections)) }
     ensures ran_without_words { result ≡ Status.Ran → words.now ≡ [] }
-    ensures ran_only_session { result ≡ Status.Ran → IfSome (S.left source.old) (λ input. (statements : List Statement) × Sentence input statements) }
+    ensures ran_only_session { result ≡ Status.Ran → IfSome (S.left source.old) (λ input. (sections : List SaidSection) × Runs input sections) }
 
     // Words are answered first, and nothing is read.
     ensures usage { words.now ≢ [] → (result ≡ Status.Usage) ⊎ (result ≡ Status.WriteFault) }
@@ -42,15 +43,21 @@ pub fn run<S: Source, K: Sink>(
     ensures read_fault { result ≡ Status.ReadFault → Rises (S.fault_count source.old) (S.fault_count source.new) }
     ensures read_fault_writes_nothing { result ≡ Status.ReadFault → sink.new ≡ sink.old }
 
-    // Bytes that are no session are refused, once they are read through.
-    ensures refused { IfSome (S.left source.old) (λ input. words.now ≡ [] → IsNoSentence input → IsRefusal result) }
+    // Where the source counted one, that is the answer: nothing is tried again. The bytes that were taken are gone.
+    ensures read_fault_told { S.fault_count source.old < S.fault_count source.new → result ≡ Status.ReadFault }
+    ensures read_front { LosesFront (S.left source.old) (S.left source.new) }
+
+    // Bytes that are no session, or say more than is run, are refused by their first fault, once they are read through.
+    ensures refused { IfSome (S.left source.old) (λ input. words.now ≡ [] → (refusal : Refusal) → refusal_of input ≡ Some refusal → IsRefusal result) }
     ensures refused_without_words { result ≡ Status.Refused → words.now ≡ [] }
-    ensures refused_only { result ≡ Status.Refused → IfSome (S.left source.old) IsNoSentence }
+    ensures refused_only { result ≡ Status.Refused → IfSome (S.left source.old) (λ input. (refusal : Refusal) × (refusal_of input ≡ Some refusal)
+        × Appends (K.held sink.old) (K.held sink.new) (refused_line refusal)) }
     ensures refused_read_through { result ≡ Status.Refused → (bytes : List ℕ) × ReadsThrough (S.left source.old) (S.left source.new) bytes }
-    ensures refused_written { result ≡ Status.Refused → Appends (K.held sink.old) (K.held sink.new) refused_line }
+    ensures refused_written { result ≡ Status.Refused → (refusal : Refusal) × Appends (K.held sink.old) (K.held sink.new) (refused_line refusal) }
 
     // A fault of writing comes only where the sink counted one in this call, and leaves a front of the output.
     ensures write_fault { result ≡ Status.WriteFault → Rises (K.fault_count sink.old) (K.fault_count sink.new) }
+    ensures write_fault_told { K.fault_count sink.old < K.fault_count sink.new → result ≡ Status.WriteFault }
     ensures write_fault_front { result ≡ Status.WriteFault → IfSome (S.left source.old) (λ input. words.now ≡ [] →
         (text : List ℕ) × IsOutput input text × AppendsFront (K.held sink.old) (K.held sink.new) text) }
     ensures usage_front { result ≡ Status.WriteFault → words.now ≢ [] → AppendsFront (K.held sink.old) (K.held sink.new) usage_line }
@@ -59,7 +66,7 @@ pub fn run<S: Source, K: Sink>(
     ensures no_memory_writes_nothing { result ≡ Status.NoMemory → sink.new ≡ sink.old }
 
     // Where no fault was counted, a session runs.
-    ensures complete { IfSome (S.left source.old) (λ input. words.now ≡ [] → (statements : List Statement) → Sentence input statements →
+    ensures complete { IfSome (S.left source.old) (λ input. words.now ≡ [] → (sections : List SaidSection) → Runs input sections →
         ¬ Rises (S.fault_count source.old) (S.fault_count source.new) → ¬ Rises (K.fault_count sink.old) (K.fault_count sink.new) →
         (result ≡ Status.Ran) ⊎ (result ≡ Status.NoMemory)) }
 {
@@ -67,30 +74,52 @@ pub fn run<S: Source, K: Sink>(
         return finish(sink, b"usage\n", Status::Usage);
     }
     match read_through(alloc, source) {
-        Ok(bytes) => answer(alloc, &bytes, sink),
+        Ok(feed) => answer(alloc, &feed, sink),
         Err(ReadError::Fault) => Status::ReadFault,
         Err(ReadError::NoMemory) => Status::NoMemory,
     }
 }
 
 /// Runs the session that the bytes say, and writes its text.
-fn answer<K: Sink>(alloc: Global, bytes: &[u8], sink: &mut K) -> Status
-    ensures ran { result ≡ Status.Ran → (statements : List Statement) × Sentence bytes.now statements
-        × Appends (K.held sink.old) (K.held sink.new) (session_text statements) }
-    ensures refused { result ≡ Status.Refused → IsNoSentence bytes.now × Appends (K.held sink.old) (K.held sink.new) refused_line }
+fn answer<K: Sink>(alloc: Global, feed: &Feed, sink: &mut K) -> Status
+    ensures ran { result ≡ Status.Ran → (sections : List SaidSection) × Runs feed.now sections
+        × Appends (K.held sink.old) (K.held sink.new) (session_text sections) }
+    ensures refused { result ≡ Status.Refused → (refusal : Refusal) × (refusal_of feed.now ≡ Some refusal)
+        × Appends (K.held sink.old) (K.held sink.new) (refused_line refusal) }
     ensures write_fault { result ≡ Status.WriteFault → Rises (K.fault_count sink.old) (K.fault_count sink.new) }
-    ensures front { result ≡ Status.WriteFault → (text : List ℕ) × IsOutput bytes.now text × AppendsFront (K.held sink.old) (K.held sink.new) text }
+    ensures write_fault_told { K.fault_count sink.old < K.fault_count sink.new → result ≡ Status.WriteFault }
+    ensures front { result ≡ Status.WriteFault → (text : List ℕ) × IsOutput feed.now text × AppendsFront (K.held sink.old) (K.held sink.new) text }
     ensures no_memory { result ≡ Status.NoMemory → sink.new ≡ sink.old }
     ensures no_usage { result ≢ Status.Usage }
     ensures no_read_fault { result ≢ Status.ReadFault }
 {
-    match read_session(alloc, bytes) {
-        Ok(statements) => match run_statements(alloc, &statements) {
-            Ok(text) => finish(sink, &text, Status::Ran),
-            Err(_) => Status::NoMemory,
-        },
-        Err(ScriptFault::Refused) => finish(sink, b"refused\n", Status::Refused),
-        Err(ScriptFault::NoMemory) => Status::NoMemory,
+    let script = match feed.script(alloc) {
+        Ok(script) => script,
+        Err(refusal) if refusal.kind == RefusalKind::NoMemory => return Status::NoMemory,
+        Err(refusal) => return refuse(alloc, &refusal, sink),
+    };
+    if let Some(refusal) = left_out(feed.as_slice()) {
+        return refuse(alloc, &refusal, sink);
+    }
+    match run_script(alloc, &script) {
+        Ok(text) => finish(sink, &text, Status::Ran),
+        Err(_) => Status::NoMemory,
+    }
+}
+
+/// Writes why the bytes are refused.
+fn refuse<K: Sink>(alloc: Global, refusal: &Refusal, sink: &mut K) -> Status
+    ensures one { (result ≡ Status.Refused) ⊎ ((result ≡ Status.WriteFault) ⊎ (result ≡ Status.NoMemory)) }
+    ensures written { result ≡ Status.Refused → Appends (K.held sink.old) (K.held sink.new) (refused_line refusal.now) }
+    ensures fault { result ≡ Status.WriteFault → Rises (K.fault_count sink.old) (K.fault_count sink.new) }
+    ensures fault_told { K.fault_count sink.old < K.fault_count sink.new → result ≡ Status.WriteFault }
+    ensures front { result ≡ Status.WriteFault → AppendsFront (K.held sink.old) (K.held sink.new) (refused_line refusal.now) }
+    ensures no_memory { result ≡ Status.NoMemory → sink.new ≡ sink.old }
+{
+    let mut text = Vec::new(alloc);
+    match put_refusal(refusal, &mut text) {
+        Ok(()) => finish(sink, &text, Status::Refused),
+        Err(_) => Status::NoMemory,
     }
 }
 
@@ -100,6 +129,7 @@ fn finish<K: Sink>(sink: &mut K, text: &[u8], status: Status) -> Status
     ensures one { (result ≡ status) ⊎ (result ≡ Status.WriteFault) }
     ensures written { result ≡ status → Appends (K.held sink.old) (K.held sink.new) text.now }
     ensures fault { result ≡ Status.WriteFault → Rises (K.fault_count sink.old) (K.fault_count sink.new) }
+    ensures fault_told { K.fault_count sink.old < K.fault_count sink.new → result ≡ Status.WriteFault }
     ensures front { result ≡ Status.WriteFault → AppendsFront (K.held sink.old) (K.held sink.new) text.now }
 {
     match write_all(sink, text) {

@@ -1,7 +1,7 @@
 //! Sessions over the source and the sink in memory.
 ghost use Rattle.std.specs.Prelude.{◌<◌};
 
-use super::{run, sentence_is_single};
+use super::run;
 use gl_io::{MemSink, MemSource};
 use std::alloc::Global;
 use std::process::Abort;
@@ -117,18 +117,32 @@ fn streams_that_fail_end_the_run(rt: HostRuntime) -> Result<(), Fail> {
 fn words_and_other_texts_are_refused(rt: HostRuntime) -> Result<(), Fail> {
     check(&rt, &["--help"], ONE_CHIP, &PLAIN, 2, b"usage\n")?;
     let refused = [
-        "",
-        "session 2",
-        "session 1\nprobe demo 4",
-        "session 1\nsetup\nprobe demo 0",
-        "session 1\nsetup\nprobe demo 129",
-        "session 1\nsetup\nprobe de/mo 4",
-        "session 1\nsetup\nprob demo 4",
-        "session 1\nsetup\nsetup",
-        "# \x7f\nsession 1",
+        ("", "refused 1 1 header\n"),
+        ("session 2", "refused 1 1 header\n"),
+        ("session 1\nprobe demo 4", "refused 2 1 section\n"),
+        ("session 1\nsetup\nprob demo 4", "refused 3 1 statement\n"),
+        ("session 1\nsetup\nprobe demo 129", "refused 3 12 word\n"),
+        ("session 1\nsetup\nprobe demo", "refused 3 11 words\n"),
+        ("session 1\nsetup\nsetup", "refused 3 1 section\n"),
+        ("# \x7f\nsession 1", "refused 1 3 byte\n"),
+        // What isn't run so far, behind every fault.
+        (
+            "session 1\nsetup\nprobe a 1\n unplug 0\nopen A 0",
+            "refused 4 2 statement\n",
+        ),
+        ("session 1\nactor a\nunplug 0", "refused 2 1 section\n"),
+        ("session 1\nsetup\nafter", "refused 3 1 section\n"),
+        (
+            "session 1\nsetup\nunplug 0\nprob",
+            "refused 4 1 statement\n",
+        ),
+        (
+            "session 1\nsetup\nunplug 0\nprobe a 0",
+            "refused 4 9 word\n",
+        ),
     ];
-    for text in refused {
-        check(&rt, &[], text.as_bytes(), &PLAIN, 3, b"refused\n")?;
+    for (text, line) in refused {
+        check(&rt, &[], text.as_bytes(), &PLAIN, 3, line.as_bytes())?;
     }
     Ok(())
 }
@@ -146,7 +160,6 @@ fn longest_session_runs_and_one_byte_more_is_refused(rt: HostRuntime) -> Result<
     assert_eq!(rt; text.len(), MOST);
     check(&rt, &[], &text, &plan, 0, ONE_CHIP_TEXT)?;
     text.push(b'#')?;
-    check(&rt, &[], &text, &plan, 3, b"refused\n")?;
-    sentence_is_single();
+    check(&rt, &[], &text, &plan, 3, b"refused 0 0 too-long\n")?;
     Ok(())
 }

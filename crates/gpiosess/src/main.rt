@@ -8,11 +8,14 @@ use std::env::Args;
 use std::io::ErrorKind;
 use std::process::ExitCode;
 
+/// What stands in the place of words that are no text. The program takes no words, so any word has the
+/// same answer, which is the usage.
+const NO_TEXT: &str = "?";
+
 fn main(rt: HostRuntime) -> ExitCode {
     let status = match env::args(&rt) {
         Ok(args) => run_words(&rt, args),
-        // A word that is no text is none that the program takes.
-        Err(error) if error.kind() == ErrorKind::InvalidData => run_session(&rt, &["?"]),
+        Err(error) if error.kind() == ErrorKind::InvalidData => run_session(&rt, &[NO_TEXT]),
         Err(_) => Status::NoMemory,
     };
     ExitCode::from(status.number())

@@ -1,20 +1,32 @@
 use Rattle.std.proofs.Common.{◌≡◌, []}
-use Rattle.gl_session.specs.Streams.{ReadsThrough, AppendsFront}
-use Rattle.gl_session.proofs.Causes.{if_no_sentence, if_output, if_complete}
+use Rattle.std.specs.Io.KnownBytes.{Appends, IsAtEnd}
+use Rattle.gl_session.specs.Run.{refused_line}
+use Rattle.gl_session.specs.Streams.{AppendsFront}
+use Rattle.gl_session.specs.Text.{session_text}
+use Rattle.gl_session.proofs.Causes.{if_ran, if_session, if_refused, if_output, if_refusal, if_complete}
 use Rattle.gl_session.proofs.session.run.Goals as goal
+
+pub returns-in-Ok-clause-ran : goal.returns-in-Ok-clause-ran
+returns-in-Ok-clause-ran g c = λ e.
+    if_ran _ _ _ (IsAtEnd (g.S.Source.left c.read_through.new.source)) (λ sections. Appends (g.K.Sink.held c.args.sink.now) (g.K.Sink.held c.answer.new.sink) (session_text sections))
+    c.in-Ok.ensures.ok c.in-Ok.ensures.ok.end (c.answer.ensures.ran e)
+
+pub returns-in-Ok-clause-ran_only_session : goal.returns-in-Ok-clause-ran_only_session
+returns-in-Ok-clause-ran_only_session g c = λ e. if_session _ _ _ c.in-Ok.ensures.ok (c.answer.ensures.ran e).0 (c.answer.ensures.ran e).1
+
+pub returns-in-Ok-clause-refused : goal.returns-in-Ok-clause-refused
+returns-in-Ok-clause-refused g c =
+    if_refusal c.answer.result _ _ _ (c.args.words.now ≡ []) c.in-Ok.ensures.ok c.answer.ensures.no_usage (λ e. ((c.answer.ensures.ran e).0, (c.answer.ensures.ran e).1))
 
 pub returns-in-Ok-clause-refused_only : goal.returns-in-Ok-clause-refused_only
 returns-in-Ok-clause-refused_only g c = λ e.
-    let through : ReadsThrough (g.S.Source.left c.args.source.now) (g.S.Source.left c.read_through.new.source) c.deref.result.now = rw c.deref.ensures.value c.in-Ok.ensures.ok in
-    if_no_sentence _ _ _ through (c.answer.ensures.refused e).0
+    if_refused _ _ _ (λ refusal. Appends (g.K.Sink.held c.args.sink.now) (g.K.Sink.held c.answer.new.sink) (refused_line refusal)) c.in-Ok.ensures.ok (c.answer.ensures.refused e)
 
 pub returns-in-Ok-clause-write_fault_front : goal.returns-in-Ok-clause-write_fault_front
 returns-in-Ok-clause-write_fault_front g c = λ e.
-    let through : ReadsThrough (g.S.Source.left c.args.source.now) (g.S.Source.left c.read_through.new.source) c.deref.result.now = rw c.deref.ensures.value c.in-Ok.ensures.ok in
-    if_output _ _ _ (c.args.words.now ≡ []) (AppendsFront (g.K.Sink.held c.args.sink.now) (g.K.Sink.held c.answer.new.sink)) through (c.answer.ensures.front e)
+    if_output _ _ _ (c.args.words.now ≡ []) (AppendsFront (g.K.Sink.held c.args.sink.now) (g.K.Sink.held c.answer.new.sink)) c.in-Ok.ensures.ok (c.answer.ensures.front e)
 
 pub returns-in-Ok-clause-complete : goal.returns-in-Ok-clause-complete
 returns-in-Ok-clause-complete g c =
-    let through : ReadsThrough (g.S.Source.left c.args.source.now) (g.S.Source.left c.read_through.new.source) c.deref.result.now = rw c.deref.ensures.value c.in-Ok.ensures.ok in
-    if_complete c.answer.result _ _ _ (c.args.words.now ≡ []) _ _ through c.answer.ensures.no_usage c.answer.ensures.no_read_fault
-    (λ e. (c.answer.ensures.refused e).0) c.answer.ensures.write_fault
+    if_complete c.answer.result _ _ _ (c.args.words.now ≡ []) _ _ c.in-Ok.ensures.ok c.answer.ensures.no_usage c.answer.ensures.no_read_fault
+    (λ e. ((c.answer.ensures.refused e).0, (c.answer.ensures.refused e).1)) c.answer.ensures.write_fault

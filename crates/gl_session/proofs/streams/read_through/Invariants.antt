@@ -1,12 +1,12 @@
-use Rattle.std.proofs.Common.{◌≤◌, ◌-◌, vec_len}
+use Rattle.std.proofs.Common.{◌≡◌, ◌≤◌, ◌-◌, length}
 use Rattle.std.specs.Io.KnownBytes.{Consumes}
 use Rattle.gl_session.proofs.streams.read_through.Given as goal
 
 abbrev pub invariant-loop-chunk : goal.invariant-loop-chunk
 invariant-loop-chunk g l =
-    (Consumes (g.S.Source.left l.initial.source) (g.S.Source.left l.source) l.bytes.items)
-    × (vec_len l.bytes ≤ 1048577)
-    × (g.S.Source.fault_count l.initial.source ≤ g.S.Source.fault_count l.source)
+    (Consumes (g.S.Source.left l.initial.source) (g.S.Source.left l.source) l.feed)
+    × (length l.feed ≤ 1048577)
+    × (g.S.Source.fault_count l.source ≡ g.S.Source.fault_count l.initial.source)
 
 abbrev pub decreases-loop-chunk : goal.decreases-loop-chunk
-decreases-loop-chunk g l = 1048577 - vec_len l.bytes
+decreases-loop-chunk g l = 1048577 - length l.feed

@@ -1,4 +1,4 @@
-use Rattle.std.proofs.Common.{arith}
+use Rattle.std.proofs.Common.{◌∙◌, arith}
 use Rattle.gl_session.proofs.Known.{appends_next}
 use Rattle.gl_session.proofs.streams.write_all.Goals as goal
 
@@ -6,5 +6,5 @@ pub loop-at-preserved : goal.loop-at-preserved
 loop-at-preserved g c = (
   omega (arith, c.in-Ok.ensures.bound),
   appends_next _ _ _ c.args.text.now c.split_at.result.1.now c.loop-at.at c.in-Ok.count c.loop-at.invariant.1 c.in-Ok.ensures.appended c.split_at.ensures.back,
-  omega (arith, c.in-Ok.ensures.never_falls),
+  c.in-Ok.ensures.no_fault ∙ c.loop-at.invariant.2,
 )
