@@ -1,5 +1,6 @@
 pub mod Kept
 pub mod KeptEdges
 pub mod Steps
+pub mod Reached
 pub mod Shape
 pub mod View

@@ -1,5 +1,5 @@
 -- What the core is seen as.
-use Rattle.gl_core.specs.declared.state.Core.TheInside.{Inside}
+use Rattle.gl_core.specs.declared.state.State.TheInside.{Inside}
 use Rattle.gl_core.specs.Kept.{Kept}
 
 abbrev pub view_of : Inside → Kept

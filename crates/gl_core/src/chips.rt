@@ -6,13 +6,13 @@ ghost use Rattle.gl_model.specs.Chips.{probe};
 ghost use Rattle.gl_model.specs.Places.{kind_at};
 ghost use Rattle.gl_core.specs.Steps.{Steps, Tells};
 
-use crate::state::Core;
+use crate::state::State;
 use gl_base::{Kind, Name, push_within};
 use gl_model::{Origin, Reply};
 
-impl Core {
+impl State {
     /// Makes a chip outside the tree at the next place, and answers this place. `NoSpc` comes where all places were used.
-    pub fn probe(&mut self, label: Name, lines: u32, kind: Kind) -> Reply
+    pub(crate) fn probe(&mut self, label: Name, lines: u32, kind: Kind) -> Reply
         requires { lines ≤ LINES_MAX }
         ensures { Steps (probe label lines kind) self.old self.new result }
     {

@@ -9,12 +9,12 @@ ghost use Rattle.gl_model.specs.Places.{lines_at};
 ghost use Rattle.gl_core.specs.Shape.{HasLine};
 ghost use Rattle.gl_core.specs.Steps.{Steps, Tells};
 
-use crate::state::Core;
+use crate::state::State;
 use crate::tree::reply_of;
 use gl_base::{Errno, IrqDo, Phase};
 use gl_model::Reply;
 
-impl Core {
+impl State {
     /// Why a call on a line is refused, first case first: `NoEnt` where no chip was made there; `Inval` where the chip has no
     /// such line.
     pub(crate) fn line_refusal(&self, place: u8, offset: u32) -> Option<Errno>
@@ -31,7 +31,7 @@ impl Core {
     }
 
     /// Does something with the interrupt of a line.
-    pub fn irq(&mut self, place: u8, offset: u32, what: IrqDo) -> Reply
+    pub(crate) fn irq(&mut self, place: u8, offset: u32, what: IrqDo) -> Reply
         ensures { Steps (irq place offset what) self.old self.new result }
     {
         match self.line_refusal(place, offset) {

@@ -6,11 +6,11 @@ ghost use Rattle.gl_model.specs.Places.{kind_at};
 ghost use Rattle.gl_core.specs.Shape.{HasLine};
 ghost use Rattle.gl_core.specs.Steps.{Steps, Tells};
 
-use crate::state::Core;
+use crate::state::State;
 use gl_base::{Errno, Kind, Phase};
 use gl_model::Reply;
 
-impl Core {
+impl State {
     /// Why a call on a line of a simulated chip is refused, first case first: `NoEnt` where no chip was made there; `Inval`
     /// where the chip has no such line, and where it is remote.
     pub(crate) fn simulated_refusal(&self, place: u8, offset: u32) -> Option<Errno>
@@ -30,7 +30,7 @@ impl Core {
     }
 
     /// Reads the physical level of a line of a simulated chip, or its pull.
-    pub fn read_level(&self, place: u8, offset: u32, pull: bool) -> Reply
+    pub(crate) fn read_level(&self, place: u8, offset: u32, pull: bool) -> Reply
         ensures { Steps (read_level place offset pull) self.now self.now result }
     {
         match self.simulated_refusal(place, offset) {

@@ -8,12 +8,13 @@ pub mod entries;
 mod interrupts;
 pub mod laws;
 mod levels;
+mod machine;
 mod places;
 mod state;
 mod tree;
 
 pub use gl_model::{Call, Gift, Origin, Part, Place, Reply};
-pub use state::Core;
+pub use machine::Core;
 
 #[cfg(test)]
 mod tests;

@@ -1,4 +1,4 @@
-//! The core.
+//! The state of the core: the tables that the calls of the machine work on.
 
 ghost use Rattle.std.specs.Prelude.{◌≡◌, IfOk, IsOkUnless};
 ghost use Rattle.gl_model.specs.Chips.{phase_at};
@@ -9,7 +9,7 @@ ghost use Rattle.gl_core.specs.Steps.{Tells};
 use crate::places::Places;
 use gl_base::{Errno, PLACES, Phase};
 use gl_debounce::Timers;
-use gl_model::{Image, Origin};
+use gl_model::Origin;
 use gl_registry::Registry;
 use gl_request::Requests;
 use gl_simtree::Tree;
@@ -17,10 +17,10 @@ use gl_watch::Watches;
 use std::alloc::Global;
 use std::marker::Model;
 
-/// The machine, as code: all that it keeps of its world. Contracts see it as what is kept (`specs/Kept`), which stands for
-/// worlds.
+/// All that is kept of a world, in tables (`specs/Kept`). The calls of the machine are its methods, a file a topic. Most of them
+/// say what they do to each world that the tables stand for (`specs/Steps`).
 #[derive(Drop)]
-pub struct Core {
+pub(crate) struct State {
     pub(crate) chips: Registry,
     pub(crate) origins: Vec<Origin>,
     pub(crate) places: Places,
@@ -33,7 +33,7 @@ pub struct Core {
     pub(crate) real: u64,
 }
 
-impl Model for Core {
+impl Model for State {
     ghost use Rattle.std.specs.Prelude.{◌≡◌, vec_capacity};
     ghost use Rattle.gl_base.specs.declared.limits.TheConstants.{PLACES};
     ghost use Rattle.gl_core.specs.Kept.{Kept};
@@ -47,15 +47,10 @@ impl Model for Core {
     ghost invariant = { λ c. IsShaped c.chips c.origins.items c.places × (vec_capacity c.origins ≡ PLACES) };
 }
 
-impl Image for Core {
-    ghost stands_for = { StandsFor };
-}
-
-impl Core {
-    /// A machine as it opens: without a chip, an open file or a directory. It takes all memory that its calls need, but for
-    /// the gifts that some of them bring. `NoMemory` is its one refusal.
-    pub fn new(alloc: Global) -> Result<Core, Errno>
-        ensures ok { IfOk result (λ core. StandsFor core opening) }
+impl State {
+    /// The state of a machine as it opens: without a chip, an open file or a directory. It fails only for want of memory.
+    pub(crate) fn new(alloc: Global) -> Result<State, Errno>
+        ensures ok { IfOk result (λ state. StandsFor state opening) }
         ensures memory_alone { IsOkUnless result Errno.NoMemory }
     {
         let chips = Registry::new(alloc)?;
@@ -65,7 +60,7 @@ impl Core {
         let requests = Requests::new(alloc)?;
         let files = Watches::new(alloc)?;
         let tree = Tree::new(alloc)?;
-        Ok(Core {
+        Ok(State {
             chips,
             origins,
             places,
@@ -80,7 +75,7 @@ impl Core {
     }
 
     /// The phase of a place.
-    pub fn phase(&self, place: u8) -> Phase
+    pub(crate) fn phase(&self, place: u8) -> Phase
         ensures { Tells (λ w. phase_at w place) self.now result }
     {
         self.chips.phase(place)

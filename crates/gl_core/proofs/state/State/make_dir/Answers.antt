@@ -4,7 +4,7 @@ use Rattle.gl_simtree.specs.Nodes.{node_at}
 use Rattle.gl_core.specs.Kept.{StandsFor}
 use Rattle.gl_core.specs.View.{view_of}
 use Rattle.gl_core.proofs.Standing.{tree_done}
-use Rattle.gl_core.proofs.state.Core.make_dir.Goals as goal
+use Rattle.gl_core.proofs.state.State.make_dir.Goals as goal
 
 pub returns : goal.returns
 returns c w s =

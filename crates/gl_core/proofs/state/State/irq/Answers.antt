@@ -5,7 +5,7 @@ use Rattle.gl_core.specs.Shape.{IsShaped}
 use Rattle.gl_core.specs.View.{view_of}
 use Rattle.gl_core.proofs.Shapes.{shape_irq}
 use Rattle.gl_core.proofs.Standing.{irq_acted}
-use Rattle.gl_core.proofs.state.Core.irq.Goals as goal
+use Rattle.gl_core.proofs.state.State.irq.Goals as goal
 
 pub invariant_of-self : goal.invariant_of-self
 invariant_of-self c = (
