@@ -1,4 +1,5 @@
 pub mod KeptEdges
 pub mod Spare
 pub mod Standing
+pub mod Reached
 pub mod Shapes

@@ -15,7 +15,7 @@ Steps step old new reply = (w : World) → StandsFor old w → StandsFor new (st
 abbrev pub StepsInto : (World → Outcome) → Kept → Kept → Reply → List ℕ → List ℕ → Type 0
 StepsInto step old new reply before after =
     (w : World) → StandsFor old w → StandsFor new (step w).world × (reply ≡ (step w).reply)
-        × (let bytes = (step w).bytes in after ≡ bytes ++ drop (length bytes) before)
+    × (let bytes = (step w).bytes in after ≡ bytes ++ drop (length bytes) before)
 
 -- a part of a call does what this part of the step does
 abbrev pub Follows : (World → World) → Kept → Kept → Type 0

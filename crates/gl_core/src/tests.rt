@@ -1,7 +1,7 @@
 //! What no clause says: that memory is found where there is some.
 
-use crate::state::State;
 use crate::Reply;
+use crate::state::State;
 use gl_base::{Kind, Name, Path};
 use std::test::Fail;
 
