@@ -20,6 +20,7 @@ use Rattle.gl_core.specs.Shape.{HasLines, IsShaped, with_irq_done}
 pub shape_changed : (chips : List Chip) (origins : List Origin) (places : List Place) (place : ℕ) (f : Place → Place) → ((x : Place) (lines : ℕ) → HasLines lines x → HasLines lines (f x))
     → IsShaped chips origins places → IsShaped chips origins (change_at no_place place f places)
 shape_changed chips origins places place f keeps shape = record {
+  few = shape.few;
   origins_as_many = shape.origins_as_many;
   places_as_many = length-change_at no_place place f places ∙ shape.places_as_many;
   lines = λ p. elim (cases_eq p place) as (λ _. HasLines (chip_at chips p).lines (slice_index_or (change_at no_place place f places) p no_place)) [
@@ -41,6 +42,7 @@ irqs_kept (Some e) offset f irqs = refl
 pub shape_irq : (chips : List Chip) (origins : List Origin) (places : List Place) (place offset : ℕ) (what : IrqDo) → IsShaped chips origins places
     → IsShaped chips origins (change_at no_place place (with_irq_done offset what) places)
 shape_irq chips origins places place offset what = shape_changed chips origins places place (with_irq_done offset what) (λ x lines h. record {
+  few = h.few;
   descs = h.descs;
   bank = h.bank;
   irqs = irqs_kept (act_refusal x.irqs offset what (irq_line x offset)) offset (done what) x.irqs ∙ h.irqs;

@@ -1,6 +1,6 @@
 -- What is true of the core's tables at every moment: each chip has its origin, and tables of as many lines as it has. And the
 -- tables that wait for a chip.
-use Rattle.std.specs.Prelude.{◌≡◌, ℕ, ◌+◌, ◌<◌, List, length, take, slice_index_or}
+use Rattle.std.specs.Prelude.{◌≡◌, ℕ, ◌+◌, ◌<◌, ◌≤◌, List, length, take, slice_index_or}
 use Rattle.gl_base.specs.declared.limits.TheConstants.{LINES_MAX, PLACES}
 use Rattle.gl_registry.specs.Chips.{chip_at}
 use Rattle.gl_registry.specs.declared.registry.Chip.{Chip}
@@ -14,20 +14,23 @@ use Rattle.gl_base.specs.declared.irq.IrqDo.{IrqDo}
 use Rattle.gl_irq.specs.Irq.{act_refusal, done, first_irq}
 use Rattle.gl_model.specs.Interrupts.{irq_line}
 
--- the tables of a place are of so many lines
+-- the tables of a place are of so many lines, as a chip may have
 pub record HasLines (lines : ℕ) (place : Place) : Type 0 where
+  pub few : lines ≤ LINES_MAX
   pub descs : length place.descs ≡ lines
   pub bank : length place.bank ≡ lines
   pub irqs : length place.irqs ≡ lines
 
--- each chip has its origin and the tables of its lines; past the chips there are none
+-- there are no more chips than places; each has its origin and the tables of its lines; past the chips there are none
 pub record IsShaped (chips : List Chip) (origins : List Origin) (places : List Place) : Type 0 where
+  pub few : length chips ≤ PLACES
   pub origins_as_many : length origins ≡ length chips
   pub places_as_many : length places ≡ length chips
   pub lines : (p : ℕ) → HasLines (chip_at chips p).lines (slice_index_or places p no_place)
 
 -- a line of a place that is there
 pub record HasLine (places : List Place) (place offset : ℕ) : Type 0 where
+  pub few : length places ≤ PLACES
   pub place_within : place < length places
   pub within : HasLines (length (slice_index_or places place no_place).descs) (slice_index_or places place no_place)
   pub offset_within : offset < length (slice_index_or places place no_place).descs
