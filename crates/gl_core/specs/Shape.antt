@@ -1,6 +1,6 @@
 -- What is true of the core's tables at every moment: each chip has its origin, and tables of as many lines as it has. And the
 -- tables that wait for a chip.
-use Rattle.std.specs.Prelude.{◌≡◌, ℕ, ◌+◌, ◌<◌, ◌≤◌, List, length, take, slice_index_or}
+use Rattle.std.specs.Prelude.{◌≡◌, ℕ, ◌+◌, ◌^◌, ◌<◌, ◌≤◌, List, length, take, slice_index_or}
 use Rattle.gl_base.specs.declared.limits.TheConstants.{LINES_MAX, PLACES}
 use Rattle.gl_registry.specs.Chips.{chip_at}
 use Rattle.gl_registry.specs.declared.registry.Chip.{Chip}
@@ -27,6 +27,11 @@ pub record IsShaped (chips : List Chip) (origins : List Origin) (places : List P
   pub origins_as_many : length origins ≡ length chips
   pub places_as_many : length places ≡ length chips
   pub lines : (p : ℕ) → HasLines (chip_at chips p).lines (slice_index_or places p no_place)
+
+-- there is room for the origin of each chip, and the monotonic clock is below 2^63
+pub record IsWithin (capacity mono : ℕ) : Type 0 where
+  pub room : capacity ≡ PLACES
+  pub clock : mono < 2 ^ 63
 
 -- a line of a place that is there
 pub record HasLine (places : List Place) (place offset : ℕ) : Type 0 where

@@ -34,17 +34,16 @@ pub(crate) struct State {
 }
 
 impl Model for State {
-    ghost use Rattle.std.specs.Prelude.{◌≡◌, vec_capacity};
-    ghost use Rattle.gl_base.specs.declared.limits.TheConstants.{PLACES};
+    ghost use Rattle.std.specs.Prelude.{vec_capacity};
     ghost use Rattle.gl_core.specs.Kept.{Kept};
-    ghost use Rattle.gl_core.specs.Shape.{IsShaped};
+    ghost use Rattle.gl_core.specs.Shape.{IsShaped, IsWithin};
     ghost use Rattle.gl_core.specs.View.{view_of};
 
     ghost Value = { Kept };
 
     ghost view = { λ c. view_of c };
 
-    ghost invariant = { λ c. IsShaped c.chips c.origins.items c.places × (vec_capacity c.origins ≡ PLACES) };
+    ghost invariant = { λ c. IsShaped c.chips c.origins.items c.places × IsWithin (vec_capacity c.origins) c.mono };
 }
 
 impl State {
