@@ -1,4 +1,6 @@
 pub mod KeptEdges
+pub mod Bits
+pub mod Notified
 pub mod Spare
 pub mod Standing
 pub mod Reached

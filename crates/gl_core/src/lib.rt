@@ -5,10 +5,12 @@
 
 mod chips;
 pub mod entries;
+mod information;
 mod interrupts;
 pub mod laws;
 mod levels;
 mod machine;
+mod notify;
 mod places;
 mod state;
 mod tree;
