@@ -1,5 +1,6 @@
 pub mod KeptEdges
 pub mod Bits
+pub mod KeptRequests
 pub mod Notified
 pub mod Spare
 pub mod Standing

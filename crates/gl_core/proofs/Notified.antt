@@ -1,10 +1,10 @@
 -- What the core stands for after files were told of changes.
-use Rattle.std.proofs.Common.{◌≡◌, ℕ, ◌<◌, ◌+◌, List, [], ◌∷◌, length, drop, map, get_or, sym, ap, ◌∙◌, subst}
+use Rattle.std.proofs.Common.{◌≡◌, ℕ, List, map, sym, ap, subst}
 use Rattle.std.specs.Prelude.{slice_index_or}
 use Rattle.gl_watch.specs.Files.{notified}
 use Rattle.gl_watch.specs.declared.file.ChipFile.{ChipFile}
 use Rattle.gl_model.specs.Information.{info_of, line_at}
-use Rattle.gl_model.specs.Notify.{notify, notify_each}
+use Rattle.gl_model.specs.Notify.{notify}
 use Rattle.gl_model.specs.Places.{no_place}
 use Rattle.gl_model.specs.World.{World}
 use Rattle.gl_core.specs.Kept.{Kept, StandsFor, kept_of}

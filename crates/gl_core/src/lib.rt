@@ -11,6 +11,7 @@ pub mod laws;
 mod levels;
 mod machine;
 mod notify;
+mod open_files;
 mod places;
 mod state;
 mod tree;

@@ -1,0 +1,202 @@
+//! Open files, and the refusals with which every call on one begins.
+
+ghost use Rattle.std.specs.Prelude.{◌≡◌, ◌+◌, ◌<◌, ◌≤◌, ◌^◌, ◌∷◌, [], not, nat_lt, length, IfNone};
+ghost use Rattle.gl_base.specs.Refusals.{first_of, when};
+ghost use Rattle.gl_base.specs.declared.errno.Errno.TheVariants.{Fault, Inval};
+ghost use Rattle.gl_base.specs.declared.limits.TheConstants.{FILES_MAX};
+ghost use Rattle.gl_uapi.specs.Command.{size_of};
+ghost use Rattle.gl_model.specs.OpenFiles.{asks_driver, chip_file_refusal, command_refusal, has_part, is_chip_file, is_for_chips, is_hold, is_place, is_request_file, is_whole, kind_refusal, number_refusal, request_file_refusal, request_place, unknown_refusal};
+ghost use Rattle.gl_model.specs.World.{request_at};
+ghost use Rattle.gl_core.specs.Steps.{Tells};
+
+use crate::state::State;
+use gl_base::{Errno, FILES_MAX};
+use gl_model::Part;
+use gl_uapi::Command;
+
+impl State {
+    /// Whether the number is that of a request that holds its lines.
+    pub(crate) fn is_hold(&self, fd: u32) -> bool
+        ensures { Tells (λ w. is_hold (request_at w.requests fd)) self.now result }
+    {
+        match self.requests.is_held(fd) {
+            Some(held) => held,
+            None => false,
+        }
+    }
+
+    /// The place of the lines of a request, be they claimed or held.
+    fn request_place(&self, fd: u32) -> Option<u8>
+        ensures { Tells (λ w. request_place (request_at w.requests fd)) self.now result }
+    {
+        self.requests.place(fd)
+    }
+
+    /// Whether the number is that of an open chip file of this place.
+    fn is_chip_file(&self, place: u8, fd: u32) -> bool
+        ensures { Tells (is_chip_file place fd) self.now result }
+    {
+        is_place(place, self.files.place(fd))
+    }
+
+    /// Whether the number is that of an open request of this place. A claim isn't open yet.
+    fn is_request_file(&self, place: u8, fd: u32) -> bool
+        ensures { Tells (is_request_file place fd) self.now result }
+    {
+        self.is_hold(fd) && is_place(place, self.request_place(fd))
+    }
+
+    /// Why a call that is for chip files alone is refused, first case first: `BadF` where no open file of the place has the
+    /// number; `Inval` where a request has it.
+    pub(crate) fn chip_file_refusal(&self, place: u8, fd: u32) -> Option<Errno>
+        ensures { Tells (chip_file_refusal place fd) self.now result }
+    {
+        if self.is_chip_file(place, fd) {
+            None
+        } else if self.is_request_file(place, fd) {
+            Some(Errno::Inval)
+        } else {
+            Some(Errno::BadF)
+        }
+    }
+
+    /// Why a call that is for requests alone is refused, first case first: `BadF` where no open file of the place has the
+    /// number; `Inval` where a chip file has it.
+    pub(crate) fn request_file_refusal(&self, place: u8, fd: u32) -> Option<Errno>
+        ensures { Tells (request_file_refusal place fd) self.now result }
+    {
+        if self.is_request_file(place, fd) {
+            None
+        } else if self.is_chip_file(place, fd) {
+            Some(Errno::Inval)
+        } else {
+            Some(Errno::BadF)
+        }
+    }
+
+    /// Why a number is refused where a file of one kind is needed.
+    fn kind_refusal(&self, place: u8, fd: u32, for_chips: bool) -> Option<Errno>
+        ensures { Tells (kind_refusal place fd for_chips) self.now result }
+    {
+        if for_chips {
+            self.chip_file_refusal(place, fd)
+        } else {
+            self.request_file_refusal(place, fd)
+        }
+    }
+
+    /// Why a command is refused before it is looked at, first case first: `BadF` where no open file of the place has the
+    /// number; `Inval` where the command isn't one of that kind of file; `Fault` where the buffer is shorter than the
+    /// command's structure; `Inval` where the command hasn't this part.
+    pub(crate) fn command_refusal(
+        &self,
+        place: u8,
+        fd: u32,
+        len: u32,
+        command: Command,
+        part: &Part,
+    ) -> Option<Errno>
+        ensures told { Tells (command_refusal place fd len command part.now) self.now result }
+        ensures long { IfNone result (size_of command ≤ len) }
+    {
+        match self.kind_refusal(place, fd, is_for_chips(command)) {
+            Some(errno) => Some(errno),
+            None => part_refusal(len, command, part),
+        }
+    }
+
+    /// Why a number that is no command's is refused: `Inval` where an open file of the place has the number `fd`, else `BadF`.
+    pub(crate) fn unknown_refusal(&self, place: u8, fd: u32) -> Errno
+        ensures { Tells (unknown_refusal place fd) self.now result }
+    {
+        if self.is_chip_file(place, fd) || self.is_request_file(place, fd) {
+            Errno::Inval
+        } else {
+            Errno::BadF
+        }
+    }
+
+    /// Why there is no number for a new file: `MFile` where `FILES_MAX` files are open or claimed, or where the last number,
+    /// 2^31 - 1, was given.
+    pub(crate) fn number_refusal(&self) -> Option<Errno>
+        ensures told { Tells number_refusal self.now result }
+        ensures room { IfNone result (length self.now.files + length self.now.requests < FILES_MAX) }
+        ensures next { IfNone result (self.now.next < 2 ^ 31) }
+    {
+        let open = self.files.len() + self.requests.len();
+        if open >= FILES_MAX || self.next >= 1 << 31 {
+            Some(Errno::MFile)
+        } else {
+            None
+        }
+    }
+}
+
+/// Whether a file's place, where there is such a file, is this one.
+fn is_place(place: u8, found: Option<u8>) -> bool
+    ensures { result ≡ is_place place found }
+{
+    match found {
+        Some(other) => other == place,
+        None => false,
+    }
+}
+
+/// Why a command is refused whose file is of its kind.
+fn part_refusal(len: u32, command: Command, part: &Part) -> Option<Errno>
+    ensures told { result ≡ first_of (when (nat_lt len (size_of command)) Fault ∷ when (not (has_part command part.now)) Inval ∷ []) }
+    ensures long { IfNone result (size_of command ≤ len) }
+{
+    if len < command.size() {
+        return Some(Errno::Fault);
+    }
+    if !has_part(command, part) {
+        return Some(Errno::Inval);
+    }
+    None
+}
+
+/// Whether a command is one of chip files.
+fn is_for_chips(command: Command) -> bool
+    ensures { result ≡ is_for_chips command }
+{
+    match command {
+        Command::ChipInfo
+        | Command::LineInfo
+        | Command::Watch
+        | Command::Unwatch
+        | Command::GetLine => true,
+        Command::SetConfig | Command::GetValues | Command::SetValues => false,
+    }
+}
+
+/// Whether a command asks the driver, and so makes two entries.
+fn asks_driver(command: Command) -> bool
+    ensures { result ≡ asks_driver command }
+{
+    match command {
+        Command::ChipInfo | Command::LineInfo | Command::Watch | Command::Unwatch => false,
+        Command::GetLine | Command::SetConfig | Command::GetValues | Command::SetValues => true,
+    }
+}
+
+/// Whether the part is the whole.
+fn is_whole(part: &Part) -> bool
+    ensures { result ≡ is_whole part.now }
+{
+    match part {
+        Part::Whole => true,
+        Part::Ask | Part::Tell(_) => false,
+    }
+}
+
+/// Whether a command has this part: whole where it asks no driver, else an ask and a tell.
+fn has_part(command: Command, part: &Part) -> bool
+    ensures { result ≡ has_part command part.now }
+{
+    if asks_driver(command) {
+        !is_whole(part)
+    } else {
+        is_whole(part)
+    }
+}
