@@ -6,3 +6,6 @@ pub mod Spare
 pub mod Standing
 pub mod Reached
 pub mod Shapes
+pub mod NotedEdges
+pub mod HeldLines
+pub mod Settling

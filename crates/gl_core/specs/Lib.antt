@@ -4,3 +4,5 @@ pub mod Steps
 pub mod Reached
 pub mod Shape
 pub mod View
+pub mod HeldLines
+pub mod Levels

@@ -4,15 +4,17 @@
 #![tactic(auto)]
 
 mod chips;
+mod clock;
+mod edges;
 pub mod entries;
 mod information;
 mod interrupts;
 pub mod laws;
-mod levels;
 mod machine;
 mod notify;
 mod open_files;
 mod places;
+mod pulls;
 mod state;
 mod tree;
 

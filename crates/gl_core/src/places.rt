@@ -7,10 +7,13 @@ ghost use Rattle.gl_model.specs.Places.{no_place};
 ghost use Rattle.gl_base.specs.Positions.{change_at};
 ghost use Rattle.gl_base.specs.Refusals.{answer};
 ghost use Rattle.gl_irq.specs.Irq.{act_refusal};
+ghost use Rattle.gl_bank.specs.Level.{levels_at};
 ghost use Rattle.gl_model.specs.Interrupts.{irq_line, is_claimed};
+ghost use Rattle.gl_model.specs.Pulls.{pull_change};
+ghost use Rattle.gl_core.specs.Levels.{with_pull};
 ghost use Rattle.gl_core.specs.Shape.{AreNew, HasLine, fitted, lines_max, with_irq_done};
 
-use gl_bank::Bank;
+use gl_bank::{Bank, Change};
 use gl_base::{Errno, IrqDo, LINES_MAX, PLACES, flag, has_bit, push_within};
 use gl_desc::{Descs, Holder};
 use gl_irq::{IrqLine, Irqs};
@@ -114,6 +117,18 @@ fn act(places: &mut Vec<Place>, place: u8, offset: u32, what: IrqDo) -> Result<(
     tables.irqs.act(offset, what, line)
 }
 
+/// Pulls a line of a place, and tells the change of its physical level.
+fn pull(places: &mut Vec<Place>, place: u8, offset: u32, up: bool) -> Option<Change>
+    requires { HasLine places.old.items place offset }
+    ensures change { result ≡ pull_change up (levels_at (slice_index_or places.old.items place no_place).bank offset) }
+    ensures places { places.new.items ≡ change_at no_place place (with_pull offset up) places.old.items }
+    ensures capacity { vec_capacity places.new ≡ vec_capacity places.old }
+    ensures as_many { length places.new.items ≡ length places.old.items }
+{
+    let tables = &mut places[usize::from(place)];
+    tables.bank.set_pull(offset, up)
+}
+
 impl Places {
     /// No place has a chip yet. It takes the memory of all tables.
     pub fn new(alloc: Global) -> Result<Places, Errno>
@@ -158,5 +173,14 @@ impl Places {
         ensures places { self.new ≡ change_at no_place place (with_irq_done offset what) self.old }
     {
         act(&mut self.used, place, offset, what)
+    }
+
+    /// Pulls a line of a place, and tells the change of its physical level: None exactly where that stays.
+    pub fn pull(&mut self, place: u8, offset: u32, up: bool) -> Option<Change>
+        requires { HasLine self.old place offset }
+        ensures change { result ≡ pull_change up (levels_at (slice_index_or self.old place no_place).bank offset) }
+        ensures places { self.new ≡ change_at no_place place (with_pull offset up) self.old }
+    {
+        pull(&mut self.used, place, offset, up)
     }
 }
