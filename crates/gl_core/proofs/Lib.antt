@@ -1,7 +1,9 @@
 pub mod KeptEdges
 pub mod Bits
+pub mod Closing
 pub mod KeptRequests
 pub mod Notified
+pub mod RequestLines
 pub mod Spare
 pub mod Standing
 pub mod Reached

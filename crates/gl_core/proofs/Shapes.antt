@@ -1,8 +1,9 @@
 -- The tables keep their shape where those of one place change and keep their lengths.
-use Rattle.std.proofs.Common.{◌≡◌, ℕ, List, Option, Some, None, length, refl, sym, ◌∙◌, subst, inl, inr}
+use Rattle.std.proofs.Common.{◌≡◌, ℕ, ◌<◌, ◌≤◌, List, Option, Some, None, length, refl, sym, ◌∙◌, subst, inl, inr}
 use Rattle.std.specs.Prelude.{slice_index_or}
 use Rattle.std.proofs.lemmas.Bool.{cases_eq, cases_lt}
 use Rattle.gl_base.specs.Positions.{change_at}
+use Rattle.gl_base.specs.declared.limits.TheConstants.{PLACES}
 use Rattle.gl_base.specs.Refusals.{unless}
 use Rattle.gl_base.specs.declared.errno.Errno.{Errno}
 use Rattle.gl_base.specs.declared.irq.IrqDo.{IrqDo}
@@ -15,7 +16,7 @@ use Rattle.gl_model.specs.declared.place.Origin.{Origin}
 use Rattle.gl_model.specs.declared.place.Place.{Place}
 use Rattle.gl_model.specs.Interrupts.{irq_line}
 use Rattle.gl_model.specs.Places.{no_place}
-use Rattle.gl_core.specs.Shape.{HasLines, IsShaped, with_irq_done}
+use Rattle.gl_core.specs.Shape.{HasLine, HasLines, IsShaped, with_irq_done}
 
 pub shape_changed : (chips : List Chip) (origins : List Origin) (places : List Place) (place : ℕ) (f : Place → Place) → ((x : Place) (lines : ℕ) → HasLines lines x → HasLines lines (f x))
     → IsShaped chips origins places → IsShaped chips origins (change_at no_place place f places)
@@ -47,3 +48,25 @@ shape_irq chips origins places place offset what = shape_changed chips origins p
   bank = h.bank;
   irqs = irqs_kept (act_refusal x.irqs offset what (irq_line x offset)) offset (done what) x.irqs ∙ h.irqs;
 })
+
+-- lines stay where the tables of a place change and keep their lengths
+pub line_stays : (places : List Place) (at place offset : ℕ) (f : Place → Place) → ((x : Place) (lines : ℕ) → HasLines lines x → HasLines lines (f x)) → HasLine places place offset → HasLine (change_at no_place at f places) place offset
+line_stays places at place offset f keeps line =
+    let size : length (change_at no_place at f places) ≡ length places = length-change_at no_place at f places in
+    let tables : Place = slice_index_or places place no_place in
+    let kept : HasLines (length tables.descs) (slice_index_or (change_at no_place at f places) place no_place) =
+    elim (cases_eq place at) [
+      | inl same ↦ (elim (cases_lt at (length places)) [
+        | inl lt ↦
+            subst (λ (p : ℕ). HasLines (length tables.descs) (slice_index_or (change_at no_place at f places) p no_place)) (sym same)
+            (subst (HasLines (length tables.descs)) (sym (get_or-change_at_same no_place at f places no_place lt)) (keeps (slice_index_or places at no_place) (length tables.descs) (subst (λ (p : ℕ). HasLines (length tables.descs) (slice_index_or places p no_place)) same line.within)))
+        | inr past ↦ subst (λ l. HasLines (length tables.descs) (slice_index_or l place no_place)) (sym (change_at-past no_place at f places past)) line.within
+      ])
+      | inr ne ↦ subst (HasLines (length tables.descs)) (sym (get_or-change_at_other no_place at place f places no_place ne)) line.within
+    ] in
+    record {
+      few = subst (λ n. n ≤ PLACES) (sym size) line.few;
+      place_within = subst (λ n. place < n) (sym size) line.place_within;
+      within = subst (λ n. HasLines n (slice_index_or (change_at no_place at f places) place no_place)) (sym kept.descs) kept;
+      offset_within = subst (λ n. offset < n) (sym kept.descs) line.offset_within;
+    }

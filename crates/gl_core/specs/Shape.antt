@@ -40,6 +40,10 @@ pub record HasLine (places : List Place) (place offset : ℕ) : Type 0 where
   pub within : HasLines (length (slice_index_or places place no_place).descs) (slice_index_or places place no_place)
   pub offset_within : offset < length (slice_index_or places place no_place).descs
 
+-- the place and the offset of a line are in range
+abbrev pub IsInRange : ℕ → ℕ → Type 0
+IsInRange place offset = (place < PLACES) × (offset < LINES_MAX)
+
 -- how many lines the tables have that wait for a chip
 unfoldable pub lines_max : ℕ
 lines_max = LINES_MAX

@@ -13,6 +13,7 @@ pub mod laws;
 mod machine;
 mod notify;
 mod open_files;
+mod opening;
 mod places;
 mod pulls;
 mod state;

@@ -4,17 +4,19 @@ ghost use Rattle.std.specs.Prelude.{◌≡◌, ◌<◌, ◌≤◌, ◌+◌, ◌-
 ghost use Rattle.gl_base.specs.declared.limits.TheConstants.{LINES_MAX, PLACES};
 ghost use Rattle.gl_model.specs.Chips.{new_place};
 ghost use Rattle.gl_model.specs.Places.{no_place};
-ghost use Rattle.gl_base.specs.Positions.{change_at};
+ghost use Rattle.gl_base.specs.Lines.{IsLineCount, offsets_of};
+ghost use Rattle.gl_bank.specs.Level.{first_levels, levels_at, released};
+ghost use Rattle.gl_base.specs.Positions.{change_at, change_each};
+ghost use Rattle.gl_model.specs.Opening.{with_lines_freed};
 ghost use Rattle.gl_base.specs.Refusals.{answer};
 ghost use Rattle.gl_irq.specs.Irq.{act_refusal};
-ghost use Rattle.gl_bank.specs.Level.{levels_at};
 ghost use Rattle.gl_model.specs.Interrupts.{irq_line, is_claimed};
 ghost use Rattle.gl_model.specs.Pulls.{pull_change};
 ghost use Rattle.gl_core.specs.Levels.{with_pull};
 ghost use Rattle.gl_core.specs.Shape.{AreNew, HasLine, fitted, lines_max, with_irq_done};
 
 use gl_bank::{Bank, Change};
-use gl_base::{Errno, IrqDo, LINES_MAX, PLACES, flag, has_bit, push_within};
+use gl_base::{Errno, IrqDo, LINES_MAX, Lines, PLACES, flag, has_bit, push_within};
 use gl_desc::{Descs, Holder};
 use gl_irq::{IrqLine, Irqs};
 use gl_model::Place;
@@ -94,6 +96,30 @@ fn irq_line(place: &Place, offset: u32) -> IrqLine
     }
 }
 
+/// Releases the lines at these offsets.
+#[tactic(auto, using(gl_base::proofs::AtPositions::change_each_more))]
+fn release_each(bank: &mut Bank, offsets: &[u32])
+    ensures { bank.new ≡ change_each first_levels offsets.now released bank.old }
+{
+    for offset in offsets {
+        bank.release(*offset);
+    }
+}
+
+/// Lets go of the lines of a request.
+fn free(places: &mut Vec<Place>, place: u8, lines: &Lines)
+    requires { IsLineCount lines.now.count }
+    ensures places { places.new.items ≡ change_at no_place place (with_lines_freed (offsets_of lines.now)) places.old.items }
+    ensures capacity { vec_capacity places.new ≡ vec_capacity places.old }
+    ensures as_many { length places.new.items ≡ length places.old.items }
+{
+    if usize::from(place) < places.len() {
+        let tables = &mut places[usize::from(place)];
+        tables.descs.free(lines);
+        release_each(&mut tables.bank, lines.offsets());
+    }
+}
+
 /// A request has claimed the line, and doesn't hold it yet.
 fn is_claimed(holder: Holder) -> bool
     ensures { result ≡ is_claimed holder }
@@ -147,6 +173,15 @@ impl Places {
         ensures { result.now ≡ slice_index_or self.now place no_place }
     {
         &self.used[usize::from(place)]
+    }
+
+    /// Lets go of the lines of a request: nobody has them, and their flags and periods are gone. Without a chip at the place
+    /// nothing changes.
+    pub fn free(&mut self, place: u8, lines: &Lines)
+        requires { IsLineCount lines.now.count }
+        ensures { self.new ≡ change_at no_place place (with_lines_freed (offsets_of lines.now)) self.old }
+    {
+        free(&mut self.used, place, lines);
     }
 
     /// Gives the next place the tables of so many lines. It takes no memory.

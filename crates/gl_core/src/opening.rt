@@ -1,0 +1,116 @@
+//! Opening chips and closing files.
+
+ghost use Rattle.std.specs.Prelude.{◌≡◌, ◌+◌, ◌<◌, ◌^◌, [], Some, length, IfNone};
+ghost use Rattle.std.specs.Option.{option_map};
+ghost use Rattle.gl_base.specs.Lines.{IsLineCount, offsets_of};
+ghost use Rattle.gl_base.specs.Rows.{Each};
+ghost use Rattle.gl_base.specs.declared.limits.TheConstants.{FILES_MAX};
+ghost use Rattle.gl_request.specs.Request.{claim_of, request_at as row_at};
+ghost use Rattle.gl_model.specs.declared.call.Call.TheVariants.{OpenChip};
+ghost use Rattle.gl_model.specs.Fits.{FitsGift, Leaves};
+ghost use Rattle.gl_model.specs.Opening.{close, close_request, is_open, open_chip, open_refusal, with_file, without_deadlines_at};
+ghost use Rattle.gl_model.specs.World.{request_at};
+ghost use Rattle.gl_core.specs.Reached.{IsReached};
+ghost use Rattle.gl_core.specs.Shape.{HasLine, IsInRange};
+ghost use Rattle.gl_core.specs.Steps.{Follows, Steps, Tells};
+
+use crate::state::State;
+use gl_base::{Errno, Path, Phase};
+use gl_debounce::Timers;
+use gl_model::{Gift, Reply};
+use gl_request::Claim;
+use gl_uapi::layout::CHANGED_RELEASED;
+use gl_watch::InfoQueue;
+
+impl State {
+    /// Opens the chip that has a word, and answers the number of the file, which takes the queue. `NoEnt` comes where no chip
+    /// that is up or leaving has the word; then the refusals of [`State::open_refusal`].
+    pub(crate) fn open_chip(&mut self, word: &Path, gift: &mut Gift) -> Reply
+        requires brings { FitsGift (OpenChip word.now) gift.old }
+        ensures steps { Steps (open_chip word.now) self.old self.new result }
+        ensures leaves { Leaves (OpenChip word.now) result gift.old gift.new }
+    {
+        match self.chips.by_word(word.as_bytes()) {
+            None => Reply::Refused(Errno::NoEnt),
+            Some(place) => match self.open_refusal(place) {
+                Some(errno) => Reply::Refused(errno),
+                None => {
+                    let fd = self.next;
+                    self.open_file(place, gift.queue.take().unwrap());
+                    Reply::Number(u64::from(fd))
+                }
+            },
+        }
+    }
+
+    /// Why the chip of a place isn't opened, first case first: `NoDev` where it is leaving; `MFile` where there is no number
+    /// for the file.
+    fn open_refusal(&self, place: u8) -> Option<Errno>
+        ensures told { Tells (open_refusal place) self.now result }
+        ensures room { IfNone result (length self.now.files + length self.now.requests < FILES_MAX) }
+        ensures next { IfNone result (self.now.next < 2 ^ 31) }
+    {
+        if self.phase(place) == Phase::Leaving {
+            return Some(Errno::NoDev);
+        }
+        self.number_refusal()
+    }
+
+    /// Opens a chip file of the next number.
+    fn open_file(&mut self, place: u8, queue: InfoQueue)
+        requires empty { queue ≡ [] }
+        requires room { length self.old.files < FILES_MAX }
+        requires next { self.old.next < 2 ^ 31 }
+        ensures { Follows (with_file place) self.old self.new }
+    {
+        self.files.add(self.next, place, queue);
+        self.next += 1;
+    }
+
+    /// Closes a file, whatever the phase of its chip. `BadF` comes where no open file has the number.
+    pub(crate) fn close(&mut self, fd: u32) -> Reply
+        requires reached { IsReached self.old }
+        ensures { Steps (close fd) self.old self.new result }
+    {
+        if !self.is_open(fd) {
+            return Reply::Refused(Errno::BadF);
+        }
+        let claim = self.requests.claimed_as(fd);
+        self.files.remove(fd);
+        match claim {
+            Some(claim) => self.close_request(fd, &claim),
+            None => {}
+        }
+        Reply::Done
+    }
+
+    /// Whether the number is that of an open file: of a chip file, or of a request that holds its lines.
+    fn is_open(&self, fd: u32) -> bool
+        ensures { Tells (is_open fd) self.now result }
+    {
+        self.files.place(fd).is_some() || self.is_hold(fd)
+    }
+
+    /// Lets go of the lines of a request and of the request itself, and tells of each line as released.
+    fn close_request(&mut self, fd: u32, claim: &Claim)
+        requires found { option_map claim_of (row_at self.old.requests fd) ≡ Some claim.now }
+        requires count { IsLineCount claim.now.lines.count }
+        requires lines { Each (HasLine self.old.places claim.now.place) (offsets_of claim.now.lines) }
+        ensures { Follows (λ w. close_request (request_at w.requests fd) w) self.old self.new }
+    {
+        self.requests.release(fd);
+        clear_each(&mut self.timers, claim.place, claim.lines.offsets());
+        self.places.free(claim.place, &claim.lines);
+        self.notify_each(claim.place, &claim.lines, CHANGED_RELEASED);
+    }
+}
+
+/// Stops the deadlines of the lines at these offsets of a place.
+fn clear_each(timers: &mut Timers, place: u8, offsets: &[u32])
+    requires { Each (IsInRange place) offsets.now }
+    ensures { timers.new ≡ without_deadlines_at place offsets.now timers.old }
+{
+    for offset in offsets {
+        timers.clear(place, *offset);
+    }
+}
