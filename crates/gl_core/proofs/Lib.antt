@@ -1,3 +1,4 @@
+pub mod Claims
 pub mod KeptEdges
 pub mod Bits
 pub mod Closing

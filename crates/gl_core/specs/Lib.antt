@@ -1,3 +1,4 @@
+pub mod Claims
 pub mod Kept
 pub mod KeptEdges
 pub mod Steps

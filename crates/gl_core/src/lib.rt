@@ -3,9 +3,12 @@
 //! What the machine is, its calls and its worlds, stands in `gl_model`.
 #![tactic(auto)]
 
+mod asked;
 mod chips;
 mod clock;
 mod edges;
+mod claiming;
+mod configuring;
 pub mod entries;
 mod information;
 mod interrupts;
@@ -20,6 +23,7 @@ mod state;
 mod tree;
 
 pub use gl_model::{Call, Gift, Origin, Part, Place, Reply};
+pub use asked::Asked;
 pub use machine::Core;
 
 #[cfg(test)]

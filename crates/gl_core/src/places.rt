@@ -1,6 +1,6 @@
 //! The tables of all places.
 
-ghost use Rattle.std.specs.Prelude.{◌≡◌, ◌<◌, ◌≤◌, ◌+◌, ◌-◌, ◌↔◌, [], ◌∷◌, ◌++◌, length, slice_index_or, take, vec_capacity, IfOk, IfSome, IsOkUnless, IsSome};
+ghost use Rattle.std.specs.Prelude.{◌≡◌, ◌<◌, ◌≤◌, ◌+◌, ◌-◌, ◌↔◌, [], ◌∷◌, ◌++◌, length, nat_lt, slice_index_or, take, vec_capacity, IfOk, IfSome, IsOkUnless, IsSome};
 ghost use Rattle.gl_base.specs.declared.limits.TheConstants.{LINES_MAX, PLACES};
 ghost use Rattle.gl_model.specs.Chips.{new_place};
 ghost use Rattle.gl_model.specs.Places.{no_place};
@@ -164,6 +164,13 @@ impl Places {
         let used = Vec::with_capacity(alloc, usize::from(PLACES))?;
         let spare = waiting_places(alloc)?;
         Ok(Places { used, spare })
+    }
+
+    /// Whether a place has a chip.
+    pub fn has(&self, place: u8) -> bool
+        ensures { result ≡ nat_lt place (length self.now) }
+    {
+        usize::from(place) < self.used.len()
     }
 
     /// The tables of a place.

@@ -1,0 +1,117 @@
+//! GET_LINE: lines are claimed when they are asked for, and held when the driver has answered.
+
+ghost use Rattle.std.specs.Prelude.{◌≡◌, ◌<◌, ◌≤◌, [], IfNone, None, Some, is_some, length, take};
+ghost use Rattle.circular_buffer.specs.Buffer.{buffer};
+ghost use Rattle.gl_base.specs.Lines.{IsLineCount};
+ghost use Rattle.gl_base.specs.Positions.{first_fault};
+ghost use Rattle.gl_base.specs.declared.limits.TheConstants.{LINES_PER_REQUEST};
+ghost use Rattle.gl_model.specs.Asked.{capacity_asked, request_fault};
+ghost use Rattle.gl_model.specs.Claiming.{claim, claim_lines, claim_number, claim_refusal, errno_of, get_line_ask, line_refusal};
+ghost use Rattle.gl_model.specs.OpenFiles.{number_refusal};
+ghost use Rattle.gl_model.specs.Places.{place_at};
+ghost use Rattle.gl_uapi.specs.declared.layout.TheConstants.{LINE_REQUEST_SIZE};
+ghost use Rattle.gl_core.specs.Claims.{AreFree, HasNumber, MayClaim, without_ring};
+ghost use Rattle.gl_core.specs.Shape.{HasLines};
+ghost use Rattle.gl_core.specs.Steps.{Follows, Steps, Tells};
+
+use crate::asked::Asked;
+use crate::configuring::interrupt_fault;
+use crate::state::State;
+use gl_base::{Errno, FILES_MAX};
+use gl_desc::LineFault;
+use gl_model::{Gift, Place, Reply};
+use gl_request::Claim;
+use gl_ring::EdgeRing;
+use gl_uapi::layout::LINE_REQUEST_SIZE;
+
+/// The error of a line that can't be claimed.
+fn errno_of(fault: LineFault) -> Errno
+    ensures { result ≡ errno_of fault }
+{
+    match fault {
+        LineFault::BadOffset => Errno::Inval,
+        LineFault::Busy => Errno::Busy,
+    }
+}
+
+/// What is wrong with the line at position `i` of a request, first case first: the chip has no such line; somebody has the
+/// line, or it stands earlier in the request; its pin is held for another function; its settings don't go with its interrupt.
+fn line_refusal(tables: &Place, asked: &Asked, i: u32) -> Option<Errno>
+    requires i { i < LINES_PER_REQUEST }
+    requires tables { HasLines (length tables.now.descs) tables.now }
+    ensures { result ≡ line_refusal tables.now asked.now i }
+{
+    if let Some(fault) = tables.descs.line_fault(&asked.lines, i) {
+        return Some(errno_of(fault));
+    }
+    let offset = asked.lines.offsets[i as usize];
+    if tables.pins.is_held(offset) {
+        return Some(Errno::Busy);
+    }
+    interrupt_fault(&asked.settings.lines[i as usize], tables.irqs.line(offset))
+}
+
+/// What is wrong with the first faulty line of a request.
+#[tactic(auto, using(gl_base::proofs::AtPositions::first_fault_more, gl_base::proofs::AtPositions::first_fault_here, gl_base::proofs::AtPositions::first_fault_all))]
+fn first_refusal(tables: &Place, asked: &Asked) -> Option<Errno>
+    requires { HasLines (length tables.now.descs) tables.now }
+    ensures { result ≡ first_fault (line_refusal tables.now asked.now) 0 asked.now.lines.count }
+{
+    for i in 0..asked.lines.count {
+        if let Some(errno) = line_refusal(tables, asked, i) {
+            return Some(errno);
+        }
+    }
+    None
+}
+
+impl State {
+    /// Why there is no number for a new file: `MFile` where as many as can be are open or claimed, or the last number was given.
+    pub(crate) fn number_refusal(&self) -> Option<Errno>
+        ensures told { Tells number_refusal self.now result }
+        ensures left { IfNone result (HasNumber self.now) }
+    {
+        if self.files.len() + self.requests.len() >= FILES_MAX {
+            return Some(Errno::MFile);
+        }
+        if self.next >= 1 << 31 {
+            return Some(Errno::MFile);
+        }
+        None
+    }
+
+    /// Whether an actor has an unfinished claim.
+    fn has_claim(&self, actor: u8) -> bool
+        ensures { Tells (λ w. is_some (claim_number w.requests actor)) self.now result }
+    {
+        self.requests.pending(actor).is_some()
+    }
+
+    /// What is wrong with the first faulty line of a request.
+    fn lines_refusal(&self, place: u8, asked: &Asked) -> Option<Errno>
+        requires { IsLineCount asked.now.lines.count }
+        ensures told { Tells (λ w. first_fault (line_refusal (place_at w place) asked.now) 0 asked.now.lines.count) self.now result }
+        ensures free { IfNone result (AreFree self.now place asked.now) }
+    {
+        if !self.places.has(place) {
+            return Some(Errno::Inval);
+        }
+        first_refusal(self.places.at(place), asked)
+    }
+
+    /// Why a request is refused, first case first: `MFile` where no more file can be open; `Busy` where the actor's last claim is
+    /// unfinished; what is wrong with one of the lines, in order.
+    fn claim_refusal(&self, place: u8, actor: u8, asked: &Asked) -> Option<Errno>
+        requires { IsLineCount asked.now.lines.count }
+        ensures told { Tells (claim_refusal place actor asked.now) self.now result }
+        ensures may { IfNone result (MayClaim self.now place asked.now) }
+    {
+        if let Some(errno) = self.number_refusal() {
+            return Some(errno);
+        }
+        if self.has_claim(actor) {
+            return Some(Errno::Busy);
+        }
+        self.lines_refusal(place, asked)
+    }
+}
