@@ -7,13 +7,16 @@ use Rattle.gl_base.specs.declared.limits.TheConstants.{PLACES}
 use Rattle.gl_base.specs.Refusals.{unless}
 use Rattle.gl_base.specs.declared.errno.Errno.{Errno}
 use Rattle.gl_base.specs.declared.irq.IrqDo.{IrqDo}
-use Rattle.gl_base.proofs.AtPositions.{change_at-past, get_or-change_at_other, get_or-change_at_same, length-change_at}
+use Rattle.gl_base.proofs.AtPositions.{change_at-past, get_or-change_at_other, get_or-change_at_same, length-change_at, length-change_each}
+use Rattle.gl_desc.specs.Desc.{first_desc}
+use Rattle.gl_desc.specs.declared.desc.Desc.{Desc}
 use Rattle.gl_irq.specs.Irq.{act_refusal, done, first_irq}
 use Rattle.gl_irq.specs.declared.irq.Irq.{Irq}
 use Rattle.gl_registry.specs.Chips.{chip_at}
 use Rattle.gl_registry.specs.declared.registry.Chip.{Chip}
 use Rattle.gl_model.specs.declared.place.Origin.{Origin}
 use Rattle.gl_model.specs.declared.place.Place.{Place}
+use Rattle.gl_model.specs.Claiming.{with_descs}
 use Rattle.gl_model.specs.Interrupts.{irq_line}
 use Rattle.gl_model.specs.Places.{no_place}
 use Rattle.gl_core.specs.Shape.{HasLine, HasLines, IsShaped, with_irq_done}
@@ -70,3 +73,12 @@ line_stays places at place offset f keeps line =
       within = subst (λ n. HasLines n (slice_index_or (change_at no_place at f places) place no_place)) (sym kept.descs) kept;
       offset_within = subst (λ n. offset < n) (sym kept.descs) line.offset_within;
     }
+
+-- the holders of some lines of a place change
+pub shape_with_descs : (chips : List Chip) (origins : List Origin) (places : List Place) (place : ℕ) (offsets : List ℕ) (f : Desc → Desc) → IsShaped chips origins places
+    → IsShaped chips origins (change_at no_place place (with_descs offsets f) places)
+shape_with_descs chips origins places place offsets f = shape_changed chips origins places place (with_descs offsets f) (λ x lines h. record {
+  descs = length-change_each first_desc offsets f x.descs ∙ h.descs;
+  bank = h.bank;
+  irqs = h.irqs;
+})

@@ -22,7 +22,8 @@ pub struct Asked {
 }
 
 impl Model for Asked {
-    ghost use Rattle.std.specs.Prelude.{◌≤◌};
+    ghost use Rattle.std.specs.Prelude.{◌≡◌, ◌≤◌, length};
+    ghost use Rattle.gl_base.specs.declared.limits.TheConstants.{LINES_PER_REQUEST};
     ghost use Rattle.gl_base.specs.Lines.{IsLineCount};
     ghost use Rattle.gl_model.specs.Asked.{AskedLines};
     ghost use Rattle.gl_ring.specs.declared.ring.TheConstants.{RING_EVENTS_MAX};
@@ -31,7 +32,7 @@ impl Model for Asked {
 
     ghost view = { λ a. record { lines = a.lines; consumer = a.consumer; settings = a.settings; capacity = a.capacity } };
 
-    ghost invariant = { λ a. IsLineCount a.lines.count × (1 ≤ a.capacity) × (a.capacity ≤ RING_EVENTS_MAX) };
+    ghost invariant = { λ a. IsLineCount a.lines.count × (length a.lines.offsets ≡ LINES_PER_REQUEST) × (1 ≤ a.capacity) × (a.capacity ≤ RING_EVENTS_MAX) };
 }
 
 impl Asked {

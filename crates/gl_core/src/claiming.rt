@@ -114,4 +114,63 @@ impl State {
         }
         self.lines_refusal(place, asked)
     }
+
+    /// Claims the lines of a request that isn't refused, by a request of the next number.
+    fn claim_lines(&mut self, place: u8, actor: u8, asked: &Asked, ring: EdgeRing)
+        requires lines { IsLineCount asked.now.lines.count }
+        requires may { MayClaim self.old place asked.now }
+        requires ring { ring ≡ buffer [] asked.now.capacity }
+        ensures { Follows (claim_lines place actor asked.now) self.old self.new }
+    {
+        let fd = self.next;
+        self.places.claim(place, &asked.lines, fd, asked.consumer);
+        let claim = Claim {
+            fd,
+            place,
+            actor,
+            lines: asked.lines,
+            settings: asked.settings,
+        };
+        self.requests.claim(claim, ring);
+        self.next = fd + 1;
+    }
+
+    /// Claims what a request asks for, or refuses it. A claim takes the ring.
+    fn claim(&mut self, place: u8, actor: u8, asked: &Asked, gift: &mut Gift) -> Reply
+        requires lines { IsLineCount asked.now.lines.count }
+        requires ring { gift.old.ring ≡ Some (buffer [] asked.now.capacity) }
+        ensures steps { Steps (claim place actor asked.now) self.old self.new result }
+        ensures gift { gift.new ≡ without_ring result gift.old }
+    {
+        match self.claim_refusal(place, actor, asked) {
+            Some(errno) => Reply::Refused(errno),
+            None => {
+                let fd = self.next;
+                let ring = gift.ring.take().unwrap();
+                self.claim_lines(place, actor, asked, ring);
+                Reply::Go(fd)
+            }
+        }
+    }
+
+    /// GET_LINE is asked for. What the bytes alone decide comes first; then `MFile` where no more file can be open; `Busy` where
+    /// the actor's last claim is unfinished; and what is wrong with one of the lines, in order. A refused call changes nothing
+    /// and leaves the gift. Else the lines are claimed, the claim takes the ring, and the answer is Go with the number of the
+    /// request.
+    pub(crate) fn get_line_ask(
+        &mut self,
+        place: u8,
+        actor: u8,
+        bytes: &[u8; LINE_REQUEST_SIZE],
+        gift: &mut Gift,
+    ) -> Reply
+        requires brings { request_fault (take LINE_REQUEST_SIZE bytes.now) ≡ None → gift.old.ring ≡ Some (buffer [] (capacity_asked (take LINE_REQUEST_SIZE bytes.now))) }
+        ensures steps { Steps (get_line_ask place actor (take LINE_REQUEST_SIZE bytes.now)) self.old self.new result }
+        ensures gift { gift.new ≡ without_ring result gift.old }
+    {
+        match Asked::of(bytes) {
+            Err(errno) => Reply::Refused(errno),
+            Ok(asked) => self.claim(place, actor, &asked, gift),
+        }
+    }
 }

@@ -1,6 +1,6 @@
 //! The tables of all places.
 
-ghost use Rattle.std.specs.Prelude.{◌≡◌, ◌<◌, ◌≤◌, ◌+◌, ◌-◌, ◌↔◌, [], ◌∷◌, ◌++◌, length, nat_lt, slice_index_or, take, vec_capacity, IfOk, IfSome, IsOkUnless, IsSome};
+ghost use Rattle.std.specs.Prelude.{◌≡◌, ◌<◌, ◌≤◌, ◌+◌, ◌-◌, ◌↔◌, [], ◌∷◌, ◌++◌, None, length, nat_lt, slice_index_or, take, vec_capacity, IfOk, IfSome, IsOkUnless, IsSome};
 ghost use Rattle.gl_base.specs.declared.limits.TheConstants.{LINES_MAX, PLACES};
 ghost use Rattle.gl_model.specs.Chips.{new_place};
 ghost use Rattle.gl_model.specs.Places.{no_place};
@@ -9,14 +9,16 @@ ghost use Rattle.gl_bank.specs.Level.{first_levels, levels_at, released};
 ghost use Rattle.gl_base.specs.Positions.{change_at, change_each};
 ghost use Rattle.gl_model.specs.Opening.{with_lines_freed};
 ghost use Rattle.gl_base.specs.Refusals.{answer};
+ghost use Rattle.gl_desc.specs.Desc.{claim_fault, claimed};
 ghost use Rattle.gl_irq.specs.Irq.{act_refusal};
+ghost use Rattle.gl_model.specs.Claiming.{with_descs};
 ghost use Rattle.gl_model.specs.Interrupts.{irq_line, is_claimed};
 ghost use Rattle.gl_model.specs.Pulls.{pull_change};
 ghost use Rattle.gl_core.specs.Levels.{with_pull};
 ghost use Rattle.gl_core.specs.Shape.{AreNew, HasLine, fitted, lines_max, with_irq_done};
 
 use gl_bank::{Bank, Change};
-use gl_base::{Errno, IrqDo, LINES_MAX, Lines, PLACES, flag, has_bit, push_within};
+use gl_base::{Errno, flag, has_bit, IrqDo, Lines, LINES_MAX, Name, PLACES, push_within};
 use gl_desc::{Descs, Holder};
 use gl_irq::{IrqLine, Irqs};
 use gl_model::Place;
@@ -148,11 +150,21 @@ fn pull(places: &mut Vec<Place>, place: u8, offset: u32, up: bool) -> Option<Cha
     requires { HasLine places.old.items place offset }
     ensures change { result ≡ pull_change up (levels_at (slice_index_or places.old.items place no_place).bank offset) }
     ensures places { places.new.items ≡ change_at no_place place (with_pull offset up) places.old.items }
+/// Claims the lines of a request, which are free.
+fn claim(places: &mut Vec<Place>, place: u8, lines: &Lines, fd: u32, consumer: Name)
+    requires place { place < length places.old.items }
+    requires lines { IsLineCount lines.now.count }
+    requires free { claim_fault (slice_index_or places.old.items place no_place).descs lines.now ≡ None }
+    ensures places { places.new.items ≡ change_at no_place place (with_descs (offsets_of lines.now) (claimed fd consumer)) places.old.items }
     ensures capacity { vec_capacity places.new ≡ vec_capacity places.old }
     ensures as_many { length places.new.items ≡ length places.old.items }
 {
     let tables = &mut places[usize::from(place)];
     tables.bank.set_pull(offset, up)
+    match tables.descs.claim(lines, fd, consumer) {
+        Ok(()) => {}
+        Err(_) => {}
+    }
 }
 
 impl Places {
@@ -224,5 +236,13 @@ impl Places {
         ensures places { self.new ≡ change_at no_place place (with_pull offset up) self.old }
     {
         pull(&mut self.used, place, offset, up)
+    /// The request of this number claims lines that are free.
+    pub fn claim(&mut self, place: u8, lines: &Lines, fd: u32, consumer: Name)
+        requires place { place < length self.old }
+        requires lines { IsLineCount lines.now.count }
+        requires free { claim_fault (slice_index_or self.old place no_place).descs lines.now ≡ None }
+        ensures { self.new ≡ change_at no_place place (with_descs (offsets_of lines.now) (claimed fd consumer)) self.old }
+    {
+        claim(&mut self.used, place, lines, fd, consumer);
     }
 }
