@@ -1,16 +1,15 @@
 -- Claims of lines: an actor's unfinished one, and which lines are free.
-use Rattle.std.proofs.Common.{◌≡◌, ℕ, zero, suc, ◌+◌, ◌-◌, ◌<◌, ◌≤◌, List, [], ◌∷◌, ◌++◌, length, map, refl, sym, ap, ◌∙◌, subst, Bool, true, false, cond, Option, Some, None, inl, inr, arith}
+use Rattle.std.proofs.Common.{◌≡◌, ℕ, zero, suc, ◌+◌, ◌-◌, ◌<◌, ◌≤◌, List, [], ◌∷◌, ◌++◌, length, map, refl, sym, ap, ◌∙◌, Bool, true, false, cond, Option, Some, None, inl, inr, arith}
 use Rattle.std.specs.Prelude.{nat_le, nat_lt, not, ◌==◌, slice_index, slice_index_or, take, IfNone}
 use Rattle.std.specs.List.{find, list_any}
 use Rattle.std.specs.Option.{option_map, option_or}
 use Rattle.std.proofs.lemmas.Bool.{cases_lt}
 use Rattle.std.proofs.lemmas.Bool.Decides.{nat_tests}
-use Rattle.std.proofs.lemmas.List.{get_or_past, map-append}
+use Rattle.std.proofs.lemmas.List.{map-append}
 use Rattle.circular_buffer.specs.Buffer.{buffer}
 use Rattle.gl_base.specs.Lines.{IsLineCount, offsets_of}
 use Rattle.gl_base.specs.Positions.{change_at, first_fault, table_from}
 use Rattle.gl_base.specs.Refusals.{first_of, when}
-use Rattle.gl_base.specs.declared.errno.Errno.{Errno}
 use Rattle.gl_base.specs.declared.errno.Errno.TheVariants.{Busy, Inval}
 use Rattle.gl_base.specs.declared.lines.Lines.{Lines}
 use Rattle.gl_base.proofs.AtPositions.{first_fault_each, first_fault_here, table_from-same}
@@ -26,7 +25,7 @@ use Rattle.gl_request.specs.declared.row.RequestRow.{RequestRow}
 use Rattle.gl_model.specs.Asked.{AskedLines}
 use Rattle.gl_model.specs.Claiming.{claim_lines, claim_number, errno_of, is_claim_of, line_refusal, new_claim, with_descs}
 use Rattle.gl_model.specs.Configuring.{interrupt_fault, settings_of}
-use Rattle.gl_model.specs.Places.{no_place, place_at}
+use Rattle.gl_model.specs.Places.{no_place}
 use Rattle.gl_model.specs.World.{World, Request}
 use Rattle.gl_model.specs.declared.place.Place.{Place}
 use Rattle.gl_model.proofs.Phases.{nothing_first}
@@ -133,7 +132,7 @@ pub claim_stands : (k : Kept) (w : World) (place actor : ℕ) (asked : AskedLine
 claim_stands k w place actor asked s size some free = record {
   kept_so =
       ap (λ rows. record (kept_of (claim_lines place actor asked w)) { requests = rows })
-          (map-append kept_request w.requests (new_claim w.next place actor asked ∷ []) ∙ ap (λ (x : RequestRow). map kept_request w.requests ++ x ∷ []) (kept_claim w.next place actor asked))
+      (map-append kept_request w.requests (new_claim w.next place actor asked ∷ []) ∙ ap (λ (x : RequestRow). map kept_request w.requests ++ x ∷ []) (kept_claim w.next place actor asked))
       ∙ ap (with_claim place actor asked) s.kept_so;
   sound_requests = Each-push IsSoundRequest w.requests (new_claim w.next place actor asked) s.sound_requests (record {
     in_order = omega arith;

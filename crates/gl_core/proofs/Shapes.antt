@@ -78,6 +78,7 @@ line_stays places at place offset f keeps line =
 pub shape_with_descs : (chips : List Chip) (origins : List Origin) (places : List Place) (place : ℕ) (offsets : List ℕ) (f : Desc → Desc) → IsShaped chips origins places
     → IsShaped chips origins (change_at no_place place (with_descs offsets f) places)
 shape_with_descs chips origins places place offsets f = shape_changed chips origins places place (with_descs offsets f) (λ x lines h. record {
+  few = h.few;
   descs = length-change_each first_desc offsets f x.descs ∙ h.descs;
   bank = h.bank;
   irqs = h.irqs;

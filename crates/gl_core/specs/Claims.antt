@@ -1,5 +1,5 @@
 -- What a claim of lines needs, and what it takes of what a call brings.
-use Rattle.std.specs.Prelude.{◌≡◌, ℕ, ◌<◌, ◌^◌, length, slice_index_or, None}
+use Rattle.std.specs.Prelude.{◌≡◌, ℕ, ◌+◌, ◌<◌, ◌^◌, length, slice_index_or, None}
 use Rattle.gl_base.specs.declared.limits.TheConstants.{FILES_MAX}
 use Rattle.gl_desc.specs.Desc.{claim_fault}
 use Rattle.gl_model.specs.Asked.{AskedLines}
@@ -9,20 +9,15 @@ use Rattle.gl_model.specs.declared.reply.Reply.{Reply}
 use Rattle.gl_model.specs.declared.reply.Reply.TheVariants.{Go}
 use Rattle.gl_core.specs.Kept.{Kept}
 
--- there is a number for one file more, and room for it
-pub record HasNumber (k : Kept) : Type 0 where
-  pub number : k.next < 2 ^ 31
-  pub files : length k.files < FILES_MAX
-  pub requests : length k.requests < FILES_MAX
-
 -- nobody has the lines that are asked for, and none of them stands twice
 pub record AreFree (k : Kept) (place : ℕ) (asked : AskedLines) : Type 0 where
   pub place_within : place < length k.places
   pub faultless : claim_fault (slice_index_or k.places place no_place).descs asked.lines ≡ None
 
--- a request may be claimed
+-- a request may be claimed: there is a number for one file more, and room for it, and the lines are free
 pub record MayClaim (k : Kept) (place : ℕ) (asked : AskedLines) : Type 0 where
-  pub numbered : HasNumber k
+  pub next : k.next < 2 ^ 31
+  pub room : length k.files + length k.requests < FILES_MAX
   pub free : AreFree k place asked
 
 -- what is left of a gift after a request of lines: one that was answered Go took the ring

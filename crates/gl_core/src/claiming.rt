@@ -7,17 +7,16 @@ ghost use Rattle.gl_base.specs.Positions.{first_fault};
 ghost use Rattle.gl_base.specs.declared.limits.TheConstants.{LINES_PER_REQUEST};
 ghost use Rattle.gl_model.specs.Asked.{capacity_asked, request_fault};
 ghost use Rattle.gl_model.specs.Claiming.{claim, claim_lines, claim_number, claim_refusal, errno_of, get_line_ask, line_refusal};
-ghost use Rattle.gl_model.specs.OpenFiles.{number_refusal};
 ghost use Rattle.gl_model.specs.Places.{place_at};
 ghost use Rattle.gl_uapi.specs.declared.layout.TheConstants.{LINE_REQUEST_SIZE};
-ghost use Rattle.gl_core.specs.Claims.{AreFree, HasNumber, MayClaim, without_ring};
+ghost use Rattle.gl_core.specs.Claims.{AreFree, MayClaim, without_ring};
 ghost use Rattle.gl_core.specs.Shape.{HasLines};
 ghost use Rattle.gl_core.specs.Steps.{Follows, Steps, Tells};
 
 use crate::asked::Asked;
 use crate::configuring::interrupt_fault;
 use crate::state::State;
-use gl_base::{Errno, FILES_MAX};
+use gl_base::Errno;
 use gl_desc::LineFault;
 use gl_model::{Gift, Place, Reply};
 use gl_request::Claim;
@@ -66,20 +65,6 @@ fn first_refusal(tables: &Place, asked: &Asked) -> Option<Errno>
 }
 
 impl State {
-    /// Why there is no number for a new file: `MFile` where as many as can be are open or claimed, or the last number was given.
-    pub(crate) fn number_refusal(&self) -> Option<Errno>
-        ensures told { Tells number_refusal self.now result }
-        ensures left { IfNone result (HasNumber self.now) }
-    {
-        if self.files.len() + self.requests.len() >= FILES_MAX {
-            return Some(Errno::MFile);
-        }
-        if self.next >= 1 << 31 {
-            return Some(Errno::MFile);
-        }
-        None
-    }
-
     /// Whether an actor has an unfinished claim.
     fn has_claim(&self, actor: u8) -> bool
         ensures { Tells (λ w. is_some (claim_number w.requests actor)) self.now result }

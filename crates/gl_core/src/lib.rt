@@ -5,10 +5,10 @@
 
 mod asked;
 mod chips;
-mod clock;
-mod edges;
 mod claiming;
+mod clock;
 mod configuring;
+mod edges;
 pub mod entries;
 mod information;
 mod interrupts;
@@ -22,8 +22,8 @@ mod pulls;
 mod state;
 mod tree;
 
-pub use gl_model::{Call, Gift, Origin, Part, Place, Reply};
 pub use asked::Asked;
+pub use gl_model::{Call, Gift, Origin, Part, Place, Reply};
 pub use machine::Core;
 
 #[cfg(test)]

@@ -18,7 +18,7 @@ ghost use Rattle.gl_core.specs.Levels.{with_pull};
 ghost use Rattle.gl_core.specs.Shape.{AreNew, HasLine, fitted, lines_max, with_irq_done};
 
 use gl_bank::{Bank, Change};
-use gl_base::{Errno, flag, has_bit, IrqDo, Lines, LINES_MAX, Name, PLACES, push_within};
+use gl_base::{Errno, IrqDo, LINES_MAX, Lines, Name, PLACES, flag, has_bit, push_within};
 use gl_desc::{Descs, Holder};
 use gl_irq::{IrqLine, Irqs};
 use gl_model::Place;
@@ -150,6 +150,13 @@ fn pull(places: &mut Vec<Place>, place: u8, offset: u32, up: bool) -> Option<Cha
     requires { HasLine places.old.items place offset }
     ensures change { result ≡ pull_change up (levels_at (slice_index_or places.old.items place no_place).bank offset) }
     ensures places { places.new.items ≡ change_at no_place place (with_pull offset up) places.old.items }
+    ensures capacity { vec_capacity places.new ≡ vec_capacity places.old }
+    ensures as_many { length places.new.items ≡ length places.old.items }
+{
+    let tables = &mut places[usize::from(place)];
+    tables.bank.set_pull(offset, up)
+}
+
 /// Claims the lines of a request, which are free.
 fn claim(places: &mut Vec<Place>, place: u8, lines: &Lines, fd: u32, consumer: Name)
     requires place { place < length places.old.items }
@@ -160,7 +167,6 @@ fn claim(places: &mut Vec<Place>, place: u8, lines: &Lines, fd: u32, consumer: N
     ensures as_many { length places.new.items ≡ length places.old.items }
 {
     let tables = &mut places[usize::from(place)];
-    tables.bank.set_pull(offset, up)
     match tables.descs.claim(lines, fd, consumer) {
         Ok(()) => {}
         Err(_) => {}
@@ -236,6 +242,8 @@ impl Places {
         ensures places { self.new ≡ change_at no_place place (with_pull offset up) self.old }
     {
         pull(&mut self.used, place, offset, up)
+    }
+
     /// The request of this number claims lines that are free.
     pub fn claim(&mut self, place: u8, lines: &Lines, fd: u32, consumer: Name)
         requires place { place < length self.old }

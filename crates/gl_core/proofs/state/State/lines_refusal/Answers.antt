@@ -1,16 +1,11 @@
 use Rattle.std.proofs.Common.{◌≡◌, ◌<◌, ◌≤◌, List, None, length, ap, sym, subst, ◌∙◌, arith}
-use Rattle.std.specs.Prelude.{slice_index_or}
 use Rattle.std.proofs.lemmas.Bool.Decides.{nat_tests}
 use Rattle.std.proofs.lemmas.List.{get_or_past}
-use Rattle.gl_base.specs.Positions.{first_fault}
 use Rattle.gl_desc.specs.Desc.{claim_fault}
-use Rattle.gl_model.specs.Asked.{AskedLines}
-use Rattle.gl_model.specs.Claiming.{line_refusal}
 use Rattle.gl_model.specs.Places.{no_place, place_at}
 use Rattle.gl_model.specs.declared.place.Place.{Place}
 use Rattle.gl_core.specs.Claims.{AreFree}
 use Rattle.gl_core.specs.Kept.{Kept}
-use Rattle.gl_core.specs.View.{view_of}
 use Rattle.gl_core.proofs.Claims.{free_lines, no_lines, where_none}
 use Rattle.gl_core.proofs.state.State.lines_refusal.Goals as goal
 
