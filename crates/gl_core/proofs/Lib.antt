@@ -12,3 +12,4 @@ pub mod Shapes
 pub mod NotedEdges
 pub mod HeldLines
 pub mod Settling
+pub mod ReadEvents

@@ -19,6 +19,7 @@ mod open_files;
 mod opening;
 mod places;
 mod pulls;
+mod reading;
 mod state;
 mod tree;
 
