@@ -1,11 +1,14 @@
 pub mod Claims
 pub mod KeptEdges
 pub mod Bits
+pub mod Buffers
 pub mod Closing
 pub mod KeptRequests
 pub mod Notified
 pub mod RequestLines
 pub mod Spare
+pub mod TakingChanges
+pub mod Watching
 pub mod Standing
 pub mod Reached
 pub mod Shapes

@@ -9,6 +9,7 @@ mod claiming;
 mod clock;
 mod configuring;
 mod edges;
+mod commands;
 pub mod entries;
 mod information;
 mod interrupts;
@@ -20,6 +21,7 @@ mod opening;
 mod places;
 mod pulls;
 mod reading;
+mod reading_changes;
 mod state;
 mod tree;
 
