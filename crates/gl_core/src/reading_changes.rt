@@ -7,6 +7,7 @@ ghost use Rattle.gl_model.specs.OpenFiles.{chip_file_refusal};
 ghost use Rattle.gl_model.specs.Reading.{changes_for, poll_chip, read_info, read_refusal, take_changes};
 ghost use Rattle.gl_core.specs.Steps.{Steps, StepsInto, Tells};
 
+use crate::reading::{read_refusal, readiness, room_for};
 use crate::state::State;
 use gl_base::Errno;
 use gl_model::Reply;
@@ -31,7 +32,7 @@ impl State {
     {
         match self.chip_file_refusal(place, fd) {
             Some(errno) => Reply::Refused(errno),
-            None => Reply::Ready(u8::from(self.files.waiting(fd) > 0)),
+            None => Reply::Ready(readiness(self.files.waiting(fd))),
         }
     }
 
@@ -41,7 +42,7 @@ impl State {
     {
         match self.chip_file_refusal(place, fd) {
             Some(errno) => Some(errno),
-            None => read_refusal(INFO_CHANGED_SIZE as u32, len, self.files.waiting(fd)),
+            None => read_refusal(INFO_CHANGED_SIZE, len, self.files.waiting(fd)),
         }
     }
 
@@ -50,21 +51,7 @@ impl State {
         requires { length out.old ≡ len }
         ensures { StepsInto (take_changes fd len) self.old self.new result out.old out.new }
     {
-        let size = INFO_CHANGED_SIZE as u32;
-        let count = self.files.read(fd, len / size, out);
-        Reply::Number(u64::from(size * count))
+        let count = self.files.read(fd, room_for(INFO_CHANGED_SIZE, len), out);
+        Reply::Number(INFO_CHANGED_SIZE as u64 * u64::from(count))
     }
-}
-
-/// Why a read is refused, first case first: `Inval` where the buffer is shorter than one item; `Again` where nothing waits.
-pub(crate) fn read_refusal(size: u32, len: u32, count: u32) -> Option<Errno>
-    ensures { result ≡ read_refusal size len count }
-{
-    if len < size {
-        return Some(Errno::Inval);
-    }
-    if count == 0 {
-        return Some(Errno::Again);
-    }
-    None
 }

@@ -1,4 +1,6 @@
-use Rattle.std.proofs.Common.{ap, sym, subst, ◌∙◌, ℕ}
+use Rattle.std.proofs.Common.{ℕ, ◌*◌, length, ap, sym, subst, ◌∙◌}
+use Rattle.std.specs.Prelude.{min}
+use Rattle.gl_watch.specs.Files.{file_at, waiting_in}
 use Rattle.gl_model.specs.declared.reply.Reply.TheVariants.{Number}
 use Rattle.gl_core.specs.Kept.{StandsFor}
 use Rattle.gl_core.specs.View.{view_of}
@@ -8,5 +10,5 @@ use Rattle.gl_core.proofs.state.State.take_changes.Goals as goal
 pub returns : goal.returns
 returns c w s =
     let comes = take_done (view_of c.self.inside) w c.args.fd c.args.len c.read-count.result c.read-count.new.self c.args.out.now c.read-count.new.out (subst (λ k. StandsFor k w) (sym c.self.view_is) s)
-    c.read-count.ensures.count c.read-count.ensures.files c.requires c.read-count.auto.out c.read-count.ensures.out in
-    (comes.0, ap (λ (n : ℕ). Number n) c.from.ensures ∙ comes.1, comes.2)
+    (c.read-count.ensures.count ∙ ap (λ (n : ℕ). min n (length (waiting_in (file_at c.args.fd c.self.inside.files)))) c.room_for.ensures) c.read-count.ensures.files c.requires c.read-count.auto.out c.read-count.ensures.out in
+    (comes.0, ap (λ (n : ℕ). Number (288 * n)) c.from.ensures ∙ comes.1, comes.2)
