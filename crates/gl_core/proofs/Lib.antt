@@ -3,6 +3,7 @@ pub mod KeptEdges
 pub mod Bits
 pub mod Buffers
 pub mod Closing
+pub mod FindingLines
 pub mod KeptRequests
 pub mod Notified
 pub mod RequestLines

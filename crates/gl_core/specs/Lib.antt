@@ -1,4 +1,5 @@
 pub mod Claims
+pub mod FoundLines
 pub mod Kept
 pub mod KeptEdges
 pub mod Steps

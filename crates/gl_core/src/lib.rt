@@ -11,6 +11,7 @@ mod commands;
 mod configuring;
 mod edges;
 pub mod entries;
+mod finding;
 mod information;
 mod interrupts;
 pub mod laws;
