@@ -34,3 +34,11 @@ bits_where_fit test n lt =
     let room : suc n ≤ 64 = omega arith in
     let top : 2 ^ suc n ≤ 2 ^ 64 = pow_mono {i = suc n} {j = 64} room in
     omega arith
+
+-- the bits so far are those below the next one
+pub bits_below_more : (bits bit n : ℕ) (test : Bool) → bits < 2 ^ n → bit ≡ (if test then 2 ^ n else 0) → bits + bit < 2 ^ (n + 1)
+bits_below_more bits bit n test so_far is =
+    let more : (if test then 2 ^ n else 0) ≤ 2 ^ n = bit_at_most test n in
+    let z : n + 1 ≡ suc n = omega arith in
+    let top : 2 ^ (n + 1) ≡ 2 ^ suc n = ap (λ m. 2 ^ m) z in
+    omega arith

@@ -7,6 +7,7 @@ pub mod FindingLines
 pub mod KeptRequests
 pub mod Notified
 pub mod RequestLines
+pub mod OpenRequests
 pub mod Spare
 pub mod TakingChanges
 pub mod Watching

@@ -1,6 +1,7 @@
 -- What is true of the core's tables at every moment: each chip has its origin, and tables of as many lines as it has. And the
 -- tables that wait for a chip.
-use Rattle.std.specs.Prelude.{◌≡◌, ℕ, ◌+◌, ◌^◌, ◌<◌, ◌≤◌, List, length, take, slice_index_or}
+use Rattle.std.specs.Prelude.{◌≡◌, ℕ, ◌+◌, ◌^◌, ◌<◌, ◌≤◌, List, length, take, slice_index, slice_index_or}
+use Rattle.gl_base.specs.declared.lines.Lines.{Lines}
 use Rattle.gl_base.specs.declared.limits.TheConstants.{LINES_MAX, PLACES}
 use Rattle.gl_registry.specs.Chips.{chip_at}
 use Rattle.gl_registry.specs.declared.registry.Chip.{Chip}
@@ -43,6 +44,10 @@ pub record HasLine (places : List Place) (place offset : ℕ) : Type 0 where
 -- the place and the offset of a line are in range
 abbrev pub IsInRange : ℕ → ℕ → Type 0
 IsInRange place offset = (place < PLACES) × (offset < LINES_MAX)
+
+-- each line of a request is a line of a place that is there
+abbrev pub HasEachLine : List Place → ℕ → Lines → Type 0
+HasEachLine places place lines = (i : ℕ) → i < lines.count → HasLine places place (slice_index lines.offsets i)
 
 -- how many lines the tables have that wait for a chip
 unfoldable pub lines_max : ℕ

@@ -25,6 +25,7 @@ mod reading;
 mod reading_changes;
 mod state;
 mod tree;
+mod values;
 
 pub use asked::Asked;
 pub use gl_model::{Call, Gift, Origin, Part, Place, Reply};
