@@ -5,6 +5,7 @@ pub mod Buffers
 pub mod Closing
 pub mod FindingLines
 pub mod KeptRequests
+pub mod LineByLine
 pub mod Notified
 pub mod RequestLines
 pub mod OpenRequests

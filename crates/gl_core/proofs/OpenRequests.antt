@@ -8,9 +8,7 @@ use Rattle.std.proofs.lemmas.List.{get_or_past}
 use Rattle.gl_base.proofs.FirstRows.{Each-find}
 use Rattle.gl_base.specs.declared.lines.Lines.{Lines}
 use Rattle.gl_base.specs.declared.settings.Resolved.{Resolved}
-use Rattle.gl_registry.specs.Chips.{chip_at}
-use Rattle.gl_request.specs.Request.{claim_of, request_at as row_at}
-use Rattle.gl_request.specs.declared.row.Claim.{Claim}
+use Rattle.gl_request.specs.Request.{request_at as row_at}
 use Rattle.gl_request.specs.declared.row.RequestRow.{RequestRow}
 use Rattle.gl_model.specs.Holders.{HasItsLines, has_line}
 use Rattle.gl_model.specs.OpenFiles.{is_hold, is_place, is_request_file, on_request, request_place}
@@ -21,7 +19,7 @@ use Rattle.gl_model.specs.declared.place.Place.{Place}
 use Rattle.gl_model.proofs.Phases.{both, same_number}
 use Rattle.gl_core.specs.Kept.{Kept, StandsFor, kept_request}
 use Rattle.gl_core.specs.Reached.{IsReached}
-use Rattle.gl_core.specs.Shape.{HasEachLine, HasLine, HasLines, IsShaped}
+use Rattle.gl_core.specs.Shape.{HasEachLine, HasLine, IsShaped}
 use Rattle.gl_core.specs.Steps.{Tells}
 use Rattle.gl_core.proofs.KeptRequests.{kept_at}
 

@@ -2,6 +2,7 @@ pub mod Claims
 pub mod FoundLines
 pub mod Kept
 pub mod KeptEdges
+pub mod LineByLine
 pub mod Steps
 pub mod Reached
 pub mod Shape

@@ -49,6 +49,10 @@ IsInRange place offset = (place < PLACES) × (offset < LINES_MAX)
 abbrev pub HasEachLine : List Place → ℕ → Lines → Type 0
 HasEachLine places place lines = (i : ℕ) → i < lines.count → HasLine places place (slice_index lines.offsets i)
 
+-- each line that was there is there still
+abbrev pub KeepsLines : List Place → List Place → Type 0
+KeepsLines old new = (place offset : ℕ) → HasLine old place offset → HasLine new place offset
+
 -- how many lines the tables have that wait for a chip
 unfoldable pub lines_max : ℕ
 lines_max = LINES_MAX

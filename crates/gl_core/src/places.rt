@@ -12,12 +12,14 @@ ghost use Rattle.gl_base.specs.Refusals.{answer};
 ghost use Rattle.gl_desc.specs.Desc.{claim_fault, claimed};
 ghost use Rattle.gl_irq.specs.Irq.{act_refusal};
 ghost use Rattle.gl_model.specs.Claiming.{with_descs};
+ghost use Rattle.gl_model.specs.Configuring.{with_levels};
 ghost use Rattle.gl_model.specs.Interrupts.{irq_line, is_claimed};
 ghost use Rattle.gl_model.specs.Pulls.{pull_change};
+ghost use Rattle.gl_model.specs.Values.{driven_with};
 ghost use Rattle.gl_core.specs.Levels.{with_pull};
 ghost use Rattle.gl_core.specs.Shape.{AreNew, HasLine, fitted, lines_max, with_irq_done};
 
-use gl_bank::{Bank, Change};
+use gl_bank::{Bank, Change, flip};
 use gl_base::{Errno, IrqDo, LINES_MAX, Lines, Name, PLACES, flag, has_bit, push_within};
 use gl_desc::{Descs, Holder};
 use gl_irq::{IrqLine, Irqs};
@@ -173,6 +175,18 @@ fn claim(places: &mut Vec<Place>, place: u8, lines: &Lines, fd: u32, consumer: N
     }
 }
 
+/// Drives a line of a place with a value.
+fn drive(places: &mut Vec<Place>, place: u8, offset: u32, value: bool)
+    requires { HasLine places.old.items place offset }
+    ensures places { places.new.items ≡ change_at no_place place (with_levels offset (driven_with value)) places.old.items }
+    ensures capacity { vec_capacity places.new ≡ vec_capacity places.old }
+    ensures as_many { length places.new.items ≡ length places.old.items }
+{
+    let bank = &mut places[usize::from(place)].bank;
+    let flags = bank.line(offset).flags;
+    bank.drive(offset, flip(flags, value));
+}
+
 impl Places {
     /// No place has a chip yet. It takes the memory of all tables.
     pub fn new(alloc: Global) -> Result<Places, Errno>
@@ -252,5 +266,13 @@ impl Places {
         ensures { self.new ≡ change_at no_place place (with_descs (offsets_of lines.now) (claimed fd consumer)) self.old }
     {
         claim(&mut self.used, place, lines, fd, consumer);
+    }
+
+    /// Drives a line with a value, inverted where the line is active low.
+    pub fn drive(&mut self, place: u8, offset: u32, value: bool)
+        requires { HasLine self.old place offset }
+        ensures { self.new ≡ change_at no_place place (with_levels offset (driven_with value)) self.old }
+    {
+        drive(&mut self.used, place, offset, value);
     }
 }

@@ -3,15 +3,19 @@
 ghost use Rattle.std.specs.Prelude.{◌≡◌, ◌<◌, ◌≤◌, ◌^◌, ◌&&◌, length, slice_index, take, true};
 ghost use Rattle.gl_base.specs.Bits.{has_bit};
 ghost use Rattle.gl_base.specs.Lines.{IsLineCount, offsets_of};
+ghost use Rattle.gl_base.specs.Positions.{first_fault};
 ghost use Rattle.gl_base.specs.declared.settings.Resolved.{Resolved};
 ghost use Rattle.gl_model.specs.Bits.{has_bit_below};
+ghost use Rattle.gl_model.specs.Configuring.{with_levels};
 ghost use Rattle.gl_model.specs.OpenFiles.{is_request_file, on_request};
-ghost use Rattle.gl_model.specs.Values.{get_values, settled_level, value_of, values_of};
+ghost use Rattle.gl_model.specs.Places.{with_place};
+ghost use Rattle.gl_model.specs.Values.{drive_from, driven_with, get_values, output_fault, set_values, set_values_refusal, value_of, values_of};
 ghost use Rattle.gl_model.specs.World.{World, request_at};
 ghost use Rattle.gl_uapi.specs.declared.layout.TheConstants.{LINE_VALUES_SIZE};
 ghost use Rattle.gl_core.specs.Reached.{IsReached};
-ghost use Rattle.gl_core.specs.Shape.{HasEachLine, HasLine};
-ghost use Rattle.gl_core.specs.Steps.{StepsInto, Tells};
+ghost use Rattle.gl_core.specs.Shape.{HasEachLine, HasLine, KeepsLines};
+ghost use Rattle.gl_core.specs.Steps.{Follows, Steps, StepsInto, Tells};
+ghost use Rattle.gl_core.specs.LineByLine.{drive_masked};
 
 use crate::information::bit_where;
 use crate::state::State;
@@ -129,6 +133,131 @@ impl State {
         match self.requests.lines(fd) {
             None => Reply::Refused(Errno::BadF),
             Some(lines) => self.get_values_of(place, &lines, bytes, part, out),
+        }
+    }
+
+    /// What is wrong with the line at position `i` of a request whose values are to be set: `Perm` where it is masked and is no
+    /// output.
+    fn output_fault(&self, place: u8, lines: &Lines, mask: u64, i: u32) -> Option<Errno>
+        requires i { i < lines.now.count }
+        requires count { IsLineCount lines.now.count }
+        requires line { HasLine self.now.places place (slice_index lines.now.offsets i) }
+        ensures { Tells (λ w. output_fault place lines.now mask w i) self.now result }
+    {
+        let offset = lines.offsets[i as usize];
+        if has_bit(mask, i) && !self.places.at(place).bank.is_output(offset) {
+            return Some(Errno::Perm);
+        }
+        None
+    }
+
+    /// What is wrong with the first faulty line of a request whose values are to be set.
+    fn first_output_fault(&self, place: u8, lines: &Lines, mask: u64) -> Option<Errno>
+        requires count { IsLineCount lines.now.count }
+        requires lines { HasEachLine self.now.places place lines.now }
+        ensures { Tells (λ w. first_fault (output_fault place lines.now mask w) 0 lines.now.count) self.now result }
+    {
+        for i in 0..lines.count {
+            match self.output_fault(place, lines, mask, i) {
+                Some(errno) => return Some(errno),
+                None => {}
+            }
+        }
+        None
+    }
+
+    /// Why values aren't set, first case first: `Perm` where one of the masked lines is no output; `Inval` where the mask has
+    /// none of the lines.
+    fn set_values_refusal(&self, place: u8, lines: &Lines, mask: u64) -> Option<Errno>
+        requires count { IsLineCount lines.now.count }
+        requires lines { HasEachLine self.now.places place lines.now }
+        ensures { Tells (set_values_refusal place lines.now mask) self.now result }
+    {
+        if let Some(errno) = self.first_output_fault(place, lines, mask) {
+            return Some(errno);
+        }
+        if !has_bit_below(lines.count, mask) {
+            return Some(Errno::Inval);
+        }
+        None
+    }
+
+    /// Drives a line with a value, inverted where it is active low.
+    fn drive(&mut self, place: u8, offset: u32, value: bool)
+        requires { HasLine self.old.places place offset }
+        ensures follows { Follows (with_place place (with_levels offset (driven_with value))) self.old self.new }
+        ensures lines { KeepsLines self.old.places self.new.places }
+    {
+        self.places.drive(place, offset, value);
+    }
+
+    /// Drives the line at position `i` of a request with its bit, where it is masked.
+    fn drive_masked(&mut self, place: u8, lines: &Lines, mask: u64, bits: u64, i: u32)
+        requires i { i < lines.now.count }
+        requires count { IsLineCount lines.now.count }
+        requires line { HasLine self.old.places place (slice_index lines.now.offsets i) }
+        ensures follows { Follows (drive_masked place lines.now mask bits i) self.old self.new }
+        ensures lines { KeepsLines self.old.places self.new.places }
+    {
+        if has_bit(mask, i) {
+            self.drive(place, lines.offsets[i as usize], has_bit(bits, i));
+        }
+    }
+
+    /// Drives the masked lines of a request with their bits, in order.
+    fn drive_each(&mut self, place: u8, lines: &Lines, mask: u64, bits: u64)
+        requires count { IsLineCount lines.now.count }
+        requires lines { HasEachLine self.old.places place lines.now }
+        ensures { Follows (drive_from place mask bits 0 (offsets_of lines.now)) self.old self.new }
+    {
+        for i in 0..lines.count {
+            self.drive_masked(place, lines, mask, bits, i);
+        }
+    }
+
+    /// SET_VALUES on a request with these lines.
+    fn set_values_of(
+        &mut self,
+        place: u8,
+        lines: &Lines,
+        bytes: &[u8; LINE_REQUEST_SIZE],
+        part: &Part,
+    ) -> Reply
+        requires count { IsLineCount lines.now.count }
+        requires lines { HasEachLine self.old.places place lines.now }
+        ensures { (settings : Resolved) → Steps (set_values place (take LINE_VALUES_SIZE bytes.now) part.now lines.now settings) self.old self.new result }
+    {
+        let values = ValuesRef::of(bytes).unwrap();
+        if let Some(errno) = self.set_values_refusal(place, lines, values.mask()) {
+            return Reply::Refused(errno);
+        }
+        match *part {
+            Part::Whole => Reply::Refused(Errno::Inval),
+            Part::Ask => Reply::Go(0),
+            Part::Tell(None) => Reply::Refused(Errno::Io),
+            Part::Tell(Some(_)) => {
+                self.drive_each(place, lines, values.mask(), values.bits());
+                Reply::Done
+            }
+        }
+    }
+
+    /// SET_VALUES on an open request: `Perm` where one of the masked lines is no output; `Inval` where the mask has none of the
+    /// lines; then it goes to the driver; `Io` where the driver failed; else the masked lines are driven with their bits.
+    pub(crate) fn set_values(
+        &mut self,
+        place: u8,
+        fd: u32,
+        bytes: &[u8; LINE_REQUEST_SIZE],
+        part: &Part,
+    ) -> Reply
+        requires reached { IsReached self.old }
+        requires file { Tells (is_request_file place fd) self.old true }
+        ensures { Steps (λ w. on_request (set_values place (take LINE_VALUES_SIZE bytes.now) part.now) (request_at w.requests fd) w) self.old self.new result }
+    {
+        match self.requests.lines(fd) {
+            None => Reply::Refused(Errno::BadF),
+            Some(lines) => self.set_values_of(place, &lines, bytes, part),
         }
     }
 }

@@ -1,11 +1,9 @@
-use Rattle.std.proofs.Common.{rules, ◌≡◌, ◌++◌, take, drop, length, Option, Some, None, refl, ap, ◌∙◌, subst}
+use Rattle.std.proofs.Common.{rules, ◌≡◌, ◌++◌, take, drop, length, Some, None, refl, ap, ◌∙◌, subst}
 use Rattle.std.specs.Option.{option_map}
 use Rattle.gl_base.specs.declared.errno.Errno.TheVariants.{BadF}
-use Rattle.gl_base.specs.declared.lines.Lines.{Lines}
 use Rattle.gl_request.specs.Request.{request_at}
 use Rattle.gl_request.specs.declared.row.RequestRow.{RequestRow}
 use Rattle.gl_uapi.specs.declared.layout.TheConstants.{LINE_VALUES_SIZE}
-use Rattle.gl_model.specs.Outcome.{Outcome}
 use Rattle.gl_model.specs.Values.{get_values}
 use Rattle.gl_model.specs.declared.reply.Reply.{Reply}
 use Rattle.gl_model.specs.declared.reply.Reply.TheVariants.{Refused}
