@@ -19,3 +19,4 @@ pub mod NotedEdges
 pub mod HeldLines
 pub mod Settling
 pub mod ReadEvents
+pub mod Twice

@@ -22,6 +22,7 @@ use Rattle.gl_core.specs.Reached.{IsReached}
 use Rattle.gl_core.specs.Shape.{HasEachLine, HasLine, IsShaped}
 use Rattle.gl_core.specs.Steps.{Tells}
 use Rattle.gl_core.proofs.KeptRequests.{kept_at}
+use Rattle.gl_core.proofs.RequestLines.{line_there}
 
 -- what a command does on a request that the table has
 
@@ -64,26 +65,6 @@ open_found place lines (Some request) held is =
     let same : lines ≡ request.lines = cc in
     (request, refl, same_number request.place place (both request.held (is_place place (Some request.place)) held).1, same)
 
-line_within : (places : List Place) (place offset : ℕ) → offset < length (slice_index_or places place no_place).descs → place < length places
-line_within places place offset lt = elim (cases_lt place (length places)) as (λ _. place < length places) [
-  | inl within ↦ within
-  | inr past ↦ (let none : length (slice_index_or places place no_place).descs ≡ 0 = ap (λ (x : Place). length x.descs) (get_or_past places place no_place past) in absurd (omega arith))
-]
-
--- a line of the tables is a line that is there
-pub line_there : (k : Kept) (place offset : ℕ) → IsShaped k.chips k.origins k.places → offset < length (slice_index_or k.places place no_place).descs → HasLine k.places place offset
-line_there k place offset shape lt =
-    let tables = shape.lines place in
-    let many = shape.places_as_many in
-    let few = shape.few in
-    let lines = tables.few in
-    record {
-      few = omega arith;
-      place_within = line_within k.places place offset lt;
-      within = record { few = omega (arith, tables.few, tables.descs); descs = refl; bank = tables.bank ∙ sym tables.descs; irqs = tables.irqs ∙ sym tables.descs };
-      offset_within = lt;
-    }
-
 world_line : (w : World) (request : Request) (place : ℕ) (lines : Lines) (i : ℕ) → HasItsLines w request → request.place ≡ place → lines ≡ request.lines → length lines.offsets ≡ 64 → lines.count ≤ 64 → i < lines.count
     → slice_index lines.offsets i < length (place_at w place).descs
 world_line w request place lines i has at same size few lt =
@@ -99,4 +80,4 @@ each_line k place fd lines shape reached file is size few i lt =
     let has : HasItsLines w found.0 = Each-find (HasItsLines w) (has_number fd) w.requests found.0 reached.good.holders.requests_have found.1 in
     let within : slice_index lines.offsets i < length (place_at w place).descs = world_line w found.0 place lines i has found.2 found.3 size few lt in
     let places : w.places ≡ k.places = ap (λ (k : Kept). k.places) reached.stands.kept_so in
-    line_there k place (slice_index lines.offsets i) shape (subst (λ (ps : List Place). slice_index lines.offsets i < length (slice_index_or ps place no_place).descs) places within)
+    line_there k.chips k.origins k.places place (slice_index lines.offsets i) shape (subst (λ (ps : List Place). slice_index lines.offsets i < length (slice_index_or ps place no_place).descs) places within)

@@ -1,8 +1,14 @@
 //! How the lines of a request are configured.
 
-ghost use Rattle.std.specs.Prelude.{◌≡◌};
-ghost use Rattle.gl_model.specs.Configuring.{interrupt_fault, needs_interrupt};
+ghost use Rattle.std.specs.Prelude.{◌≡◌, slice_index_or};
+ghost use Rattle.gl_bank.specs.Level.{levels_at};
+ghost use Rattle.gl_model.specs.Configuring.{configure, interrupt_fault, needs_interrupt, with_period};
+ghost use Rattle.gl_model.specs.Places.{no_place};
+ghost use Rattle.gl_core.specs.Shape.{HasLine, KeepsLines};
+ghost use Rattle.gl_core.specs.Steps.{Follows};
 
+use crate::state::State;
+use gl_bank::Levels;
 use gl_base::{Errno, Settings, flag, has_bit};
 use gl_irq::Irq;
 
@@ -27,4 +33,31 @@ pub(crate) fn interrupt_fault(settings: &Settings, irq: Irq) -> Option<Errno>
         return Some(Errno::Io);
     }
     None
+}
+
+impl State {
+    /// Where the debounce period of a line is another one than before, the line has settled at the level that it has now, and
+    /// no deadline runs.
+    fn set_period(&mut self, place: u8, offset: u32, before: &Levels)
+        requires { HasLine self.old.places place offset }
+        ensures { self.new ≡ record self.old { timers = with_period place offset before.now (levels_at (slice_index_or self.old.places place no_place).bank offset) self.old.timers } }
+    {
+        let bank = &self.places.at(place).bank;
+        if before.debounce_us != bank.line(offset).debounce_us {
+            let level = bank.level(offset);
+            self.timers.start(place, offset, level);
+        }
+    }
+
+    /// Configures a line.
+    pub(crate) fn configure(&mut self, place: u8, settings: &Settings, offset: u32)
+        requires { HasLine self.old.places place offset }
+        ensures follows { Follows (configure place settings.now offset) self.old self.new }
+        ensures lines { KeepsLines self.old.places self.new.places }
+    {
+        let before = self.places.at(place).bank.line(offset);
+        let kind = self.kind(place);
+        self.places.configure(place, offset, kind, settings);
+        self.set_period(place, offset, &before);
+    }
 }

@@ -12,7 +12,7 @@ ghost use Rattle.gl_base.specs.Refusals.{answer};
 ghost use Rattle.gl_desc.specs.Desc.{claim_fault, claimed};
 ghost use Rattle.gl_irq.specs.Irq.{act_refusal};
 ghost use Rattle.gl_model.specs.Claiming.{with_descs};
-ghost use Rattle.gl_model.specs.Configuring.{with_levels};
+ghost use Rattle.gl_model.specs.Configuring.{configured_on, with_levels};
 ghost use Rattle.gl_model.specs.Interrupts.{irq_line, is_claimed};
 ghost use Rattle.gl_model.specs.Pulls.{pull_change};
 ghost use Rattle.gl_model.specs.Values.{driven_with};
@@ -20,7 +20,9 @@ ghost use Rattle.gl_core.specs.Levels.{with_pull};
 ghost use Rattle.gl_core.specs.Shape.{AreNew, HasLine, fitted, lines_max, with_irq_done};
 
 use gl_bank::{Bank, Change, flip};
-use gl_base::{Errno, IrqDo, LINES_MAX, Lines, Name, PLACES, flag, has_bit, push_within};
+use gl_base::{
+    Errno, IrqDo, Kind, LINES_MAX, Lines, Name, PLACES, Settings, flag, has_bit, push_within,
+};
 use gl_desc::{Descs, Holder};
 use gl_irq::{IrqLine, Irqs};
 use gl_model::Place;
@@ -187,6 +189,32 @@ fn drive(places: &mut Vec<Place>, place: u8, offset: u32, value: bool)
     bank.drive(offset, flip(flags, value));
 }
 
+/// Configures a line of a chip of this kind. The pull of a line of a remote chip is what its driver reports, and stays.
+fn configure_line(bank: &mut Bank, offset: u32, kind: Kind, settings: &Settings)
+    requires { offset < length bank.old }
+    ensures { bank.new ≡ change_at first_levels offset (configured_on kind settings.now) bank.old }
+{
+    match kind {
+        Kind::Simulated => bank.apply(offset, *settings),
+        Kind::Remote => {
+            let pull = bank.pull(offset);
+            bank.apply(offset, *settings);
+            bank.set_pull(offset, pull);
+        }
+    }
+}
+
+/// Configures a line of a place whose chip is of this kind.
+fn configure(places: &mut Vec<Place>, place: u8, offset: u32, kind: Kind, settings: &Settings)
+    requires { HasLine places.old.items place offset }
+    ensures places { places.new.items ≡ change_at no_place place (with_levels offset (configured_on kind settings.now)) places.old.items }
+    ensures capacity { vec_capacity places.new ≡ vec_capacity places.old }
+    ensures as_many { length places.new.items ≡ length places.old.items }
+{
+    let tables = &mut places[usize::from(place)];
+    configure_line(&mut tables.bank, offset, kind, settings);
+}
+
 impl Places {
     /// No place has a chip yet. It takes the memory of all tables.
     pub fn new(alloc: Global) -> Result<Places, Errno>
@@ -274,5 +302,13 @@ impl Places {
         ensures { self.new ≡ change_at no_place place (with_levels offset (driven_with value)) self.old }
     {
         drive(&mut self.used, place, offset, value);
+    }
+
+    /// Configures a line of a chip of this kind.
+    pub fn configure(&mut self, place: u8, offset: u32, kind: Kind, settings: &Settings)
+        requires { HasLine self.old place offset }
+        ensures { self.new ≡ change_at no_place place (with_levels offset (configured_on kind settings.now)) self.old }
+    {
+        configure(&mut self.used, place, offset, kind, settings);
     }
 }
