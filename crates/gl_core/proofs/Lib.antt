@@ -17,6 +17,7 @@ pub mod Reached
 pub mod Shapes
 pub mod NotedEdges
 pub mod HeldLines
+pub mod Settings
 pub mod Settling
 pub mod ReadEvents
 pub mod Twice

@@ -4,9 +4,11 @@ use Rattle.std.specs.Prelude.{slice_index}
 use Rattle.std.proofs.lemmas.List.{drop_all, drop_more, get_or-take, length-take}
 use Rattle.gl_base.specs.Lines.{offsets_of}
 use Rattle.gl_base.specs.declared.lines.Lines.{Lines}
+use Rattle.gl_base.specs.declared.settings.Resolved.{Resolved}
+use Rattle.gl_model.specs.Configuring.{configure_from, reconfigure_from}
 use Rattle.gl_model.specs.Values.{drive_from}
 use Rattle.gl_model.specs.World.{World}
-use Rattle.gl_core.specs.LineByLine.{drive_masked}
+use Rattle.gl_core.specs.LineByLine.{configure_at, drive_masked, reconfigure_at}
 
 -- the offsets from a position on
 pub offsets_more : (lines : Lines) (i : ℕ) → i < lines.count → lines.count ≤ length lines.offsets → drop i (offsets_of lines) ≡ slice_index lines.offsets i ∷ drop (i + 1) (offsets_of lines)
@@ -27,3 +29,19 @@ drive_more place mask bits lines i v lt few = ap (λ offsets. drive_from place m
 -- no line is left
 pub drive_end : (place mask bits : ℕ) (lines : Lines) (i : ℕ) (v : World) → lines.count ≤ i → drive_from place mask bits i (drop i (offsets_of lines)) v ≡ v
 drive_end place mask bits lines i v past = ap (λ offsets. drive_from place mask bits i offsets v) (offsets_end lines i past)
+
+-- one line more is configured
+pub configure_more : (place : ℕ) (settings : Resolved) (lines : Lines) (i : ℕ) (v : World) → i < lines.count → lines.count ≤ length lines.offsets
+    → configure_from place settings i (drop i (offsets_of lines)) v ≡ configure_from place settings (i + 1) (drop (i + 1) (offsets_of lines)) (configure_at place lines settings i v)
+configure_more place settings lines i v lt few = ap (λ offsets. configure_from place settings i offsets v) (offsets_more lines i lt few)
+
+pub configure_end : (place : ℕ) (settings : Resolved) (lines : Lines) (i : ℕ) (v : World) → lines.count ≤ i → configure_from place settings i (drop i (offsets_of lines)) v ≡ v
+configure_end place settings lines i v past = ap (λ offsets. configure_from place settings i offsets v) (offsets_end lines i past)
+
+-- one line more is configured and told of
+pub reconfigure_more : (place : ℕ) (settings : Resolved) (lines : Lines) (i : ℕ) (v : World) → i < lines.count → lines.count ≤ length lines.offsets
+    → reconfigure_from place settings i (drop i (offsets_of lines)) v ≡ reconfigure_from place settings (i + 1) (drop (i + 1) (offsets_of lines)) (reconfigure_at place lines settings i v)
+reconfigure_more place settings lines i v lt few = ap (λ offsets. reconfigure_from place settings i offsets v) (offsets_more lines i lt few)
+
+pub reconfigure_end : (place : ℕ) (settings : Resolved) (lines : Lines) (i : ℕ) (v : World) → lines.count ≤ i → reconfigure_from place settings i (drop i (offsets_of lines)) v ≡ v
+reconfigure_end place settings lines i v past = ap (λ offsets. reconfigure_from place settings i offsets v) (offsets_end lines i past)

@@ -8,7 +8,8 @@ use Rattle.std.proofs.lemmas.List.{get_or_past}
 use Rattle.gl_base.proofs.FirstRows.{Each-find}
 use Rattle.gl_base.specs.declared.lines.Lines.{Lines}
 use Rattle.gl_base.specs.declared.settings.Resolved.{Resolved}
-use Rattle.gl_request.specs.Request.{request_at as row_at}
+use Rattle.gl_request.specs.Request.{claim_of, request_at as row_at}
+use Rattle.gl_request.specs.declared.row.Claim.{Claim}
 use Rattle.gl_request.specs.declared.row.RequestRow.{RequestRow}
 use Rattle.gl_model.specs.Holders.{HasItsLines, has_line}
 use Rattle.gl_model.specs.OpenFiles.{is_hold, is_place, is_request_file, on_request, request_place}
@@ -81,3 +82,32 @@ each_line k place fd lines shape reached file is size few i lt =
     let within : slice_index lines.offsets i < length (place_at w place).descs = world_line w found.0 place lines i has found.2 found.3 size few lt in
     let places : w.places ≡ k.places = ap (λ (k : Kept). k.places) reached.stands.kept_so in
     line_there k.chips k.origins k.places place (slice_index lines.offsets i) shape (subst (λ (ps : List Place). slice_index lines.offsets i < length (slice_index_or ps place no_place).descs) places within)
+
+-- the same by what the request was claimed as
+
+with_claim : (P : Outcome → Type 0) (act : Lines → Resolved → World → Outcome) (w : World) (claim : Claim) (o : Option Request) → Some claim ≡ option_map claim_of (option_map kept_request o)
+    → P (act claim.lines claim.settings w) → P (on_request act o w)
+with_claim P act w claim None is does = cc
+with_claim P act w claim (Some request) is does =
+    let same : claim ≡ claim_of (kept_request request) = cc in subst (λ (claim : Claim). P (act claim.lines claim.settings w)) same does
+
+pub on_claim : (P : Outcome → Type 0) (act : Lines → Resolved → World → Outcome) (k : Kept) (w : World) (fd : ℕ) (claim : Claim) → StandsFor k w → Some claim ≡ option_map claim_of (row_at k.requests fd)
+    → P (act claim.lines claim.settings w) → P (on_request act (request_at w.requests fd) w)
+on_claim P act k w fd claim s is = with_claim P act w claim (request_at w.requests fd) (is ∙ ap (option_map claim_of) (kept_at k w fd s))
+
+without_claim : (P : Outcome → Type 0) (act : Lines → Resolved → World → Outcome) (w : World) (o : Option Request) → None ≡ option_map claim_of (option_map kept_request o)
+    → P (on_request act None w) → P (on_request act o w)
+without_claim P act w None is does = does
+without_claim P act w (Some request) is does = cc
+
+pub on_no_claim : (P : Outcome → Type 0) (act : Lines → Resolved → World → Outcome) (k : Kept) (w : World) (fd : ℕ) → StandsFor k w → None ≡ option_map claim_of (row_at k.requests fd)
+    → P (on_request act None w) → P (on_request act (request_at w.requests fd) w)
+on_no_claim P act k w fd s is = without_claim P act w (request_at w.requests fd) (is ∙ ap (option_map claim_of) (kept_at k w fd s))
+
+lines_of_claim : (claim : Claim) (o : Option RequestRow) → Some claim ≡ option_map claim_of o → Some claim.lines ≡ option_map (λ (row : RequestRow). row.lines) o
+lines_of_claim claim None is = cc
+lines_of_claim claim (Some row) is = let same : claim ≡ claim_of row = cc in ap (λ (claim : Claim). Some claim.lines) same
+
+pub each_claimed_line : (k : Kept) (place fd : ℕ) (claim : Claim) → IsShaped k.chips k.origins k.places → IsReached k → Tells (is_request_file place fd) k true
+    → Some claim ≡ option_map claim_of (row_at k.requests fd) → length claim.lines.offsets ≡ 64 → claim.lines.count ≤ 64 → HasEachLine k.places place claim.lines
+each_claimed_line k place fd claim shape reached file is = each_line k place fd claim.lines shape reached file (lines_of_claim claim (row_at k.requests fd) is)

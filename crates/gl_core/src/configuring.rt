@@ -1,16 +1,29 @@
-//! How the lines of a request are configured.
+//! How the lines of a request are configured, and SET_CONFIG.
 
-ghost use Rattle.std.specs.Prelude.{◌≡◌, slice_index_or};
+ghost use Rattle.std.specs.Prelude.{◌≡◌, ◌<◌, slice_index, slice_index_or, take, true};
 ghost use Rattle.gl_bank.specs.Level.{levels_at};
-ghost use Rattle.gl_model.specs.Configuring.{configure, interrupt_fault, needs_interrupt, with_period};
-ghost use Rattle.gl_model.specs.Places.{no_place};
-ghost use Rattle.gl_core.specs.Shape.{HasLine, KeepsLines};
-ghost use Rattle.gl_core.specs.Steps.{Follows};
+ghost use Rattle.gl_base.specs.Lines.{IsLineCount, offsets_of};
+ghost use Rattle.gl_base.specs.Positions.{first_fault};
+ghost use Rattle.gl_base.specs.declared.limits.TheConstants.{LINES_PER_REQUEST};
+ghost use Rattle.gl_uapi.specs.declared.layout.TheConstants.{LINE_CONFIG_SIZE};
+ghost use Rattle.gl_model.specs.Configuring.{configure, configure_each, directed_fault, interrupt_fault, is_directed, needs_interrupt, reconfigure, reconfigure_from, set_config, settings_after, with_period};
+ghost use Rattle.gl_model.specs.OpenFiles.{is_request_file, on_request};
+ghost use Rattle.gl_model.specs.Places.{no_place, place_at};
+ghost use Rattle.gl_model.specs.World.{request_at};
+ghost use Rattle.gl_core.specs.LineByLine.{configure_at, line_after, reconfigure_at, with_settings_of};
+ghost use Rattle.gl_core.specs.Reached.{IsReached};
+ghost use Rattle.gl_core.specs.Shape.{HasEachLine, HasLine, KeepsLines};
+ghost use Rattle.gl_core.specs.Steps.{Follows, Steps, Tells};
 
 use crate::state::State;
+use gl_attrs::resolve;
 use gl_bank::Levels;
-use gl_base::{Errno, Settings, flag, has_bit};
+use gl_base::{Errno, LINES_PER_REQUEST, Lines, Resolved, Settings, flag, has_bit};
 use gl_irq::Irq;
+use gl_model::{Part, Reply};
+use gl_request::Claim;
+use gl_uapi::ConfigRef;
+use gl_uapi::layout::{CHANGED_CONFIG, LINE_CONFIG_SIZE, LINE_REQUEST_SIZE};
 
 /// Whether a line with these settings tells of edges, or is debounced, and so needs its interrupt.
 fn needs_interrupt(settings: &Settings) -> bool
@@ -33,6 +46,39 @@ pub(crate) fn interrupt_fault(settings: &Settings, irq: Irq) -> Option<Errno>
         return Some(Errno::Io);
     }
     None
+}
+
+/// The settings give the line at position `i` of a request a direction.
+fn is_directed(settings: &Resolved, i: u32) -> bool
+    requires { i < LINES_PER_REQUEST }
+    ensures { result ≡ is_directed settings.now i }
+{
+    let flags = settings.lines[i as usize].flags;
+    has_bit(flags, flag::INPUT) || has_bit(flags, flag::OUTPUT)
+}
+
+/// The settings of the line at position `i` of a request after new ones came. Without a direction it keeps what it had.
+fn line_after(before: &Resolved, after: &Resolved, i: u32) -> Settings
+    requires { i < LINES_PER_REQUEST }
+    ensures { result ≡ line_after before.now after.now i }
+{
+    if is_directed(after, i) {
+        after.lines[i as usize]
+    } else {
+        before.lines[i as usize]
+    }
+}
+
+/// The settings of a request of so many lines after new ones came.
+fn settings_after(before: &Resolved, after: &Resolved, count: u32) -> Resolved
+    ensures { result ≡ settings_after before.now after.now count }
+{
+    let first = line_after(before, after, 0);
+    let mut lines = [first; LINES_PER_REQUEST as usize];
+    for i in 1..LINES_PER_REQUEST {
+        lines[i as usize] = line_after(before, after, i);
+    }
+    Resolved { count, lines }
 }
 
 impl State {
@@ -59,5 +105,175 @@ impl State {
         let kind = self.kind(place);
         self.places.configure(place, offset, kind, settings);
         self.set_period(place, offset, &before);
+    }
+
+    /// Configures the line at position `i` of a request with its settings.
+    fn configure_at(&mut self, place: u8, lines: &Lines, settings: &Resolved, i: u32)
+        requires i { i < lines.now.count }
+        requires count { IsLineCount lines.now.count }
+        requires line { HasLine self.old.places place (slice_index lines.now.offsets i) }
+        ensures follows { Follows (configure_at place lines.now settings.now i) self.old self.new }
+        ensures lines { KeepsLines self.old.places self.new.places }
+    {
+        self.configure(
+            place,
+            &settings.lines[i as usize],
+            lines.offsets[i as usize],
+        );
+    }
+
+    /// Configures the lines of a request, in order, each with its settings.
+    pub(crate) fn configure_each(&mut self, place: u8, lines: &Lines, settings: &Resolved)
+        requires count { IsLineCount lines.now.count }
+        requires lines { HasEachLine self.old.places place lines.now }
+        ensures follows { Follows (configure_each place lines.now settings.now) self.old self.new }
+        ensures lines { KeepsLines self.old.places self.new.places }
+    {
+        for i in 0..lines.count {
+            self.configure_at(place, lines, settings, i);
+        }
+    }
+
+    /// What is wrong with new settings for the line at position `i` of a request. A line that they give no direction is left as
+    /// it is.
+    fn directed_fault(
+        &self,
+        place: u8,
+        lines: &Lines,
+        settings: &Resolved,
+        i: u32,
+    ) -> Option<Errno>
+        requires i { i < lines.now.count }
+        requires count { IsLineCount lines.now.count }
+        requires line { HasLine self.now.places place (slice_index lines.now.offsets i) }
+        ensures { Tells (λ w. directed_fault (place_at w place) lines.now settings.now i) self.now result }
+    {
+        if !is_directed(settings, i) {
+            return None;
+        }
+        let irq = self.places.at(place).irqs.line(lines.offsets[i as usize]);
+        interrupt_fault(&settings.lines[i as usize], irq)
+    }
+
+    /// What is wrong with new settings for the first faulty line of a request.
+    fn first_directed_fault(
+        &self,
+        place: u8,
+        lines: &Lines,
+        settings: &Resolved,
+    ) -> Option<Errno>
+        requires count { IsLineCount lines.now.count }
+        requires lines { HasEachLine self.now.places place lines.now }
+        ensures { Tells (λ w. first_fault (directed_fault (place_at w place) lines.now settings.now) 0 lines.now.count) self.now result }
+    {
+        for i in 0..lines.count {
+            match self.directed_fault(place, lines, settings, i) {
+                Some(errno) => return Some(errno),
+                None => {}
+            }
+        }
+        None
+    }
+
+    /// Configures the line at position `i` of a request with new settings, and tells of it, where they give it a direction.
+    fn reconfigure_at(&mut self, place: u8, lines: &Lines, settings: &Resolved, i: u32)
+        requires i { i < lines.now.count }
+        requires count { IsLineCount lines.now.count }
+        requires line { HasLine self.old.places place (slice_index lines.now.offsets i) }
+        ensures follows { Follows (reconfigure_at place lines.now settings.now i) self.old self.new }
+        ensures lines { KeepsLines self.old.places self.new.places }
+    {
+        if is_directed(settings, i) {
+            self.configure_at(place, lines, settings, i);
+            self.notify(place, lines.offsets[i as usize], CHANGED_CONFIG);
+        }
+    }
+
+    /// Configures the lines of a request with new settings, in order, and tells of each.
+    fn reconfigure_each(&mut self, place: u8, lines: &Lines, settings: &Resolved)
+        requires count { IsLineCount lines.now.count }
+        requires lines { HasEachLine self.old.places place lines.now }
+        ensures { Follows (reconfigure_from place settings.now 0 (offsets_of lines.now)) self.old self.new }
+    {
+        for i in 0..lines.count {
+            self.reconfigure_at(place, lines, settings, i);
+        }
+    }
+
+    /// The request of this number has these settings from now on.
+    fn keep_settings(&mut self, fd: u32, settings: &Resolved)
+        ensures follows { Follows (with_settings_of fd settings.now) self.old self.new }
+        ensures places { self.new.places ≡ self.old.places }
+    {
+        self.requests.configure(fd, settings);
+    }
+
+    /// Configures the lines of a request anew. Its events and their numbers go on.
+    fn reconfigure(
+        &mut self,
+        place: u8,
+        fd: u32,
+        lines: &Lines,
+        before: &Resolved,
+        after: &Resolved,
+    )
+        requires count { IsLineCount lines.now.count }
+        requires lines { HasEachLine self.old.places place lines.now }
+        ensures { Follows (reconfigure place fd lines.now before.now after.now) self.old self.new }
+    {
+        self.keep_settings(fd, &settings_after(before, after, lines.count));
+        self.reconfigure_each(place, lines, after);
+    }
+
+    /// SET_CONFIG on a request with these lines and these settings.
+    fn set_config_of(
+        &mut self,
+        place: u8,
+        fd: u32,
+        claim: &Claim,
+        bytes: &[u8; LINE_REQUEST_SIZE],
+        part: &Part,
+    ) -> Reply
+        requires count { IsLineCount claim.now.lines.count }
+        requires lines { HasEachLine self.old.places place claim.now.lines }
+        ensures { Steps (set_config place fd (take LINE_CONFIG_SIZE bytes.now) part.now claim.now.lines claim.now.settings) self.old self.new result }
+    {
+        let lines = &claim.lines;
+        let settings = match resolve(ConfigRef::of(bytes).unwrap(), lines.count) {
+            Ok(settings) => settings,
+            Err(errno) => return Reply::Refused(errno),
+        };
+        if let Some(errno) = self.first_directed_fault(place, lines, &settings) {
+            return Reply::Refused(errno);
+        }
+        match *part {
+            Part::Whole => Reply::Refused(Errno::Inval),
+            Part::Ask => Reply::Go(0),
+            Part::Tell(None) => Reply::Refused(Errno::Io),
+            Part::Tell(Some(_)) => {
+                self.reconfigure(place, fd, lines, &claim.settings, &settings);
+                Reply::Done
+            }
+        }
+    }
+
+    /// SET_CONFIG on an open request: refused by what is wrong with the bytes of the configuration, and then with it for one of
+    /// the lines, in order; then it goes to the driver; `Io` where the driver failed; else the lines that it gives a direction
+    /// are configured and told of, in order.
+    pub(crate) fn set_config(
+        &mut self,
+        place: u8,
+        fd: u32,
+        bytes: &[u8; LINE_REQUEST_SIZE],
+        part: &Part,
+    ) -> Reply
+        requires reached { IsReached self.old }
+        requires file { Tells (is_request_file place fd) self.old true }
+        ensures { Steps (λ w. on_request (set_config place fd (take LINE_CONFIG_SIZE bytes.now) part.now) (request_at w.requests fd) w) self.old self.new result }
+    {
+        match self.requests.claimed_as(fd) {
+            None => Reply::Refused(Errno::BadF),
+            Some(claim) => self.set_config_of(place, fd, &claim, bytes, part),
+        }
     }
 }

@@ -1,0 +1,14 @@
+-- the lines are there still, and what is left to configure makes the whole
+use Rattle.std.proofs.Common.{◌≡◌, drop}
+use Rattle.gl_base.specs.Lines.{offsets_of}
+use Rattle.gl_model.specs.Configuring.{configure_from}
+use Rattle.gl_model.specs.World.{World}
+use Rattle.gl_core.specs.Kept.{StandsFor}
+use Rattle.gl_core.specs.Shape.{KeepsLines}
+use Rattle.gl_core.proofs.state.State.configure_each.Given as goal
+
+abbrev pub invariant-loop-i : goal.invariant-loop-i
+invariant-loop-i l =
+    KeepsLines l.initial.self.places l.self.places
+    × ((w : World) → StandsFor l.initial.self w
+    → (v : World) × StandsFor l.self v × (configure_from l.place l.settings l.i (drop l.i (offsets_of l.lines)) v ≡ configure_from l.place l.settings 0 (offsets_of l.lines) w))
