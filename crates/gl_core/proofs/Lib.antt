@@ -20,4 +20,5 @@ pub mod HeldLines
 pub mod Settings
 pub mod Settling
 pub mod ReadEvents
+pub mod Telling
 pub mod Twice

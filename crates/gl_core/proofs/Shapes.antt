@@ -75,11 +75,14 @@ line_stays places at place offset f keeps line =
     }
 
 -- the holders of some lines of a place change
-pub shape_with_descs : (chips : List Chip) (origins : List Origin) (places : List Place) (place : ℕ) (offsets : List ℕ) (f : Desc → Desc) → IsShaped chips origins places
-    → IsShaped chips origins (change_at no_place place (with_descs offsets f) places)
-shape_with_descs chips origins places place offsets f = shape_changed chips origins places place (with_descs offsets f) (λ x lines h. record {
+pub with_descs_keep : (offsets : List ℕ) (f : Desc → Desc) (x : Place) (lines : ℕ) → HasLines lines x → HasLines lines (with_descs offsets f x)
+with_descs_keep offsets f x lines h = record {
   few = h.few;
   descs = length-change_each first_desc offsets f x.descs ∙ h.descs;
   bank = h.bank;
   irqs = h.irqs;
-})
+}
+
+pub shape_with_descs : (chips : List Chip) (origins : List Origin) (places : List Place) (place : ℕ) (offsets : List ℕ) (f : Desc → Desc) → IsShaped chips origins places
+    → IsShaped chips origins (change_at no_place place (with_descs offsets f) places)
+shape_with_descs chips origins places place offsets f = shape_changed chips origins places place (with_descs offsets f) (with_descs_keep offsets f)

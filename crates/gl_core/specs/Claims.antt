@@ -1,9 +1,13 @@
 -- What a claim of lines needs, and what it takes of what a call brings.
 use Rattle.std.specs.Prelude.{◌≡◌, ℕ, ◌+◌, ◌<◌, ◌^◌, length, slice_index_or, None}
 use Rattle.gl_base.specs.declared.limits.TheConstants.{FILES_MAX}
-use Rattle.gl_desc.specs.Desc.{claim_fault}
+use Rattle.gl_base.specs.Lines.{offsets_of}
+use Rattle.gl_base.specs.Rows.{change_first}
+use Rattle.gl_desc.specs.Desc.{claim_fault, settled}
 use Rattle.gl_model.specs.Asked.{AskedLines}
-use Rattle.gl_model.specs.Places.{no_place}
+use Rattle.gl_model.specs.Claiming.{held, with_descs}
+use Rattle.gl_model.specs.Places.{no_place, with_place}
+use Rattle.gl_model.specs.World.{Request, World, has_number}
 use Rattle.gl_model.specs.declared.gift.Gift.{Gift}
 use Rattle.gl_model.specs.declared.reply.Reply.{Reply}
 use Rattle.gl_model.specs.declared.reply.Reply.TheVariants.{Go}
@@ -24,3 +28,8 @@ pub record MayClaim (k : Kept) (place : ℕ) (asked : AskedLines) : Type 0 where
 abbrev pub without_ring : Reply → Gift → Gift
 without_ring (Go number) gift = record gift { ring = None }
 without_ring _ gift = gift
+
+-- the world in which the lines of a claim are held, not yet configured
+abbrev pub settled_claim : Request → World → World
+settled_claim request w =
+    with_place request.place (with_descs (offsets_of request.lines) settled) (record w { requests = change_first (has_number request.fd) held w.requests })

@@ -1,17 +1,22 @@
 //! GET_LINE: lines are claimed when they are asked for, and held when the driver has answered.
 
-ghost use Rattle.std.specs.Prelude.{◌≡◌, ◌<◌, ◌≤◌, [], IfNone, None, Some, is_some, length, take};
+ghost use Rattle.std.specs.Prelude.{◌≡◌, ◌<◌, ◌++◌, [], IfNone, IfSome, None, Some, drop, is_some, length, take};
 ghost use Rattle.circular_buffer.specs.Buffer.{buffer};
 ghost use Rattle.gl_base.specs.Lines.{IsLineCount};
 ghost use Rattle.gl_base.specs.Positions.{first_fault};
 ghost use Rattle.gl_base.specs.declared.limits.TheConstants.{LINES_PER_REQUEST};
 ghost use Rattle.gl_model.specs.Asked.{capacity_asked, request_fault};
-ghost use Rattle.gl_model.specs.Claiming.{claim, claim_lines, claim_number, claim_refusal, errno_of, get_line_ask, line_refusal};
+ghost use Rattle.gl_model.specs.Claiming.{claim, claim_at, claim_by, claim_lines, claim_number, claim_refusal, drop_claim, errno_of, get_line_ask, get_line_tell, hold_claim, line_refusal, with_fd};
 ghost use Rattle.gl_model.specs.Places.{place_at};
+ghost use Rattle.gl_model.specs.World.{Request, request_at};
+ghost use Rattle.gl_request.specs.Request.{claim_of};
+ghost use Rattle.std.specs.Option.{option_map};
 ghost use Rattle.gl_uapi.specs.declared.layout.TheConstants.{LINE_REQUEST_SIZE};
-ghost use Rattle.gl_core.specs.Claims.{AreFree, MayClaim, without_ring};
-ghost use Rattle.gl_core.specs.Shape.{HasLines};
-ghost use Rattle.gl_core.specs.Steps.{Follows, Steps, Tells};
+ghost use Rattle.gl_core.specs.Claims.{AreFree, MayClaim, settled_claim, without_ring};
+ghost use Rattle.gl_core.specs.Kept.{kept_request};
+ghost use Rattle.gl_core.specs.Reached.{IsReached};
+ghost use Rattle.gl_core.specs.Shape.{HasEachLine, HasLines, KeepsLines};
+ghost use Rattle.gl_core.specs.Steps.{Follows, Steps, StepsInto, Tells};
 
 use crate::asked::Asked;
 use crate::configuring::interrupt_fault;
@@ -21,7 +26,8 @@ use gl_desc::LineFault;
 use gl_model::{Gift, Place, Reply};
 use gl_request::Claim;
 use gl_ring::EdgeRing;
-use gl_uapi::layout::LINE_REQUEST_SIZE;
+use gl_uapi::layout::{CHANGED_REQUESTED, LINE_REQUEST_SIZE};
+use gl_uapi::write_request_answer;
 
 /// The error of a line that can't be claimed.
 fn errno_of(fault: LineFault) -> Errno
@@ -62,6 +68,14 @@ fn first_refusal(tables: &Place, asked: &Asked) -> Option<Errno>
         }
     }
     None
+}
+
+/// Writes a request with the number of its file, as far as the buffer goes.
+fn write_with_fd(out: &mut [u8], request: &[u8; LINE_REQUEST_SIZE], fd: u32)
+    ensures { let bytes = with_fd (length out.old) fd request.now in out.new ≡ bytes ++ drop (length bytes) out.old }
+{
+    let end = out.len().min(LINE_REQUEST_SIZE);
+    write_request_answer(&mut out[..end], request, fd);
 }
 
 impl State {
@@ -156,6 +170,99 @@ impl State {
         match Asked::of(bytes) {
             Err(errno) => Reply::Refused(errno),
             Ok(asked) => self.claim(place, actor, &asked, gift),
+        }
+    }
+
+    /// An actor's unfinished claim, if it is of this place.
+    fn claim_at(&self, place: u8, actor: u8) -> Option<Claim>
+        requires { IsReached self.now }
+        ensures told { Tells (λ w. option_map (λ request. claim_of (kept_request request)) (claim_at place (claim_by w.requests actor))) self.now result }
+        ensures count { IfSome result (λ claim. IsLineCount claim.lines.count) }
+        ensures lines { IfSome result (λ claim. HasEachLine self.now.places claim.place claim.lines) }
+    {
+        match self.requests.pending(actor) {
+            None => None,
+            Some(fd) => self.claim_of_place(place, fd),
+        }
+    }
+
+    /// What the request of a number was claimed as, if it is of this place.
+    fn claim_of_place(&self, place: u8, fd: u32) -> Option<Claim>
+        requires { IsReached self.now }
+        ensures told { Tells (λ w. option_map (λ request. claim_of (kept_request request)) (claim_at place (request_at w.requests fd))) self.now result }
+        ensures count { IfSome result (λ claim. IsLineCount claim.lines.count) }
+        ensures lines { IfSome result (λ claim. HasEachLine self.now.places claim.place claim.lines) }
+    {
+        match self.requests.claimed_as(fd) {
+            None => None,
+            Some(claim) => {
+                if claim.place == place {
+                    Some(claim)
+                } else {
+                    None
+                }
+            }
+        }
+    }
+
+    /// Gives up a claim: its lines are free again.
+    fn drop_claim(&mut self, claim: &Claim)
+        requires { IsLineCount claim.now.lines.count }
+        ensures { (request : Request) → claim_of (kept_request request) ≡ claim.now → Follows (drop_claim request) self.old self.new }
+    {
+        self.requests.release(claim.fd);
+        self.places.unclaim(claim.place, &claim.lines);
+    }
+
+    /// A claim becomes a hold of its lines.
+    fn settle_claim(&mut self, claim: &Claim)
+        requires { IsLineCount claim.now.lines.count }
+        ensures follows { (request : Request) → claim_of (kept_request request) ≡ claim.now → Follows (settled_claim request) self.old self.new }
+        ensures lines { KeepsLines self.old.places self.new.places }
+    {
+        self.requests.settle(claim.fd);
+        self.places.settle(claim.place, &claim.lines);
+    }
+
+    /// Finishes a claim: its lines are held, configured, and told of as requested, each in order.
+    fn hold_claim(&mut self, claim: &Claim)
+        requires count { IsLineCount claim.now.lines.count }
+        requires lines { HasEachLine self.old.places claim.now.place claim.now.lines }
+        ensures { (request : Request) → claim_of (kept_request request) ≡ claim.now → Follows (hold_claim request) self.old self.new }
+    {
+        self.settle_claim(claim);
+        self.configure_each(claim.place, &claim.lines, &claim.settings);
+        self.notify_each(claim.place, &claim.lines, CHANGED_REQUESTED);
+    }
+
+    /// GET_LINE is told what the driver answered, `None` where it failed. The actor's unfinished claim at this place alone
+    /// decides: `Inval` without one; `Io` where the driver failed, and then the claim is given up, so that this is the one
+    /// refusal that changes the machine. Else the lines are held, the request is written with the number of its file, as far as
+    /// the buffer goes, and the answer is this number.
+    pub(crate) fn get_line_tell(
+        &mut self,
+        place: u8,
+        actor: u8,
+        answer: Option<u64>,
+        bytes: &[u8; LINE_REQUEST_SIZE],
+        out: &mut [u8],
+    ) -> Reply
+        requires { IsReached self.old }
+        ensures { StepsInto (get_line_tell place actor answer (length out.old) bytes.now) self.old self.new result out.old out.new }
+    {
+        match self.claim_at(place, actor) {
+            None => Reply::Refused(Errno::Inval),
+            Some(claim) => match answer {
+                None => {
+                    self.drop_claim(&claim);
+                    Reply::Refused(Errno::Io)
+                }
+                Some(_) => {
+                    self.hold_claim(&claim);
+                    write_with_fd(out, bytes, claim.fd);
+                    Reply::Number(u64::from(claim.fd))
+                }
+            },
         }
     }
 }

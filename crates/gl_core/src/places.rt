@@ -9,7 +9,7 @@ ghost use Rattle.gl_bank.specs.Level.{first_levels, levels_at, released};
 ghost use Rattle.gl_base.specs.Positions.{change_at, change_each};
 ghost use Rattle.gl_model.specs.Opening.{with_lines_freed};
 ghost use Rattle.gl_base.specs.Refusals.{answer};
-ghost use Rattle.gl_desc.specs.Desc.{claim_fault, claimed};
+ghost use Rattle.gl_desc.specs.Desc.{claim_fault, claimed, freed, settled};
 ghost use Rattle.gl_irq.specs.Irq.{act_refusal};
 ghost use Rattle.gl_model.specs.Claiming.{with_descs};
 ghost use Rattle.gl_model.specs.Configuring.{configured_on, with_levels};
@@ -123,6 +123,30 @@ fn free(places: &mut Vec<Place>, place: u8, lines: &Lines)
         let tables = &mut places[usize::from(place)];
         tables.descs.free(lines);
         release_each(&mut tables.bank, lines.offsets());
+    }
+}
+
+/// Nobody has the lines of a claim any more.
+fn unclaim(places: &mut Vec<Place>, place: u8, lines: &Lines)
+    requires { IsLineCount lines.now.count }
+    ensures places { places.new.items ≡ change_at no_place place (with_descs (offsets_of lines.now) freed) places.old.items }
+    ensures capacity { vec_capacity places.new ≡ vec_capacity places.old }
+    ensures as_many { length places.new.items ≡ length places.old.items }
+{
+    if usize::from(place) < places.len() {
+        places[usize::from(place)].descs.free(lines);
+    }
+}
+
+/// The lines of a claim are held.
+fn settle(places: &mut Vec<Place>, place: u8, lines: &Lines)
+    requires { IsLineCount lines.now.count }
+    ensures places { places.new.items ≡ change_at no_place place (with_descs (offsets_of lines.now) settled) places.old.items }
+    ensures capacity { vec_capacity places.new ≡ vec_capacity places.old }
+    ensures as_many { length places.new.items ≡ length places.old.items }
+{
+    if usize::from(place) < places.len() {
+        places[usize::from(place)].descs.settle(lines);
     }
 }
 
@@ -310,5 +334,21 @@ impl Places {
         ensures { self.new ≡ change_at no_place place (with_levels offset (configured_on kind settings.now)) self.old }
     {
         configure(&mut self.used, place, offset, kind, settings);
+    }
+
+    /// Nobody has the lines of a claim any more. Their levels stay.
+    pub fn unclaim(&mut self, place: u8, lines: &Lines)
+        requires { IsLineCount lines.now.count }
+        ensures { self.new ≡ change_at no_place place (with_descs (offsets_of lines.now) freed) self.old }
+    {
+        unclaim(&mut self.used, place, lines);
+    }
+
+    /// The request that claimed lines holds them.
+    pub fn settle(&mut self, place: u8, lines: &Lines)
+        requires { IsLineCount lines.now.count }
+        ensures { self.new ≡ change_at no_place place (with_descs (offsets_of lines.now) settled) self.old }
+    {
+        settle(&mut self.used, place, lines);
     }
 }
