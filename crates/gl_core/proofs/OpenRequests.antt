@@ -1,10 +1,9 @@
 -- Open requests: the request of a number is the world's, and its lines are lines of its place.
-use Rattle.std.proofs.Common.{◌≡◌, ℕ, zero, suc, ◌<◌, ◌≤◌, Bool, true, false, List, [], ◌∷◌, length, take, Option, Some, None, refl, sym, ap, ◌∙◌, subst, inl, inr, eq-eqb, arith}
+use Rattle.std.proofs.Common.{◌≡◌, ℕ, zero, suc, ◌<◌, ◌≤◌, Bool, true, false, List, [], ◌∷◌, length, take, Option, Some, None, refl, sym, ap, ◌∙◌, subst, eq-eqb, arith}
 use Rattle.std.specs.Prelude.{◌&&◌, ◌||◌, nat_eq, slice_index, slice_index_or}
 use Rattle.std.specs.List.{list_any}
 use Rattle.std.specs.Option.{option_map}
-use Rattle.std.proofs.lemmas.Bool.{cases_lt, true≢false}
-use Rattle.std.proofs.lemmas.List.{get_or_past}
+use Rattle.std.proofs.lemmas.Bool.{true≢false}
 use Rattle.gl_base.proofs.FirstRows.{Each-find}
 use Rattle.gl_base.specs.declared.lines.Lines.{Lines}
 use Rattle.gl_base.specs.declared.settings.Resolved.{Resolved}
@@ -20,7 +19,7 @@ use Rattle.gl_model.specs.declared.place.Place.{Place}
 use Rattle.gl_model.proofs.Phases.{both, same_number}
 use Rattle.gl_core.specs.Kept.{Kept, StandsFor, kept_request}
 use Rattle.gl_core.specs.Reached.{IsReached}
-use Rattle.gl_core.specs.Shape.{HasEachLine, HasLine, IsShaped}
+use Rattle.gl_core.specs.Shape.{HasEachLine, IsShaped}
 use Rattle.gl_core.specs.Steps.{Tells}
 use Rattle.gl_core.proofs.KeptRequests.{kept_at}
 use Rattle.gl_core.proofs.RequestLines.{line_there}

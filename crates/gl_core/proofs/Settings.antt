@@ -1,5 +1,5 @@
 -- What the core stands for where a request has other settings.
-use Rattle.std.proofs.Common.{◌≡◌, ℕ, List, map, refl, ap, ◌∙◌}
+use Rattle.std.proofs.Common.{ℕ, List, refl, ap, ◌∙◌}
 use Rattle.gl_base.specs.Rows.{change_first}
 use Rattle.gl_base.specs.declared.settings.Resolved.{Resolved}
 use Rattle.gl_base.proofs.FirstRows.{Each-change_first}

@@ -1,5 +1,5 @@
 -- The end of a claim: which one an actor has at a place, and what the core stands for after it was given up or became a hold.
-use Rattle.std.proofs.Common.{◌≡◌, ◌≢◌, ℕ, zero, suc, ◌+◌, ◌<◌, ◌≤◌, min, Bool, true, false, cond, List, [], ◌∷◌, length, take, map, Option, Some, None, refl, sym, ap, ◌∙◌, subst, eq-eqb, arith}
+use Rattle.std.proofs.Common.{◌≡◌, ◌≢◌, ℕ, zero, suc, ◌<◌, ◌≤◌, min, true, false, cond, List, [], ◌∷◌, length, take, Option, Some, None, refl, sym, ap, ◌∙◌, subst, eq-eqb, arith}
 use Rattle.std.specs.Prelude.{◌==◌, slice_index}
 use Rattle.std.specs.Option.{option_map}
 use Rattle.std.proofs.lemmas.Bool.{ne_eqb}
@@ -84,7 +84,7 @@ settled_stands k w request claim s same =
     (record {
       kept_so =
           ap (λ (rows : List RequestRow). record (kept_of (settled_claim request w)) { requests = rows })
-              (map-change_first kept_request (has_number request.fd) (is_number request.fd) held held_row (λ r. refl) w.requests (λ r is. refl))
+          (map-change_first kept_request (has_number request.fd) (is_number request.fd) held held_row (λ r. refl) w.requests (λ r is. refl))
           ∙ ap (λ (k : Kept). record k { requests = change_first (is_number request.fd) held_row k.requests; places = change_at no_place request.place (with_descs (offsets_of request.lines) settled) k.places }) s.kept_so;
       sound_requests = Each-change_first IsSoundRequest (has_number request.fd) held w.requests
           (λ r sound. record { in_order = sound.in_order; at_most = sound.at_most; lines_differ = sound.lines_differ }) s.sound_requests;

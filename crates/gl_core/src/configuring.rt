@@ -136,13 +136,7 @@ impl State {
 
     /// What is wrong with new settings for the line at position `i` of a request. A line that they give no direction is left as
     /// it is.
-    fn directed_fault(
-        &self,
-        place: u8,
-        lines: &Lines,
-        settings: &Resolved,
-        i: u32,
-    ) -> Option<Errno>
+    fn directed_fault(&self, place: u8, lines: &Lines, settings: &Resolved, i: u32) -> Option<Errno>
         requires i { i < lines.now.count }
         requires count { IsLineCount lines.now.count }
         requires line { HasLine self.now.places place (slice_index lines.now.offsets i) }
@@ -156,12 +150,7 @@ impl State {
     }
 
     /// What is wrong with new settings for the first faulty line of a request.
-    fn first_directed_fault(
-        &self,
-        place: u8,
-        lines: &Lines,
-        settings: &Resolved,
-    ) -> Option<Errno>
+    fn first_directed_fault(&self, place: u8, lines: &Lines, settings: &Resolved) -> Option<Errno>
         requires count { IsLineCount lines.now.count }
         requires lines { HasEachLine self.now.places place lines.now }
         ensures { Tells (λ w. first_fault (directed_fault (place_at w place) lines.now settings.now) 0 lines.now.count) self.now result }

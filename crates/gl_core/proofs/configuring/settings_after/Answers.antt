@@ -14,6 +14,6 @@ pub loop-i-init : goal.loop-i-init
 loop-i-init c = (
   refl,
   λ k d lt.
-    let first : 0 ≡ k = omega arith in
-    get_or-replicate 64 k c.line_after-first.result d (omega arith) ∙ c.line_after-first.ensures ∙ ap (line_after c.args.before.now c.args.after.now) first,
+      let first : 0 ≡ k = omega arith in
+      get_or-replicate 64 k c.line_after-first.result d (omega arith) ∙ c.line_after-first.ensures ∙ ap (line_after c.args.before.now c.args.after.now) first,
 )

@@ -1,4 +1,4 @@
-use Rattle.std.proofs.Common.{◌≡◌, ℕ, Option, Some, None, refl, ap, ◌∙◌, sym, subst}
+use Rattle.std.proofs.Common.{◌≡◌, ℕ, Option, Some, None, refl, ◌∙◌, sym, subst}
 use Rattle.std.specs.Option.{option_and_then, option_map}
 use Rattle.gl_model.specs.Claiming.{claim_at, claim_number}
 use Rattle.gl_model.specs.World.{request_at}

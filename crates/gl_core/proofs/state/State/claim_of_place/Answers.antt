@@ -1,8 +1,8 @@
-use Rattle.std.proofs.Common.{rules, ◌≡◌, ap, sym, ◌∙◌, subst, length, Some, None}
+use Rattle.std.proofs.Common.{rules, ◌≡◌, ap, sym, ◌∙◌, subst, length, Some}
 use Rattle.std.specs.Option.{option_map}
 use Rattle.gl_request.specs.Request.{claim_of, request_at as row_at}
 use Rattle.gl_model.specs.World.{request_at}
-use Rattle.gl_core.specs.Kept.{Kept, StandsFor}
+use Rattle.gl_core.specs.Kept.{Kept}
 use Rattle.gl_core.specs.Shape.{IsShaped}
 use Rattle.gl_core.proofs.RequestLines.{lines_reached}
 use Rattle.gl_core.proofs.Telling.{claim_seen, each_claimed, none_at, other_at, some_at}

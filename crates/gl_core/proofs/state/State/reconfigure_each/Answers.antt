@@ -15,12 +15,13 @@ pub loop-i-preserved : goal.loop-i-preserved
 loop-i-preserved c = (
   λ place offset line. c.reconfigure_at.ensures.lines place offset (c.loop-i.invariant.0 place offset line),
   λ w s.
-    let so_far = c.loop-i.invariant.1 w s in
-    let size : length c.args.lines.now.offsets ≡ 64 = search rules in
-    let few : c.args.lines.now.count ≤ length c.args.lines.now.offsets = omega (arith, size, c.requires.count.1) in
-    (reconfigure_at c.args.place c.args.lines.now c.args.settings.now c.loop-i.i so_far.0,
-    c.reconfigure_at.ensures.follows so_far.0 so_far.1,
-    sym (reconfigure_more c.args.place c.args.settings.now c.args.lines.now c.loop-i.i so_far.0 c.loop-i-test.true few) ∙ so_far.2),
+      let so_far = c.loop-i.invariant.1 w s in
+      let size : length c.args.lines.now.offsets ≡ 64 = search rules in
+      let few : c.args.lines.now.count ≤ length c.args.lines.now.offsets = omega (arith, size, c.requires.count.1) in (
+        reconfigure_at c.args.place c.args.lines.now c.args.settings.now c.loop-i.i so_far.0,
+        c.reconfigure_at.ensures.follows so_far.0 so_far.1,
+        sym (reconfigure_more c.args.place c.args.settings.now c.args.lines.now c.loop-i.i so_far.0 c.loop-i-test.true few) ∙ so_far.2,
+      ),
 )
 
 pub returns : goal.returns

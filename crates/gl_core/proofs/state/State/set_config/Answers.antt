@@ -2,8 +2,6 @@ use Rattle.std.proofs.Common.{rules, ◌≡◌, take, length, Some, None, refl, 
 use Rattle.std.specs.Option.{option_map}
 use Rattle.gl_base.specs.declared.errno.Errno.TheVariants.{BadF}
 use Rattle.gl_request.specs.Request.{claim_of, request_at}
-use Rattle.gl_request.specs.declared.row.Claim.{Claim}
-use Rattle.gl_request.specs.declared.row.RequestRow.{RequestRow}
 use Rattle.gl_uapi.specs.declared.layout.TheConstants.{LINE_CONFIG_SIZE}
 use Rattle.gl_model.specs.Configuring.{set_config}
 use Rattle.gl_model.specs.declared.reply.Reply.{Reply}

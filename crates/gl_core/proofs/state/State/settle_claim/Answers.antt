@@ -1,4 +1,4 @@
-use Rattle.std.proofs.Common.{List, ap, sym, subst}
+use Rattle.std.proofs.Common.{List, sym, subst}
 use Rattle.gl_base.specs.Lines.{offsets_of}
 use Rattle.gl_desc.specs.Desc.{settled}
 use Rattle.gl_model.specs.Claiming.{with_descs}
