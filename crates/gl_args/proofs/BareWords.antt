@@ -1,23 +1,21 @@
 -- gpiodetect without chip words.
-use Rattle.std.proofs.Common.{◌≡◌, ℕ, Bool, true, false, cond, ◌&&◌, List, [], ◌∷◌, length, map, Option, None, Some, Vec, Global, refl, ap, sym, ◌∙◌, arith}
+use Rattle.std.proofs.Common.{◌≡◌, ℕ, Bool, true, false, cond, ◌&&◌, List, [], ◌∷◌, length, map, Option, None, Some, refl, ap, sym, ◌∙◌, arith}
 use Rattle.std.specs.Prelude.{find, codes, is_some, nat_lt, nat_eq}
 use Rattle.std.specs.List.{starts_with}
 use Rattle.std.specs.Str.{bytes_eq}
 use Rattle.std.proofs.lemmas.List.{length-map}
-use Rattle.gl_base.specs.declared.name.Name.{Name}
 use Rattle.gl_args.specs.declared.names.ToolName.{ToolName}
 use Rattle.gl_args.specs.declared.names.ToolName.TheVariants.{Detect, Info, Get, Set, Watch, Notify}
 use Rattle.gl_args.specs.declared.names.OptionName.{OptionName}
 use Rattle.gl_args.specs.declared.names.OptionName.TheVariants.{Chip, ByName, Strict, Unquoted, Numeric, ActiveLow, Bias, Drive, Period, Edges, Event, Count, Format, Consumer}
 use Rattle.gl_args.specs.declared.names.TheConstants.{OPTIONS}
 use Rattle.gl_args.specs.declared.items.WordKind.TheVariants.{Ends, Line, Wrong}
-use Rattle.gl_args.specs.declared.tool.Tool.{Tool}
-use Rattle.gl_args.specs.declared.tool.Tool.TheVariants.{Detect as DetectTool}
 use Rattle.gl_args.specs.Counts.{are_none, is_bare, IsBareDetect}
 use Rattle.gl_args.specs.Cuts.{before, behind}
 use Rattle.gl_args.specs.Items.{Item, line_word, with_front, behind_step, kind_step, long_kind, short_kind, looks_short, begins_with_dash, reads, items_of}
 use Rattle.gl_args.specs.Names.{has_option, is_long, is_short, long_name, short_name, long_option, short_option, tool_named}
-use Rattle.gl_args.specs.Tools.{line_words, name_or_none, right_items, right_said, are_right, said_by, said_behind, IsTool, SaysTool, Says}
+use Rattle.gl_args.specs.Options.{SaidTool, SaidDetect}
+use Rattle.gl_args.specs.Tools.{line_words, name_or_none, right_items, right_said, are_right, tool_by, tool_of, tool_behind, tool_said}
 use Rattle.gl_args.proofs.Fronts.{no_front}
 
 and_no : (b : Bool) → (b && false) ≡ false
@@ -83,34 +81,33 @@ nothing : (xs : List (List ℕ)) → length xs ≡ 0 → xs ≡ []
 nothing [] e = refl
 nothing (x ∷ xs) e = absurd (omega arith)
 
-none_said : (items : List Item) (names : Vec Name Global) → length names.items ≡ 0 → names.items ≡ map name_or_none (line_words items) → line_words items ≡ []
-none_said items names none e = nothing (line_words items) (sym (length-map (line_words items) name_or_none) ∙ sym (ap length e) ∙ none)
+none_said : (items : List Item) (names : List (List ℕ)) → length names ≡ 0 → map name_or_none (line_words items) ≡ names → line_words items ≡ []
+none_said items names none e = nothing (line_words items) (sym (length-map (line_words items) name_or_none) ∙ ap length e ∙ none)
 
-module _ (words : List (List ℕ)) (names : Vec Name Global) (none : length names.items ≡ 0) where
-  by_items : (b : Bool) (items : List Item) → items_of Detect words ≡ Some items → SaysTool (said_by Detect (cond b (Some items) None)) (DetectTool names) → is_bare words ≡ true
-  by_items false items e s = absurd s
-  by_items true items e s = bare_words words items e (none_said items names none s)
+module _ (words names : List (List ℕ)) (none : length names ≡ 0) where
+  by_items : (b : Bool) (items : List Item) → items_of Detect words ≡ Some items → tool_of Detect (cond b (Some items) None) ≡ Some (SaidDetect names) → is_bare words ≡ true
+  by_items false items e s = cc
+  by_items true items e s =
+      let same : map name_or_none (line_words items) ≡ names = cc in
+      bare_words words items e (none_said items names none same)
 
-  by_said : (o : Option (List Item)) → items_of Detect words ≡ o → SaysTool (said_by Detect (right_items Detect o)) (DetectTool names) → is_bare words ≡ true
-  by_said None e s = absurd s
+  by_said : (o : Option (List Item)) → items_of Detect words ≡ o → tool_of Detect (right_items Detect o) ≡ Some (SaidDetect names) → is_bare words ≡ true
+  by_said None e s = cc
   by_said (Some items) e s = by_items (are_right Detect items) items e s
 
-  other_by : (name : ToolName) (o : Option (List Item)) → ((items : List Item) → IsTool name items (DetectTool names) → ⊥) → SaysTool (said_by name o) (DetectTool names) → ⊥
-  other_by name None h s = s
-  other_by name (Some items) h s = h items s
+  other_by : (name : ToolName) (o : Option (List Item)) → ((items : List Item) → tool_by name items ≡ SaidDetect names → ⊥) → tool_of name o ≡ Some (SaidDetect names) → ⊥
+  other_by name None h s = cc
+  other_by name (Some items) h s = h items (let same : tool_by name items ≡ SaidDetect names = cc in same)
 
-  by_name : (o : Option ToolName) → SaysTool (said_behind o words) (DetectTool names) → is_bare words ≡ true
-  by_name None s = absurd s
+  by_name : (o : Option ToolName) → tool_behind o words ≡ Some (SaidDetect names) → is_bare words ≡ true
+  by_name None s = cc
   by_name (Some Detect) s = by_said (items_of Detect words) refl s
-  by_name (Some Info) s = absurd (other_by Info (right_said Info words) (λ items h. h) s)
-  by_name (Some Get) s = absurd (other_by Get (right_said Get words) (λ items h. h) s)
-  by_name (Some Set) s = absurd (other_by Set (right_said Set words) (λ items h. h) s)
-  by_name (Some Watch) s = absurd (other_by Watch (right_said Watch words) (λ items h. h) s)
-  by_name (Some Notify) s = absurd (other_by Notify (right_said Notify words) (λ items h. h) s)
+  by_name (Some Info) s = absurd (other_by Info (right_said Info words) (λ items h. cc) s)
+  by_name (Some Get) s = absurd (other_by Get (right_said Get words) (λ items h. cc) s)
+  by_name (Some Set) s = absurd (other_by Set (right_said Set words) (λ items h. cc) s)
+  by_name (Some Watch) s = absurd (other_by Watch (right_said Watch words) (λ items h. cc) s)
+  by_name (Some Notify) s = absurd (other_by Notify (right_said Notify words) (λ items h. cc) s)
 
-pub bare_detect : (word : List ℕ) (words : List (List ℕ)) (names : Vec Name Global) → Says (word ∷ words) (DetectTool names) → length names.items ≡ 0 → is_bare words ≡ true
-bare_detect word words names s none = by_name words names none (tool_named word) s
-
-pub bare_tool : (word : List ℕ) (words : List (List ℕ)) (tool : Tool) → Says (word ∷ words) tool → IsBareDetect tool → is_bare words ≡ true
-bare_tool word words (DetectTool names) s none = bare_detect word words names s none
+pub bare_tool : (word : List ℕ) (words : List (List ℕ)) (tool : SaidTool) → tool_said (word ∷ words) ≡ Some tool → IsBareDetect tool → is_bare words ≡ true
+bare_tool word words (SaidDetect names) s none = by_name words names none (tool_named word) s
 bare_tool word words _ s none = absurd none

@@ -10,15 +10,13 @@ use Rattle.gl_args.specs.declared.names.ToolName.{ToolName}
 use Rattle.gl_args.specs.declared.names.ToolName.TheVariants.{Detect, Info, Get, Set, Watch, Notify}
 use Rattle.gl_args.specs.declared.names.OptionName.{OptionName}
 use Rattle.gl_args.specs.declared.names.OptionName.TheVariants.{Chip, ByName, Strict, Unquoted, Numeric, ActiveLow, Bias, Drive, Period, Edges, Event, Count, Format, Consumer}
-use Rattle.gl_args.specs.declared.tool.Opts.{Opts}
-use Rattle.gl_args.specs.declared.tool.Tool.{Tool}
-use Rattle.gl_args.specs.declared.tool.Tool.TheVariants.{Info as InfoTool}
 use Rattle.gl_args.specs.Counts.{is_chip_option, IsInfo, IsChipInfo}
 use Rattle.gl_args.specs.Cuts.{before, behind}
 use Rattle.gl_args.specs.Items.{Item, Step, given, line_word, text_of, with_front, to_list, behind_step, step, step_of, kind_step, long_kind, is_value, reads, items_of}
 use Rattle.gl_args.specs.LookUps.{has, value_of, gives, has_twice}
 use Rattle.gl_args.specs.Names.{long_option, tool_named}
-use Rattle.gl_args.specs.Tools.{line_words, with_line, item_is_right, name_given, right_items, right_said, are_right, said_by, said_behind, IsTool, SaysTool, Says}
+use Rattle.gl_args.specs.Options.{Options, SaidTool, SaidInfo}
+use Rattle.gl_args.specs.Tools.{line_words, with_line, item_is_right, name_given, right_items, right_said, are_right, options_of, tool_by, tool_of, tool_behind, tool_said}
 use Rattle.gl_args.specs.Values.{is_right, is_empty}
 use Rattle.gl_args.proofs.Fronts.{no_front}
 
@@ -176,32 +174,33 @@ empty : (xs : List (List ℕ)) → length xs ≡ 0 → xs ≡ []
 empty [] e = refl
 empty (x ∷ xs) e = absurd (omega arith)
 
-module _ (words : List (List ℕ)) (opts : Opts) (any : list_any is_chip_option words ≡ true) where
-  by_items : (b : Bool) (items : List Item) → are_right Info items ≡ b → items_of Info words ≡ Some items → SaysTool (said_by Info (cond b (Some items) None)) (InfoTool opts) → is_some opts.chip ≡ true
-  by_items false items right e s = absurd s
+module _ (words : List (List ℕ)) (opts : Options) (any : list_any is_chip_option words ≡ true) where
+  by_items : (b : Bool) (items : List Item) → are_right Info items ≡ b → items_of Info words ≡ Some items → tool_of Info (cond b (Some items) None) ≡ Some (SaidInfo opts) → is_some opts.chip ≡ true
+  by_items false items right e s = cc
   by_items true items right e s =
+      let same : options_of Info items ≡ opts = cc in
       let all = both (list_all (item_is_right Info) items) (not (has_twice items) && nat_le (length (line_words items)) 0) right in
       let few = both (not (has_twice items)) (nat_le (length (line_words items)) 0) all.1 in
       let none : line_words items ≡ [] = empty (line_words items) (no_lines (length (line_words items)) few.1) in
-      ap is_some s.chip ∙ value_there items (info_reads words false None items e none any) all.0
+      sym (ap (λ (o : Options). is_some o.chip) same) ∙ value_there items (info_reads words false None items e none any) all.0
 
-  by_said : (o : Option (List Item)) → items_of Info words ≡ o → SaysTool (said_by Info (right_items Info o)) (InfoTool opts) → is_some opts.chip ≡ true
-  by_said None e s = absurd s
+  by_said : (o : Option (List Item)) → items_of Info words ≡ o → tool_of Info (right_items Info o) ≡ Some (SaidInfo opts) → is_some opts.chip ≡ true
+  by_said None e s = cc
   by_said (Some items) e s = by_items (are_right Info items) items refl e s
 
-  other_by : (name : ToolName) (o : Option (List Item)) → ((items : List Item) → IsTool name items (InfoTool opts) → ⊥) → SaysTool (said_by name o) (InfoTool opts) → ⊥
-  other_by name None h s = s
-  other_by name (Some items) h s = h items s
+  other_by : (name : ToolName) (o : Option (List Item)) → ((items : List Item) → tool_by name items ≡ SaidInfo opts → ⊥) → tool_of name o ≡ Some (SaidInfo opts) → ⊥
+  other_by name None h s = cc
+  other_by name (Some items) h s = h items (let same : tool_by name items ≡ SaidInfo opts = cc in same)
 
-  by_name : (o : Option ToolName) → SaysTool (said_behind o words) (InfoTool opts) → is_some opts.chip ≡ true
-  by_name None s = absurd s
+  by_name : (o : Option ToolName) → tool_behind o words ≡ Some (SaidInfo opts) → is_some opts.chip ≡ true
+  by_name None s = cc
   by_name (Some Info) s = by_said (items_of Info words) refl s
-  by_name (Some Detect) s = absurd (other_by Detect (right_said Detect words) (λ items h. h) s)
-  by_name (Some Get) s = absurd (other_by Get (right_said Get words) (λ items h. h) s)
-  by_name (Some Set) s = absurd (other_by Set (right_said Set words) (λ items h. h) s)
-  by_name (Some Watch) s = absurd (other_by Watch (right_said Watch words) (λ items h. h) s)
-  by_name (Some Notify) s = absurd (other_by Notify (right_said Notify words) (λ items h. h) s)
+  by_name (Some Detect) s = absurd (other_by Detect (right_said Detect words) (λ items h. cc) s)
+  by_name (Some Get) s = absurd (other_by Get (right_said Get words) (λ items h. cc) s)
+  by_name (Some Set) s = absurd (other_by Set (right_said Set words) (λ items h. cc) s)
+  by_name (Some Watch) s = absurd (other_by Watch (right_said Watch words) (λ items h. cc) s)
+  by_name (Some Notify) s = absurd (other_by Notify (right_said Notify words) (λ items h. cc) s)
 
-pub chip_info : (word : List ℕ) (words : List (List ℕ)) (tool : Tool) → Says (word ∷ words) tool → IsInfo tool → list_any is_chip_option words ≡ true → IsChipInfo tool
-chip_info word words (InfoTool opts) s is any = by_name words opts any (tool_named word) s
+pub chip_info : (word : List ℕ) (words : List (List ℕ)) (tool : SaidTool) → tool_said (word ∷ words) ≡ Some tool → IsInfo tool → list_any is_chip_option words ≡ true → IsChipInfo tool
+chip_info word words (SaidInfo opts) s is any = by_name words opts any (tool_named word) s
 chip_info word words _ s is any = absurd is

@@ -5,3 +5,4 @@ pub mod Divided
 pub mod Fronts
 pub mod LineCounts
 pub mod Programs
+pub mod SameOptions

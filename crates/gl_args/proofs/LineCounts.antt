@@ -4,13 +4,11 @@ use Rattle.std.proofs.lemmas.List.{length-map}
 use Rattle.gl_args.specs.declared.names.ToolName.{ToolName}
 use Rattle.gl_args.specs.declared.names.ToolName.TheVariants.{Detect, Info, Get, Set, Watch, Notify}
 use Rattle.gl_args.specs.declared.names.OptionName.{OptionName}
-use Rattle.gl_args.specs.declared.tool.Tool.{Tool}
-use Rattle.gl_args.specs.declared.tool.Tool.TheVariants.{Detect as DetectTool, Info as InfoTool, Get as GetTool, Set as SetTool, Watch as WatchTool, Notify as NotifyTool}
-use Rattle.gl_args.specs.declared.tool.Opts.{Opts}
 use Rattle.gl_args.specs.Counts.{line_total}
 use Rattle.gl_args.specs.Items.{Item, Step, with_front, behind_step, to_list, step_of, reads, items_of}
 use Rattle.gl_args.specs.Names.{tool_named}
-use Rattle.gl_args.specs.Tools.{line_words, with_line, name_or_none, line_or_none, right_items, are_right, said_by, said_behind, IsOpts, IsTool, SaysTool, Says}
+use Rattle.gl_args.specs.Options.{SaidTool}
+use Rattle.gl_args.specs.Tools.{line_words, with_line, name_or_none, line_or_none, right_items, are_right, options_of, tool_by, tool_of, tool_behind, tool_said}
 use Rattle.gl_args.specs.Values.{line_said}
 
 length-to_list : (o : Option Item) → length (to_list o) ≤ 1
@@ -46,32 +44,32 @@ lines_few : (items : List Item) → length (line_words items) ≤ length items
 lines_few [] = omega arith
 lines_few (item ∷ items) = omega (arith, line_few item.option item.text (line_words items), lines_few items)
 
-opts_few : (name : ToolName) (items : List Item) (opts : Opts) → IsOpts name items opts → length opts.lines.items ≤ length items
-opts_few name items opts is =
-    omega (arith, ap length is.lines, length-map (line_words items) (λ word. line_or_none (line_said name word)), lines_few items)
+opts_few : (name : ToolName) (items : List Item) → length (options_of name items).lines ≤ length items
+opts_few name items = omega (arith, length-map (line_words items) (λ word. line_or_none (line_said name word)), lines_few items)
 
-tool_few : (name : ToolName) (items : List Item) (tool : Tool) → IsTool name items tool → line_total tool ≤ length items
-tool_few Detect items (DetectTool names) is = omega (arith, ap length is, length-map (line_words items) name_or_none, lines_few items)
-tool_few Info items (InfoTool opts) is = opts_few Info items opts is
-tool_few Get items (GetTool opts) is = opts_few Get items opts is
-tool_few Set items (SetTool opts) is = opts_few Set items opts is
-tool_few Watch items (WatchTool opts) is = opts_few Watch items opts is
-tool_few Notify items (NotifyTool opts) is = opts_few Notify items opts is
-tool_few _ items _ is = absurd is
+tool_few : (name : ToolName) (items : List Item) → line_total (tool_by name items) ≤ length items
+tool_few Detect items = omega (arith, length-map (line_words items) name_or_none, lines_few items)
+tool_few Info items = opts_few Info items
+tool_few Get items = opts_few Get items
+tool_few Set items = opts_few Set items
+tool_few Watch items = opts_few Watch items
+tool_few Notify items = opts_few Notify items
 
-right_few : (b : Bool) (items : List Item) (name : ToolName) (tool : Tool) (n : ℕ) → length items ≤ n → SaysTool (said_by name (cond b (Some items) None)) tool → line_total tool ≤ n
-right_few true items name tool n le h = omega (arith, le, tool_few name items tool h)
-right_few false items name tool n le h = absurd h
+right_few : (b : Bool) (items : List Item) (name : ToolName) (tool : SaidTool) (n : ℕ) → length items ≤ n → tool_of name (cond b (Some items) None) ≡ Some tool → line_total tool ≤ n
+right_few true items name tool n le h =
+    let same : tool_by name items ≡ tool = cc in
+    omega (arith, le, tool_few name items, ap line_total same)
+right_few false items name tool n le h = cc
 
-said_few : (name : ToolName) (o : Option (List Item)) (tool : Tool) (n : ℕ) → ((items : List Item) → o ≡ Some items → length items ≤ n)
-    → SaysTool (said_by name (right_items name o)) tool → line_total tool ≤ n
-said_few name None tool n h s = absurd s
+said_few : (name : ToolName) (o : Option (List Item)) (tool : SaidTool) (n : ℕ) → ((items : List Item) → o ≡ Some items → length items ≤ n)
+    → tool_of name (right_items name o) ≡ Some tool → line_total tool ≤ n
+said_few name None tool n h s = cc
 said_few name (Some items) tool n h s = right_few (are_right name items) items name tool n (h items refl) s
 
-behind_few : (o : Option ToolName) (words : List (List ℕ)) (tool : Tool) → SaysTool (said_behind o words) tool → line_total tool ≤ length words
-behind_few None words tool s = absurd s
+behind_few : (o : Option ToolName) (words : List (List ℕ)) (tool : SaidTool) → tool_behind o words ≡ Some tool → line_total tool ≤ length words
+behind_few None words tool s = cc
 behind_few (Some name) words tool s = said_few name (items_of name words) tool (length words) (λ items e. reads_few name words false None items e) s
 
-pub words_few : (words : List (List ℕ)) (tool : Tool) → Says words tool → line_total tool + 1 ≤ length words
-words_few [] tool s = absurd s
+pub words_few : (words : List (List ℕ)) (tool : SaidTool) → tool_said words ≡ Some tool → line_total tool + 1 ≤ length words
+words_few [] tool s = cc
 words_few (word ∷ words) tool s = omega (arith, behind_few (tool_named word) words tool s)

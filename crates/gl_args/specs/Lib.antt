@@ -4,6 +4,7 @@ pub mod Cuts
 pub mod Items
 pub mod LookUps
 pub mod Names
+pub mod Options
 pub mod Program
 pub mod Tools
 pub mod Values

@@ -1,6 +1,6 @@
 -- The words of a tool as the tool with its options (libgpiod's manual pages; which options are taken, and what is refused,
 -- is this project's choice).
-use Rattle.std.specs.Prelude.{◌≡◌, ℕ, ◌+◌, ◌^◌, Bool, false, not, ◌&&◌, nat_le, if◌then◌else◌, List, [], ◌∷◌, length, map, is_some, Option, Some, None}
+use Rattle.std.specs.Prelude.{ℕ, ◌+◌, ◌^◌, Bool, false, not, ◌&&◌, nat_le, if◌then◌else◌, List, [], ◌∷◌, length, map, is_some, Option, Some, None}
 use Rattle.std.specs.List.{list_all}
 use Rattle.gl_base.specs.Name.{name_of}
 use Rattle.gl_base.specs.declared.flag.TheConstants.{EDGE_RISING, EDGE_FALLING}
@@ -8,12 +8,10 @@ use Rattle.gl_args.specs.declared.names.ToolName.{ToolName}
 use Rattle.gl_args.specs.declared.names.ToolName.TheVariants.{Detect, Info, Get, Set, Watch, Notify}
 use Rattle.gl_args.specs.declared.names.OptionName.{OptionName}
 use Rattle.gl_args.specs.declared.names.OptionName.TheVariants.{Chip, ByName, Strict, Unquoted, Numeric, ActiveLow, Bias, Drive, Period, Edges, Event, Count, Format, Consumer}
-use Rattle.gl_args.specs.declared.tool.Tool.{Tool}
-use Rattle.gl_args.specs.declared.tool.Tool.TheVariants.{Detect as DetectTool, Info as InfoTool, Get as GetTool, Set as SetTool, Watch as WatchTool, Notify as NotifyTool}
-use Rattle.gl_args.specs.declared.tool.Opts.{Opts}
 use Rattle.gl_args.specs.Items.{Item, items_of}
 use Rattle.gl_args.specs.LookUps.{has, value_of, has_twice}
 use Rattle.gl_args.specs.Names.{tool_text, tool_named}
+use Rattle.gl_args.specs.Options.{Options, SaidTool, SaidDetect, SaidInfo, SaidGet, SaidSet, SaidWatch, SaidNotify}
 use Rattle.gl_args.specs.Values.{Line, is_short_text, bias_of, drive_of, edges_of, changes_of, period_of, count_of, is_right, line_said}
 
 -- a line word, as a tool takes it: gpiodetect's are chip words
@@ -55,24 +53,6 @@ right_items tool (Some items) = if are_right tool items then Some items else Non
 -- the items of a tool's words, where they are right
 abbrev pub right_said : ToolName → List (List ℕ) → Option (List Item)
 right_said tool words = right_items tool (items_of tool words)
-
--- a tool's name and its items
-pub record Said : Type 0 where
-  pub name : ToolName
-  pub items : List Item
-
-abbrev pub said_by : ToolName → Option (List Item) → Option Said
-said_by name None = None
-said_by name (Some items) = Some (record { name = name; items = items })
-
-abbrev pub said_behind : Option ToolName → List (List ℕ) → Option Said
-said_behind None words = None
-said_behind (Some name) words = said_by name (right_said name words)
-
--- what words say, if they are those of a tool: its name first
-abbrev pub said : List (List ℕ) → Option Said
-said [] = None
-said (word ∷ words) = said_behind (tool_named word) words
 
 abbrev pub name_given : Option (List ℕ) → Option (List ℕ)
 name_given None = None
@@ -116,36 +96,42 @@ abbrev pub name_or_none : List ℕ → List ℕ
 name_or_none text = text_or [] (name_of text)
 
 -- the options that items say; each is looked up
-pub record IsOpts (tool : ToolName) (items : List Item) (opts : Opts) : Type 0 where
-  pub chip : opts.chip ≡ name_given (value_of Chip items)
-  pub by_name : opts.by_name ≡ has ByName items
-  pub strict : opts.strict ≡ has Strict items
-  pub unquoted : opts.unquoted ≡ has Unquoted items
-  pub numeric : opts.numeric ≡ has Numeric items
-  pub active_low : opts.active_low ≡ has ActiveLow items
-  pub bias : opts.bias ≡ read_or 0 bias_of (value_of Bias items)
-  pub drive : opts.drive ≡ read_or 0 drive_of (value_of Drive items)
-  pub edges : opts.edges ≡ edges_given tool items
-  pub period : opts.period_us ≡ read_or 0 period_of (value_of Period items)
-  pub count : opts.count ≡ count_given (value_of Count items)
-  pub format : opts.format ≡ value_of Format items
-  pub consumer : opts.consumer ≡ consumer_given tool (value_of Consumer items)
-  pub lines : opts.lines.items ≡ lines_from tool (line_words items)
+abbrev pub options_of : ToolName → List Item → Options
+options_of tool items = record {
+  chip = name_given (value_of Chip items);
+  by_name = has ByName items;
+  strict = has Strict items;
+  unquoted = has Unquoted items;
+  numeric = has Numeric items;
+  active_low = has ActiveLow items;
+  bias = read_or 0 bias_of (value_of Bias items);
+  drive = read_or 0 drive_of (value_of Drive items);
+  edges = edges_given tool items;
+  period_us = read_or 0 period_of (value_of Period items);
+  count = count_given (value_of Count items);
+  format = value_of Format items;
+  consumer = consumer_given tool (value_of Consumer items);
+  lines = lines_from tool (line_words items);
+}
 
--- a tool is the one of that name that items say
-abbrev pub IsTool : ToolName → List Item → Tool → Type 0
-IsTool Detect items (DetectTool names) = names.items ≡ map name_or_none (line_words items)
-IsTool Info items (InfoTool opts) = IsOpts Info items opts
-IsTool Get items (GetTool opts) = IsOpts Get items opts
-IsTool Set items (SetTool opts) = IsOpts Set items opts
-IsTool Watch items (WatchTool opts) = IsOpts Watch items opts
-IsTool Notify items (NotifyTool opts) = IsOpts Notify items opts
-IsTool _ items _ = ⊥
+-- the tool of that name that items say
+abbrev pub tool_by : ToolName → List Item → SaidTool
+tool_by Detect items = SaidDetect (map name_or_none (line_words items))
+tool_by Info items = SaidInfo (options_of Info items)
+tool_by Get items = SaidGet (options_of Get items)
+tool_by Set items = SaidSet (options_of Set items)
+tool_by Watch items = SaidWatch (options_of Watch items)
+tool_by Notify items = SaidNotify (options_of Notify items)
 
-abbrev pub SaysTool : Option Said → Tool → Type 0
-SaysTool None tool = ⊥
-SaysTool (Some said) tool = IsTool said.name said.items tool
+abbrev pub tool_of : ToolName → Option (List Item) → Option SaidTool
+tool_of name None = None
+tool_of name (Some items) = Some (tool_by name items)
 
--- words are those of a tool, and this is it
-abbrev pub Says : List (List ℕ) → Tool → Type 0
-Says words tool = SaysTool (said words) tool
+abbrev pub tool_behind : Option ToolName → List (List ℕ) → Option SaidTool
+tool_behind None words = None
+tool_behind (Some name) words = tool_of name (right_said name words)
+
+-- the tool that words say, if they are those of a tool: its name first
+abbrev pub tool_said : List (List ℕ) → Option SaidTool
+tool_said [] = None
+tool_said (word ∷ words) = tool_behind (tool_named word) words

@@ -3,8 +3,9 @@ ghost use Rattle.std.specs.Prelude.{◌≡◌, ◌++◌, [], Some, None, IfOk, O
 ghost use Rattle.std.specs.List.{list_all};
 ghost use Rattle.gl_args.specs.Items.{texts, item_in};
 ghost use Rattle.gl_args.specs.Names.{tool_text};
+ghost use Rattle.gl_args.specs.Options.{options_in, tool_in};
 ghost use Rattle.gl_args.specs.Values.{bias_of, drive_of, edges_of, changes_of, period_of};
-ghost use Rattle.gl_args.specs.Tools.{word_is_right, item_is_right, with_line, line_words, is_line_count, are_right, right_said, said, name_given, said_or, read_or, edges_given, count_given, consumer_given, line_or_none, lines_from, name_or_none, said_by, IsOpts, IsTool, SaysTool, Says};
+ghost use Rattle.gl_args.specs.Tools.{word_is_right, item_is_right, with_line, line_words, is_line_count, are_right, right_said, name_given, said_or, read_or, edges_given, count_given, consumer_given, line_or_none, lines_from, name_or_none, options_of, tool_by, tool_of, tool_said};
 
 use crate::items::{ArgFault, Item, items_of};
 use crate::look_ups::{has, has_twice, value_of};
@@ -81,8 +82,8 @@ const ALL_CHANGES: u64 = 14;
 /// The tool that words are: its name, and then options and line words in any order. Usage exactly where they aren't
 /// those of a tool, by libgpiod's manual pages and this project's choices.
 pub fn read_tool(alloc: Global, words: &[&[u8]]) -> Result<Tool, ArgFault>
-    ensures ok { IfOk result (λ tool. Says (texts words.now) tool) }
-    ensures usage { IsErrOf result ArgFault.Usage → said (texts words.now) ≡ None }
+    ensures ok { IfOk result (λ tool. tool_said (texts words.now) ≡ Some (tool_in tool)) }
+    ensures usage { IsErrOf result ArgFault.Usage → tool_said (texts words.now) ≡ None }
 {
     match words.split_first() {
         Some((first, others)) => match ToolName::named(first) {
@@ -95,7 +96,7 @@ pub fn read_tool(alloc: Global, words: &[&[u8]]) -> Result<Tool, ArgFault>
 
 /// The tool of that name with these words.
 fn read_named(alloc: Global, name: ToolName, words: &[&[u8]]) -> Result<Tool, ArgFault>
-    ensures ok { IfOk result (λ tool. SaysTool (said_by name (right_said name (texts words.now))) tool) }
+    ensures ok { IfOk result (λ tool. tool_of name (right_said name (texts words.now)) ≡ Some (tool_in tool)) }
     ensures usage { IsErrOf result ArgFault.Usage → right_said name (texts words.now) ≡ None }
 {
     match items_of(alloc, name, words) {
@@ -111,7 +112,7 @@ fn read_named(alloc: Global, name: ToolName, words: &[&[u8]]) -> Result<Tool, Ar
 
 /// The tool of items that are right.
 fn tool_of(alloc: Global, name: ToolName, items: &[Item<'_>]) -> Result<Tool, ArgFault>
-    ensures ok { IfOk result (λ tool. IsTool name (map item_in items.now) tool) }
+    ensures ok { IfOk result (λ tool. tool_in tool ≡ tool_by name (map item_in items.now)) }
     ensures memory_alone { IsOkUnless result ArgFault.NoMemory }
 {
     match name {
@@ -126,7 +127,7 @@ fn tool_of(alloc: Global, name: ToolName, items: &[Item<'_>]) -> Result<Tool, Ar
 
 /// The options that items say.
 fn opts_of(alloc: Global, name: ToolName, items: &[Item<'_>]) -> Result<Opts, ArgFault>
-    ensures ok { IfOk result (λ opts. IsOpts name (map item_in items.now) opts) }
+    ensures ok { IfOk result (λ opts. options_in opts ≡ options_of name (map item_in items.now)) }
     ensures memory_alone { IsOkUnless result ArgFault.NoMemory }
 {
     let lines = lines_of(alloc, name, items)?;

@@ -10,8 +10,8 @@ use Rattle.gl_base.specs.declared.operation.Got.TheVariants.{Done, Number, Found
 use Rattle.gl_base.specs.Operation.{refusal}
 use Rattle.gl_base.specs.Decimal.{decimal}
 use Rattle.gl_args.specs.declared.names.ToolName.{ToolName}
-use Rattle.gl_args.specs.declared.tool.Opts.{Opts}
 use Rattle.gl_args.specs.Names.{requests_lines}
+use Rattle.gl_args.specs.Options.{Options}
 use Rattle.gl_args.specs.Program.{done, ask}
 use Rattle.gl_args.specs.Costs.{CostsAtMost}
 use Rattle.gl_args.specs.Values.{Line}
@@ -31,7 +31,7 @@ abbrev late_opening : Bool → ℕ
 late_opening true = 0
 late_opening false = 2
 
-module _ (tool : ToolName) (base made : ℕ) (opts : Opts) where
+module _ (tool : ToolName) (base made : ℕ) (opts : Options) where
   failed_at : (n slot : ℕ) (errno : Errno) → CostsAtMost n (fails_at tool base made opts slot errno)
   failed_at n slot errno = (omega arith, λ got. tt)
 
@@ -101,34 +101,34 @@ module _ (tool : ToolName) (base made : ℕ) (opts : Opts) where
   looks_within (line ∷ lines) n found le =
       looks_by (offset_said opts line.0) n (looks tool base made opts lines) found line.0 (omega arith) (λ more. looks_within lines (n - 1) more (omega arith))
 
-  named_within : (n : ℕ) (r : Option Errno) → request_cost (requests_lines tool) + late_opening (is_some opts.chip) + length opts.lines.items ≤ n
+  named_within : (n : ℕ) (r : Option Errno) → request_cost (requests_lines tool) + late_opening (is_some opts.chip) + length opts.lines ≤ n
       → CostsAtMost n (named_opened tool base made opts r)
   named_within n (Some errno) le = tt
-  named_within n None le = looks_within opts.lines.items n [] le
+  named_within n None le = looks_within opts.lines n [] le
 
-  begins_within : (o : Option (List ℕ)) → opts.chip ≡ o → CostsAtMost (request_cost (requests_lines tool) + 2 + length opts.lines.items) (begins tool base made opts o)
+  begins_within : (o : Option (List ℕ)) → opts.chip ≡ o → CostsAtMost (request_cost (requests_lines tool) + 2 + length opts.lines) (begins tool base made opts o)
   begins_within None e =
-      looks_within opts.lines.items (request_cost (requests_lines tool) + 2 + length opts.lines.items) []
+      looks_within opts.lines (request_cost (requests_lines tool) + 2 + length opts.lines) []
       (let late : late_opening (is_some opts.chip) ≡ 2 = ap (λ c. late_opening (is_some c)) e in omega (arith, late))
   begins_within (Some chip) e = (
     omega arith,
     λ got.
-        named_within (request_cost (requests_lines tool) + 2 + length opts.lines.items - 2) (refusal got)
+        named_within (request_cost (requests_lines tool) + 2 + length opts.lines - 2) (refusal got)
         (let late : late_opening (is_some opts.chip) ≡ 0 = ap (λ c. late_opening (is_some c)) e in omega (arith, late)),
   )
 
-  pub finds_within : CostsAtMost (request_cost (requests_lines tool) + 2 + length opts.lines.items) (finds tool base made opts)
+  pub finds_within : CostsAtMost (request_cost (requests_lines tool) + 2 + length opts.lines) (finds tool base made opts)
   finds_within = begins_within opts.chip refl
 
 -- a tool that requests its lines, and one that doesn't
-pub finds_requesting : (tool : ToolName) (base made : ℕ) (opts : Opts) → requests_lines tool ≡ true → CostsAtMost (length opts.lines.items + 5) (finds tool base made opts)
+pub finds_requesting : (tool : ToolName) (base made : ℕ) (opts : Options) → requests_lines tool ≡ true → CostsAtMost (length opts.lines + 5) (finds tool base made opts)
 unfolding request_cost
 finds_requesting tool base made opts e =
     let three : request_cost (requests_lines tool) ≡ 3 = ap request_cost e in
-    costs_more (finds tool base made opts) _ (length opts.lines.items + 5) (omega (arith, three)) (finds_within tool base made opts)
+    costs_more (finds tool base made opts) _ (length opts.lines + 5) (omega (arith, three)) (finds_within tool base made opts)
 
-pub finds_alone : (tool : ToolName) (base made : ℕ) (opts : Opts) → requests_lines tool ≡ false → CostsAtMost (length opts.lines.items + 2) (finds tool base made opts)
+pub finds_alone : (tool : ToolName) (base made : ℕ) (opts : Options) → requests_lines tool ≡ false → CostsAtMost (length opts.lines + 2) (finds tool base made opts)
 unfolding request_cost
 finds_alone tool base made opts e =
     let none : request_cost (requests_lines tool) ≡ 0 = ap request_cost e in
-    costs_more (finds tool base made opts) _ (length opts.lines.items + 2) (omega (arith, none)) (finds_within tool base made opts)
+    costs_more (finds tool base made opts) _ (length opts.lines + 2) (omega (arith, none)) (finds_within tool base made opts)

@@ -2,7 +2,7 @@
 use Rattle.std.proofs.Common.{◌≡◌, ℕ, List}
 use Rattle.gl_args.specs.declared.names.ToolName.{ToolName}
 use Rattle.gl_args.specs.declared.next.Next.TheVariants.{End}
-use Rattle.gl_args.specs.declared.tool.Opts.{Opts}
+use Rattle.gl_args.specs.Options.{options_in, Options}
 use Rattle.gl_args.specs.Program.{done, Goes}
 use Rattle.gl_lines.specs.declared.finder.Finder.{Finder}
 use Rattle.gl_lines.specs.declared.finder.FinderStage.{FinderStage}
@@ -10,7 +10,7 @@ use Rattle.gl_lines.specs.declared.finder.FinderStage.TheVariants.{OpeningNamed,
 use Rattle.gl_lines.specs.declared.found_line.FoundLine.{FoundLine}
 use Rattle.gl_lines.specs.Finding.{Finding, left_at, left, found_where, has_found}
 
-ends_at : (tool : ToolName) (base made : ℕ) (opts : Opts) (next : ℕ) (found : List FoundLine) (stage : FinderStage) (p : Finding)
+ends_at : (tool : ToolName) (base made : ℕ) (opts : Options) (next : ℕ) (found : List FoundLine) (stage : FinderStage) (p : Finding)
     → Goes p End (left_at tool base made opts next found stage) → p ≡ done (found_where (has_found stage) found)
 ends_at tool base made opts next found OpeningNamed p h = absurd h
 ends_at tool base made opts next found (Looking word) p h = absurd h
@@ -24,4 +24,4 @@ ends_at tool base made opts next found (Ended ok) p h = h
 
 -- a finder that has come to its end gave its lines, where it found them
 pub finder_ends : (f : Finder) (p : Finding) → Goes p End (left f) → p ≡ done (found_where (has_found f.stage) f.found.items)
-finder_ends f p h = ends_at f.tool f.base f.made f.opts f.next f.found.items f.stage p h
+finder_ends f p h = ends_at f.tool f.base f.made (options_in f.opts) f.next f.found.items f.stage p h

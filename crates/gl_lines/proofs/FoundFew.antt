@@ -10,8 +10,8 @@ use Rattle.gl_base.specs.declared.operation.Got.TheVariants.{Done, Number, Found
 use Rattle.gl_base.specs.Operation.{refusal}
 use Rattle.gl_base.specs.Decimal.{decimal}
 use Rattle.gl_args.specs.declared.names.ToolName.{ToolName}
-use Rattle.gl_args.specs.declared.tool.Opts.{Opts}
 use Rattle.gl_args.specs.Names.{requests_lines}
+use Rattle.gl_args.specs.Options.{Options}
 use Rattle.gl_args.specs.Program.{done, ask}
 use Rattle.gl_args.specs.Values.{Line}
 use Rattle.gl_args.proofs.Costs.{Gives}
@@ -25,7 +25,7 @@ abbrev pub FoundAtMost : ℕ → Option (List FoundLine) → Type 0
 FoundAtMost n None = Unit {0}
 FoundAtMost n (Some found) = length found ≤ n
 
-module _ (tool : ToolName) (base made : ℕ) (opts : Opts) (n : ℕ) where
+module _ (tool : ToolName) (base made : ℕ) (opts : Options) (n : ℕ) where
   closed_few : (found : List FoundLine) → length found ≤ n → (r : Option Errno) → Gives (FoundAtMost n) (chip_closed tool base made opts found r)
   closed_few found le (Some errno) = λ got. tt
   closed_few found le None = le
@@ -82,13 +82,13 @@ module _ (tool : ToolName) (base made : ℕ) (opts : Opts) (n : ℕ) where
   looks_few (line ∷ lines) found le =
       looks_by (offset_said opts line.0) (looks tool base made opts lines) found line.0 (λ more few. looks_few lines more (omega (arith, few)))
 
-  named_few : (r : Option Errno) → length opts.lines.items ≤ n → Gives (FoundAtMost n) (named_opened tool base made opts r)
+  named_few : (r : Option Errno) → length opts.lines ≤ n → Gives (FoundAtMost n) (named_opened tool base made opts r)
   named_few (Some errno) le = tt
-  named_few None le = looks_few opts.lines.items [] (omega arith)
+  named_few None le = looks_few opts.lines [] (omega arith)
 
-  begins_few : (o : Option (List ℕ)) → length opts.lines.items ≤ n → Gives (FoundAtMost n) (begins tool base made opts o)
-  begins_few None le = looks_few opts.lines.items [] (omega arith)
+  begins_few : (o : Option (List ℕ)) → length opts.lines ≤ n → Gives (FoundAtMost n) (begins tool base made opts o)
+  begins_few None le = looks_few opts.lines [] (omega arith)
   begins_few (Some chip) le = λ got. named_few (refusal got) le
 
-pub finds_few : (tool : ToolName) (base made : ℕ) (opts : Opts) → Gives (FoundAtMost (length opts.lines.items)) (finds tool base made opts)
-finds_few tool base made opts = begins_few tool base made opts (length opts.lines.items) opts.chip (omega arith)
+pub finds_few : (tool : ToolName) (base made : ℕ) (opts : Options) → Gives (FoundAtMost (length opts.lines)) (finds tool base made opts)
+finds_few tool base made opts = begins_few tool base made opts (length opts.lines) opts.chip (omega arith)

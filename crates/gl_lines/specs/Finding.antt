@@ -10,8 +10,8 @@ use Rattle.gl_base.specs.declared.operation.Got.{Got}
 use Rattle.gl_base.specs.declared.operation.Got.TheVariants.{Refused, Found as FoundAt}
 use Rattle.gl_base.specs.Operation.{refusal}
 use Rattle.gl_args.specs.declared.names.ToolName.{ToolName}
-use Rattle.gl_args.specs.declared.tool.Opts.{Opts}
 use Rattle.gl_args.specs.Names.{tool_text, requests_lines}
+use Rattle.gl_args.specs.Options.{options_in, Options}
 use Rattle.gl_args.specs.Program.{Program, done, print, ask, Left, goes_on, waits}
 use Rattle.gl_args.specs.Values.{Line}
 use Rattle.gl_lines.specs.declared.finder.Finder.{Finder}
@@ -37,12 +37,12 @@ below_32_bits (Some number) = if nat_lt number (2 ^ 32) then Some number else No
 
 -- the offset that a line's word says, if it says one: digits whose number fits, with a chip, and where not every word is
 -- a name
-abbrev pub offset_said : Opts → List ℕ → Option ℕ
+abbrev pub offset_said : Options → List ℕ → Option ℕ
 offset_said opts word = if is_some opts.chip && not opts.by_name then below_32_bits (number_of_text word) else None
 
 -- the word of a line
-abbrev pub word_at : Opts → ℕ → List ℕ
-word_at opts i = (slice_index_or opts.lines.items i ([], false)).0
+abbrev pub word_at : Options → ℕ → List ℕ
+word_at opts i = (slice_index_or opts.lines i ([], false)).0
 
 -- a line that was given by its offset, and one that was found by its name
 abbrev pub given_line : ℕ → FoundLine
@@ -51,7 +51,7 @@ given_line offset = record { place = 0; offset = offset; name = None }
 abbrev pub named_line : ℕ → ℕ → List ℕ → FoundLine
 named_line place offset word = record { place = place; offset = offset; name = Some word }
 
-module _ (tool : ToolName) (base made : ℕ) (opts : Opts) where
+module _ (tool : ToolName) (base made : ℕ) (opts : Options) where
   -- a refusal with nothing open, and one with a file open
   abbrev pub fails : Errno → Finding
   fails errno = print (failed_line (tool_text tool) errno) (done None)
@@ -114,10 +114,10 @@ module _ (tool : ToolName) (base made : ℕ) (opts : Opts) where
   -- the chip that was named was opened
   abbrev pub named_opened : Option Errno → Finding
   named_opened (Some errno) = fails errno
-  named_opened None = looks opts.lines.items []
+  named_opened None = looks opts.lines []
 
   abbrev pub begins : Option (List ℕ) → Finding
-  begins None = looks opts.lines.items []
+  begins None = looks opts.lines []
   begins (Some chip) = ask (OpenChip base chip) (λ got. named_opened (refusal got))
 
   -- what a tool does to find its lines, and to request them where it does
@@ -133,9 +133,9 @@ has_found (Ended ok) = ok
 has_found _ = false
 
 -- what is left; one line a stage
-abbrev pub left_at : ToolName → ℕ → ℕ → Opts → ℕ → List FoundLine → FinderStage → Left (Option (List FoundLine))
+abbrev pub left_at : ToolName → ℕ → ℕ → Options → ℕ → List FoundLine → FinderStage → Left (Option (List FoundLine))
 left_at tool base made opts next found OpeningNamed = waits (λ got. named_opened tool base made opts (refusal got))
-left_at tool base made opts next found (Looking word) = waits (λ got. looked tool base made opts (looks tool base made opts (drop next opts.lines.items)) found word got)
+left_at tool base made opts next found (Looking word) = waits (λ got. looked tool base made opts (looks tool base made opts (drop next opts.lines)) found word got)
 left_at tool base made opts next found OpeningFound = waits (λ got. opened tool base made opts found (refusal got))
 left_at tool base made opts next found Requesting = waits (λ got. requested tool base made opts found (refusal got))
 left_at tool base made opts next found Closing = waits (λ got. chip_closed tool base made opts found (refusal got))
@@ -145,7 +145,7 @@ left_at tool base made opts next found Leaving = waits (λ _. done None)
 left_at tool base made opts next found (Ended ok) = goes_on (done (found_where ok found))
 
 abbrev pub left : Finder → Left (Option (List FoundLine))
-left f = left_at f.tool f.base f.made f.opts f.next f.found.items f.stage
+left f = left_at f.tool f.base f.made (options_in f.opts) f.next f.found.items f.stage
 
 -- what a finder keeps: its tool, its slots and its options
 pub record Stays (old new : Finder) : Type 0 where

@@ -1,4 +1,5 @@
 //! The structures that tools hand in, at the front of a buffer of 592 bytes. All other bytes of the buffer are zero.
+ghost use Rattle.gl_args.specs.Options.{options_in};
 ghost use Rattle.std.specs.Prelude.{◌≡◌};
 ghost use Rattle.gl_lines.specs.Bytes.{mask_of, values_sent, info_sent, direction, edges_asked, active_low_flag, flags_of, line_bit, with_values, debounced, attribute_of, request_sent};
 
@@ -35,7 +36,7 @@ pub fn info_sent(offset: u32) -> [u8; 592]
 
 /// What requests lines for a tool; zeros where there are more than 64.
 pub(crate) fn request_sent(tool: ToolName, opts: &Opts, offsets: &[u32]) -> [u8; 592]
-    ensures { result ≡ request_sent tool opts.now offsets.now }
+    ensures { result ≡ request_sent tool (options_in opts.now) offsets.now }
 {
     if offsets.len() > LINES_PER_REQUEST as usize {
         return [0; 592];
@@ -63,7 +64,7 @@ fn mask_of(count: usize) -> u64
 
 /// The flags that a tool asks for.
 fn flags_of(tool: ToolName, opts: &Opts) -> u64
-    ensures { result ≡ flags_of tool opts.now }
+    ensures { result ≡ flags_of tool (options_in opts.now) }
 {
     direction(tool)
         | edges_asked(tool, opts)
@@ -85,7 +86,7 @@ fn direction(tool: ToolName) -> u64
 
 /// The edges of gpiomon; the others ask for none.
 fn edges_asked(tool: ToolName, opts: &Opts) -> u64
-    ensures { result ≡ edges_asked tool opts.now }
+    ensures { result ≡ edges_asked tool (options_in opts.now) }
 {
     match tool {
         ToolName::Watch => opts.edges,
@@ -104,7 +105,7 @@ fn active_low_flag(active_low: bool) -> u64
 
 /// What a tool's lines get beside their flags: gpioset's their values, gpiomon's a debounce period that isn't 0.
 fn attribute_of(tool: ToolName, opts: &Opts) -> Option<NewAttribute>
-    ensures { result ≡ attribute_of tool opts.now }
+    ensures { result ≡ attribute_of tool (options_in opts.now) }
 {
     let mask = mask_of(opts.lines.len());
     match tool {

@@ -1,6 +1,7 @@
 //! How a tool finds its lines, and requests them where it does.
 ghost use Rattle.std.specs.Prelude.{◌≡◌, ℕ, ◌<◌, ◌≤◌, ◌&&◌, not, [], length, drop, None, IfOk, IsOkUnless, MatchOption, is_some, option_copied};
 ghost use Rattle.gl_args.specs.declared.names.ToolName.{ToolName};
+ghost use Rattle.gl_args.specs.Options.{options_in};
 ghost use Rattle.gl_args.specs.Program.{Goes, given};
 ghost use Rattle.gl_lines.specs.Finding.{offset_said, below_32_bits, word_at, fails, fails_at, fails_looking, leaves, chip_closed, requested, known, opened, all_found, looked, looks, chip_slot, named_opened, finds, has_found, left, Stays};
 
@@ -123,7 +124,7 @@ impl Finder {
 
     /// Begins: the first thing that it does.
     pub fn begin(&mut self, alloc: Global) -> Result<Next, Errno>
-        ensures goes { IfOk result (λ next. Goes (finds self.old.tool self.old.base self.old.made self.old.opts) next (left self.new)) }
+        ensures goes { IfOk result (λ next. Goes (finds self.old.tool self.old.base self.old.made (options_in self.old.opts)) next (left self.new)) }
         ensures stays { Stays self.old self.new }
         ensures memory_alone { IsOkUnless result Errno.NoMemory }
     {
@@ -141,7 +142,7 @@ impl Finder {
     }
 
     fn named_opened(&mut self, alloc: Global, refusal: Option<Errno>) -> Result<Next, Errno>
-        ensures goes { IfOk result (λ next. Goes (named_opened self.old.tool self.old.base self.old.made self.old.opts refusal) next (left self.new)) }
+        ensures goes { IfOk result (λ next. Goes (named_opened self.old.tool self.old.base self.old.made (options_in self.old.opts) refusal) next (left self.new)) }
         ensures stays { Stays self.old self.new }
         ensures memory_alone { IsOkUnless result Errno.NoMemory }
     {
@@ -153,7 +154,7 @@ impl Finder {
 
     /// Begins to look for the lines.
     fn look_first(&mut self, alloc: Global) -> Result<Next, Errno>
-        ensures goes { IfOk result (λ next. Goes (looks self.old.tool self.old.base self.old.made self.old.opts self.old.opts.lines.items []) next (left self.new)) }
+        ensures goes { IfOk result (λ next. Goes (looks self.old.tool self.old.base self.old.made (options_in self.old.opts) self.old.opts.lines.items []) next (left self.new)) }
         ensures stays { Stays self.old self.new }
         ensures memory_alone { IsOkUnless result Errno.NoMemory }
     {
@@ -164,7 +165,7 @@ impl Finder {
 
     /// Looks for the lines from `next` on.
     fn look(&mut self, alloc: Global) -> Result<Next, Errno>
-        ensures goes { IfOk result (λ next. Goes (looks self.old.tool self.old.base self.old.made self.old.opts (drop self.old.next self.old.opts.lines.items) self.old.found.items) next (left self.new)) }
+        ensures goes { IfOk result (λ next. Goes (looks self.old.tool self.old.base self.old.made (options_in self.old.opts) (drop self.old.next self.old.opts.lines.items) self.old.found.items) next (left self.new)) }
         ensures stays { Stays self.old self.new }
         ensures memory_alone { IsOkUnless result Errno.NoMemory }
     {
@@ -184,7 +185,7 @@ impl Finder {
     }
 
     fn chip_slot(&self) -> Option<u32>
-        ensures { result ≡ chip_slot self.now.tool self.now.base self.now.made self.now.opts }
+        ensures { result ≡ chip_slot self.now.tool self.now.base self.now.made (options_in self.now.opts) }
     {
         if self.opts.chip.is_some() {
             return Some(self.base);
@@ -194,7 +195,7 @@ impl Finder {
 
     #[tactic(auto, using(gl_args::proofs::Programs::choices))]
     fn looked(&mut self, alloc: Global, word: &Name, got: &Got) -> Result<Next, Errno>
-        ensures goes { IfOk result (λ next. Goes (looked self.old.tool self.old.base self.old.made self.old.opts (looks self.old.tool self.old.base self.old.made self.old.opts (drop self.old.next self.old.opts.lines.items)) self.old.found.items word.now got.now) next (left self.new)) }
+        ensures goes { IfOk result (λ next. Goes (looked self.old.tool self.old.base self.old.made (options_in self.old.opts) (looks self.old.tool self.old.base self.old.made (options_in self.old.opts) (drop self.old.next self.old.opts.lines.items)) self.old.found.items word.now got.now) next (left self.new)) }
         ensures stays { Stays self.old self.new }
         ensures memory_alone { IsOkUnless result Errno.NoMemory }
     {
@@ -224,7 +225,7 @@ impl Finder {
     /// All lines are known.
     #[tactic(auto, using(gl_args::proofs::Programs::choices))]
     fn all_found(&mut self, alloc: Global) -> Result<Next, Errno>
-        ensures goes { IfOk result (λ next. Goes (all_found self.old.tool self.old.base self.old.made self.old.opts self.old.found.items) next (left self.new)) }
+        ensures goes { IfOk result (λ next. Goes (all_found self.old.tool self.old.base self.old.made (options_in self.old.opts) self.old.found.items) next (left self.new)) }
         ensures stays { Stays self.old self.new }
         ensures memory_alone { IsOkUnless result Errno.NoMemory }
     {
@@ -243,7 +244,7 @@ impl Finder {
     }
 
     fn opened(&mut self, alloc: Global, refusal: Option<Errno>) -> Result<Next, Errno>
-        ensures goes { IfOk result (λ next. Goes (opened self.old.tool self.old.base self.old.made self.old.opts self.old.found.items refusal) next (left self.new)) }
+        ensures goes { IfOk result (λ next. Goes (opened self.old.tool self.old.base self.old.made (options_in self.old.opts) self.old.found.items refusal) next (left self.new)) }
         ensures stays { Stays self.old self.new }
         ensures memory_alone { IsOkUnless result Errno.NoMemory }
     {
@@ -256,7 +257,7 @@ impl Finder {
     /// All lines are known, and the chip is open: they are requested where the tool requests its lines.
     #[tactic(auto, using(gl_args::proofs::Programs::choices))]
     fn known(&mut self, alloc: Global) -> Result<Next, Errno>
-        ensures goes { IfOk result (λ next. Goes (known self.old.tool self.old.base self.old.made self.old.opts self.old.found.items) next (left self.new)) }
+        ensures goes { IfOk result (λ next. Goes (known self.old.tool self.old.base self.old.made (options_in self.old.opts) self.old.found.items) next (left self.new)) }
         ensures stays { Stays self.old self.new }
         ensures memory_alone { IsOkUnless result Errno.NoMemory }
     {
@@ -277,7 +278,7 @@ impl Finder {
     }
 
     fn requested(&mut self, alloc: Global, refusal: Option<Errno>) -> Result<Next, Errno>
-        ensures goes { IfOk result (λ next. Goes (requested self.old.tool self.old.base self.old.made self.old.opts self.old.found.items refusal) next (left self.new)) }
+        ensures goes { IfOk result (λ next. Goes (requested self.old.tool self.old.base self.old.made (options_in self.old.opts) self.old.found.items refusal) next (left self.new)) }
         ensures stays { Stays self.old self.new }
         ensures memory_alone { IsOkUnless result Errno.NoMemory }
     {
@@ -291,7 +292,7 @@ impl Finder {
     }
 
     fn chip_closed(&mut self, alloc: Global, refusal: Option<Errno>) -> Result<Next, Errno>
-        ensures goes { IfOk result (λ next. Goes (chip_closed self.old.tool self.old.base self.old.made self.old.opts self.old.found.items refusal) next (left self.new)) }
+        ensures goes { IfOk result (λ next. Goes (chip_closed self.old.tool self.old.base self.old.made (options_in self.old.opts) self.old.found.items refusal) next (left self.new)) }
         ensures stays { Stays self.old self.new }
         ensures memory_alone { IsOkUnless result Errno.NoMemory }
     {
@@ -310,7 +311,7 @@ impl Finder {
 
     /// Prints a refusal, with nothing open.
     fn fail(&mut self, alloc: Global, errno: Errno) -> Result<Next, Errno>
-        ensures goes { IfOk result (λ next. Goes (fails self.old.tool self.old.base self.old.made self.old.opts errno) next (left self.new)) }
+        ensures goes { IfOk result (λ next. Goes (fails self.old.tool self.old.base self.old.made (options_in self.old.opts) errno) next (left self.new)) }
         ensures stays { Stays self.old self.new }
         ensures memory_alone { IsOkUnless result Errno.NoMemory }
     {
@@ -321,7 +322,7 @@ impl Finder {
 
     /// Prints a refusal, with the chip open.
     fn fail_open(&mut self, alloc: Global, errno: Errno) -> Result<Next, Errno>
-        ensures goes { IfOk result (λ next. Goes (fails_at self.old.tool self.old.base self.old.made self.old.opts self.old.base errno) next (left self.new)) }
+        ensures goes { IfOk result (λ next. Goes (fails_at self.old.tool self.old.base self.old.made (options_in self.old.opts) self.old.base errno) next (left self.new)) }
         ensures stays { Stays self.old self.new }
         ensures memory_alone { IsOkUnless result Errno.NoMemory }
     {
@@ -333,7 +334,7 @@ impl Finder {
     /// Prints a refusal while lines are looked for: the chip is open where it was named.
     #[tactic(auto, using(gl_args::proofs::Programs::choices))]
     fn fail_looking(&mut self, alloc: Global, errno: Errno) -> Result<Next, Errno>
-        ensures goes { IfOk result (λ next. Goes (fails_looking self.old.tool self.old.base self.old.made self.old.opts errno) next (left self.new)) }
+        ensures goes { IfOk result (λ next. Goes (fails_looking self.old.tool self.old.base self.old.made (options_in self.old.opts) errno) next (left self.new)) }
         ensures stays { Stays self.old self.new }
         ensures memory_alone { IsOkUnless result Errno.NoMemory }
     {
@@ -356,8 +357,8 @@ impl Finder {
 /// Takes the offsets of the lines from `next` on, up to the first that is a name, and answers where that is.
 fn take_offsets(opts: &Opts, next: usize, found: &mut Vec<FoundLine>) -> Result<usize, Errno>
     ensures looks { IfOk result (λ at. (tool : ToolName) (base made : ℕ) →
-        looks tool base made opts.now (drop at opts.now.lines.items) found.new.items ≡ looks tool base made opts.now (drop next opts.now.lines.items) found.old.items) }
-    ensures name { IfOk result (λ at. at < length opts.now.lines.items → offset_said opts.now (word_at opts.now at) ≡ None) }
+        looks tool base made (options_in opts.now) (drop at opts.now.lines.items) found.new.items ≡ looks tool base made (options_in opts.now) (drop next opts.now.lines.items) found.old.items) }
+    ensures name { IfOk result (λ at. at < length opts.now.lines.items → offset_said (options_in opts.now) (word_at (options_in opts.now) at) ≡ None) }
     ensures memory_alone { IsOkUnless result Errno.NoMemory }
 {
     for i in next..opts.lines.len() {
@@ -375,7 +376,7 @@ fn take_offsets(opts: &Opts, next: usize, found: &mut Vec<FoundLine>) -> Result<
 
 /// The offset that a line's word says, if it says one.
 fn offset_said(opts: &Opts, word: &Name) -> Option<u32>
-    ensures { result ≡ offset_said opts.now word.now }
+    ensures { result ≡ offset_said (options_in opts.now) word.now }
 {
     if has_offsets(opts) {
         return below_32_bits(read_decimal(word.as_bytes()));
@@ -400,7 +401,7 @@ fn below_32_bits(number: Option<u64>) -> Option<u32>
 
 /// The word of a line, if there is one.
 fn name_at(opts: &Opts, at: usize) -> Option<Name>
-    ensures { MatchOption result (length opts.now.lines.items ≤ at) (λ name. (at < length opts.now.lines.items) × (name ≡ (word_at opts.now at))) }
+    ensures { MatchOption result (length opts.now.lines.items ≤ at) (λ name. (at < length opts.now.lines.items) × (name ≡ (word_at (options_in opts.now) at))) }
 {
     match opts.lines.get(at) {
         Some(line) => Some(line.0),

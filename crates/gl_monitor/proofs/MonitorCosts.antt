@@ -7,9 +7,7 @@ use Rattle.gl_base.specs.declared.errno.Errno.TheVariants.{NoDev}
 use Rattle.gl_base.specs.declared.operation.Do.TheVariants.{ReadFile}
 use Rattle.gl_base.specs.Operation.{refusal, bytes_of, ready_of}
 use Rattle.gl_args.specs.declared.names.ToolName.TheVariants.{Watch as WatchName, Notify as NotifyName}
-use Rattle.gl_args.specs.declared.tool.Opts.{Opts}
-use Rattle.gl_args.specs.declared.tool.Tool.{Tool}
-use Rattle.gl_args.specs.declared.tool.Tool.TheVariants.{Detect, Info, Get, Set, Watch, Notify}
+use Rattle.gl_args.specs.Options.{Options, SaidTool, SaidDetect, SaidInfo, SaidGet, SaidSet, SaidWatch, SaidNotify}
 use Rattle.gl_args.specs.Program.{Program, done, ask}
 use Rattle.gl_args.specs.Costs.{CostsAtMost}
 use Rattle.gl_args.proofs.Costs.{costs_more, costs_then, costs_then_given}
@@ -86,27 +84,27 @@ watches_within : (w : Watching) (lines : List FoundLine) (n : ℕ) → length li
 watches_within w [] n le = tt
 watches_within w (line ∷ lines) n le = (omega arith, λ got. watched_within (n - 1) w (watches w lines) (watches_within w lines (n - 1) (omega arith)) (refusal got))
 
-requested_within : (base made : ℕ) (opts : Opts) (o : Option (List FoundLine)) → CostsAtMost 0 (started WatchName base made opts o)
+requested_within : (base made : ℕ) (opts : Options) (o : Option (List FoundLine)) → CostsAtMost 0 (started WatchName base made opts o)
 requested_within base made opts None = tt
 requested_within base made opts (Some found) = tt
 
-notified_within : (base made n : ℕ) (opts : Opts) (o : Option (List FoundLine)) → FoundAtMost n o → CostsAtMost n (started NotifyName base made opts o)
+notified_within : (base made n : ℕ) (opts : Options) (o : Option (List FoundLine)) → FoundAtMost n o → CostsAtMost n (started NotifyName base made opts o)
 notified_within base made n opts None few = tt
 notified_within base made n opts (Some found) few = watches_within (watching NotifyName base made opts found opts.count) found n few
 
-pub monitor_within : (tool : Tool) (base : ℕ) → CostsAtMost (monitor_cost tool) (monitor_program tool base)
-monitor_within (Watch opts) base =
-    let n = length opts.lines.items in
+pub monitor_within : (tool : SaidTool) (base : ℕ) → CostsAtMost (monitor_cost tool) (monitor_program tool base)
+monitor_within (SaidWatch opts) base =
+    let n = length opts.lines in
     let made = base + 1 in
     costs_more (begins WatchName base made opts) (n + 5 + 0) (n + 5) (omega arith)
     (costs_then (finds WatchName base made opts) (started WatchName base made opts) (n + 5) 0 (finds_requesting WatchName base made opts refl) (requested_within base made opts))
-monitor_within (Notify opts) base =
-    let n = length opts.lines.items in
+monitor_within (SaidNotify opts) base =
+    let n = length opts.lines in
     let made = base + 1 in
     costs_more (begins NotifyName base made opts) (n + 2 + n) (2 * n + 2) (omega arith)
     (costs_then_given (FoundAtMost n) (finds NotifyName base made opts) (started NotifyName base made opts) (n + 2) n (finds_alone NotifyName base made opts refl) (finds_few NotifyName base made opts)
     (notified_within base made n opts))
-monitor_within (Detect words) base = tt
-monitor_within (Info opts) base = tt
-monitor_within (Get opts) base = tt
-monitor_within (Set opts) base = tt
+monitor_within (SaidDetect words) base = tt
+monitor_within (SaidInfo opts) base = tt
+monitor_within (SaidGet opts) base = tt
+monitor_within (SaidSet opts) base = tt

@@ -1,12 +1,12 @@
 -- How a monitor prints an item. The words and the directives follow libgpiod's gpiomon and gpionotify; which directives there
 -- are, and how a line is printed, is this project's choice.
+use Rattle.gl_args.specs.Options.{Options}
 use Rattle.std.specs.Prelude.{ℕ, ◌==◌, Bool, is_some, not, if◌then◌else◌, List, [], ◌∷◌, ◌++◌, find, codes, Option, Some, None}
 use Rattle.gl_base.specs.ChipWord.{chip_name, chip_number_of}
 use Rattle.gl_base.specs.Decimal.{decimal}
 use Rattle.gl_base.specs.Seconds.{seconds_text}
 use Rattle.gl_args.specs.declared.names.ToolName.{ToolName}
 use Rattle.gl_args.specs.declared.names.ToolName.TheVariants.{Notify}
-use Rattle.gl_args.specs.declared.tool.Opts.{Opts}
 use Rattle.gl_lines.specs.declared.found_line.FoundLine.{FoundLine}
 use Rattle.gl_lines.specs.FoundLines.{place_of}
 use Rattle.gl_lines.specs.Texts.{line, quoted}
@@ -47,27 +47,27 @@ number_by None found = place_of found
 number_by (Some chip) found = number_or_zero (chip_number_of chip)
 
 -- the number of the chip of the lines: by the chip word, or by the place where they were found
-abbrev pub number_of_chip : Opts → List FoundLine → ℕ
+abbrev pub number_of_chip : Options → List FoundLine → ℕ
 number_of_chip opts found = number_by opts.chip found
 
 -- `CHIP OFFSET`
-abbrev pub given_text : Opts → List FoundLine → ℕ → List ℕ
+abbrev pub given_text : Options → List FoundLine → ℕ → List ℕ
 given_text opts found offset = chip_name (number_of_chip opts found) ++ (32 ∷ decimal offset)
 
 -- the word of a line that was found by its name, behind `CHIP OFFSET` where the chip was named
-abbrev pub named_text : Opts → List FoundLine → ℕ → List ℕ → List ℕ
+abbrev pub named_text : Options → List FoundLine → ℕ → List ℕ → List ℕ
 named_text opts found offset name =
     if not (is_some opts.chip) then quoted opts.unquoted name else given_text opts found offset ++ (32 ∷ quoted opts.unquoted name)
 
-abbrev pub line_text_by : Opts → List FoundLine → ℕ → Option (List ℕ) → List ℕ
+abbrev pub line_text_by : Options → List FoundLine → ℕ → Option (List ℕ) → List ℕ
 line_text_by opts found offset None = given_text opts found offset
 line_text_by opts found offset (Some name) = named_text opts found offset name
 
 -- a line as it is printed without a format
-abbrev pub line_text : Opts → List FoundLine → ℕ → List ℕ
+abbrev pub line_text : Options → List FoundLine → ℕ → List ℕ
 line_text opts found offset = line_text_by opts found offset (name_at found offset)
 
-module _ (tool : ToolName) (opts : Opts) (found : List FoundLine) where
+module _ (tool : ToolName) (opts : Options) (found : List FoundLine) where
   -- what stands for the letter behind a percent sign; a pair that isn't here stands for itself
   abbrev pub expansion : Item → ℕ → List ℕ
   expansion item letter =

@@ -9,10 +9,8 @@ use Rattle.gl_base.specs.declared.operation.Do.TheVariants.{Ioctl, ReadFile, Pol
 use Rattle.gl_base.specs.Operation.{refusal, bytes_of, ready_of}
 use Rattle.gl_args.specs.declared.names.ToolName.{ToolName}
 use Rattle.gl_args.specs.declared.names.ToolName.TheVariants.{Watch as WatchName, Notify as NotifyName}
-use Rattle.gl_args.specs.declared.tool.Opts.{Opts}
-use Rattle.gl_args.specs.declared.tool.Tool.{Tool}
-use Rattle.gl_args.specs.declared.tool.Tool.TheVariants.{Watch as WatchTool, Notify as NotifyTool}
 use Rattle.gl_args.specs.Names.{tool_text, requests_lines}
+use Rattle.gl_args.specs.Options.{options_in, Options, SaidTool, SaidWatch, SaidNotify}
 use Rattle.gl_args.specs.Program.{Program, done, print, ask, Left, goes_on, waits, then_left, then_by}
 use Rattle.gl_lines.specs.declared.finder.Finder.{Finder}
 use Rattle.gl_lines.specs.declared.found_line.FoundLine.{FoundLine}
@@ -30,7 +28,7 @@ use Rattle.gl_monitor.specs.ItemText.{items_text}
 pub record Watching : Type 0 where
   pub tool : ToolName
   pub slot : ℕ
-  pub opts : Opts
+  pub opts : Options
   pub lines : List FoundLine
   pub missing : Option ℕ
 
@@ -132,38 +130,38 @@ has_lines w = if requests_lines w.tool then done (Some w) else watches w w.lines
 abbrev pub slot_of : ToolName → ℕ → ℕ → ℕ
 slot_of tool base made = if requests_lines tool then made else base
 
-abbrev pub watching : ToolName → ℕ → ℕ → Opts → List FoundLine → Option ℕ → Watching
+abbrev pub watching : ToolName → ℕ → ℕ → Options → List FoundLine → Option ℕ → Watching
 watching tool base made opts lines missing = record { tool = tool; slot = slot_of tool base made; opts = opts; lines = lines; missing = missing }
 
 -- the lines were found, or not
-abbrev pub started : ToolName → ℕ → ℕ → Opts → Option (List FoundLine) → Program Watched
+abbrev pub started : ToolName → ℕ → ℕ → Options → Option (List FoundLine) → Program Watched
 started tool base made opts None = ends
 started tool base made opts (Some found) = has_lines (watching tool base made opts found opts.count)
 
 -- the start of a monitor
-abbrev pub begins : ToolName → ℕ → ℕ → Opts → Program Watched
+abbrev pub begins : ToolName → ℕ → ℕ → Options → Program Watched
 begins tool base made opts = then_by (finds tool base made opts) (started tool base made opts)
 
 -- What a monitor does when it is started, by its words, with the slots `base` and `base + 1`. It gives what it watches, or
 -- nothing where it met a refusal. The other tools are no monitors.
-abbrev pub monitor_program : Tool → ℕ → Program Watched
-monitor_program (WatchTool opts) base = begins WatchName base (base + 1) opts
-monitor_program (NotifyTool opts) base = begins NotifyName base (base + 1) opts
+abbrev pub monitor_program : SaidTool → ℕ → Program Watched
+monitor_program (SaidWatch opts) base = begins WatchName base (base + 1) opts
+monitor_program (SaidNotify opts) base = begins NotifyName base (base + 1) opts
 monitor_program _ base = ends
 
 -- a tool is a monitor
-abbrev pub IsMonitorTool : Tool → Type 0
-IsMonitorTool (WatchTool opts) = Unit {0}
-IsMonitorTool (NotifyTool opts) = Unit {0}
+abbrev pub IsMonitorTool : SaidTool → Type 0
+IsMonitorTool (SaidWatch opts) = Unit {0}
+IsMonitorTool (SaidNotify opts) = Unit {0}
 IsMonitorTool _ = ⊥
 
 -- what is watched, as far as a monitor in code knows it
 abbrev pub watching_in : Monitor → Watching
-watching_in m = watching m.finder.tool m.finder.base m.finder.made m.finder.opts m.finder.found.items m.missing
+watching_in m = watching m.finder.tool m.finder.base m.finder.made (options_in m.finder.opts) m.finder.found.items m.missing
 
 -- what is watched behind a finder that has found its lines
 abbrev pub first_watching : Finder → Watching
-first_watching f = watching f.tool f.base f.made f.opts f.found.items f.opts.count
+first_watching f = watching f.tool f.base f.made (options_in f.opts) f.found.items f.opts.count
 
 abbrev pub watched_at : Watching → MonitorStage → Watched
 watched_at w Resting = Some w
@@ -172,6 +170,11 @@ watched_at w _ = None
 -- what a monitor watches at its rest, if it watches something
 abbrev pub watched_by : Monitor → Watched
 watched_by m = watched_at (watching_in m) m.stage
+
+-- the slot of the file that is watched
+abbrev pub watched_slot : Watched → Option ℕ
+watched_slot None = None
+watched_slot (Some w) = Some w.slot
 
 -- a stage that is reached from a rest; elsewhere the monitor has ended
 abbrev pub left_rest : MonitorStage → MonitorStage → MonitorStage
@@ -184,8 +187,8 @@ has_ended _ = false
 
 -- what is left; one line a stage
 abbrev pub left_of : Monitor → Watching → MonitorStage → Left Watched
-left_of m w Begin = goes_on (begins m.finder.tool m.finder.base m.finder.made m.finder.opts)
-left_of m w Finding = then_left (left m.finder) (started m.finder.tool m.finder.base m.finder.made m.finder.opts)
+left_of m w Begin = goes_on (begins m.finder.tool m.finder.base m.finder.made (options_in m.finder.opts))
+left_of m w Finding = then_left (left m.finder) (started m.finder.tool m.finder.base m.finder.made (options_in m.finder.opts))
 left_of m w WatchingLines = waits (λ got. watched w (watches w (drop m.next w.lines)) (refusal got))
 left_of m w Stepping = goes_on (steps w m.turns)
 left_of m w Polling = waits (λ got. polled w (steps w m.turns) (refusal got) (ready_of got))

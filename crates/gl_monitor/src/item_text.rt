@@ -1,4 +1,5 @@
 //! How a monitor prints an item.
+ghost use Rattle.gl_args.specs.Options.{options_in};
 ghost use Rattle.std.specs.Prelude.{◌≡◌, ◌++◌, ◌<◌, find, length, option_copied, OnOk, IfOk, IsOkUnless};
 ghost use Rattle.gl_base.specs.ChipWord.{chip_name};
 ghost use Rattle.gl_base.specs.Decimal.{decimal};
@@ -19,7 +20,7 @@ pub(crate) fn items_text(
     found: &[FoundLine],
     items: &[Item],
 ) -> Result<ByteList, Errno>
-    ensures ok { IfOk result (λ text. text ≡ items_text tool opts.now found.now items.now) }
+    ensures ok { IfOk result (λ text. text ≡ items_text tool (options_in opts.now) found.now items.now) }
     ensures memory_alone { IsOkUnless result Errno.NoMemory }
 {
     let mut text = ByteList::new(alloc);
@@ -37,7 +38,7 @@ fn put_line(
     item: &Item,
     text: &mut ByteList,
 ) -> Result<(), Errno>
-    ensures ok { OnOk result (text.new ≡ text.old ++ item_line tool opts.now found.now item.now) }
+    ensures ok { OnOk result (text.new ≡ text.old ++ item_line tool (options_in opts.now) found.now item.now) }
     ensures memory_alone { IsOkUnless result Errno.NoMemory }
 {
     put_item(alloc, tool, opts, found, item, text)?;
@@ -52,7 +53,7 @@ fn put_item(
     item: &Item,
     text: &mut ByteList,
 ) -> Result<(), Errno>
-    ensures ok { OnOk result (text.new ≡ text.old ++ item_text tool opts.now found.now item.now) }
+    ensures ok { OnOk result (text.new ≡ text.old ++ item_text tool (options_in opts.now) found.now item.now) }
     ensures memory_alone { IsOkUnless result Errno.NoMemory }
 {
     match &opts.format {
@@ -70,7 +71,7 @@ fn put_plain(
     item: &Item,
     text: &mut ByteList,
 ) -> Result<(), Errno>
-    ensures ok { OnOk result (text.new ≡ text.old ++ plain_text tool opts.now found.now item.now) }
+    ensures ok { OnOk result (text.new ≡ text.old ++ plain_text tool (options_in opts.now) found.now item.now) }
     ensures memory_alone { IsOkUnless result Errno.NoMemory }
 {
     put_seconds(alloc, item.time, text)?;
@@ -88,7 +89,7 @@ fn put_line_name(
     offset: u32,
     text: &mut ByteList,
 ) -> Result<(), Errno>
-    ensures ok { OnOk result (text.new ≡ text.old ++ line_text opts.now found.now offset) }
+    ensures ok { OnOk result (text.new ≡ text.old ++ line_text (options_in opts.now) found.now offset) }
     ensures memory_alone { IsOkUnless result Errno.NoMemory }
 {
     match name_at(found, offset) {
@@ -105,7 +106,7 @@ fn put_given(
     offset: u32,
     text: &mut ByteList,
 ) -> Result<(), Errno>
-    ensures ok { OnOk result (text.new ≡ text.old ++ given_text opts.now found.now offset) }
+    ensures ok { OnOk result (text.new ≡ text.old ++ given_text (options_in opts.now) found.now offset) }
     ensures memory_alone { IsOkUnless result Errno.NoMemory }
 {
     put_chip(opts, found, text)?;
@@ -122,7 +123,7 @@ fn put_named(
     name: &Name,
     text: &mut ByteList,
 ) -> Result<(), Errno>
-    ensures ok { OnOk result (text.new ≡ text.old ++ named_text opts.now found.now offset name.now) }
+    ensures ok { OnOk result (text.new ≡ text.old ++ named_text (options_in opts.now) found.now offset name.now) }
     ensures memory_alone { IsOkUnless result Errno.NoMemory }
 {
     if opts.chip.is_none() {
@@ -157,7 +158,7 @@ fn line_at(found: &[FoundLine], offset: u32) -> Option<&FoundLine>
 
 /// The number of the chip of the lines: by the chip word, or by the place where they were found.
 fn number_of_chip(opts: &Opts, found: &[FoundLine]) -> u64
-    ensures { result ≡ number_of_chip opts.now found.now }
+    ensures { result ≡ number_of_chip (options_in opts.now) found.now }
 {
     match &opts.chip {
         Some(chip) => number_or_zero(chip_number(chip.as_bytes())),
@@ -175,7 +176,7 @@ fn number_or_zero(number: Option<u64>) -> u64
 }
 
 fn put_chip(opts: &Opts, found: &[FoundLine], text: &mut ByteList) -> Result<(), Errno>
-    ensures ok { OnOk result (text.new ≡ text.old ++ chip_name (number_of_chip opts.now found.now)) }
+    ensures ok { OnOk result (text.new ≡ text.old ++ chip_name (number_of_chip (options_in opts.now) found.now)) }
     ensures memory_alone { IsOkUnless result Errno.NoMemory }
 {
     let name = Name::with_number(b"gpiochip", number_of_chip(opts, found));
@@ -192,7 +193,7 @@ fn put_formatted(
     format: &[u8],
     text: &mut ByteList,
 ) -> Result<(), Errno>
-    ensures ok { OnOk result (text.new ≡ text.old ++ formatted tool opts.now found.now item.now format.now) }
+    ensures ok { OnOk result (text.new ≡ text.old ++ formatted tool (options_in opts.now) found.now item.now format.now) }
     ensures memory_alone { IsOkUnless result Errno.NoMemory }
 {
     let mut rest = format;
@@ -213,7 +214,7 @@ fn put_front<'a>(
     text: &mut ByteList,
 ) -> Result<&'a [u8], Errno>
     requires { 0 < length format.now }
-    ensures ok { IfOk result (λ rest. text.new ++ formatted tool opts.now found.now item.now rest.now ≡ text.old ++ formatted tool opts.now found.now item.now format.now) }
+    ensures ok { IfOk result (λ rest. text.new ++ formatted tool (options_in opts.now) found.now item.now rest.now ≡ text.old ++ formatted tool (options_in opts.now) found.now item.now format.now) }
     ensures less { IfOk result (λ rest. length rest.now < length format.now) }
     ensures memory_alone { IsOkUnless result Errno.NoMemory }
 {
@@ -244,7 +245,7 @@ fn put_expansion(
     letter: u8,
     text: &mut ByteList,
 ) -> Result<(), Errno>
-    ensures ok { OnOk result (text.new ≡ text.old ++ expansion tool opts.now found.now item.now letter) }
+    ensures ok { OnOk result (text.new ≡ text.old ++ expansion tool (options_in opts.now) found.now item.now letter) }
     ensures memory_alone { IsOkUnless result Errno.NoMemory }
 {
     if letter == b'o' {

@@ -1,6 +1,6 @@
 //! What the monitors cost, whatever they are answered. Each law stands as the contract of a function that does nothing.
 ghost use Rattle.std.specs.Prelude.{ℕ, ◌+◌};
-ghost use Rattle.gl_args.specs.declared.tool.Tool.{Tool};
+ghost use Rattle.gl_args.specs.Options.{SaidTool};
 ghost use Rattle.gl_args.specs.Costs.{CostsAtMost};
 ghost use Rattle.gl_monitor.specs.Costs.{monitor_cost};
 ghost use Rattle.gl_monitor.specs.Monitor.{Watched, monitor_program, steps_held, stops};
@@ -8,7 +8,7 @@ ghost use Rattle.gl_monitor.specs.Monitor.{Watched, monitor_program, steps_held,
 /// A monitor makes at most as many entries as its cost says when it is started, one more than its turns in a step, and
 /// none when it is stopped. The closing of a file is counted where the file is opened.
 pub fn monitors_within_cost()
-    ensures started { (tool : Tool) (base : ℕ) → CostsAtMost (monitor_cost tool) (monitor_program tool base) }
+    ensures started { (tool : SaidTool) (base : ℕ) → CostsAtMost (monitor_cost tool) (monitor_program tool base) }
     ensures stepped { (watched : Watched) (turns : ℕ) → CostsAtMost (turns + 1) (steps_held watched turns) }
     ensures stopped { (watched : Watched) → CostsAtMost 0 (stops watched) }
 {}

@@ -1,9 +1,10 @@
 //! gpiomon and gpionotify.
 ghost use Rattle.std.specs.Prelude.{◌≡◌, ◌+◌, ◌<◌, ◌^◌, ◌≤◌, [], ◌∷◌, not, is_some, drop, IfOk, IsSome, IsOkUnless, MatchOption, option_copied};
+ghost use Rattle.gl_args.specs.Options.{options_in, tool_in};
 ghost use Rattle.gl_args.specs.Program.{Goes, given, goes_on, done, then_by, MatchNext};
 ghost use Rattle.gl_lines.specs.declared.found_line.FoundLine.{FoundLine};
 ghost use Rattle.gl_lines.specs.Finding.{Finding, left};
-ghost use Rattle.gl_monitor.specs.Monitor.{IsMonitorTool, monitor_program, begins, watching_in, watched_by, has_ended, left_rest, monitor_left, room_of, less_by, is_complete, leaves, fails, closes, closed, stops, steps_held, started, first_watching, has_lines, watches, watched, goes_behind, shows, was_read, ready, polled, steps};
+ghost use Rattle.gl_monitor.specs.Monitor.{IsMonitorTool, monitor_program, begins, watching_in, watched_by, watched_slot, has_ended, left_rest, monitor_left, room_of, less_by, is_complete, leaves, fails, closes, closed, stops, steps_held, started, first_watching, has_lines, watches, watched, goes_behind, shows, was_read, ready, polled, steps};
 
 use crate::item::{ITEMS_MAX, item_size, items_in};
 use crate::item_text::items_text;
@@ -62,9 +63,9 @@ pub struct Monitor {
 impl Monitor {
     /// A monitor that is to be started: a gpiomon or a gpionotify. It uses the slots `base` and `base + 1` alone.
     pub fn new(alloc: Global, tool: Tool, base: u32) -> Monitor
-        requires monitor { IsMonitorTool tool }
+        requires monitor { IsMonitorTool (tool_in tool) }
         requires slots { base + 1 < 2 ^ 32 }
-        ensures { monitor_left result ≡ goes_on (monitor_program tool base) }
+        ensures { monitor_left result ≡ goes_on (monitor_program (tool_in tool) base) }
     {
         match tool {
             Tool::Watch(opts) => Monitor::starting(alloc, ToolName::Watch, opts, base, base + 1),
@@ -74,7 +75,7 @@ impl Monitor {
     }
 
     fn starting(alloc: Global, tool: ToolName, opts: Opts, base: u32, made: u32) -> Monitor
-        ensures { monitor_left result ≡ goes_on (begins tool base made opts) }
+        ensures { monitor_left result ≡ goes_on (begins tool base made (options_in opts)) }
     {
         Monitor {
             finder: Finder::new(alloc, tool, base, made, opts),
@@ -159,6 +160,28 @@ impl Monitor {
         }
     }
 
+    /// The slot of the file that it watches at its rest, if it watches one: of gpiomon its request, of gpionotify its
+    /// chip file.
+    pub fn watched_slot(&self) -> Option<u32>
+        ensures { result ≡ watched_slot (watched_by self.now) }
+    {
+        match &self.stage {
+            MonitorStage::Resting => Some(self.slot()),
+            MonitorStage::Begin
+            | MonitorStage::Finding
+            | MonitorStage::Watching
+            | MonitorStage::Stepping
+            | MonitorStage::Polling
+            | MonitorStage::Reading
+            | MonitorStage::Shown
+            | MonitorStage::Failed
+            | MonitorStage::Leaving
+            | MonitorStage::Stopped
+            | MonitorStage::Closing
+            | MonitorStage::Ended => None,
+        }
+    }
+
     /// Goes from its rest to a stage; a monitor that doesn't rest has ended then.
     fn leave_rest(&mut self, stage: MonitorStage)
         ensures stage { self.new.stage ≡ left_rest self.old.stage stage }
@@ -186,7 +209,7 @@ impl Monitor {
 
     /// Goes on behind a step of what finds its lines.
     fn go_on(&mut self, step: Next) -> Next
-        ensures goes { (p : Finding) → Goes p step (left self.old.finder) → Goes (then_by p (started self.old.finder.tool self.old.finder.base self.old.finder.made self.old.finder.opts)) result (monitor_left self.new) }
+        ensures goes { (p : Finding) → Goes p step (left self.old.finder) → Goes (then_by p (started self.old.finder.tool self.old.finder.base self.old.finder.made (options_in self.old.finder.opts))) result (monitor_left self.new) }
         ensures rests { MatchNext result (Unit {0}) (monitor_left self.new ≡ goes_on (done (watched_by self.new))) }
         ensures ended { MatchNext result (Unit {0}) (has_ended self.new.stage ≡ not (is_some (watched_by self.new))) }
     {

@@ -1,8 +1,9 @@
 pub mod Continuing
 pub mod Front
+pub mod NamedRows
 pub mod Parts
-pub mod Removing
+pub mod SlotOrder
 pub mod StatementCosts
+pub mod TablesWhole
 pub mod ToolParts
 pub mod Turns
-pub mod TablesWhole

@@ -1,13 +1,23 @@
--- What a statement asks costs no more than the statement.
-use Rattle.std.proofs.Common.{◌≡◌, ◌≤◌, ◌+◌, ◌-◌, inl, inr, ℕ, Bool, true, false, cond, List, ◌∷◌, Option, None, Some, refl, sym, subst, arith}
-use Rattle.std.specs.Prelude.{if◌then◌else◌, ◌==◌, nat_lt, is_some}
+-- What a statement asks costs no more than the statement, and a talk no more than its statements.
+use Rattle.std.proofs.Common.{◌≡◌, ◌≤◌, ◌+◌, ◌-◌, ℕ, suc, Bool, true, false, cond, List, [], ◌∷◌, length, Option, None, Some, refl, sym, subst, arith}
+use Rattle.std.specs.Prelude.{if◌then◌else◌, ◌==◌, nat_lt, is_some, sum_by}
+use Rattle.std.proofs.lemmas.List.Sums.{sum_by-cons}
 use Rattle.gl_base.specs.CommandWord.{command_number_of}
 use Rattle.gl_base.specs.Operation.{refusal}
 use Rattle.gl_base.specs.Words.{Span, text_at}
 use Rattle.gl_base.specs.declared.errno.Errno.{Errno}
 use Rattle.gl_base.specs.declared.operation.Got.{Got}
 use Rattle.gl_args.specs.Costs.{CostsAtMost, entries_of, command_entries}
-use Rattle.gl_script.specs.Cost.{cost, cost_by}
+use Rattle.gl_args.specs.Options.{SaidTool, SaidDetect, SaidInfo, SaidGet, SaidSet, SaidWatch, SaidNotify}
+use Rattle.gl_args.specs.Program.{done, then_by}
+use Rattle.gl_args.specs.Tools.{tool_said}
+use Rattle.gl_args.proofs.Costs.{costs_more, costs_then}
+use Rattle.gl_monitor.specs.Costs.{monitor_cost}
+use Rattle.gl_monitor.specs.Monitor.{Watched, monitor_program, steps_held}
+use Rattle.gl_monitor.specs.Monitor.{stops as stops_watching}
+use Rattle.gl_monitor.proofs.MonitorCosts.{monitor_within}
+use Rattle.gl_monitor.proofs.MonitorCosts.{held_within as steps_within, stops_within as watched_stops_within}
+use Rattle.gl_script.specs.Cost.{cost, cost_by, start_cost, words_cost}
 use Rattle.gl_script.specs.Faults.{is_get_line}
 use Rattle.gl_script.specs.Table.{keyword_of}
 use Rattle.gl_script.specs.declared.table.Keyword.{Keyword}
@@ -17,19 +27,22 @@ use Rattle.gl_talk.specs.declared.plans.Plan.{Plan}
 use Rattle.gl_talk.specs.declared.plans.Plan.TheVariants.{Nothing, Refuse, Ask}
 use Rattle.gl_talk.specs.declared.plans.Reply.{Reply}
 use Rattle.gl_talk.specs.declared.plans.Reply.TheVariants.{Silent, Value, Level, Bytes, Edges, Infos, Ready, Opened, Closed, Made}
-use Rattle.gl_talk.specs.Costs.{StatementsKeepWithinCost}
-use Rattle.gl_talk.specs.Open.{File, file_of}
+use Rattle.gl_talk.specs.declared.tools.Kind.{Kind}
+use Rattle.gl_talk.specs.declared.tools.Kind.TheVariants.{Plain, ToolAlone, Starting, Stepping, Stopping}
+use Rattle.gl_talk.specs.Costs.{StatementsKeepWithinCost, TalksKeepWithinCost}
+use Rattle.gl_talk.specs.Open.{File, Names, file_of, has_tool, held_of_name, watched_of_name, slots_in_order, without_monitor, without_set}
 use Rattle.gl_talk.specs.Paths.{line_file, live_device}
 use Rattle.gl_talk.specs.Plans.{closes, ioctls, irqs, lives, opens, pins, planned, polls, pulls, reads, reads_file, takes_name, unplugs, writes, writes_tree}
-use Rattle.gl_args.proofs.Costs.{costs_more, costs_then}
-use Rattle.gl_args.specs.Program.{done}
-use Rattle.gl_values.specs.Client.{tool_program}
-use Rattle.gl_values.specs.Costs.{tool_cost}
-use Rattle.gl_values.proofs.ToolCosts.{tool_within}
-use Rattle.gl_talk.proofs.ToolParts.{tool_fits}
-use Rattle.gl_talk.specs.Talk.{Files, DoesBy, ToolDoes, acts, replied_by, runs_tool}
-use Rattle.gl_talk.specs.ToolWords.{is_tool}
-use Rattle.gl_talk.specs.Words.{live_word, or_else, place_word, pull_word}
+use Rattle.gl_talk.specs.Talk.{acts, closes_all, does, does_by, keeps_monitor, keeps_set, replied_by, runs, slot_behind, starts, starts_said, starts_tool, steps, stops, talks}
+use Rattle.gl_talk.specs.ToolWords.{kind_of, word_texts}
+use Rattle.gl_talk.specs.Words.{behind_two, live_word, or_else, place_word, pull_word, turns_word}
+use Rattle.gl_talk.proofs.ToolParts.{started_cost, started_fits, tool_fits}
+use Rattle.gl_values.specs.Client.{held_program, tool_program}
+use Rattle.gl_values.specs.Costs.{held_cost, tool_cost}
+use Rattle.gl_values.specs.Set.{Held}
+use Rattle.gl_values.specs.Set.{stops as stops_holding}
+use Rattle.gl_values.proofs.ToolCosts.{held_within, tool_within}
+use Rattle.gl_values.proofs.ToolCosts.{stops_within as held_stops_within}
 
 -- the operation of a plan, if it asks one, makes at most so many entries
 abbrev PlanCosts : ℕ → Plan → Type 0
@@ -42,23 +55,23 @@ plan_if n true a b p q = p
 plan_if n false a b p q = q
 
 -- what is told of a result asks nothing
-told_free : (n : ℕ) (fault : Option Errno) (reply : Reply) (files : List File) (slot : ℕ) (words : List Span) (got : Got) → CostsAtMost n (replied_by fault reply files slot words got)
-told_free n (Some errno) reply files slot words got = tt
-told_free n None Silent files slot words got = tt
-told_free n None Value files slot words got = tt
-told_free n None (Level is_pull) files slot words got = tt
-told_free n None Bytes files slot words got = tt
-told_free n None Edges files slot words got = tt
-told_free n None Infos files slot words got = tt
-told_free n None Ready files slot words got = tt
-told_free n None Opened files slot words got = tt
-told_free n None Closed files slot words got = tt
-told_free n None Made files slot words got = tt
+told_free : (n : ℕ) (fault : Option Errno) (reply : Reply) (names : Names) (slot : ℕ) (words : List Span) (got : Got) → CostsAtMost n (replied_by fault reply names slot words got)
+told_free n (Some errno) reply names slot words got = tt
+told_free n None Silent names slot words got = tt
+told_free n None Value names slot words got = tt
+told_free n None (Level is_pull) names slot words got = tt
+told_free n None Bytes names slot words got = tt
+told_free n None Edges names slot words got = tt
+told_free n None Infos names slot words got = tt
+told_free n None Ready names slot words got = tt
+told_free n None Opened names slot words got = tt
+told_free n None Closed names slot words got = tt
+told_free n None Made names slot words got = tt
 
-acts_cost : (n : ℕ) (plan : Plan) (files : List File) (slot : ℕ) (words : List Span) → PlanCosts n plan → CostsAtMost n (acts plan files slot words)
-acts_cost n Nothing files slot words h = tt
-acts_cost n (Refuse errno) files slot words h = tt
-acts_cost n (Ask what reply) files slot words h = (h, λ got. told_free (n - entries_of what) (refusal got) reply files slot words got)
+acts_cost : (n : ℕ) (plan : Plan) (names : Names) (slot : ℕ) (words : List Span) → PlanCosts n plan → CostsAtMost n (acts plan names slot words)
+acts_cost n Nothing names slot words h = tt
+acts_cost n (Refuse errno) names slot words h = tt
+acts_cost n (Ask what reply) names slot words h = (h, λ got. told_free (n - entries_of what) (refusal got) reply names slot words got)
 
 unplugs_cost : (place : Option ℕ) → PlanCosts 2 (unplugs place)
 unplugs_cost None = tt
@@ -154,21 +167,165 @@ planned_cost Start files slot first words = tt
 planned_cost Step files slot first words = tt
 planned_cost Stop files slot first words = tt
 
-tool_cost_fits : (keyword : Option Keyword) (files : List File) (slot : ℕ) (first : Span) (words : List Span) (p : Files) → keyword_of first.text ≡ keyword → is_tool keyword ≡ true
-    → ToolDoes files slot (first ∷ words) p → CostsAtMost (cost_by keyword words) p
-tool_cost_fits None files slot first words p e t h = cc
-tool_cost_fits (Some keyword) files slot first words p e t (inl ran) =
-    subst (CostsAtMost (cost keyword words)) (sym ran.2)
-    (costs_more (runs_tool ran.0 slot files) (tool_cost ran.0 + 0) (cost keyword words) (omega (arith, tool_fits keyword first words ran.0 e t ran.1))
-    (costs_then (tool_program ran.0 slot) (λ _. done files) (tool_cost ran.0) 0 (tool_within ran.0 slot) (λ value. tt)))
-tool_cost_fits (Some keyword) files slot first words p e t (inr usage) = subst (CostsAtMost (cost keyword words)) (sym usage.1) tt
+-- a tool's statement
+runs_cost : (keyword : Keyword) (tool : Option SaidTool) (names : Names) (slot : ℕ) (first : Span) (words : List Span) → keyword_of first.text ≡ Some keyword → kind_of (Some keyword) ≡ ToolAlone
+    → tool_said (word_texts (first ∷ words)) ≡ tool → CostsAtMost (cost keyword words) (runs tool names slot (first ∷ words))
+runs_cost keyword None names slot first words k e s = tt
+runs_cost keyword (Some tool) names slot first words k e s =
+    costs_more (runs (Some tool) names slot (first ∷ words)) (tool_cost tool + 0) (cost keyword words) (omega (arith, tool_fits keyword first words tool k e s))
+    (costs_then (tool_program tool slot) (λ _. done names) (tool_cost tool) 0 (tool_within tool slot) (λ value. tt))
 
-keyword_cost : (keyword : Option Keyword) (tool : Bool) (files : List File) (slot : ℕ) (first : Span) (words : List Span) (p : Files) → keyword_of first.text ≡ keyword → is_tool keyword ≡ tool
-    → DoesBy tool keyword files slot (first ∷ words) p → CostsAtMost (cost_by keyword words) p
-keyword_cost keyword true files slot first words p k e h = tool_cost_fits keyword files slot first words p k e h
-keyword_cost None false files slot first words p k e h = subst (CostsAtMost 0) (sym h) tt
-keyword_cost (Some keyword) false files slot first words p k e h =
-    subst (CostsAtMost (cost keyword words)) (sym h) (acts_cost (cost keyword words) (planned (Some keyword) files slot (first ∷ words)) files slot (first ∷ words) (planned_cost keyword files slot first words))
+-- a tool that is started
+starts_tool_cost : (tool : SaidTool) (names : Names) (slot : ℕ) (name : List ℕ) → CostsAtMost (started_cost tool) (starts_tool tool names slot name)
+starts_tool_cost (SaidDetect texts) names slot name = tt
+starts_tool_cost (SaidInfo opts) names slot name = tt
+starts_tool_cost (SaidGet opts) names slot name = tt
+starts_tool_cost (SaidSet opts) names slot name =
+    costs_more (starts_tool (SaidSet opts) names slot name) (held_cost (SaidSet opts) + 0) (started_cost (SaidSet opts)) (omega arith)
+    (costs_then (held_program (SaidSet opts) slot) (keeps_set name names) (held_cost (SaidSet opts)) 0 (held_within (SaidSet opts) slot) (λ value. tt))
+starts_tool_cost (SaidWatch opts) names slot name =
+    costs_more (starts_tool (SaidWatch opts) names slot name) (monitor_cost (SaidWatch opts) + 0) (started_cost (SaidWatch opts)) (omega arith)
+    (costs_then (monitor_program (SaidWatch opts) slot) (keeps_monitor name names) (monitor_cost (SaidWatch opts)) 0 (monitor_within (SaidWatch opts) slot) (λ value. tt))
+starts_tool_cost (SaidNotify opts) names slot name =
+    costs_more (starts_tool (SaidNotify opts) names slot name) (monitor_cost (SaidNotify opts) + 0) (started_cost (SaidNotify opts)) (omega arith)
+    (costs_then (monitor_program (SaidNotify opts) slot) (keeps_monitor name names) (monitor_cost (SaidNotify opts)) 0 (monitor_within (SaidNotify opts) slot) (λ value. tt))
+
+said_cost : (tool : Option SaidTool) (names : Names) (slot : ℕ) (first name word : Span) (words : List Span) → tool_said (word_texts (word ∷ words)) ≡ tool
+    → CostsAtMost (start_cost word.text (length words)) (starts_said tool names slot (first ∷ name ∷ word ∷ words))
+said_cost None names slot first name word words e = tt
+said_cost (Some tool) names slot first name word words e =
+    costs_more (starts_tool tool names slot name.text) (started_cost tool) (start_cost word.text (length words)) (started_fits word words tool e) (starts_tool_cost tool names slot name.text)
+
+words_start : (names : Names) (slot : ℕ) (first : Span) (words : List Span)
+    → CostsAtMost (cost Start words) (starts_said (tool_said (word_texts (behind_two (first ∷ words)))) names slot (first ∷ words))
+words_start names slot first [] = tt
+words_start names slot first (name ∷ []) = tt
+words_start names slot first (name ∷ word ∷ words) =
+    costs_more (starts_said (tool_said (word_texts (word ∷ words))) names slot (first ∷ name ∷ word ∷ words)) (start_cost word.text (length words)) (cost Start (name ∷ word ∷ words))
+    (same_count word.text (length words)) (said_cost (tool_said (word_texts (word ∷ words))) names slot first name word words refl)
+  where
+    same_count : (text : List ℕ) (n : ℕ) → start_cost text n ≤ start_cost text (suc (suc n) - 2)
+    same_count text n =
+        let same : n ≡ suc (suc n) - 2 = omega arith in
+        subst (λ m. start_cost text n ≤ start_cost text m) same (omega arith)
+
+starts_cost : (taken : Bool) (names : Names) (slot : ℕ) (first : Span) (words : List Span) → CostsAtMost (cost Start words) (starts taken names slot (first ∷ words))
+starts_cost true names slot first words = tt
+starts_cost false names slot first words = words_start names slot first words
+
+-- a step, and a stop
+steps_cost : (watched : Option Watched) (held : Option Held) (names : Names) (first : Span) (words : List Span) → CostsAtMost (cost Step words) (steps watched held names (first ∷ words))
+steps_cost None None names first words = tt
+steps_cost None (Some held) names first words = tt
+steps_cost (Some watched) held names first words =
+    let turns = turns_word (text_at 1 words) in
+    let behind = keeps_monitor (text_at 0 words) (without_monitor (text_at 0 words) names) in
+    costs_more (then_by (steps_held watched turns) behind) (turns + 1 + 0) (cost Step words) (omega arith)
+    (costs_then (steps_held watched turns) behind (turns + 1) 0 (steps_within watched turns) (λ value. tt))
+
+stops_cost : (watched : Option Watched) (held : Option Held) (names : Names) (first : Span) (words : List Span) → CostsAtMost 0 (stops watched held names (first ∷ words))
+stops_cost None None names first words = tt
+stops_cost None (Some held) names first words =
+    costs_then (stops_holding held) (keeps_set (text_at 0 words) (without_set (text_at 0 words) names)) 0 0 (held_stops_within held) (λ value. tt)
+stops_cost (Some watched) held names first words =
+    costs_then (stops_watching watched) (keeps_monitor (text_at 0 words) (without_monitor (text_at 0 words) names)) 0 0 (watched_stops_within watched) (λ value. tt)
+
+-- what a keyword begins, by its kind
+keyword_cost : (keyword : Keyword) (kind : Kind) (names : Names) (slot : ℕ) (first : Span) (words : List Span) → keyword_of first.text ≡ Some keyword → kind_of (Some keyword) ≡ kind
+    → CostsAtMost (cost keyword words) (does_by kind names slot (first ∷ words))
+keyword_cost keyword Plain names slot first words k e =
+    subst (λ o. CostsAtMost (cost keyword words) (acts (planned o names.files slot (first ∷ words)) names slot (first ∷ words))) (sym k)
+    (acts_cost (cost keyword words) (planned (Some keyword) names.files slot (first ∷ words)) names slot (first ∷ words) (planned_cost keyword names.files slot first words))
+keyword_cost keyword ToolAlone names slot first words k e = runs_cost keyword (tool_said (word_texts (first ∷ words))) names slot first words k e refl
+keyword_cost Start Starting names slot first words k e = starts_cost (has_tool (text_at 0 words) names) names slot first words
+keyword_cost Step Stepping names slot first words k e =
+    steps_cost (watched_of_name (text_at 0 words) names.monitors) (held_of_name (text_at 0 words) names.sets) names first words
+keyword_cost Stop Stopping names slot first words k e =
+    stops_cost (watched_of_name (text_at 0 words) names.monitors) (held_of_name (text_at 0 words) names.sets) names first words
+keyword_cost Probe Starting names slot first words k e = cc
+keyword_cost Unplug Starting names slot first words k e = cc
+keyword_cost MakeDir Starting names slot first words k e = cc
+keyword_cost RemoveDir Starting names slot first words k e = cc
+keyword_cost Write Starting names slot first words k e = cc
+keyword_cost Read Starting names slot first words k e = cc
+keyword_cost Clock Starting names slot first words k e = cc
+keyword_cost Fault Starting names slot first words k e = cc
+keyword_cost Pin Starting names slot first words k e = cc
+keyword_cost Irq Starting names slot first words k e = cc
+keyword_cost Open Starting names slot first words k e = cc
+keyword_cost Ioctl Starting names slot first words k e = cc
+keyword_cost Events Starting names slot first words k e = cc
+keyword_cost Changes Starting names slot first words k e = cc
+keyword_cost Poll Starting names slot first words k e = cc
+keyword_cost Close Starting names slot first words k e = cc
+keyword_cost Detect Starting names slot first words k e = cc
+keyword_cost Info Starting names slot first words k e = cc
+keyword_cost Get Starting names slot first words k e = cc
+keyword_cost Set Starting names slot first words k e = cc
+keyword_cost Step Starting names slot first words k e = cc
+keyword_cost Stop Starting names slot first words k e = cc
+keyword_cost Probe Stepping names slot first words k e = cc
+keyword_cost Unplug Stepping names slot first words k e = cc
+keyword_cost MakeDir Stepping names slot first words k e = cc
+keyword_cost RemoveDir Stepping names slot first words k e = cc
+keyword_cost Write Stepping names slot first words k e = cc
+keyword_cost Read Stepping names slot first words k e = cc
+keyword_cost Clock Stepping names slot first words k e = cc
+keyword_cost Fault Stepping names slot first words k e = cc
+keyword_cost Pin Stepping names slot first words k e = cc
+keyword_cost Irq Stepping names slot first words k e = cc
+keyword_cost Open Stepping names slot first words k e = cc
+keyword_cost Ioctl Stepping names slot first words k e = cc
+keyword_cost Events Stepping names slot first words k e = cc
+keyword_cost Changes Stepping names slot first words k e = cc
+keyword_cost Poll Stepping names slot first words k e = cc
+keyword_cost Close Stepping names slot first words k e = cc
+keyword_cost Detect Stepping names slot first words k e = cc
+keyword_cost Info Stepping names slot first words k e = cc
+keyword_cost Get Stepping names slot first words k e = cc
+keyword_cost Set Stepping names slot first words k e = cc
+keyword_cost Start Stepping names slot first words k e = cc
+keyword_cost Stop Stepping names slot first words k e = cc
+keyword_cost Probe Stopping names slot first words k e = cc
+keyword_cost Unplug Stopping names slot first words k e = cc
+keyword_cost MakeDir Stopping names slot first words k e = cc
+keyword_cost RemoveDir Stopping names slot first words k e = cc
+keyword_cost Write Stopping names slot first words k e = cc
+keyword_cost Read Stopping names slot first words k e = cc
+keyword_cost Clock Stopping names slot first words k e = cc
+keyword_cost Fault Stopping names slot first words k e = cc
+keyword_cost Pin Stopping names slot first words k e = cc
+keyword_cost Irq Stopping names slot first words k e = cc
+keyword_cost Open Stopping names slot first words k e = cc
+keyword_cost Ioctl Stopping names slot first words k e = cc
+keyword_cost Events Stopping names slot first words k e = cc
+keyword_cost Changes Stopping names slot first words k e = cc
+keyword_cost Poll Stopping names slot first words k e = cc
+keyword_cost Close Stopping names slot first words k e = cc
+keyword_cost Detect Stopping names slot first words k e = cc
+keyword_cost Info Stopping names slot first words k e = cc
+keyword_cost Get Stopping names slot first words k e = cc
+keyword_cost Set Stopping names slot first words k e = cc
+keyword_cost Start Stopping names slot first words k e = cc
+keyword_cost Step Stopping names slot first words k e = cc
+
+some_keyword_cost : (keyword : Option Keyword) (names : Names) (slot : ℕ) (first : Span) (words : List Span) → keyword_of first.text ≡ keyword
+    → CostsAtMost (cost_by keyword words) (does_by (kind_of keyword) names slot (first ∷ words))
+some_keyword_cost None names slot first words k = subst (λ o. CostsAtMost 0 (acts (planned o names.files slot (first ∷ words)) names slot (first ∷ words))) (sym k) tt
+some_keyword_cost (Some keyword) names slot first words k = keyword_cost keyword (kind_of (Some keyword)) names slot first words k refl
 
 pub statements_keep_within_cost : StatementsKeepWithinCost
-statements_keep_within_cost files slot first words p h = keyword_cost (keyword_of first.text) (is_tool (keyword_of first.text)) files slot first words p refl refl h
+statements_keep_within_cost names slot [] = tt
+statements_keep_within_cost names slot (first ∷ words) = some_keyword_cost (keyword_of first.text) names slot first words refl
+
+closes_all_cost : (n : ℕ) (slots : List ℕ) → CostsAtMost n (closes_all slots)
+closes_all_cost n [] = tt
+closes_all_cost n (slot ∷ slots) = (omega arith, λ got. closes_all_cost (n - 0) slots)
+
+pub talks_keep_within_cost : TalksKeepWithinCost
+talks_keep_within_cost begun [] names = closes_all_cost 0 (slots_in_order names)
+talks_keep_within_cost begun (words ∷ statements) names =
+    costs_more (then_by (does names (slot_behind begun) words) (talks (begun + 1) statements)) (words_cost words + sum_by words_cost statements) (sum_by words_cost (words ∷ statements))
+    (omega (arith, sum_by-cons words_cost words statements))
+    (costs_then (does names (slot_behind begun) words) (talks (begun + 1) statements) (words_cost words) (sum_by words_cost statements) (statements_keep_within_cost names (slot_behind begun) words)
+    (λ after. talks_keep_within_cost (begun + 1) statements after))

@@ -1,11 +1,15 @@
--- What statements cost: how many entries of a history they make at most. This project's choice.
-use Rattle.std.specs.Prelude.{ℕ, List, ◌∷◌}
+-- What statements and whole talks cost: how many entries of a history they make at most. This project's choice.
+use Rattle.std.specs.Prelude.{ℕ, List, sum_by}
 use Rattle.gl_base.specs.Words.{Span}
 use Rattle.gl_args.specs.Costs.{CostsAtMost}
 use Rattle.gl_script.specs.Cost.{words_cost}
-use Rattle.gl_talk.specs.Open.{File}
-use Rattle.gl_talk.specs.Talk.{Files, Does}
+use Rattle.gl_talk.specs.Open.{Names}
+use Rattle.gl_talk.specs.Talk.{does, talks}
 
 -- A statement makes at most as many entries as it costs, whatever it is answered.
 abbrev pub StatementsKeepWithinCost : Type 0
-StatementsKeepWithinCost = (files : List File) (slot : ℕ) (first : Span) (words : List Span) (p : Files) → Does files slot (first ∷ words) p → CostsAtMost (words_cost (first ∷ words)) p
+StatementsKeepWithinCost = (names : Names) (slot : ℕ) (words : List Span) → CostsAtMost (words_cost words) (does names slot words)
+
+-- A whole talk makes at most as many entries as its statements cost together, with the end.
+abbrev pub TalksKeepWithinCost : Type 0
+TalksKeepWithinCost = (begun : ℕ) (statements : List (List Span)) (names : Names) → CostsAtMost (sum_by words_cost statements) (talks begun statements names)

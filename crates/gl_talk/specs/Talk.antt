@@ -1,136 +1,204 @@
--- What each statement does: which operations it asks for, by their results so far, and what it prints. A statement is a
--- program that gives the files that are open behind it. This project's choice.
-use Rattle.std.specs.Prelude.{◌≡◌, ◌⊎◌, ℕ, ◌*◌, Bool, true, false, List, [], ◌∷◌, ◌++◌, map, Option, Some, None}
+-- What each statement does: which operations it asks for, by their results so far, and what it prints; and what a whole talk
+-- does, a statement at a time. A statement is a program that gives the names behind it. This project's choice.
+use Rattle.std.specs.Prelude.{ℕ, ◌+◌, ◌*◌, Bool, true, false, List, [], ◌∷◌, ◌++◌, map, Option, Some, None}
 use Rattle.gl_base.specs.Errno.{errno_name}
 use Rattle.gl_base.specs.Operation.{refusal, bytes_of, ready_of}
-use Rattle.gl_base.specs.Rows.{without_first}
 use Rattle.gl_base.specs.Words.{Span, text_at}
 use Rattle.gl_base.specs.declared.errno.Errno.{Errno}
+use Rattle.gl_base.specs.declared.errno.Errno.TheVariants.{BadF, Exist, Inval}
+use Rattle.gl_base.specs.declared.operation.Do.{Do}
 use Rattle.gl_base.specs.declared.operation.Do.TheVariants.{Close as DoClose}
 use Rattle.gl_base.specs.declared.operation.Got.{Got}
-use Rattle.gl_args.specs.declared.tool.Tool.{Tool}
+use Rattle.gl_args.specs.Options.{SaidTool, SaidSet, SaidWatch, SaidNotify}
 use Rattle.gl_args.specs.Program.{Program, done, print, ask, then_by, Left, goes_on, waits, then_left}
-use Rattle.gl_args.specs.Tools.{Says, said}
+use Rattle.gl_args.specs.Tools.{tool_said}
 use Rattle.gl_lines.specs.Texts.{line}
+use Rattle.gl_monitor.specs.declared.monitor.Monitor.{Monitor}
+use Rattle.gl_monitor.specs.Monitor.{Watched, monitor_left, monitor_program, steps_held}
+use Rattle.gl_monitor.specs.Monitor.{stops as stops_watching}
 use Rattle.gl_script.specs.Columns.{columns}
 use Rattle.gl_script.specs.Table.{keyword_of}
-use Rattle.gl_script.specs.declared.table.Keyword.{Keyword}
-use Rattle.gl_values.specs.Client.{tool_program, client_left}
-use Rattle.gl_values.specs.declared.client.Client.{Client}
+use Rattle.gl_values.specs.Client.{tool_program, held_program, client_left}
+use Rattle.gl_values.specs.Set.{Held}
+use Rattle.gl_values.specs.Set.{stops as stops_holding}
 use Rattle.gl_talk.specs.declared.plans.Plan.{Plan}
 use Rattle.gl_talk.specs.declared.plans.Plan.TheVariants.{Nothing, Refuse, Ask}
 use Rattle.gl_talk.specs.declared.plans.Reply.{Reply}
 use Rattle.gl_talk.specs.declared.plans.Reply.TheVariants.{Silent, Value, Level, Bytes, Edges, Infos, Ready, Opened, Closed, Made}
 use Rattle.gl_talk.specs.declared.talk.Stage.{Stage}
-use Rattle.gl_talk.specs.declared.talk.Stage.TheVariants.{Idle, Begun, Waiting, Running, Quitting, Closing}
+use Rattle.gl_talk.specs.declared.talk.Stage.TheVariants.{Idle, Begun, Waiting, Running, Holding, Watching, Quitting, Closing}
 use Rattle.gl_talk.specs.declared.talk.Talk.{Talk}
-use Rattle.gl_talk.specs.Open.{File, is_file, file_in}
+use Rattle.gl_talk.specs.declared.tools.Kind.{Kind}
+use Rattle.gl_talk.specs.declared.tools.Kind.TheVariants.{Plain, ToolAlone, Starting, Stepping, Stopping}
+use Rattle.gl_talk.specs.Open.{File, Names, no_names, file_in, set_in, monitor_in, has_tool, held_of_name, watched_of_name, with_file, without_file, with_set, with_monitor, without_set, without_monitor, slots_in_order}
 use Rattle.gl_talk.specs.Plans.{planned}
 use Rattle.gl_talk.specs.Replies.{number_of, text_of, level_text, ready_text, structure_text, fd_text, edges_text, infos_text}
-use Rattle.gl_talk.specs.ToolWords.{is_tool, usage_text, word_texts}
-use Rattle.gl_talk.specs.Words.{command_word, made_name}
+use Rattle.gl_talk.specs.ToolWords.{kind_of, usage_text, word_texts}
+use Rattle.gl_talk.specs.Words.{behind_two, command_word, made_name, turns_word}
 
--- a statement gives the files that are open behind it
-abbrev pub Files : Type 0
-Files = Program (List File)
+-- a statement gives the names behind it
+abbrev pub Does : Type 0
+Does = Program Names
 
 -- a refused statement prints the error's name
-abbrev pub refused : Errno → List File → Files
-refused errno files = print (line (errno_name errno)) (done files)
+abbrev pub refused : Errno → Names → Does
+refused errno names = print (line (errno_name errno)) (done names)
 
 -- a text is printed, and the statement is done
-abbrev pub shows : List ℕ → List File → Files
-shows text files = print text (done files)
+abbrev pub shows : List ℕ → Names → Does
+shows text names = print text (done names)
 
 abbrev pub file : List ℕ → ℕ → Bool → File
 file name slot is_request = record { name = name; slot = slot; is_request = is_request }
 
 -- how a result that is no refusal is told
-abbrev pub told : Reply → List File → ℕ → List Span → Got → Files
-told Silent files slot words got = done files
-told Value files slot words got = shows (line (text_of got)) files
-told (Level is_pull) files slot words got = shows (line (level_text is_pull (number_of got))) files
-told Bytes files slot words got = shows (structure_text (command_word (text_at 2 words)) (bytes_of got)) files
-told Edges files slot words got = shows (edges_text (bytes_of got)) files
-told Infos files slot words got = shows (infos_text (bytes_of got)) files
-told Ready files slot words got = shows (line (ready_text (ready_of got))) files
-told Opened files slot words got = done (files ++ file (text_at 1 words) slot false ∷ [])
-told Closed files slot words got = done (without_first (is_file (text_at 1 words)) files)
-told Made files slot words got = shows (fd_text (bytes_of got)) (files ++ file (made_name words) slot true ∷ [])
+abbrev pub told : Reply → Names → ℕ → List Span → Got → Does
+told Silent names slot words got = done names
+told Value names slot words got = shows (line (text_of got)) names
+told (Level is_pull) names slot words got = shows (line (level_text is_pull (number_of got))) names
+told Bytes names slot words got = shows (structure_text (command_word (text_at 2 words)) (bytes_of got)) names
+told Edges names slot words got = shows (edges_text (bytes_of got)) names
+told Infos names slot words got = shows (infos_text (bytes_of got)) names
+told Ready names slot words got = shows (line (ready_text (ready_of got))) names
+told Opened names slot words got = done (with_file (file (text_at 1 words) slot false) names)
+told Closed names slot words got = done (without_file (text_at 1 words) names)
+told Made names slot words got = shows (fd_text (bytes_of got)) (with_file (file (made_name words) slot true) names)
 
-abbrev pub replied_by : Option Errno → Reply → List File → ℕ → List Span → Got → Files
-replied_by (Some errno) reply files slot words got = refused errno files
-replied_by None reply files slot words got = told reply files slot words got
+abbrev pub replied_by : Option Errno → Reply → Names → ℕ → List Span → Got → Does
+replied_by (Some errno) reply names slot words got = refused errno names
+replied_by None reply names slot words got = told reply names slot words got
 
 -- how a result is told
-abbrev pub replied : Reply → List File → ℕ → List Span → Got → Files
-replied reply files slot words got = replied_by (refusal got) reply files slot words got
+abbrev pub replied : Reply → Names → ℕ → List Span → Got → Does
+replied reply names slot words got = replied_by (refusal got) reply names slot words got
 
--- what a statement that is no tool's does
-abbrev pub acts : Plan → List File → ℕ → List Span → Files
-acts Nothing files slot words = done files
-acts (Refuse errno) files slot words = refused errno files
-acts (Ask what reply) files slot words = ask what (λ got. replied reply files slot words got)
+-- what a statement does that is no tool's
+abbrev pub acts : Plan → Names → ℕ → List Span → Does
+acts Nothing names slot words = done names
+acts (Refuse errno) names slot words = refused errno names
+acts (Ask what reply) names slot words = ask what (λ got. replied reply names slot words got)
 
--- a tool as a statement leaves the files as they were
-abbrev pub runs_tool : Tool → ℕ → List File → Files
-runs_tool tool slot files = then_by (tool_program tool slot) (λ _. done files)
+-- a tool as a statement leaves the names as they were; where the words say none, its usage is printed
+abbrev pub runs : Option SaidTool → Names → ℕ → List Span → Does
+runs None names slot words = shows (usage_text (text_at 0 words)) names
+runs (Some tool) names slot words = then_by (tool_program tool slot) (λ _. done names)
 
--- what the words of a tool do: the tool that they say, or, where they say none, its usage
-abbrev pub ToolDoes : List File → ℕ → List Span → Files → Type 0
-ToolDoes files slot words p =
-    ((tool : Tool) × Says (word_texts words) tool × (p ≡ runs_tool tool slot files))
-    ⊎ ((said (word_texts words) ≡ None) × (p ≡ shows (usage_text (text_at 0 words)) files))
+-- behind its start, its step or its stop a tool has its name where it goes on
+abbrev pub keeps_set : List ℕ → Names → Held → Does
+keeps_set name names held = done (with_set name held names)
 
-abbrev pub DoesBy : Bool → Option Keyword → List File → ℕ → List Span → Files → Type 0
-DoesBy true keyword files slot words p = ToolDoes files slot words p
-DoesBy false keyword files slot words p = p ≡ acts (planned keyword files slot words) files slot words
+abbrev pub keeps_monitor : List ℕ → Names → Watched → Does
+keeps_monitor name names watched = done (with_monitor name watched names)
 
--- What a statement with these words does, where these files are open before it, with the slots `slot` and `slot + 1` of its
--- own. Of a tool's words that is what the tool does which they say: its options are told by the words, each by itself.
-abbrev pub Does : List File → ℕ → List Span → Files → Type 0
-Does files slot words p = DoesBy (is_tool (keyword_of (text_at 0 words))) (keyword_of (text_at 0 words)) files slot words p
+-- `start NAME TOOL ..`: gpioset requests its lines, a monitor finds or requests its own; no other tool is started
+abbrev pub starts_tool : SaidTool → Names → ℕ → List ℕ → Does
+starts_tool (SaidSet opts) names slot name = then_by (held_program (SaidSet opts) slot) (keeps_set name names)
+starts_tool (SaidWatch opts) names slot name = then_by (monitor_program (SaidWatch opts) slot) (keeps_monitor name names)
+starts_tool (SaidNotify opts) names slot name = then_by (monitor_program (SaidNotify opts) slot) (keeps_monitor name names)
+starts_tool _ names slot name = done names
 
--- at the end the files that are open are closed, in the order in which they were opened
-abbrev pub quits : List File → Files
-quits [] = done []
-quits (file ∷ files) = ask (DoClose file.slot) (λ _. quits files)
+abbrev pub starts_said : Option SaidTool → Names → ℕ → List Span → Does
+starts_said None names slot words = shows (usage_text (text_at 2 words)) names
+starts_said (Some tool) names slot words = starts_tool tool names slot (text_at 1 words)
 
--- what a talk is at: a statement that is begun, or what is left
-pub data Doing : Type 0 where
-  begins : List File → ℕ → List Span → Doing
-  goes : Left (List File) → Doing
+-- a name that a tool has is refused before the tool's words are looked at
+abbrev pub starts : Bool → Names → ℕ → List Span → Does
+starts true names slot words = refused Exist names
+starts false names slot words = starts_said (tool_said (word_texts (behind_two words))) names slot words
 
--- what may be left, where a talk is at this
-abbrev pub MayBeLeft : Doing → Left (List File) → Type 0
-MayBeLeft (begins files slot words) l = (p : Files) × Does files slot words p × (l ≡ goes_on p)
-MayBeLeft (goes rest) l = l ≡ rest
+-- `step NAME N`: a monitor makes so many turns; gpioset has none
+abbrev pub steps : Option Watched → Option Held → Names → List Span → Does
+steps (Some watched) held names words =
+    then_by (steps_held watched (turns_word (text_at 2 words))) (keeps_monitor (text_at 1 words) (without_monitor (text_at 1 words) names))
+steps None (Some held) names words = refused Inval names
+steps None None names words = refused BadF names
+
+-- `stop NAME`: the tool's file is closed, and the name is free
+abbrev pub stops : Option Watched → Option Held → Names → List Span → Does
+stops (Some watched) held names words = then_by (stops_watching watched) (keeps_monitor (text_at 1 words) (without_monitor (text_at 1 words) names))
+stops None (Some held) names words = then_by (stops_holding held) (keeps_set (text_at 1 words) (without_set (text_at 1 words) names))
+stops None None names words = refused BadF names
+
+abbrev pub does_by : Kind → Names → ℕ → List Span → Does
+does_by Plain names slot words = acts (planned (keyword_of (text_at 0 words)) names.files slot words) names slot words
+does_by ToolAlone names slot words = runs (tool_said (word_texts words)) names slot words
+does_by Starting names slot words = starts (has_tool (text_at 1 words) names) names slot words
+does_by Stepping names slot words = steps (watched_of_name (text_at 1 words) names.monitors) (held_of_name (text_at 1 words) names.sets) names words
+does_by Stopping names slot words = stops (watched_of_name (text_at 1 words) names.monitors) (held_of_name (text_at 1 words) names.sets) names words
+
+-- What a statement with these words does, where these names are there before it, with the slots `slot` and `slot + 1` of its
+-- own.
+abbrev pub does : Names → ℕ → List Span → Does
+does names slot words = does_by (kind_of (keyword_of (text_at 0 words))) names slot words
+
+-- files are closed one after the other; what is answered changes nothing
+abbrev pub closes_all : List ℕ → Does
+closes_all [] = done no_names
+closes_all (slot ∷ slots) = ask (DoClose slot) (λ _. closes_all slots)
+
+-- at the end all open files are closed, those of tools among them
+abbrev pub quits : Names → Does
+quits names = closes_all (slots_in_order names)
+
+-- the slots of a statement's own, by how many were begun before it
+abbrev pub slot_behind : ℕ → ℕ
+slot_behind begun = 2 * (begun + 1)
+
+-- A whole talk, read a statement at a time: the statements one after the other, each by the names that the one before it
+-- gives, and then the end. `begun` statements were begun before.
+abbrev pub talks : ℕ → List (List Span) → Names → Does
+talks begun [] names = quits names
+talks begun (words ∷ statements) names = then_by (does names (slot_behind begun) words) (talks (begun + 1) statements)
+
+-- the operations that a talk asks for, and its text
+pub record Talked : Type 0 where
+  pub operations : List Do
+  pub text : List ℕ
+
+abbrev pub behind_text : List ℕ → Talked → Talked
+behind_text text talked = record talked { text = text ++ talked.text }
+
+abbrev pub behind_operation : Do → Talked → Talked
+behind_operation what talked = record talked { operations = what ∷ talked.operations }
+
+-- what a program asks and prints over these results, in order; it stops where none is left
+abbrev pub talked : {A : Type 0} → Program A → List Got → Talked
+talked (done value) results = record { operations = []; text = [] }
+talked (print text p) results = behind_text text (talked p results)
+talked (ask what p) [] = record { operations = what ∷ []; text = [] }
+talked (ask what p) (got ∷ results) = behind_operation what (talked (p got) results)
+
+-- Talk: the operations and the text of an actor's statements, by their words and the results
+abbrev pub talk : List (List Span) → List Got → Talked
+talk statements results = talked (talks 0 statements no_names) results
+
+abbrev pub some_left : Option Monitor → Left Watched
+some_left None = goes_on (done None)
+some_left (Some monitor) = monitor_left monitor
 
 -- what is left; one line a stage
-abbrev pub left_at : Client → List File → ℕ → List Span → Stage → Left (List File)
-left_at client files slot words Idle = goes_on (done files)
-left_at client files slot words Begun = goes_on (done files)
-left_at client files slot words (Waiting reply) = waits (λ got. replied reply files slot words got)
-left_at client files slot words Running = then_left (client_left client) (λ _. done files)
-left_at client files slot words Quitting = goes_on (quits files)
-left_at client files slot words Closing = waits (λ _. quits files)
+abbrev pub left_at : Talk → Names → ℕ → List Span → Stage → Left Names
+left_at t names slot words Idle = goes_on (done names)
+left_at t names slot words Begun = goes_on (does names slot words)
+left_at t names slot words (Waiting reply) = waits (λ got. replied reply names slot words got)
+left_at t names slot words Running = then_left (client_left t.client) (λ _. done names)
+left_at t names slot words Holding = then_left (client_left t.client) (keeps_set (text_at 1 words) names)
+left_at t names slot words Watching = then_left (some_left t.monitor) (keeps_monitor (text_at 1 words) names)
+left_at t names slot words Quitting = goes_on (quits names)
+left_at t names slot words Closing = waits (λ _. closes_all t.closing.items)
 
-abbrev pub files_in : Talk → List File
-files_in talk = map file_in talk.files.items
+abbrev pub names_in : Talk → Names
+names_in t = record { files = map file_in t.files.items; sets = map set_in t.sets.items; monitors = map monitor_in t.monitors.items }
 
 abbrev pub slot_in : Talk → ℕ
-slot_in talk = 2 * talk.begun
+slot_in t = 2 * t.begun
 
 abbrev pub words_in : Talk → List Span
-words_in talk = columns talk.line.now
+words_in t = columns t.line.now
 
-abbrev pub left : Talk → Left (List File)
-left talk = left_at talk.client (files_in talk) (slot_in talk) (words_in talk) talk.stage
+abbrev pub left : Talk → Left Names
+left t = left_at t (names_in t) (slot_in t) (words_in t) t.stage
 
-abbrev pub doing_at : Client → List File → ℕ → List Span → Stage → Doing
-doing_at client files slot words Begun = begins files slot words
-doing_at client files slot words stage = goes (left_at client files slot words stage)
-
--- what a talk is at
-abbrev pub doing : Talk → Doing
-doing talk = doing_at talk.client (files_in talk) (slot_in talk) (words_in talk) talk.stage
+-- what is left of a whole talk, with these statements behind the one that is under way
+abbrev pub talk_left : Talk → List (List Span) → Left Names
+talk_left t statements = then_left (left t) (talks t.begun statements)

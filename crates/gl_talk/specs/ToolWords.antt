@@ -1,17 +1,22 @@
 -- The words of a tool's statement. This project's choice.
-use Rattle.std.specs.Prelude.{ℕ, Bool, true, false, List, ◌++◌, map, Option, Some, codes}
+use Rattle.std.specs.Prelude.{ℕ, List, ◌++◌, map, Option, Some, codes}
 use Rattle.gl_base.specs.Words.{Span}
 use Rattle.gl_lines.specs.Texts.{line}
 use Rattle.gl_script.specs.declared.table.Keyword.{Keyword}
-use Rattle.gl_script.specs.declared.table.Keyword.TheVariants.{Detect, Info, Get, Set}
+use Rattle.gl_script.specs.declared.table.Keyword.TheVariants.{Detect, Info, Get, Set, Start, Step, Stop}
+use Rattle.gl_talk.specs.declared.tools.Kind.{Kind}
+use Rattle.gl_talk.specs.declared.tools.Kind.TheVariants.{Plain, ToolAlone, Starting, Stepping, Stopping}
 
--- a statement is a tool's
-abbrev pub is_tool : Option Keyword → Bool
-is_tool (Some Detect) = true
-is_tool (Some Info) = true
-is_tool (Some Get) = true
-is_tool (Some Set) = true
-is_tool _ = false
+-- a statement is a tool's, or starts, steps or stops one, or is another
+abbrev pub kind_of : Option Keyword → Kind
+kind_of (Some Detect) = ToolAlone
+kind_of (Some Info) = ToolAlone
+kind_of (Some Get) = ToolAlone
+kind_of (Some Set) = ToolAlone
+kind_of (Some Start) = Starting
+kind_of (Some Step) = Stepping
+kind_of (Some Stop) = Stopping
+kind_of _ = Plain
 
 -- `TOOL: usage`
 abbrev pub usage_text : List ℕ → List ℕ

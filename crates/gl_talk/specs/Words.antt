@@ -11,6 +11,7 @@ use Rattle.gl_base.specs.Words.{Span, text_at}
 use Rattle.gl_base.specs.declared.irq.IrqDo.{IrqDo}
 use Rattle.gl_base.specs.declared.irq.IrqDo.TheVariants.{Lock, Unlock, Enable, Disable, Never}
 use Rattle.gl_base.specs.declared.limits.TheConstants.{PLACES}
+use Rattle.gl_script.specs.Cost.{or_zero}
 use Rattle.gl_script.specs.Forms.{number_within}
 
 abbrev pub name_word : List ℕ → List ℕ
@@ -26,6 +27,10 @@ or_else other (Some n) = n
 -- the number that a word is, from low to high; else low
 abbrev pub number_word : ℕ → ℕ → List ℕ → ℕ
 number_word low high word = or_else low (number_within low high word)
+
+-- how many turns a step has; none where the word is of another form
+abbrev pub turns_word : List ℕ → ℕ
+turns_word word = or_zero (number_within 1 1000 word)
 
 -- the place of a chip; none for a number that no place has
 abbrev pub below_places : Option ℕ → Option ℕ
@@ -56,7 +61,11 @@ pull_word word = if bytes_eq word (codes "pull-up") then Some true else if bytes
 abbrev pub live_word : List ℕ → Option Bool
 live_word word = if bytes_eq word (codes "1") then Some true else if bytes_eq word (codes "0") then Some false else None
 
--- the words behind the first three
+-- the words behind the first two, and behind the first three
+abbrev pub behind_two : List Span → List Span
+behind_two (a ∷ b ∷ words) = words
+behind_two _ = []
+
 abbrev pub behind_three : List Span → List Span
 behind_three (a ∷ b ∷ c ∷ words) = words
 behind_three _ = []

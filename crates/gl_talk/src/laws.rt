@@ -9,12 +9,18 @@ ghost use Rattle.gl_args.specs.declared.names.TheConstants.{OPTIONS};
 ghost use Rattle.gl_args.specs.declared.names.ToolName.{ToolName};
 ghost use Rattle.gl_script.specs.Table.{keyword_name, keyword_of};
 ghost use Rattle.gl_script.specs.declared.table.Keyword.{Keyword};
-ghost use Rattle.gl_talk.specs.Costs.{StatementsKeepWithinCost};
+ghost use Rattle.gl_talk.specs.Costs.{StatementsKeepWithinCost, TalksKeepWithinCost};
 
 /// A statement makes at most as many entries of a history as it costs. The closing of a file is
 /// counted where the file is opened.
 pub fn statements_keep_within_cost()
     ensures { StatementsKeepWithinCost }
+{}
+
+/// A whole talk makes at most as many entries of a history as its statements cost together, with the closing of all that is
+/// open at its end. A file is counted once, where it is opened.
+pub fn talks_keep_within_cost()
+    ensures { TalksKeepWithinCost }
 {}
 
 /// Each statement is the one that its word begins, each tool is the one that its name names, and each option of a tool is

@@ -1,7 +1,10 @@
 //! The statements of a session as clients of the device: names of files, what each statement asks, and what it prints.
 #![tactic(auto)]
 
+mod closing;
 mod files;
+mod held;
+mod holding;
 mod laws;
 mod paths;
 mod plans;
@@ -13,5 +16,5 @@ mod tests;
 mod tools;
 mod words;
 
-pub use laws::{statements_keep_within_cost, tables_are_whole};
+pub use laws::{statements_keep_within_cost, tables_are_whole, talks_keep_within_cost};
 pub use talk::Talk;

@@ -1,14 +1,17 @@
 //! The steps of a talk.
-ghost use Rattle.std.specs.Prelude.{◌≡◌, ◌+◌, ◌*◌, ◌<◌, ◌≤◌, ◌++◌, ◌∷◌, [], List, true, false, IfOk, OnOk, IsOkUnless, option_copied};
+ghost use Rattle.std.specs.Prelude.{◌≡◌, ◌+◌, ◌*◌, ◌<◌, ◌≤◌, ◌++◌, ◌∷◌, [], true, false, IfOk, OnOk, IsOkUnless, option_copied};
 ghost use Rattle.gl_base.specs.Operation.{refusal, bytes_of};
 ghost use Rattle.gl_base.specs.Words.{text_at};
-ghost use Rattle.gl_args.specs.Program.{Goes, Left, given, goes_on, waits, done, ask, then_left};
+ghost use Rattle.gl_args.specs.Program.{Goes, MatchNext, given, goes_on, waits, done, ask, then_left};
+ghost use Rattle.gl_args.specs.Tools.{tool_said};
 ghost use Rattle.gl_script.specs.Table.{keyword_of};
 ghost use Rattle.gl_values.specs.Client.{client_left};
+ghost use Rattle.gl_talk.specs.Open.{with_file};
 ghost use Rattle.gl_talk.specs.Plans.{planned};
-ghost use Rattle.gl_talk.specs.Talk.{Does, Files, ToolDoes, acts, doing, file, files_in, goes, left, quits, refused, replied, shows, slot_in, told, words_in};
-ghost use Rattle.gl_talk.specs.ToolWords.{is_tool};
+ghost use Rattle.gl_talk.specs.Talk.{acts, closes_all, does, file, left, names_in, quits, refused, replied, runs, shows, slot_in, told, words_in};
+ghost use Rattle.gl_talk.specs.ToolWords.{word_texts};
 
+use crate::closing::slots_in_order;
 use crate::files::{FileRow, remove_file};
 use crate::plans::{Plan, Reply, planned};
 use crate::replies::{
@@ -16,7 +19,7 @@ use crate::replies::{
     value_line,
 };
 use crate::talk::{Stage, Talk};
-use crate::tools::{is_tool, usage_text, words_of};
+use crate::tools::{Kind, kind_of, usage_text, words_of};
 use crate::words::{command_word, made_name, word};
 use gl_args::{ArgFault, Next, read_tool};
 use gl_base::{ByteList, Do, Errno, Got};
@@ -27,8 +30,8 @@ use std::alloc::Global;
 impl<'a> Talk<'a> {
     /// The statement is done.
     pub(crate) fn end(&mut self) -> Next
-        ensures goes { Goes (done (files_in self.old)) result (left self.new) }
-        ensures goes_on { doing self.new ≡ goes (left self.new) }
+        ensures goes { Goes (done (names_in self.old)) result (left self.new) }
+        ensures rests { MatchNext result (Unit {0}) (left self.new ≡ goes_on (done (names_in self.new))) }
         ensures counted { self.new.begun ≡ self.old.begun }
     {
         self.stage = Stage::Idle;
@@ -37,8 +40,8 @@ impl<'a> Talk<'a> {
 
     /// Prints a text, and then the statement is done.
     pub(crate) fn show(&mut self, text: ByteList) -> Next
-        ensures goes { Goes (shows text (files_in self.old)) result (left self.new) }
-        ensures goes_on { doing self.new ≡ goes (left self.new) }
+        ensures goes { Goes (shows text (names_in self.old)) result (left self.new) }
+        ensures rests { MatchNext result (Unit {0}) (left self.new ≡ goes_on (done (names_in self.new))) }
         ensures counted { self.new.begun ≡ self.old.begun }
     {
         self.stage = Stage::Idle;
@@ -47,8 +50,8 @@ impl<'a> Talk<'a> {
 
     /// Prints a refusal, and then the statement is done.
     pub(crate) fn refuse(&mut self, alloc: Global, errno: Errno) -> Result<Next, Errno>
-        ensures goes { IfOk result (λ next. Goes (refused errno (files_in self.old)) next (left self.new)) }
-        ensures goes_on { OnOk result (doing self.new ≡ goes (left self.new)) }
+        ensures goes { IfOk result (λ next. Goes (refused errno (names_in self.old)) next (left self.new)) }
+        ensures rests { IfOk result (λ next. MatchNext next (Unit {0}) (left self.new ≡ goes_on (done (names_in self.new)))) }
         ensures counted { OnOk result (self.new.begun ≡ self.old.begun) }
         ensures memory_alone { IsOkUnless result Errno.NoMemory }
     {
@@ -59,23 +62,28 @@ impl<'a> Talk<'a> {
     /// The first step of the statement that was begun.
     pub(crate) fn start(&mut self, alloc: Global) -> Result<Next, Errno>
         requires { self.old.begun ≤ 1048576 }
-        ensures goes { IfOk result (λ next. (p : Files) × Does (files_in self.old) (slot_in self.old) (words_in self.old) p × Goes p next (left self.new)) }
-        ensures goes_on { OnOk result (doing self.new ≡ goes (left self.new)) }
+        ensures goes { IfOk result (λ next. Goes (does (names_in self.old) (slot_in self.old) (words_in self.old)) next (left self.new)) }
+        ensures rests { IfOk result (λ next. MatchNext next (Unit {0}) (left self.new ≡ goes_on (done (names_in self.new)))) }
         ensures counted { OnOk result (self.new.begun ≡ self.old.begun) }
         ensures memory_alone { IsOkUnless result Errno.NoMemory }
     {
         let keyword = keyword_of(word(0, self.line));
-        if is_tool(keyword) {
-            return self.start_tool(alloc);
+        match kind_of(keyword) {
+            Kind::Plain => {
+                let plan = planned(alloc, keyword, &self.files, 2 * self.begun, self.line)?;
+                self.act(alloc, &plan)
+            }
+            Kind::ToolAlone => self.start_tool(alloc),
+            Kind::Starting => self.start_held(alloc),
+            Kind::Stepping => self.step_held(alloc),
+            Kind::Stopping => self.stop_held(alloc),
         }
-        let plan = planned(alloc, keyword, &self.files, 2 * self.begun, self.line)?;
-        self.act(alloc, &plan)
     }
 
     /// The first step of a plan.
     fn act(&mut self, alloc: Global, plan: &Plan) -> Result<Next, Errno>
-        ensures goes { IfOk result (λ next. Goes (acts plan.now (files_in self.old) (slot_in self.old) (words_in self.old)) next (left self.new)) }
-        ensures goes_on { OnOk result (doing self.new ≡ goes (left self.new)) }
+        ensures goes { IfOk result (λ next. Goes (acts plan.now (names_in self.old) (slot_in self.old) (words_in self.old)) next (left self.new)) }
+        ensures rests { IfOk result (λ next. MatchNext next (Unit {0}) (left self.new ≡ goes_on (done (names_in self.new)))) }
         ensures counted { OnOk result (self.new.begun ≡ self.old.begun) }
         ensures memory_alone { IsOkUnless result Errno.NoMemory }
     {
@@ -92,8 +100,8 @@ impl<'a> Talk<'a> {
     /// The first step of a tool.
     fn start_tool(&mut self, alloc: Global) -> Result<Next, Errno>
         requires { self.old.begun ≤ 1048576 }
-        ensures goes { IfOk result (λ next. (p : Files) × ToolDoes (files_in self.old) (slot_in self.old) (words_in self.old) p × Goes p next (left self.new)) }
-        ensures goes_on { OnOk result (doing self.new ≡ goes (left self.new)) }
+        ensures goes { IfOk result (λ next. Goes (runs (tool_said (word_texts (words_in self.old))) (names_in self.old) (slot_in self.old) (words_in self.old)) next (left self.new)) }
+        ensures rests { IfOk result (λ next. MatchNext next (Unit {0}) (left self.new ≡ goes_on (done (names_in self.new)))) }
         ensures counted { OnOk result (self.new.begun ≡ self.old.begun) }
         ensures memory_alone { IsOkUnless result Errno.NoMemory }
     {
@@ -113,8 +121,8 @@ impl<'a> Talk<'a> {
 
     /// The next step of the tool that runs.
     pub(crate) fn run(&mut self, alloc: Global, got: Option<&Got>) -> Result<Next, Errno>
-        ensures goes { IfOk result (λ next. Goes (given (then_left (client_left self.old.client) (λ _. done (files_in self.old))) (option_copied got.entry)) next (left self.new)) }
-        ensures goes_on { OnOk result (doing self.new ≡ goes (left self.new)) }
+        ensures goes { IfOk result (λ next. Goes (given (then_left (client_left self.old.client) (λ _. done (names_in self.old))) (option_copied got.entry)) next (left self.new)) }
+        ensures rests { IfOk result (λ next. MatchNext next (Unit {0}) (left self.new ≡ goes_on (done (names_in self.new)))) }
         ensures counted { OnOk result (self.new.begun ≡ self.old.begun) }
         ensures memory_alone { IsOkUnless result Errno.NoMemory }
     {
@@ -139,8 +147,8 @@ impl<'a> Talk<'a> {
         got: Option<&Got>,
     ) -> Result<Next, Errno>
         requires { self.old.begun ≤ 1048576 }
-        ensures goes { IfOk result (λ next. Goes (given (waits (λ got. replied reply (files_in self.old) (slot_in self.old) (words_in self.old) got)) (option_copied got.entry)) next (left self.new)) }
-        ensures goes_on { OnOk result (doing self.new ≡ goes (left self.new)) }
+        ensures goes { IfOk result (λ next. Goes (given (waits (λ got. replied reply (names_in self.old) (slot_in self.old) (words_in self.old) got)) (option_copied got.entry)) next (left self.new)) }
+        ensures rests { IfOk result (λ next. MatchNext next (Unit {0}) (left self.new ≡ goes_on (done (names_in self.new)))) }
         ensures counted { OnOk result (self.new.begun ≡ self.old.begun) }
         ensures memory_alone { IsOkUnless result Errno.NoMemory }
     {
@@ -158,8 +166,8 @@ impl<'a> Talk<'a> {
     /// Tells a result that is no refusal.
     fn tell(&mut self, alloc: Global, reply: Reply, got: &Got) -> Result<Next, Errno>
         requires { self.old.begun ≤ 1048576 }
-        ensures goes { IfOk result (λ next. Goes (told reply (files_in self.old) (slot_in self.old) (words_in self.old) got.now) next (left self.new)) }
-        ensures goes_on { OnOk result (doing self.new ≡ goes (left self.new)) }
+        ensures goes { IfOk result (λ next. Goes (told reply (names_in self.old) (slot_in self.old) (words_in self.old) got.now) next (left self.new)) }
+        ensures rests { IfOk result (λ next. MatchNext next (Unit {0}) (left self.new ≡ goes_on (done (names_in self.new)))) }
         ensures counted { OnOk result (self.new.begun ≡ self.old.begun) }
         ensures memory_alone { IsOkUnless result Errno.NoMemory }
     {
@@ -184,8 +192,8 @@ impl<'a> Talk<'a> {
     /// A chip's file was opened.
     fn opened(&mut self) -> Result<Next, Errno>
         requires { self.old.begun ≤ 1048576 }
-        ensures goes { IfOk result (λ next. Goes (done (files_in self.old ++ file (text_at 1 (words_in self.old)) (slot_in self.old) false ∷ [])) next (left self.new)) }
-        ensures goes_on { OnOk result (doing self.new ≡ goes (left self.new)) }
+        ensures goes { IfOk result (λ next. Goes (done (with_file (file (text_at 1 (words_in self.old)) (slot_in self.old) false) (names_in self.old))) next (left self.new)) }
+        ensures rests { IfOk result (λ next. MatchNext next (Unit {0}) (left self.new ≡ goes_on (done (names_in self.new)))) }
         ensures counted { OnOk result (self.new.begun ≡ self.old.begun) }
         ensures memory_alone { IsOkUnless result Errno.NoMemory }
     {
@@ -200,8 +208,8 @@ impl<'a> Talk<'a> {
     /// A request was made.
     fn made(&mut self, alloc: Global, bytes: &[u8]) -> Result<Next, Errno>
         requires { self.old.begun ≤ 1048576 }
-        ensures goes { IfOk result (λ next. Goes (told Reply.Made (files_in self.old) (slot_in self.old) (words_in self.old) (Got.Bytes bytes.now)) next (left self.new)) }
-        ensures goes_on { OnOk result (doing self.new ≡ goes (left self.new)) }
+        ensures goes { IfOk result (λ next. Goes (told Reply.Made (names_in self.old) (slot_in self.old) (words_in self.old) (Got.Bytes bytes.now)) next (left self.new)) }
+        ensures rests { IfOk result (λ next. MatchNext next (Unit {0}) (left self.new ≡ goes_on (done (names_in self.new)))) }
         ensures counted { OnOk result (self.new.begun ≡ self.old.begun) }
         ensures memory_alone { IsOkUnless result Errno.NoMemory }
     {
@@ -214,17 +222,31 @@ impl<'a> Talk<'a> {
         Ok(self.show(text))
     }
 
-    /// Closes the file that was opened first, or ends where none is open.
+    /// Closes all open files, that which was opened first before the others.
+    pub(crate) fn close_all(&mut self, alloc: Global) -> Result<Next, Errno>
+        ensures goes { IfOk result (λ next. Goes (quits (names_in self.old)) next (left self.new)) }
+        ensures rests { IfOk result (λ next. MatchNext next (Unit {0}) (left self.new ≡ goes_on (done (names_in self.new)))) }
+        ensures counted { OnOk result (self.new.begun ≡ self.old.begun) }
+        ensures memory_alone { IsOkUnless result Errno.NoMemory }
+    {
+        self.closing = slots_in_order(alloc, &self.files, &self.sets, &self.monitors)?;
+        Ok(self.close())
+    }
+
+    /// Closes the first of the files that are still to be closed, or ends where none is; then no name is there.
     pub(crate) fn close(&mut self) -> Next
-        ensures goes { Goes (quits (files_in self.old)) result (left self.new) }
-        ensures goes_on { doing self.new ≡ goes (left self.new) }
+        ensures goes { Goes (closes_all self.old.closing.items) result (left self.new) }
+        ensures rests { MatchNext result (Unit {0}) (left self.new ≡ goes_on (done (names_in self.new))) }
         ensures counted { self.new.begun ≡ self.old.begun }
     {
-        if self.files.is_empty() {
+        if self.closing.is_empty() {
+            self.files.clear();
+            self.sets.clear();
+            self.monitors.clear();
             return self.end();
         }
-        let file = self.files.remove(0);
+        let slot = self.closing.remove(0);
         self.stage = Stage::Closing;
-        Next::Call(Do::Close { slot: file.slot })
+        Next::Call(Do::Close { slot })
     }
 }

@@ -1,14 +1,17 @@
 //! Statements one after the other.
-ghost use Rattle.std.specs.Prelude.{◌≡◌, ◌+◌, ◌*◌, ◌<◌, ◌≤◌, [], List, IfOk, OnOk, IsOkUnless, option_copied};
-ghost use Rattle.gl_args.specs.Program.{Goes, Left, given, goes_on, done};
+ghost use Rattle.std.specs.Prelude.{◌≡◌, ◌+◌, ◌*◌, ◌<◌, ◌≤◌, [], ◌∷◌, List, IfOk, OnOk, IsOkUnless, option_copied};
+ghost use Rattle.gl_args.specs.Program.{Goes, MatchNext, given, goes_on, done};
+ghost use Rattle.gl_base.specs.Words.{Span};
 ghost use Rattle.gl_script.specs.Columns.{columns};
-ghost use Rattle.gl_talk.specs.Open.{File};
-ghost use Rattle.gl_talk.specs.Talk.{MayBeLeft, begins, doing, files_in, goes, left, quits};
+ghost use Rattle.gl_talk.specs.Open.{no_names};
+ghost use Rattle.gl_talk.specs.Talk.{does, left, names_in, quits, slot_behind, talk_left, talks};
 
 use crate::files::FileRow;
+use crate::held::{MonitorRow, SetRow};
 use crate::plans::Reply;
 use gl_args::Next;
 use gl_base::{Errno, Got};
+use gl_monitor::Monitor;
 use gl_script::Statement;
 use gl_values::Client;
 use std::alloc::Global;
@@ -22,8 +25,12 @@ pub enum Stage {
     Begun,
     /// The result of its operation is awaited, which is then told in this way.
     Waiting(Reply),
-    /// A tool runs.
+    /// A tool runs as a statement of its own.
     Running,
+    /// A gpioset is started or stopped.
+    Holding,
+    /// A monitor is started or stopped, or makes a step.
+    Watching,
     /// The files that are open are closed.
     Quitting,
     /// One of them is being closed.
@@ -31,41 +38,55 @@ pub enum Stage {
 }
 
 /// The statements of an actor one after the other, as a client of the device: each has slots of its own, and the names
-/// of files live from one to the next.
+/// of files and of started tools live from one to the next.
 #[derive(Drop)]
 pub struct Talk<'a> {
     /// The line of the statement that is under way.
     pub line: &'a [u8],
     /// The open files, in the order in which they were opened.
     pub files: Vec<FileRow<'a>>,
+    /// The gpiosets that were started and hold their requests.
+    pub sets: Vec<SetRow<'a>>,
+    /// The monitors that were started and watch their lines.
+    pub monitors: Vec<MonitorRow<'a>>,
     /// How many statements were begun.
     pub begun: u32,
     /// Where it stands.
     pub stage: Stage,
-    /// The tool that runs.
+    /// The gpiodetect, gpioinfo, gpioget or gpioset of the statement.
     pub client: Client,
+    /// The monitor of the statement.
+    pub monitor: Option<Monitor>,
+    /// The slots that are still to be closed at the end.
+    pub closing: Vec<u32>,
 }
 
 impl<'a> Talk<'a> {
     /// No statement was begun, and no file is open.
     pub fn new(alloc: Global) -> Result<Talk<'a>, Errno>
-        ensures ok { IfOk result (λ talk. (files_in talk ≡ []) × (talk.begun ≡ 0) × (doing talk ≡ goes (goes_on (done [])))) }
+        ensures ok { IfOk result (λ talk. (names_in talk ≡ no_names) × (talk.begun ≡ 0) × (left talk ≡ goes_on (done no_names))) }
         ensures memory_alone { IsOkUnless result Errno.NoMemory }
     {
         Ok(Talk {
             line: &[],
             files: Vec::new(alloc),
+            sets: Vec::new(alloc),
+            monitors: Vec::new(alloc),
             begun: 0,
             stage: Stage::Idle,
             client: Client::Nothing,
+            monitor: None,
+            closing: Vec::new(alloc),
         })
     }
 
     /// Begins a statement, which has two slots of its own. It takes no memory.
     pub fn begin(&mut self, statement: Statement<'a>)
         requires { self.old.begun < 1048576 }
-        ensures begun { doing self.new ≡ begins (files_in self.old) (2 * (self.old.begun + 1)) (columns statement.entry.line.now) }
+        ensures begun { left self.new ≡ goes_on (does (names_in self.old) (slot_behind self.old.begun) (columns statement.entry.line.now)) }
         ensures counted { self.new.begun ≡ self.old.begun + 1 }
+        ensures whole { (statements : List (List Span)) →
+            talk_left self.new statements ≡ goes_on (talks self.old.begun (columns statement.entry.line.now ∷ statements) (names_in self.old)) }
     {
         self.line = statement.line();
         self.begun += 1;
@@ -74,18 +95,34 @@ impl<'a> Talk<'a> {
 
     /// From now on `next` closes the files that are open.
     pub fn quit(&mut self)
-        ensures quits { doing self.new ≡ goes (goes_on (quits (files_in self.old))) }
+        ensures quits { left self.new ≡ goes_on (quits (names_in self.old)) }
         ensures counted { self.new.begun ≡ self.old.begun }
+        ensures whole { left self.new ≡ goes_on (talks self.old.begun [] (names_in self.old)) }
     {
         self.stage = Stage::Quitting;
     }
 
     /// What it does next. `got` is the result of the operation that it asked for last, if it asked for one. End means
-    /// that the statement is done, or that all files are closed.
+    /// that the statement is done, or that all files are closed; the names that are there then are said by what is
+    /// left. With any statements behind that which is under way, it is what the whole talk does next.
     pub fn next(&mut self, alloc: Global, got: Option<&Got>) -> Result<Next, Errno>
         requires { self.old.begun ≤ 1048576 }
-        ensures goes { IfOk result (λ next. (l : Left (List File)) × MayBeLeft (doing self.old) l × Goes (given l (option_copied got.entry)) next (left self.new)) }
-        ensures goes_on { OnOk result (doing self.new ≡ goes (left self.new)) }
+        ensures goes { IfOk result (λ next. Goes (given (left self.old) (option_copied got.entry)) next (left self.new)) }
+        ensures rests { IfOk result (λ next. MatchNext next (Unit {0}) (left self.new ≡ goes_on (done (names_in self.new)))) }
+        ensures whole { (statements : List (List Span)) → IfOk result (λ next. MatchNext next
+            (Goes (given (talk_left self.old statements) (option_copied got.entry)) next (talk_left self.new statements))
+            (given (talk_left self.old statements) (option_copied got.entry) ≡ talks self.new.begun statements (names_in self.new))) }
+        ensures counted { OnOk result (self.new.begun ≡ self.old.begun) }
+        ensures memory_alone { IsOkUnless result Errno.NoMemory }
+    {
+        self.advance(alloc, got)
+    }
+
+    /// What the statement or the end does next.
+    fn advance(&mut self, alloc: Global, got: Option<&Got>) -> Result<Next, Errno>
+        requires { self.old.begun ≤ 1048576 }
+        ensures goes { IfOk result (λ next. Goes (given (left self.old) (option_copied got.entry)) next (left self.new)) }
+        ensures rests { IfOk result (λ next. MatchNext next (Unit {0}) (left self.new ≡ goes_on (done (names_in self.new)))) }
         ensures counted { OnOk result (self.new.begun ≡ self.old.begun) }
         ensures memory_alone { IsOkUnless result Errno.NoMemory }
     {
@@ -95,7 +132,9 @@ impl<'a> Talk<'a> {
             Stage::Begun => self.start(alloc),
             Stage::Waiting(reply) => self.reply(alloc, *reply, got),
             Stage::Running => self.run(alloc, got),
-            Stage::Quitting => Ok(self.close()),
+            Stage::Holding => self.hold(alloc, got),
+            Stage::Watching => self.watch(alloc, got),
+            Stage::Quitting => self.close_all(alloc),
             Stage::Closing => Ok(self.close()),
         }
     }

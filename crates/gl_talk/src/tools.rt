@@ -3,21 +3,41 @@ ghost use Rattle.std.specs.Prelude.{◌≡◌, ◌+◌, ◌<◌, ◌^◌, ◌++�
 ghost use Rattle.gl_args.specs.Items.{texts};
 ghost use Rattle.gl_base.specs.Words.{words_at};
 ghost use Rattle.gl_script.specs.Columns.{columns};
-ghost use Rattle.gl_talk.specs.ToolWords.{is_tool, usage_text, word_texts};
+ghost use Rattle.gl_talk.specs.ToolWords.{kind_of, usage_text, word_texts};
+ghost use Rattle.gl_talk.specs.Words.{behind_two};
 
+use crate::words::behind_two;
 use gl_base::{ByteList, Errno, next_word};
 use gl_script::Keyword;
 use std::alloc::Global;
 
-/// Whether a statement is a tool's.
-pub fn is_tool(keyword: Option<Keyword>) -> bool
-    ensures { result ≡ is_tool keyword }
+/// What kind of statement a word begins.
+#[derive(Clone, Copy, PartialEq, Eq, Debug)]
+pub enum Kind {
+    /// It asks for one operation at most.
+    Plain,
+    /// It is a tool's own.
+    ToolAlone,
+    /// It starts a tool.
+    Starting,
+    /// It lets a tool make a step.
+    Stepping,
+    /// It stops a tool.
+    Stopping,
+}
+
+/// The kind of the statement that a keyword begins.
+pub fn kind_of(keyword: Option<Keyword>) -> Kind
+    ensures { result ≡ kind_of keyword }
 {
     let Some(keyword) = keyword else {
-        return false;
+        return Kind::Plain;
     };
     match keyword {
-        Keyword::Detect | Keyword::Info | Keyword::Get | Keyword::Set => true,
+        Keyword::Detect | Keyword::Info | Keyword::Get | Keyword::Set => Kind::ToolAlone,
+        Keyword::Start => Kind::Starting,
+        Keyword::Step => Kind::Stepping,
+        Keyword::Stop => Kind::Stopping,
         Keyword::Probe
         | Keyword::Unplug
         | Keyword::MakeDir
@@ -33,10 +53,7 @@ pub fn is_tool(keyword: Option<Keyword>) -> bool
         | Keyword::Events
         | Keyword::Changes
         | Keyword::Poll
-        | Keyword::Close
-        | Keyword::Start
-        | Keyword::Step
-        | Keyword::Stop => false,
+        | Keyword::Close => Kind::Plain,
     }
 }
 
@@ -58,6 +75,15 @@ pub fn words_of(alloc: Global, line: &[u8]) -> Result<Vec<&[u8]>, Errno>
     ensures memory_alone { IsOkUnless result Errno.NoMemory }
 {
     words_in(alloc, 1, line)
+}
+
+/// The words of a `start` behind its name: the tool's.
+pub fn started_words(alloc: Global, line: &[u8]) -> Result<Vec<&[u8]>, Errno>
+    ensures ok { IfOk result (λ words. texts words.items ≡ word_texts (behind_two (columns line.now))) }
+    ensures memory_alone { IsOkUnless result Errno.NoMemory }
+{
+    let rest = behind_two(line);
+    words_in(alloc, rest.at, rest.line)
 }
 
 fn words_in(alloc: Global, at: usize, line: &[u8]) -> Result<Vec<&[u8]>, Errno>

@@ -3,13 +3,16 @@ ghost use Rattle.std.specs.Prelude.{◌≡◌, ◌+◌, ◌<◌, ◌≤◌, ◌^
 ghost use Rattle.gl_base.specs.Padded.{padded};
 ghost use Rattle.gl_base.specs.Words.{text_at, words_at};
 ghost use Rattle.gl_script.specs.Columns.{columns};
-ghost use Rattle.gl_talk.specs.Words.{behind_three, below_places, bytes_said, command_word, irq_word, live_word, made_name, name_behind_as, name_word, number_word, or_else, path_word, place_word, pull_word};
+ghost use Rattle.gl_talk.specs.Words.{behind_two, behind_three, below_places, bytes_said, command_word, irq_word, live_word, made_name, name_behind_as, name_word, number_word, or_else, path_word, place_word, pull_word, turns_word};
 
 use gl_base::{
     Errno, IrqDo, Name, PLACES, Path, chip_number, command_number, next_word, put_piece,
 };
 use gl_script::{number_within, text_at};
 use std::alloc::Global;
+
+/// How many turns a step has at most.
+const TURNS_MAX: u64 = 1000;
 
 /// The word of a line that has the number `i`, counted from 0; no bytes where it is missing.
 pub fn word(i: u32, line: &[u8]) -> &[u8]
@@ -64,6 +67,16 @@ pub fn small_word(word: &[u8]) -> u32
     ensures { result ≡ number_word 0 0xFFFFFFFF word.now }
 {
     number_word(0, 0xFFFF_FFFF, word) as u32
+}
+
+/// How many turns a step has; none where the word is of another form.
+pub fn turns_word(word: &[u8]) -> u32
+    ensures { result ≡ turns_word word.now }
+{
+    match number_within(1, TURNS_MAX, word) {
+        Some(turns) => turns as u32,
+        None => 0,
+    }
 }
 
 /// The place of the chip that a word names; None for a number that no place has.
@@ -144,9 +157,27 @@ pub fn live_word(word: &[u8]) -> Option<bool>
 
 /// What is left of a line.
 #[derive(Clone, Copy, Debug)]
-struct Rest<'a> {
-    at: usize,
-    line: &'a [u8],
+pub struct Rest<'a> {
+    /// Where it begins.
+    pub at: usize,
+    /// Its bytes.
+    pub line: &'a [u8],
+}
+
+/// What is left behind the first two words.
+pub fn behind_two(line: &[u8]) -> Rest<'_>
+    ensures words { words_at result.at result.line.now ≡ behind_two (columns line.now) }
+    ensures within { result.at + length result.line.now ≤ 1 + length line.now }
+{
+    if let Some(first) = next_word(1, line) {
+        if let Some(second) = next_word(first.rest_at, first.rest) {
+            return Rest {
+                at: second.rest_at,
+                line: second.rest,
+            };
+        }
+    }
+    Rest { at: 0, line: &[] }
 }
 
 /// What is left behind the first three words.

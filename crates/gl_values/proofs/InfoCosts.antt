@@ -4,7 +4,7 @@ use Rattle.std.specs.Prelude.{is_some}
 use Rattle.gl_base.specs.declared.errno.Errno.{Errno}
 use Rattle.gl_base.specs.Operation.{refusal, bytes_of}
 use Rattle.gl_uapi.specs.declared.line_infos.Info.{Info}
-use Rattle.gl_args.specs.declared.tool.Opts.{Opts}
+use Rattle.gl_args.specs.Options.{Options}
 use Rattle.gl_args.specs.Program.{Program, done, print}
 use Rattle.gl_args.specs.Costs.{CostsAtMost}
 use Rattle.gl_args.proofs.Costs.{costs_more}
@@ -14,7 +14,7 @@ use Rattle.gl_values.specs.Costs.{info_cost}
 use Rattle.gl_values.specs.Info.{chips, opened, asked, told_by, lines_from, line_told, line_read, closed, infos, info_told}
 use Rattle.gl_values.specs.InfoText.{line_text}
 
-module _ (n : ℕ) (next : Program (Unit {0})) (later : CostsAtMost n next) (base : ℕ) (opts : Opts) where
+module _ (n : ℕ) (next : Program (Unit {0})) (later : CostsAtMost n next) (base : ℕ) (opts : Options) where
   closed_within : (m : ℕ) → n ≤ m → (text : List ℕ) (r : Option Errno) → CostsAtMost m (closed next text r)
   closed_within m le text (Some errno) = tt
   closed_within m le text None = costs_more next n m le later
@@ -52,7 +52,7 @@ module _ (n : ℕ) (next : Program (Unit {0})) (later : CostsAtMost n next) (bas
   opened_within m le (Some errno) = passed_by m (omega arith) (is_absent errno && not (is_some opts.chip)) _
   opened_within m le None = (omega arith, λ got. asked_within (m - 1) (omega arith) (refusal got) (bytes_of got))
 
-chips_within : (base : ℕ) (opts : Opts) (words : List (List ℕ)) → CostsAtMost (131 * length words) (chips base opts words)
+chips_within : (base : ℕ) (opts : Options) (words : List (List ℕ)) → CostsAtMost (131 * length words) (chips base opts words)
 chips_within base opts [] = tt
 chips_within base opts (word ∷ words) = (
   omega arith,
@@ -63,7 +63,7 @@ infos_by : (o : Option (List ℕ)) → 131 * length (words_from (to_words o) 0) 
 infos_by None = refl
 infos_by (Some chip) = refl
 
-pub infos_within : (base : ℕ) (opts : Opts) → CostsAtMost (info_cost opts.chip) (infos base opts)
+pub infos_within : (base : ℕ) (opts : Options) → CostsAtMost (info_cost opts.chip) (infos base opts)
 infos_within base opts =
     let words = words_from (to_words opts.chip) 0 in
     subst (λ k. CostsAtMost k (infos base opts)) (infos_by opts.chip) (chips_within base opts words)

@@ -1,7 +1,6 @@
 -- The four tools as one client.
 use Rattle.std.specs.Prelude.{ℕ, ◌+◌, Bool, true, false, None}
-use Rattle.gl_args.specs.declared.tool.Tool.{Tool}
-use Rattle.gl_args.specs.declared.tool.Tool.TheVariants.{Detect as DetectTool, Info as InfoTool, Get as GetTool, Set as SetTool}
+use Rattle.gl_args.specs.Options.{SaidTool, SaidDetect, SaidInfo, SaidGet, SaidSet}
 use Rattle.gl_args.specs.Program.{Program, done, then_by, Left, goes_on, then_left}
 use Rattle.gl_values.specs.declared.client.Client.{Client}
 use Rattle.gl_values.specs.declared.client.Client.TheVariants.{Detect, Info, Get, Set, Nothing}
@@ -18,16 +17,16 @@ holding_nothing p = then_by p (λ _. done None)
 
 -- What a tool does as a statement, by its words, with the slots `base` and `base + 1`. It leaves nothing open. The monitors
 -- are no statements of their own.
-abbrev pub tool_program : Tool → ℕ → Program Held
-tool_program (DetectTool words) base = holding_nothing (detects base words.items)
-tool_program (InfoTool opts) base = holding_nothing (infos base opts)
-tool_program (GetTool opts) base = holding_nothing (gets base (base + 1) opts)
-tool_program (SetTool opts) base = sets No base (base + 1) opts
+abbrev pub tool_program : SaidTool → ℕ → Program Held
+tool_program (SaidDetect words) base = holding_nothing (detects base words)
+tool_program (SaidInfo opts) base = holding_nothing (infos base opts)
+tool_program (SaidGet opts) base = holding_nothing (gets base (base + 1) opts)
+tool_program (SaidSet opts) base = sets No base (base + 1) opts
 tool_program _ base = done None
 
 -- What a gpioset that is started does: it gives the slot of the request that it holds, or nothing where it met a refusal.
-abbrev pub held_program : Tool → ℕ → Program Held
-held_program (SetTool opts) base = sets Yes base (base + 1) opts
+abbrev pub held_program : SaidTool → ℕ → Program Held
+held_program (SaidSet opts) base = sets Yes base (base + 1) opts
 held_program _ base = done None
 
 abbrev pub nothing_held : Left (Unit {0}) → Left Held

@@ -1,7 +1,6 @@
 -- How many entries of a history the tools make at most: this project's choice.
+use Rattle.gl_args.specs.Options.{SaidTool, SaidDetect, SaidInfo, SaidGet, SaidSet}
 use Rattle.std.specs.Prelude.{ℕ, zero, suc, ◌+◌, ◌*◌, length, Option, Some, None, List}
-use Rattle.gl_args.specs.declared.tool.Tool.{Tool}
-use Rattle.gl_args.specs.declared.tool.Tool.TheVariants.{Detect, Info, Get, Set}
 
 -- gpiodetect with so many chip words; with none it tries 16 places
 abbrev pub detect_cost : ℕ → ℕ
@@ -14,14 +13,14 @@ info_cost None = 2096
 info_cost (Some chip) = 131
 
 -- a tool as a statement
-abbrev pub tool_cost : Tool → ℕ
-tool_cost (Detect words) = detect_cost (length words.items)
-tool_cost (Info opts) = info_cost opts.chip
-tool_cost (Get opts) = length opts.lines.items + 7
-tool_cost (Set opts) = length opts.lines.items + 5
+abbrev pub tool_cost : SaidTool → ℕ
+tool_cost (SaidDetect words) = detect_cost (length words)
+tool_cost (SaidInfo opts) = info_cost opts.chip
+tool_cost (SaidGet opts) = length opts.lines + 7
+tool_cost (SaidSet opts) = length opts.lines + 5
 tool_cost _ = 0
 
 -- a gpioset that is started
-abbrev pub held_cost : Tool → ℕ
-held_cost (Set opts) = length opts.lines.items + 5
+abbrev pub held_cost : SaidTool → ℕ
+held_cost (SaidSet opts) = length opts.lines + 5
 held_cost _ = 0

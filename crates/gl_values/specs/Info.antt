@@ -11,8 +11,8 @@ use Rattle.gl_uapi.specs.declared.layout.TheConstants.{LINE_INFO_SIZE}
 use Rattle.gl_uapi.specs.declared.line_infos.Info.{Info}
 use Rattle.gl_uapi.specs.LineInfo.{info_in}
 use Rattle.gl_args.specs.declared.names.ToolName.TheVariants.{Info as InfoName}
-use Rattle.gl_args.specs.declared.tool.Opts.{Opts}
 use Rattle.gl_args.specs.Names.{tool_text}
+use Rattle.gl_args.specs.Options.{options_in, Options}
 use Rattle.gl_args.specs.Program.{Program, done, print, ask, Left, goes_on, waits}
 use Rattle.gl_lines.specs.Bytes.{info_sent}
 use Rattle.gl_lines.specs.Texts.{failed_line}
@@ -43,7 +43,7 @@ abbrev pub closed : Program (Unit {0}) → List ℕ → Option Errno → Program
 closed next text (Some errno) = print (failed_line tool errno) ends
 closed next text None = print text next
 
-module _ (base : ℕ) (opts : Opts) where
+module _ (base : ℕ) (opts : Options) where
   abbrev pub line_read : (List ℕ → Program (Unit {0})) → ℕ → List ℕ → Option Info → Program (Unit {0})
   line_read rest offset text None = leaves base
   line_read rest offset text (Some info) = rest (text ++ line_text opts.unquoted offset info)
@@ -91,7 +91,7 @@ module _ (base : ℕ) (opts : Opts) where
   infos = chips_from 0
 
 -- what is left; one line a stage
-abbrev pub left_at : ℕ → Opts → ℕ → ℕ → ℕ → List ℕ → InfoStage → Left (Unit {0})
+abbrev pub left_at : ℕ → Options → ℕ → ℕ → ℕ → List ℕ → InfoStage → Left (Unit {0})
 left_at base opts next total left text Next = goes_on (chips_from base opts next)
 left_at base opts next total left text Opening = waits (λ got. opened base opts (chips_from base opts next) (refusal got))
 left_at base opts next total left text Asking = waits (λ got. asked base opts (chips_from base opts next) (refusal got) (bytes_of got))
@@ -102,4 +102,4 @@ left_at base opts next total left text Leaving = waits (λ _. ends)
 left_at base opts next total left text Ended = goes_on ends
 
 abbrev pub info_left : InfoTool → Left (Unit {0})
-info_left i = left_at i.base i.opts i.next i.total i.left i.text i.stage
+info_left i = left_at i.base (options_in i.opts) i.next i.total i.left i.text i.stage

@@ -5,8 +5,8 @@ use Rattle.gl_base.specs.declared.errno.Errno.{Errno}
 use Rattle.gl_base.specs.declared.operation.Do.TheVariants.{Close}
 use Rattle.gl_base.specs.Operation.{refusal}
 use Rattle.gl_args.specs.declared.names.ToolName.TheVariants.{Set as SetName}
-use Rattle.gl_args.specs.declared.tool.Opts.{Opts}
 use Rattle.gl_args.specs.Names.{tool_text}
+use Rattle.gl_args.specs.Options.{options_in, Options}
 use Rattle.gl_args.specs.Program.{Program, done, print, ask, Left, goes_on, waits, then_left, then_by}
 use Rattle.gl_lines.specs.declared.found_line.FoundLine.{FoundLine}
 use Rattle.gl_lines.specs.Finding.{finds, left}
@@ -44,7 +44,7 @@ behind No made (Some found) = closes made
 behind Yes made (Some found) = done (Some made)
 
 -- gpioset
-abbrev pub sets : Hold → ℕ → ℕ → Opts → Program Held
+abbrev pub sets : Hold → ℕ → ℕ → Options → Program Held
 sets hold base made opts = then_by (finds SetName base made opts) (behind hold made)
 
 -- a tool that holds a request is stopped
@@ -54,7 +54,7 @@ stops (Some slot) = closes slot
 
 -- what is left; one line a stage
 abbrev pub left_of : Set → SetStage → Left Held
-left_of s Begin = goes_on (then_by (finds s.finder.tool s.finder.base s.finder.made s.finder.opts) (behind s.hold s.finder.made))
+left_of s Begin = goes_on (then_by (finds s.finder.tool s.finder.base s.finder.made (options_in s.finder.opts)) (behind s.hold s.finder.made))
 left_of s Finding = then_left (left s.finder) (behind s.hold s.finder.made)
 left_of s Holding = goes_on (done (Some s.finder.made))
 left_of s Stopped = goes_on (closes s.finder.made)

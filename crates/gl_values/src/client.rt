@@ -1,5 +1,6 @@
 //! The four tools as one client.
 ghost use Rattle.std.specs.Prelude.{◌≡◌, ◌+◌, ◌<◌, ◌^◌, not, is_some, IfOk, IsOkUnless, option_copied};
+ghost use Rattle.gl_args.specs.Options.{tool_in};
 ghost use Rattle.gl_args.specs.Program.{Program, Left, Goes, given, goes_on, done, MatchNext};
 ghost use Rattle.gl_values.specs.Set.{stops};
 ghost use Rattle.gl_values.specs.Client.{tool_program, held_program, client_left, has_ended, held_by, holding_nothing, nothing_held};
@@ -32,7 +33,7 @@ impl Client {
     /// does nothing here.
     pub fn new(alloc: Global, tool: Tool, base: u32) -> Client
         requires { base + 1 < 2 ^ 32 }
-        ensures { client_left result ≡ goes_on (tool_program tool base) }
+        ensures { client_left result ≡ goes_on (tool_program (tool_in tool) base) }
     {
         match tool {
             Tool::Detect(words) => Client::Detect(Detect::new(words, base)),
@@ -48,7 +49,7 @@ impl Client {
     /// does nothing here.
     pub fn held(alloc: Global, tool: Tool, base: u32) -> Client
         requires { base + 1 < 2 ^ 32 }
-        ensures { client_left result ≡ goes_on (held_program tool base) }
+        ensures { client_left result ≡ goes_on (held_program (tool_in tool) base) }
     {
         match tool {
             Tool::Set(opts) => Client::Set(Set::new(alloc, opts, Hold::Yes, base, base + 1)),
@@ -96,6 +97,16 @@ impl Client {
             Client::Detect(_) | Client::Info(_) | Client::Get(_) | Client::Nothing => {
                 *self = Client::Nothing;
             }
+        }
+    }
+
+    /// The slot of the request that it holds, if it holds one.
+    pub fn held_slot(&self) -> Option<u32>
+        ensures { result ≡ held_by self.now }
+    {
+        match self {
+            Client::Set(set) => set.held_slot(),
+            Client::Detect(_) | Client::Info(_) | Client::Get(_) | Client::Nothing => None,
         }
     }
 

@@ -1,5 +1,6 @@
 //! gpioget.
 ghost use Rattle.std.specs.Prelude.{◌≡◌, List, Some, IfOk, IsOkUnless, option_copied};
+ghost use Rattle.gl_args.specs.Options.{options_in};
 ghost use Rattle.gl_args.specs.Program.{Goes, given, goes_on, print, then_by};
 ghost use Rattle.gl_lines.specs.declared.found_line.FoundLine.{FoundLine};
 ghost use Rattle.gl_lines.specs.Finding.{Finding, left};
@@ -45,7 +46,7 @@ pub struct Get {
 impl Get {
     /// gpioget with these options. Its chip file has the slot `base`, its request the slot `made`.
     pub fn new(alloc: Global, opts: Opts, base: u32, made: u32) -> Get
-        ensures { get_left result ≡ goes_on (gets base made opts) }
+        ensures { get_left result ≡ goes_on (gets base made (options_in opts)) }
     {
         Get {
             finder: Finder::new(alloc, ToolName::Get, base, made, opts),
@@ -85,7 +86,7 @@ impl Get {
 
     /// Goes on behind a step of what finds its lines.
     fn go_on(&mut self, step: Next) -> Next
-        ensures { (p : Finding) → Goes p step (left self.old.finder) → Goes (then_by p (get self.old.finder.made self.old.finder.opts)) result (get_left self.new) }
+        ensures { (p : Finding) → Goes p step (left self.old.finder) → Goes (then_by p (get self.old.finder.made (options_in self.old.finder.opts))) result (get_left self.new) }
     {
         match step {
             Next::Call(what) => {
@@ -108,7 +109,7 @@ impl Get {
 
     /// Asks for the values.
     fn ask(&mut self) -> Next
-        ensures { (found : List FoundLine) → Goes (get self.old.finder.made self.old.finder.opts (Some found)) result (get_left self.new) }
+        ensures { (found : List FoundLine) → Goes (get self.old.finder.made (options_in self.old.finder.opts) (Some found)) result (get_left self.new) }
     {
         self.stage = GetStage::Asking;
         Next::Call(Do::Ioctl {
@@ -121,7 +122,7 @@ impl Get {
     }
 
     fn asked(&mut self, alloc: Global, refusal: Option<Errno>, bytes: &[u8]) -> Result<Next, Errno>
-        ensures goes { IfOk result (λ next. Goes (asked self.old.finder.made self.old.finder.opts refusal bytes.now) next (get_left self.new)) }
+        ensures goes { IfOk result (λ next. Goes (asked self.old.finder.made (options_in self.old.finder.opts) refusal bytes.now) next (get_left self.new)) }
         ensures memory_alone { IsOkUnless result Errno.NoMemory }
     {
         match refusal {
@@ -136,7 +137,7 @@ impl Get {
     }
 
     fn closed(&mut self, alloc: Global, bits: u64, refusal: Option<Errno>) -> Result<Next, Errno>
-        ensures goes { IfOk result (λ next. Goes (closed self.old.finder.opts bits refusal) next (get_left self.new)) }
+        ensures goes { IfOk result (λ next. Goes (closed (options_in self.old.finder.opts) bits refusal) next (get_left self.new)) }
         ensures memory_alone { IsOkUnless result Errno.NoMemory }
     {
         let text = match refusal {

@@ -1,4 +1,5 @@
 //! The line that gpioget prints.
+ghost use Rattle.gl_args.specs.Options.{options_in};
 ghost use Rattle.std.specs.Prelude.{◌≡◌, ◌++◌, codes, if◌then◌else◌, IfOk, OnOk, IsOkUnless};
 ghost use Rattle.gl_lines.specs.Texts.{line};
 ghost use Rattle.gl_values.specs.GetText.{separator, has_value, value_text, values_text};
@@ -10,7 +11,7 @@ use std::alloc::Global;
 
 /// The values of gpioget's lines, separated by blanks.
 pub(crate) fn values_line(alloc: Global, opts: &Opts, bits: u64) -> Result<ByteList, Errno>
-    ensures ok { IfOk result (λ text. text ≡ line (values_text opts.now bits 0 opts.now.lines.items)) }
+    ensures ok { IfOk result (λ text. text ≡ line (values_text (options_in opts.now) bits 0 opts.now.lines.items)) }
     ensures memory_alone { IsOkUnless result Errno.NoMemory }
 {
     let mut text = ByteList::new(alloc);
@@ -41,7 +42,7 @@ fn has_value(bits: u64, i: usize) -> bool
 }
 
 fn put_value(opts: &Opts, word: &Name, active: bool, text: &mut ByteList) -> Result<(), Errno>
-    ensures ok { OnOk result (text.new ≡ text.old ++ value_text opts.now word.now active) }
+    ensures ok { OnOk result (text.new ≡ text.old ++ value_text (options_in opts.now) word.now active) }
     ensures memory_alone { IsOkUnless result Errno.NoMemory }
 {
     if opts.numeric {

@@ -1,5 +1,6 @@
 //! gpioinfo.
 ghost use Rattle.std.specs.Prelude.{◌≡◌, ◌+◌, ◌<◌, ◌^◌, ◌&&◌, not, [], ◌∷◌, IfOk, IsSome, IsOkUnless, MatchOption, option_copied, is_some};
+ghost use Rattle.gl_args.specs.Options.{options_in};
 ghost use Rattle.gl_args.specs.Program.{print, Goes, given, goes_on};
 ghost use Rattle.gl_lines.specs.Texts.{failed_line};
 ghost use Rattle.gl_values.specs.Chips.{is_absent, words_from, to_words};
@@ -57,7 +58,7 @@ pub struct InfoTool {
 impl InfoTool {
     /// gpioinfo with these options.
     pub fn new(alloc: Global, opts: Opts, base: u32) -> InfoTool
-        ensures { info_left result ≡ goes_on (infos base opts) }
+        ensures { info_left result ≡ goes_on (infos base (options_in opts)) }
     {
         InfoTool {
             opts,
@@ -109,7 +110,7 @@ impl InfoTool {
 
     /// Opens the next chip, or ends.
     fn open(&mut self) -> Next
-        ensures { Goes (chips_from self.old.base self.old.opts self.old.next) result (info_left self.new) }
+        ensures { Goes (chips_from self.old.base (options_in self.old.opts) self.old.next) result (info_left self.new) }
     {
         match self.word() {
             Some(word) => {
@@ -128,7 +129,7 @@ impl InfoTool {
     }
 
     fn opened(&mut self, alloc: Global, refusal: Option<Errno>) -> Result<Next, Errno>
-        ensures goes { IfOk result (λ next. Goes (opened self.old.base self.old.opts (chips_from self.old.base self.old.opts self.old.next) refusal) next (info_left self.new)) }
+        ensures goes { IfOk result (λ next. Goes (opened self.old.base (options_in self.old.opts) (chips_from self.old.base (options_in self.old.opts) self.old.next) refusal) next (info_left self.new)) }
         ensures memory_alone { IsOkUnless result Errno.NoMemory }
     {
         match refusal {
@@ -159,7 +160,7 @@ impl InfoTool {
     }
 
     fn asked(&mut self, alloc: Global, refusal: Option<Errno>, bytes: &[u8]) -> Result<Next, Errno>
-        ensures goes { IfOk result (λ next. Goes (asked self.old.base self.old.opts (chips_from self.old.base self.old.opts self.old.next) refusal bytes.now) next (info_left self.new)) }
+        ensures goes { IfOk result (λ next. Goes (asked self.old.base (options_in self.old.opts) (chips_from self.old.base (options_in self.old.opts) self.old.next) refusal bytes.now) next (info_left self.new)) }
         ensures memory_alone { IsOkUnless result Errno.NoMemory }
     {
         match refusal {
@@ -173,7 +174,7 @@ impl InfoTool {
 
     /// The chip told of itself: its lines are asked.
     fn told(&mut self, alloc: Global, chip: &Chip) -> Result<Next, Errno>
-        ensures goes { IfOk result (λ next. Goes (told self.old.base self.old.opts (chips_from self.old.base self.old.opts self.old.next) chip.now) next (info_left self.new)) }
+        ensures goes { IfOk result (λ next. Goes (told self.old.base (options_in self.old.opts) (chips_from self.old.base (options_in self.old.opts) self.old.next) chip.now) next (info_left self.new)) }
         ensures memory_alone { IsOkUnless result Errno.NoMemory }
     {
         self.text = chip_head(alloc, chip)?;
@@ -185,7 +186,7 @@ impl InfoTool {
     /// Asks the next line, or closes the chip.
     #[tactic(auto, using(crate::proofs::InfoLines::lines))]
     fn ask_line(&mut self) -> Next
-        ensures { Goes (lines_from self.old.base self.old.opts (chips_from self.old.base self.old.opts self.old.next) self.old.total self.old.left self.old.text) result (info_left self.new) }
+        ensures { Goes (lines_from self.old.base (options_in self.old.opts) (chips_from self.old.base (options_in self.old.opts) self.old.next) self.old.total self.old.left self.old.text) result (info_left self.new) }
     {
         if self.left == 0 {
             self.stage = InfoStage::Closing;
@@ -209,7 +210,7 @@ impl InfoTool {
         refusal: Option<Errno>,
         bytes: &[u8],
     ) -> Result<Next, Errno>
-        ensures goes { IfOk result (λ next. Goes (line_told self.old.base self.old.opts (lines_from self.old.base self.old.opts (chips_from self.old.base self.old.opts self.old.next) self.old.total self.old.left) self.old.total self.old.left self.old.text refusal bytes.now) next (info_left self.new)) }
+        ensures goes { IfOk result (λ next. Goes (line_told self.old.base (options_in self.old.opts) (lines_from self.old.base (options_in self.old.opts) (chips_from self.old.base (options_in self.old.opts) self.old.next) self.old.total self.old.left) self.old.total self.old.left self.old.text refusal bytes.now) next (info_left self.new)) }
         ensures memory_alone { IsOkUnless result Errno.NoMemory }
     {
         match refusal {
@@ -226,7 +227,7 @@ impl InfoTool {
     }
 
     fn closed(&mut self, alloc: Global, refusal: Option<Errno>) -> Result<Next, Errno>
-        ensures goes { IfOk result (λ next. Goes (closed (chips_from self.old.base self.old.opts self.old.next) self.old.text refusal) next (info_left self.new)) }
+        ensures goes { IfOk result (λ next. Goes (closed (chips_from self.old.base (options_in self.old.opts) self.old.next) self.old.text refusal) next (info_left self.new)) }
         ensures memory_alone { IsOkUnless result Errno.NoMemory }
     {
         match refusal {

@@ -1,6 +1,6 @@
 //! What the tools cost, whatever they are answered. Each law stands as the contract of a function that does nothing.
 ghost use Rattle.std.specs.Prelude.{ℕ};
-ghost use Rattle.gl_args.specs.declared.tool.Tool.{Tool};
+ghost use Rattle.gl_args.specs.Options.{SaidTool};
 ghost use Rattle.gl_args.specs.Costs.{CostsAtMost};
 ghost use Rattle.gl_values.specs.Client.{tool_program, held_program};
 ghost use Rattle.gl_values.specs.Costs.{tool_cost, held_cost};
@@ -9,7 +9,7 @@ ghost use Rattle.gl_values.specs.Set.{Held, stops};
 /// A tool makes at most as many entries as its cost says, as a statement, started and stopped. The closing of a file is
 /// counted where the file is opened.
 pub fn tools_within_cost()
-    ensures statement { (tool : Tool) (base : ℕ) → CostsAtMost (tool_cost tool) (tool_program tool base) }
-    ensures started { (tool : Tool) (base : ℕ) → CostsAtMost (held_cost tool) (held_program tool base) }
+    ensures statement { (tool : SaidTool) (base : ℕ) → CostsAtMost (tool_cost tool) (tool_program tool base) }
+    ensures started { (tool : SaidTool) (base : ℕ) → CostsAtMost (held_cost tool) (held_program tool base) }
     ensures stopped { (held : Held) → CostsAtMost 0 (stops held) }
 {}

@@ -1,5 +1,6 @@
 //! gpioset.
 ghost use Rattle.std.specs.Prelude.{◌≡◌, not, is_some, IfOk, IsOkUnless, option_copied};
+ghost use Rattle.gl_args.specs.Options.{options_in};
 ghost use Rattle.gl_args.specs.Program.{Goes, given, goes_on, done, then_by, MatchNext};
 ghost use Rattle.gl_lines.specs.Finding.{Finding, left};
 ghost use Rattle.gl_values.specs.Set.{sets, behind, stops, closes, closed, has_ended, held_of, set_left};
@@ -49,7 +50,7 @@ pub struct Set {
 impl Set {
     /// gpioset with these options. Its chip file has the slot `base`, its request the slot `made`.
     pub fn new(alloc: Global, opts: Opts, hold: Hold, base: u32, made: u32) -> Set
-        ensures { set_left result ≡ goes_on (sets hold base made opts) }
+        ensures { set_left result ≡ goes_on (sets hold base made (options_in opts)) }
     {
         Set {
             finder: Finder::new(alloc, ToolName::Set, base, made, opts),
@@ -98,6 +99,20 @@ impl Set {
             | SetStage::Holding
             | SetStage::Stopped
             | SetStage::Closing => false,
+        }
+    }
+
+    /// The slot of the request that it holds, if it holds one.
+    pub fn held_slot(&self) -> Option<u32>
+        ensures { result ≡ held_of self.now }
+    {
+        match &self.stage {
+            SetStage::Holding => Some(self.finder.made),
+            SetStage::Begin
+            | SetStage::Finding
+            | SetStage::Stopped
+            | SetStage::Closing
+            | SetStage::Ended => None,
         }
     }
 

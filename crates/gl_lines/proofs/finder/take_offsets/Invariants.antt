@@ -1,4 +1,5 @@
 use Rattle.std.proofs.Common.{◌≡◌, ℕ, drop}
+use Rattle.gl_args.specs.Options.{options_in}
 use Rattle.gl_args.specs.declared.names.ToolName.{ToolName}
 use Rattle.gl_lines.specs.Finding.{looks}
 use Rattle.gl_lines.proofs.finder.take_offsets.Given as goal
@@ -7,4 +8,4 @@ use Rattle.gl_lines.proofs.finder.take_offsets.Given as goal
 abbrev pub invariant-loop-i : goal.invariant-loop-i
 invariant-loop-i l =
     (tool : ToolName) (base made : ℕ) →
-    looks tool base made l.opts (drop l.i l.opts.lines.items) l.found.items ≡ looks tool base made l.opts (drop l.next l.opts.lines.items) l.initial.found.items
+    looks tool base made (options_in l.opts) (drop l.i l.opts.lines.items) l.found.items ≡ looks tool base made (options_in l.opts) (drop l.next l.opts.lines.items) l.initial.found.items

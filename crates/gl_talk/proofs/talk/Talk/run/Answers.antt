@@ -1,20 +1,15 @@
 use Rattle.std.specs.Option.{option_copied}
-use Rattle.gl_args.specs.declared.next.Next.TheVariants.{Call, Print, End}
+use Rattle.gl_args.specs.declared.next.Next.TheVariants.{Call, Print}
 use Rattle.gl_args.specs.Program.{done}
 use Rattle.gl_values.specs.Client.{client_left}
-use Rattle.gl_talk.specs.Talk.{files_in}
+use Rattle.gl_talk.specs.Talk.{names_in}
 use Rattle.gl_talk.proofs.Continuing.{part_step}
 use Rattle.gl_talk.proofs.talk.Talk.run.Goals as goal
 
 pub returns-in-Call-clause-goes : goal.returns-in-Call-clause-goes
 returns-in-Call-clause-goes c =
-    part_step (client_left c.args.self.now.client) (client_left c.next.new.self) (λ _. done (files_in c.args.self.now)) (option_copied c.args.got) (Call c.in-Call.what) (rw c.in-Call.is at c.in_ok-what.ensures.goes)
+    part_step (client_left c.args.self.now.client) (client_left c.next.new.self) (λ _. done (names_in c.args.self.now)) (option_copied c.args.got) (Call c.in-Call.what) (rw c.in-Call.is at c.in_ok-what.ensures.goes)
 
 pub returns-in-Print-clause-goes : goal.returns-in-Print-clause-goes
 returns-in-Print-clause-goes c =
-    part_step (client_left c.args.self.now.client) (client_left c.next.new.self) (λ _. done (files_in c.args.self.now)) (option_copied c.args.got) (Print c.in-Print.text) (rw c.in-Print.is at c.in_ok-what.ensures.goes)
-
-pub returns-in-End-clause-goes : goal.returns-in-End-clause-goes
-returns-in-End-clause-goes c =
-    let e = part_step (client_left c.args.self.now.client) (client_left c.next.new.self) (λ _. done (files_in c.args.self.now)) (option_copied c.args.got) End (rw c.in-End.is at c.in_ok-what.ensures.goes) in
-    rw e.2 c.end.ensures.goes
+    part_step (client_left c.args.self.now.client) (client_left c.next.new.self) (λ _. done (names_in c.args.self.now)) (option_copied c.args.got) (Print c.in-Print.text) (rw c.in-Print.is at c.in_ok-what.ensures.goes)

@@ -1,0 +1,239 @@
+//! The statements that start a tool, let it make a step, and stop it.
+ghost use Rattle.std.specs.Prelude.{◌≡◌, ◌+◌, ◌*◌, ◌<◌, ◌≤◌, None, IfOk, OnOk, IsOkUnless, option_copied};
+ghost use Rattle.gl_base.specs.Words.{text_at};
+ghost use Rattle.gl_args.specs.Options.{tool_in};
+ghost use Rattle.gl_args.specs.Program.{Goes, MatchNext, given, goes_on, done, then_left};
+ghost use Rattle.gl_args.specs.Tools.{tool_said};
+ghost use Rattle.gl_monitor.specs.Monitor.{watched_by};
+ghost use Rattle.gl_values.specs.Client.{client_left, held_by};
+ghost use Rattle.gl_talk.specs.Open.{has_tool, held_of_name, watched_of_name};
+ghost use Rattle.gl_talk.specs.Talk.{keeps_monitor, keeps_set, left, names_in, slot_in, some_left, starts, starts_said, starts_tool, steps, stops, words_in};
+ghost use Rattle.gl_talk.specs.ToolWords.{word_texts};
+ghost use Rattle.gl_talk.specs.Words.{behind_two};
+
+use crate::held::{MonitorRow, SetRow, has_monitor, has_set, take_monitor, take_set};
+use crate::talk::{Stage, Talk};
+use crate::tools::{started_words, usage_text};
+use crate::words::{turns_word, word};
+use gl_args::{ArgFault, Next, Tool, read_tool};
+use gl_base::{Errno, Got};
+use gl_monitor::Monitor;
+use gl_values::Client;
+use std::alloc::Global;
+use std::mem;
+
+impl<'a> Talk<'a> {
+    /// The first step of a `start`.
+    pub(crate) fn start_held(&mut self, alloc: Global) -> Result<Next, Errno>
+        requires { self.old.begun ≤ 1048576 }
+        ensures goes { IfOk result (λ next. Goes (starts (has_tool (text_at 1 (words_in self.old)) (names_in self.old)) (names_in self.old) (slot_in self.old) (words_in self.old)) next (left self.new)) }
+        ensures rests { IfOk result (λ next. MatchNext next (Unit {0}) (left self.new ≡ goes_on (done (names_in self.new)))) }
+        ensures counted { OnOk result (self.new.begun ≡ self.old.begun) }
+        ensures memory_alone { IsOkUnless result Errno.NoMemory }
+    {
+        if self.has_tool() {
+            return self.refuse(alloc, Errno::Exist);
+        }
+        self.start_free(alloc)
+    }
+
+    /// Whether a tool has the statement's name.
+    fn has_tool(&self) -> bool
+        ensures { result ≡ has_tool (text_at 1 (words_in self.now)) (names_in self.now) }
+    {
+        let name = word(1, self.line);
+        has_set(&self.sets, name) || has_monitor(&self.monitors, name)
+    }
+
+    /// The first step of a `start` whose name is free.
+    fn start_free(&mut self, alloc: Global) -> Result<Next, Errno>
+        requires { self.old.begun ≤ 1048576 }
+        ensures goes { IfOk result (λ next. Goes (starts_said (tool_said (word_texts (behind_two (words_in self.old)))) (names_in self.old) (slot_in self.old) (words_in self.old)) next (left self.new)) }
+        ensures rests { IfOk result (λ next. MatchNext next (Unit {0}) (left self.new ≡ goes_on (done (names_in self.new)))) }
+        ensures counted { OnOk result (self.new.begun ≡ self.old.begun) }
+        ensures memory_alone { IsOkUnless result Errno.NoMemory }
+    {
+        let words = started_words(alloc, self.line)?;
+        match read_tool(alloc, &words) {
+            Ok(tool) => self.start_said(alloc, tool),
+            Err(ArgFault::Usage) => {
+                let text = usage_text(alloc, word(2, self.line))?;
+                Ok(self.show(text))
+            }
+            Err(ArgFault::NoMemory) => Err(Errno::NoMemory),
+        }
+    }
+
+    /// The first step of a tool that is started.
+    fn start_said(&mut self, alloc: Global, tool: Tool) -> Result<Next, Errno>
+        requires { self.old.begun ≤ 1048576 }
+        ensures goes { IfOk result (λ next. Goes (starts_tool (tool_in tool) (names_in self.old) (slot_in self.old) (text_at 1 (words_in self.old))) next (left self.new)) }
+        ensures rests { IfOk result (λ next. MatchNext next (Unit {0}) (left self.new ≡ goes_on (done (names_in self.new)))) }
+        ensures counted { OnOk result (self.new.begun ≡ self.old.begun) }
+        ensures memory_alone { IsOkUnless result Errno.NoMemory }
+    {
+        let base = 2 * self.begun;
+        match tool {
+            Tool::Set(opts) => {
+                self.client = Client::held(alloc, Tool::Set(opts), base);
+                self.hold(alloc, None)
+            }
+            Tool::Watch(opts) => {
+                self.monitor = Some(Monitor::new(alloc, Tool::Watch(opts), base));
+                self.watch(alloc, None)
+            }
+            Tool::Notify(opts) => {
+                self.monitor = Some(Monitor::new(alloc, Tool::Notify(opts), base));
+                self.watch(alloc, None)
+            }
+            Tool::Detect(_) | Tool::Info(_) | Tool::Get(_) => Ok(self.end()),
+        }
+    }
+
+    /// The first step of a `step`: a monitor makes its turns, and a gpioset has none.
+    pub(crate) fn step_held(&mut self, alloc: Global) -> Result<Next, Errno>
+        ensures goes { IfOk result (λ next. Goes (steps (watched_of_name (text_at 1 (words_in self.old)) (names_in self.old).monitors) (held_of_name (text_at 1 (words_in self.old)) (names_in self.old).sets) (names_in self.old) (words_in self.old)) next (left self.new)) }
+        ensures rests { IfOk result (λ next. MatchNext next (Unit {0}) (left self.new ≡ goes_on (done (names_in self.new)))) }
+        ensures counted { OnOk result (self.new.begun ≡ self.old.begun) }
+        ensures memory_alone { IsOkUnless result Errno.NoMemory }
+    {
+        let name = word(1, self.line);
+        match take_monitor(&mut self.monitors, name) {
+            Some(monitor) => {
+                let mut monitor = monitor;
+                monitor.step(turns_word(word(2, self.line)));
+                self.monitor = Some(monitor);
+                self.watch(alloc, None)
+            }
+            None => {
+                if has_set(&self.sets, name) {
+                    return self.refuse(alloc, Errno::Inval);
+                }
+                self.refuse(alloc, Errno::BadF)
+            }
+        }
+    }
+
+    /// The first step of a `stop`.
+    pub(crate) fn stop_held(&mut self, alloc: Global) -> Result<Next, Errno>
+        ensures goes { IfOk result (λ next. Goes (stops (watched_of_name (text_at 1 (words_in self.old)) (names_in self.old).monitors) (held_of_name (text_at 1 (words_in self.old)) (names_in self.old).sets) (names_in self.old) (words_in self.old)) next (left self.new)) }
+        ensures rests { IfOk result (λ next. MatchNext next (Unit {0}) (left self.new ≡ goes_on (done (names_in self.new)))) }
+        ensures counted { OnOk result (self.new.begun ≡ self.old.begun) }
+        ensures memory_alone { IsOkUnless result Errno.NoMemory }
+    {
+        match take_monitor(&mut self.monitors, word(1, self.line)) {
+            Some(monitor) => {
+                let mut monitor = monitor;
+                monitor.stop();
+                self.monitor = Some(monitor);
+                self.watch(alloc, None)
+            }
+            None => self.stop_set(alloc),
+        }
+    }
+
+    /// The first step of a `stop` of a name that no monitor has.
+    fn stop_set(&mut self, alloc: Global) -> Result<Next, Errno>
+        ensures goes { IfOk result (λ next. Goes (stops None (held_of_name (text_at 1 (words_in self.old)) (names_in self.old).sets) (names_in self.old) (words_in self.old)) next (left self.new)) }
+        ensures rests { IfOk result (λ next. MatchNext next (Unit {0}) (left self.new ≡ goes_on (done (names_in self.new)))) }
+        ensures counted { OnOk result (self.new.begun ≡ self.old.begun) }
+        ensures memory_alone { IsOkUnless result Errno.NoMemory }
+    {
+        match take_set(&mut self.sets, word(1, self.line)) {
+            Some(client) => {
+                let mut client = client;
+                client.stop();
+                self.client = client;
+                self.hold(alloc, None)
+            }
+            None => self.refuse(alloc, Errno::BadF),
+        }
+    }
+
+    /// The next step of a gpioset that is started or stopped.
+    pub(crate) fn hold(&mut self, alloc: Global, got: Option<&Got>) -> Result<Next, Errno>
+        ensures goes { IfOk result (λ next. Goes (given (then_left (client_left self.old.client) (keeps_set (text_at 1 (words_in self.old)) (names_in self.old))) (option_copied got.entry)) next (left self.new)) }
+        ensures rests { IfOk result (λ next. MatchNext next (Unit {0}) (left self.new ≡ goes_on (done (names_in self.new)))) }
+        ensures counted { OnOk result (self.new.begun ≡ self.old.begun) }
+        ensures memory_alone { IsOkUnless result Errno.NoMemory }
+    {
+        match self.client.next(alloc, got)? {
+            Next::Call(what) => {
+                self.stage = Stage::Holding;
+                Ok(Next::Call(what))
+            }
+            Next::Print(text) => {
+                self.stage = Stage::Holding;
+                Ok(Next::Print(text))
+            }
+            Next::End => self.keep_set(),
+        }
+    }
+
+    /// The gpioset has its name from now on, where it holds its request.
+    fn keep_set(&mut self) -> Result<Next, Errno>
+        ensures goes { IfOk result (λ next. Goes (keeps_set (text_at 1 (words_in self.old)) (names_in self.old) (held_by self.old.client)) next (left self.new)) }
+        ensures rests { IfOk result (λ next. MatchNext next (Unit {0}) (left self.new ≡ goes_on (done (names_in self.new)))) }
+        ensures counted { OnOk result (self.new.begun ≡ self.old.begun) }
+        ensures memory_alone { IsOkUnless result Errno.NoMemory }
+    {
+        let client = mem::replace(&mut self.client, Client::Nothing);
+        match client.held_slot() {
+            Some(_) => {
+                self.sets.push(SetRow {
+                    name: word(1, self.line),
+                    client,
+                })?;
+                Ok(self.end())
+            }
+            None => Ok(self.end()),
+        }
+    }
+
+    /// The next step of a monitor that is started or stopped, or makes a step.
+    pub(crate) fn watch(&mut self, alloc: Global, got: Option<&Got>) -> Result<Next, Errno>
+        ensures goes { IfOk result (λ next. Goes (given (then_left (some_left self.old.monitor) (keeps_monitor (text_at 1 (words_in self.old)) (names_in self.old))) (option_copied got.entry)) next (left self.new)) }
+        ensures rests { IfOk result (λ next. MatchNext next (Unit {0}) (left self.new ≡ goes_on (done (names_in self.new)))) }
+        ensures counted { OnOk result (self.new.begun ≡ self.old.begun) }
+        ensures memory_alone { IsOkUnless result Errno.NoMemory }
+    {
+        match self.monitor.take() {
+            Some(monitor) => {
+                let mut monitor = monitor;
+                match monitor.next(alloc, got)? {
+                    Next::Call(what) => {
+                        self.monitor = Some(monitor);
+                        self.stage = Stage::Watching;
+                        Ok(Next::Call(what))
+                    }
+                    Next::Print(text) => {
+                        self.monitor = Some(monitor);
+                        self.stage = Stage::Watching;
+                        Ok(Next::Print(text))
+                    }
+                    Next::End => self.keep_monitor(monitor),
+                }
+            }
+            None => Ok(self.end()),
+        }
+    }
+
+    /// The monitor has its name from now on, where it watches its lines.
+    fn keep_monitor(&mut self, monitor: Monitor) -> Result<Next, Errno>
+        ensures goes { IfOk result (λ next. Goes (keeps_monitor (text_at 1 (words_in self.old)) (names_in self.old) (watched_by monitor)) next (left self.new)) }
+        ensures rests { IfOk result (λ next. MatchNext next (Unit {0}) (left self.new ≡ goes_on (done (names_in self.new)))) }
+        ensures counted { OnOk result (self.new.begun ≡ self.old.begun) }
+        ensures memory_alone { IsOkUnless result Errno.NoMemory }
+    {
+        match monitor.watched_slot() {
+            Some(_) => {
+                self.monitors.push(MonitorRow {
+                    name: word(1, self.line),
+                    monitor,
+                })?;
+                Ok(self.end())
+            }
+            None => Ok(self.end()),
+        }
+    }
+}
