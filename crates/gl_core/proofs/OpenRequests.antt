@@ -1,6 +1,6 @@
 -- Open requests: the request of a number is the world's, and its lines are lines of its place.
 use Rattle.std.proofs.Common.{◌≡◌, ℕ, zero, suc, ◌<◌, ◌≤◌, Bool, true, false, List, [], ◌∷◌, length, take, Option, Some, None, refl, sym, ap, ◌∙◌, subst, eq-eqb, arith}
-use Rattle.std.specs.Prelude.{◌&&◌, ◌||◌, nat_eq, slice_index, slice_index_or}
+use Rattle.std.specs.Prelude.{◌&&◌, ◌||◌, not, nat_eq, nat_lt, slice_index, slice_index_or}
 use Rattle.std.specs.List.{list_any}
 use Rattle.std.specs.Option.{option_map}
 use Rattle.std.proofs.lemmas.Bool.{true≢false}
@@ -11,12 +11,17 @@ use Rattle.gl_request.specs.Request.{claim_of, request_at as row_at}
 use Rattle.gl_request.specs.declared.row.Claim.{Claim}
 use Rattle.gl_request.specs.declared.row.RequestRow.{RequestRow}
 use Rattle.gl_model.specs.Holders.{HasItsLines, has_line}
-use Rattle.gl_model.specs.OpenFiles.{is_hold, is_place, is_request_file, on_request, request_place}
+use Rattle.gl_base.specs.Refusals.{first_of, when}
+use Rattle.gl_base.specs.declared.errno.Errno.TheVariants.{BadF, Fault, Inval}
+use Rattle.gl_uapi.specs.Command.{size_of}
+use Rattle.gl_uapi.specs.declared.commands.Command.{Command}
+use Rattle.gl_model.specs.declared.call.Part.{Part}
+use Rattle.gl_model.specs.OpenFiles.{command_refusal, has_part, is_chip_file, is_for_chips, kind_refusal, request_file_refusal, is_hold, is_place, is_request_file, on_request, request_place}
 use Rattle.gl_model.specs.Outcome.{Outcome}
 use Rattle.gl_model.specs.Places.{no_place, place_at}
 use Rattle.gl_model.specs.World.{Request, World, has_number, request_at}
 use Rattle.gl_model.specs.declared.place.Place.{Place}
-use Rattle.gl_model.proofs.Phases.{both, same_number}
+use Rattle.gl_model.proofs.Phases.{both, nothing_first, nothing_when, same_number}
 use Rattle.gl_core.specs.Kept.{Kept, StandsFor, kept_request}
 use Rattle.gl_core.specs.Reached.{IsReached}
 use Rattle.gl_core.specs.Shape.{HasEachLine, IsShaped}
@@ -110,3 +115,22 @@ lines_of_claim claim (Some row) is = let same : claim ≡ claim_of row = cc in a
 pub each_claimed_line : (k : Kept) (place fd : ℕ) (claim : Claim) → IsShaped k.chips k.origins k.places → IsReached k → Tells (is_request_file place fd) k true
     → Some claim ≡ option_map claim_of (row_at k.requests fd) → length claim.lines.offsets ≡ 64 → claim.lines.count ≤ 64 → HasEachLine k.places place claim.lines
 each_claimed_line k place fd claim shape reached file is = each_line k place fd claim.lines shape reached file (lines_of_claim claim (row_at k.requests fd) is)
+
+-- the number of a command on requests that isn't refused is that of an open request
+
+not_false : (b : Bool) → not b ≡ false → b ≡ true
+not_false true is = refl
+not_false false is = absurd (true≢false is)
+
+file_is_request : (place fd len : ℕ) (command : Command) (part : Part) (w : World) → is_for_chips command ≡ false → None ≡ command_refusal place fd len command part w → true ≡ is_request_file place fd w
+file_is_request place fd len command part w for_requests none =
+    let others = first_of (when (nat_lt len (size_of command)) Fault ∷ when (not (has_part command part)) Inval ∷ []) in
+    let kind : request_file_refusal place fd w ≡ None = ap (λ b. kind_refusal place fd b w) (sym for_requests) ∙ (nothing_first (kind_refusal place fd (is_for_chips command) w) others (sym none)).0 in
+    let bad = when (not (is_chip_file place fd w || is_request_file place fd w)) BadF in
+    let chip = when (not (is_request_file place fd w)) Inval in
+    let one = (nothing_first bad (first_of (chip ∷ [])) kind).1 in
+    let two = (nothing_first chip None one).0 in
+    sym (not_false (is_request_file place fd w) (nothing_when (not (is_request_file place fd w)) Inval two))
+
+pub open_request : (k : Kept) (place fd len : ℕ) (command : Command) (part : Part) → is_for_chips command ≡ false → Tells (command_refusal place fd len command part) k None → Tells (is_request_file place fd) k true
+open_request k place fd len command part for_requests none w s = file_is_request place fd len command part w for_requests (none w s)
