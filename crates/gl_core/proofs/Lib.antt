@@ -13,7 +13,9 @@ pub mod Spare
 pub mod TakingChanges
 pub mod Watching
 pub mod Standing
+pub mod Choosing
 pub mod Reached
+pub mod Removing
 pub mod Shapes
 pub mod NotedEdges
 pub mod HeldLines

@@ -14,13 +14,16 @@ use Rattle.std.specs.Option.{option_or}
 use Rattle.gl_base.specs.Positions.{change_at}
 use Rattle.gl_base.specs.declared.errno.Errno.TheVariants.{Inval}
 use Rattle.gl_base.specs.declared.irq.IrqDo.{IrqDo}
+use Rattle.gl_base.specs.declared.pin.PinDo.{PinDo}
+use Rattle.gl_registry.specs.Chips.{chip_at}
+use Rattle.gl_model.specs.Pins.{pin, pin_done, pin_refusal}
 use Rattle.gl_irq.specs.Irq.{act_refusal, done as irq_done, first_irq}
 use Rattle.gl_model.specs.declared.place.Place.{Place}
 use Rattle.gl_model.specs.Chips.{place_refusal}
 use Rattle.gl_model.specs.Interrupts.{irq, irq_line}
 use Rattle.gl_model.specs.Places.{lines_at, no_place, place_at, with_place}
 use Rattle.gl_model.proofs.Phases.{nothing_first}
-use Rattle.gl_core.specs.Shape.{with_irq_done}
+use Rattle.gl_core.specs.Shape.{with_irq_done, with_pin_done}
 
 -- a call on the tree that refuses by some refusal, and else leaves these rows
 abbrev tree_outcome : (List TreeRow → Option Errno) → (List TreeRow → List TreeRow) → World → Outcome
@@ -74,3 +77,31 @@ irq_acted k w place offset what places told reply s free =
     → let out = irq place offset what w in StandsFor (record k { places = places }) out.world × (reply ≡ out.reply)) s.kept_so
     (λ is now said. subst (λ (p : Option Errno). let out = refused_or (first_of (p ∷ r ∷ [])) w after in StandsFor (record (kept_of w) { places = places }) out.world × (reply ≡ out.reply)) (sym there)
     (irq_stands w place offset what r places told reply s.sound_requests is now said))
+
+-- something was done with the pins of a chip, or refused
+
+pins_stand : (w : World) (place : ℕ) (what : PinDo) (r : Option Errno) (places : List Place) (told : Result (Unit {0}) Errno) (reply : Reply) → HasSoundRequests w
+    → told ≡ answer r tt
+    → (let t = place_at w place in places ≡ slice_set w.places place (record t { pins = unless r (pin_done what t.pins) t.pins })) → reply ≡ replied told
+    → let out = refused_or (option_or r None) w (done (with_place place (λ t. record t { pins = pin_done what t.pins }) w)) in
+    StandsFor (record (kept_of w) { places = places }) out.world × (reply ≡ out.reply)
+pins_stand w place what None places told reply sound is now said =
+    (record { kept_so = ap (λ (ps : List Place). record (kept_of w) { places = ps }) (sym now); sound_requests = sound }, said ∙ ap replied is)
+pins_stand w place what (Some e) places told reply sound is now said =
+    (record { kept_so = ap (λ (ps : List Place). record (kept_of w) { places = ps }) (sym (now ∙ set_same w.places place no_place)); sound_requests = sound }, said ∙ ap replied is)
+
+pub pin_acted : (k : Kept) (w : World) (place lines : ℕ) (what : PinDo) (places : List Place) (told : Result (Unit {0}) Errno) (reply : Reply) → StandsFor k w
+    → place_refusal place w ≡ None → lines ≡ (chip_at k.chips place).lines
+    → told ≡ answer (pin_refusal lines (slice_index_or k.places place no_place) what) tt
+    → places ≡ change_at no_place place (with_pin_done lines what) k.places → reply ≡ replied told
+    → let out = pin place what w in StandsFor (record k { places = places }) out.world × (reply ≡ out.reply)
+pin_acted k w place lines what places told reply s there many is now said =
+    let r : Option Errno = pin_refusal (lines_at w place) (place_at w place) what in
+    let after : Outcome = done (with_place place (λ t. record t { pins = pin_done what t.pins }) w) in
+    subst (λ (k : Kept). told ≡ answer (pin_refusal (chip_at k.chips place).lines (slice_index_or k.places place no_place) what) tt
+    → places ≡ change_at no_place place (with_pin_done (chip_at k.chips place).lines what) k.places
+    → let out = pin place what w in StandsFor (record k { places = places }) out.world × (reply ≡ out.reply)) s.kept_so
+    (λ is now. subst (λ (p : Option Errno). let out = refused_or (first_of (p ∷ r ∷ [])) w after in StandsFor (record (kept_of w) { places = places }) out.world × (reply ≡ out.reply)) (sym there)
+    (pins_stand w place what r places told reply s.sound_requests is now said))
+    (subst (λ n. told ≡ answer (pin_refusal n (slice_index_or k.places place no_place) what) tt) many is)
+    (subst (λ n. places ≡ change_at no_place place (with_pin_done n what) k.places) many now)

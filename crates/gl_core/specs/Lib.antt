@@ -1,5 +1,6 @@
 pub mod Claims
 pub mod FoundLines
+pub mod Chosen
 pub mod Kept
 pub mod KeptEdges
 pub mod LineByLine

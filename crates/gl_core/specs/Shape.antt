@@ -12,8 +12,10 @@ use Rattle.gl_model.specs.Places.{no_place}
 use Rattle.gl_base.specs.Positions.{change_at}
 use Rattle.gl_base.specs.Refusals.{unless}
 use Rattle.gl_base.specs.declared.irq.IrqDo.{IrqDo}
+use Rattle.gl_base.specs.declared.pin.PinDo.{PinDo}
 use Rattle.gl_irq.specs.Irq.{act_refusal, done, first_irq}
 use Rattle.gl_model.specs.Interrupts.{irq_line}
+use Rattle.gl_model.specs.Pins.{pin_done, pin_refusal}
 
 -- the tables of a place are of so many lines, as a chip may have
 pub record HasLines (lines : ℕ) (place : Place) : Type 0 where
@@ -53,6 +55,11 @@ HasEachLine places place lines = (i : ℕ) → i < lines.count → HasLine place
 abbrev pub KeepsLines : List Place → List Place → Type 0
 KeepsLines old new = (place offset : ℕ) → HasLine old place offset → HasLine new place offset
 
+-- a place that is there, with so many lines
+pub record HasPlace (lines : ℕ) (places : List Place) (place : ℕ) : Type 0 where
+  pub place_within : place < length places
+  pub within : HasLines lines (slice_index_or places place no_place)
+
 -- how many lines the tables have that wait for a chip
 unfoldable pub lines_max : ℕ
 lines_max = LINES_MAX
@@ -76,3 +83,7 @@ abbrev pub with_irq_done : ℕ → IrqDo → Place → Place
 with_irq_done offset what place = record place {
   irqs = unless (act_refusal place.irqs offset what (irq_line place offset)) (change_at first_irq offset (done what) place.irqs) place.irqs;
 }
+
+-- the tables of a place of so many lines after something was done with its pins, or refused
+abbrev pub with_pin_done : ℕ → PinDo → Place → Place
+with_pin_done lines what place = record place { pins = unless (pin_refusal lines place what) (pin_done what place.pins) place.pins }

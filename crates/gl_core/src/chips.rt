@@ -2,12 +2,14 @@
 
 ghost use Rattle.std.specs.Prelude.{◌≡◌, ◌<◌, ◌≤◌, length, IfNone};
 ghost use Rattle.gl_base.specs.declared.limits.TheConstants.{LINES_MAX};
-ghost use Rattle.gl_model.specs.Chips.{probe};
+ghost use Rattle.gl_model.specs.Chips.{place_refusal, probe};
 ghost use Rattle.gl_model.specs.Places.{kind_at};
+ghost use Rattle.gl_registry.specs.Chips.{chip_at};
+ghost use Rattle.gl_core.specs.Shape.{HasPlace};
 ghost use Rattle.gl_core.specs.Steps.{Steps, Tells};
 
 use crate::state::State;
-use gl_base::{Kind, Name, push_within};
+use gl_base::{Errno, Kind, Name, Phase, push_within};
 use gl_model::{Origin, Reply};
 
 impl State {
@@ -28,6 +30,18 @@ impl State {
                 self.places.open(lines);
                 Reply::Number(u64::from(place))
             }
+        }
+    }
+
+    /// Why a call that names a place is refused: `NoEnt` where no chip was made there.
+    pub(crate) fn place_refusal(&self, place: u8) -> Option<Errno>
+        ensures told { Tells (place_refusal place) self.now result }
+        ensures there { IfNone result (HasPlace (chip_at self.now.chips place).lines self.now.places place) }
+    {
+        if self.chips.phase(place) == Phase::Absent {
+            Some(Errno::NoEnt)
+        } else {
+            None
         }
     }
 

@@ -5,6 +5,7 @@
 
 mod asked;
 mod chips;
+mod chosen;
 mod claiming;
 mod clock;
 mod commands;
@@ -19,10 +20,12 @@ mod machine;
 mod notify;
 mod open_files;
 mod opening;
+mod pins;
 mod places;
 mod pulls;
 mod reading;
 mod reading_changes;
+mod removal;
 mod state;
 mod tree;
 mod values;

@@ -17,11 +17,13 @@ ghost use Rattle.gl_model.specs.Interrupts.{irq_line, is_claimed};
 ghost use Rattle.gl_model.specs.Pulls.{pull_change};
 ghost use Rattle.gl_model.specs.Values.{driven_with};
 ghost use Rattle.gl_core.specs.Levels.{with_pull};
-ghost use Rattle.gl_core.specs.Shape.{AreNew, HasLine, fitted, lines_max, with_irq_done};
+ghost use Rattle.gl_model.specs.Pins.{pin_refusal};
+ghost use Rattle.gl_core.specs.Shape.{AreNew, HasLine, HasPlace, fitted, lines_max, with_irq_done, with_pin_done};
 
+use crate::pins::pin_at;
 use gl_bank::{Bank, Change, flip};
 use gl_base::{
-    Errno, IrqDo, Kind, LINES_MAX, Lines, Name, PLACES, Settings, flag, has_bit, push_within,
+    Errno, IrqDo, Kind, LINES_MAX, Lines, Name, PLACES, PinDo, Settings, flag, has_bit, push_within,
 };
 use gl_desc::{Descs, Holder};
 use gl_irq::{IrqLine, Irqs};
@@ -290,6 +292,15 @@ impl Places {
                 push_within(&mut self.used, place);
             }
         }
+    }
+
+    /// Does something with the pins of a place with so many lines. A refused call changes nothing.
+    pub fn pin(&mut self, place: u8, lines: u32, what: PinDo) -> Result<(), Errno>
+        requires { HasPlace lines self.old place }
+        ensures answer { result ≡ answer (pin_refusal lines (slice_index_or self.old place no_place) what) tt }
+        ensures places { self.new ≡ change_at no_place place (with_pin_done lines what) self.old }
+    {
+        pin_at(&mut self.used, place, lines, what)
     }
 
     /// Does something with the interrupt of a line of a place. A refused call changes nothing.
