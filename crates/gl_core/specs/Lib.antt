@@ -10,3 +10,4 @@ pub mod Shape
 pub mod View
 pub mod HeldLines
 pub mod Levels
+pub mod Legal

@@ -1,7 +1,7 @@
 //! The calls as entries of a history: which place each needs, and which belong together in pairs.
 
 ghost use Rattle.std.specs.Prelude.{◌≡◌};
-ghost use Rattle.gl_model.specs.Entries.{begins, ends, guarded_place};
+ghost use Rattle.gl_model.specs.Entries.{begins, ends, guarded_place, refused_place};
 
 use gl_model::{Call, Part, Reply};
 
@@ -52,5 +52,15 @@ pub fn ends(call: &Call) -> bool
             ..
         } => true,
         _ => false,
+    }
+}
+
+/// The place at whose closed guard a call was refused, for the calls that record just that.
+pub fn refused_at(call: &Call) -> Option<u8>
+    ensures { result ≡ refused_place call.now }
+{
+    match *call {
+        Call::Refused { place, .. } => Some(place),
+        _ => None,
     }
 }

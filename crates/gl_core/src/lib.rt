@@ -13,6 +13,8 @@ mod configuring;
 mod edges;
 pub mod entries;
 mod finding;
+pub mod fits;
+mod history;
 mod information;
 mod interrupts;
 pub mod laws;

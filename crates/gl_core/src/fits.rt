@@ -1,0 +1,172 @@
+//! Which calls are in range, and the memory that a call brings.
+
+ghost use Rattle.std.specs.Prelude.{◌≡◌, ◌≤◌, ◌==◌, Some, None, [], take, drop, IfOk, IsOkUnless, IsTrue};
+ghost use Rattle.std.specs.Bool.{Decides};
+ghost use Rattle.std.specs.List.{list_all};
+ghost use Rattle.circular_buffer.specs.Buffer.{buffer};
+ghost use Rattle.gl_base.specs.Name.{is_name};
+ghost use Rattle.gl_base.specs.declared.limits.TheConstants.{LINES_MAX};
+ghost use Rattle.gl_model.specs.Asked.{capacity_asked, request_fault};
+ghost use Rattle.gl_uapi.specs.declared.layout.TheConstants.{LINE_REQUEST_SIZE};
+ghost use Rattle.gl_model.specs.declared.call.Part.TheVariants.{Ask};
+ghost use Rattle.gl_model.specs.Fits.{BringsRing, FitsBytes, FitsCall, FitsGift};
+
+use crate::asked::Asked;
+use gl_base::{Errno, LINES_MAX, Name, PLACES};
+use gl_model::{Call, Gift, Part};
+use gl_ring::EdgeRing;
+use gl_uapi::Command;
+use gl_uapi::layout::LINE_REQUEST_SIZE;
+use gl_watch::InfoQueue;
+use std::alloc::Global;
+
+/// Whether the arguments of a call are in range: a place is below `PLACES`, a chip has 1 to 128 lines, and the bytes of a
+/// command are 0 from the buffer's length on. A name is one by its type.
+pub fn fits_call(call: &Call) -> bool
+    ensures { Decides result (FitsCall call.now) }
+{
+    match call {
+        Call::Probe { label, lines, .. } => has_lines(*lines) && is_name(label),
+        Call::Write { value, .. } => is_name(value),
+        Call::Find { place: None, .. } => true,
+        Call::Ioctl {
+            place,
+            len,
+            bytes,
+            ..
+        } => *place < PLACES && fits_bytes(*len, bytes),
+        Call::Unplug { place, .. }
+        | Call::Find {
+            place: Some(place),
+            ..
+        }
+        | Call::Pin { place, .. }
+        | Call::Irq { place, .. }
+        | Call::Pull { place, .. }
+        | Call::Level { place, .. }
+        | Call::Interrupt { place, .. }
+        | Call::ReadEdges { place, .. }
+        | Call::ReadInfo { place, .. }
+        | Call::PollLine { place, .. }
+        | Call::PollChip { place, .. }
+        | Call::Refused { place, .. } => *place < PLACES,
+        Call::MakeDir { .. }
+        | Call::RemoveDir { .. }
+        | Call::Read { .. }
+        | Call::Live { .. }
+        | Call::Remove { .. }
+        | Call::Tick { .. }
+        | Call::OpenChip { .. }
+        | Call::Close { .. } => true,
+    }
+}
+
+/// Whether a chip may have so many lines.
+fn has_lines(lines: u32) -> bool
+    ensures { Decides result ((1 ≤ lines) × (lines ≤ LINES_MAX)) }
+{
+    1 <= lines && lines <= LINES_MAX
+}
+
+/// Whether the bytes of a name are those of one, as they are by its type.
+fn is_name(name: &Name) -> bool
+    ensures { Decides result (IsTrue (is_name name.now)) }
+{
+    Name::of(name.as_bytes()).is_some()
+}
+
+/// Whether the bytes of a command are 0 from the buffer's length on.
+fn fits_bytes(len: u32, bytes: &[u8; LINE_REQUEST_SIZE]) -> bool
+    ensures { Decides result (FitsBytes len bytes.now) }
+{
+    is_zero_from(bytes, len as usize)
+}
+
+/// Whether all bytes from an index on are 0.
+fn is_zero_from(bytes: &[u8], from: usize) -> bool
+    ensures { result ≡ list_all (λ byte. byte == 0) (drop from bytes.now) }
+{
+    bytes_from(bytes, from).iter().all(|byte| *byte == 0)
+}
+
+/// The bytes from an index on: none, where there are no more than so many.
+fn bytes_from(bytes: &[u8], from: usize) -> &[u8]
+    ensures { result.now ≡ drop from bytes.now }
+{
+    &bytes[from.min(bytes.len())..]
+}
+
+/// The memory that a call brings: an empty queue for an open, and for an ask of GET_LINE an empty ring of the capacity that
+/// it states, where its bytes are without fault. `NoMemory` alone is refused.
+pub fn gift_for(call: &Call, alloc: Global) -> Result<Gift, Errno>
+    ensures ok { IfOk result (λ gift. FitsGift call.now gift) }
+    ensures memory_alone { IsOkUnless result Errno.NoMemory }
+{
+    match call {
+        Call::OpenChip { .. } => {
+            let queue = InfoQueue::new(alloc)?;
+            Ok(Gift {
+                ring: None,
+                queue: Some(queue),
+            })
+        }
+        Call::Ioctl {
+            cmd,
+            bytes,
+            part,
+            ..
+        } => {
+            let ring = ring_for(*cmd, bytes, part, alloc)?;
+            Ok(Gift { ring, queue: None })
+        }
+        _ => Ok(Gift {
+            ring: None,
+            queue: None,
+        }),
+    }
+}
+
+/// The ring that a part of a command brings, if it brings one.
+fn ring_for(
+    cmd: u32,
+    bytes: &[u8; LINE_REQUEST_SIZE],
+    part: &Part,
+    alloc: Global,
+) -> Result<Option<EdgeRing>, Errno>
+    ensures ok { IfOk result (λ ring. BringsRing cmd bytes.now part.now (record { ring = ring; queue = None })) }
+    ensures memory_alone { IsOkUnless result Errno.NoMemory }
+{
+    match part {
+        Part::Ask => ring_for_ask(cmd, bytes, alloc),
+        Part::Whole | Part::Tell(_) => Ok(None),
+    }
+}
+
+/// The ring that the ask of a command brings, if it brings one.
+fn ring_for_ask(
+    cmd: u32,
+    bytes: &[u8; LINE_REQUEST_SIZE],
+    alloc: Global,
+) -> Result<Option<EdgeRing>, Errno>
+    ensures ok { IfOk result (λ ring. BringsRing cmd bytes.now Ask (record { ring = ring; queue = None })) }
+    ensures memory_alone { IsOkUnless result Errno.NoMemory }
+{
+    match Command::of(cmd) {
+        Some(Command::GetLine) => asked_ring(bytes, alloc),
+        _ => Ok(None),
+    }
+}
+
+/// An empty ring of the capacity that a request states, where its bytes are without fault.
+fn asked_ring(bytes: &[u8; LINE_REQUEST_SIZE], alloc: Global) -> Result<Option<EdgeRing>, Errno>
+    ensures ok { IfOk result (λ ring. request_fault (take LINE_REQUEST_SIZE bytes.now) ≡ None → ring ≡ Some (buffer [] (capacity_asked (take LINE_REQUEST_SIZE bytes.now)))) }
+    ensures memory_alone { IsOkUnless result Errno.NoMemory }
+{
+    match Asked::of(bytes) {
+        Err(_) => Ok(None),
+        Ok(asked) => {
+            let ring = EdgeRing::with_capacity(alloc, asked.capacity())?;
+            Ok(Some(ring))
+        }
+    }
+}
