@@ -1,4 +1,4 @@
-//! The tools over scripted results, without a device: which operations they ask for, and what they print.
+//! The tools and whole talks over scripted results, without a device: which operations they ask for, and what they print.
 #![tactic(auto)]
 
 #[cfg(test)]
@@ -7,6 +7,8 @@ mod tests;
 mod tests_args;
 #[cfg(test)]
 mod tests_monitor;
+#[cfg(test)]
+mod tests_rows;
 mod transcript;
 
 pub use transcript::{put_call, results_of};

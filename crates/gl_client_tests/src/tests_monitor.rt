@@ -57,7 +57,7 @@ fn monitor_of(alloc: Global, text: &[u8]) -> Result<Monitor, Fail> {
 /// What a monitor is told, at its start and in three steps, and what it asks and prints.
 type Case = (&'static str, &'static str, [&'static str; 3], &'static str);
 
-fn cases() -> [Case; 8] {
+fn cases() -> [Case; 11] {
     [
         (
             "gpiomon -c 0 -n 2 -F %c:%o:%E:%S 1",
@@ -94,6 +94,28 @@ fn cases() -> [Case; 8] {
                 "ready:1 event:0:1:2",
             ],
             "open 0 0\nfind 0 A\nrequest 0 592 as 1 1 2 flags 52 by gpiomon\nclose 0 \nwatches\npoll 1 \nread 1 768\n0.000000000\trising\tgpiochip0 1 \"A\"\n0.000000000\tfalling\tgpiochip0 2\nwatches\npoll 1 \npoll 1 \npoll 1 \nidle\nwatches\npoll 1 \nread 1 768\n0.000000000\trising\tgpiochip0 2\nwatches\n",
+        ),
+        (
+            "gpiomon -c 0 -n 1 1",
+            "ok ok ok",
+            ["ready:1 event:0:1:1 ok", "ok", "ok"],
+            "open 0 0\nrequest 0 592 as 1 1 flags 52 by gpiomon\nclose 0 \nwatches\npoll 1 \nread 1 48\n0.000000000\trising\tgpiochip0 1\nclose 1 \nended\nended\nended\n",
+        ),
+        (
+            "gpiomon -c 0 -n 2 1",
+            "ok ok ok",
+            ["ready:1 event:0:1:1+event:1:2:1 ok", "ok", "ok"],
+            "open 0 0\nrequest 0 592 as 1 1 flags 52 by gpiomon\nclose 0 \nwatches\npoll 1 \nread 1 96\n0.000000000\trising\tgpiochip0 1\n0.000000001\tfalling\tgpiochip0 1\nclose 1 \nended\nended\nended\n",
+        ),
+        (
+            "gpiomon -c 0 -n 20 1",
+            "ok ok ok",
+            [
+                "ready:1 event:0:1:1+event:1:2:1",
+                "ready:0 ready:0 ready:1 event:2:1:1",
+                "ready:0 ready:0 ready:0",
+            ],
+            "open 0 0\nrequest 0 592 as 1 1 flags 52 by gpiomon\nclose 0 \nwatches\npoll 1 \nread 1 768\n0.000000000\trising\tgpiochip0 1\n0.000000001\tfalling\tgpiochip0 1\nwatches\npoll 1 \npoll 1 \npoll 1 \nread 1 768\n0.000000002\trising\tgpiochip0 1\nwatches\npoll 1 \npoll 1 \npoll 1 \nidle\nwatches\n",
         ),
         (
             "gpiomon -c 0 2",

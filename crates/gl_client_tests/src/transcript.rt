@@ -1,7 +1,7 @@
 //! Operations as text, and results from text.
 
 use gl_base::command::{GET_CHIPINFO, GET_LINE, GET_LINEINFO, GET_LINEINFO_WATCH, LINE_GET_VALUES};
-use gl_base::{ByteList, Do, Errno, Got, Name, put_decimal, read_decimal};
+use gl_base::{ByteList, Do, Errno, Got, IrqDo, Name, put_decimal, read_decimal};
 use gl_uapi::{
     Changed, Event, Info, InfoRef, RequestRef, ValuesRef, write_chip_info, write_event,
     write_info_changed, write_line_info, write_values,
@@ -35,10 +35,98 @@ pub fn put_call(what: &Do, out: &mut Vec<u8>) -> Result<(), Errno> {
         }
         Do::Poll { slot } => put_words(b"poll ", *slot, out)?,
         Do::Close { slot } => put_words(b"close ", *slot, out)?,
-        _ => out.extend_from_slice(b"another")?,
+        _ => put_board_call(what, out)?,
     }
     out.push(b'\n')?;
     Ok(())
+}
+
+/// Appends an operation on the board: its chips, its tree, its clock and its driver.
+fn put_board_call(what: &Do, out: &mut Vec<u8>) -> Result<(), Errno> {
+    match what {
+        Do::Probe { label, lines } => {
+            put_texts(b"probe ", label.as_bytes(), b" ", out)?;
+            put_decimal(u64::from(*lines), out)?;
+        }
+        Do::MakeDir(path) => put_texts(b"mkdir ", path.as_bytes(), b"", out)?,
+        Do::RemoveDir(path) => put_texts(b"rmdir ", path.as_bytes(), b"", out)?,
+        Do::Write { path, value } => {
+            put_texts(b"write ", path.as_bytes(), b" ", out)?;
+            out.extend_from_slice(value.as_bytes())?;
+        }
+        Do::Read(path) => put_texts(b"tree ", path.as_bytes(), b"", out)?,
+        Do::Live { device, up } => {
+            put_texts(b"live ", device.as_bytes(), b" ", out)?;
+            out.extend_from_slice(bit_text(*up))?;
+        }
+        Do::Tick { mono, real } => {
+            out.extend_from_slice(b"tick ")?;
+            put_decimal(*mono, out)?;
+            out.push(b' ')?;
+            put_decimal(*real, out)?;
+        }
+        Do::Plan { nth } => {
+            out.extend_from_slice(b"plan ")?;
+            put_decimal(u64::from(*nth), out)?;
+        }
+        _ => put_chip_call(what, out)?,
+    }
+    Ok(())
+}
+
+/// Appends an operation on a chip that isn't opened.
+fn put_chip_call(what: &Do, out: &mut Vec<u8>) -> Result<(), Errno> {
+    match what {
+        Do::Unplug { place } => put_words(b"unplug ", u32::from(*place), out)?,
+        Do::Pin { place, .. } => put_words(b"pin ", u32::from(*place), out)?,
+        Do::Irq {
+            place,
+            offset,
+            what,
+        } => {
+            put_words(b"irq ", u32::from(*place), out)?;
+            put_decimal(u64::from(*offset), out)?;
+            out.extend_from_slice(irq_text(*what))?;
+        }
+        Do::Pull { place, offset, up } => {
+            put_words(b"pull ", u32::from(*place), out)?;
+            put_words(b"", *offset, out)?;
+            out.extend_from_slice(bit_text(*up))?;
+        }
+        Do::Level {
+            place,
+            offset,
+            pull,
+        } => {
+            let word: &[u8] = if *pull { b"pullof " } else { b"level " };
+            put_words(word, u32::from(*place), out)?;
+            put_decimal(u64::from(*offset), out)?;
+        }
+        _ => out.extend_from_slice(b"another")?,
+    }
+    Ok(())
+}
+
+/// Appends three texts.
+fn put_texts(before: &[u8], text: &[u8], behind: &[u8], out: &mut Vec<u8>) -> Result<(), Errno> {
+    out.extend_from_slice(before)?;
+    out.extend_from_slice(text)?;
+    out.extend_from_slice(behind)?;
+    Ok(())
+}
+
+fn bit_text(bit: bool) -> &'static [u8] {
+    if bit { b"1" } else { b"0" }
+}
+
+fn irq_text(what: IrqDo) -> &'static [u8] {
+    match what {
+        IrqDo::Lock => b" lock",
+        IrqDo::Unlock => b" unlock",
+        IrqDo::Enable => b" enable",
+        IrqDo::Disable => b" disable",
+        IrqDo::Never => b" none",
+    }
 }
 
 /// Appends a word, a number and a blank.
@@ -112,8 +200,8 @@ fn put_request(bytes: &[u8], out: &mut Vec<u8>) -> Result<(), Errno> {
     Ok(())
 }
 
-/// The results that words tell, one a word: `ok`, a number, `found:PLACE:OFFSET:COUNT`, `chip:NAME:LABEL:LINES`,
-/// `line:FLAGS:PERIOD:NAME:CONSUMER`, `values:BITS`, `ready:BITS`, `event:TIME:ID:OFFSET`, `change:TIME:KIND:OFFSET`,
+/// The results that words tell, one a word: `ok`, `number:N`, `text:VALUE`, `found:PLACE:OFFSET:COUNT`, `chip:NAME:LABEL:LINES`,
+/// `line:FLAGS:PERIOD:NAME:CONSUMER`, `values:BITS`, `ready:BITS`, `event:TIME:ID:OFFSET`, `change:TIME:KIND:OFFSET:FLAGS`,
 /// or the name of an error.
 pub fn results_of(alloc: Global, text: &[u8]) -> Result<Vec<Got>, Errno> {
     let mut results = Vec::new(alloc);
@@ -137,6 +225,12 @@ fn result_of(alloc: Global, word: &[u8]) -> Result<Got, Errno> {
     }
     if kind == b"ready".as_slice() {
         return Ok(Got::Ready(byte(word, 1)));
+    }
+    if kind == b"number".as_slice() {
+        return Ok(Got::Number(u64::from(number(word, 1))));
+    }
+    if kind == b"text".as_slice() {
+        return Ok(Got::Text(name(word, 1)));
     }
     if let Some(errno) = errno_of(kind) {
         return Ok(Got::Refused(errno));
@@ -205,7 +299,7 @@ fn changed(piece: &[u8]) -> Changed {
             name: Name::empty(),
             consumer: Name::empty(),
             offset: number(piece, 3),
-            flags: 0,
+            flags: u64::from(number(piece, 4)),
             period: 0,
         },
         timestamp: u64::from(number(piece, 1)),
