@@ -2,6 +2,7 @@ pub mod BareWords
 pub mod ChipOptions
 pub mod Costs
 pub mod Divided
+pub mod Entries
 pub mod Fronts
 pub mod LineCounts
 pub mod Programs

@@ -1,6 +1,7 @@
 pub mod Costs
 pub mod Counts
 pub mod Cuts
+pub mod Entries
 pub mod Items
 pub mod LookUps
 pub mod Names

@@ -1,4 +1,5 @@
 pub mod Bytes
 pub mod Finding
+pub mod FoundFiles
 pub mod FoundLines
 pub mod Texts

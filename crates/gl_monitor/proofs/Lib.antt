@@ -1,2 +1,3 @@
+pub mod MonitorCloses
 pub mod MonitorCosts
 pub mod Turns

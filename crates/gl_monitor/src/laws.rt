@@ -1,9 +1,11 @@
-//! What the monitors cost, whatever they are answered. Each law stands as the contract of a function that does nothing.
+//! What the monitors cost and close, whatever they are answered. Each law stands as the contract of a function that does nothing.
 ghost use Rattle.std.specs.Prelude.{ℕ, ◌+◌};
 ghost use Rattle.gl_args.specs.Options.{SaidTool};
 ghost use Rattle.gl_args.specs.Costs.{CostsAtMost};
+ghost use Rattle.gl_args.specs.Entries.{ClosesItsOwn};
 ghost use Rattle.gl_monitor.specs.Costs.{monitor_cost};
 ghost use Rattle.gl_monitor.specs.Monitor.{Watched, monitor_program, steps_held, stops};
+ghost use Rattle.gl_monitor.specs.WatchedFiles.{watched_files};
 
 /// A monitor makes at most as many entries as its cost says when it is started, one more than its turns in a step, and
 /// none when it is stopped. The closing of a file is counted where the file is opened.
@@ -11,4 +13,12 @@ pub fn monitors_within_cost()
     ensures started { (tool : SaidTool) (base : ℕ) → CostsAtMost (monitor_cost tool) (monitor_program tool base) }
     ensures stepped { (watched : Watched) (turns : ℕ) → CostsAtMost (turns + 1) (steps_held watched turns) }
     ensures stopped { (watched : Watched) → CostsAtMost 0 (stops watched) }
+{}
+
+/// Beside the files that were open, a monitor leaves one open where it watches its lines, and none where it has ended; it
+/// never closes more than it has open.
+pub fn monitors_close_their_own()
+    ensures started { (n : ℕ) (tool : SaidTool) (base : ℕ) → ClosesItsOwn (λ after. n + watched_files after) n (monitor_program tool base) }
+    ensures stepped { (n : ℕ) (watched : Watched) (turns : ℕ) → ClosesItsOwn (λ after. n + watched_files after) (n + watched_files watched) (steps_held watched turns) }
+    ensures stopped { (n : ℕ) (watched : Watched) → ClosesItsOwn (λ after. n + watched_files after) (n + watched_files watched) (stops watched) }
 {}

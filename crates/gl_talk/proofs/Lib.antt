@@ -5,5 +5,6 @@ pub mod Parts
 pub mod SlotOrder
 pub mod StatementCosts
 pub mod TablesWhole
+pub mod TalkCloses
 pub mod ToolParts
 pub mod Turns

@@ -25,6 +25,18 @@ use Rattle.gl_talk.specs.Words.{name_word, path_word, number_word, place_word, c
 abbrev pub small_word : List ℕ → ℕ
 small_word word = number_word 0 0xFFFFFFFF word
 
+-- `probe LABEL N`
+abbrev pub probes : List ℕ → List ℕ → Plan
+probes label lines = Ask (DoProbe (name_word label) (number_word 1 128 lines)) Silent
+
+-- `clock N N`
+abbrev pub clocks : List ℕ → List ℕ → Plan
+clocks mono real = Ask (DoTick (number_word 0 0xFFFFFFFFFFFFFFFF mono) (number_word 0 0xFFFFFFFFFFFFFFFF real)) Silent
+
+-- `fault N`
+abbrev pub faults : List ℕ → Plan
+faults nth = Ask (DoPlan (number_word 1 1000000 nth)) Silent
+
 -- `unplug CHIP`
 abbrev pub unplugs : Option ℕ → Plan
 unplugs None = Refuse NoEnt
@@ -120,14 +132,14 @@ closes (Some file) = Ask (DoClose file.slot) Closed
 -- one row a statement; those of tools have none here
 abbrev pub planned : Option Keyword → List File → ℕ → List Span → Plan
 planned None files slot words = Nothing
-planned (Some Probe) files slot words = Ask (DoProbe (name_word (text_at 1 words)) (number_word 1 128 (text_at 2 words))) Silent
+planned (Some Probe) files slot words = probes (text_at 1 words) (text_at 2 words)
 planned (Some Unplug) files slot words = unplugs (place_word (text_at 1 words))
 planned (Some MakeDir) files slot words = Ask (DoMakeDir (path_word (text_at 1 words))) Silent
 planned (Some RemoveDir) files slot words = Ask (DoRemoveDir (path_word (text_at 1 words))) Silent
 planned (Some Write) files slot words = writes (line_file (text_at 1 words)) (text_at 1 words) (text_at 2 words)
 planned (Some Read) files slot words = reads (line_file (text_at 1 words)) (text_at 1 words)
-planned (Some Clock) files slot words = Ask (DoTick (number_word 0 0xFFFFFFFFFFFFFFFF (text_at 1 words)) (number_word 0 0xFFFFFFFFFFFFFFFF (text_at 2 words))) Silent
-planned (Some Fault) files slot words = Ask (DoPlan (number_word 1 1000000 (text_at 1 words))) Silent
+planned (Some Clock) files slot words = clocks (text_at 1 words) (text_at 2 words)
+planned (Some Fault) files slot words = faults (text_at 1 words)
 planned (Some Pin) files slot words = pins (place_word (text_at 2 words)) words
 planned (Some Irq) files slot words = irqs (place_word (text_at 2 words)) words
 planned (Some Open) files slot words = opens (is_some (file_of (text_at 1 words) files)) slot (text_at 2 words)

@@ -9,7 +9,7 @@ ghost use Rattle.gl_args.specs.declared.names.TheConstants.{OPTIONS};
 ghost use Rattle.gl_args.specs.declared.names.ToolName.{ToolName};
 ghost use Rattle.gl_script.specs.Table.{keyword_name, keyword_of};
 ghost use Rattle.gl_script.specs.declared.table.Keyword.{Keyword};
-ghost use Rattle.gl_talk.specs.Costs.{StatementsKeepWithinCost, TalksKeepWithinCost};
+ghost use Rattle.gl_talk.specs.Costs.{StatementsKeepWithinCost, TalksKeepWithinCost, TalksMakeAtMost};
 
 /// A statement makes at most as many entries of a history as it costs. The closing of a file is
 /// counted where the file is opened.
@@ -21,6 +21,12 @@ pub fn statements_keep_within_cost()
 /// open at its end. A file is counted once, where it is opened.
 pub fn talks_keep_within_cost()
     ensures { TalksKeepWithinCost }
+{}
+
+/// The talk of an actor makes at most as many entries of a history as its statements cost together, where each closing is
+/// counted as it is made and none is refused: no file is closed that isn't open.
+pub fn talks_make_at_most()
+    ensures { TalksMakeAtMost }
 {}
 
 /// Each statement is the one that its word begins, each tool is the one that its name names, and each option of a tool is

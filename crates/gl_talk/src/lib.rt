@@ -16,5 +16,7 @@ mod tests;
 mod tools;
 mod words;
 
-pub use laws::{statements_keep_within_cost, tables_are_whole, talks_keep_within_cost};
+pub use laws::{
+    statements_keep_within_cost, tables_are_whole, talks_keep_within_cost, talks_make_at_most,
+};
 pub use talk::Talk;

@@ -4,7 +4,8 @@ ghost use Rattle.gl_base.specs.Words.{text_at};
 ghost use Rattle.gl_script.specs.Columns.{columns};
 ghost use Rattle.gl_talk.specs.Open.{file_in, file_of};
 ghost use Rattle.gl_talk.specs.Paths.{line_file, live_device};
-ghost use Rattle.gl_talk.specs.Plans.{closes, command_reply, ioctls, ioctls_bytes, irqs, lives, opens, pin_said, pins, planned, polls, pulls, reads, reads_file, takes_name, unplugs, writes, writes_line, writes_tree};
+ghost use Rattle.gl_talk.specs.Plans.{clocks, closes, command_reply, faults, ioctls, ioctls_bytes, irqs, lives, opens, pin_said, pins, planned, polls, probes, pulls, reads, reads_file, takes_name, unplugs, writes, writes_line, writes_tree};
+ghost use Rattle.gl_talk.specs.Words.{number_word};
 
 use crate::files::{FileRow, file_of, has_file};
 use crate::paths::{LineFile, line_file, live_device};
@@ -71,53 +72,20 @@ pub fn planned(
         return Ok(Plan::Nothing);
     };
     match keyword {
-        Keyword::Probe => Ok(Plan::Ask(
-            Do::Probe {
-                label: name_word(word(1, line)),
-                lines: number_word(1, 128, word(2, line)) as u32,
-            },
-            Reply::Silent,
-        )),
+        Keyword::Probe => Ok(probes(word(1, line), word(2, line))),
         Keyword::Unplug => Ok(unplugs(place_word(word(1, line)))),
         Keyword::MakeDir => Ok(Plan::Ask(Do::MakeDir(path_word(word(1, line))), Reply::Silent)),
         Keyword::RemoveDir => Ok(Plan::Ask(Do::RemoveDir(path_word(word(1, line))), Reply::Silent)),
         Keyword::Write => Ok(writes(word(1, line), word(2, line))),
         Keyword::Read => Ok(reads(word(1, line))),
-        Keyword::Clock => Ok(Plan::Ask(
-            Do::Tick {
-                mono: number_word(0, MOST, word(1, line)),
-                real: number_word(0, MOST, word(2, line)),
-            },
-            Reply::Silent,
-        )),
-        Keyword::Fault => Ok(Plan::Ask(
-            Do::Plan {
-                nth: number_word(1, 1_000_000, word(1, line)) as u32,
-            },
-            Reply::Silent,
-        )),
+        Keyword::Clock => Ok(clocks(word(1, line), word(2, line))),
+        Keyword::Fault => Ok(faults(word(1, line))),
         Keyword::Pin => Ok(pins(place_word(word(2, line)), line)),
         Keyword::Irq => Ok(irqs(place_word(word(2, line)), line)),
         Keyword::Open => Ok(opens(has_file(files, word(1, line)), slot, word(2, line))),
-        Keyword::Ioctl => ioctls(
-            alloc,
-            file_of(files, word(1, line)),
-            takes_name(files, line),
-            slot,
-            line,
-        ),
-        Keyword::Events => Ok(reads_file(
-            file_of(files, word(1, line)),
-            true,
-            number_word(0, 49_152, word(2, line)) as u32,
-            Reply::Edges,
-        )),
-        Keyword::Changes => Ok(reads_file(
-            file_of(files, word(1, line)),
-            false,
-            number_word(0, 9216, word(2, line)) as u32,
-            Reply::Infos,
-        )),
+        Keyword::Ioctl => commands(alloc, files, slot, line),
+        Keyword::Events => Ok(events(file_of(files, word(1, line)), word(2, line))),
+        Keyword::Changes => Ok(changes(file_of(files, word(1, line)), word(2, line))),
         Keyword::Poll => Ok(polls(file_of(files, word(1, line)))),
         Keyword::Close => Ok(closes(file_of(files, word(1, line)))),
         Keyword::Detect
@@ -128,6 +96,41 @@ pub fn planned(
         | Keyword::Step
         | Keyword::Stop => Ok(Plan::Nothing),
     }
+}
+
+fn probes(label: &[u8], lines: &[u8]) -> Plan
+    ensures { result ≡ probes label.now lines.now }
+{
+    Plan::Ask(
+        Do::Probe {
+            label: name_word(label),
+            lines: number_word(1, 128, lines) as u32,
+        },
+        Reply::Silent,
+    )
+}
+
+fn clocks(mono: &[u8], real: &[u8]) -> Plan
+    ensures { result ≡ clocks mono.now real.now }
+{
+    Plan::Ask(
+        Do::Tick {
+            mono: number_word(0, MOST, mono),
+            real: number_word(0, MOST, real),
+        },
+        Reply::Silent,
+    )
+}
+
+fn faults(nth: &[u8]) -> Plan
+    ensures { result ≡ faults nth.now }
+{
+    Plan::Ask(
+        Do::Plan {
+            nth: number_word(1, 1_000_000, nth) as u32,
+        },
+        Reply::Silent,
+    )
 }
 
 fn unplugs(place: Option<u8>) -> Plan
@@ -301,6 +304,14 @@ fn command_reply(number: u32) -> Reply
     }
 }
 
+fn commands(alloc: Global, files: &[FileRow<'_>], slot: u32, line: &[u8]) -> Result<Plan, Errno>
+    ensures ok { IfOk result (λ what. what ≡ ioctls (file_of (text_at 1 (columns line.now)) (map file_in files.now)) (takes_name (columns line.now) (map file_in files.now)) slot (columns line.now)) }
+    ensures memory_alone { IsOkUnless result Errno.NoMemory }
+{
+    let file = file_of(files, word(1, line));
+    ioctls(alloc, file, takes_name(files, line), slot, line)
+}
+
 fn ioctls(
     alloc: Global,
     file: Option<FileRow<'_>>,
@@ -334,6 +345,18 @@ fn ioctls_bytes(file: &FileRow<'_>, slot: u32, command: u32, bytes: &[u8]) -> Pl
         },
         command_reply(command),
     )
+}
+
+fn events(file: Option<FileRow<'_>>, len: &[u8]) -> Plan
+    ensures { result ≡ reads_file (option_map file_in file.entry) true (number_word 0 49152 len.now) Reply.Edges }
+{
+    reads_file(file, true, number_word(0, 49_152, len) as u32, Reply::Edges)
+}
+
+fn changes(file: Option<FileRow<'_>>, len: &[u8]) -> Plan
+    ensures { result ≡ reads_file (option_map file_in file.entry) false (number_word 0 9216 len.now) Reply.Infos }
+{
+    reads_file(file, false, number_word(0, 9216, len) as u32, Reply::Infos)
 }
 
 fn reads_file(file: Option<FileRow<'_>>, is_request: bool, len: u32, reply: Reply) -> Plan

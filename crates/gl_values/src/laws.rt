@@ -1,9 +1,11 @@
-//! What the tools cost, whatever they are answered. Each law stands as the contract of a function that does nothing.
-ghost use Rattle.std.specs.Prelude.{ℕ};
+//! What the tools cost and close, whatever they are answered. Each law stands as the contract of a function that does nothing.
+ghost use Rattle.std.specs.Prelude.{ℕ, ◌+◌};
 ghost use Rattle.gl_args.specs.Options.{SaidTool};
 ghost use Rattle.gl_args.specs.Costs.{CostsAtMost};
+ghost use Rattle.gl_args.specs.Entries.{ClosesItsOwn};
 ghost use Rattle.gl_values.specs.Client.{tool_program, held_program};
 ghost use Rattle.gl_values.specs.Costs.{tool_cost, held_cost};
+ghost use Rattle.gl_values.specs.HeldFiles.{held_files};
 ghost use Rattle.gl_values.specs.Set.{Held, stops};
 
 /// A tool makes at most as many entries as its cost says, as a statement, started and stopped. The closing of a file is
@@ -12,4 +14,12 @@ pub fn tools_within_cost()
     ensures statement { (tool : SaidTool) (base : ℕ) → CostsAtMost (tool_cost tool) (tool_program tool base) }
     ensures started { (tool : SaidTool) (base : ℕ) → CostsAtMost (held_cost tool) (held_program tool base) }
     ensures stopped { (held : Held) → CostsAtMost 0 (stops held) }
+{}
+
+/// Beside the files that were open, a tool leaves none open but the request that a started gpioset holds; it never closes
+/// more than it has open. A stop closes that request.
+pub fn tools_close_their_own()
+    ensures statement { (n : ℕ) (tool : SaidTool) (base : ℕ) → ClosesItsOwn (λ held. n + held_files held) n (tool_program tool base) }
+    ensures started { (n : ℕ) (tool : SaidTool) (base : ℕ) → ClosesItsOwn (λ held. n + held_files held) n (held_program tool base) }
+    ensures stopped { (n : ℕ) (held : Held) → ClosesItsOwn (λ after. n + held_files after) (n + held_files held) (stops held) }
 {}
