@@ -8,3 +8,4 @@ pub mod TablesWhole
 pub mod TalkCloses
 pub mod ToolParts
 pub mod Turns
+pub mod WordReadings

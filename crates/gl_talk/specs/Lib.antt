@@ -2,6 +2,7 @@ pub mod Costs
 pub mod Open
 pub mod Paths
 pub mod Plans
+pub mod Readings
 pub mod Replies
 pub mod Talk
 pub mod ToolWords

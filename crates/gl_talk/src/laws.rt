@@ -1,4 +1,4 @@
-//! What statements cost, whatever they are answered, and that the tables of words are whole. Each law stands as the
+//! What statements cost, whatever they are answered, that the tables of words are whole, and that words are read as they are. Each law stands as the
 //! contract of a function that does nothing.
 ghost use Rattle.std.specs.Prelude.{◌≡◌, true, Some};
 ghost use Rattle.std.specs.List.{list_any};
@@ -10,6 +10,7 @@ ghost use Rattle.gl_args.specs.declared.names.ToolName.{ToolName};
 ghost use Rattle.gl_script.specs.Table.{keyword_name, keyword_of};
 ghost use Rattle.gl_script.specs.declared.table.Keyword.{Keyword};
 ghost use Rattle.gl_talk.specs.Costs.{StatementsKeepWithinCost, TalksKeepWithinCost, TalksMakeAtMost};
+ghost use Rattle.gl_talk.specs.Readings.{CommandsAreRead, HeldToolsAreRead, IrqsAreRead, LabelsAreRead, NumbersAreRead, PathsAreRead, PinsAreRead, WordsAreRead};
 
 /// A statement makes at most as many entries of a history as it costs. The closing of a file is
 /// counted where the file is opened.
@@ -35,4 +36,16 @@ pub fn tables_are_whole()
     ensures statements { (k : Keyword) → keyword_of (keyword_name k) ≡ Some k }
     ensures tools { (t : ToolName) → tool_named (tool_text t) ≡ Some t }
     ensures options { (o : OptionName) → list_any (same_option o) OPTIONS ≡ true }
+{}
+
+/// A word that is of its form is read as what it is: no statement of a session is read with a default in a word's place.
+pub fn words_are_read_as_they_are()
+    ensures labels { LabelsAreRead }
+    ensures paths { PathsAreRead }
+    ensures words { WordsAreRead }
+    ensures numbers { NumbersAreRead }
+    ensures commands { CommandsAreRead }
+    ensures irqs { IrqsAreRead }
+    ensures pins { PinsAreRead }
+    ensures held_tools { HeldToolsAreRead }
 {}
