@@ -22,5 +22,6 @@ pub mod HeldLines
 pub mod Settings
 pub mod Settling
 pub mod ReadEvents
+pub mod Replaying
 pub mod Telling
 pub mod Twice

@@ -1,8 +1,9 @@
 -- When an entry of a history is legal, and where a history stops being legal. Legal histories are those of the machine.
-use Rattle.std.specs.Prelude.{◌≡◌, ℕ, ◌<◌, ◌+◌, List, length, take, Option, Some, None, IfSome}
+use Rattle.std.specs.Prelude.{◌≡◌, ℕ, false, ◌<◌, ◌+◌, List, length, take, Option, Some, None, IfSome}
 use Rattle.gl_world.specs.Ranks.{IsClosing, IsNotGone, rank}
 use Rattle.gl_world.specs.declared.history.Entry.{Entry}
 use Rattle.gl_model.specs.declared.call.Call.{Call}
+use Rattle.gl_model.specs.declared.call.Call.TheVariants.{Unplug, Remove, Ioctl, ReadEdges, ReadInfo}
 use Rattle.gl_model.specs.declared.gift.Gift.{Gift}
 use Rattle.gl_model.specs.declared.reply.Reply.{Reply}
 use Rattle.gl_model.specs.Chips.{phase_at}
@@ -35,3 +36,12 @@ module _ {K : Type 0} (stands_for : K → World → Type 0) where
   abbrev pub IsFirstBad : List (Entry K Call Reply Gift) → Option ℕ → Type 0
   IsFirstBad history None = IsLegal stands_for history
   IsFirstBad history (Some n) = StopsAt history n
+
+-- how many bytes the buffer of a call has
+abbrev pub buffer_size : Call → ℕ
+buffer_size (Unplug place false) = 2
+buffer_size (Remove device false) = 2
+buffer_size (Ioctl place fd cmd len bytes part) = len
+buffer_size (ReadEdges place fd len) = len
+buffer_size (ReadInfo place fd len) = len
+buffer_size _ = 0

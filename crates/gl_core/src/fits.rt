@@ -1,6 +1,6 @@
-//! Which calls are in range, and the memory that a call brings.
+//! Which calls are in range, and what a call needs: the memory that it brings, and its buffer.
 
-ghost use Rattle.std.specs.Prelude.{◌≡◌, ◌≤◌, ◌==◌, Some, None, [], take, drop, IfOk, IsOkUnless, IsTrue};
+ghost use Rattle.std.specs.Prelude.{◌≡◌, ◌≤◌, ◌==◌, Some, None, [], take, drop, length, IfOk, IsOkUnless, IsTrue};
 ghost use Rattle.std.specs.Bool.{Decides};
 ghost use Rattle.std.specs.List.{list_all};
 ghost use Rattle.circular_buffer.specs.Buffer.{buffer};
@@ -8,8 +8,9 @@ ghost use Rattle.gl_base.specs.Name.{is_name};
 ghost use Rattle.gl_base.specs.declared.limits.TheConstants.{LINES_MAX};
 ghost use Rattle.gl_model.specs.Asked.{capacity_asked, request_fault};
 ghost use Rattle.gl_uapi.specs.declared.layout.TheConstants.{LINE_REQUEST_SIZE};
+ghost use Rattle.gl_core.specs.Legal.{buffer_size};
 ghost use Rattle.gl_model.specs.declared.call.Part.TheVariants.{Ask};
-ghost use Rattle.gl_model.specs.Fits.{BringsRing, FitsBytes, FitsCall, FitsGift};
+ghost use Rattle.gl_model.specs.Fits.{BringsRing, FitsBuffer, FitsBytes, FitsCall, FitsGift};
 
 use crate::asked::Asked;
 use gl_base::{Errno, LINES_MAX, Name, PLACES};
@@ -169,4 +170,34 @@ fn asked_ring(bytes: &[u8; LINE_REQUEST_SIZE], alloc: Global) -> Result<Option<E
             Ok(Some(ring))
         }
     }
+}
+
+/// How many bytes the buffer of a call has: two for the first call of a removal, and else as many as the call names.
+pub fn buffer_size(call: &Call) -> u32
+    ensures { result ≡ buffer_size call.now }
+{
+    match call {
+        Call::Unplug { last: false, .. } | Call::Remove { last: false, .. } => 2,
+        Call::Ioctl { len, .. } | Call::ReadEdges { len, .. } | Call::ReadInfo { len, .. } => *len,
+        _ => 0,
+    }
+}
+
+/// Makes a buffer of this size one that a call may write to: that of a command begins with the bytes of the call.
+pub fn fill(buffer: &mut [u8], call: &Call)
+    requires { length buffer.old ≡ buffer_size call.now }
+    ensures { FitsBuffer call.now buffer.new }
+{
+    if let Call::Ioctl { bytes, .. } = call {
+        copy_start(bytes, buffer);
+    }
+}
+
+/// Copies the bytes of a command to the start of a buffer: as many as the buffer has room for.
+fn copy_start(bytes: &[u8; LINE_REQUEST_SIZE], buffer: &mut [u8])
+    ensures start { take LINE_REQUEST_SIZE buffer.new ≡ take (length buffer.old) bytes.now }
+    ensures len { length buffer.new ≡ length buffer.old }
+{
+    let count = buffer.len().min(LINE_REQUEST_SIZE);
+    buffer[..count].copy_from_slice(&bytes[..count]);
 }

@@ -1,6 +1,6 @@
 //! Histories, made again.
 
-ghost use Rattle.std.specs.Prelude.{IfSome};
+ghost use Rattle.std.specs.Prelude.{◌≤◌, length, IfOk, IfSome, IsOkUnless};
 ghost use Rattle.std.specs.Bool.{Decides};
 ghost use Rattle.gl_world.specs.Ranks.{IsClosing, IsNotGone, rank};
 ghost use Rattle.gl_model.specs.Chips.{phase_at};
@@ -10,8 +10,19 @@ ghost use Rattle.gl_core.specs.Legal.{FindsPlace};
 
 use crate::entries::{place_of, refused_at};
 use crate::state::State;
-use gl_base::Phase;
+use gl_base::{Errno, Phase};
 use gl_model::Call;
+
+/// Gives a buffer at least so many bytes.
+fn make_room(buffer: &mut Vec<u8>, size: u32) -> Result<(), Errno>
+    ensures room { IfOk result (λ _. size ≤ length buffer.new.items) }
+    ensures memory_alone { IsOkUnless result Errno.NoMemory }
+{
+    if buffer.len() < size as usize {
+        buffer.resize(size as usize, 0)?;
+    }
+    Ok(())
+}
 
 impl State {
     /// Whether a call finds its place as it has to: one that needs a guard finds it not Gone, and one that was refused at a
