@@ -1,6 +1,7 @@
 -- What programs cost.
 use Rattle.std.proofs.Common.{◌≤◌, ◌+◌, ◌-◌, ℕ, arith}
 use Rattle.gl_base.specs.declared.operation.Got.{Got}
+use Rattle.gl_args.specs.Gives.{Gives}
 use Rattle.gl_args.specs.Program.{Program, done, print, ask, then_by}
 use Rattle.gl_args.specs.Costs.{CostsAtMost, entries_of}
 
@@ -22,11 +23,16 @@ costs_then (ask what p) f n m h k = (
       (costs_then (p got) f (n - entries_of what) m (h.1 got) k),
 )
 
--- each value that a program may give has the property, whatever it is answered
-abbrev pub Gives : {A : Type 0} → (A → Type 0) → Program A → Type 0
-Gives P (done value) = P value
-Gives P (print text p) = Gives P p
-Gives P (ask what p) = (got : Got) → Gives P (p got)
+-- what one program and then another give
+pub gives_then : {A B : Type 0} (P : A → Type 0) (Q : B → Type 0) (p : Program A) (f : A → Program B) → Gives P p → ((value : A) → P value → Gives Q (f value)) → Gives Q (then_by p f)
+gives_then P Q (done value) f h k = k value h
+gives_then P Q (print text p) f h k = gives_then P Q p f h k
+gives_then P Q (ask what p) f h k = λ got. gives_then P Q (p got) f (h got) k
+
+pub gives_any : {A B : Type 0} (Q : B → Type 0) (p : Program A) (f : A → Program B) → ((value : A) → Gives Q (f value)) → Gives Q (then_by p f)
+gives_any Q (done value) f k = k value
+gives_any Q (print text p) f k = gives_any Q p f k
+gives_any Q (ask what p) f k = λ got. gives_any Q (p got) f k
 
 -- one program and then another that costs so much behind each value that the first may give
 pub costs_then_given : {A B : Type 0} (P : A → Type 0) (p : Program A) (f : A → Program B) (n m : ℕ) → CostsAtMost n p → Gives P p

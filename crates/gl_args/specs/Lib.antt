@@ -2,6 +2,7 @@ pub mod Costs
 pub mod Counts
 pub mod Cuts
 pub mod Entries
+pub mod Gives
 pub mod Items
 pub mod LookUps
 pub mod Names

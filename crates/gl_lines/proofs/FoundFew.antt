@@ -14,7 +14,7 @@ use Rattle.gl_args.specs.Names.{requests_lines}
 use Rattle.gl_args.specs.Options.{Options}
 use Rattle.gl_args.specs.Program.{done, ask}
 use Rattle.gl_args.specs.Values.{Line}
-use Rattle.gl_args.proofs.Costs.{Gives}
+use Rattle.gl_args.specs.Gives.{Gives}
 use Rattle.gl_lines.specs.declared.found_line.FoundLine.{FoundLine}
 use Rattle.gl_lines.specs.Bytes.{request_sent}
 use Rattle.gl_lines.specs.FoundLines.{are_apart, place_of, offsets_of}

@@ -1,3 +1,4 @@
 pub mod MonitorCloses
 pub mod MonitorCosts
+pub mod MonitorSlots
 pub mod Turns

@@ -3,3 +3,4 @@ pub mod ItemText
 pub mod Items
 pub mod Monitor
 pub mod WatchedFiles
+pub mod WatchedSlots

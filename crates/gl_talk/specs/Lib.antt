@@ -4,6 +4,7 @@ pub mod Paths
 pub mod Plans
 pub mod Readings
 pub mod Replies
+pub mod Slots
 pub mod Talk
 pub mod ToolWords
 pub mod Words

@@ -10,6 +10,7 @@ ghost use Rattle.gl_args.specs.declared.names.ToolName.{ToolName};
 ghost use Rattle.gl_script.specs.Table.{keyword_name, keyword_of};
 ghost use Rattle.gl_script.specs.declared.table.Keyword.{Keyword};
 ghost use Rattle.gl_talk.specs.Costs.{StatementsKeepWithinCost, TalksKeepWithinCost, TalksMakeAtMost};
+ghost use Rattle.gl_talk.specs.Slots.{SlotsAreOwn};
 ghost use Rattle.gl_talk.specs.Readings.{CommandsAreRead, HeldToolsAreRead, IrqsAreRead, LabelsAreRead, NumbersAreRead, PathsAreRead, PinsAreRead, WordsAreRead};
 
 /// A statement makes at most as many entries of a history as it costs. The closing of a file is
@@ -28,6 +29,12 @@ pub fn talks_keep_within_cost()
 /// counted as it is made and none is refused: no file is closed that isn't open.
 pub fn talks_make_at_most()
     ensures { TalksMakeAtMost }
+{}
+
+/// Behind a statement no file is open but in a slot that was open before it, or in one of the statement's own two. So the
+/// order of the slots is that in which files were opened, statement by statement.
+pub fn slots_are_own()
+    ensures { SlotsAreOwn }
 {}
 
 /// Each statement is the one that its word begins, each tool is the one that its name names, and each option of a tool is

@@ -17,7 +17,7 @@ mod tools;
 mod words;
 
 pub use laws::{
-    statements_keep_within_cost, tables_are_whole, talks_keep_within_cost, talks_make_at_most,
-    words_are_read_as_they_are,
+    slots_are_own, statements_keep_within_cost, tables_are_whole, talks_keep_within_cost,
+    talks_make_at_most, words_are_read_as_they_are,
 };
 pub use talk::Talk;

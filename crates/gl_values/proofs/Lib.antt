@@ -4,3 +4,4 @@ pub mod InfoCosts
 pub mod InfoLines
 pub mod ToolCloses
 pub mod ToolCosts
+pub mod ToolSlots
