@@ -23,5 +23,6 @@ pub mod Settings
 pub mod Settling
 pub mod ReadEvents
 pub mod Replaying
+pub mod GoingLive
 pub mod Telling
 pub mod Twice

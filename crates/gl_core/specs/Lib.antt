@@ -11,3 +11,4 @@ pub mod View
 pub mod HeldLines
 pub mod Levels
 pub mod Legal
+pub mod Live

@@ -16,11 +16,13 @@ ghost use Rattle.gl_model.specs.Configuring.{configured_on, with_levels};
 ghost use Rattle.gl_model.specs.Interrupts.{irq_line, is_claimed};
 ghost use Rattle.gl_model.specs.Pulls.{pull_change};
 ghost use Rattle.gl_model.specs.Values.{driven_with};
+ghost use Rattle.gl_core.specs.Live.{furnished};
 ghost use Rattle.gl_core.specs.Levels.{with_pull};
 ghost use Rattle.gl_model.specs.Pins.{pin_refusal};
 ghost use Rattle.gl_core.specs.Shape.{AreNew, HasLine, HasPlace, fitted, lines_max, with_irq_done, with_pin_done};
 
 use crate::pins::pin_at;
+use crate::plan::Plan;
 use gl_bank::{Bank, Change, flip};
 use gl_base::{
     Errno, IrqDo, Kind, LINES_MAX, Lines, Name, PLACES, PinDo, Settings, flag, has_bit, push_within,
@@ -125,6 +127,17 @@ fn free(places: &mut Vec<Place>, place: u8, lines: &Lines)
         let tables = &mut places[usize::from(place)];
         tables.descs.free(lines);
         release_each(&mut tables.bank, lines.offsets());
+    }
+}
+
+/// Gives the lines of a place the names of a plan, and holds its hogs.
+fn furnish(places: &mut Vec<Place>, place: u8, plan: &Plan)
+    ensures places { places.new.items ≡ change_at no_place place (furnished plan.now) places.old.items }
+    ensures capacity { vec_capacity places.new ≡ vec_capacity places.old }
+    ensures as_many { length places.new.items ≡ length places.old.items }
+{
+    if usize::from(place) < places.len() {
+        plan.furnish(&mut places[usize::from(place)]);
     }
 }
 
@@ -266,6 +279,13 @@ impl Places {
         ensures { result.now ≡ slice_index_or self.now place no_place }
     {
         &self.used[usize::from(place)]
+    }
+
+    /// Gives the lines of a place the names of a plan, and holds its hogs.
+    pub(crate) fn furnish(&mut self, place: u8, plan: &Plan)
+        ensures { self.new ≡ change_at no_place place (furnished plan.now) self.old }
+    {
+        furnish(&mut self.used, place, plan);
     }
 
     /// Lets go of the lines of a request: nobody has them, and their flags and periods are gone. Without a chip at the place

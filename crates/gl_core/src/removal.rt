@@ -74,7 +74,7 @@ fn summary(places: &Chosen, used: u8) -> (u8, u8)
 
 impl State {
     /// How many places a chip was made at.
-    fn used(&self) -> u8
+    pub(crate) fn used(&self) -> u8
         ensures used { Tells (λ w. length w.chips) self.now result }
         ensures origins { Tells (λ w. length w.origins) self.now result }
         ensures within { result ≤ PLACES }

@@ -7,6 +7,7 @@ ghost use Rattle.gl_core.specs.Kept.{StandsFor};
 ghost use Rattle.gl_core.specs.Steps.{Tells};
 
 use crate::places::Places;
+use crate::plan::Plan;
 use gl_base::{Errno, PLACES, Phase};
 use gl_debounce::Timers;
 use gl_model::Origin;
@@ -28,6 +29,7 @@ pub(crate) struct State {
     pub(crate) requests: Requests,
     pub(crate) files: Watches,
     pub(crate) tree: Tree,
+    pub(crate) plan: Plan,
     pub(crate) next: u32,
     pub(crate) mono: u64,
     pub(crate) real: u64,
@@ -59,6 +61,7 @@ impl State {
         let requests = Requests::new(alloc)?;
         let files = Watches::new(alloc)?;
         let tree = Tree::new(alloc)?;
+        let plan = Plan::new(alloc)?;
         Ok(State {
             chips,
             origins,
@@ -67,6 +70,7 @@ impl State {
             requests,
             files,
             tree,
+            plan,
             next: 3,
             mono: 0,
             real: 0,
