@@ -9,6 +9,8 @@ pub mod LineByLine
 pub mod Notified
 pub mod RequestLines
 pub mod OpenRequests
+pub mod Parts
+pub mod Silent
 pub mod Spare
 pub mod TakingChanges
 pub mod Watching

@@ -17,6 +17,7 @@ pub mod fits;
 mod history;
 mod information;
 mod interrupts;
+mod ioctl;
 pub mod laws;
 mod live;
 mod machine;

@@ -1,6 +1,6 @@
 //! Open files, and the refusals with which every call on one begins.
 
-ghost use Rattle.std.specs.Prelude.{◌≡◌, ◌+◌, ◌<◌, ◌≤◌, ◌^◌, ◌∷◌, [], not, nat_lt, length, IfNone};
+ghost use Rattle.std.specs.Prelude.{◌≡◌, ◌+◌, ◌<◌, ◌≤◌, ◌^◌, ◌∷◌, [], not, true, nat_lt, length, IfNone};
 ghost use Rattle.gl_base.specs.Refusals.{first_of, when};
 ghost use Rattle.gl_base.specs.declared.errno.Errno.TheVariants.{Fault, Inval};
 ghost use Rattle.gl_base.specs.declared.limits.TheConstants.{FILES_MAX};
@@ -98,6 +98,7 @@ impl State {
     ) -> Option<Errno>
         ensures told { Tells (command_refusal place fd len command part.now) self.now result }
         ensures long { IfNone result (size_of command ≤ len) }
+        ensures part { IfNone result (has_part command part.now ≡ true) }
     {
         match self.kind_refusal(place, fd, is_for_chips(command)) {
             Some(errno) => Some(errno),
@@ -146,6 +147,7 @@ fn is_place(place: u8, found: Option<u8>) -> bool
 fn part_refusal(len: u32, command: Command, part: &Part) -> Option<Errno>
     ensures told { result ≡ first_of (when (nat_lt len (size_of command)) Fault ∷ when (not (has_part command part.now)) Inval ∷ []) }
     ensures long { IfNone result (size_of command ≤ len) }
+    ensures part { IfNone result (has_part command part.now ≡ true) }
 {
     if len < command.size() {
         return Some(Errno::Fault);
