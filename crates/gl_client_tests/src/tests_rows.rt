@@ -5,7 +5,7 @@ use crate::transcript::{put_call, results_of};
 use gl_args::Next;
 use gl_base::Got;
 use gl_script::{Script, Statement};
-use gl_talk::Talk;
+use gl_talk::{Talk, talk_over};
 use std::alloc::Global;
 use std::test::Fail;
 
@@ -209,5 +209,41 @@ fn a_refused_tool_closes_the_newest_first(rt: HostRuntime) -> Result<(), Fail> {
     for row in refused_rows() {
         assert!(rt; check(rt.alloc(), &row)?, "{}", row.0);
     }
+    Ok(())
+}
+
+/// The operations of a talk over these results as lines, and behind them its text.
+fn over(alloc: Global, statements: &str, results: &str) -> Result<Vec<u8>, Fail> {
+    let mut text = b"session 1\nsetup\n".to_vec(alloc)?;
+    text.extend_from_slice(statements.as_bytes())?;
+    let results = results_of(alloc, results.as_bytes())?;
+    let script = Script::parse(alloc, &text).map_err(|_| "no session")?;
+    let statements = script.statements(0).ok_or("no section")?;
+    if statements.len() > 1000 {
+        return Err(Fail::from("too many statements"));
+    }
+    let talked = talk_over(alloc, statements, &results)?;
+    let mut out = Vec::new(alloc);
+    for what in &talked.operations {
+        put_call(what, &mut out)?;
+    }
+    out.extend_from_slice(&talked.text)?;
+    Ok(out)
+}
+
+/// A talk over results goes on to its end, or to the first operation that has no result.
+#[test]
+fn a_talk_goes_as_far_as_its_results(rt: HostRuntime) -> Result<(), Fail> {
+    let statements = "open A 0\npoll A\nstart s gpioset -c 0 3=1\npoll B\n";
+    let whole = over(rt.alloc(), statements, "number:3 ready:1 ok ok ok ok ok")?;
+    assert_eq!(rt;
+        whole.as_slice(),
+        b"open 2 0\npoll 2 \nopen 6 0\nrequest 6 592 as 7 3 flags 8 by gpioset attribute 2 1 1\nclose 6 \nclose 2 \nclose 7 \nIN\nEBADF\n".as_slice()
+    );
+    let front = over(rt.alloc(), statements, "number:3 ready:1 ok")?;
+    assert_eq!(rt;
+        front.as_slice(),
+        b"open 2 0\npoll 2 \nopen 6 0\nrequest 6 592 as 7 3 flags 8 by gpioset attribute 2 1 1\nIN\n".as_slice()
+    );
     Ok(())
 }

@@ -1,6 +1,7 @@
 pub mod Continuing
 pub mod Front
 pub mod NamedRows
+pub mod TalkedSteps
 pub mod OwnSlots
 pub mod Parts
 pub mod SlotOrder

@@ -1,5 +1,5 @@
 -- Behind a statement no file is open but in slots that were open before it and in the statement's own.
-use Rattle.std.proofs.Common.{◌≡◌, ◌+◌, ℕ, Bool, true, false, cond, List, [], ◌∷◌, ◌++◌, Option, None, Some, refl, ap, subst}
+use Rattle.std.proofs.Common.{◌≡◌, ◌+◌, ℕ, Bool, true, false, cond, List, [], ◌∷◌, ◌++◌, Option, None, Some, refl, subst}
 use Rattle.std.specs.Prelude.{find, option_map}
 use Rattle.gl_base.specs.Operation.{refusal}
 use Rattle.gl_base.specs.Rows.{Each, without_first}
@@ -9,7 +9,7 @@ use Rattle.gl_base.specs.declared.operation.Got.{Got}
 use Rattle.gl_base.proofs.FirstRows.{Each-push, Each-without_first}
 use Rattle.gl_args.specs.Gives.{Gives}
 use Rattle.gl_args.specs.Options.{SaidTool, SaidDetect, SaidInfo, SaidGet, SaidSet, SaidWatch, SaidNotify}
-use Rattle.gl_args.specs.Program.{Program, done, then_by}
+use Rattle.gl_args.specs.Program.{done, then_by}
 use Rattle.gl_args.specs.Tools.{tool_said}
 use Rattle.gl_args.proofs.Costs.{gives_any, gives_then}
 use Rattle.gl_lines.specs.OwnSlots.{SlotPasses}
@@ -25,7 +25,7 @@ use Rattle.gl_talk.specs.declared.plans.Reply.{Reply}
 use Rattle.gl_talk.specs.declared.plans.Reply.TheVariants.{Silent, Value, Level, Bytes, Edges, Infos, Ready, Opened, Closed, Made}
 use Rattle.gl_talk.specs.declared.tools.Kind.{Kind}
 use Rattle.gl_talk.specs.declared.tools.Kind.TheVariants.{Plain, ToolAlone, Starting, Stepping, Stopping}
-use Rattle.gl_talk.specs.Open.{File, MonitorTool, Names, SetTool, has_tool, held_of_name, is_file, is_monitor, is_set, watched_of_name, with_monitor, with_set, without_monitor, without_set}
+use Rattle.gl_talk.specs.Open.{File, MonitorTool, Names, SetTool, has_tool, held_of_name, is_file, is_monitor, is_set, watched_of_name, without_monitor, without_set}
 use Rattle.gl_talk.specs.Plans.{planned}
 use Rattle.gl_talk.specs.Slots.{OpenPass, SlotsAreOwn}
 use Rattle.gl_talk.specs.Talk.{acts, does_by, file, keeps_monitor, keeps_set, replied_by, runs, starts, starts_said, starts_tool, steps, stops}

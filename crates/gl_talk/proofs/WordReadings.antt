@@ -10,12 +10,11 @@ use Rattle.gl_base.specs.CommandWord.{command_number_of}
 use Rattle.gl_base.specs.Label.{is_label_byte}
 use Rattle.gl_base.specs.Name.{is_name, is_nonzero}
 use Rattle.gl_base.specs.Path.{is_path}
-use Rattle.gl_base.specs.Words.{Span, is_nonempty, text_at}
-use Rattle.gl_base.specs.declared.irq.IrqDo.{IrqDo}
+use Rattle.gl_base.specs.Words.{is_nonempty, text_at}
 use Rattle.gl_base.specs.declared.irq.IrqDo.TheVariants.{Lock, Unlock, Enable, Disable, Never}
 use Rattle.gl_base.specs.declared.pin.PinDo.TheVariants.{Range, Hold, Release}
 use Rattle.gl_script.specs.Forms.{is_path_byte, is_there, number_within}
-use Rattle.gl_talk.specs.Plans.{pin_said, small_word}
+use Rattle.gl_talk.specs.Plans.{small_word}
 use Rattle.gl_talk.specs.Readings.{CanStart, CommandsAreRead, HeldToolsAreRead, IrqsAreRead, LabelsAreRead, NumbersAreRead, PathsAreRead, PinsAreRead, WordsAreRead, irq_name, pin_name}
 use Rattle.gl_talk.specs.Words.{or_else}
 

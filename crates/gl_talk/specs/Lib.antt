@@ -1,5 +1,6 @@
 pub mod Costs
 pub mod Open
+pub mod Over
 pub mod Paths
 pub mod Plans
 pub mod Readings

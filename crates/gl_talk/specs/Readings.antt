@@ -1,5 +1,5 @@
 -- What a word that is of its form is read as: itself, so no default is taken in a session. This project's choice.
-use Rattle.std.specs.Prelude.{◌≡◌, ℕ, true, List, Option, Some, None, codes}
+use Rattle.std.specs.Prelude.{◌≡◌, ℕ, true, List, Option, Some, codes}
 use Rattle.gl_args.specs.declared.names.ToolName.{ToolName}
 use Rattle.gl_args.specs.declared.names.ToolName.TheVariants.{Set, Watch, Notify}
 use Rattle.gl_args.specs.Names.{tool_named}

@@ -155,6 +155,9 @@ pub record Talked : Type 0 where
   pub operations : List Do
   pub text : List ℕ
 
+abbrev pub nothing_talked : Talked
+nothing_talked = record { operations = []; text = [] }
+
 abbrev pub behind_text : List ℕ → Talked → Talked
 behind_text text talked = record talked { text = text ++ talked.text }
 
@@ -163,7 +166,7 @@ behind_operation what talked = record talked { operations = what ∷ talked.oper
 
 -- what a program asks and prints over these results, in order; it stops where none is left
 abbrev pub talked : {A : Type 0} → Program A → List Got → Talked
-talked (done value) results = record { operations = []; text = [] }
+talked (done value) results = nothing_talked
 talked (print text p) results = behind_text text (talked p results)
 talked (ask what p) [] = record { operations = what ∷ []; text = [] }
 talked (ask what p) (got ∷ results) = behind_operation what (talked (p got) results)

@@ -6,6 +6,7 @@ mod files;
 mod held;
 mod holding;
 mod laws;
+mod over;
 mod paths;
 mod plans;
 mod replies;
@@ -20,4 +21,5 @@ pub use laws::{
     slots_are_own, statements_keep_within_cost, tables_are_whole, talks_keep_within_cost,
     talks_make_at_most, words_are_read_as_they_are,
 };
+pub use over::{TalkedOver, talk_over};
 pub use talk::Talk;
