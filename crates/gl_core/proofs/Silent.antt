@@ -1,5 +1,5 @@
 -- Calls that write nothing: what they do is what a call does that has a buffer and leaves it.
-use Rattle.std.proofs.Common.{◌≡◌, ℕ, ◌++◌, List, [], ◌∷◌, drop, length, Option, Some, None, refl, arith}
+use Rattle.std.proofs.Common.{◌≡◌, ℕ, ◌++◌, List, [], ◌∷◌, drop, length, Option, Some, None, refl, sym, subst, arith}
 use Rattle.gl_base.specs.declared.errno.Errno.{Errno}
 use Rattle.gl_base.specs.declared.lines.Lines.{Lines}
 use Rattle.gl_base.specs.declared.settings.Resolved.{Resolved}
@@ -8,8 +8,10 @@ use Rattle.gl_model.specs.Claiming.{claim_refusal, get_line_ask}
 use Rattle.gl_model.specs.Configuring.{set_config}
 use Rattle.gl_model.specs.OpenFiles.{in_parts, on_request}
 use Rattle.gl_model.specs.Outcome.{Outcome, refused_or}
+use Rattle.gl_model.specs.Step.{step}
 use Rattle.gl_model.specs.Values.{set_values}
 use Rattle.gl_model.specs.World.{Request, World}
+use Rattle.gl_model.specs.declared.call.Call.{Call}
 use Rattle.gl_model.specs.declared.call.Part.{Part}
 use Rattle.gl_model.specs.declared.call.Part.TheVariants.{Whole, Ask, Tell}
 use Rattle.gl_model.specs.declared.reply.Reply.{Reply}
@@ -26,6 +28,12 @@ stays (byte ∷ bytes) out none = absurd (omega arith)
 
 pub silent : (step : World → Outcome) (old new : Kept) (reply : Reply) (out : List ℕ) → ((w : World) → IsSilent (step w)) → Steps step old new reply → StepsInto step old new reply out out
 silent step old new reply out none steps w s = let done = steps w s in (done.0, done.1, stays (step w).bytes out (none w))
+
+-- a call that is known, and writes nothing
+pub step_told : (actor : ℕ) (given call : Call) (old new : Kept) (reply : Reply) (out : List ℕ) → given ≡ call → ((w : World) → IsSilent (step w actor call)) → Steps (λ w. step w actor call) old new reply
+    → StepsInto (λ w. step w actor given) old new reply out out
+step_told actor given call old new reply out is none steps =
+    subst (λ call. StepsInto (λ w. step w actor call) old new reply out out) (sym is) (silent (λ w. step w actor call) old new reply out none steps)
 
 -- refused or silent
 

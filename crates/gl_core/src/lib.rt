@@ -32,6 +32,7 @@ mod reading;
 mod reading_changes;
 mod removal;
 mod state;
+mod step;
 mod tree;
 mod values;
 

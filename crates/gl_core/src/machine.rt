@@ -1,12 +1,21 @@
 //! The core as a machine.
 
 ghost use Rattle.std.specs.Prelude.{◌≡◌, IfOk, IsOkUnless};
-ghost use Rattle.gl_model.specs.World.{opening};
+ghost use Rattle.gl_model.specs.Chips.{phase_at};
+ghost use Rattle.gl_model.specs.Entries.{awaited_call, begins, begun_places, ends, guarded_place, is_last_removal, last_call, refused_place};
+ghost use Rattle.gl_model.specs.Fits.{Fits, FitsCall, Leaves};
+ghost use Rattle.gl_model.specs.Machine.{bytes_of, remover_of, reply_of, world_after};
+ghost use Rattle.gl_model.specs.Sound.{IsSound};
+ghost use Rattle.gl_model.specs.World.{World, opening};
+ghost use Rattle.gl_model.proofs.MachineLaws.{machine_laws};
+ghost use Rattle.gl_model.proofs.PhaseLaws.{never_both};
 ghost use Rattle.gl_core.specs.Kept.{StandsFor};
 
+use crate::entries;
 use crate::state::State;
-use gl_base::Errno;
-use gl_model::Image;
+use gl_base::{Errno, Phase};
+use gl_model::{Call, Gift, Image, Reply};
+use gl_world::Machine;
 use std::alloc::Global;
 use std::marker::Model;
 
@@ -30,6 +39,97 @@ impl Model for Core {
 
 impl Image for Core {
     ghost stands_for = { StandsFor };
+}
+
+/// Its ghost members are those of the machine over worlds (`machine StandsFor`, `gl_model`, `specs/Machine`), and so are its laws.
+impl Machine for Core {
+    type Call = Call;
+
+    type Reply = Reply;
+
+    type Gift = Gift;
+
+    ghost World = { World };
+
+    ghost opening = { opening };
+
+    ghost stands_for = { StandsFor };
+
+    ghost Sound = { IsSound };
+
+    ghost world_after = { world_after };
+
+    ghost reply_of = { reply_of };
+
+    ghost bytes_of = { bytes_of };
+
+    ghost FitsCall = { FitsCall };
+
+    ghost Fits = { Fits };
+
+    ghost Leaves = { Leaves };
+
+    ghost begins = { begins };
+
+    ghost ends = { ends };
+
+    ghost place_of = { guarded_place };
+
+    ghost refused_at = { refused_place };
+
+    ghost phase_of = { phase_at };
+
+    ghost remover_of = { remover_of };
+
+    ghost is_last_removal = { is_last_removal };
+
+    ghost begun_places = { begun_places };
+
+    ghost last_call = { last_call };
+
+    ghost awaited_call = { awaited_call };
+
+    fn step(&mut self, actor: u8, call: &Call, gift: &mut Gift, out: &mut [u8]) -> Reply {
+        self.state.step(actor, call, gift, out)
+    }
+
+    fn phase(&self, place: u8) -> Phase {
+        self.state.phase(place)
+    }
+
+    fn place_of(call: &Call) -> Option<u8> {
+        entries::place_of(call)
+    }
+
+    fn begins(call: &Call, reply: &Reply) -> bool {
+        entries::begins(call, reply)
+    }
+
+    fn ends(call: &Call) -> bool {
+        entries::ends(call)
+    }
+
+    ghost fits_calls = { λ call gift out fits. fits.fits_call };
+
+    ghost ends_not_begins = { never_both };
+
+    ghost opens_sound = { (machine_laws StandsFor).opens_sound };
+
+    ghost keeps_sound = { (machine_laws StandsFor).keeps_sound };
+
+    ghost opens_places = { (machine_laws StandsFor).opens_places };
+
+    ghost goes_forward = { (machine_laws StandsFor).goes_forward };
+
+    ghost ends_place = { (machine_laws StandsFor).ends_place };
+
+    ghost begins_place = { (machine_laws StandsFor).begins_place };
+
+    ghost begins_removal = { (machine_laws StandsFor).begins_removal };
+
+    ghost removal_stays = { (machine_laws StandsFor).removal_stays };
+
+    ghost ends_removal = { (machine_laws StandsFor).ends_removal };
 }
 
 impl Core {
