@@ -1,20 +1,12 @@
 -- Commands in their parts: which are checked, and what is left of the gift.
-use Rattle.std.proofs.Common.{◌≡◌, ℕ, Bool, true, false, cond, List, Some, None, refl, sym, ap, ◌⊎◌, inl, inr}
+use Rattle.std.proofs.Common.{◌≡◌, ℕ, false, List, Some, refl, ap, ◌⊎◌, inl, inr}
 use Rattle.std.proofs.lemmas.Bool.{true≢false}
-use Rattle.gl_uapi.specs.Command.{command_of}
 use Rattle.gl_uapi.specs.declared.commands.Command.{Command}
 use Rattle.gl_uapi.specs.declared.commands.Command.TheVariants.{ChipInfo, LineInfo, Watch, Unwatch, GetLine, SetConfig, GetValues, SetValues}
 use Rattle.gl_model.specs.Entries.{is_get_line}
-use Rattle.gl_model.specs.Fits.{gift_left}
 use Rattle.gl_model.specs.Ioctl.{checked, in_part}
 use Rattle.gl_model.specs.World.{World}
-use Rattle.gl_model.specs.declared.call.Call.TheVariants.{Ioctl}
 use Rattle.gl_model.specs.declared.call.Part.{Part}
-use Rattle.gl_model.specs.declared.call.Part.TheVariants.{Whole, Ask, Tell}
-use Rattle.gl_model.specs.declared.gift.Gift.{Gift}
-use Rattle.gl_model.specs.declared.reply.Reply.{Reply}
-use Rattle.gl_model.specs.declared.reply.Reply.TheVariants.{Done, Number, Go, Found, Text, Ready, Refused}
-use Rattle.gl_core.specs.Claims.{left_by}
 
 -- any command but GET_LINE
 abbrev pub IsOther : Command → Type 0
@@ -45,21 +37,3 @@ as_checked actor place fd len SetValues bytes part w other = refl
 pub checked_part : (actor place fd len : ℕ) (command : Command) (bytes : List ℕ) (part : Part) (w : World) → IsOther command
     → checked actor place fd len command bytes part w ≡ in_part actor place fd len command bytes part w
 checked_part actor place fd len command bytes part w other = as_checked actor place fd len command bytes part w (not_lines command other)
-
--- what is left of the gift is what a call leaves of it
-
-either : (b : Bool) (gift : Gift) → cond b gift gift ≡ gift
-either true gift = refl
-either false gift = refl
-
-pub left_by_number : (place fd cmd len : ℕ) (bytes : List ℕ) (command : Command) (part : Part) (reply : Reply) (gift : Gift) → command_of cmd ≡ Some command
-    → left_by command part reply gift ≡ gift_left (Ioctl place fd cmd len bytes part) reply gift
-left_by_number place fd cmd len bytes command Whole reply gift is = either (is_get_line (Some command)) gift
-left_by_number place fd cmd len bytes command (Tell answer) reply gift is = either (is_get_line (Some command)) gift
-left_by_number place fd cmd len bytes command Ask (Go number) gift is = ap (λ command. cond (is_get_line command) (record gift { ring = None }) gift) (sym is)
-left_by_number place fd cmd len bytes command Ask Done gift is = either (is_get_line (Some command)) gift
-left_by_number place fd cmd len bytes command Ask (Number number) gift is = either (is_get_line (Some command)) gift
-left_by_number place fd cmd len bytes command Ask (Found at offset count) gift is = either (is_get_line (Some command)) gift
-left_by_number place fd cmd len bytes command Ask (Text text) gift is = either (is_get_line (Some command)) gift
-left_by_number place fd cmd len bytes command Ask (Ready ready) gift is = either (is_get_line (Some command)) gift
-left_by_number place fd cmd len bytes command Ask (Refused errno) gift is = either (is_get_line (Some command)) gift
