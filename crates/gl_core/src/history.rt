@@ -1,17 +1,84 @@
 //! Histories, made again.
 
-ghost use Rattle.std.specs.Prelude.{◌≤◌, length, IfOk, IfSome, IsOkUnless};
+ghost use Rattle.std.specs.Prelude.{◌≡◌, ◌<◌, ◌≤◌, ◌^◌, true, length, IfOk, IfSome, IsOkUnless};
 ghost use Rattle.std.specs.Bool.{Decides};
 ghost use Rattle.gl_world.specs.Ranks.{IsClosing, IsNotGone, rank};
 ghost use Rattle.gl_model.specs.Chips.{phase_at};
 ghost use Rattle.gl_model.specs.World.{World};
 ghost use Rattle.gl_core.specs.Kept.{StandsFor};
-ghost use Rattle.gl_core.specs.Legal.{FindsPlace};
+ghost use Rattle.gl_model.specs.Fits.{FitsCall};
+ghost use Rattle.gl_model.specs.Machine.{world_after};
+ghost use Rattle.gl_model.specs.Step.{step};
+ghost use Rattle.gl_core.specs.Legal.{FindsPlace, GoesOn, IsFirstBad};
+ghost use Rattle.gl_core.specs.Steps.{Steps};
 
 use crate::entries::{place_of, refused_at};
+use crate::fits::{buffer_size, fill, fits_call, gift_for};
+use crate::machine::Core;
 use crate::state::State;
 use gl_base::{Errno, Phase};
-use gl_model::Call;
+use gl_model::{Call, Reply};
+use gl_world::{Entry, Machine};
+use std::alloc::Global;
+
+/// The first entry at which a history stops being legal, counted from 0, and none where it is legal. An entry is bad whose
+/// call is out of range, or has another reply than the machine's; a guarded call on a place that is Gone; and a recorded
+/// refusal on a place that is neither Leaving nor Gone. The history is made again on a core of its own, in one pass. It fails
+/// only for want of memory.
+pub fn first_bad(history: &[Entry<Core>], alloc: Global) -> Result<Option<u32>, Errno>
+    requires { length history.now < 2 ^ 32 }
+    ensures first { IfOk result (IsFirstBad StandsFor history.now) }
+    ensures memory_alone { IsOkUnless result Errno.NoMemory }
+{
+    let mut core = Core::new(alloc)?;
+    let mut buffer = Vec::new(alloc);
+    for i in 0..history.len() {
+        if !core.goes_on(&history[i], &mut buffer, alloc)? {
+            return Ok(Some(i as u32));
+        }
+    }
+    Ok(None)
+}
+
+impl Core {
+    /// Whether a history that led to the core may go on with an entry. If so, the core makes the entry's call.
+    fn goes_on(
+        &mut self,
+        entry: &Entry<Core>,
+        buffer: &mut Vec<u8>,
+        alloc: Global,
+    ) -> Result<bool, Errno>
+        ensures told { IfOk result (λ good. (w : World) → StandsFor self.old w → Decides good (GoesOn w entry.now.actor entry.now.call entry.now.reply)) }
+        ensures world { IfOk result (λ good. (w : World) → StandsFor self.old w → good ≡ true → StandsFor self.new (world_after w entry.now.actor entry.now.call)) }
+        ensures memory_alone { IsOkUnless result Errno.NoMemory }
+    {
+        if !fits_call(&entry.call) || !self.state.finds_place(&entry.call) {
+            return Ok(false);
+        }
+        let reply = self.make(entry.actor, &entry.call, buffer, alloc)?;
+        Ok(reply == entry.reply)
+    }
+
+    /// Makes a call, with the memory and the buffer that it needs.
+    fn make(
+        &mut self,
+        actor: u8,
+        call: &Call,
+        buffer: &mut Vec<u8>,
+        alloc: Global,
+    ) -> Result<Reply, Errno>
+        requires { FitsCall call.now }
+        ensures made { IfOk result (λ reply. Steps (λ w. step w actor call.now) self.old self.new reply) }
+        ensures memory_alone { IsOkUnless result Errno.NoMemory }
+    {
+        let mut gift = gift_for(call, alloc)?;
+        let size = buffer_size(call);
+        make_room(buffer, size)?;
+        let out = &mut buffer[..size as usize];
+        fill(out, call);
+        Ok(self.step(actor, call, &mut gift, out))
+    }
+}
 
 /// Gives a buffer at least so many bytes.
 fn make_room(buffer: &mut Vec<u8>, size: u32) -> Result<(), Errno>

@@ -23,7 +23,7 @@ use std::marker::Model;
 /// to it as it is at every moment (`specs/Reached`): it stands for a world that calls in range lead to.
 #[derive(Drop)]
 pub struct Core {
-    state: State,
+    pub(crate) state: State,
 }
 
 impl Model for Core {
