@@ -1,0 +1,148 @@
+-- Calls of the gate as steps of one call of the device.
+use Rattle.std.proofs.Common.{◌≡◌, ℕ, ◌+◌, ◌<◌, ◌≤◌, List, [], ◌∷◌, ◌++◌, length, drop, sym, refl, ap, ◌∙◌, subst, arith, Bool, true, false, Option, Some, None, Result, Ok, Err, IfOk, IfErr}
+use Rattle.std.specs.Prelude.{cond}
+use Rattle.std.proofs.lemmas.Bool.{true≢false}
+use Rattle.gl_world.specs.declared.machine.Machine.{Ghosts}
+use Rattle.gl_world.specs.declared.history.Entry.{Entry}
+use Rattle.gl_world.specs.History.{Legal, Answered, entry, fold, owed}
+use Rattle.gl_world.specs.Removal.{Removes}
+use Rattle.gl_rule.specs.declared.view.View.{View}
+use Rattle.gl_rule.specs.Sums.{times}
+use Rattle.gl_rule.specs.Turn.{owes}
+use Rattle.gl_rule.specs.Views.{with_closed, with_inside, without_inside}
+use Rattle.gl_gate.specs.Values.{PassValue, knowing}
+use Rattle.gl_gate.specs.Calls.{KnowsClosed, KnowsAsMuch, SamePass, HasItsOwn, RemovesNothing, Acts, Refuses}
+use Rattle.gl_gate.specs.Grown.{Grew, Moved, IsFree}
+use Rattle.gl_gate.proofs.Grown.{acts_are_deeds, grows_on, moves_do_nothing, refusals_do_nothing, still_removes_nothing}
+use Rattle.gl_chip.specs.Steps.{CalledGuarded, CalledOnce, FoundNoRoom, IsWhole, Owes, StoodFull, deed_of}
+
+-- what is true of a result's value
+pub if_ok : {X E : Type 0} (r : Result X E) (P Q : X → Type 0) → ((x : X) → P x → Q x) → IfOk r P → IfOk r Q
+if_ok (Ok x) P Q f h = f x h
+if_ok (Err e) P Q f h = tt
+
+pub if_err : {X E : Type 0} (r : Result X E) (P Q : E → Type 0) → ((x : E) → P x → Q x) → IfErr r P → IfErr r Q
+if_err (Ok x) P Q f h = tt
+if_err (Err e) P Q f h = f e h
+
+module _ {M C R G : Type 0} where
+  pub knows_same : (v w : View M C R G) → w.closed ≡ v.closed → w.drained ≡ v.drained → KnowsAsMuch v w
+  knows_same v w closed drained = record {
+    closed = λ p h. subst (λ l. 0 < times p l) (sym closed) h;
+    drained = λ p h. subst (λ l. 0 < times p l) (sym drained) h;
+  }
+
+  pub knows_on : (v w u : View M C R G) → KnowsAsMuch v w → KnowsAsMuch w u → KnowsAsMuch v u
+  knows_on v w u a b = record { closed = λ p h. b.closed p (a.closed p h); drained = λ p h. b.drained p (a.drained p h) }
+
+module _ {M C R G : Type 0} (m : Ghosts M C R G) where
+  -- one call was made
+  pub called_once : (v : View M C R G) (call : C) (reply : R) (old new : List ℕ) (w : View M C R G) → SamePass v w → Acts m v call reply old new w → CalledOnce m v call reply old new w
+  called_once v call reply old new w same acts = record {
+    wrote = m.bytes_of (fold m (v.seen ++ acts.between)) v.number call;
+    grew = acts_are_deeds m v call reply old new w acts same;
+    last = (v.seen ++ acts.between, acts.seen);
+    bytes = acts.bytes;
+    same = same;
+    legal = acts.legal;
+    answered = record { world = fold m (v.seen ++ acts.between); reply_is = acts.answer; bytes_are = refl };
+  }
+
+  -- what a call that is whole by itself leaves to be owed
+  pub owes_after : (v : View M C R G) (call : C) (reply : R) (old new : List ℕ) (w : View M C R G) → IsWhole m call → SamePass v w → Acts m v call reply old new w → (n : ℕ) → Owes m v n → Owes m w n
+  owes_after v call reply old new w whole same acts n owes = record {
+    owed = let o = acts.owed in let z = owes.owed in let e : cond {A = ℕ} (m.ends call) 1 0 ≡ 0 = ap (λ (b : Bool). cond {A = ℕ} b 1 0) whole.ends_not in
+        let b : cond {A = ℕ} (m.begins call reply) 1 0 ≡ 0 = ap (λ (b : Bool). cond {A = ℕ} b 1 0) (whole.begins_not reply) in omega arith;
+    removes_nothing = still_removes_nothing m v call reply old new w acts same (whole.begins_no_removal reply) owes.removes_nothing;
+  }
+
+  pub stood_full : (v : View M C R G) (call : C) (w : View M C R G) → HasItsOwn v → HasItsOwn w → SamePass v w → Refuses m v call w → StoodFull m v w
+  stood_full v call w own own' same refuses = record {
+    grew = refusals_do_nothing m v call w refuses same own own';
+    same = same;
+    full = refuses.full;
+    legal = refuses.legal;
+  }
+
+  pub owes_refused : (v : View M C R G) (call : C) (w : View M C R G) → SamePass v w → Refuses m v call w → (n : ℕ) → Owes m v n → Owes m w n
+  owes_refused v call w same refuses n owes = record {
+    owed = ap (λ l. owed m l) refuses.mine ∙ owes.owed;
+    removes_nothing = λ p r. owes.removes_nothing p (refuses.removes p (subst (λ k. Removes m (fold m w.seen) k p) same.number r));
+  }
+
+  -- who only moved owes and removes as much as before
+  pub owes_moved : (v w : View M C R G) → Moved m v w → (n : ℕ) → Owes m v n → Owes m w n
+  owes_moved v w moved n owes = record {
+    owed = ap (λ l. owed m l) moved.mine ∙ owes.owed;
+    removes_nothing = λ p r. owes.removes_nothing p (subst (λ (x : List (Entry M C R G) × ℕ). Removes m (fold m x.0) x.1 p) (λ i. (moved.seen i, moved.number i)) r);
+  }
+
+  pub free_owes : (v : View M C R G) → IsFree m v → Owes m v 0
+  free_owes v free = record { owed = free.owes_nothing; removes_nothing = free.removes_nothing }
+
+  pub is_free : (v : View M C R G) → v.inside ≡ [] → Owes m v 0 → IsFree m v
+  is_free v outside owes = record { inside = outside; owes_nothing = owes.owed; removes_nothing = owes.removes_nothing }
+
+  -- a pass that found its place closed, entered it, or left it
+  pub found_closed : (place : ℕ) (x y : PassValue M C R G) → y ≡ knowing x (with_closed x.view place) → Moved m x.view y.view × (y.view.inside ≡ x.view.inside)
+  found_closed place x y is = subst (λ (z : PassValue M C R G). Moved m x.view z.view × (z.view.inside ≡ x.view.inside)) (sym is) (record { number = refl; room = refl; made = refl; joined = refl; seen = refl; mine = refl }, refl)
+
+  pub came_in : (place : ℕ) (x y : PassValue M C R G) → y ≡ knowing x (with_inside x.view place) → Moved m x.view y.view
+  came_in place x y is = subst (λ (z : PassValue M C R G). Moved m x.view z.view) (sym is) record { number = refl; room = refl; made = refl; joined = refl; seen = refl; mine = refl }
+
+  pub went_out : (place : ℕ) (x y : PassValue M C R G) → y ≡ knowing x (without_inside x.view place) → Moved m x.view y.view × (y.view.closed ≡ x.view.closed) × (y.view.drained ≡ x.view.drained)
+  went_out place x y is = subst (λ (z : PassValue M C R G). Moved m x.view z.view × (z.view.closed ≡ x.view.closed) × (z.view.drained ≡ x.view.drained)) (sym is)
+      (record { number = refl; room = refl; made = refl; joined = refl; seen = refl; mine = refl }, refl, refl)
+
+  -- what is told of a pass's number
+  same_deed : (n k : ℕ) (w u : View M C R G) (call : C) (reply : R) (wrote : List ℕ) → k ≡ n → Grew m w (deed_of k call reply wrote ∷ []) u → Grew m w (deed_of n call reply wrote ∷ []) u
+  same_deed n k w u call reply wrote same grew = subst (λ j. Grew m w (deed_of j call reply wrote ∷ []) u) same grew
+
+  -- at a closed guard
+  pub refused_there : (place : ℕ) (v w u : View M C R G) (call refused : C) (reply : R) (old new : List ℕ) → Moved m v w → KnowsClosed w place → KnowsAsMuch v w → CalledOnce m w refused reply old new u
+      → CalledGuarded m place refused v call reply old new u
+  refused_there place v w u call refused reply old new moved closed knows step = record {
+    closed = true;
+    wrote = step.wrote;
+    grew = grows_on m v w u [] (deed_of v.number refused reply step.wrote ∷ []) (moves_do_nothing m v w moved) (same_deed v.number w.number w u refused reply step.wrote moved.number step.grew);
+    last = subst (λ n. (earlier : List (Entry M C R G)) × (u.seen ≡ earlier ++ entry n refused reply ∷ [])) moved.number step.last;
+    bytes = step.bytes;
+    legal = step.legal;
+    answered = let a = step.answered in record { world = a.world; reply_is = subst (λ n. reply ≡ m.reply_of a.world n refused) moved.number a.reply_is; bytes_are = subst (λ n. step.wrote ≡ m.bytes_of a.world n refused) moved.number a.bytes_are };
+    known = λ _. refl;
+    knows = λ _. subst (λ l. 0 < times place l) (sym step.same.closed) closed;
+    knows_as_much = knows_on v w u knows (knows_same w u step.same.closed step.same.drained);
+  }
+
+  -- inside its place
+  pub called_inside : (place : ℕ) (v w u x : View M C R G) (call refused : C) (reply : R) (old new : List ℕ) → Moved m v w → KnowsAsMuch v w → (KnowsClosed v place → ⊥) → CalledOnce m w call reply old new u → Moved m u x → x.closed ≡ u.closed → x.drained ≡ u.drained
+      → CalledGuarded m place refused v call reply old new x
+  called_inside place v w u x call refused reply old new moved knows unknown step left closed drained = record {
+    closed = false;
+    wrote = step.wrote;
+    grew = grows_on m v u x (deed_of v.number call reply step.wrote ∷ []) []
+        (grows_on m v w u [] (deed_of v.number call reply step.wrote ∷ []) (moves_do_nothing m v w moved) (same_deed v.number w.number w u call reply step.wrote moved.number step.grew)) (moves_do_nothing m u x left);
+    last = let l : (earlier : List (Entry M C R G)) × (u.seen ≡ earlier ++ entry v.number call reply ∷ []) = subst (λ n. (earlier : List (Entry M C R G)) × (u.seen ≡ earlier ++ entry n call reply ∷ [])) moved.number step.last in (l.0, left.seen ∙ l.1);
+    bytes = step.bytes;
+    legal = subst (λ l. Legal m l) (sym left.seen) step.legal;
+    answered = let a = step.answered in record { world = a.world; reply_is = subst (λ n. reply ≡ m.reply_of a.world n call) moved.number a.reply_is; bytes_are = subst (λ n. step.wrote ≡ m.bytes_of a.world n call) moved.number a.bytes_are };
+    known = λ k. absurd (unknown k);
+    knows = λ e. absurd (true≢false (sym e));
+    knows_as_much = knows_on v u x (knows_on v w u knows (knows_same w u step.same.closed step.same.drained)) (knows_same u x closed drained);
+  }
+
+  pub no_room : (v w u : View M C R G) → Moved m v w → KnowsAsMuch v w → StoodFull m w u → FoundNoRoom m v u
+  no_room v w u moved knows full = record {
+    grew = grows_on m v w u [] [] (moves_do_nothing m v w moved) full.grew;
+    full = subst (λ k. k ≤ length u.seen) moved.room full.full;
+    legal = full.legal;
+    knows_as_much = knows_on v w u knows (knows_same w u full.same.closed full.same.drained);
+  }
+
+  pub no_room_left : (v u x : View M C R G) → FoundNoRoom m v u → Moved m u x → x.closed ≡ u.closed → x.drained ≡ u.drained → FoundNoRoom m v x
+  no_room_left v u x full left closed drained = record {
+    grew = grows_on m v u x [] [] full.grew (moves_do_nothing m u x left);
+    full = subst (λ l. v.room ≤ length l) (sym left.seen) full.full;
+    legal = subst (λ l. Legal m l) (sym left.seen) full.legal;
+    knows_as_much = knows_on v u x full.knows_as_much (knows_same u x closed drained);
+  }

@@ -1,0 +1,4 @@
+//! The device: one machine behind the gate, a driver, and the actors that call both.
+#![tactic(auto)]
+
+mod steps;
