@@ -4,8 +4,12 @@ use Rattle.std.specs.Prelude.{cond}
 use Rattle.std.proofs.lemmas.Bool.{true≢false}
 use Rattle.gl_world.specs.declared.machine.Machine.{Ghosts}
 use Rattle.gl_world.specs.declared.history.Entry.{Entry}
-use Rattle.gl_world.specs.History.{Legal, Answered, entry, fold, owed}
-use Rattle.gl_world.specs.Removal.{Removes}
+use Rattle.gl_world.specs.History.{Legal, Answered, entry, entries_of, fold, owed}
+use Rattle.gl_world.specs.Deeds.{Deed, entries_in}
+use Rattle.gl_world.specs.Removal.{Removes, AllQuiet, QuietEntriesKeepRemovals}
+use Rattle.gl_driver.specs.Calls.{IsBack}
+use Rattle.gl_driver.proofs.OwnEntries.{own_entries_are_deeds}
+use Rattle.gl_world.proofs.Histories.{entries_append}
 use Rattle.gl_rule.specs.declared.view.View.{View}
 use Rattle.gl_rule.specs.Sums.{times}
 use Rattle.gl_rule.specs.Turn.{owes}
@@ -14,7 +18,7 @@ use Rattle.gl_gate.specs.Values.{PassValue, knowing}
 use Rattle.gl_gate.specs.Calls.{KnowsClosed, KnowsAsMuch, SamePass, HasItsOwn, RemovesNothing, Acts, Refuses}
 use Rattle.gl_gate.specs.Grown.{Grew, Moved, IsFree}
 use Rattle.gl_gate.proofs.Grown.{acts_are_deeds, grows_on, moves_do_nothing, refusals_do_nothing, still_removes_nothing}
-use Rattle.gl_chip.specs.Steps.{CalledGuarded, CalledOnce, FoundNoRoom, IsWhole, Owes, StoodFull, deed_of}
+use Rattle.gl_chip.specs.Steps.{CalledGuarded, CalledOnce, Drove, FoundNoRoom, IsAsk, IsTell, IsWhole, Owes, StoodFull, deed_of}
 
 -- what is true of a result's value
 pub if_ok : {X E : Type 0} (r : Result X E) (P Q : X → Type 0) → ((x : X) → P x → Q x) → IfOk r P → IfOk r Q
@@ -24,6 +28,14 @@ if_ok (Err e) P Q f h = tt
 pub if_err : {X E : Type 0} (r : Result X E) (P Q : E → Type 0) → ((x : E) → P x → Q x) → IfErr r P → IfErr r Q
 if_err (Ok x) P Q f h = tt
 if_err (Err e) P Q f h = f e h
+
+abbrev tail_of : {A : Type 0} → List A → List A
+tail_of [] = []
+tail_of (x ∷ xs) = xs
+
+rest_is : {A : Type 0} (xs ys zs : List A) → xs ++ ys ≡ xs ++ zs → ys ≡ zs
+rest_is [] ys zs e = e
+rest_is (x ∷ xs) ys zs e = rest_is xs ys zs (ap tail_of e)
 
 module _ {M C R G : Type 0} where
   pub knows_same : (v w : View M C R G) → w.closed ≡ v.closed → w.drained ≡ v.drained → KnowsAsMuch v w
@@ -146,3 +158,46 @@ module _ {M C R G : Type 0} (m : Ghosts M C R G) where
     legal = subst (λ l. Legal m l) (sym left.seen) full.legal;
     knows_as_much = knows_on v u x full.knows_as_much (knows_same u x closed drained);
   }
+
+  -- what the first call of a command leaves to be owed
+  pub owes_asked : (v : View M C R G) (call : C) (reply : R) (old new : List ℕ) (w : View M C R G) → IsAsk m call → SamePass v w → Acts m v call reply old new w → Owes m v 0 → Owes m w (cond (m.begins call reply) 1 0)
+  owes_asked v call reply old new w ask same acts owes = record {
+    owed = let o = acts.owed in let z = owes.owed in let e : cond {A = ℕ} (m.ends call) 1 0 ≡ 0 = ap (λ (b : Bool). cond {A = ℕ} b 1 0) ask.ends_not in omega arith;
+    removes_nothing = still_removes_nothing m v call reply old new w acts same (ask.begins_no_removal reply) owes.removes_nothing;
+  }
+
+  -- and the second one
+  pub owes_told : (v : View M C R G) (call : C) (reply : R) (old new : List ℕ) (w : View M C R G) → IsTell m call → SamePass v w → Acts m v call reply old new w → Owes m v 1 → Owes m w 0
+  owes_told v call reply old new w tell same acts owes = record {
+    owed = let o = acts.owed in let z = owes.owed in let e : cond {A = ℕ} (m.ends call) 1 0 ≡ 1 = ap (λ (b : Bool). cond {A = ℕ} b 1 0) tell.ends_it in
+        let b : cond {A = ℕ} (m.begins call reply) 1 0 ≡ 0 = ap (λ (b : Bool). cond {A = ℕ} b 1 0) (tell.begins_not reply) in omega arith;
+    removes_nothing = still_removes_nothing m v call reply old new w acts same (tell.begins_no_removal reply) owes.removes_nothing;
+  }
+
+  -- the pass's entries behind what it had seen are the driver's own
+  own_behind : (v w : View M C R G) (own : List (Entry M C R G)) (back : IsBack m v own w) → HasItsOwn v → HasItsOwn w → entries_of v.number back.seen.0 ≡ own
+  own_behind v w own back before after = let rest : List (Entry M C R G) = back.seen.0 in
+      let whole : entries_of v.number w.seen ≡ v.mine ++ own = ap (λ k. entries_of k w.seen) (sym back.number) ∙ (after ∙ back.mine) in
+      let parts : entries_of v.number w.seen ≡ v.mine ++ entries_of v.number rest = ap (λ l. entries_of v.number l) back.seen.1 ∙ (entries_append v.number v.seen rest ∙ ap (λ l. l ++ entries_of v.number rest) before) in
+      rest_is v.mine (entries_of v.number rest) own (sym parts ∙ whole)
+
+  -- a driver's call
+  pub drove : {Own : List (Entry M C R G) → Type 0} (limit : ℕ) (v w : View M C R G) (own : List (Entry M C R G)) → length own ≤ limit → Own own → IsBack m v own w → HasItsOwn v → HasItsOwn w → Owes m v 1 → Legal m w.seen → AllQuiet m own → QuietEntriesKeepRemovals m
+      → (own : List (Entry M C R G)) × (did : List (Deed M C R G)) × Own own × Drove m limit v own did w
+  drove limit v w own few its back before after owes legal quiet law = let h = own_entries_are_deeds m v own w back before after in (
+    own,
+    h.0,
+    its,
+    record {
+      own_are = h.1;
+      few_own = few;
+      grew = h.2;
+      inside = back.inside;
+      owes_one = record {
+        owed = back.owed ∙ owes.owed;
+        removes_nothing = λ p r. owes.removes_nothing p ((law v.number v.seen back.seen.0 (subst (λ l. Answered m l) back.seen.1 legal.0) (subst (λ l. AllQuiet m l) (sym (own_behind v w own back before after)) quiet) p).1
+            (subst (λ (x : List (Entry M C R G) × ℕ). Removes m (fold m x.0) x.1 p) (λ i. (back.seen.1 i, back.number i)) r));
+      };
+      knows_as_much = back.knows;
+    },
+  )

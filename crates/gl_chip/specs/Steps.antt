@@ -26,6 +26,19 @@ module _ {M C R G : Type 0} (m : Ghosts M C R G) where
     pub no_last_removal : m.is_last_removal call ≡ false
     pub begins_no_removal : (reply : R) (bytes : List ℕ) → m.begun_places call reply bytes ≡ []
 
+  -- The first call of a command: it may owe a second entry, is none itself, and has to do with no removal.
+  pub record IsAsk (call : C) : Type 0 where
+    pub ends_not : m.ends call ≡ false
+    pub no_last_removal : m.is_last_removal call ≡ false
+    pub begins_no_removal : (reply : R) (bytes : List ℕ) → m.begun_places call reply bytes ≡ []
+
+  -- The second call of a command: it owes no further entry, and has to do with no removal.
+  pub record IsTell (call : C) : Type 0 where
+    pub ends_it : m.ends call ≡ true
+    pub begins_not : (reply : R) → m.begins call reply ≡ false
+    pub no_last_removal : m.is_last_removal call ≡ false
+    pub begins_no_removal : (reply : R) (bytes : List ℕ) → m.begun_places call reply bytes ≡ []
+
   -- so many second entries are owed, and nothing is removed
   pub record Owes (v : View M C R G) (count : ℕ) : Type 0 where
     pub owed : owes m v ≡ count

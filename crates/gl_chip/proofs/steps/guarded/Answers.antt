@@ -10,5 +10,5 @@ returns-then-not-enter-clause-called g c = if_ok c.alone.result _ _ (λ r step. 
 pub returns-clause-called : goal.returns-clause-called
 returns-clause-called g c = let out = went_out g.M.Machine c.args.place c.alone-answer.new.pass c.leave.new.pass c.leave.ensures in
     if_ok c.alone-answer.result _ _ (λ r step. called_inside g.M.Machine c.args.place c.args.pass.now.view c.enter.new.pass.view c.alone-answer.new.pass.view c.leave.new.pass.view c.args.call c.args.refused r _ _
-      (came_in g.M.Machine c.args.place c.args.pass.now c.enter.new.pass (c.enter.ensures.entered (search rules))) c.enter.ensures.knows
-      (λ k. true≢false (sym c.if-not-enter.false ∙ c.enter.ensures.known k)) step out.0 out.1 out.2) c.alone-answer.ensures.called
+    (came_in g.M.Machine c.args.place c.args.pass.now c.enter.new.pass (c.enter.ensures.entered (search rules))) c.enter.ensures.knows
+    (λ k. true≢false (sym c.if-not-enter.false ∙ c.enter.ensures.known k)) step out.0 out.1 out.2) c.alone-answer.ensures.called

@@ -1,0 +1,110 @@
+//! The steps of a command that asks the driver: the ask, the driver's call, the tell. They are the same for every machine.
+
+ghost use Rattle.std.specs.Prelude.{◌≡◌, ℕ, ◌≤◌, cond, true, false, List, None, IfOk, IfErr, IfSome};
+ghost use Rattle.gl_base.specs.declared.errno.Errno.TheVariants.{Full};
+ghost use Rattle.gl_base.specs.declared.limits.TheConstants.{PLACES};
+ghost use Rattle.gl_base.specs.Count.{counted_up, Rises};
+ghost use Rattle.gl_base.specs.Planned.{planned_answer};
+ghost use Rattle.gl_world.specs.declared.history.Entry.{Entry};
+ghost use Rattle.gl_world.specs.Deeds.{Deed};
+ghost use Rattle.gl_world.specs.Removal.{AllQuiet};
+ghost use Rattle.gl_gate.specs.Values.{IsPassOf};
+ghost use Rattle.gl_gate.specs.Calls.{IsInside, MayName};
+ghost use Rattle.gl_driver.specs.Calls.{FitsOp};
+ghost use Rattle.gl_driver.specs.Told.{with_call};
+ghost use Rattle.gl_chip.specs.Steps.{CalledOnce, Drove, IsAsk, IsTell, Owes, StoodFull};
+
+use gl_base::Errno;
+use gl_driver::{Driver, Op};
+use gl_gate::{Gate, Pass};
+use gl_world::{Machine, quiet_entries_keep_removals};
+use std::sync::Wait;
+
+/// The first entry of a command. Where it begins, a second one is owed.
+pub(crate) fn ask<M: Machine, R: Wait>(
+    rt: &R,
+    gate: &Gate<M>,
+    pass: &mut Pass<M>,
+    call: M::Call,
+    gift: &mut M::Gift,
+    out: &mut [u8],
+) -> Result<M::Reply, Errno>
+    requires gate { IsPassOf gate.now pass.old }
+    requires fits { M.Fits call gift.old out.old }
+    requires ask { IsAsk M.Machine call }
+    requires named { MayName M.Machine pass.old.view call }
+    requires owes { Owes M.Machine pass.old.view 0 }
+    ensures gate { IsPassOf gate.now pass.new }
+    ensures owes { IfOk result (λ r. Owes M.Machine pass.new.view (cond (M.begins call r) 1 0)) }
+    ensures called { IfOk result (λ r. CalledOnce M.Machine pass.old.view call r out.old out.new pass.new.view) }
+    ensures gift { IfOk result (λ r. M.Leaves call r gift.old gift.new) }
+    ensures owes_nothing { IfErr result (λ _. Owes M.Machine pass.new.view 0) }
+    ensures full { IfErr result (λ e. (e ≡ Full) × (out.new ≡ out.old) × (gift.new ≡ gift.old)
+        × StoodFull M.Machine pass.old.view pass.new.view) }
+{
+    let _number = pass.number();
+    match gate.act(rt, pass, call, gift, out) {
+        Ok(reply) => Ok(reply),
+        Err(errno) => Err(errno),
+    }
+}
+
+/// Asks the driver, between an ask and its tell.
+pub(crate) fn drive<M: Machine, D: Driver<M>, R: Wait>(
+    rt: &R,
+    gate: &Gate<M>,
+    driver: &D,
+    port: &mut D::Port,
+    pass: &mut Pass<M>,
+    place: u8,
+    op: &Op,
+) -> Option<u64>
+    requires gate { IsPassOf gate.now pass.old }
+    requires places { gate.now.places ≡ PLACES }
+    requires inside { IsInside pass.old.view place }
+    requires alone { (p : ℕ) → IsInside pass.old.view p → p ≡ place }
+    requires owes { Owes M.Machine pass.old.view 1 }
+    requires op { FitsOp op.now }
+    requires quiet { (own : List (Entry M M.Call M.Reply M.Gift)) → D.OwnEntries port.old place op.now own → AllQuiet M.Machine own }
+    ensures gate { IsPassOf gate.now pass.new }
+    ensures drove { (own : List (Entry M M.Call M.Reply M.Gift)) × (did : List (Deed M M.Call M.Reply M.Gift))
+        × D.OwnEntries port.old place op.now own × Drove M.Machine D.ENTRIES pass.old.view own did pass.new.view }
+    ensures told { D.Port.told port.new ≡ with_call op.now result (D.Port.told port.old) }
+    ensures never_falls { D.Port.faults port.old ≤ D.Port.faults port.new }
+    ensures fault { result ≡ None → Rises (D.Port.faults port.old) (D.Port.faults port.new) }
+    ensures planned { D.is_planned ≡ true
+        → IfSome (D.Port.told port.old) (λ t. result ≡ planned_answer t.plan (counted_up t.calls)) }
+{
+    quiet_entries_keep_removals::<M>();
+    let _number = pass.number();
+    let answer = driver.call(rt, gate, port, pass, place, op);
+    let _number = pass.number();
+    match answer {
+        Ok(bits) => Some(bits),
+        Err(_) => None,
+    }
+}
+
+/// The second entry of a command. It is never refused for want of room.
+pub(crate) fn tell<M: Machine, R: Wait>(
+    rt: &R,
+    gate: &Gate<M>,
+    pass: &mut Pass<M>,
+    call: M::Call,
+    gift: &mut M::Gift,
+    out: &mut [u8],
+) -> M::Reply
+    requires gate { IsPassOf gate.now pass.old }
+    requires fits { M.Fits call gift.old out.old }
+    requires tell { IsTell M.Machine call }
+    requires named { MayName M.Machine pass.old.view call }
+    requires owes { Owes M.Machine pass.old.view 1 }
+    ensures gate { IsPassOf gate.now pass.new }
+    ensures owes { Owes M.Machine pass.new.view 0 }
+    ensures called { CalledOnce M.Machine pass.old.view call result out.old out.new pass.new.view }
+{
+    match gate.act(rt, pass, call, gift, out) {
+        Ok(reply) => reply,
+        Err(_) => unreachable!(),
+    }
+}
