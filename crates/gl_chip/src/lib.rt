@@ -2,4 +2,5 @@
 #![tactic(auto)]
 
 mod driving;
+mod removing;
 mod steps;
