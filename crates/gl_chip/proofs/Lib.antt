@@ -1,2 +1,3 @@
 pub mod GateSteps
 pub mod RemovalSteps
+pub mod Idle

@@ -1,0 +1,56 @@
+-- What contracts see of the device and of its actors.
+use Rattle.std.specs.Prelude.{◌≡◌, ℕ, false, List}
+use Rattle.gl_base.specs.Rows.{Each}
+use Rattle.gl_world.specs.declared.machine.Machine.{Ghosts}
+use Rattle.gl_world.specs.declared.history.Entry.{Entry}
+use Rattle.gl_world.specs.Deeds.{Deed}
+use Rattle.gl_world.specs.Removal.{AllQuiet}
+use Rattle.gl_rule.specs.declared.view.View.{View}
+use Rattle.gl_gate.specs.Values.{GateValue, PassValue, IsPassOf}
+use Rattle.gl_gate.specs.Grown.{IsFree}
+use Rattle.gl_driver.specs.declared.op.Op.{Op}
+use Rattle.gl_model.specs.declared.call.Call.{Call}
+use Rattle.gl_model.specs.declared.gift.Gift.{Gift}
+use Rattle.gl_model.specs.declared.reply.Reply.{Reply}
+use Rattle.gl_model.specs.Calling.{AreOfCalls}
+use Rattle.gl_model.specs.Entries.{is_get_line_call}
+use Rattle.gl_model.specs.Machine.{machine}
+use Rattle.gl_core.specs.Kept.{Kept, StandsFor}
+
+-- the machine of every device
+abbrev pub core : Ghosts Kept Call Reply Gift
+core = machine StandsFor
+
+-- an entry of its history, what an actor did there, and what a pass of its gate knows
+abbrev pub OneEntry : Type 0
+OneEntry = Entry Kept Call Reply Gift
+
+abbrev pub OneDeed : Type 0
+OneDeed = Deed Kept Call Reply Gift
+
+abbrev pub OneView : Type 0
+OneView = View Kept Call Reply Gift
+
+-- an actor: its pass, and the port through which it asks the driver
+pub record ActorValue (P : Type 0) : Type 0 where
+  pub pass : PassValue Kept Call Reply Gift
+  pub port : P
+
+-- the actor is one of this device
+abbrev pub IsActorOf : {P : Type 0} → GateValue → ActorValue P → Type 0
+IsActorOf gate actor = IsPassOf gate actor.pass
+
+-- An actor between two calls: it is inside no place, owes no second entry, and removes nothing; and its entries are those of
+-- whole calls of the device, one after another.
+pub record IsIdle (v : OneView) : Type 0 where
+  pub free : IsFree core v
+  pub whole_calls : AreOfCalls StandsFor v.number v.mine
+
+-- entries that a driver may make of its own: they have nothing to do with removals, and request no lines
+pub record MayOwn (own : List OneEntry) : Type 0 where
+  pub quiet : AllQuiet core own
+  pub no_claims : Each (λ (e : OneEntry). is_get_line_call e.call ≡ false) own
+
+-- all own entries of a driver are such
+abbrev pub IsQuietDriver : {P : Type 0} → (P → ℕ → Op → List OneEntry → Type 0) → Type 0
+IsQuietDriver {P} Own = (port : P) (place : ℕ) (op : Op) (own : List OneEntry) → Own port place op own → MayOwn own

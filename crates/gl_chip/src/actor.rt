@@ -1,0 +1,55 @@
+//! Actors.
+
+use gl_core::Core;
+use gl_driver::{Driver, Port};
+use gl_gate::Pass;
+use std::marker::Model;
+
+/// Who calls the device: a pass of its gate, and a port of its driver.
+///
+/// Between calls an actor is inside no place, owes no entry and removes nothing.
+#[derive(Drop)]
+pub struct Actor<D: Driver<Core>> {
+    pub(crate) pass: Pass<Core>,
+    pub(crate) port: D::Port,
+}
+
+impl<D: Driver<Core>> Model for Actor<D> {
+    ghost use Rattle.gl_chip.specs.Values.{ActorValue, IsIdle};
+
+    ghost Value = { ActorValue D.Port };
+
+    ghost view = { λ a. record { pass = a.pass; port = a.port } };
+
+    ghost invariant = { λ a. IsIdle a.pass.view };
+}
+
+impl<D: Driver<Core>> Actor<D> {
+    ghost use Rattle.std.specs.Prelude.{◌≡◌};
+    ghost use Rattle.gl_world.specs.History.{Legal};
+    ghost use Rattle.gl_gate.specs.Calls.{HasItsOwn};
+    ghost use Rattle.gl_driver.specs.Told.{with_plan};
+    ghost use Rattle.gl_chip.specs.Values.{IsIdle, core};
+
+    /// The number of the actor: that of its entries. The first actor of a device has 0.
+    ///
+    /// What it has seen of the history is legal, and has just its own entries with its number.
+    pub fn number(&self) -> u8
+        ensures number { result ≡ self.now.pass.view.number }
+        ensures own { HasItsOwn self.now.pass.view }
+        ensures legal { Legal core self.now.pass.view.seen }
+        ensures idle { IsIdle self.now.pass.view }
+    {
+        self.pass.number()
+    }
+
+    /// Plans that the `nth` driver call of this actor from now on fails, counted from 1, in place of an earlier plan. 0
+    /// takes the plan away.
+    pub fn plan(&mut self, nth: u32)
+        ensures pass { self.new.pass ≡ self.old.pass }
+        ensures port { D.Port.told self.new.port ≡ with_plan nth (D.Port.told self.old.port) }
+        ensures faults { D.Port.faults self.new.port ≡ D.Port.faults self.old.port }
+    {
+        self.port.plan(nth);
+    }
+}
