@@ -54,6 +54,7 @@ module _ {M C R G : Type 0} (m : Ghosts M C R G) where
     wrote = m.bytes_of (fold m (v.seen ++ acts.between)) v.number call;
     grew = acts_are_deeds m v call reply old new w acts same;
     last = (v.seen ++ acts.between, acts.seen);
+    had_room = acts.room;
     bytes = acts.bytes;
     same = same;
     legal = acts.legal;
@@ -111,13 +112,14 @@ module _ {M C R G : Type 0} (m : Ghosts M C R G) where
   same_deed n k w u call reply wrote same grew = subst (λ j. Grew m w (deed_of j call reply wrote ∷ []) u) same grew
 
   -- at a closed guard
-  pub refused_there : (place : ℕ) (v w u : View M C R G) (call refused : C) (reply : R) (old new : List ℕ) → Moved m v w → KnowsClosed w place → KnowsAsMuch v w → CalledOnce m w refused reply old new u
+  pub refused_there : (place : ℕ) (v w u : View M C R G) (call refused : C) (reply : R) (old new : List ℕ) → m.ends refused ≡ false → Moved m v w → KnowsClosed w place → KnowsAsMuch v w → CalledOnce m w refused reply old new u
       → CalledGuarded m place refused v call reply old new u
-  refused_there place v w u call refused reply old new moved closed knows step = record {
+  refused_there place v w u call refused reply old new ends_not moved closed knows step = record {
     closed = true;
     wrote = step.wrote;
     grew = grows_on m v w u [] (deed_of v.number refused reply step.wrote ∷ []) (moves_do_nothing m v w moved) (same_deed v.number w.number w u refused reply step.wrote moved.number step.grew);
-    last = subst (λ n. (earlier : List (Entry M C R G)) × (u.seen ≡ earlier ++ entry n refused reply ∷ [])) moved.number step.last;
+    last = (step.last.0, subst (λ n. u.seen ≡ step.last.0 ++ entry n refused reply ∷ []) moved.number step.last.1);
+    had_room = subst (λ n. length step.last.0 < n) moved.room (step.had_room ends_not);
     bytes = step.bytes;
     legal = step.legal;
     answered = let a = step.answered in record { world = a.world; reply_is = subst (λ n. reply ≡ m.reply_of a.world n refused) moved.number a.reply_is; bytes_are = subst (λ n. step.wrote ≡ m.bytes_of a.world n refused) moved.number a.bytes_are };
@@ -127,14 +129,15 @@ module _ {M C R G : Type 0} (m : Ghosts M C R G) where
   }
 
   -- inside its place
-  pub called_inside : (place : ℕ) (v w u x : View M C R G) (call refused : C) (reply : R) (old new : List ℕ) → Moved m v w → KnowsAsMuch v w → (KnowsClosed v place → ⊥) → CalledOnce m w call reply old new u → Moved m u x → x.closed ≡ u.closed → x.drained ≡ u.drained
+  pub called_inside : (place : ℕ) (v w u x : View M C R G) (call refused : C) (reply : R) (old new : List ℕ) → m.ends call ≡ false → Moved m v w → KnowsAsMuch v w → (KnowsClosed v place → ⊥) → CalledOnce m w call reply old new u → Moved m u x → x.closed ≡ u.closed → x.drained ≡ u.drained
       → CalledGuarded m place refused v call reply old new x
-  called_inside place v w u x call refused reply old new moved knows unknown step left closed drained = record {
+  called_inside place v w u x call refused reply old new ends_not moved knows unknown step left closed drained = record {
     closed = false;
     wrote = step.wrote;
     grew = grows_on m v u x (deed_of v.number call reply step.wrote ∷ []) []
         (grows_on m v w u [] (deed_of v.number call reply step.wrote ∷ []) (moves_do_nothing m v w moved) (same_deed v.number w.number w u call reply step.wrote moved.number step.grew)) (moves_do_nothing m u x left);
-    last = let l : (earlier : List (Entry M C R G)) × (u.seen ≡ earlier ++ entry v.number call reply ∷ []) = subst (λ n. (earlier : List (Entry M C R G)) × (u.seen ≡ earlier ++ entry n call reply ∷ [])) moved.number step.last in (l.0, left.seen ∙ l.1);
+    last = (step.last.0, left.seen ∙ subst (λ n. u.seen ≡ step.last.0 ++ entry n call reply ∷ []) moved.number step.last.1);
+    had_room = subst (λ n. length step.last.0 < n) moved.room (step.had_room ends_not);
     bytes = step.bytes;
     legal = subst (λ l. Legal m l) (sym left.seen) step.legal;
     answered = let a = step.answered in record { world = a.world; reply_is = subst (λ n. reply ≡ m.reply_of a.world n call) moved.number a.reply_is; bytes_are = subst (λ n. step.wrote ≡ m.bytes_of a.world n call) moved.number a.bytes_are };

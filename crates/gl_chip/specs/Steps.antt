@@ -1,5 +1,5 @@
 -- Calls of the gate, as steps of one call of the device. They are the same for every machine.
-use Rattle.std.specs.Prelude.{◌≡◌, ℕ, ◌≤◌, Bool, true, false, cond, List, [], ◌∷◌, ◌++◌, length, drop}
+use Rattle.std.specs.Prelude.{◌≡◌, ℕ, ◌<◌, ◌≤◌, Bool, true, false, cond, List, [], ◌∷◌, ◌++◌, length, drop}
 use Rattle.gl_world.specs.declared.machine.Machine.{Ghosts}
 use Rattle.gl_world.specs.declared.history.Entry.{Entry}
 use Rattle.gl_world.specs.History.{Legal, entry}
@@ -55,6 +55,7 @@ module _ {M C R G : Type 0} (m : Ghosts M C R G) where
     pub wrote : List ℕ
     pub grew : Grew m v (deed_of v.number call reply wrote ∷ []) w
     pub last : EndsWith w.seen (entry v.number call reply)
+    pub had_room : m.ends call ≡ false → length last.0 < v.room
     pub bytes : new ≡ wrote ++ drop (length wrote) old
     pub same : SamePass v w
     pub legal : Legal m w.seen
@@ -73,6 +74,7 @@ module _ {M C R G : Type 0} (m : Ghosts M C R G) where
     pub wrote : List ℕ
     pub grew : Grew m v (deed_of v.number (cond closed refused call) reply wrote ∷ []) w
     pub last : EndsWith w.seen (entry v.number (cond closed refused call) reply)
+    pub had_room : length last.0 < v.room
     pub bytes : new ≡ wrote ++ drop (length wrote) old
     pub legal : Legal m w.seen
     pub answered : IsAnswered v.number (cond closed refused call) reply wrote

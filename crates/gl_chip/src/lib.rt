@@ -6,6 +6,7 @@ mod driving;
 mod gpio;
 mod making;
 mod removing;
+mod results;
 mod steps;
 
 pub use actor::Actor;

@@ -4,11 +4,11 @@ use Rattle.gl_chip.proofs.GateSteps.{if_ok, came_in, found_closed, went_out, ref
 use Rattle.gl_chip.proofs.steps.guarded.Goals as goal
 
 pub returns-then-not-enter-clause-called : goal.returns-then-not-enter-clause-called
-returns-then-not-enter-clause-called g c = if_ok c.alone.result _ _ (λ r step. refused_there g.M.Machine c.args.place c.args.pass.now.view c.enter.new.pass.view c.alone.new.pass.view c.args.call c.args.refused r _ _
+returns-then-not-enter-clause-called g c = if_ok c.alone.result _ _ (λ r step. refused_there g.M.Machine c.args.place c.args.pass.now.view c.enter.new.pass.view c.alone.new.pass.view c.args.call c.args.refused r _ _ c.requires.whole_refused.ends_not
     ((found_closed g.M.Machine c.args.place c.args.pass.now c.enter.new.pass (c.enter.ensures.refused (search rules))).0) (c.enter.ensures.closed (search rules)) c.enter.ensures.knows step) c.alone.ensures.called
 
 pub returns-clause-called : goal.returns-clause-called
 returns-clause-called g c = let out = went_out g.M.Machine c.args.place c.alone-answer.new.pass c.leave.new.pass c.leave.ensures in
-    if_ok c.alone-answer.result _ _ (λ r step. called_inside g.M.Machine c.args.place c.args.pass.now.view c.enter.new.pass.view c.alone-answer.new.pass.view c.leave.new.pass.view c.args.call c.args.refused r _ _
+    if_ok c.alone-answer.result _ _ (λ r step. called_inside g.M.Machine c.args.place c.args.pass.now.view c.enter.new.pass.view c.alone-answer.new.pass.view c.leave.new.pass.view c.args.call c.args.refused r _ _ c.requires.whole.ends_not
     (came_in g.M.Machine c.args.place c.args.pass.now c.enter.new.pass (c.enter.ensures.entered (search rules))) c.enter.ensures.knows
     (λ k. true≢false (sym c.if-not-enter.false ∙ c.enter.ensures.known k)) step out.0 out.1 out.2) c.alone-answer.ensures.called

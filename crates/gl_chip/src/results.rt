@@ -1,0 +1,78 @@
+//! What a caller of the device gets of a reply of the machine.
+
+ghost use Rattle.std.specs.Prelude.{◌≡◌, true};
+ghost use Rattle.gl_base.specs.declared.limits.TheConstants.{PLACES};
+ghost use Rattle.gl_model.specs.Replies.{is_number_below};
+ghost use Rattle.gl_chip.specs.Results.{done_of, found_of, level_of, number_of, ready_of, text_of};
+
+use gl_base::{Errno, Name};
+use gl_core::Reply;
+
+/// Nothing, or why the call was refused.
+pub(crate) fn done(reply: Reply) -> Result<(), Errno>
+    ensures { result ≡ done_of reply }
+{
+    match reply {
+        Reply::Refused(errno) => Err(errno),
+        _ => Ok(()),
+    }
+}
+
+/// The number, or why the call was refused.
+pub(crate) fn number(reply: Reply) -> Result<u64, Errno>
+    ensures { result ≡ number_of reply }
+{
+    match reply {
+        Reply::Refused(errno) => Err(errno),
+        Reply::Number(number) => Ok(number),
+        _ => Ok(0),
+    }
+}
+
+/// A level, or why the call was refused.
+pub(crate) fn level(reply: Reply) -> Result<bool, Errno>
+    ensures { result ≡ level_of reply }
+{
+    match reply {
+        Reply::Refused(errno) => Err(errno),
+        Reply::Number(number) => Ok(number == 1),
+        _ => Ok(false),
+    }
+}
+
+/// A text, or why the call was refused.
+pub(crate) fn text(reply: Reply) -> Result<Name, Errno>
+    ensures { result ≡ text_of reply }
+{
+    match reply {
+        Reply::Refused(errno) => Err(errno),
+        Reply::Text(text) => Ok(text),
+        _ => Ok(Name::empty()),
+    }
+}
+
+/// What a file is ready for, or why the poll was refused.
+pub(crate) fn ready(reply: Reply) -> Result<u8, Errno>
+    ensures { result ≡ ready_of reply }
+{
+    match reply {
+        Reply::Refused(errno) => Err(errno),
+        Reply::Ready(bits) => Ok(bits),
+        _ => Ok(0),
+    }
+}
+
+/// The first line that was found, by place and offset, and how many there are; or why the call was refused.
+pub(crate) fn found(reply: Reply) -> Result<(u8, u32, u32), Errno>
+    ensures { result ≡ found_of reply }
+{
+    match reply {
+        Reply::Refused(errno) => Err(errno),
+        Reply::Found {
+            place,
+            offset,
+            count,
+        } => Ok((place, offset, count)),
+        _ => Ok((0, 0, 0)),
+    }
+}
