@@ -1,3 +1,4 @@
 pub mod GateSteps
 pub mod RemovalSteps
 pub mod Idle
+pub mod WholeCalls

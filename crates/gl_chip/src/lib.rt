@@ -4,6 +4,7 @@
 mod actor;
 mod driving;
 mod gpio;
+mod inner;
 mod making;
 mod removing;
 mod results;

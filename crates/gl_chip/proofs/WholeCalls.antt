@@ -1,0 +1,246 @@
+-- One entry as a whole call of the device.
+use Rattle.std.proofs.Common.{◌≡◌, ℕ, ◌+◌, ◌<◌, ◌≤◌, List, [], ◌∷◌, ◌++◌, length, drop, sym, refl, ap, ◌∙◌, subst, arith, Bool, true, false, Option, Some, None, Result, Ok, Err, IfOk, IfErr, ◌⊎◌, inl, inr}
+use Rattle.std.specs.Prelude.{cond}
+use Rattle.std.proofs.lemmas.Bool.{true≢false}
+use Rattle.std.proofs.lemmas.List.{append_assoc, append-nil}
+use Rattle.gl_base.specs.declared.errno.Errno.{Errno}
+use Rattle.gl_base.specs.declared.errno.Errno.TheVariants.{Full}
+use Rattle.gl_base.specs.Rows.{Each}
+use Rattle.gl_world.specs.Deeds.{entries_in}
+use Rattle.gl_world.specs.History.{Legal, entry}
+use Rattle.gl_gate.specs.Calls.{KnowsAsMuch, KnowsClosed, MayName}
+use Rattle.gl_gate.specs.Grown.{Grew, IsFree}
+use Rattle.gl_core.specs.Kept.{Kept, StandsFor}
+use Rattle.gl_model.specs.declared.call.Call.{Call}
+use Rattle.gl_model.specs.declared.call.Call.TheVariants.{Probe, Unplug, MakeDir, RemoveDir, Write, Read, Live, Remove, Tick, Pin, Irq, Pull, Level, Interrupt, OpenChip, Find, Ioctl, ReadEdges, ReadInfo, PollLine, PollChip, Close, Refused as RefusedCall}
+use Rattle.gl_model.specs.declared.gift.Gift.{Gift}
+use Rattle.gl_model.specs.declared.reply.Reply.{Reply}
+use Rattle.gl_model.specs.Calling.{AreOfCalls, Called, IsCalled, made_by}
+use Rattle.gl_model.specs.Entries.{guarded_place, refused_place}
+use Rattle.gl_model.specs.Fits.{Fits}
+use Rattle.gl_model.specs.Parts.{DeviceCall, MakesAt, Once, guard_of, is_poll, is_single}
+use Rattle.gl_model.specs.Replies.{has_form}
+use Rattle.gl_model.specs.Step.{guard_reply}
+use Rattle.gl_model.proofs.Replies.{replies_have_form}
+use Rattle.gl_chip.specs.Called.{HasCalled}
+use Rattle.gl_chip.specs.Steps.{CalledGuarded, CalledOnce, EndsWith, FoundNoRoom, IsAnswered, IsWhole, Owes, StoodFull, deed_of}
+use Rattle.gl_chip.specs.Values.{ActorValue, IsIdle, MayOwn, OneEntry, OneView, core}
+use Rattle.gl_chip.proofs.GateSteps.{is_free, knows_same}
+
+abbrev place_or : ℕ → Option ℕ → ℕ
+place_or d (Some p) = p
+place_or d None = d
+
+abbrev is_there : Option ℕ → Bool
+is_there (Some p) = true
+is_there None = false
+
+pub none_not_some : (p : ℕ) → None ≡ Some p → ⊥
+none_not_some p e = true≢false (sym (ap is_there e))
+
+-- a call that is whole by itself
+pub single_is_whole : (call : Call) → is_single call ≡ true → IsWhole core call
+single_is_whole (Probe a b c) s = record { ends_not = refl; begins_not = λ _. refl; no_last_removal = refl; begins_no_removal = λ _ _. refl }
+single_is_whole (Unplug a b) s = absurd (true≢false (sym s))
+single_is_whole (MakeDir a) s = record { ends_not = refl; begins_not = λ _. refl; no_last_removal = refl; begins_no_removal = λ _ _. refl }
+single_is_whole (RemoveDir a) s = record { ends_not = refl; begins_not = λ _. refl; no_last_removal = refl; begins_no_removal = λ _ _. refl }
+single_is_whole (Write a b) s = record { ends_not = refl; begins_not = λ _. refl; no_last_removal = refl; begins_no_removal = λ _ _. refl }
+single_is_whole (Read a) s = record { ends_not = refl; begins_not = λ _. refl; no_last_removal = refl; begins_no_removal = λ _ _. refl }
+single_is_whole (Live a) s = record { ends_not = refl; begins_not = λ _. refl; no_last_removal = refl; begins_no_removal = λ _ _. refl }
+single_is_whole (Remove a b) s = absurd (true≢false (sym s))
+single_is_whole (Tick a b) s = record { ends_not = refl; begins_not = λ _. refl; no_last_removal = refl; begins_no_removal = λ _ _. refl }
+single_is_whole (Pin a b) s = record { ends_not = refl; begins_not = λ _. refl; no_last_removal = refl; begins_no_removal = λ _ _. refl }
+single_is_whole (Irq a b c) s = record { ends_not = refl; begins_not = λ _. refl; no_last_removal = refl; begins_no_removal = λ _ _. refl }
+single_is_whole (Pull a b c) s = record { ends_not = refl; begins_not = λ _. refl; no_last_removal = refl; begins_no_removal = λ _ _. refl }
+single_is_whole (Level a b c) s = record { ends_not = refl; begins_not = λ _. refl; no_last_removal = refl; begins_no_removal = λ _ _. refl }
+single_is_whole (Interrupt a b c) s = record { ends_not = refl; begins_not = λ _. refl; no_last_removal = refl; begins_no_removal = λ _ _. refl }
+single_is_whole (OpenChip a) s = record { ends_not = refl; begins_not = λ _. refl; no_last_removal = refl; begins_no_removal = λ _ _. refl }
+single_is_whole (Find a b) s = record { ends_not = refl; begins_not = λ _. refl; no_last_removal = refl; begins_no_removal = λ _ _. refl }
+single_is_whole (Ioctl a b c d e f) s = absurd (true≢false (sym s))
+single_is_whole (ReadEdges a b c) s = record { ends_not = refl; begins_not = λ _. refl; no_last_removal = refl; begins_no_removal = λ _ _. refl }
+single_is_whole (ReadInfo a b c) s = record { ends_not = refl; begins_not = λ _. refl; no_last_removal = refl; begins_no_removal = λ _ _. refl }
+single_is_whole (PollLine a b) s = record { ends_not = refl; begins_not = λ _. refl; no_last_removal = refl; begins_no_removal = λ _ _. refl }
+single_is_whole (PollChip a b) s = record { ends_not = refl; begins_not = λ _. refl; no_last_removal = refl; begins_no_removal = λ _ _. refl }
+single_is_whole (Close a) s = record { ends_not = refl; begins_not = λ _. refl; no_last_removal = refl; begins_no_removal = λ _ _. refl }
+single_is_whole (RefusedCall a b) s = absurd (true≢false (sym s))
+
+pub single_not_refused : (call : Call) → is_single call ≡ true → refused_place call ≡ None
+single_not_refused (Probe a b c) s = refl
+single_not_refused (Unplug a b) s = absurd (true≢false (sym s))
+single_not_refused (MakeDir a) s = refl
+single_not_refused (RemoveDir a) s = refl
+single_not_refused (Write a b) s = refl
+single_not_refused (Read a) s = refl
+single_not_refused (Live a) s = refl
+single_not_refused (Remove a b) s = absurd (true≢false (sym s))
+single_not_refused (Tick a b) s = refl
+single_not_refused (Pin a b) s = refl
+single_not_refused (Irq a b c) s = refl
+single_not_refused (Pull a b c) s = refl
+single_not_refused (Level a b c) s = refl
+single_not_refused (Interrupt a b c) s = refl
+single_not_refused (OpenChip a) s = refl
+single_not_refused (Find a b) s = refl
+single_not_refused (Ioctl a b c d e f) s = absurd (true≢false (sym s))
+single_not_refused (ReadEdges a b c) s = refl
+single_not_refused (ReadInfo a b c) s = refl
+single_not_refused (PollLine a b) s = refl
+single_not_refused (PollChip a b) s = refl
+single_not_refused (Close a) s = refl
+single_not_refused (RefusedCall a b) s = absurd (true≢false (sym s))
+
+pub record_is_whole : (place : ℕ) (poll : Bool) → IsWhole core (RefusedCall place poll)
+record_is_whole place poll = record { ends_not = refl; begins_not = λ _. refl; no_last_removal = refl; begins_no_removal = λ _ _. refl }
+
+pub named_nowhere : (v : OneView) (call : Call) → is_single call ≡ true → guarded_place call ≡ None → MayName core v call
+named_nowhere v call single none = record {
+  named = λ p at. absurd (none_not_some p (sym none ∙ at));
+  refused = λ p at. absurd (none_not_some p (sym (single_not_refused call single) ∙ at));
+}
+
+owns_nothing : MayOwn []
+owns_nothing = record { quiet = tt; no_claims = tt }
+
+-- one entry, without a guard
+pub called_alone : (v w : OneView) (call : Call) (reply : Reply) (old new : List ℕ) → is_single call ≡ true → guarded_place call ≡ None → length new ≡ 0 → CalledOnce core v call reply old new w → HasCalled 0 v (Once call) reply [] w
+called_alone v w call reply old new single none empty step = record {
+  closed = false;
+  answer = None;
+  own = [];
+  did = deed_of v.number call reply step.wrote ∷ [];
+  makes = (single, subst (λ g. MakesAt {M = Kept} v.number g false (Once call) None [] (entry v.number call reply ∷ [])) (sym none) ((reply, refl), refl));
+  few_own = omega arith;
+  may_own = owns_nothing;
+  grew = step.grew;
+  last = record { last = entry v.number call reply; is_last = refl; at = step.last };
+  had_room = record { first = entry v.number call reply; is_first = refl; before = step.last.0; behind = []; at = step.last.1; room_left = step.had_room (single_is_whole call single).ends_not };
+  legal = step.legal;
+  reply_is = refl;
+  bytes_are = nothing_wrote step.wrote (drop (length step.wrote) old) (sym (ap (λ (l : List ℕ). length l) step.bytes) ∙ empty);
+  guard = λ p at. absurd (none_not_some p (sym none ∙ at));
+  knows_as_much = knows_same v w step.same.closed step.same.drained;
+}
+  where
+    nothing_wrote : (xs ys : List ℕ) → length (xs ++ ys) ≡ 0 → xs ≡ []
+    nothing_wrote [] ys e = refl
+    nothing_wrote (x ∷ xs) ys e = absurd (omega arith)
+
+-- the form of what it is answered
+pub form_alone : (v w : OneView) (call : Call) (reply : Reply) (old new : List ℕ) → CalledOnce core v call reply old new w → has_form call reply ≡ true
+form_alone v w call reply old new step = let a = step.answered in subst (λ r. has_form call r ≡ true) (sym a.reply_is) (replies_have_form.form a.world v.number call)
+
+-- One entry behind the guard of a place, or the record that it was closed, by whether it was.
+guarded_by : (place : ℕ) (poll : Bool) (v w : OneView) (call : Call) (reply : Reply) (wrote : List ℕ) → is_single call ≡ true → guarded_place call ≡ Some place → is_poll (Once call) ≡ poll → has_form call (guard_reply poll) ≡ false
+    → (b : Bool) → (last : EndsWith w.seen (entry v.number (cond b (RefusedCall place poll) call) reply)) → length last.0 < v.room → Grew core v (deed_of v.number (cond b (RefusedCall place poll) call) reply wrote ∷ []) w → Legal core w.seen
+    → IsAnswered core v.number (cond b (RefusedCall place poll) call) reply wrote → (KnowsClosed v place → b ≡ true) → (b ≡ true → KnowsClosed w place) → KnowsAsMuch v w → HasCalled 0 v (Once call) reply wrote w
+guarded_by place poll v w call reply wrote single at polls tells true last room grew legal answered known knows knows_as_much = let e : OneEntry = entry v.number (RefusedCall place poll) reply in record {
+  closed = true;
+  answer = None;
+  own = [];
+  did = deed_of v.number (RefusedCall place poll) reply wrote ∷ [];
+  makes = (
+    single,
+    subst (λ g. MakesAt {M = Kept} v.number g true (Once call) None [] (e ∷ [])) (sym at) (
+      subst (λ q. e ∷ [] ≡ entry v.number (RefusedCall place q) (guard_reply q) ∷ []) (sym polls) (ap (λ r. entry v.number (RefusedCall place poll) r ∷ []) answered.reply_is),
+      refl,
+    ),
+  );
+  few_own = omega arith;
+  may_own = owns_nothing;
+  grew = grew;
+  last = record { last = e; is_last = refl; at = last };
+  had_room = record { first = e; is_first = refl; before = last.0; behind = []; at = last.1; room_left = room };
+  legal = legal;
+  reply_is = refl;
+  bytes_are = refl;
+  guard = λ p its. record {
+    known = λ _. refl;
+    knows = λ _. subst (λ q. KnowsClosed w q) (ap (place_or p) (sym at ∙ its)) (knows refl);
+    gone = λ _. answered.reply_is ∙ ap guard_reply (sym polls);
+    gone_alone = λ _. refl;
+  };
+  knows_as_much = knows_as_much;
+}
+guarded_by place poll v w call reply wrote single at polls tells false last room grew legal answered known knows knows_as_much = let e : OneEntry = entry v.number call reply in record {
+  closed = false;
+  answer = None;
+  own = [];
+  did = deed_of v.number call reply wrote ∷ [];
+  makes = (single, subst (λ g. MakesAt {M = Kept} v.number g false (Once call) None [] (e ∷ [])) (sym at) ((reply, refl), refl));
+  few_own = omega arith;
+  may_own = owns_nothing;
+  grew = grew;
+  last = record { last = e; is_last = refl; at = last };
+  had_room = record { first = e; is_first = refl; before = last.0; behind = []; at = last.1; room_left = room };
+  legal = legal;
+  reply_is = refl;
+  bytes_are = refl;
+  guard = λ p its. record {
+    known = λ k. known (subst (λ q. KnowsClosed v q) (ap (place_or p) (sym its ∙ at)) k);
+    knows = λ f. absurd (true≢false (sym f));
+    gone = λ f. absurd (true≢false (sym f));
+    gone_alone = λ told. absurd (true≢false (sym (subst (λ r. has_form call r ≡ true) (sym answered.reply_is ∙ (told ∙ ap guard_reply polls)) (replies_have_form.form answered.world v.number call)) ∙ tells));
+  };
+  knows_as_much = knows_as_much;
+}
+
+pub called_guarded : (place : ℕ) (poll : Bool) (v w : OneView) (call : Call) (reply : Reply) (old new : List ℕ) → is_single call ≡ true → guarded_place call ≡ Some place → is_poll (Once call) ≡ poll → has_form call (guard_reply poll) ≡ false
+    → CalledGuarded core place (RefusedCall place poll) v call reply old new w → (bytes : List ℕ) × (new ≡ bytes ++ drop (length bytes) old) × HasCalled 0 v (Once call) reply bytes w
+called_guarded place poll v w call reply old new single at polls tells c = (c.wrote, c.bytes, guarded_by place poll v w call reply c.wrote single at polls tells c.closed c.last c.had_room c.grew c.legal c.answered c.known c.knows c.knows_as_much)
+
+-- the form of what it is answered
+form_by : (place : ℕ) (poll : Bool) (n : ℕ) (call : Call) (reply : Reply) (wrote : List ℕ) (b : Bool) → IsAnswered core n (cond b (RefusedCall place poll) call) reply wrote → (reply ≡ guard_reply poll) ⊎ (has_form call reply ≡ true)
+form_by place poll n call reply wrote true a = inl a.reply_is
+form_by place poll n call reply wrote false a = inr (subst (λ r. has_form call r ≡ true) (sym a.reply_is) (replies_have_form.form a.world n call))
+
+pub form_guarded : (place : ℕ) (poll : Bool) (v w : OneView) (call : Call) (reply : Reply) (old new : List ℕ) → CalledGuarded core place (RefusedCall place poll) v call reply old new w → (reply ≡ guard_reply poll) ⊎ (has_form call reply ≡ true)
+form_guarded place poll v w call reply old new c = form_by place poll v.number call reply c.wrote c.closed c.answered
+
+made_by_snoc : (calls : List (Called Kept)) (called : Called Kept) → made_by (calls ++ called ∷ []) ≡ made_by calls ++ called.made
+made_by_snoc [] called = append-nil called.made
+made_by_snoc (c ∷ calls) called = ap (λ l. c.made ++ l) (made_by_snoc calls called) ∙ sym (append_assoc c.made (made_by calls) called.made)
+
+each_snoc : {X : Type 0} (P : X → Type 0) (xs : List X) (x : X) → Each P xs → P x → Each P (xs ++ x ∷ [])
+each_snoc P [] x h p = (p, tt)
+each_snoc P (y ∷ ys) x h p = (h.0, each_snoc P ys x h.1 p)
+
+-- one more whole call
+calls_on : (n : ℕ) (mine : List OneEntry) (called : Called Kept) → AreOfCalls StandsFor n mine → IsCalled StandsFor n called → AreOfCalls StandsFor n (mine ++ called.made)
+calls_on n mine called of one = record {
+  calls = of.calls ++ called ∷ [];
+  each = each_snoc (IsCalled StandsFor n) of.calls called of.each one;
+  are = ap (λ l. l ++ called.made) of.are ∙ sym (made_by_snoc of.calls called);
+}
+
+-- an actor that made a whole call is idle again
+pub idle_called : (limit : ℕ) (v w : OneView) (call : DeviceCall) (reply : Reply) (bytes : List ℕ) → IsIdle v → IsFree core w → HasCalled limit v call reply bytes w → IsIdle w
+idle_called limit v w call reply bytes idle free c = record {
+  free = free;
+  whole_calls = subst (λ (x : ℕ × List OneEntry). AreOfCalls StandsFor x.0 x.1) (λ i. (sym c.grew.number i, sym c.grew.mine i))
+      (calls_on v.number v.mine (record { closed = c.closed; call = call; answer = c.answer; own = c.own; made = entries_in c.did }) idle.whole_calls (record { makes = c.makes; quiet = c.may_own.quiet; no_claims = c.may_own.no_claims }));
+}
+
+-- and so is one that made no entry
+pub idle_still : (v w : OneView) → IsIdle v → IsFree core w → Grew core v [] w → IsIdle w
+idle_still v w idle free grew = record {
+  free = free;
+  whole_calls = subst (λ (x : ℕ × List OneEntry). AreOfCalls StandsFor x.0 x.1) (λ i. (sym grew.number i, (sym (append-nil v.mine) ∙ sym grew.mine) i)) idle.whole_calls;
+}
+
+pub no_room_alone : (v w : OneView) → StoodFull core v w → FoundNoRoom core v w
+no_room_alone v w full = record { grew = full.grew; full = full.full; legal = full.legal; knows_as_much = knows_same v w full.same.closed full.same.drained }
+
+-- the actor after a call of the gate that was made or was not
+pub idle_alone : (r : Result Reply Errno) (v w : OneView) (call : Call) (old new : List ℕ) (Taken Left : Type 0) → is_single call ≡ true → guarded_place call ≡ None → length new ≡ 0 → IsIdle v → Owes core w 0 → IfOk r (λ reply. CalledOnce core v call reply old new w)
+    → IfErr r (λ e. (e ≡ Full) × Taken × Left × StoodFull core v w) → IsIdle w
+idle_alone (Ok reply) v w call old new T L single none empty idle owes step full = idle_called 0 v w (Once call) reply [] idle (is_free core w (step.same.inside ∙ idle.free.inside) owes) (called_alone v w call reply old new single none empty step)
+idle_alone (Err errno) v w call old new T L single none empty idle owes step full = idle_still v w idle (is_free core w (full.3.same.inside ∙ idle.free.inside) owes) full.3.grew
+
+pub idle_guarded : (r : Result Reply Errno) (place : ℕ) (poll : Bool) (v w : OneView) (call : Call) (old new : List ℕ) (Left : Type 0) → is_single call ≡ true → guarded_place call ≡ Some place → is_poll (Once call) ≡ poll → has_form call (guard_reply poll) ≡ false → IsIdle v → IsFree core w
+    → IfOk r (λ reply. CalledGuarded core place (RefusedCall place poll) v call reply old new w) → IfErr r (λ e. (e ≡ Full) × Left × FoundNoRoom core v w) → IsIdle w
+idle_guarded (Ok reply) place poll v w call old new L single at polls tells idle free c full = let h = called_guarded place poll v w call reply old new single at polls tells c in idle_called 0 v w (Once call) reply h.0 idle free h.2
+idle_guarded (Err errno) place poll v w call old new L single at polls tells idle free c full = idle_still v w idle free full.2.grew
+
+-- what is said of an actor's pass is said of the actor
+pub seen_from : {P : Type 0} (a b : ActorValue P) (Q : OneView → Type 0) → a ≡ b → Q a.pass.view → Q b.pass.view
+seen_from a b Q e = subst (λ x. Q x.pass.view) e

@@ -1,0 +1,21 @@
+use Rattle.std.proofs.Common.{rules, ◌≡◌, [], length}
+use Rattle.gl_model.specs.Parts.{Once}
+use Rattle.gl_chip.specs.Called.{HasCalled}
+use Rattle.gl_chip.proofs.GateSteps.{if_ok}
+use Rattle.gl_chip.proofs.WholeCalls.{called_alone, form_alone, idle_alone, seen_from, single_is_whole}
+use Rattle.gl_chip.proofs.gpio.Gpio.unguarded.Goals as goal
+
+pub alone-requires-clause-whole : goal.alone-requires-clause-whole
+alone-requires-clause-whole g c κs within = single_is_whole c.args.call c.requires.single
+
+pub invariant_of-actor : goal.invariant_of-actor
+invariant_of-actor g c = let empty : length c.alone.new.out ≡ 0 = search rules in
+    idle_alone c.alone.result c.actor.inside.pass.view c.alone.new.pass.view c.args.call _ c.alone.new.out _ _ c.requires.single c.requires.no_guard empty c.actor.invariant c.alone.ensures.owes c.alone.ensures.called c.alone.ensures.full
+
+pub returns-clause-called : goal.returns-clause-called
+returns-clause-called g c = let empty : length c.alone.new.out ≡ 0 = search rules in
+    if_ok c.alone.result _ _ (λ r step. seen_from _ _ (λ v. HasCalled 0 v (Once c.args.call) r [] c.alone.new.pass.view) c.actor.view_is
+    (called_alone c.actor.inside.pass.view c.alone.new.pass.view c.args.call r _ c.alone.new.out c.requires.single c.requires.no_guard empty step)) c.alone.ensures.called
+
+pub returns-clause-form : goal.returns-clause-form
+returns-clause-form g c = if_ok c.alone.result _ _ (λ r step. form_alone c.actor.inside.pass.view c.alone.new.pass.view c.args.call r _ _ step) c.alone.ensures.called

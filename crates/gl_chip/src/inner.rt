@@ -1,0 +1,95 @@
+//! The calls of the device that ask no driver: each is one entry of the history.
+
+ghost use Rattle.std.specs.Prelude.{◌≡◌, ◌⊎◌, ◌<◌, ℕ, List, [], ◌++◌, true, false, Some, None, length, drop, IfOk, IfErr};
+ghost use Rattle.gl_base.specs.declared.errno.Errno.TheVariants.{Full};
+ghost use Rattle.gl_base.specs.declared.limits.TheConstants.{PLACES};
+ghost use Rattle.gl_model.specs.Entries.{guarded_place};
+ghost use Rattle.gl_model.specs.Fits.{Fits, Leaves};
+ghost use Rattle.gl_model.specs.Parts.{Once, is_poll, is_single};
+ghost use Rattle.gl_model.specs.Replies.{has_form};
+ghost use Rattle.gl_model.specs.Step.{guard_reply};
+ghost use Rattle.gl_chip.specs.Called.{HasCalled};
+ghost use Rattle.gl_chip.specs.Steps.{FoundNoRoom};
+ghost use Rattle.gl_chip.specs.Values.{IsActorOf, core};
+
+use crate::actor::Actor;
+use crate::gpio::Gpio;
+use crate::steps::{alone, guarded};
+use gl_base::Errno;
+use gl_core::{Call, Core, Gift, Reply};
+use gl_driver::Driver;
+use std::sync::Wait;
+
+/// A gift with nothing in it.
+pub(crate) fn nothing() -> Gift
+    ensures ring { result.ring ≡ None }
+    ensures queue { result.queue ≡ None }
+{
+    Gift {
+        ring: None,
+        queue: None,
+    }
+}
+
+impl<D: Driver<Core>> Gpio<D> {
+    /// A call that takes no guard and asks no driver.
+    pub(crate) fn unguarded<R: Wait>(
+        &self,
+        rt: &R,
+        actor: &mut Actor<D>,
+        call: Call,
+        gift: &mut Gift,
+    ) -> Result<Reply, Errno>
+        requires actor { IsActorOf self.now actor.old }
+        requires single { is_single call ≡ true }
+        requires no_guard { guarded_place call ≡ None }
+        requires fits { Fits call gift.old [] }
+        ensures actor { IsActorOf self.now actor.new }
+        ensures port { actor.new.port ≡ actor.old.port }
+        ensures called { IfOk result (λ r. HasCalled 0 actor.old.pass.view (Once call) r [] actor.new.pass.view) }
+        ensures form { IfOk result (λ r. has_form call r ≡ true) }
+        ensures gift { IfOk result (λ r. Leaves call r gift.old gift.new) }
+        ensures full { IfErr result (λ e. (e ≡ Full) × FoundNoRoom core actor.old.pass.view actor.new.pass.view) }
+    {
+        alone(rt, &self.gate, &mut actor.pass, call, gift, &mut [])
+    }
+
+    /// A call behind the guard of a place that asks no driver.
+    pub(crate) fn behind_guard<R: Wait>(
+        &self,
+        rt: &R,
+        actor: &mut Actor<D>,
+        place: u8,
+        call: Call,
+        poll: bool,
+        out: &mut [u8],
+    ) -> Result<Reply, Errno>
+        requires actor { IsActorOf self.now actor.old }
+        requires place { place < PLACES }
+        requires single { is_single call ≡ true }
+        requires guard { guarded_place call ≡ Some place }
+        requires poll { is_poll (Once call) ≡ poll }
+        requires tells { has_form call (guard_reply poll) ≡ false }
+        requires fits { Fits call (record { ring = None; queue = None }) out.old }
+        ensures actor { IsActorOf self.now actor.new }
+        ensures port { actor.new.port ≡ actor.old.port }
+        ensures called { IfOk result (λ r. (bytes : List ℕ) × (out.new ≡ bytes ++ drop (length bytes) out.old)
+            × HasCalled 0 actor.old.pass.view (Once call) r bytes actor.new.pass.view) }
+        ensures form { IfOk result (λ r. (r ≡ guard_reply poll) ⊎ (has_form call r ≡ true)) }
+        ensures full { IfErr result (λ e. (e ≡ Full) × (out.new ≡ out.old)
+            × FoundNoRoom core actor.old.pass.view actor.new.pass.view) }
+    {
+        let refused = Call::Refused { place, poll };
+        let mut gift = nothing();
+        guarded(
+            rt,
+            &self.gate,
+            &mut actor.pass,
+            place,
+            call,
+            refused,
+            &mut gift,
+            out,
+        )
+    }
+}
