@@ -1,10 +1,10 @@
 -- One entry as a whole call of the device.
-use Rattle.std.proofs.Common.{◌≡◌, ℕ, ◌+◌, ◌<◌, ◌≤◌, List, [], ◌∷◌, ◌++◌, length, drop, sym, refl, ap, ◌∙◌, subst, arith, Bool, true, false, Option, Some, None, Result, Ok, Err, IfOk, IfErr, ◌⊎◌, inl, inr}
+use Rattle.std.proofs.Common.{◌≡◌, ◌≢◌, ℕ, ◌+◌, ◌<◌, ◌≤◌, List, [], ◌∷◌, ◌++◌, length, drop, sym, refl, ap, ◌∙◌, subst, arith, Bool, true, false, Option, Some, None, Result, Ok, Err, IfOk, IfErr, ◌⊎◌, inl, inr}
 use Rattle.std.specs.Prelude.{cond}
 use Rattle.std.proofs.lemmas.Bool.{true≢false}
 use Rattle.std.proofs.lemmas.List.{append_assoc, append-nil}
 use Rattle.gl_base.specs.declared.errno.Errno.{Errno}
-use Rattle.gl_base.specs.declared.errno.Errno.TheVariants.{Full}
+use Rattle.gl_base.specs.declared.errno.Errno.TheVariants.{Full, NoEnt}
 use Rattle.gl_base.specs.Rows.{Each}
 use Rattle.gl_world.specs.Deeds.{entries_in}
 use Rattle.gl_world.specs.History.{Legal, entry}
@@ -15,6 +15,7 @@ use Rattle.gl_model.specs.declared.call.Call.{Call}
 use Rattle.gl_model.specs.declared.call.Call.TheVariants.{Probe, Unplug, MakeDir, RemoveDir, Write, Read, Live, Remove, Tick, Pin, Irq, Pull, Level, Interrupt, OpenChip, Find, Ioctl, ReadEdges, ReadInfo, PollLine, PollChip, Close, Refused as RefusedCall}
 use Rattle.gl_model.specs.declared.gift.Gift.{Gift}
 use Rattle.gl_model.specs.declared.reply.Reply.{Reply}
+use Rattle.gl_model.specs.declared.reply.Reply.TheVariants.{Done, Number, Go, Found, Text, Ready, Refused}
 use Rattle.gl_model.specs.Calling.{AreOfCalls, Called, IsCalled, made_by}
 use Rattle.gl_model.specs.Entries.{guarded_place, refused_place}
 use Rattle.gl_model.specs.Fits.{Fits}
@@ -22,7 +23,8 @@ use Rattle.gl_model.specs.Parts.{DeviceCall, MakesAt, Once, guard_of, is_poll, i
 use Rattle.gl_model.specs.Replies.{has_form}
 use Rattle.gl_model.specs.Step.{guard_reply}
 use Rattle.gl_model.proofs.Replies.{replies_have_form}
-use Rattle.gl_chip.specs.Called.{HasCalled}
+use Rattle.gl_chip.specs.Called.{ComesOut, HasCalled}
+use Rattle.gl_chip.specs.Results.{value_of}
 use Rattle.gl_chip.specs.Steps.{CalledGuarded, CalledOnce, EndsWith, FoundNoRoom, IsAnswered, IsWhole, Owes, StoodFull, deed_of}
 use Rattle.gl_chip.specs.Values.{ActorValue, IsIdle, MayOwn, OneEntry, OneView, core}
 use Rattle.gl_chip.proofs.GateSteps.{is_free, knows_same}
@@ -128,6 +130,42 @@ called_alone v w call reply old new single none empty step = record {
 -- the form of what it is answered
 pub form_alone : (v w : OneView) (call : Call) (reply : Reply) (old new : List ℕ) → CalledOnce core v call reply old new w → has_form call reply ≡ true
 form_alone v w call reply old new step = let a = step.answered in subst (λ r. has_form call r ≡ true) (sym a.reply_is) (replies_have_form.form a.world v.number call)
+
+-- no call is answered that the history is full
+never_full : (n : ℕ) (call : Call) (reply : Reply) (wrote : List ℕ) → IsAnswered core n call reply wrote → reply ≢ Refused Full
+never_full n call reply wrote a is = replies_have_form.not_full a.world n call (sym a.reply_is ∙ is)
+
+pub alone_not_full : (v w : OneView) (call : Call) (reply : Reply) (old new : List ℕ) → CalledOnce core v call reply old new w → reply ≢ Refused Full
+alone_not_full v w call reply old new step = never_full v.number call reply step.wrote step.answered
+
+pub guarded_not_full : (place : ℕ) (refused : Call) (v w : OneView) (call : Call) (reply : Reply) (old new : List ℕ) → CalledGuarded core place refused v call reply old new w → reply ≢ Refused Full
+guarded_not_full place refused v w call reply old new c = never_full v.number (cond c.closed refused call) reply c.wrote c.answered
+
+abbrev errno_in : {X : Type 0} → Result X Errno → Errno
+errno_in (Ok x) = NoEnt
+errno_in (Err errno) = errno
+
+abbrev is_err : {X : Type 0} → Result X Errno → Bool
+is_err (Ok x) = false
+is_err (Err errno) = true
+
+full_is_told : {X : Type 0} (value : Reply → X) (reply : Reply) → value_of value reply ≡ Err Full → reply ≡ Refused Full
+full_is_told value Done e = absurd (true≢false (sym (ap is_err e)))
+full_is_told value (Number n) e = absurd (true≢false (sym (ap is_err e)))
+full_is_told value (Go n) e = absurd (true≢false (sym (ap is_err e)))
+full_is_told value (Found p o n) e = absurd (true≢false (sym (ap is_err e)))
+full_is_told value (Text t) e = absurd (true≢false (sym (ap is_err e)))
+full_is_told value (Ready b) e = absurd (true≢false (sym (ap is_err e)))
+full_is_told value (Refused errno) e = ap Refused (ap errno_in e)
+
+-- a call that was made comes out as its reply
+pub is_made : {X : Type 0} (value : Reply → X) (result : Result X Errno) (v w : OneView) (call : DeviceCall) (bytes : List ℕ) (reply : Reply) → result ≡ value_of value reply → reply ≢ Refused Full → HasCalled 0 v call reply bytes w
+    → ComesOut (λ r. value_of value r) result v call bytes w
+is_made value result v w call bytes reply is not_full called = inl record { reply = reply; result_is = is; not_full = λ full. not_full (full_is_told value reply (sym is ∙ full)); called = called }
+
+-- and one for which the history had no room
+pub is_full : {X : Type 0} (value : Reply → X) (errno : Errno) (v w : OneView) (call : DeviceCall) (bytes : List ℕ) → errno ≡ Full → FoundNoRoom core v w → ComesOut {X = X} (λ r. value_of value r) (Err errno) v call bytes w
+is_full value errno v w call bytes is full = inr (ap Err is, full)
 
 -- One entry behind the guard of a place, or the record that it was closed, by whether it was.
 guarded_by : (place : ℕ) (poll : Bool) (v w : OneView) (call : Call) (reply : Reply) (wrote : List ℕ) → is_single call ≡ true → guarded_place call ≡ Some place → is_poll (Once call) ≡ poll → has_form call (guard_reply poll) ≡ false

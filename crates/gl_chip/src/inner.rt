@@ -1,8 +1,9 @@
 //! The calls of the device that ask no driver: each is one entry of the history.
 
-ghost use Rattle.std.specs.Prelude.{◌≡◌, ◌⊎◌, ◌<◌, ℕ, List, [], ◌++◌, true, false, Some, None, length, drop, IfOk, IfErr};
+ghost use Rattle.std.specs.Prelude.{◌≡◌, ◌≢◌, ◌⊎◌, ◌<◌, ℕ, List, [], ◌++◌, true, false, Some, None, length, drop, IfOk, IfErr};
 ghost use Rattle.gl_base.specs.declared.errno.Errno.TheVariants.{Full};
 ghost use Rattle.gl_base.specs.declared.limits.TheConstants.{PLACES};
+ghost use Rattle.gl_model.specs.declared.reply.Reply.TheVariants.{Refused};
 ghost use Rattle.gl_model.specs.Entries.{guarded_place};
 ghost use Rattle.gl_model.specs.Fits.{Fits, Leaves};
 ghost use Rattle.gl_model.specs.Parts.{Once, is_poll, is_single};
@@ -48,6 +49,7 @@ impl<D: Driver<Core>> Gpio<D> {
         ensures port { actor.new.port ≡ actor.old.port }
         ensures called { IfOk result (λ r. HasCalled 0 actor.old.pass.view (Once call) r [] actor.new.pass.view) }
         ensures form { IfOk result (λ r. has_form call r ≡ true) }
+        ensures not_full { IfOk result (λ r. r ≢ Refused Full) }
         ensures gift { IfOk result (λ r. Leaves call r gift.old gift.new) }
         ensures full { IfErr result (λ e. (e ≡ Full) × FoundNoRoom core actor.old.pass.view actor.new.pass.view) }
     {
@@ -76,6 +78,7 @@ impl<D: Driver<Core>> Gpio<D> {
         ensures called { IfOk result (λ r. (bytes : List ℕ) × (out.new ≡ bytes ++ drop (length bytes) out.old)
             × HasCalled 0 actor.old.pass.view (Once call) r bytes actor.new.pass.view) }
         ensures form { IfOk result (λ r. (r ≡ guard_reply poll) ⊎ (has_form call r ≡ true)) }
+        ensures not_full { IfOk result (λ r. r ≢ Refused Full) }
         ensures full { IfErr result (λ e. (e ≡ Full) × (out.new ≡ out.old)
             × FoundNoRoom core actor.old.pass.view actor.new.pass.view) }
     {

@@ -2,13 +2,20 @@
 #![tactic(auto)]
 
 mod actor;
+mod answered;
+mod board;
 mod driving;
+mod files;
 mod gpio;
 mod inner;
+mod lines;
 mod making;
+mod open_files;
 mod removing;
 mod results;
 mod steps;
+mod tree;
 
 pub use actor::Actor;
+pub use files::{ChipFd, LineFd};
 pub use gpio::Gpio;

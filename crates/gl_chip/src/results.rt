@@ -1,9 +1,7 @@
 //! What a caller of the device gets of a reply of the machine.
 
-ghost use Rattle.std.specs.Prelude.{◌≡◌, true};
-ghost use Rattle.gl_base.specs.declared.limits.TheConstants.{PLACES};
-ghost use Rattle.gl_model.specs.Replies.{is_number_below};
-ghost use Rattle.gl_chip.specs.Results.{done_of, found_of, level_of, number_of, ready_of, text_of};
+ghost use Rattle.std.specs.Prelude.{◌≡◌, ◌<◌};
+ghost use Rattle.gl_chip.specs.Results.{done_of, found_of, level_of, number_in, number_of, ready_of, text_of};
 
 use gl_base::{Errno, Name};
 use gl_core::Reply;
@@ -18,13 +16,14 @@ pub(crate) fn done(reply: Reply) -> Result<(), Errno>
     }
 }
 
-/// The number, or why the call was refused.
-pub(crate) fn number(reply: Reply) -> Result<u64, Errno>
+/// A place, or why the call was refused.
+pub(crate) fn place(reply: Reply) -> Result<u8, Errno>
+    requires { number_in reply < 256 }
     ensures { result ≡ number_of reply }
 {
     match reply {
         Reply::Refused(errno) => Err(errno),
-        Reply::Number(number) => Ok(number),
+        Reply::Number(number) => Ok(number as u8),
         _ => Ok(0),
     }
 }

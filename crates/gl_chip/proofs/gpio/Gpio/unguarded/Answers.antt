@@ -2,7 +2,7 @@ use Rattle.std.proofs.Common.{rules, ◌≡◌, [], length}
 use Rattle.gl_model.specs.Parts.{Once}
 use Rattle.gl_chip.specs.Called.{HasCalled}
 use Rattle.gl_chip.proofs.GateSteps.{if_ok}
-use Rattle.gl_chip.proofs.WholeCalls.{called_alone, form_alone, idle_alone, seen_from, single_is_whole}
+use Rattle.gl_chip.proofs.WholeCalls.{alone_not_full, called_alone, form_alone, idle_alone, seen_from, single_is_whole}
 use Rattle.gl_chip.proofs.gpio.Gpio.unguarded.Goals as goal
 
 pub alone-requires-clause-whole : goal.alone-requires-clause-whole
@@ -19,3 +19,6 @@ returns-clause-called g c = let empty : length c.alone.new.out ≡ 0 = search ru
 
 pub returns-clause-form : goal.returns-clause-form
 returns-clause-form g c = if_ok c.alone.result _ _ (λ r step. form_alone c.actor.inside.pass.view c.alone.new.pass.view c.args.call r _ _ step) c.alone.ensures.called
+
+pub returns-clause-not_full : goal.returns-clause-not_full
+returns-clause-not_full g c = if_ok c.alone.result _ _ (λ r step. alone_not_full c.actor.inside.pass.view c.alone.new.pass.view c.args.call r _ _ step) c.alone.ensures.called

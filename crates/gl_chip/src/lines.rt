@@ -1,0 +1,173 @@
+//! Calls that name a line or the pins of a place. They go behind the guard of the place: where that is closed, each is `NoDev`.
+
+ghost use Rattle.std.specs.Prelude.{◌≡◌, ◌<◌, [], true, false};
+ghost use Rattle.gl_base.specs.declared.limits.TheConstants.{PLACES};
+ghost use Rattle.gl_model.specs.declared.call.Call.TheVariants.{Interrupt, Irq as IrqCall, Level as LevelCall, Pin as PinCall, Pull as PullCall};
+ghost use Rattle.gl_model.specs.Parts.{Once};
+ghost use Rattle.gl_chip.specs.Called.{ComesOut};
+ghost use Rattle.gl_chip.specs.Results.{done_of, level_of};
+ghost use Rattle.gl_chip.specs.Values.{IsActorOf};
+
+use crate::actor::Actor;
+use crate::gpio::Gpio;
+use crate::results;
+use gl_base::{Errno, IrqDo, PinDo};
+use gl_core::{Call, Core};
+use gl_driver::Driver;
+use std::sync::Wait;
+
+impl<D: Driver<Core>> Gpio<D> {
+    /// Pulls a line of a simulated chip up or down.
+    ///
+    /// `NoEnt` where the place has no chip; `Inval` where the offset is past its lines or the chip is remote; `NoDev` where its
+    /// removal had closed the place; `Full` where the history is full.
+    pub fn set_pull<R: Wait>(
+        &self,
+        rt: &R,
+        actor: &mut Actor<D>,
+        place: u8,
+        offset: u32,
+        up: bool,
+    ) -> Result<(), Errno>
+        requires actor { IsActorOf self.now actor.old }
+        requires place { place < PLACES }
+        ensures actor { IsActorOf self.now actor.new }
+        ensures port { actor.new.port ≡ actor.old.port }
+        ensures called { ComesOut done_of result actor.old.pass.view (Once (PullCall place offset up)) [] actor.new.pass.view }
+    {
+        self.done_behind_guard(rt, actor, place, Call::Pull { place, offset, up })
+    }
+
+    /// The physical level of a line of a simulated chip: true for high.
+    ///
+    /// `NoEnt` where the place has no chip; `Inval` where the offset is past its lines or the chip is remote; `NoDev` where its
+    /// removal had closed the place; `Full` where the history is full.
+    pub fn level<R: Wait>(
+        &self,
+        rt: &R,
+        actor: &mut Actor<D>,
+        place: u8,
+        offset: u32,
+    ) -> Result<bool, Errno>
+        requires actor { IsActorOf self.now actor.old }
+        requires place { place < PLACES }
+        ensures actor { IsActorOf self.now actor.new }
+        ensures port { actor.new.port ≡ actor.old.port }
+        ensures called { ComesOut level_of result actor.old.pass.view (Once (LevelCall place offset false)) [] actor.new.pass.view }
+    {
+        self.read_level(rt, actor, place, offset, false)
+    }
+
+    /// The pull of a line of a simulated chip: true for up.
+    ///
+    /// `NoEnt` where the place has no chip; `Inval` where the offset is past its lines or the chip is remote; `NoDev` where its
+    /// removal had closed the place; `Full` where the history is full.
+    pub fn pull<R: Wait>(
+        &self,
+        rt: &R,
+        actor: &mut Actor<D>,
+        place: u8,
+        offset: u32,
+    ) -> Result<bool, Errno>
+        requires actor { IsActorOf self.now actor.old }
+        requires place { place < PLACES }
+        ensures actor { IsActorOf self.now actor.new }
+        ensures port { actor.new.port ≡ actor.old.port }
+        ensures called { ComesOut level_of result actor.old.pass.view (Once (LevelCall place offset true)) [] actor.new.pass.view }
+    {
+        self.read_level(rt, actor, place, offset, true)
+    }
+
+    // The level of a line, or its pull.
+    fn read_level<R: Wait>(
+        &self,
+        rt: &R,
+        actor: &mut Actor<D>,
+        place: u8,
+        offset: u32,
+        pull: bool,
+    ) -> Result<bool, Errno>
+        requires actor { IsActorOf self.now actor.old }
+        requires place { place < PLACES }
+        ensures actor { IsActorOf self.now actor.new }
+        ensures port { actor.new.port ≡ actor.old.port }
+        ensures called { ComesOut level_of result actor.old.pass.view (Once (LevelCall place offset pull)) [] actor.new.pass.view }
+    {
+        let call = Call::Level {
+            place,
+            offset,
+            pull,
+        };
+        match self.behind_guard(rt, actor, place, call, false, &mut []) {
+            Ok(reply) => results::level(reply),
+            Err(errno) => Err(errno),
+        }
+    }
+
+    /// An interrupt of a remote chip tells the level of a line.
+    ///
+    /// `NoEnt` where the place has no chip; `Inval` where the offset is past its lines or the chip is simulated; `NoDev` where
+    /// its removal had closed the place; `Full` where the history is full.
+    pub fn interrupt<R: Wait>(
+        &self,
+        rt: &R,
+        actor: &mut Actor<D>,
+        place: u8,
+        offset: u32,
+        up: bool,
+    ) -> Result<(), Errno>
+        requires actor { IsActorOf self.now actor.old }
+        requires place { place < PLACES }
+        ensures actor { IsActorOf self.now actor.new }
+        ensures port { actor.new.port ≡ actor.old.port }
+        ensures called { ComesOut done_of result actor.old.pass.view (Once (Interrupt place offset up)) [] actor.new.pass.view }
+    {
+        self.done_behind_guard(rt, actor, place, Call::Interrupt { place, offset, up })
+    }
+
+    /// Does something with the pins of a chip. Its refusals are those of the machine's call; `NoDev` where a removal had closed
+    /// the place; `Full` where the history is full.
+    pub fn pin<R: Wait>(
+        &self,
+        rt: &R,
+        actor: &mut Actor<D>,
+        place: u8,
+        what: PinDo,
+    ) -> Result<(), Errno>
+        requires actor { IsActorOf self.now actor.old }
+        requires place { place < PLACES }
+        ensures actor { IsActorOf self.now actor.new }
+        ensures port { actor.new.port ≡ actor.old.port }
+        ensures called { ComesOut done_of result actor.old.pass.view (Once (PinCall place what)) [] actor.new.pass.view }
+    {
+        self.done_behind_guard(rt, actor, place, Call::Pin { place, what })
+    }
+
+    /// Does something with the interrupt of a line. Its refusals are those of the machine's call; `NoDev` where a removal had
+    /// closed the place; `Full` where the history is full.
+    pub fn irq<R: Wait>(
+        &self,
+        rt: &R,
+        actor: &mut Actor<D>,
+        place: u8,
+        offset: u32,
+        what: IrqDo,
+    ) -> Result<(), Errno>
+        requires actor { IsActorOf self.now actor.old }
+        requires place { place < PLACES }
+        ensures actor { IsActorOf self.now actor.new }
+        ensures port { actor.new.port ≡ actor.old.port }
+        ensures called { ComesOut done_of result actor.old.pass.view (Once (IrqCall place offset what)) [] actor.new.pass.view }
+    {
+        self.done_behind_guard(
+            rt,
+            actor,
+            place,
+            Call::Irq {
+                place,
+                offset,
+                what,
+            },
+        )
+    }
+}

@@ -1,0 +1,111 @@
+//! Calls on open files that ask no driver: polls, reads and closes.
+
+ghost use Rattle.std.specs.Prelude.{◌≡◌, ◌<◌, ◌^◌, ◌++◌, ℕ, List, [], length, drop, Err, IfErr};
+ghost use Rattle.gl_model.specs.declared.call.Call.TheVariants.{Close, PollChip as PollChipCall, PollLine as PollLineCall, ReadEdges, ReadInfo};
+ghost use Rattle.gl_model.specs.Parts.{Once};
+ghost use Rattle.gl_chip.specs.Called.{ComesOut};
+ghost use Rattle.gl_chip.specs.Files.{close_result};
+ghost use Rattle.gl_chip.specs.Results.{done_of, number_of, ready_of};
+ghost use Rattle.gl_chip.specs.Values.{IsActorOf};
+
+use crate::actor::Actor;
+use crate::files::{ChipFd, LineFd};
+use crate::gpio::Gpio;
+use crate::results;
+use gl_base::Errno;
+use gl_core::{Call, Core};
+use gl_driver::Driver;
+use std::sync::Wait;
+
+impl<D: Driver<Core>> Gpio<D> {
+    /// Asks whether a change of a watched line waits at a chip file: bit 0 where one does. 6, which is bits 1 and 2 (an error and
+    /// a hang-up), where the removal of its chip had closed the place.
+    ///
+    /// `BadF` where no open file has this number at this place; `Inval` where a request has it; `Full` where the history is full.
+    pub fn poll_chip<R: Wait>(&self, rt: &R, actor: &mut Actor<D>, fd: &ChipFd) -> Result<u8, Errno>
+        requires actor { IsActorOf self.now actor.old }
+        ensures actor { IsActorOf self.now actor.new }
+        ensures port { actor.new.port ≡ actor.old.port }
+        ensures called { ComesOut ready_of result actor.old.pass.view (Once (PollChipCall fd.now.place fd.now.fd)) [] actor.new.pass.view }
+    {
+        let (place, fd) = (fd.place, fd.fd);
+        match self.behind_guard(
+            rt,
+            actor,
+            place,
+            Call::PollChip { place, fd },
+            true,
+            &mut [],
+        ) {
+            Ok(reply) => results::ready(reply),
+            Err(errno) => Err(errno),
+        }
+    }
+
+    /// Asks whether an event of a request waits: bit 0 where one does. 6, which is bits 1 and 2 (an error and a hang-up), where
+    /// the removal of its chip had closed the place.
+    ///
+    /// `BadF` where no open file has this number at this place; `Inval` where a chip file has it; `Full` where the history is
+    /// full.
+    pub fn poll_line<R: Wait>(&self, rt: &R, actor: &mut Actor<D>, fd: &LineFd) -> Result<u8, Errno>
+        requires actor { IsActorOf self.now actor.old }
+        ensures actor { IsActorOf self.now actor.new }
+        ensures port { actor.new.port ≡ actor.old.port }
+        ensures called { ComesOut ready_of result actor.old.pass.view (Once (PollLineCall fd.now.place fd.now.fd)) [] actor.new.pass.view }
+    {
+        let (place, fd) = (fd.place, fd.fd);
+        match self.behind_guard(
+            rt,
+            actor,
+            place,
+            Call::PollLine { place, fd },
+            true,
+            &mut [],
+        ) {
+            Ok(reply) => results::ready(reply),
+            Err(errno) => Err(errno),
+        }
+    }
+
+    /// Closes a chip, in every phase of it. Where it is refused, the file comes back.
+    ///
+    /// `BadF` where no open file has its number; `Full` where the history is full.
+    pub fn close_chip<R: Wait>(
+        &self,
+        rt: &R,
+        actor: &mut Actor<D>,
+        fd: ChipFd,
+    ) -> Result<(), (ChipFd, Errno)>
+        requires actor { IsActorOf self.now actor.old }
+        ensures actor { IsActorOf self.now actor.new }
+        ensures port { actor.new.port ≡ actor.old.port }
+        ensures called { ComesOut done_of (close_result result) actor.old.pass.view (Once (Close fd.fd)) [] actor.new.pass.view }
+        ensures file { IfErr result (λ refused. refused.0 ≡ fd) }
+    {
+        match self.done_alone(rt, actor, Call::Close { fd: fd.fd }) {
+            Ok(()) => Ok(()),
+            Err(errno) => Err((fd, errno)),
+        }
+    }
+
+    /// Closes a request, in every phase of its chip: its lines are free then. Where it is refused, the file comes back.
+    ///
+    /// `BadF` where no open file has its number; `Full` where the history is full.
+    pub fn close_line<R: Wait>(
+        &self,
+        rt: &R,
+        actor: &mut Actor<D>,
+        fd: LineFd,
+    ) -> Result<(), (LineFd, Errno)>
+        requires actor { IsActorOf self.now actor.old }
+        ensures actor { IsActorOf self.now actor.new }
+        ensures port { actor.new.port ≡ actor.old.port }
+        ensures called { ComesOut done_of (close_result result) actor.old.pass.view (Once (Close fd.fd)) [] actor.new.pass.view }
+        ensures file { IfErr result (λ refused. refused.0 ≡ fd) }
+    {
+        match self.done_alone(rt, actor, Call::Close { fd: fd.fd }) {
+            Ok(()) => Ok(()),
+            Err(errno) => Err((fd, errno)),
+        }
+    }
+}

@@ -1,0 +1,77 @@
+//! The configuration tree of simulated chips. These calls take no guard.
+
+ghost use Rattle.std.specs.Prelude.{◌≡◌, []};
+ghost use Rattle.gl_model.specs.declared.call.Call.TheVariants.{MakeDir, Read as ReadCall, RemoveDir, Write as WriteCall};
+ghost use Rattle.gl_model.specs.Parts.{Once};
+ghost use Rattle.gl_chip.specs.Called.{ComesOut};
+ghost use Rattle.gl_chip.specs.Results.{done_of, text_of};
+ghost use Rattle.gl_chip.specs.Values.{IsActorOf};
+
+use crate::actor::Actor;
+use crate::gpio::Gpio;
+use crate::inner::nothing;
+use crate::results;
+use gl_base::{Errno, Name, Path};
+use gl_core::{Call, Core};
+use gl_driver::Driver;
+use std::sync::Wait;
+
+impl<D: Driver<Core>> Gpio<D> {
+    /// Makes a directory of the tree. Its refusals are those of the machine's call; `Full` where the history is full.
+    pub fn mkdir<R: Wait>(&self, rt: &R, actor: &mut Actor<D>, path: &Path) -> Result<(), Errno>
+        requires actor { IsActorOf self.now actor.old }
+        ensures actor { IsActorOf self.now actor.new }
+        ensures port { actor.new.port ≡ actor.old.port }
+        ensures called { ComesOut done_of result actor.old.pass.view (Once (MakeDir path.now)) [] actor.new.pass.view }
+    {
+        self.done_alone(rt, actor, Call::MakeDir { path: *path })
+    }
+
+    /// Removes a directory of the tree. Its refusals are those of the machine's call; `Full` where the history is full.
+    pub fn rmdir<R: Wait>(&self, rt: &R, actor: &mut Actor<D>, path: &Path) -> Result<(), Errno>
+        requires actor { IsActorOf self.now actor.old }
+        ensures actor { IsActorOf self.now actor.new }
+        ensures port { actor.new.port ≡ actor.old.port }
+        ensures called { ComesOut done_of result actor.old.pass.view (Once (RemoveDir path.now)) [] actor.new.pass.view }
+    {
+        self.done_alone(rt, actor, Call::RemoveDir { path: *path })
+    }
+
+    /// Writes a value to a file of the tree. Its refusals are those of the machine's call; `Full` where the history is full.
+    pub fn write<R: Wait>(
+        &self,
+        rt: &R,
+        actor: &mut Actor<D>,
+        path: &Path,
+        value: &Name,
+    ) -> Result<(), Errno>
+        requires actor { IsActorOf self.now actor.old }
+        ensures actor { IsActorOf self.now actor.new }
+        ensures port { actor.new.port ≡ actor.old.port }
+        ensures called { ComesOut done_of result actor.old.pass.view (Once (WriteCall path.now value.now)) [] actor.new.pass.view }
+    {
+        let _name = value.as_bytes();
+        self.done_alone(
+            rt,
+            actor,
+            Call::Write {
+                path: *path,
+                value: *value,
+            },
+        )
+    }
+
+    /// Reads a file of the tree. Its refusals are those of the machine's call; `Full` where the history is full.
+    pub fn read<R: Wait>(&self, rt: &R, actor: &mut Actor<D>, path: &Path) -> Result<Name, Errno>
+        requires actor { IsActorOf self.now actor.old }
+        ensures actor { IsActorOf self.now actor.new }
+        ensures port { actor.new.port ≡ actor.old.port }
+        ensures called { ComesOut text_of result actor.old.pass.view (Once (ReadCall path.now)) [] actor.new.pass.view }
+    {
+        let mut gift = nothing();
+        match self.unguarded(rt, actor, Call::Read { path: *path }, &mut gift) {
+            Ok(reply) => results::text(reply),
+            Err(errno) => Err(errno),
+        }
+    }
+}
