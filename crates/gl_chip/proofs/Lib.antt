@@ -2,3 +2,4 @@ pub mod GateSteps
 pub mod RemovalSteps
 pub mod Idle
 pub mod WholeCalls
+pub mod RemovalCalls

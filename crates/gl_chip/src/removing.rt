@@ -1,15 +1,25 @@
-//! A removal over the gate: its first entry, then each place closed and drained, then its last entry. It is the same for every machine.
+//! Removals: the first entry, then each place closed and drained, then the last entry.
 
-ghost use Rattle.std.specs.Prelude.{◌≡◌, ℕ, ◌+◌, ◌<◌, ◌≤◌, List, [], length, true, IfOk, IfErr};
+ghost use Rattle.std.specs.Prelude.{◌≡◌, ℕ, ◌+◌, ◌<◌, ◌≤◌, List, [], true, IfOk, IfErr};
 ghost use Rattle.gl_base.specs.declared.errno.Errno.TheVariants.{Full};
-ghost use Rattle.gl_world.specs.History.{fold};
+ghost use Rattle.gl_world.specs.History.{Legal, fold};
 ghost use Rattle.gl_world.specs.Removal.{Removes};
 ghost use Rattle.gl_gate.specs.Values.{IsPassOf};
 ghost use Rattle.gl_gate.specs.Grown.{IsFree};
-ghost use Rattle.gl_chip.specs.Removing.{HasBegunAt, HasDrained, HasRemoved, IsRemoval};
+ghost use Rattle.gl_model.specs.Entries.{is_done, last_call};
+ghost use Rattle.gl_model.specs.Fits.{FitsCall};
+ghost use Rattle.gl_model.specs.Parts.{Removing};
+ghost use Rattle.gl_chip.specs.Called.{HasCalled};
+ghost use Rattle.gl_chip.specs.Removing.{AllDrained, HasBegun, HasDrained, HasEnded, is_first_call, removal_of};
 ghost use Rattle.gl_chip.specs.Steps.{FoundNoRoom};
+ghost use Rattle.gl_chip.specs.Values.{IsActorOf, core};
 
+use crate::actor::Actor;
+use crate::gpio::Gpio;
+use crate::inner::nothing;
 use gl_base::Errno;
+use gl_core::{Call, Core, Reply};
+use gl_driver::Driver;
 use gl_gate::{Gate, Pass};
 use gl_world::Machine;
 use std::sync::Wait;
@@ -39,5 +49,89 @@ fn close_all<M: Machine, R: Wait>(rt: &R, gate: &Gate<M>, pass: &mut Pass<M>, fr
 {
     for step in 0..count {
         close_and_drain(rt, gate, pass, from + step);
+    }
+}
+
+/// A removal was begun or ended.
+fn is_done(reply: &Reply) -> bool
+    ensures { result ≡ is_done reply.now }
+{
+    matches!(reply, Reply::Done)
+}
+
+/// The call that ends the removal which this call begins.
+fn last_call(first: &Call) -> Call
+    ensures { result ≡ last_call first.now }
+{
+    match *first {
+        Call::Unplug { place, .. } => Call::Unplug { place, last: true },
+        Call::Remove { device, .. } => Call::Remove { device, last: true },
+        call => call,
+    }
+}
+
+impl<D: Driver<Core>> Gpio<D> {
+    /// Closes and drains the places of a removal that has begun, and makes its last entry.
+    fn end_removal<R: Wait>(
+        &self,
+        rt: &R,
+        pass: &mut Pass<Core>,
+        first: &Call,
+        from: u8,
+        count: u8,
+    ) -> Reply
+        requires gate { IsPassOf self.now pass.old }
+        requires first { is_first_call first.now ≡ true }
+        requires fits { FitsCall first.now }
+        requires outside { pass.old.view.inside ≡ [] }
+        requires begun { HasBegun from count first.now pass.old.view }
+        requires legal { Legal core pass.old.view.seen }
+        ensures gate { IsPassOf self.now pass.new }
+        ensures free { IsFree core pass.new.view }
+        ensures ended { HasEnded from count first.now pass.old.view result pass.new.view }
+    {
+        close_all(rt, &self.gate, pass, from, count);
+        let mut gift = nothing();
+        match self
+            .gate
+            .act(rt, pass, last_call(first), &mut gift, &mut [])
+        {
+            Ok(reply) => reply,
+            Err(_) => unreachable!(),
+        }
+    }
+
+    /// A removal: its first entry and, where that is answered Done, its places closed and drained, and its last entry.
+    pub(crate) fn remove_by<R: Wait>(
+        &self,
+        rt: &R,
+        actor: &mut Actor<D>,
+        first: &Call,
+    ) -> Result<Reply, Errno>
+        requires actor { IsActorOf self.now actor.old }
+        requires first { is_first_call first.now ≡ true }
+        requires fits { FitsCall first.now }
+        ensures actor { IsActorOf self.now actor.new }
+        ensures port { actor.new.port ≡ actor.old.port }
+        ensures called { IfOk result (λ r. (bytes : List ℕ)
+            × (called : HasCalled 0 actor.old.pass.view (Removing (removal_of first.now)) r bytes actor.new.pass.view)
+            × AllDrained called.did actor.new.pass.view) }
+        ensures full { IfErr result (λ e. (e ≡ Full) × FoundNoRoom core actor.old.pass.view actor.new.pass.view) }
+    {
+        let _number = actor.pass.number();
+        let mut places = [0u8; 2];
+        let mut gift = nothing();
+        let begun = self
+            .gate
+            .act(rt, &mut actor.pass, *first, &mut gift, &mut places);
+        match begun {
+            Err(errno) => Err(errno),
+            Ok(reply) => {
+                if !is_done(&reply) {
+                    return Ok(reply);
+                }
+                Ok(self.end_removal(rt, &mut actor.pass, first, places[0], places[1]))
+            }
+        }
     }
 }

@@ -1,0 +1,636 @@
+-- The entries of a removal.
+use Rattle.std.proofs.Common.{◌≡◌, ℕ, ◌+◌, ◌-◌, ◌<◌, ◌≤◌, List, [], ◌∷◌, ◌++◌, length, drop, sym, refl, ap, ◌∙◌, subst, arith, Bool, true, false, Option, Some, None, ⊎_elim}
+use Rattle.std.specs.Prelude.{Contains, cond, slice_index_or}
+use Rattle.std.proofs.lemmas.Bool.{true≢false}
+use Rattle.std.proofs.lemmas.List.{append_assoc, append-nil}
+use Rattle.gl_base.specs.declared.errno.Errno.{Errno}
+use Rattle.gl_base.specs.declared.limits.TheConstants.{PLACES}
+use Rattle.gl_world.specs.History.{Legal, entries_of, entry, fold, owed}
+use Rattle.gl_world.specs.Removal.{AllQuiet, Removes}
+use Rattle.gl_world.proofs.Histories.{answered_prefix, placed_prefix, entries_append}
+use Rattle.gl_rule.specs.Turn.{owes}
+use Rattle.gl_gate.specs.Calls.{Acts, HasItsOwn, KnowsAsMuch, KnowsDrained, MayCall, MayEndRemoval, MayName, Refuses, RemovesNothing, SamePass}
+use Rattle.gl_gate.specs.Grown.{Grew, IsFree, Moved}
+use Rattle.gl_gate.proofs.Grown.{acts_are_deeds, grows_on, moves_do_nothing, still_removes_nothing}
+use Rattle.gl_core.specs.Kept.{Kept, StandsFor}
+use Rattle.gl_model.specs.declared.call.Call.{Call}
+use Rattle.gl_model.specs.declared.call.Call.TheVariants.{Probe, Unplug, MakeDir, RemoveDir, Write, Read, Live, Remove, Tick, Pin, Irq, Pull, Level, Interrupt, OpenChip, Find, Ioctl, ReadEdges, ReadInfo, PollLine, PollChip, Close, Refused as RefusedCall}
+use Rattle.gl_model.specs.declared.gift.Gift.{Gift}
+use Rattle.gl_model.specs.declared.reply.Reply.{Reply}
+use Rattle.gl_model.specs.declared.reply.Reply.TheVariants.{Done, Number, Go, Found, Text, Ready, Refused}
+use Rattle.gl_model.specs.Chips.{phase_at, places_from}
+use Rattle.gl_model.specs.Entries.{awaited_call, begins, begun_places, ends, guarded_place, is_done, is_last_removal, last_call, places_named, refused_place}
+use Rattle.gl_model.specs.Fits.{Fits, FitsCall}
+use Rattle.gl_model.specs.Machine.{bytes_of, reply_of}
+use Rattle.gl_model.specs.Outcome.{Outcome, refused_or, writes}
+use Rattle.gl_model.specs.Parts.{MakesRest, MakesTwo, Removing, first_call, guard_of}
+use Rattle.gl_model.specs.Removal.{removal_bytes, up_places}
+use Rattle.gl_model.specs.World.{World}
+use Rattle.gl_model.proofs.Bounds.{legal_worlds_have_bounds}
+use Rattle.gl_model.proofs.EndingRemovals.{last_calls_are_done}
+use Rattle.gl_model.proofs.Phases.{length-places_from, read_places, within_chips}
+use Rattle.gl_chip.specs.Called.{HasCalled}
+use Rattle.gl_chip.specs.Removing.{AllDrained, HasBegun, HasDrained, HasEnded, is_first_call, removal_of}
+use Rattle.gl_chip.specs.Steps.{FoundNoRoom, deed_of}
+use Rattle.gl_chip.specs.Values.{IsIdle, MayOwn, OneEntry, OneView, core}
+use Rattle.gl_chip.proofs.GateSteps.{free_owes, is_free, knows_on, knows_same, owes_refused, stood_full}
+use Rattle.gl_chip.proofs.WholeCalls.{idle_still, no_room_alone, none_not_some}
+
+-- what the first and the last call of a removal are
+
+pub first_ends_not : (call : Call) → is_first_call call ≡ true → ends call ≡ false
+first_ends_not (Probe a b c) s = absurd (true≢false (sym s))
+first_ends_not (Unplug a false) s = refl
+first_ends_not (Unplug a true) s = absurd (true≢false (sym s))
+first_ends_not (MakeDir a) s = absurd (true≢false (sym s))
+first_ends_not (RemoveDir a) s = absurd (true≢false (sym s))
+first_ends_not (Write a b) s = absurd (true≢false (sym s))
+first_ends_not (Read a) s = absurd (true≢false (sym s))
+first_ends_not (Live a) s = absurd (true≢false (sym s))
+first_ends_not (Remove a false) s = refl
+first_ends_not (Remove a true) s = absurd (true≢false (sym s))
+first_ends_not (Tick a b) s = absurd (true≢false (sym s))
+first_ends_not (Pin a b) s = absurd (true≢false (sym s))
+first_ends_not (Irq a b c) s = absurd (true≢false (sym s))
+first_ends_not (Pull a b c) s = absurd (true≢false (sym s))
+first_ends_not (Level a b c) s = absurd (true≢false (sym s))
+first_ends_not (Interrupt a b c) s = absurd (true≢false (sym s))
+first_ends_not (OpenChip a) s = absurd (true≢false (sym s))
+first_ends_not (Find a b) s = absurd (true≢false (sym s))
+first_ends_not (Ioctl a b c d e f) s = absurd (true≢false (sym s))
+first_ends_not (ReadEdges a b c) s = absurd (true≢false (sym s))
+first_ends_not (ReadInfo a b c) s = absurd (true≢false (sym s))
+first_ends_not (PollLine a b) s = absurd (true≢false (sym s))
+first_ends_not (PollChip a b) s = absurd (true≢false (sym s))
+first_ends_not (Close a) s = absurd (true≢false (sym s))
+first_ends_not (RefusedCall a b) s = absurd (true≢false (sym s))
+
+pub first_is_not_last : (call : Call) → is_first_call call ≡ true → is_last_removal call ≡ false
+first_is_not_last (Probe a b c) s = absurd (true≢false (sym s))
+first_is_not_last (Unplug a false) s = refl
+first_is_not_last (Unplug a true) s = absurd (true≢false (sym s))
+first_is_not_last (MakeDir a) s = absurd (true≢false (sym s))
+first_is_not_last (RemoveDir a) s = absurd (true≢false (sym s))
+first_is_not_last (Write a b) s = absurd (true≢false (sym s))
+first_is_not_last (Read a) s = absurd (true≢false (sym s))
+first_is_not_last (Live a) s = absurd (true≢false (sym s))
+first_is_not_last (Remove a false) s = refl
+first_is_not_last (Remove a true) s = absurd (true≢false (sym s))
+first_is_not_last (Tick a b) s = absurd (true≢false (sym s))
+first_is_not_last (Pin a b) s = absurd (true≢false (sym s))
+first_is_not_last (Irq a b c) s = absurd (true≢false (sym s))
+first_is_not_last (Pull a b c) s = absurd (true≢false (sym s))
+first_is_not_last (Level a b c) s = absurd (true≢false (sym s))
+first_is_not_last (Interrupt a b c) s = absurd (true≢false (sym s))
+first_is_not_last (OpenChip a) s = absurd (true≢false (sym s))
+first_is_not_last (Find a b) s = absurd (true≢false (sym s))
+first_is_not_last (Ioctl a b c d e f) s = absurd (true≢false (sym s))
+first_is_not_last (ReadEdges a b c) s = absurd (true≢false (sym s))
+first_is_not_last (ReadInfo a b c) s = absurd (true≢false (sym s))
+first_is_not_last (PollLine a b) s = absurd (true≢false (sym s))
+first_is_not_last (PollChip a b) s = absurd (true≢false (sym s))
+first_is_not_last (Close a) s = absurd (true≢false (sym s))
+first_is_not_last (RefusedCall a b) s = absurd (true≢false (sym s))
+
+pub first_needs_no_place : (call : Call) → is_first_call call ≡ true → (guarded_place call ≡ None) × (refused_place call ≡ None)
+first_needs_no_place (Probe a b c) s = absurd (true≢false (sym s))
+first_needs_no_place (Unplug a false) s = (refl, refl)
+first_needs_no_place (Unplug a true) s = absurd (true≢false (sym s))
+first_needs_no_place (MakeDir a) s = absurd (true≢false (sym s))
+first_needs_no_place (RemoveDir a) s = absurd (true≢false (sym s))
+first_needs_no_place (Write a b) s = absurd (true≢false (sym s))
+first_needs_no_place (Read a) s = absurd (true≢false (sym s))
+first_needs_no_place (Live a) s = absurd (true≢false (sym s))
+first_needs_no_place (Remove a false) s = (refl, refl)
+first_needs_no_place (Remove a true) s = absurd (true≢false (sym s))
+first_needs_no_place (Tick a b) s = absurd (true≢false (sym s))
+first_needs_no_place (Pin a b) s = absurd (true≢false (sym s))
+first_needs_no_place (Irq a b c) s = absurd (true≢false (sym s))
+first_needs_no_place (Pull a b c) s = absurd (true≢false (sym s))
+first_needs_no_place (Level a b c) s = absurd (true≢false (sym s))
+first_needs_no_place (Interrupt a b c) s = absurd (true≢false (sym s))
+first_needs_no_place (OpenChip a) s = absurd (true≢false (sym s))
+first_needs_no_place (Find a b) s = absurd (true≢false (sym s))
+first_needs_no_place (Ioctl a b c d e f) s = absurd (true≢false (sym s))
+first_needs_no_place (ReadEdges a b c) s = absurd (true≢false (sym s))
+first_needs_no_place (ReadInfo a b c) s = absurd (true≢false (sym s))
+first_needs_no_place (PollLine a b) s = absurd (true≢false (sym s))
+first_needs_no_place (PollChip a b) s = absurd (true≢false (sym s))
+first_needs_no_place (Close a) s = absurd (true≢false (sym s))
+first_needs_no_place (RefusedCall a b) s = absurd (true≢false (sym s))
+
+pub last_needs_no_place : (call : Call) → is_first_call call ≡ true → (guarded_place (last_call call) ≡ None) × (refused_place (last_call call) ≡ None)
+last_needs_no_place (Probe a b c) s = absurd (true≢false (sym s))
+last_needs_no_place (Unplug a false) s = (refl, refl)
+last_needs_no_place (Unplug a true) s = absurd (true≢false (sym s))
+last_needs_no_place (MakeDir a) s = absurd (true≢false (sym s))
+last_needs_no_place (RemoveDir a) s = absurd (true≢false (sym s))
+last_needs_no_place (Write a b) s = absurd (true≢false (sym s))
+last_needs_no_place (Read a) s = absurd (true≢false (sym s))
+last_needs_no_place (Live a) s = absurd (true≢false (sym s))
+last_needs_no_place (Remove a false) s = (refl, refl)
+last_needs_no_place (Remove a true) s = absurd (true≢false (sym s))
+last_needs_no_place (Tick a b) s = absurd (true≢false (sym s))
+last_needs_no_place (Pin a b) s = absurd (true≢false (sym s))
+last_needs_no_place (Irq a b c) s = absurd (true≢false (sym s))
+last_needs_no_place (Pull a b c) s = absurd (true≢false (sym s))
+last_needs_no_place (Level a b c) s = absurd (true≢false (sym s))
+last_needs_no_place (Interrupt a b c) s = absurd (true≢false (sym s))
+last_needs_no_place (OpenChip a) s = absurd (true≢false (sym s))
+last_needs_no_place (Find a b) s = absurd (true≢false (sym s))
+last_needs_no_place (Ioctl a b c d e f) s = absurd (true≢false (sym s))
+last_needs_no_place (ReadEdges a b c) s = absurd (true≢false (sym s))
+last_needs_no_place (ReadInfo a b c) s = absurd (true≢false (sym s))
+last_needs_no_place (PollLine a b) s = absurd (true≢false (sym s))
+last_needs_no_place (PollChip a b) s = absurd (true≢false (sym s))
+last_needs_no_place (Close a) s = absurd (true≢false (sym s))
+last_needs_no_place (RefusedCall a b) s = absurd (true≢false (sym s))
+
+pub last_ends : (call : Call) → is_first_call call ≡ true → ends (last_call call) ≡ true
+last_ends (Probe a b c) s = absurd (true≢false (sym s))
+last_ends (Unplug a false) s = refl
+last_ends (Unplug a true) s = absurd (true≢false (sym s))
+last_ends (MakeDir a) s = absurd (true≢false (sym s))
+last_ends (RemoveDir a) s = absurd (true≢false (sym s))
+last_ends (Write a b) s = absurd (true≢false (sym s))
+last_ends (Read a) s = absurd (true≢false (sym s))
+last_ends (Live a) s = absurd (true≢false (sym s))
+last_ends (Remove a false) s = refl
+last_ends (Remove a true) s = absurd (true≢false (sym s))
+last_ends (Tick a b) s = absurd (true≢false (sym s))
+last_ends (Pin a b) s = absurd (true≢false (sym s))
+last_ends (Irq a b c) s = absurd (true≢false (sym s))
+last_ends (Pull a b c) s = absurd (true≢false (sym s))
+last_ends (Level a b c) s = absurd (true≢false (sym s))
+last_ends (Interrupt a b c) s = absurd (true≢false (sym s))
+last_ends (OpenChip a) s = absurd (true≢false (sym s))
+last_ends (Find a b) s = absurd (true≢false (sym s))
+last_ends (Ioctl a b c d e f) s = absurd (true≢false (sym s))
+last_ends (ReadEdges a b c) s = absurd (true≢false (sym s))
+last_ends (ReadInfo a b c) s = absurd (true≢false (sym s))
+last_ends (PollLine a b) s = absurd (true≢false (sym s))
+last_ends (PollChip a b) s = absurd (true≢false (sym s))
+last_ends (Close a) s = absurd (true≢false (sym s))
+last_ends (RefusedCall a b) s = absurd (true≢false (sym s))
+
+pub last_begins_not : (call : Call) → is_first_call call ≡ true → (reply : Reply) → begins (last_call call) reply ≡ false
+last_begins_not (Probe a b c) s r = absurd (true≢false (sym s))
+last_begins_not (Unplug a false) s r = refl
+last_begins_not (Unplug a true) s r = absurd (true≢false (sym s))
+last_begins_not (MakeDir a) s r = absurd (true≢false (sym s))
+last_begins_not (RemoveDir a) s r = absurd (true≢false (sym s))
+last_begins_not (Write a b) s r = absurd (true≢false (sym s))
+last_begins_not (Read a) s r = absurd (true≢false (sym s))
+last_begins_not (Live a) s r = absurd (true≢false (sym s))
+last_begins_not (Remove a false) s r = refl
+last_begins_not (Remove a true) s r = absurd (true≢false (sym s))
+last_begins_not (Tick a b) s r = absurd (true≢false (sym s))
+last_begins_not (Pin a b) s r = absurd (true≢false (sym s))
+last_begins_not (Irq a b c) s r = absurd (true≢false (sym s))
+last_begins_not (Pull a b c) s r = absurd (true≢false (sym s))
+last_begins_not (Level a b c) s r = absurd (true≢false (sym s))
+last_begins_not (Interrupt a b c) s r = absurd (true≢false (sym s))
+last_begins_not (OpenChip a) s r = absurd (true≢false (sym s))
+last_begins_not (Find a b) s r = absurd (true≢false (sym s))
+last_begins_not (Ioctl a b c d e f) s r = absurd (true≢false (sym s))
+last_begins_not (ReadEdges a b c) s r = absurd (true≢false (sym s))
+last_begins_not (ReadInfo a b c) s r = absurd (true≢false (sym s))
+last_begins_not (PollLine a b) s r = absurd (true≢false (sym s))
+last_begins_not (PollChip a b) s r = absurd (true≢false (sym s))
+last_begins_not (Close a) s r = absurd (true≢false (sym s))
+last_begins_not (RefusedCall a b) s r = absurd (true≢false (sym s))
+
+pub last_begins_no_removal : (call : Call) → is_first_call call ≡ true → (reply : Reply) (bytes : List ℕ) → begun_places (last_call call) reply bytes ≡ []
+last_begins_no_removal (Probe a b c) s r bytes = absurd (true≢false (sym s))
+last_begins_no_removal (Unplug a false) s r bytes = refl
+last_begins_no_removal (Unplug a true) s r bytes = absurd (true≢false (sym s))
+last_begins_no_removal (MakeDir a) s r bytes = absurd (true≢false (sym s))
+last_begins_no_removal (RemoveDir a) s r bytes = absurd (true≢false (sym s))
+last_begins_no_removal (Write a b) s r bytes = absurd (true≢false (sym s))
+last_begins_no_removal (Read a) s r bytes = absurd (true≢false (sym s))
+last_begins_no_removal (Live a) s r bytes = absurd (true≢false (sym s))
+last_begins_no_removal (Remove a false) s r bytes = refl
+last_begins_no_removal (Remove a true) s r bytes = absurd (true≢false (sym s))
+last_begins_no_removal (Tick a b) s r bytes = absurd (true≢false (sym s))
+last_begins_no_removal (Pin a b) s r bytes = absurd (true≢false (sym s))
+last_begins_no_removal (Irq a b c) s r bytes = absurd (true≢false (sym s))
+last_begins_no_removal (Pull a b c) s r bytes = absurd (true≢false (sym s))
+last_begins_no_removal (Level a b c) s r bytes = absurd (true≢false (sym s))
+last_begins_no_removal (Interrupt a b c) s r bytes = absurd (true≢false (sym s))
+last_begins_no_removal (OpenChip a) s r bytes = absurd (true≢false (sym s))
+last_begins_no_removal (Find a b) s r bytes = absurd (true≢false (sym s))
+last_begins_no_removal (Ioctl a b c d e f) s r bytes = absurd (true≢false (sym s))
+last_begins_no_removal (ReadEdges a b c) s r bytes = absurd (true≢false (sym s))
+last_begins_no_removal (ReadInfo a b c) s r bytes = absurd (true≢false (sym s))
+last_begins_no_removal (PollLine a b) s r bytes = absurd (true≢false (sym s))
+last_begins_no_removal (PollChip a b) s r bytes = absurd (true≢false (sym s))
+last_begins_no_removal (Close a) s r bytes = absurd (true≢false (sym s))
+last_begins_no_removal (RefusedCall a b) s r bytes = absurd (true≢false (sym s))
+
+pub first_begins : (call : Call) → is_first_call call ≡ true → (reply : Reply) → begins call reply ≡ is_done reply
+first_begins (Probe a b c) s r = absurd (true≢false (sym s))
+first_begins (Unplug a false) s r = refl
+first_begins (Unplug a true) s r = absurd (true≢false (sym s))
+first_begins (MakeDir a) s r = absurd (true≢false (sym s))
+first_begins (RemoveDir a) s r = absurd (true≢false (sym s))
+first_begins (Write a b) s r = absurd (true≢false (sym s))
+first_begins (Read a) s r = absurd (true≢false (sym s))
+first_begins (Live a) s r = absurd (true≢false (sym s))
+first_begins (Remove a false) s r = refl
+first_begins (Remove a true) s r = absurd (true≢false (sym s))
+first_begins (Tick a b) s r = absurd (true≢false (sym s))
+first_begins (Pin a b) s r = absurd (true≢false (sym s))
+first_begins (Irq a b c) s r = absurd (true≢false (sym s))
+first_begins (Pull a b c) s r = absurd (true≢false (sym s))
+first_begins (Level a b c) s r = absurd (true≢false (sym s))
+first_begins (Interrupt a b c) s r = absurd (true≢false (sym s))
+first_begins (OpenChip a) s r = absurd (true≢false (sym s))
+first_begins (Find a b) s r = absurd (true≢false (sym s))
+first_begins (Ioctl a b c d e f) s r = absurd (true≢false (sym s))
+first_begins (ReadEdges a b c) s r = absurd (true≢false (sym s))
+first_begins (ReadInfo a b c) s r = absurd (true≢false (sym s))
+first_begins (PollLine a b) s r = absurd (true≢false (sym s))
+first_begins (PollChip a b) s r = absurd (true≢false (sym s))
+first_begins (Close a) s r = absurd (true≢false (sym s))
+first_begins (RefusedCall a b) s r = absurd (true≢false (sym s))
+
+pub first_begun : (call : Call) → is_first_call call ≡ true → (reply : Reply) (bytes : List ℕ) → is_done reply ≡ true → begun_places call reply bytes ≡ places_named bytes
+first_begun (Probe a b c) s r bytes is_so = absurd (true≢false (sym s))
+first_begun (Unplug a false) s r bytes is_so = ap (λ b. cond b (places_named bytes) []) is_so
+first_begun (Unplug a true) s r bytes is_so = absurd (true≢false (sym s))
+first_begun (MakeDir a) s r bytes is_so = absurd (true≢false (sym s))
+first_begun (RemoveDir a) s r bytes is_so = absurd (true≢false (sym s))
+first_begun (Write a b) s r bytes is_so = absurd (true≢false (sym s))
+first_begun (Read a) s r bytes is_so = absurd (true≢false (sym s))
+first_begun (Live a) s r bytes is_so = absurd (true≢false (sym s))
+first_begun (Remove a false) s r bytes is_so = ap (λ b. cond b (places_named bytes) []) is_so
+first_begun (Remove a true) s r bytes is_so = absurd (true≢false (sym s))
+first_begun (Tick a b) s r bytes is_so = absurd (true≢false (sym s))
+first_begun (Pin a b) s r bytes is_so = absurd (true≢false (sym s))
+first_begun (Irq a b c) s r bytes is_so = absurd (true≢false (sym s))
+first_begun (Pull a b c) s r bytes is_so = absurd (true≢false (sym s))
+first_begun (Level a b c) s r bytes is_so = absurd (true≢false (sym s))
+first_begun (Interrupt a b c) s r bytes is_so = absurd (true≢false (sym s))
+first_begun (OpenChip a) s r bytes is_so = absurd (true≢false (sym s))
+first_begun (Find a b) s r bytes is_so = absurd (true≢false (sym s))
+first_begun (Ioctl a b c d e f) s r bytes is_so = absurd (true≢false (sym s))
+first_begun (ReadEdges a b c) s r bytes is_so = absurd (true≢false (sym s))
+first_begun (ReadInfo a b c) s r bytes is_so = absurd (true≢false (sym s))
+first_begun (PollLine a b) s r bytes is_so = absurd (true≢false (sym s))
+first_begun (PollChip a b) s r bytes is_so = absurd (true≢false (sym s))
+first_begun (Close a) s r bytes is_so = absurd (true≢false (sym s))
+first_begun (RefusedCall a b) s r bytes is_so = absurd (true≢false (sym s))
+
+pub first_refused : (call : Call) → is_first_call call ≡ true → (reply : Reply) (bytes : List ℕ) → is_done reply ≡ false → begun_places call reply bytes ≡ []
+first_refused (Probe a b c) s r bytes is_so = absurd (true≢false (sym s))
+first_refused (Unplug a false) s r bytes is_so = ap (λ b. cond b (places_named bytes) []) is_so
+first_refused (Unplug a true) s r bytes is_so = absurd (true≢false (sym s))
+first_refused (MakeDir a) s r bytes is_so = absurd (true≢false (sym s))
+first_refused (RemoveDir a) s r bytes is_so = absurd (true≢false (sym s))
+first_refused (Write a b) s r bytes is_so = absurd (true≢false (sym s))
+first_refused (Read a) s r bytes is_so = absurd (true≢false (sym s))
+first_refused (Live a) s r bytes is_so = absurd (true≢false (sym s))
+first_refused (Remove a false) s r bytes is_so = ap (λ b. cond b (places_named bytes) []) is_so
+first_refused (Remove a true) s r bytes is_so = absurd (true≢false (sym s))
+first_refused (Tick a b) s r bytes is_so = absurd (true≢false (sym s))
+first_refused (Pin a b) s r bytes is_so = absurd (true≢false (sym s))
+first_refused (Irq a b c) s r bytes is_so = absurd (true≢false (sym s))
+first_refused (Pull a b c) s r bytes is_so = absurd (true≢false (sym s))
+first_refused (Level a b c) s r bytes is_so = absurd (true≢false (sym s))
+first_refused (Interrupt a b c) s r bytes is_so = absurd (true≢false (sym s))
+first_refused (OpenChip a) s r bytes is_so = absurd (true≢false (sym s))
+first_refused (Find a b) s r bytes is_so = absurd (true≢false (sym s))
+first_refused (Ioctl a b c d e f) s r bytes is_so = absurd (true≢false (sym s))
+first_refused (ReadEdges a b c) s r bytes is_so = absurd (true≢false (sym s))
+first_refused (ReadInfo a b c) s r bytes is_so = absurd (true≢false (sym s))
+first_refused (PollLine a b) s r bytes is_so = absurd (true≢false (sym s))
+first_refused (PollChip a b) s r bytes is_so = absurd (true≢false (sym s))
+first_refused (Close a) s r bytes is_so = absurd (true≢false (sym s))
+first_refused (RefusedCall a b) s r bytes is_so = absurd (true≢false (sym s))
+
+pub first_is : (call : Call) → is_first_call call ≡ true → call ≡ first_call (removal_of call)
+first_is (Probe a b c) s = absurd (true≢false (sym s))
+first_is (Unplug a false) s = refl
+first_is (Unplug a true) s = absurd (true≢false (sym s))
+first_is (MakeDir a) s = absurd (true≢false (sym s))
+first_is (RemoveDir a) s = absurd (true≢false (sym s))
+first_is (Write a b) s = absurd (true≢false (sym s))
+first_is (Read a) s = absurd (true≢false (sym s))
+first_is (Live a) s = absurd (true≢false (sym s))
+first_is (Remove a false) s = refl
+first_is (Remove a true) s = absurd (true≢false (sym s))
+first_is (Tick a b) s = absurd (true≢false (sym s))
+first_is (Pin a b) s = absurd (true≢false (sym s))
+first_is (Irq a b c) s = absurd (true≢false (sym s))
+first_is (Pull a b c) s = absurd (true≢false (sym s))
+first_is (Level a b c) s = absurd (true≢false (sym s))
+first_is (Interrupt a b c) s = absurd (true≢false (sym s))
+first_is (OpenChip a) s = absurd (true≢false (sym s))
+first_is (Find a b) s = absurd (true≢false (sym s))
+first_is (Ioctl a b c d e f) s = absurd (true≢false (sym s))
+first_is (ReadEdges a b c) s = absurd (true≢false (sym s))
+first_is (ReadInfo a b c) s = absurd (true≢false (sym s))
+first_is (PollLine a b) s = absurd (true≢false (sym s))
+first_is (PollChip a b) s = absurd (true≢false (sym s))
+first_is (Close a) s = absurd (true≢false (sym s))
+first_is (RefusedCall a b) s = absurd (true≢false (sym s))
+
+pub done_is : (reply : Reply) → is_done reply ≡ true → reply ≡ Done
+done_is Done d = refl
+done_is (Number n) d = absurd (true≢false (sym d))
+done_is (Go n) d = absurd (true≢false (sym d))
+done_is (Found p o n) d = absurd (true≢false (sym d))
+done_is (Text t) d = absurd (true≢false (sym d))
+done_is (Ready b) d = absurd (true≢false (sym d))
+done_is (Refused e) d = absurd (true≢false (sym d))
+
+writes_two : (refusal : Option Errno) (w v : World) (places : List ℕ) → is_done (refused_or refusal w (writes (removal_bytes places) v)).reply ≡ true
+    → (from count : ℕ) × ((refused_or refusal w (writes (removal_bytes places) v)).bytes ≡ from ∷ count ∷ [])
+writes_two None w v places d = (slice_index_or places 0 0, length places, refl)
+writes_two (Some errno) w v places d = absurd (true≢false (sym d))
+
+-- the first call writes its first place, and how many there are
+pub first_writes : (call : Call) → is_first_call call ≡ true → (w : World) (actor : ℕ) → is_done (reply_of w actor call) ≡ true → (from count : ℕ) × (bytes_of w actor call ≡ from ∷ count ∷ [])
+first_writes (Probe a b c) s w actor is_so = absurd (true≢false (sym s))
+first_writes (Unplug a false) s w actor is_so = writes_two _ w _ (a ∷ []) is_so
+first_writes (Unplug a true) s w actor is_so = absurd (true≢false (sym s))
+first_writes (MakeDir a) s w actor is_so = absurd (true≢false (sym s))
+first_writes (RemoveDir a) s w actor is_so = absurd (true≢false (sym s))
+first_writes (Write a b) s w actor is_so = absurd (true≢false (sym s))
+first_writes (Read a) s w actor is_so = absurd (true≢false (sym s))
+first_writes (Live a) s w actor is_so = absurd (true≢false (sym s))
+first_writes (Remove a false) s w actor is_so = writes_two _ w _ (up_places a w) is_so
+first_writes (Remove a true) s w actor is_so = absurd (true≢false (sym s))
+first_writes (Tick a b) s w actor is_so = absurd (true≢false (sym s))
+first_writes (Pin a b) s w actor is_so = absurd (true≢false (sym s))
+first_writes (Irq a b c) s w actor is_so = absurd (true≢false (sym s))
+first_writes (Pull a b c) s w actor is_so = absurd (true≢false (sym s))
+first_writes (Level a b c) s w actor is_so = absurd (true≢false (sym s))
+first_writes (Interrupt a b c) s w actor is_so = absurd (true≢false (sym s))
+first_writes (OpenChip a) s w actor is_so = absurd (true≢false (sym s))
+first_writes (Find a b) s w actor is_so = absurd (true≢false (sym s))
+first_writes (Ioctl a b c d e f) s w actor is_so = absurd (true≢false (sym s))
+first_writes (ReadEdges a b c) s w actor is_so = absurd (true≢false (sym s))
+first_writes (ReadInfo a b c) s w actor is_so = absurd (true≢false (sym s))
+first_writes (PollLine a b) s w actor is_so = absurd (true≢false (sym s))
+first_writes (PollChip a b) s w actor is_so = absurd (true≢false (sym s))
+first_writes (Close a) s w actor is_so = absurd (true≢false (sym s))
+first_writes (RefusedCall a b) s w actor is_so = absurd (true≢false (sym s))
+
+abbrev first_of_two : List ℕ → ℕ
+first_of_two [] = 0
+first_of_two (x ∷ xs) = x
+
+abbrev second_of_two : List ℕ → ℕ
+second_of_two [] = 0
+second_of_two (x ∷ xs) = first_of_two xs
+
+no_more : (old : List ℕ) → length old ≡ 2 → drop 2 old ≡ []
+no_more [] e = refl
+no_more (x ∷ []) e = refl
+no_more (x ∷ y ∷ []) e = refl
+no_more (x ∷ y ∷ z ∷ zs) e = absurd (omega arith)
+
+-- what was written is what stands in the buffer
+written_are : (bytes old new : List ℕ) (from count : ℕ) (f : (a b : ℕ) × (bytes ≡ a ∷ b ∷ [])) → length old ≡ 2 → new ≡ bytes ++ drop (length bytes) old → new ≡ from ∷ count ∷ [] → bytes ≡ from ∷ count ∷ []
+written_are bytes old new from count f two is are = let e : new ≡ f.0 ∷ f.1 ∷ [] = is ∙ (ap (λ l. l ++ drop (length l) old) f.2 ∙ ap (λ l. f.0 ∷ f.1 ∷ l) (no_more old two)) in
+    let same : f.0 ∷ f.1 ∷ [] ≡ from ∷ count ∷ [] = sym e ∙ are in f.2 ∙ same
+
+named_at : (from count p : ℕ) → from ≤ p → p < from + count → Contains (places_from from count) p
+named_at from count p low high = let is_p : from + (p - from) ≡ p = omega arith in
+    (p - from, subst (λ n. p - from < n) (sym (length-places_from from count)) (omega arith), read_places from count (p - from) p (omega arith) ∙ is_p)
+
+at_named : (from count p : ℕ) → Contains (places_from from count) p → (from ≤ p) × (p < from + count)
+at_named from count p (k, lt, e) = let small : k < count = subst (λ n. k < n) (length-places_from from count) lt in
+    let is_p : from + k ≡ p = sym (read_places from count k p small) ∙ e in (omega arith, omega arith)
+
+none_in : (p : ℕ) → Contains {X = ℕ} [] p → ⊥
+none_in p c = let less = c.1 in absurd (omega arith)
+
+-- the first entry was answered Done
+pub has_begun : (v w : OneView) (first : Call) (reply : Reply) (old new : List ℕ) (from count : ℕ) → is_first_call first ≡ true → length old ≡ 2 → new ≡ from ∷ count ∷ [] → SamePass v w → Acts core v first reply old new w → is_done reply ≡ true → IsFree core v → HasBegun from count first w
+has_begun v w first reply old new from count is_first two are same acts d free =
+    let before : World = fold core (v.seen ++ acts.between) in
+    let wrote : bytes_of before v.number first ≡ from ∷ count ∷ [] = written_are (bytes_of before v.number first) old new from count (first_writes first is_first before v.number (ap is_done (sym acts.answer) ∙ d)) two acts.bytes are in
+    let begun : begun_places first reply (bytes_of before v.number first) ≡ places_from from count = first_begun first is_first reply (bytes_of before v.number first) d ∙ ap (λ l. places_named l) wrote in
+    let r = acts.removals in record {
+      owes_one = let o = acts.owed in let z = free.owes_nothing in let e : cond {A = ℕ} (ends first) 1 0 ≡ 0 = ap (λ (b : Bool). cond {A = ℕ} b 1 0) (first_ends_not first is_first) in
+          let b : cond {A = ℕ} (begins first reply) 1 0 ≡ 1 = ap (λ (b : Bool). cond {A = ℕ} b 1 0) (first_begins first is_first reply ∙ d) in omega arith;
+      before = v.seen ++ acts.between;
+      since = [];
+      at = acts.seen ∙ ap (λ (x : ℕ × Reply). (v.seen ++ acts.between) ++ entry x.0 first x.1 ∷ []) (λ i. (sym same.number i, done_is reply d i));
+      since_others = refl;
+      removes = λ p low high. subst (λ (x : World × ℕ). Removes core x.0 x.1 p) (λ i. (sym acts.world i, sym same.number i)) (r.begins p (subst (λ l. Contains l p) (sym begun) (named_at from count p low high)));
+      only = λ p its. let now = subst (λ (x : World × ℕ). Removes core x.0 x.1 p) (λ i. (acts.world i, same.number i)) its in
+          ⊎_elim (λ h. absurd (free.removes_nothing p (r.nothing_new p h))) (λ c. at_named from count p (subst (λ l. Contains l p) begun c)) (r.begins_only p now);
+      awaits = λ p low high. ap (λ (x : World). awaited_call x p) acts.world ∙ r.awaits_last p (subst (λ l. Contains l p) (sym begun) (named_at from count p low high));
+    }
+
+-- it was refused
+pub not_begun : (v w : OneView) (first : Call) (reply : Reply) (old new : List ℕ) → is_first_call first ≡ true → SamePass v w → Acts core v first reply old new w → is_done reply ≡ false → IsFree core v → IsFree core w
+not_begun v w first reply old new is_first same acts d free = record {
+  inside = same.inside ∙ free.inside;
+  owes_nothing = let o = acts.owed in let z = free.owes_nothing in let e : cond {A = ℕ} (ends first) 1 0 ≡ 0 = ap (λ (b : Bool). cond {A = ℕ} b 1 0) (first_ends_not first is_first) in
+      let b : cond {A = ℕ} (begins first reply) 1 0 ≡ 0 = ap (λ (b : Bool). cond {A = ℕ} b 1 0) (first_begins first is_first reply ∙ d) in omega arith;
+  removes_nothing = still_removes_nothing core v first reply old new w acts same (λ bytes. first_refused first is_first reply bytes d) free.removes_nothing;
+}
+
+-- the places of a removal are places
+pub begun_within : (from count : ℕ) (first : Call) (v : OneView) → HasBegun from count first v → Legal core v.seen → (p : ℕ) → from ≤ p → p < from + count → p < PLACES
+begun_within from count first v begun legal p low high = let bounds = (legal_worlds_have_bounds StandsFor).behind_a_history v.seen legal in
+    let leaving = (begun.removes p low high).0 in let there : p < length (fold core v.seen).chips = within_chips (fold core v.seen).chips p (omega arith) in let few = bounds.bounded.chips in omega arith
+
+-- who closed and drained places has begun it still
+pub begun_still : (from count : ℕ) (first : Call) (v w : OneView) → Moved core v w → HasBegun from count first v → HasBegun from count first w
+begun_still from count first v w moved begun = record {
+  owes_one = ap (λ (l : List OneEntry). owed core l) moved.mine ∙ begun.owes_one;
+  before = begun.before;
+  since = begun.since;
+  at = moved.seen ∙ (begun.at ∙ ap (λ n. begun.before ++ entry n first Done ∷ begun.since) (sym moved.number));
+  since_others = ap (λ n. entries_of n begun.since) moved.number ∙ begun.since_others;
+  removes = λ p low high. subst (λ (x : List OneEntry × ℕ). Removes core (fold core x.0) x.1 p) (λ i. (sym moved.seen i, sym moved.number i)) (begun.removes p low high);
+  only = λ p r. begun.only p (subst (λ (x : List OneEntry × ℕ). Removes core (fold core x.0) x.1 p) (λ i. (moved.seen i, moved.number i)) r);
+  awaits = λ p low high. ap (λ (l : List OneEntry). awaited_call (fold core l) p) moved.seen ∙ begun.awaits p low high;
+}
+
+pub may_end : (from count : ℕ) (first call : Call) (w : OneView) → HasBegun from count first w → ((p : ℕ) → from ≤ p → p < from + count → KnowsDrained w p) → MayEndRemoval core w call
+may_end from count first call w begun drained _ p removes = let h = begun.only p removes in drained p h.0 h.1
+
+-- the last entry: it is answered Done, and nothing is removed any more
+pub last_is_done : (from count : ℕ) (first : Call) (w u : OneView) (reply : Reply) (old new : List ℕ) → is_first_call first ≡ true → HasBegun from count first w → Acts core w (last_call first) reply old new u → reply ≡ Done
+last_is_done from count first w u reply old new is_first begun acts =
+    let seen : List OneEntry = w.seen ++ acts.between in
+    let whole : Legal core (seen ++ entry w.number (last_call first) reply ∷ []) = subst (λ l. Legal core l) acts.seen acts.legal in
+    let legal : Legal core seen = (answered_prefix core core.opening seen _ whole.0, placed_prefix core core.opening seen _ whole.1) in
+    let since : List OneEntry = begun.since ++ acts.between in
+    let others : entries_of w.number since ≡ [] = entries_append w.number begun.since acts.between ∙ (ap (λ l. l ++ entries_of w.number acts.between) begun.since_others ∙ acts.others) in
+    let is_behind : seen ≡ begun.before ++ entry w.number (first_call (removal_of first)) Done ∷ since = ap (λ l. l ++ acts.between) begun.at ∙ (append_assoc begun.before (entry w.number first Done ∷ begun.since) acts.between
+    ∙ ap (λ c. begun.before ++ entry w.number c Done ∷ since) (first_is first is_first)) in
+    let law = (last_calls_are_done StandsFor).of_a_removal.behind_a_history seen legal w.number (removal_of first) (record { before = begun.before; since = since; is_behind = is_behind; quiet = subst (λ l. AllQuiet core l) (sym others) tt }) in
+    acts.answer ∙ (ap (λ c. reply_of (fold core seen) w.number (last_call c)) (first_is first is_first) ∙ law)
+
+pub last_leaves_free : (from count : ℕ) (first : Call) (w u : OneView) (reply : Reply) (old new : List ℕ) → is_first_call first ≡ true → HasBegun from count first w → w.inside ≡ [] → SamePass w u → Acts core w (last_call first) reply old new u → IsFree core u
+last_leaves_free from count first w u reply old new is_first begun outside same acts = record {
+  inside = same.inside ∙ outside;
+  owes_nothing = let o = acts.owed in let z = begun.owes_one in let e : cond {A = ℕ} (ends (last_call first)) 1 0 ≡ 1 = ap (λ (b : Bool). cond {A = ℕ} b 1 0) (last_ends first is_first) in
+      let b : cond {A = ℕ} (begins (last_call first) reply) 1 0 ≡ 0 = ap (λ (b : Bool). cond {A = ℕ} b 1 0) (last_begins_not first is_first reply) in omega arith;
+  removes_nothing = λ p its. let r = acts.removals in let now = subst (λ (x : World × ℕ). Removes core x.0 x.1 p) (λ i. (acts.world i, same.number i)) its in
+      ⊎_elim (λ h. let had = r.nothing_new p h in let at = begun.only p had in
+      let gone = r.ends p h (r.awaits_still p had ∙ begun.awaits p at.0 at.1) in let leaving = now.0 in absurd (omega arith))
+      (λ c. none_in p (subst (λ l. Contains l p) (last_begins_no_removal first is_first reply _) c)) (r.begins_only p now);
+}
+
+pub fits_last : (call : Call) → is_first_call call ≡ true → FitsCall call → (gift : Gift) → Fits (last_call call) gift []
+fits_last (Probe a b c) s fits gift = absurd (true≢false (sym s))
+fits_last (Unplug a false) s fits gift = record { fits_call = fits; brings = tt; buffer_fits = tt }
+fits_last (Unplug a true) s fits gift = absurd (true≢false (sym s))
+fits_last (MakeDir a) s fits gift = absurd (true≢false (sym s))
+fits_last (RemoveDir a) s fits gift = absurd (true≢false (sym s))
+fits_last (Write a b) s fits gift = absurd (true≢false (sym s))
+fits_last (Read a) s fits gift = absurd (true≢false (sym s))
+fits_last (Live a) s fits gift = absurd (true≢false (sym s))
+fits_last (Remove a false) s fits gift = record { fits_call = fits; brings = tt; buffer_fits = tt }
+fits_last (Remove a true) s fits gift = absurd (true≢false (sym s))
+fits_last (Tick a b) s fits gift = absurd (true≢false (sym s))
+fits_last (Pin a b) s fits gift = absurd (true≢false (sym s))
+fits_last (Irq a b c) s fits gift = absurd (true≢false (sym s))
+fits_last (Pull a b c) s fits gift = absurd (true≢false (sym s))
+fits_last (Level a b c) s fits gift = absurd (true≢false (sym s))
+fits_last (Interrupt a b c) s fits gift = absurd (true≢false (sym s))
+fits_last (OpenChip a) s fits gift = absurd (true≢false (sym s))
+fits_last (Find a b) s fits gift = absurd (true≢false (sym s))
+fits_last (Ioctl a b c d e f) s fits gift = absurd (true≢false (sym s))
+fits_last (ReadEdges a b c) s fits gift = absurd (true≢false (sym s))
+fits_last (ReadInfo a b c) s fits gift = absurd (true≢false (sym s))
+fits_last (PollLine a b) s fits gift = absurd (true≢false (sym s))
+fits_last (PollChip a b) s fits gift = absurd (true≢false (sym s))
+fits_last (Close a) s fits gift = absurd (true≢false (sym s))
+fits_last (RefusedCall a b) s fits gift = absurd (true≢false (sym s))
+
+pub fits_first : (call : Call) → is_first_call call ≡ true → FitsCall call → (gift : Gift) (out : List ℕ) → length out ≡ 2 → Fits call gift out
+fits_first (Probe a b c) s fits gift out two = absurd (true≢false (sym s))
+fits_first (Unplug a false) s fits gift out two = record { fits_call = fits; brings = tt; buffer_fits = two }
+fits_first (Unplug a true) s fits gift out two = absurd (true≢false (sym s))
+fits_first (MakeDir a) s fits gift out two = absurd (true≢false (sym s))
+fits_first (RemoveDir a) s fits gift out two = absurd (true≢false (sym s))
+fits_first (Write a b) s fits gift out two = absurd (true≢false (sym s))
+fits_first (Read a) s fits gift out two = absurd (true≢false (sym s))
+fits_first (Live a) s fits gift out two = absurd (true≢false (sym s))
+fits_first (Remove a false) s fits gift out two = record { fits_call = fits; brings = tt; buffer_fits = two }
+fits_first (Remove a true) s fits gift out two = absurd (true≢false (sym s))
+fits_first (Tick a b) s fits gift out two = absurd (true≢false (sym s))
+fits_first (Pin a b) s fits gift out two = absurd (true≢false (sym s))
+fits_first (Irq a b c) s fits gift out two = absurd (true≢false (sym s))
+fits_first (Pull a b c) s fits gift out two = absurd (true≢false (sym s))
+fits_first (Level a b c) s fits gift out two = absurd (true≢false (sym s))
+fits_first (Interrupt a b c) s fits gift out two = absurd (true≢false (sym s))
+fits_first (OpenChip a) s fits gift out two = absurd (true≢false (sym s))
+fits_first (Find a b) s fits gift out two = absurd (true≢false (sym s))
+fits_first (Ioctl a b c d e f) s fits gift out two = absurd (true≢false (sym s))
+fits_first (ReadEdges a b c) s fits gift out two = absurd (true≢false (sym s))
+fits_first (ReadInfo a b c) s fits gift out two = absurd (true≢false (sym s))
+fits_first (PollLine a b) s fits gift out two = absurd (true≢false (sym s))
+fits_first (PollChip a b) s fits gift out two = absurd (true≢false (sym s))
+fits_first (Close a) s fits gift out two = absurd (true≢false (sym s))
+fits_first (RefusedCall a b) s fits gift out two = absurd (true≢false (sym s))
+
+pub has_ended : (from count : ℕ) (first : Call) (v w u : OneView) (reply : Reply) (old new : List ℕ) → is_first_call first ≡ true → HasBegun from count first v → HasDrained core from (from + count) v w → SamePass w u → Acts core w (last_call first) reply old new u
+    → HasEnded from count first v reply u
+has_ended from count first v w u reply old new is_first begun drained same acts = record {
+  wrote = bytes_of (fold core (w.seen ++ acts.between)) w.number (last_call first);
+  grew = grows_on core v w u [] (deed_of v.number (last_call first) reply (bytes_of (fold core (w.seen ++ acts.between)) w.number (last_call first)) ∷ []) (moves_do_nothing core v w drained.moved)
+      (subst (λ n. Grew core w (deed_of n (last_call first) reply (bytes_of (fold core (w.seen ++ acts.between)) w.number (last_call first)) ∷ []) u) drained.moved.number (acts_are_deeds core w (last_call first) reply old new u acts same));
+  last = (w.seen ++ acts.between, subst (λ n. u.seen ≡ (w.seen ++ acts.between) ++ entry n (last_call first) reply ∷ []) drained.moved.number acts.seen);
+  done = last_is_done from count first w u reply old new is_first (begun_still from count first v w drained.moved begun) acts;
+  drained = λ p low high. (knows_same w u same.closed same.drained).drained p (drained.drained p low high);
+  legal = acts.legal;
+  knows_as_much = knows_on v w u drained.knows_as_much (knows_same w u same.closed same.drained);
+}
+
+pub acts_last : (w u : OneView) (first call : Call) (reply : Reply) (old new : List ℕ) → call ≡ last_call first → Acts core w call reply old new u → Acts core w (last_call first) reply old new u
+acts_last w u first call reply old new is = subst (λ k. Acts core w k reply old new u) is
+
+owns_nothing : MayOwn []
+owns_nothing = record { quiet = tt; no_claims = tt }
+
+guard_none : (call : Call) → guard_of (Removing (removal_of call)) ≡ None
+guard_none call = refl
+
+-- a removal that was refused at its first entry
+pub refused_removal : (v w : OneView) (first : Call) (reply : Reply) (old new : List ℕ) → is_first_call first ≡ true → SamePass v w → Acts core v first reply old new w → is_done reply ≡ false
+    → (bytes : List ℕ) × (called : HasCalled 0 v (Removing (removal_of first)) reply bytes w) × AllDrained called.did w
+refused_removal v w first reply old new is_first same acts undone = let wrote : List ℕ = bytes_of (fold core (v.seen ++ acts.between)) v.number first in let e : OneEntry = entry v.number first reply in (
+  wrote,
+  record {
+    closed = false;
+    answer = None;
+    own = [];
+    did = deed_of v.number first reply wrote ∷ [];
+    makes = (refl, (subst (λ c. MakesTwo {M = Kept} v.number c (last_call c) [] (e ∷ [])) (first_is first is_first) (reply, [], refl, subst (λ b. MakesRest {M = Kept} v.number b (last_call first) [] []) (sym (first_begins first is_first reply ∙ undone)) (refl, refl)), refl));
+    few_own = omega arith;
+    may_own = owns_nothing;
+    grew = acts_are_deeds core v first reply old new w acts same;
+    last = record { last = e; is_last = refl; at = (v.seen ++ acts.between, acts.seen) };
+    had_room = record { first = e; is_first = refl; before = v.seen ++ acts.between; behind = []; at = acts.seen; room_left = acts.room (first_ends_not first is_first) };
+    legal = acts.legal;
+    reply_is = refl;
+    bytes_are = refl;
+    guard = λ p at. absurd (none_not_some p at);
+    knows_as_much = knows_same v w same.closed same.drained;
+  },
+  ((λ p c. absurd (none_in p (subst (λ l. Contains l p) (first_refused first is_first reply wrote undone) c))), tt),
+)
+
+-- a removal that was begun and ended
+pub whole_removal : (v w u : OneView) (first : Call) (first_reply reply : Reply) (old new : List ℕ) (from count : ℕ) → is_first_call first ≡ true → length old ≡ 2 → new ≡ from ∷ count ∷ [] → SamePass v w → Acts core v first first_reply old new w → is_done first_reply ≡ true
+    → HasEnded from count first w reply u → (bytes : List ℕ) × (called : HasCalled 0 v (Removing (removal_of first)) reply bytes u) × AllDrained called.did u
+whole_removal v w u first first_reply reply old new from count is_first two are same acts d ended =
+    let before : World = fold core (v.seen ++ acts.between) in let wrote : List ℕ = bytes_of before v.number first in let e : OneEntry = entry v.number first first_reply in let l : OneEntry = entry v.number (last_call first) reply in
+    let is : wrote ≡ from ∷ count ∷ [] = written_are wrote old new from count (first_writes first is_first before v.number (ap is_done (sym acts.answer) ∙ d)) two acts.bytes are in
+    let begun : begun_places first first_reply wrote ≡ places_from from count = first_begun first is_first first_reply wrote d ∙ ap (λ x. places_named x) is in
+    let behind : Grew core w (deed_of v.number (last_call first) reply ended.wrote ∷ []) u = subst (λ n. Grew core w (deed_of n (last_call first) reply ended.wrote ∷ []) u) same.number ended.grew in (
+      ended.wrote,
+      record {
+        closed = false;
+        answer = None;
+        own = [];
+        did = deed_of v.number first first_reply wrote ∷ deed_of v.number (last_call first) reply ended.wrote ∷ [];
+        makes = (refl, (subst (λ c. MakesTwo {M = Kept} v.number c (last_call c) [] (e ∷ l ∷ [])) (first_is first is_first) (first_reply, l ∷ [], refl, subst (λ b. MakesRest {M = Kept} v.number b (last_call first) [] (l ∷ [])) (sym (first_begins first is_first first_reply ∙ d)) (reply, refl)), refl));
+        few_own = omega arith;
+        may_own = owns_nothing;
+        grew = grows_on core v w u (deed_of v.number first first_reply wrote ∷ []) (deed_of v.number (last_call first) reply ended.wrote ∷ []) (acts_are_deeds core v first first_reply old new w acts same) behind;
+        last = record { last = l; is_last = refl; at = (ended.last.0, subst (λ n. u.seen ≡ ended.last.0 ++ entry n (last_call first) reply ∷ []) same.number ended.last.1) };
+        had_room = record {
+          first = e;
+          is_first = refl;
+          before = v.seen ++ acts.between;
+          behind = behind.seen.0;
+          at = behind.seen.1 ∙ (ap (λ x. x ++ behind.seen.0) acts.seen ∙ append_assoc (v.seen ++ acts.between) (e ∷ []) behind.seen.0);
+          room_left = acts.room (first_ends_not first is_first);
+        };
+        legal = ended.legal;
+        reply_is = refl;
+        bytes_are = refl;
+        guard = λ p at. absurd (none_not_some p at);
+        knows_as_much = knows_on v w u (knows_same v w same.closed same.drained) ended.knows_as_much;
+      },
+      (
+        (λ p c. let h = at_named from count p (subst (λ x. Contains x p) begun c) in ended.drained p h.0 h.1),
+        ((λ p c. absurd (none_in p (subst (λ x. Contains x p) (last_begins_no_removal first is_first reply ended.wrote) c))), tt),
+      ),
+    )
+
+-- the history was full
+pub full_removal : (v w : OneView) (call : Call) → HasItsOwn v → HasItsOwn w → SamePass v w → Refuses core v call w → FoundNoRoom core v w
+full_removal v w call own own' same refuses = no_room_alone v w (stood_full core v call w own own' same refuses)
+
+pub refused_idle : (v w : OneView) (call : Call) → IsIdle v → HasItsOwn v → HasItsOwn w → SamePass v w → Refuses core v call w → IsIdle w
+refused_idle v w call idle own own' same refuses = let full = stood_full core v call w own own' same refuses in
+    idle_still v w idle (is_free core w (same.inside ∙ idle.free.inside) (owes_refused core v call w same refuses 0 (free_owes core v idle.free))) full.grew
+
+-- a buffer of two bytes
+pub two_are : (bytes : List ℕ) → length bytes ≡ 2 → bytes ≡ slice_index_or bytes 0 0 ∷ slice_index_or bytes 1 0 ∷ []
+two_are [] e = absurd (omega arith)
+two_are (x ∷ []) e = absurd (omega arith)
+two_are (x ∷ y ∷ []) e = refl
+two_are (x ∷ y ∷ z ∷ zs) e = absurd (omega arith)

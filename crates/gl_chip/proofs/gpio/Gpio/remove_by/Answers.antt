@@ -1,0 +1,37 @@
+use Rattle.std.proofs.Common.{rules, ◌≡◌, ℕ, List, length, sym}
+use Rattle.gl_model.specs.Parts.{Removing}
+use Rattle.gl_chip.specs.Called.{HasCalled}
+use Rattle.gl_chip.specs.Removing.{AllDrained, removal_of}
+use Rattle.gl_chip.proofs.RemovalCalls.{full_removal, has_begun, not_begun, refused_idle, refused_removal, two_are, whole_removal}
+use Rattle.gl_chip.proofs.WholeCalls.{idle_called, seen_from}
+use Rattle.gl_chip.specs.Steps.{FoundNoRoom}
+use Rattle.gl_chip.specs.Values.{core}
+use Rattle.gl_chip.proofs.gpio.Gpio.remove_by.Goals as goal
+
+pub invariant_of-actor : goal.invariant_of-actor
+invariant_of-actor g c = refused_idle c.actor.inside.pass.view c.act-begun.new.pass.view c.args.first.now c.actor.invariant c.number-number.ensures.own c.in-Err.ensures.own c.in-Err.ensures.same c.in-Err.ensures.refuses
+
+pub returns-in-Err-clause-full : goal.returns-in-Err-clause-full
+returns-in-Err-clause-full g c = (c.in-Err.ensures.full, seen_from _ _ (λ v. FoundNoRoom core v c.act-begun.new.pass.view) c.actor.view_is (full_removal c.actor.inside.pass.view c.act-begun.new.pass.view c.args.first.now c.number-number.ensures.own c.in-Err.ensures.own c.in-Err.ensures.same c.in-Err.ensures.refuses))
+
+pub invariant_of-actor-then-not-is_done : goal.invariant_of-actor-then-not-is_done
+invariant_of-actor-then-not-is_done g c = let h = refused_removal c.actor.inside.pass.view c.act-begun.new.pass.view c.args.first.now c.in-Ok.reply _ _ c.requires.first c.in-Ok.ensures.same c.in-Ok.ensures.acts (sym c.if-not-is_done.ensures) in
+    idle_called 0 c.actor.inside.pass.view c.act-begun.new.pass.view (Removing (removal_of c.args.first.now)) c.in-Ok.reply h.0 c.actor.invariant (not_begun c.actor.inside.pass.view c.act-begun.new.pass.view c.args.first.now c.in-Ok.reply _ _ c.requires.first c.in-Ok.ensures.same c.in-Ok.ensures.acts (sym c.if-not-is_done.ensures) c.actor.invariant.free) h.1
+
+pub returns-then-not-is_done-clause-called : goal.returns-then-not-is_done-clause-called
+returns-then-not-is_done-clause-called g c = seen_from _ _ (λ v. (x : List ℕ) × (called : HasCalled 0 v (Removing (removal_of c.args.first.now)) c.in-Ok.reply x c.act-begun.new.pass.view) × AllDrained called.did c.act-begun.new.pass.view) c.actor.view_is
+    (refused_removal c.actor.inside.pass.view c.act-begun.new.pass.view c.args.first.now c.in-Ok.reply _ _ c.requires.first c.in-Ok.ensures.same c.in-Ok.ensures.acts (sym c.if-not-is_done.ensures))
+
+pub end_removal-requires-clause-begun : goal.end_removal-requires-clause-begun
+end_removal-requires-clause-begun g c κs within = let two : length c.act-begun.new.out ≡ 2 = search rules in
+    has_begun c.actor.inside.pass.view c.act-begun.new.pass.view c.args.first.now c.in-Ok.reply _ c.act-begun.new.out _ _ c.requires.first (search rules) (two_are c.act-begun.new.out two) c.in-Ok.ensures.same c.in-Ok.ensures.acts (sym c.if-not-is_done.ensures) c.actor.invariant.free
+
+pub invariant_of-actor-in-Ok : goal.invariant_of-actor-in-Ok
+invariant_of-actor-in-Ok g c = let two : length c.act-begun.new.out ≡ 2 = search rules in
+    let h = whole_removal c.actor.inside.pass.view c.act-begun.new.pass.view c.end_removal.new.pass.view c.args.first.now c.in-Ok.reply c.end_removal.result _ c.act-begun.new.out _ _ c.requires.first (search rules) (two_are c.act-begun.new.out two) c.in-Ok.ensures.same c.in-Ok.ensures.acts (sym c.if-not-is_done.ensures) c.end_removal.ensures.ended in
+    idle_called 0 c.actor.inside.pass.view c.end_removal.new.pass.view (Removing (removal_of c.args.first.now)) c.end_removal.result h.0 c.actor.invariant c.end_removal.ensures.free h.1
+
+pub returns-clause-called : goal.returns-clause-called
+returns-clause-called g c = let two : length c.act-begun.new.out ≡ 2 = search rules in
+    seen_from _ _ (λ v. (x : List ℕ) × (called : HasCalled 0 v (Removing (removal_of c.args.first.now)) c.end_removal.result x c.end_removal.new.pass.view) × AllDrained called.did c.end_removal.new.pass.view) c.actor.view_is
+    (whole_removal c.actor.inside.pass.view c.act-begun.new.pass.view c.end_removal.new.pass.view c.args.first.now c.in-Ok.reply c.end_removal.result _ c.act-begun.new.out _ _ c.requires.first (search rules) (two_are c.act-begun.new.out two) c.in-Ok.ensures.same c.in-Ok.ensures.acts (sym c.if-not-is_done.ensures) c.end_removal.ensures.ended)
