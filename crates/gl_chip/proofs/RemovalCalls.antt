@@ -1,9 +1,10 @@
 -- The entries of a removal.
-use Rattle.std.proofs.Common.{◌≡◌, ℕ, ◌+◌, ◌-◌, ◌<◌, ◌≤◌, List, [], ◌∷◌, ◌++◌, length, drop, sym, refl, ap, ◌∙◌, subst, arith, Bool, true, false, Option, Some, None, ⊎_elim}
+use Rattle.std.proofs.Common.{◌≡◌, ℕ, ◌+◌, ◌-◌, ◌<◌, ◌≤◌, List, [], ◌∷◌, ◌++◌, length, drop, sym, refl, ap, ◌∙◌, subst, arith, Bool, true, false, Option, Some, None, Result, Ok, Err, IfOk, inl, inr, ⊎_elim}
 use Rattle.std.specs.Prelude.{Contains, cond, slice_index_or}
 use Rattle.std.proofs.lemmas.Bool.{true≢false}
 use Rattle.std.proofs.lemmas.List.{append_assoc, append-nil}
 use Rattle.gl_base.specs.declared.errno.Errno.{Errno}
+use Rattle.gl_base.specs.declared.errno.Errno.TheVariants.{Full}
 use Rattle.gl_base.specs.declared.limits.TheConstants.{PLACES}
 use Rattle.gl_world.specs.History.{Legal, entries_of, entry, fold, owed}
 use Rattle.gl_world.specs.Removal.{AllQuiet, Removes}
@@ -23,18 +24,21 @@ use Rattle.gl_model.specs.Entries.{awaited_call, begins, begun_places, ends, gua
 use Rattle.gl_model.specs.Fits.{Fits, FitsCall}
 use Rattle.gl_model.specs.Machine.{bytes_of, reply_of}
 use Rattle.gl_model.specs.Outcome.{Outcome, refused_or, writes}
-use Rattle.gl_model.specs.Parts.{MakesRest, MakesTwo, Removing, first_call, guard_of}
+use Rattle.gl_model.specs.Parts.{DeviceCall, MakesRest, MakesTwo, Removing, first_call, guard_of}
 use Rattle.gl_model.specs.Removal.{removal_bytes, up_places}
 use Rattle.gl_model.specs.World.{World}
+use Rattle.gl_model.specs.Replies.{has_form}
+use Rattle.gl_model.proofs.Replies.{replies_have_form}
 use Rattle.gl_model.proofs.Bounds.{legal_worlds_have_bounds}
 use Rattle.gl_model.proofs.EndingRemovals.{last_calls_are_done}
 use Rattle.gl_model.proofs.Phases.{length-places_from, read_places, within_chips}
 use Rattle.gl_chip.specs.Called.{HasCalled}
-use Rattle.gl_chip.specs.Removing.{AllDrained, HasBegun, HasDrained, HasEnded, is_first_call, removal_of}
+use Rattle.gl_chip.specs.Removing.{AllDrained, HasBegun, HasDrained, HasEnded, RemovesOut, is_first_call, removal_of}
+use Rattle.gl_chip.specs.Results.{done_of}
 use Rattle.gl_chip.specs.Steps.{FoundNoRoom, deed_of}
 use Rattle.gl_chip.specs.Values.{IsIdle, MayOwn, OneEntry, OneView, core}
 use Rattle.gl_chip.proofs.GateSteps.{free_owes, is_free, knows_on, knows_same, owes_refused, stood_full}
-use Rattle.gl_chip.proofs.WholeCalls.{idle_still, no_room_alone, none_not_some}
+use Rattle.gl_chip.proofs.WholeCalls.{called_not_full, full_is_told, idle_still, no_room_alone, none_not_some}
 
 -- what the first and the last call of a removal are
 
@@ -634,3 +638,86 @@ two_are [] e = absurd (omega arith)
 two_are (x ∷ []) e = absurd (omega arith)
 two_are (x ∷ y ∷ []) e = refl
 two_are (x ∷ y ∷ z ∷ zs) e = absurd (omega arith)
+
+-- a removal that was made comes out as its last reply
+pub removes_out : (result : Result (Unit {0}) Errno) (v w : OneView) (call : DeviceCall) (reply : Reply) → result ≡ done_of reply → (bytes : List ℕ) × (called : HasCalled 0 v call reply bytes w) × AllDrained called.did w → RemovesOut result v call w
+removes_out result v w call reply is h = inl (h.0, record { reply = reply; result_is = is; not_full = λ full. called_not_full 0 v w call reply h.0 h.1 (full_is_told (λ _. tt) reply (sym is ∙ full)); called = h.1 }, h.2)
+
+pub removes_none : (errno : Errno) (v w : OneView) (call : DeviceCall) → errno ≡ Full → FoundNoRoom core v w → RemovesOut (Err errno) v call w
+removes_none errno v w call is full = inr (ap Err is, full)
+
+first_of : (refusal : Option Errno) (w v : World) (places : List ℕ) → is_done (refused_or refusal w (writes (removal_bytes places) v)).reply ≡ true → (refused_or refusal w (writes (removal_bytes places) v)).bytes ≡ removal_bytes places
+first_of None w v places d = refl
+first_of (Some errno) w v places d = absurd (true≢false (sym d))
+
+-- an unplug that has ended has drained its place
+pub unplug_drains : (v w u : OneView) (place : ℕ) (call : Call) (first_reply reply : Reply) (old new : List ℕ) (from count : ℕ) → call ≡ Unplug place false → is_first_call call ≡ true → length old ≡ 2 → new ≡ from ∷ count ∷ [] → Acts core v call first_reply old new w → is_done first_reply ≡ true
+    → HasEnded from count call w reply u → KnowsDrained u place
+unplug_drains v w u place call first_reply reply old new from count is is_first two are acts d ended =
+    let before : World = fold core (v.seen ++ acts.between) in
+    let done : is_done (reply_of before v.number call) ≡ true = ap is_done (sym acts.answer) ∙ d in
+    let wrote : bytes_of before v.number call ≡ from ∷ count ∷ [] = written_are (bytes_of before v.number call) old new from count (first_writes call is_first before v.number done) two acts.bytes are in
+    let its : bytes_of before v.number call ≡ place ∷ 1 ∷ [] = ap (λ k. bytes_of before v.number k) is ∙ first_of _ before _ (place ∷ []) (ap (λ k. is_done (reply_of before v.number k)) (sym is) ∙ done) in
+    let same : from ∷ count ∷ [] ≡ place ∷ 1 ∷ [] = sym wrote ∙ its in
+    let at : from ≡ place = ap first_of_two same in let one : count ≡ 1 = ap second_of_two same in
+    ended.drained place (omega arith) (omega arith)
+
+refused_unplug : (a : ℕ) (reply : Reply) → has_form (Unplug a false) reply ≡ true → is_done reply ≡ false → (errno : Errno) × (reply ≡ Refused errno)
+refused_unplug a Done form d = absurd (true≢false d)
+refused_unplug a (Number n) form d = absurd (true≢false (sym form))
+refused_unplug a (Go n) form d = absurd (true≢false (sym form))
+refused_unplug a (Found p o n) form d = absurd (true≢false (sym form))
+refused_unplug a (Text t) form d = absurd (true≢false (sym form))
+refused_unplug a (Ready b) form d = absurd (true≢false (sym form))
+refused_unplug a (Refused errno) form d = (errno, refl)
+
+refused_remove : (a : List ℕ) (reply : Reply) → has_form (Remove a false) reply ≡ true → is_done reply ≡ false → (errno : Errno) × (reply ≡ Refused errno)
+refused_remove a Done form d = absurd (true≢false d)
+refused_remove a (Number n) form d = absurd (true≢false (sym form))
+refused_remove a (Go n) form d = absurd (true≢false (sym form))
+refused_remove a (Found p o n) form d = absurd (true≢false (sym form))
+refused_remove a (Text t) form d = absurd (true≢false (sym form))
+refused_remove a (Ready b) form d = absurd (true≢false (sym form))
+refused_remove a (Refused errno) form d = (errno, refl)
+
+refused_first : (call : Call) → is_first_call call ≡ true → (reply : Reply) → has_form call reply ≡ true → is_done reply ≡ false → (errno : Errno) × (reply ≡ Refused errno)
+refused_first (Probe xa xb xc) s reply form d = absurd (true≢false (sym s))
+refused_first (Unplug a false) s reply form d = refused_unplug a reply form d
+refused_first (Unplug a true) s reply form d = absurd (true≢false (sym s))
+refused_first (MakeDir xa) s reply form d = absurd (true≢false (sym s))
+refused_first (RemoveDir xa) s reply form d = absurd (true≢false (sym s))
+refused_first (Write xa xb) s reply form d = absurd (true≢false (sym s))
+refused_first (Read xa) s reply form d = absurd (true≢false (sym s))
+refused_first (Live xa) s reply form d = absurd (true≢false (sym s))
+refused_first (Remove a false) s reply form d = refused_remove a reply form d
+refused_first (Remove a true) s reply form d = absurd (true≢false (sym s))
+refused_first (Tick xa xb) s reply form d = absurd (true≢false (sym s))
+refused_first (Pin xa xb) s reply form d = absurd (true≢false (sym s))
+refused_first (Irq xa xb xc) s reply form d = absurd (true≢false (sym s))
+refused_first (Pull xa xb xc) s reply form d = absurd (true≢false (sym s))
+refused_first (Level xa xb xc) s reply form d = absurd (true≢false (sym s))
+refused_first (Interrupt xa xb xc) s reply form d = absurd (true≢false (sym s))
+refused_first (OpenChip xa) s reply form d = absurd (true≢false (sym s))
+refused_first (Find xa xb) s reply form d = absurd (true≢false (sym s))
+refused_first (Ioctl xa xb xc xd xe xf) s reply form d = absurd (true≢false (sym s))
+refused_first (ReadEdges xa xb xc) s reply form d = absurd (true≢false (sym s))
+refused_first (ReadInfo xa xb xc) s reply form d = absurd (true≢false (sym s))
+refused_first (PollLine xa xb) s reply form d = absurd (true≢false (sym s))
+refused_first (PollChip xa xb) s reply form d = absurd (true≢false (sym s))
+refused_first (Close xa) s reply form d = absurd (true≢false (sym s))
+refused_first (RefusedCall xa xb) s reply form d = absurd (true≢false (sym s))
+
+-- a first entry that isn't done is refused
+pub first_is_refused : (v w : OneView) (call : Call) (reply : Reply) (old new : List ℕ) → is_first_call call ≡ true → Acts core v call reply old new w → is_done reply ≡ false → (errno : Errno) × (reply ≡ Refused errno)
+first_is_refused v w call reply old new is_first acts undone = refused_first call is_first reply (subst (λ r. has_form call r ≡ true) (sym acts.answer) (replies_have_form.form (fold core (v.seen ++ acts.between)) v.number call)) undone
+
+pub done_not_undone : (reply : Reply) → reply ≡ Done → is_done reply ≡ false → (errno : Errno) × (reply ≡ Refused errno)
+done_not_undone reply is undone = absurd (true≢false (sym (ap is_done is) ∙ undone))
+
+-- who is answered Ok has a removal that was done
+pub ok_is_done : (reply : Reply) (result : Result (Unit {0}) Errno) (P : Type 0) → result ≡ done_of reply → (is_done reply ≡ false → (errno : Errno) × (reply ≡ Refused errno)) → (is_done reply ≡ true → P) → IfOk result (λ _. P)
+ok_is_done reply result P is refused done = subst (λ r. IfOk r (λ _. P)) (sym is) (by (is_done reply) refl)
+  where
+    by : (b : Bool) → is_done reply ≡ b → IfOk (done_of reply) (λ _. P)
+    by true e = subst (λ r. IfOk (done_of r) (λ _. P)) (sym (done_is reply e)) (done e)
+    by false e = let r = refused e in subst (λ r. IfOk (done_of r) (λ _. P)) (sym r.1) tt

@@ -7,7 +7,8 @@ use Rattle.gl_base.specs.declared.errno.Errno.{Errno}
 use Rattle.gl_base.specs.declared.errno.Errno.TheVariants.{Full, NoEnt}
 use Rattle.gl_base.specs.Rows.{Each}
 use Rattle.gl_world.specs.Deeds.{entries_in}
-use Rattle.gl_world.specs.History.{Legal, entry}
+use Rattle.gl_world.specs.History.{Answered, Legal, entry, fold}
+use Rattle.gl_world.proofs.Histories.{answered_rest}
 use Rattle.gl_gate.specs.Calls.{KnowsAsMuch, KnowsClosed, MayName}
 use Rattle.gl_gate.specs.Grown.{Grew, IsFree}
 use Rattle.gl_core.specs.Kept.{Kept, StandsFor}
@@ -19,11 +20,11 @@ use Rattle.gl_model.specs.declared.reply.Reply.TheVariants.{Done, Number, Go, Fo
 use Rattle.gl_model.specs.Calling.{AreOfCalls, Called, IsCalled, made_by}
 use Rattle.gl_model.specs.Entries.{guarded_place, refused_place}
 use Rattle.gl_model.specs.Fits.{Fits}
-use Rattle.gl_model.specs.Parts.{DeviceCall, MakesAt, Once, guard_of, is_poll, is_single}
+use Rattle.gl_model.specs.Parts.{DeviceCall, MakesAt, Once, guard_of, is_poll, is_single, last_reply}
 use Rattle.gl_model.specs.Replies.{has_form}
 use Rattle.gl_model.specs.Step.{guard_reply}
 use Rattle.gl_model.proofs.Replies.{replies_have_form}
-use Rattle.gl_chip.specs.Called.{ComesOut, HasCalled}
+use Rattle.gl_chip.specs.Called.{ComesOut, HasCalled, last_entry}
 use Rattle.gl_chip.specs.Results.{value_of}
 use Rattle.gl_chip.specs.Steps.{CalledGuarded, CalledOnce, EndsWith, FoundNoRoom, IsAnswered, IsWhole, Owes, StoodFull, deed_of}
 use Rattle.gl_chip.specs.Values.{ActorValue, IsIdle, MayOwn, OneEntry, OneView, core}
@@ -149,7 +150,7 @@ abbrev is_err : {X : Type 0} → Result X Errno → Bool
 is_err (Ok x) = false
 is_err (Err errno) = true
 
-full_is_told : {X : Type 0} (value : Reply → X) (reply : Reply) → value_of value reply ≡ Err Full → reply ≡ Refused Full
+pub full_is_told : {X : Type 0} (value : Reply → X) (reply : Reply) → value_of value reply ≡ Err Full → reply ≡ Refused Full
 full_is_told value Done e = absurd (true≢false (sym (ap is_err e)))
 full_is_told value (Number n) e = absurd (true≢false (sym (ap is_err e)))
 full_is_told value (Go n) e = absurd (true≢false (sym (ap is_err e)))
@@ -282,3 +283,31 @@ idle_guarded (Err errno) place poll v w call old new L single at polls tells idl
 -- what is said of an actor's pass is said of the actor
 pub seen_from : {P : Type 0} (a b : ActorValue P) (Q : OneView → Type 0) → a ≡ b → Q a.pass.view → Q b.pass.view
 seen_from a b Q e = subst (λ x. Q x.pass.view) e
+
+abbrev is_some_entry : Option OneEntry → Bool
+is_some_entry (Some e) = true
+is_some_entry None = false
+
+abbrev reply_in : Option OneEntry → Option Reply
+reply_in (Some e) = Some e.reply
+reply_in None = None
+
+none_not_some_entry : (e : OneEntry) → None ≡ Some e → ⊥
+none_not_some_entry e is = true≢false (sym (ap is_some_entry is))
+
+last_reply_is : (made : List OneEntry) (last : OneEntry) → last_entry made ≡ Some last → last_reply made ≡ Some last.reply
+last_reply_is [] last e = absurd (none_not_some_entry last e)
+last_reply_is (x ∷ []) last e = ap reply_in e
+last_reply_is (x ∷ y ∷ zs) last e = last_reply_is (y ∷ zs) last e
+
+abbrev reply_or : Reply → Option Reply → Reply
+reply_or d (Some r) = r
+reply_or d None = d
+
+-- whatever a call of the device made, it isn't answered that the history is full
+pub called_not_full : (limit : ℕ) (v w : OneView) (call : DeviceCall) (reply : Reply) (bytes : List ℕ) → HasCalled limit v call reply bytes w → reply ≢ Refused Full
+called_not_full limit v w call reply bytes c is =
+    let l = c.last in
+    let told : l.last.reply ≡ reply = ap (reply_or reply) (sym (last_reply_is (entries_in c.did) l.last l.is_last) ∙ c.reply_is) in
+    let answered = answered_rest core core.opening l.at.0 (l.last ∷ []) (subst (λ s. Answered core s) l.at.1 c.legal.0) in
+    replies_have_form.not_full (fold core l.at.0) l.last.actor l.last.call (sym answered.0 ∙ (told ∙ is))

@@ -1,5 +1,7 @@
 -- A removal, as a call of the device: its first entry, then each of its places closed and drained, then its last entry.
-use Rattle.std.specs.Prelude.{◌≡◌, ℕ, ◌+◌, ◌<◌, ◌≤◌, Bool, true, false, List, [], ◌∷◌, ◌++◌, Contains}
+use Rattle.std.specs.Prelude.{◌≡◌, ℕ, ◌+◌, ◌<◌, ◌≤◌, Bool, true, false, List, [], ◌∷◌, ◌++◌, ◌⊎◌, Contains, Result, Err}
+use Rattle.gl_base.specs.declared.errno.Errno.{Errno}
+use Rattle.gl_base.specs.declared.errno.Errno.TheVariants.{Full}
 use Rattle.gl_world.specs.declared.machine.Machine.{Ghosts}
 use Rattle.gl_world.specs.History.{Legal, entry, entries_of, fold}
 use Rattle.gl_world.specs.Removal.{Removes}
@@ -12,8 +14,10 @@ use Rattle.gl_model.specs.declared.call.Call.TheVariants.{Remove, Unplug}
 use Rattle.gl_model.specs.declared.reply.Reply.{Reply}
 use Rattle.gl_model.specs.declared.reply.Reply.TheVariants.{Done}
 use Rattle.gl_model.specs.Entries.{awaited_call, begun_places, last_call}
-use Rattle.gl_model.specs.Parts.{RemovalOf, OfChip, OfDevice}
-use Rattle.gl_chip.specs.Steps.{EndsWith, deed_of}
+use Rattle.gl_model.specs.Parts.{DeviceCall, RemovalOf, OfChip, OfDevice}
+use Rattle.gl_chip.specs.Called.{IsMade}
+use Rattle.gl_chip.specs.Results.{done_of}
+use Rattle.gl_chip.specs.Steps.{EndsWith, FoundNoRoom, deed_of}
 use Rattle.gl_chip.specs.Values.{OneDeed, OneEntry, OneView, core}
 
 -- the call is the first one of a removal
@@ -61,3 +65,8 @@ module _ {M C R G : Type 0} (m : Ghosts M C R G) where
     pub inside : w.inside ≡ v.inside
     pub knows_as_much : KnowsAsMuch v w
     pub drained : (p : ℕ) → from ≤ p → p < past → KnowsDrained w p
+
+-- How a removal comes out: it was made, the result is what its last reply comes to, and each place whose removal it began is drained; or
+-- the history was full, and then, and only then, the result says so.
+abbrev pub RemovesOut : Result (Unit {0}) Errno → OneView → DeviceCall → OneView → Type 0
+RemovesOut result v call w = ((bytes : List ℕ) × (made : IsMade done_of result v call bytes w) × AllDrained made.called.did w) ⊎ ((result ≡ Err Full) × FoundNoRoom core v w)

@@ -11,6 +11,7 @@ mod inner;
 mod lines;
 mod making;
 mod open_files;
+mod removals;
 mod removing;
 mod results;
 mod steps;

@@ -1,11 +1,15 @@
 //! Removals: the first entry, then each place closed and drained, then the last entry.
 
-ghost use Rattle.std.specs.Prelude.{◌≡◌, ℕ, ◌+◌, ◌<◌, ◌≤◌, List, [], true, IfOk, IfErr};
+ghost use Rattle.std.specs.Prelude.{◌≡◌, ℕ, ◌+◌, ◌<◌, ◌≤◌, List, [], true, false, IfOk, IfErr};
+ghost use Rattle.gl_base.specs.declared.errno.Errno.{Errno as AnErrno};
 ghost use Rattle.gl_base.specs.declared.errno.Errno.TheVariants.{Full};
 ghost use Rattle.gl_world.specs.History.{Legal, fold};
 ghost use Rattle.gl_world.specs.Removal.{Removes};
 ghost use Rattle.gl_gate.specs.Values.{IsPassOf};
 ghost use Rattle.gl_gate.specs.Grown.{IsFree};
+ghost use Rattle.gl_gate.specs.Calls.{KnowsDrained};
+ghost use Rattle.gl_model.specs.declared.call.Call.TheVariants.{Unplug as UnplugCall};
+ghost use Rattle.gl_model.specs.declared.reply.Reply.TheVariants.{Refused};
 ghost use Rattle.gl_model.specs.Entries.{is_done, last_call};
 ghost use Rattle.gl_model.specs.Fits.{FitsCall};
 ghost use Rattle.gl_model.specs.Parts.{Removing};
@@ -116,6 +120,9 @@ impl<D: Driver<Core>> Gpio<D> {
         ensures called { IfOk result (λ r. (bytes : List ℕ)
             × (called : HasCalled 0 actor.old.pass.view (Removing (removal_of first.now)) r bytes actor.new.pass.view)
             × AllDrained called.did actor.new.pass.view) }
+        ensures refused { IfOk result (λ r. is_done r ≡ false → (errno : AnErrno) × (r ≡ Refused errno)) }
+        ensures drained { IfOk result (λ r. is_done r ≡ true → (place : ℕ) → first.now ≡ UnplugCall place false
+            → KnowsDrained actor.new.pass.view place) }
         ensures full { IfErr result (λ e. (e ≡ Full) × FoundNoRoom core actor.old.pass.view actor.new.pass.view) }
     {
         let _number = actor.pass.number();

@@ -1,8 +1,9 @@
-use Rattle.std.proofs.Common.{rules, ◌≡◌, ℕ, List, length, sym}
+use Rattle.std.proofs.Common.{rules, ◌≡◌, ℕ, List, length, sym, true, ◌∙◌}
+use Rattle.std.proofs.lemmas.Bool.{true≢false}
 use Rattle.gl_model.specs.Parts.{Removing}
 use Rattle.gl_chip.specs.Called.{HasCalled}
 use Rattle.gl_chip.specs.Removing.{AllDrained, removal_of}
-use Rattle.gl_chip.proofs.RemovalCalls.{full_removal, has_begun, not_begun, refused_idle, refused_removal, two_are, whole_removal}
+use Rattle.gl_chip.proofs.RemovalCalls.{done_not_undone, first_is_refused, full_removal, unplug_drains, has_begun, not_begun, refused_idle, refused_removal, two_are, whole_removal}
 use Rattle.gl_chip.proofs.WholeCalls.{idle_called, seen_from}
 use Rattle.gl_chip.specs.Steps.{FoundNoRoom}
 use Rattle.gl_chip.specs.Values.{core}
@@ -35,3 +36,16 @@ pub returns-clause-called : goal.returns-clause-called
 returns-clause-called g c = let two : length c.act-begun.new.out ≡ 2 = search rules in
     seen_from _ _ (λ v. (x : List ℕ) × (called : HasCalled 0 v (Removing (removal_of c.args.first.now)) c.end_removal.result x c.end_removal.new.pass.view) × AllDrained called.did c.end_removal.new.pass.view) c.actor.view_is
     (whole_removal c.actor.inside.pass.view c.act-begun.new.pass.view c.end_removal.new.pass.view c.args.first.now c.in-Ok.reply c.end_removal.result _ c.act-begun.new.out _ _ c.requires.first (search rules) (two_are c.act-begun.new.out two) c.in-Ok.ensures.same c.in-Ok.ensures.acts (sym c.if-not-is_done.ensures) c.end_removal.ensures.ended)
+
+pub returns-then-not-is_done-clause-drained : goal.returns-then-not-is_done-clause-drained
+returns-then-not-is_done-clause-drained g c = λ d place is. absurd (true≢false (sym d ∙ sym c.if-not-is_done.ensures))
+
+pub returns-clause-drained : goal.returns-clause-drained
+returns-clause-drained g c = λ d place is. let two : length c.act-begun.new.out ≡ 2 = search rules in
+    unplug_drains c.actor.inside.pass.view c.act-begun.new.pass.view c.end_removal.new.pass.view place c.args.first.now c.in-Ok.reply c.end_removal.result _ c.act-begun.new.out _ _ is c.requires.first (search rules) (two_are c.act-begun.new.out two) c.in-Ok.ensures.acts (sym c.if-not-is_done.ensures) c.end_removal.ensures.ended
+
+pub returns-then-not-is_done-clause-refused : goal.returns-then-not-is_done-clause-refused
+returns-then-not-is_done-clause-refused g c = first_is_refused c.actor.inside.pass.view c.act-begun.new.pass.view c.args.first.now c.in-Ok.reply _ _ c.requires.first c.in-Ok.ensures.acts
+
+pub returns-clause-refused : goal.returns-clause-refused
+returns-clause-refused g c = done_not_undone c.end_removal.result c.end_removal.ensures.ended.done

@@ -1,0 +1,11 @@
+use Rattle.std.proofs.Common.{refl}
+use Rattle.gl_model.specs.Parts.{Removing, OfChip}
+use Rattle.gl_gate.specs.Calls.{KnowsDrained}
+use Rattle.gl_chip.proofs.RemovalCalls.{ok_is_done, removes_out}
+use Rattle.gl_chip.proofs.gpio.Gpio.unplug.Goals as goal
+
+pub returns-in-Ok-clause-called : goal.returns-in-Ok-clause-called
+returns-in-Ok-clause-called g c = removes_out c.done.result c.args.actor.now.pass.view c.remove_by.new.actor.pass.view (Removing (OfChip c.args.place)) c.in-Ok.reply c.done.ensures c.in-Ok.ensures.called
+
+pub returns-in-Ok-clause-drained : goal.returns-in-Ok-clause-drained
+returns-in-Ok-clause-drained g c = ok_is_done c.in-Ok.reply c.done.result (KnowsDrained c.remove_by.new.actor.pass.view c.args.place) c.done.ensures c.in-Ok.ensures.refused (λ d. c.in-Ok.ensures.drained d c.args.place refl)

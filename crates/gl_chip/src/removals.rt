@@ -1,0 +1,71 @@
+//! Chips that go away: an unplugged chip, and all chips of a device of the tree.
+
+ghost use Rattle.std.specs.Prelude.{◌≡◌, ◌<◌, [], true, false, IfOk};
+ghost use Rattle.gl_base.specs.declared.limits.TheConstants.{PLACES};
+ghost use Rattle.gl_gate.specs.Calls.{KnowsDrained};
+ghost use Rattle.gl_model.specs.declared.call.Call.TheVariants.{Live as LiveCall};
+ghost use Rattle.gl_model.specs.Parts.{Once, Removing, OfChip, OfDevice};
+ghost use Rattle.gl_chip.specs.Called.{ComesOut};
+ghost use Rattle.gl_chip.specs.Removing.{RemovesOut};
+ghost use Rattle.gl_chip.specs.Results.{done_of};
+ghost use Rattle.gl_chip.specs.Values.{IsActorOf};
+
+use crate::actor::Actor;
+use crate::gpio::Gpio;
+use crate::results;
+use gl_base::{Errno, Name};
+use gl_core::{Call, Core};
+use gl_driver::Driver;
+use std::sync::Wait;
+
+impl<D: Driver<Core>> Gpio<D> {
+    /// Removes the chip of a place that is of no device of the tree, and waits until nobody is inside. From the answer Ok on
+    /// nobody is inside, and no driver call of the chip runs.
+    ///
+    /// `NoEnt` where the place has no chip; `Perm` where the chip is of a device of the tree; `Busy` where it is leaving;
+    /// `NoDev` where it is gone; `Full` where the history is full.
+    pub fn unplug<R: Wait>(&self, rt: &R, actor: &mut Actor<D>, place: u8) -> Result<(), Errno>
+        requires actor { IsActorOf self.now actor.old }
+        requires place { place < PLACES }
+        ensures actor { IsActorOf self.now actor.new }
+        ensures port { actor.new.port ≡ actor.old.port }
+        ensures called { RemovesOut result actor.old.pass.view (Removing (OfChip place)) actor.new.pass.view }
+        ensures drained { IfOk result (λ _. KnowsDrained actor.new.pass.view place) }
+    {
+        let first = Call::Unplug { place, last: false };
+        match self.remove_by(rt, actor, &first) {
+            Ok(reply) => results::done(reply),
+            Err(errno) => Err(errno),
+        }
+    }
+
+    /// Makes the chips of a device of the tree, where `up`; else removes them, and waits until nobody is inside any of them.
+    /// From the answer Ok on nobody is inside, and no driver call of these chips runs.
+    ///
+    /// Its refusals are those of the machine's calls; `Full` where the history is full.
+    pub fn live<R: Wait>(
+        &self,
+        rt: &R,
+        actor: &mut Actor<D>,
+        device: &Name,
+        up: bool,
+    ) -> Result<(), Errno>
+        requires actor { IsActorOf self.now actor.old }
+        ensures actor { IsActorOf self.now actor.new }
+        ensures port { actor.new.port ≡ actor.old.port }
+        ensures made { up ≡ true → ComesOut done_of result actor.old.pass.view (Once (LiveCall device.now)) [] actor.new.pass.view }
+        ensures removed { up ≡ false → RemovesOut result actor.old.pass.view (Removing (OfDevice device.now)) actor.new.pass.view }
+    {
+        if up {
+            return self.done_alone(rt, actor, Call::Live { device: *device });
+        }
+        let first = Call::Remove {
+            device: *device,
+            last: false,
+        };
+        match self.remove_by(rt, actor, &first) {
+            Ok(reply) => results::done(reply),
+            Err(errno) => Err(errno),
+        }
+    }
+}
