@@ -1,0 +1,56 @@
+//! Plays runs of calls on the core, and tells what each call is answered, with all bytes of its buffer.
+//!
+//! A line `run NAME` begins a run on a new core, a line `end` tells whether the entries of the run are legal, and every other
+//! line is an actor's call. The runs and their answers are those that `gl_model_runs` proves of the machine's definitions.
+#![tactic(auto)]
+
+mod answers;
+mod calls;
+mod game;
+mod words;
+
+use game::Game;
+use gl_base::Errno;
+use std::alloc::Global;
+use std::io::{self, Write};
+use words::Words;
+
+fn main(rt: HostRuntime) -> io::Result<()> {
+    let mut out = rt.stdout();
+    let mut game = None;
+    for line in rt.lines(rt.alloc()) {
+        let line = line?;
+        let mut text = Vec::new(rt.alloc());
+        match told(&mut game, line.as_str().as_bytes(), rt.alloc(), &mut text) {
+            Ok(()) => out.write_all(&text)?,
+            Err(errno) => out.write_all(errno.name().as_bytes())?,
+        }
+        out.write_all(b"\n")?;
+    }
+    Ok(())
+}
+
+/// What is told of a line.
+fn told(
+    game: &mut Option<Game>,
+    line: &[u8],
+    alloc: Global,
+    out: &mut Vec<u8>,
+) -> Result<(), Errno> {
+    let mut words = Words::of(line);
+    match words.word() {
+        b"run" => {
+            *game = Some(Game::new(alloc)?);
+            out.extend_from_slice(line)?;
+            Ok(())
+        }
+        b"end" => match game {
+            Some(game) => game.put_end(alloc, out),
+            None => Ok(()),
+        },
+        _ => match game {
+            Some(game) => game.put_answer(Words::of(line), alloc, out),
+            None => Ok(()),
+        },
+    }
+}
