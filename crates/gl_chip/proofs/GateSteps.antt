@@ -9,7 +9,7 @@ use Rattle.gl_world.specs.Deeds.{Deed, entries_in}
 use Rattle.gl_world.specs.Removal.{Removes, AllQuiet, QuietEntriesKeepRemovals}
 use Rattle.gl_driver.specs.Calls.{IsBack}
 use Rattle.gl_driver.proofs.OwnEntries.{own_entries_are_deeds}
-use Rattle.gl_world.proofs.Histories.{entries_append}
+use Rattle.gl_world.proofs.Histories.{answered_prefix, entries_append, placed_prefix}
 use Rattle.gl_rule.specs.declared.view.View.{View}
 use Rattle.gl_rule.specs.Sums.{times}
 use Rattle.gl_rule.specs.Turn.{owes}
@@ -58,7 +58,12 @@ module _ {M C R G : Type 0} (m : Ghosts M C R G) where
     bytes = acts.bytes;
     same = same;
     legal = acts.legal;
-    answered = record { world = fold m (v.seen ++ acts.between); reply_is = acts.answer; bytes_are = refl };
+    answered = let whole : Legal m ((v.seen ++ acts.between) ++ entry v.number call reply ∷ []) = subst (λ l. Legal m l) acts.seen acts.legal in record {
+      before = v.seen ++ acts.between;
+      legal_before = (answered_prefix m m.opening (v.seen ++ acts.between) _ whole.0, placed_prefix m m.opening (v.seen ++ acts.between) _ whole.1);
+      reply_is = acts.answer;
+      bytes_are = refl;
+    };
   }
 
   -- what a call that is whole by itself leaves to be owed
@@ -122,7 +127,7 @@ module _ {M C R G : Type 0} (m : Ghosts M C R G) where
     had_room = subst (λ n. length step.last.0 < n) moved.room (step.had_room ends_not);
     bytes = step.bytes;
     legal = step.legal;
-    answered = let a = step.answered in record { world = a.world; reply_is = subst (λ n. reply ≡ m.reply_of a.world n refused) moved.number a.reply_is; bytes_are = subst (λ n. step.wrote ≡ m.bytes_of a.world n refused) moved.number a.bytes_are };
+    answered = let a = step.answered in record { before = a.before; legal_before = a.legal_before; reply_is = subst (λ n. reply ≡ m.reply_of (fold m a.before) n refused) moved.number a.reply_is; bytes_are = subst (λ n. step.wrote ≡ m.bytes_of (fold m a.before) n refused) moved.number a.bytes_are };
     known = λ _. refl;
     knows = λ _. subst (λ l. 0 < times place l) (sym step.same.closed) closed;
     knows_as_much = knows_on v w u knows (knows_same w u step.same.closed step.same.drained);
@@ -140,7 +145,7 @@ module _ {M C R G : Type 0} (m : Ghosts M C R G) where
     had_room = subst (λ n. length step.last.0 < n) moved.room (step.had_room ends_not);
     bytes = step.bytes;
     legal = subst (λ l. Legal m l) (sym left.seen) step.legal;
-    answered = let a = step.answered in record { world = a.world; reply_is = subst (λ n. reply ≡ m.reply_of a.world n call) moved.number a.reply_is; bytes_are = subst (λ n. step.wrote ≡ m.bytes_of a.world n call) moved.number a.bytes_are };
+    answered = let a = step.answered in record { before = a.before; legal_before = a.legal_before; reply_is = subst (λ n. reply ≡ m.reply_of (fold m a.before) n call) moved.number a.reply_is; bytes_are = subst (λ n. step.wrote ≡ m.bytes_of (fold m a.before) n call) moved.number a.bytes_are };
     known = λ k. absurd (unknown k);
     knows = λ e. absurd (true≢false (sym e));
     knows_as_much = knows_on v u x (knows_on v w u knows (knows_same w u step.same.closed step.same.drained)) (knows_same u x closed drained);

@@ -1,5 +1,5 @@
 -- One entry as a whole call of the device.
-use Rattle.std.proofs.Common.{◌≡◌, ◌≢◌, ℕ, ◌+◌, ◌<◌, ◌≤◌, List, [], ◌∷◌, ◌++◌, length, drop, sym, refl, ap, ◌∙◌, subst, arith, Bool, true, false, Option, Some, None, Result, Ok, Err, IfOk, IfErr, ◌⊎◌, inl, inr}
+use Rattle.std.proofs.Common.{◌≡◌, ◌≢◌, ℕ, ◌+◌, ◌<◌, ◌≤◌, List, [], ◌∷◌, ◌++◌, length, drop, sym, refl, ap, ◌∙◌, subst, arith, Bool, true, false, Option, Some, None, Result, Ok, Err, IfOk, IfErr, ◌⊎◌, inl, inr, ⊎_elim, length-append}
 use Rattle.std.specs.Prelude.{cond}
 use Rattle.std.proofs.lemmas.Bool.{true≢false}
 use Rattle.std.proofs.lemmas.List.{append_assoc, append-nil}
@@ -19,7 +19,9 @@ use Rattle.gl_model.specs.declared.reply.Reply.{Reply}
 use Rattle.gl_model.specs.declared.reply.Reply.TheVariants.{Done, Number, Go, Found, Text, Ready, Refused}
 use Rattle.gl_model.specs.Calling.{AreOfCalls, Called, IsCalled, made_by}
 use Rattle.gl_model.specs.Entries.{guarded_place, refused_place}
-use Rattle.gl_model.specs.Fits.{Fits}
+use Rattle.gl_model.specs.Fits.{Fits, FitsCall}
+use Rattle.gl_model.specs.Written.{bytes_written, number_answered}
+use Rattle.gl_model.proofs.LegalLengths.{legal_replies_tell_lengths}
 use Rattle.gl_model.specs.Parts.{DeviceCall, MakesAt, Once, guard_of, is_poll, is_single, last_reply}
 use Rattle.gl_model.specs.Replies.{has_form}
 use Rattle.gl_model.specs.Step.{guard_reply}
@@ -130,11 +132,11 @@ called_alone v w call reply old new single none empty step = record {
 
 -- the form of what it is answered
 pub form_alone : (v w : OneView) (call : Call) (reply : Reply) (old new : List ℕ) → CalledOnce core v call reply old new w → has_form call reply ≡ true
-form_alone v w call reply old new step = let a = step.answered in subst (λ r. has_form call r ≡ true) (sym a.reply_is) (replies_have_form.form a.world v.number call)
+form_alone v w call reply old new step = let a = step.answered in subst (λ r. has_form call r ≡ true) (sym a.reply_is) (replies_have_form.form (fold core a.before) v.number call)
 
 -- no call is answered that the history is full
 never_full : (n : ℕ) (call : Call) (reply : Reply) (wrote : List ℕ) → IsAnswered core n call reply wrote → reply ≢ Refused Full
-never_full n call reply wrote a is = replies_have_form.not_full a.world n call (sym a.reply_is ∙ is)
+never_full n call reply wrote a is = replies_have_form.not_full (fold core a.before) n call (sym a.reply_is ∙ is)
 
 pub alone_not_full : (v w : OneView) (call : Call) (reply : Reply) (old new : List ℕ) → CalledOnce core v call reply old new w → reply ≢ Refused Full
 alone_not_full v w call reply old new step = never_full v.number call reply step.wrote step.answered
@@ -218,7 +220,7 @@ guarded_by place poll v w call reply wrote single at polls tells false last room
     known = λ k. known (subst (λ q. KnowsClosed v q) (ap (place_or p) (sym its ∙ at)) k);
     knows = λ f. absurd (true≢false (sym f));
     gone = λ f. absurd (true≢false (sym f));
-    gone_alone = λ told. absurd (true≢false (sym (subst (λ r. has_form call r ≡ true) (sym answered.reply_is ∙ (told ∙ ap guard_reply polls)) (replies_have_form.form answered.world v.number call)) ∙ tells));
+    gone_alone = λ told. absurd (true≢false (sym (subst (λ r. has_form call r ≡ true) (sym answered.reply_is ∙ (told ∙ ap guard_reply polls)) (replies_have_form.form (fold core answered.before) v.number call)) ∙ tells));
   };
   knows_as_much = knows_as_much;
 }
@@ -230,10 +232,25 @@ called_guarded place poll v w call reply old new single at polls tells c = (c.wr
 -- the form of what it is answered
 form_by : (place : ℕ) (poll : Bool) (n : ℕ) (call : Call) (reply : Reply) (wrote : List ℕ) (b : Bool) → IsAnswered core n (cond b (RefusedCall place poll) call) reply wrote → (reply ≡ guard_reply poll) ⊎ (has_form call reply ≡ true)
 form_by place poll n call reply wrote true a = inl a.reply_is
-form_by place poll n call reply wrote false a = inr (subst (λ r. has_form call r ≡ true) (sym a.reply_is) (replies_have_form.form a.world n call))
+form_by place poll n call reply wrote false a = inr (subst (λ r. has_form call r ≡ true) (sym a.reply_is) (replies_have_form.form (fold core a.before) n call))
 
 pub form_guarded : (place : ℕ) (poll : Bool) (v w : OneView) (call : Call) (reply : Reply) (old new : List ℕ) → CalledGuarded core place (RefusedCall place poll) v call reply old new w → (reply ≡ guard_reply poll) ⊎ (has_form call reply ≡ true)
 form_guarded place poll v w call reply old new c = form_by place poll v.number call reply c.wrote c.closed c.answered
+
+-- how much it has written
+length_by : (place : ℕ) (poll : Bool) (n : ℕ) (call : Call) (reply : Reply) (wrote : List ℕ) (b : Bool) → FitsCall call → IsAnswered core n (cond b (RefusedCall place poll) call) reply wrote → (reply ≡ guard_reply poll) ⊎ (length wrote ≡ bytes_written call reply)
+length_by place poll n call reply wrote true fits a = inl a.reply_is
+length_by place poll n call reply wrote false fits a = inr (ap (λ (l : List ℕ). length l) a.bytes_are ∙ ((legal_replies_tell_lengths StandsFor).lengths.behind_a_history a.before a.legal_before n call fits ∙ ap (λ r. bytes_written call r) (sym a.reply_is)))
+
+pub length_guarded : (place : ℕ) (poll : Bool) (v w : OneView) (call : Call) (reply : Reply) (old new : List ℕ) → FitsCall call → CalledGuarded core place (RefusedCall place poll) v call reply old new w
+    → (bytes : List ℕ) × (new ≡ bytes ++ drop (length bytes) old) × ((reply ≡ guard_reply poll) ⊎ (length bytes ≡ bytes_written call reply))
+length_guarded place poll v w call reply old new fits c = (c.wrote, c.bytes, length_by place poll v.number call reply c.wrote c.closed fits c.answered)
+
+-- a read gives no more bytes than its buffer has
+pub few_read : (call : Call) (reply : Reply) (old new : List ℕ) (limit : ℕ) → bytes_written call reply ≡ number_answered reply → length new < limit → (bytes : List ℕ) × (new ≡ bytes ++ drop (length bytes) old) × ((reply ≡ guard_reply false) ⊎ (length bytes ≡ bytes_written call reply))
+    → number_answered reply < limit
+few_read call reply old new limit is few h = let all = length-append h.0 (drop (length h.0) old) in let size : length new ≡ length (h.0 ++ drop (length h.0) old) = ap (λ (l : List ℕ). length l) h.1 in
+    ⊎_elim (λ e. let none : number_answered reply ≡ 0 = ap (λ r. number_answered r) e in omega arith) (λ e. let same : length h.0 ≡ number_answered reply = e ∙ is in omega arith) h.2
 
 made_by_snoc : (calls : List (Called Kept)) (called : Called Kept) → made_by (calls ++ called ∷ []) ≡ made_by calls ++ called.made
 made_by_snoc [] called = append-nil called.made

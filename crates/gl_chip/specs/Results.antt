@@ -2,16 +2,13 @@
 use Rattle.std.specs.Prelude.{ℕ, Bool, true, false, List, [], ◌==◌, Result, Ok, Err}
 use Rattle.gl_base.specs.declared.errno.Errno.{Errno}
 use Rattle.gl_model.specs.declared.reply.Reply.{Reply}
+use Rattle.gl_model.specs.Written.{number_answered}
 use Rattle.gl_model.specs.declared.reply.Reply.TheVariants.{Done, Number, Go, Found, Text, Ready, Refused}
 
 -- what a reply comes to: why the call was refused, or this of its value
 abbrev pub value_of : {X : Type 0} → (Reply → X) → Reply → Result X Errno
 value_of value (Refused errno) = Err errno
 value_of value reply = Ok (value reply)
-
-abbrev pub number_in : Reply → ℕ
-number_in (Number n) = n
-number_in reply = 0
 
 abbrev pub text_in : Reply → List ℕ
 text_in (Text text) = text
@@ -31,11 +28,11 @@ done_of reply = value_of (λ _. tt) reply
 
 -- the number, or why the call was refused
 abbrev pub number_of : Reply → Result ℕ Errno
-number_of reply = value_of number_in reply
+number_of reply = value_of number_answered reply
 
 -- a level, true for 1, or why the call was refused
 abbrev pub level_of : Reply → Result Bool Errno
-level_of reply = value_of (λ r. number_in r == 1) reply
+level_of reply = value_of (λ r. number_answered r == 1) reply
 
 -- a text, or why the call was refused
 abbrev pub text_of : Reply → Result (List ℕ) Errno

@@ -2,7 +2,7 @@
 use Rattle.std.specs.Prelude.{◌≡◌, ℕ, ◌<◌, ◌≤◌, Bool, true, false, cond, List, [], ◌∷◌, ◌++◌, length, drop}
 use Rattle.gl_world.specs.declared.machine.Machine.{Ghosts}
 use Rattle.gl_world.specs.declared.history.Entry.{Entry}
-use Rattle.gl_world.specs.History.{Legal, entry}
+use Rattle.gl_world.specs.History.{Legal, entry, fold}
 use Rattle.gl_world.specs.Deeds.{Deed, entries_in}
 use Rattle.gl_rule.specs.declared.view.View.{View}
 use Rattle.gl_rule.specs.Turn.{owes}
@@ -44,11 +44,12 @@ module _ {M C R G : Type 0} (m : Ghosts M C R G) where
     pub owed : owes m v ≡ count
     pub removes_nothing : RemovesNothing m v
 
-  -- this is what the machine answers and writes in some world
+  -- this is what the machine answers and writes behind some legal history
   pub record IsAnswered (actor : ℕ) (call : C) (reply : R) (wrote : List ℕ) : Type 0 where
-    pub world : m.World
-    pub reply_is : reply ≡ m.reply_of world actor call
-    pub bytes_are : wrote ≡ m.bytes_of world actor call
+    pub before : List (Entry M C R G)
+    pub legal_before : Legal m before
+    pub reply_is : reply ≡ m.reply_of (fold m before) actor call
+    pub bytes_are : wrote ≡ m.bytes_of (fold m before) actor call
 
   -- One call was made, and of the pass nothing else changed. Behind what was written the buffer stays.
   pub record CalledOnce (v : View M C R G) (call : C) (reply : R) (old new : List ℕ) (w : View M C R G) : Type 0 where

@@ -8,6 +8,7 @@ ghost use Rattle.gl_model.specs.Entries.{guarded_place};
 ghost use Rattle.gl_model.specs.Fits.{Fits, Leaves};
 ghost use Rattle.gl_model.specs.Parts.{Once, is_poll, is_single};
 ghost use Rattle.gl_model.specs.Replies.{has_form};
+ghost use Rattle.gl_model.specs.Written.{bytes_written};
 ghost use Rattle.gl_model.specs.Step.{guard_reply};
 ghost use Rattle.gl_chip.specs.Called.{HasCalled};
 ghost use Rattle.gl_chip.specs.Steps.{FoundNoRoom};
@@ -77,6 +78,8 @@ impl<D: Driver<Core>> Gpio<D> {
         ensures port { actor.new.port ≡ actor.old.port }
         ensures called { IfOk result (λ r. (bytes : List ℕ) × (out.new ≡ bytes ++ drop (length bytes) out.old)
             × HasCalled 0 actor.old.pass.view (Once call) r bytes actor.new.pass.view) }
+        ensures lengths { IfOk result (λ r. (bytes : List ℕ) × (out.new ≡ bytes ++ drop (length bytes) out.old)
+            × ((r ≡ guard_reply poll) ⊎ (length bytes ≡ bytes_written call r))) }
         ensures form { IfOk result (λ r. (r ≡ guard_reply poll) ⊎ (has_form call r ≡ true)) }
         ensures not_full { IfOk result (λ r. r ≢ Refused Full) }
         ensures full { IfErr result (λ e. (e ≡ Full) × (out.new ≡ out.old)

@@ -67,6 +67,72 @@ impl<D: Driver<Core>> Gpio<D> {
         }
     }
 
+    /// Reads changes of watched lines, as many as wait and the buffer has room for, and tells how many bytes it gave.
+    ///
+    /// `BadF` where no open file has this number at this place; `Inval` where a request has it, or the buffer is below 288 bytes;
+    /// `Again` where nothing waits; `NoDev` where the removal of the chip had closed the place; `Full` where the history is full.
+    pub fn read_info<R: Wait>(
+        &self,
+        rt: &R,
+        actor: &mut Actor<D>,
+        fd: &ChipFd,
+        buf: &mut [u8],
+    ) -> Result<u32, Errno>
+        requires actor { IsActorOf self.now actor.old }
+        requires length { length buf.old < 2 ^ 32 }
+        ensures actor { IsActorOf self.now actor.new }
+        ensures port { actor.new.port ≡ actor.old.port }
+        ensures called { (bytes : List ℕ) × (buf.new ≡ bytes ++ drop (length bytes) buf.old)
+            × ComesOut number_of result actor.old.pass.view (Once (ReadInfo fd.now.place fd.now.fd (length buf.old))) bytes actor.new.pass.view }
+    {
+        let (place, fd) = (fd.place, fd.fd);
+        let len = buf.len() as u32;
+        match self.behind_guard(
+            rt,
+            actor,
+            place,
+            Call::ReadInfo { place, fd, len },
+            false,
+            buf,
+        ) {
+            Ok(reply) => results::count(reply),
+            Err(errno) => Err(errno),
+        }
+    }
+
+    /// Reads events of a request, as many as wait and the buffer has room for, and tells how many bytes it gave.
+    ///
+    /// `BadF` where no open file has this number at this place; `Inval` where a chip file has it, or the buffer is below 48 bytes;
+    /// `Again` where nothing waits; `NoDev` where the removal of the chip had closed the place; `Full` where the history is full.
+    pub fn read_edges<R: Wait>(
+        &self,
+        rt: &R,
+        actor: &mut Actor<D>,
+        fd: &LineFd,
+        buf: &mut [u8],
+    ) -> Result<u32, Errno>
+        requires actor { IsActorOf self.now actor.old }
+        requires length { length buf.old < 2 ^ 32 }
+        ensures actor { IsActorOf self.now actor.new }
+        ensures port { actor.new.port ≡ actor.old.port }
+        ensures called { (bytes : List ℕ) × (buf.new ≡ bytes ++ drop (length bytes) buf.old)
+            × ComesOut number_of result actor.old.pass.view (Once (ReadEdges fd.now.place fd.now.fd (length buf.old))) bytes actor.new.pass.view }
+    {
+        let (place, fd) = (fd.place, fd.fd);
+        let len = buf.len() as u32;
+        match self.behind_guard(
+            rt,
+            actor,
+            place,
+            Call::ReadEdges { place, fd, len },
+            false,
+            buf,
+        ) {
+            Ok(reply) => results::count(reply),
+            Err(errno) => Err(errno),
+        }
+    }
+
     /// Closes a chip, in every phase of it. Where it is refused, the file comes back.
     ///
     /// `BadF` where no open file has its number; `Full` where the history is full.

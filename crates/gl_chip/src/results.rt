@@ -1,7 +1,8 @@
 //! What a caller of the device gets of a reply of the machine.
 
-ghost use Rattle.std.specs.Prelude.{◌≡◌, ◌<◌};
-ghost use Rattle.gl_chip.specs.Results.{done_of, found_of, level_of, number_in, number_of, ready_of, text_of};
+ghost use Rattle.std.specs.Prelude.{◌≡◌, ◌<◌, ◌^◌};
+ghost use Rattle.gl_model.specs.Written.{number_answered};
+ghost use Rattle.gl_chip.specs.Results.{done_of, found_of, level_of, number_of, ready_of, text_of};
 
 use gl_base::{Errno, Name};
 use gl_core::Reply;
@@ -18,12 +19,24 @@ pub(crate) fn done(reply: Reply) -> Result<(), Errno>
 
 /// A place, or why the call was refused.
 pub(crate) fn place(reply: Reply) -> Result<u8, Errno>
-    requires { number_in reply < 256 }
+    requires { number_answered reply < 256 }
     ensures { result ≡ number_of reply }
 {
     match reply {
         Reply::Refused(errno) => Err(errno),
         Reply::Number(number) => Ok(number as u8),
+        _ => Ok(0),
+    }
+}
+
+/// A number of bytes, or why the read was refused.
+pub(crate) fn count(reply: Reply) -> Result<u32, Errno>
+    requires { number_answered reply < 2 ^ 32 }
+    ensures { result ≡ number_of reply }
+{
+    match reply {
+        Reply::Refused(errno) => Err(errno),
+        Reply::Number(number) => Ok(number as u32),
         _ => Ok(0),
     }
 }

@@ -2,7 +2,7 @@ use Rattle.std.proofs.Common.{◌≡◌, ℕ, List, ◌++◌, length, drop}
 use Rattle.gl_model.specs.Parts.{Once}
 use Rattle.gl_chip.specs.Called.{HasCalled}
 use Rattle.gl_chip.proofs.GateSteps.{if_ok}
-use Rattle.gl_chip.proofs.WholeCalls.{called_guarded, guarded_not_full, form_guarded, idle_guarded, seen_from}
+use Rattle.gl_chip.proofs.WholeCalls.{called_guarded, guarded_not_full, length_guarded, form_guarded, idle_guarded, seen_from}
 use Rattle.gl_chip.proofs.gpio.Gpio.behind_guard.Goals as goal
 
 pub invariant_of-actor : goal.invariant_of-actor
@@ -17,3 +17,6 @@ returns-clause-form g c = if_ok c.guarded.result _ _ (λ r step. form_guarded c.
 
 pub returns-clause-not_full : goal.returns-clause-not_full
 returns-clause-not_full g c = if_ok c.guarded.result _ _ (λ r step. guarded_not_full c.args.place _ c.actor.inside.pass.view c.guarded.new.pass.view c.args.call r c.args.out.now c.guarded.new.out step) c.guarded.ensures.called
+
+pub returns-clause-lengths : goal.returns-clause-lengths
+returns-clause-lengths g c = if_ok c.guarded.result _ _ (λ r step. length_guarded c.args.place c.args.poll c.actor.inside.pass.view c.guarded.new.pass.view c.args.call r c.args.out.now c.guarded.new.out c.requires.fits.fits_call step) c.guarded.ensures.called
