@@ -26,7 +26,7 @@ pub fn talks_keep_within_cost()
 {}
 
 /// The talk of an actor makes at most as many entries of a history as its statements cost together, where each closing is
-/// counted as it is made and none is refused: no file is closed that isn't open.
+/// counted as it is made and none is refused: no more files are closed than were opened.
 pub fn talks_make_at_most()
     ensures { TalksMakeAtMost }
 {}
