@@ -71,17 +71,17 @@ begins_it (Up, r) a Finish zero h e = absurd (omega arith)
 begins_it (Leaving, r) a Finish zero h e = absurd (omega arith)
 begins_it (Gone, r) a Finish zero h e = absurd (omega arith)
 
--- the one place of the house
-first_is : (p : ℕ) → Contains (0 ∷ []) p → p ≡ 0
-first_is p (zero, l, e) = sym e
-first_is p (suc k, l, e) = absurd (omega arith)
+-- a list of one number has no other
+pub only_member : (n p : ℕ) → Contains (n ∷ []) p → p ≡ n
+only_member n p (zero, l, e) = sym e
+only_member n p (suc k, l, e) = absurd (omega arith)
 
 pub begins_them : (w : Phase × ℕ) (a : ℕ) (c : Errand) (p : ℕ) → Contains (first_places c (answer w a c)) p → (rank (phase_at (after w a c) p) ≡ 2) × (Some (after w a c).1 ≡ Some a) × (Finish ≡ Finish)
 begins_them w a Work p h = absurd (no_member p h)
 begins_them w a TurnedAway p h = absurd (no_member p h)
 begins_them w a Finish p h = absurd (no_member p h)
 begins_them (Absent, r) a Remove p h = absurd (no_member p h)
-begins_them (Up, r) a Remove p h = (ap (λ k. rank (phase_at (Leaving, a) k)) (first_is p h), refl, refl)
+begins_them (Up, r) a Remove p h = (ap (λ k. rank (phase_at (Leaving, a) k)) (only_member 0 p h), refl, refl)
 begins_them (Leaving, r) a Remove p h = absurd (no_member p h)
 begins_them (Gone, r) a Remove p h = absurd (no_member p h)
 

@@ -4,3 +4,4 @@ pub mod House
 pub mod HouseLaws
 pub mod Free
 pub mod Noting
+pub mod CorePasses

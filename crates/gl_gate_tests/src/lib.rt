@@ -4,6 +4,9 @@
 mod adder;
 mod adding;
 mod asking;
+mod core_calls;
+#[cfg(test)]
+mod core_tests;
 mod errand;
 mod house;
 mod kind;

@@ -1,0 +1,109 @@
+//! Calls on the core by passes of its gate.
+ghost use Rattle.std.specs.Prelude.{◌≡◌, ◌<◌, None, IsTrue};
+ghost use Rattle.gl_base.specs.declared.limits.TheConstants.{PLACES};
+ghost use Rattle.gl_gate.specs.Values.{IsPassOf};
+ghost use Rattle.gl_gate.specs.Calls.{SamePass, IsInside, KnowsDrained, RemovesNothing};
+ghost use Rattle.gl_model.specs.Entries.{is_done};
+ghost use Rattle.gl_gate_tests.specs.CorePasses.{core, Owes, RemovesOnly, RemovesPlace};
+
+use gl_base::{Errno, Kind, Name};
+use gl_core::{Call, Core, Gift, Reply};
+use gl_gate::{Gate, Pass};
+use std::sync::Wait;
+
+/// A gift with nothing in it.
+fn nothing() -> Gift
+    ensures ring { result.ring ≡ None }
+    ensures queue { result.queue ≡ None }
+{
+    Gift {
+        ring: None,
+        queue: None,
+    }
+}
+
+/// A removal was begun.
+fn is_done(reply: &Reply) -> bool
+    ensures { result ≡ is_done reply.now }
+{
+    matches!(reply, Reply::Done)
+}
+
+/// Makes a simulated chip of four lines.
+pub fn probe<R: Wait>(rt: &R, gate: &Gate<Core>, pass: &mut Pass<Core>) -> Result<Reply, Errno>
+    requires gate { IsPassOf gate.now pass.old }
+    requires free { Owes 0 pass.old.view }
+    ensures gate { IsPassOf gate.now pass.new }
+    ensures same { SamePass pass.old.view pass.new.view }
+    ensures free { Owes 0 pass.new.view }
+{
+    let call = Call::Probe {
+        label: Name::empty(),
+        lines: 4,
+        kind: Kind::Simulated,
+    };
+    gate.act(rt, pass, call, &mut nothing(), &mut [])
+}
+
+/// Reads the level of a line of the chip at a place, which the pass is inside.
+pub fn level<R: Wait>(
+    rt: &R,
+    gate: &Gate<Core>,
+    pass: &mut Pass<Core>,
+    place: u8,
+    offset: u32,
+) -> Result<Reply, Errno>
+    requires gate { IsPassOf gate.now pass.old }
+    requires place { place < PLACES }
+    requires free { Owes 0 pass.old.view }
+    requires inside { IsInside pass.old.view place }
+    ensures gate { IsPassOf gate.now pass.new }
+    ensures same { SamePass pass.old.view pass.new.view }
+    ensures free { Owes 0 pass.new.view }
+{
+    let call = Call::Level {
+        place,
+        offset,
+        pull: false,
+    };
+    gate.act(rt, pass, call, &mut nothing(), &mut [])
+}
+
+/// Begins the removal of the chip at a place. Where that was done, the pass removes this place from then on,
+/// and no other.
+pub fn begin_unplug<R: Wait>(rt: &R, gate: &Gate<Core>, pass: &mut Pass<Core>, place: u8) -> bool
+    requires gate { IsPassOf gate.now pass.old }
+    requires place { place < PLACES }
+    requires free { Owes 0 pass.old.view }
+    requires nothing { RemovesNothing core pass.old.view }
+    ensures gate { IsPassOf gate.now pass.new }
+    ensures same { SamePass pass.old.view pass.new.view }
+    ensures owed { IsTrue result → Owes 1 pass.new.view }
+    ensures begun { IsTrue result → RemovesPlace place pass.new.view }
+    ensures only { RemovesOnly place pass.new.view }
+{
+    let call = Call::Unplug { place, last: false };
+    let mut places = [0u8; 2];
+    match gate.act(rt, pass, call, &mut nothing(), &mut places) {
+        Ok(reply) => is_done(&reply),
+        Err(_) => false,
+    }
+}
+
+/// Ends the removal of the chip at a place, which the pass has drained.
+pub fn end_unplug<R: Wait>(rt: &R, gate: &Gate<Core>, pass: &mut Pass<Core>, place: u8) -> Reply
+    requires gate { IsPassOf gate.now pass.old }
+    requires place { place < PLACES }
+    requires owed { Owes 1 pass.old.view }
+    requires only { RemovesOnly place pass.old.view }
+    requires drained { KnowsDrained pass.old.view place }
+    ensures gate { IsPassOf gate.now pass.new }
+    ensures same { SamePass pass.old.view pass.new.view }
+    ensures free { Owes 0 pass.new.view }
+{
+    let call = Call::Unplug { place, last: true };
+    match gate.act(rt, pass, call, &mut nothing(), &mut []) {
+        Ok(reply) => reply,
+        Err(_) => unreachable!(),
+    }
+}
