@@ -1,1 +1,1 @@
-pub mod CoreRemovals
+pub mod CoreCalls

@@ -26,3 +26,9 @@ RemovesPlace place v = Removes core (fold core v.seen) v.number place
 -- the pass removes no place but this one
 abbrev pub RemovesOnly : ℕ → View Kept Call Reply Gift → Type 0
 RemovesOnly place v = (p : ℕ) → RemovesPlace p v → p ≡ place
+
+-- the same pass: it took no pass in, and made none
+pub record IsSame (v w : View Kept Call Reply Gift) : Type 0 where
+  pub number : w.number ≡ v.number
+  pub made : w.made ≡ v.made
+  pub joined : w.joined ≡ v.joined

@@ -5,6 +5,7 @@ mod adder;
 mod adding;
 mod asking;
 mod core_calls;
+mod core_passes;
 #[cfg(test)]
 mod core_tests;
 mod errand;

@@ -1,5 +1,5 @@
 use Rattle.std.proofs.Common.{rules}
-use Rattle.gl_gate_tests.proofs.CoreRemovals.{refused_removes_none, unplug_begins, unplug_begins_only}
+use Rattle.gl_gate_tests.proofs.CoreCalls.{refused_removes_none, unplug_begins, unplug_begins_only}
 use Rattle.gl_gate_tests.proofs.core_calls.begin_unplug.Goals as goal
 
 pub returns-in-Ok-clause-begun : goal.returns-in-Ok-clause-begun

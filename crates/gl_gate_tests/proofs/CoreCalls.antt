@@ -1,8 +1,11 @@
--- What the first entry of an unplug of the core begins.
-use Rattle.std.specs.Prelude.{Contains, if◌then◌else◌}
+-- Calls on the core: what the first entry of an unplug begins, and which bytes a command may have.
+use Rattle.std.specs.Prelude.{◌==◌, Contains, IsTrue, length, if◌then◌else◌}
 use Rattle.std.proofs.Common.{◌≡◌, ℕ, ◌++◌, Bool, true, false, Option, Some, None, List, [], ◌∷◌, ⊎_elim, refl, sym, ap, ◌∙◌, subst, arith}
+use Rattle.std.specs.List.{list_all}
 use Rattle.std.proofs.lemmas.Bool.{true≢false}
+use Rattle.std.proofs.lemmas.List.{drop_all}
 use Rattle.gl_base.specs.declared.errno.Errno.{Errno}
+use Rattle.gl_uapi.specs.declared.layout.TheConstants.{LINE_REQUEST_SIZE}
 use Rattle.gl_world.specs.History.{fold}
 use Rattle.gl_world.specs.Removal.{Removes}
 use Rattle.gl_rule.specs.declared.view.View.{View}
@@ -12,6 +15,7 @@ use Rattle.gl_model.specs.declared.call.Call.TheVariants.{Unplug}
 use Rattle.gl_model.specs.declared.gift.Gift.{Gift}
 use Rattle.gl_model.specs.declared.reply.Reply.{Reply}
 use Rattle.gl_model.specs.Entries.{begun_places, is_done, places_named}
+use Rattle.gl_model.specs.Fits.{FitsBytes}
 use Rattle.gl_model.specs.Machine.{bytes_of, reply_of}
 use Rattle.gl_model.specs.Outcome.{refused_or, writes}
 use Rattle.gl_model.specs.Removal.{removal_bytes}
@@ -60,3 +64,7 @@ module _ (v w : View Kept Call Reply Gift) (place : ℕ) (reply : Reply) (old ne
 -- an entry that found no room begins nothing
 pub refused_removes_none : (v w : View Kept Call Reply Gift) (place : ℕ) → SamePass v w → Refuses core v (first place) w → RemovesNothing core v → RemovesOnly place w
 refused_removes_none v w place same refuses nothing p removes = absurd (nothing p (refuses.removes p (subst (λ n. Removes core (fold core w.seen) n p) same.number removes)))
+
+-- bytes of a whole structure are those of a command with a buffer of its length
+pub whole_bytes : (bytes : List ℕ) → length bytes ≡ LINE_REQUEST_SIZE → FitsBytes LINE_REQUEST_SIZE bytes
+whole_bytes bytes is = record { whole = is; zeros = subst (λ l. IsTrue (list_all (λ byte. byte == 0) l)) (sym (drop_all LINE_REQUEST_SIZE bytes (omega (arith, is)))) refl }
