@@ -1,7 +1,7 @@
 //! What a pass of the core's gate does at place 0: it requests lines there, and unplugs the chip.
 ghost use Rattle.std.specs.Prelude.{◌≡◌, ◌<◌, []};
 ghost use Rattle.gl_gate.specs.Values.{IsPassOf};
-ghost use Rattle.gl_gate.specs.Calls.{SamePass, IsInside, KnowsClosed, RemovesNothing};
+ghost use Rattle.gl_gate.specs.Calls.{SamePass, IsInside, RemovesNothing};
 ghost use Rattle.gl_gate.specs.Grown.{IsFree};
 ghost use Rattle.gl_gate_tests.specs.CorePasses.{core, IsSame, Owes};
 

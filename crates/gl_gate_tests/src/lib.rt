@@ -1,4 +1,4 @@
-//! Small machines behind a gate, and threads that make calls on them.
+//! Small machines and the core behind a gate, and threads that make calls on them.
 #![tactic(auto)]
 
 mod adder;
