@@ -2,7 +2,7 @@
 
 use crate::transcript::{put_call, results_of};
 use gl_args::{ArgFault, Next, read_tool};
-use gl_base::Errno;
+use gl_base::{Errno, Got};
 use gl_values::Client;
 use std::alloc::Global;
 use std::test::Fail;
@@ -16,18 +16,37 @@ pub(crate) fn words_of(alloc: Global, text: &[u8]) -> Result<Vec<&[u8]>, Errno> 
     Ok(words)
 }
 
-/// Appends what a client asks and prints, up to its end, over these results.
+/// The result of the operation that was asked for, if one was. It is an error where no result is left.
+pub(crate) fn result_at(results: &[Got], at: usize, is_asked: bool) -> Result<Option<&Got>, Fail> {
+    if !is_asked {
+        return Ok(None);
+    }
+    match results.get(at) {
+        Some(got) => Ok(Some(got)),
+        None => Err(Fail::from("a result is missing")),
+    }
+}
+
+/// An error where not all results were taken.
+pub(crate) fn all_taken(results: &[Got], at: usize) -> Result<(), Fail> {
+    if at != results.len() {
+        return Err(Fail::from("results are left"));
+    }
+    Ok(())
+}
+
+/// Appends what a client asks and prints, up to its end, over just these results.
 fn drive(
     alloc: Global,
     client: &mut Client,
     results: &[u8],
     out: &mut Vec<u8>,
-) -> Result<(), Errno> {
+) -> Result<(), Fail> {
     let results = results_of(alloc, results)?;
     let mut at = 0;
     let mut is_asked = false;
     for _ in 0..1000u32 {
-        let got = if is_asked { results.get(at) } else { None };
+        let got = result_at(&results, at, is_asked)?;
         if is_asked && at < results.len() {
             at += 1;
         }
@@ -38,14 +57,14 @@ fn drive(
                 is_asked = true;
             }
             Next::Print(text) => out.extend_from_slice(text.as_slice())?,
-            Next::End => return Ok(()),
+            Next::End => return all_taken(&results, at),
         }
     }
-    Ok(())
+    Err(Fail::from("too many steps"))
 }
 
 /// What a statement of a tool asks and prints over these results.
-fn told(alloc: Global, words: &[u8], results: &[u8]) -> Result<Vec<u8>, Errno> {
+fn told(alloc: Global, words: &[u8], results: &[u8]) -> Result<Vec<u8>, Fail> {
     let mut out = Vec::new(alloc);
     let words = words_of(alloc, words)?;
     match read_tool(alloc, &words) {
@@ -54,7 +73,7 @@ fn told(alloc: Global, words: &[u8], results: &[u8]) -> Result<Vec<u8>, Errno> {
             drive(alloc, &mut client, results, &mut out)?;
         }
         Err(ArgFault::Usage) => out.extend_from_slice(b"usage\n")?,
-        Err(ArgFault::NoMemory) => return Err(Errno::NoMemory),
+        Err(ArgFault::NoMemory) => return Err(Fail::from("memory")),
     }
     Ok(out)
 }
@@ -70,7 +89,7 @@ fn cases() -> [(&'static str, &'static str, &'static str); 22] {
         ("gpiodetect 5", "ENOENT", "open 0 5\ngpiodetect: ENOENT\n"),
         (
             "gpiodetect 5",
-            "ok ENODEV",
+            "ok ENODEV ok",
             "open 0 5\nchipinfo 0 68\ngpiodetect: ENODEV\nclose 0 \n",
         ),
         (
@@ -97,17 +116,17 @@ fn cases() -> [(&'static str, &'static str, &'static str); 22] {
         ("gpioget 2", "ENOENT", "find - 2\ngpioget: ENOENT\n"),
         (
             "gpioget -c 0 4",
-            "ok EINVAL",
+            "ok EINVAL ok",
             "open 0 0\nrequest 0 592 as 1 4 flags 4 by gpioget\ngpioget: EINVAL\nclose 0 \n",
         ),
         (
             "gpioget -c 0 0",
-            "ok ok ok EIO",
+            "ok ok ok EIO ok",
             "open 0 0\nrequest 0 592 as 1 0 flags 4 by gpioget\nclose 0 \nvalues 1 16 mask 1\ngpioget: EIO\nclose 1 \n",
         ),
         (
             "gpioget -c 0 4294967296",
-            "ok ENOENT",
+            "ok ENOENT ok",
             "open 0 0\nfind 0 4294967296\ngpioget: ENOENT\nclose 0 \n",
         ),
         (
@@ -132,7 +151,7 @@ fn cases() -> [(&'static str, &'static str, &'static str); 22] {
         ),
         (
             "gpioset -c 0 1=1",
-            "ok EIO",
+            "ok EIO ok",
             "open 0 0\nrequest 0 592 as 1 1 flags 8 by gpioset attribute 2 1 1\ngpioset: EIO\nclose 0 \n",
         ),
         (
@@ -157,7 +176,7 @@ fn cases() -> [(&'static str, &'static str, &'static str); 22] {
         ),
         (
             "gpioinfo -c 0",
-            "ok chip:gpiochip0:d-b:2 line:4:0:: ENODEV",
+            "ok chip:gpiochip0:d-b:2 line:4:0:: ENODEV ok",
             "open 0 0\nchipinfo 0 68\nlineinfo 0 256 line 0 \nlineinfo 0 256 line 1 \ngpioinfo: ENODEV\nclose 0 \n",
         ),
     ]
@@ -174,18 +193,65 @@ fn tools_ask_and_print(rt: HostRuntime) -> Result<(), Fail> {
     Ok(())
 }
 
-/// Without words gpiodetect and gpioinfo try all places, and pass over those without a chip.
+/// Runs over all places: a whole one of each tool, and some with a refusal in their middle.
+fn place_cases() -> [(&'static str, &'static str, &'static str); 9] {
+    [
+        (
+            "gpiodetect",
+            "ok chip:gpiochip0:demo:4 ok ENODEV ENOENT ENOENT ENOENT ENOENT ENOENT ENOENT ENOENT ENOENT ENOENT ENOENT ENOENT ENOENT ENOENT ok chip:gpiochip15:last:128 ok",
+            "open 0 0\nchipinfo 0 68\nclose 0 \ngpiochip0 [demo] (4 lines)\nopen 0 1\nopen 0 2\nopen 0 3\nopen 0 4\nopen 0 5\nopen 0 6\nopen 0 7\nopen 0 8\nopen 0 9\nopen 0 10\nopen 0 11\nopen 0 12\nopen 0 13\nopen 0 14\nopen 0 15\nchipinfo 0 68\nclose 0 \ngpiochip15 [last] (128 lines)\n",
+        ),
+        (
+            "gpioinfo",
+            "ok chip:gpiochip0:demo:1 line:4:0:: ok ENODEV ok chip:gpiochip2:aux:1 line:8:0:LED: ok ENOENT ENOENT ENOENT ENOENT ENOENT ENOENT ENOENT ENOENT ENOENT ENOENT ENOENT ENOENT ENOENT",
+            "open 0 0\nchipinfo 0 68\nlineinfo 0 256 line 0 \nclose 0 \ngpiochip0 - 1 lines:\n\tline   0:\tunnamed         \tinput\nopen 0 1\nopen 0 2\nchipinfo 0 68\nlineinfo 0 256 line 0 \nclose 0 \ngpiochip2 - 1 lines:\n\tline   0:\t\"LED\"           \toutput\nopen 0 3\nopen 0 4\nopen 0 5\nopen 0 6\nopen 0 7\nopen 0 8\nopen 0 9\nopen 0 10\nopen 0 11\nopen 0 12\nopen 0 13\nopen 0 14\nopen 0 15\n",
+        ),
+        (
+            "gpiodetect",
+            "ok chip:gpiochip0:demo:4 ok EMFILE",
+            "open 0 0\nchipinfo 0 68\nclose 0 \ngpiochip0 [demo] (4 lines)\nopen 0 1\ngpiodetect: EMFILE\n",
+        ),
+        (
+            "gpiodetect",
+            "ok chip:gpiochip0:demo:4 ok ok ENODEV ok",
+            "open 0 0\nchipinfo 0 68\nclose 0 \ngpiochip0 [demo] (4 lines)\nopen 0 1\nchipinfo 0 68\ngpiodetect: ENODEV\nclose 0 \n",
+        ),
+        (
+            "gpiodetect",
+            "ok chip:gpiochip0:demo:4 ok ok chip:gpiochip1:demo:2 EIO",
+            "open 0 0\nchipinfo 0 68\nclose 0 \ngpiochip0 [demo] (4 lines)\nopen 0 1\nchipinfo 0 68\nclose 0 \ngpiodetect: EIO\n",
+        ),
+        (
+            "gpiodetect 0 5 1",
+            "ok chip:gpiochip0:demo:4 ok ENOENT",
+            "open 0 0\nchipinfo 0 68\nclose 0 \ngpiochip0 [demo] (4 lines)\nopen 0 5\ngpiodetect: ENOENT\n",
+        ),
+        (
+            "gpioinfo",
+            "ok chip:gpiochip0:demo:1 line:4:0:: ok EMFILE",
+            "open 0 0\nchipinfo 0 68\nlineinfo 0 256 line 0 \nclose 0 \ngpiochip0 - 1 lines:\n\tline   0:\tunnamed         \tinput\nopen 0 1\ngpioinfo: EMFILE\n",
+        ),
+        (
+            "gpioinfo",
+            "ok chip:gpiochip0:demo:1 line:4:0:: ok ok ENODEV ok",
+            "open 0 0\nchipinfo 0 68\nlineinfo 0 256 line 0 \nclose 0 \ngpiochip0 - 1 lines:\n\tline   0:\tunnamed         \tinput\nopen 0 1\nchipinfo 0 68\ngpioinfo: ENODEV\nclose 0 \n",
+        ),
+        (
+            "gpioinfo",
+            "ok chip:gpiochip0:demo:1 line:4:0:: ok ok chip:gpiochip1:demo:2 line:4:0:: EIO ok",
+            "open 0 0\nchipinfo 0 68\nlineinfo 0 256 line 0 \nclose 0 \ngpiochip0 - 1 lines:\n\tline   0:\tunnamed         \tinput\nopen 0 1\nchipinfo 0 68\nlineinfo 0 256 line 0 \nlineinfo 0 256 line 1 \ngpioinfo: EIO\nclose 0 \n",
+        ),
+    ]
+}
+
+/// Without words gpiodetect and gpioinfo try all places, and pass over those whose opening finds no chip. Another refusal
+/// ends them: what gpiodetect printed stays, and gpioinfo has printed whole chips alone.
 #[test]
 fn all_places_are_tried(rt: HostRuntime) -> Result<(), Fail> {
-    let absent =
-        b"ok chip:gpiochip0:demo:4 ok ENODEV ENOENT ENOENT ENOENT ENOENT ENOENT ENOENT ENOENT ENOENT ENOENT ENOENT ENOENT ENOENT ENOENT ENOENT";
-    let out = told(rt.alloc(), b"gpiodetect", absent)?;
-    assert!(rt;
-        out.starts_with(
-            b"open 0 0\nchipinfo 0 68\nclose 0 \ngpiochip0 [demo] (4 lines)\nopen 0 1\nopen 0 2\n"
-        )
-    );
-    assert!(rt; out.ends_with(b"open 0 14\nopen 0 15\n"));
+    for (words, results, text) in place_cases() {
+        let out = told(rt.alloc(), words.as_bytes(), results.as_bytes())?;
+        assert_eq!(rt; out.as_slice(), text.as_bytes(), "{words} over {results}");
+    }
     Ok(())
 }
 

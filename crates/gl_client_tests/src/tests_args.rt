@@ -99,6 +99,127 @@ fn wrong() -> [&'static str; 47] {
     ]
 }
 
+/// The longest words that are taken, and lone dashes as values.
+fn longest() -> [&'static str; 8] {
+    [
+        "gpiodetect 1234567890123456789012345678901",
+        "gpioinfo -c 1234567890123456789012345678901",
+        "gpioget -c 1234567890123456789012345678901 -C 1234567890123456789012345678901 1234567890123456789012345678901",
+        "gpioset --consumer=1234567890123456789012345678901 A=1",
+        "gpiomon -C - 1",
+        "gpiomon -c - 1",
+        "gpionotify -n 1000000 -F - 1",
+        "gpionotify -c - 1",
+    ]
+}
+
+/// Options with wrong values, and without one.
+fn wrong_values() -> [&'static str; 48] {
+    [
+        "gpioget --consumer= 1",
+        "gpioget -C 12345678901234567890123456789012 1",
+        "gpioget --consumer=12345678901234567890123456789012 1",
+        "gpioget 1 -C",
+        "gpioget -C -x 1",
+        "gpioset --consumer= 1=1",
+        "gpioset -C 12345678901234567890123456789012 1=1",
+        "gpioset --consumer=12345678901234567890123456789012 1=1",
+        "gpioset 1=1 -C",
+        "gpioset -C -x 1=1",
+        "gpiomon --consumer= 1",
+        "gpiomon -C 12345678901234567890123456789012 1",
+        "gpiomon --consumer=12345678901234567890123456789012 1",
+        "gpiomon 1 -C",
+        "gpiomon -C -x 1",
+        "gpioinfo -c 12345678901234567890123456789012",
+        "gpioinfo --chip=12345678901234567890123456789012",
+        "gpioget -c 12345678901234567890123456789012 1",
+        "gpioget --chip=12345678901234567890123456789012 1",
+        "gpioset -c 12345678901234567890123456789012 1=1",
+        "gpioset --chip=12345678901234567890123456789012 1=1",
+        "gpiomon -c 12345678901234567890123456789012 1",
+        "gpiomon --chip=12345678901234567890123456789012 1",
+        "gpionotify -c 12345678901234567890123456789012 1",
+        "gpionotify --chip=12345678901234567890123456789012 1",
+        "gpioset --chip= 1=1",
+        "gpioset -c -x 1=1",
+        "gpioset 1=1 -c",
+        "gpiomon --chip= 1",
+        "gpiomon -c -x 1",
+        "gpiomon 1 -c",
+        "gpionotify --chip= 1",
+        "gpionotify -c -x 1",
+        "gpionotify 1 -c",
+        "gpioset -b sideways 1=1",
+        "gpioset --bias= 1=1",
+        "gpioset 1=1 -b",
+        "gpiomon -b sideways 1",
+        "gpiomon --bias= 1",
+        "gpiomon 1 -b",
+        "gpionotify -n 0 1",
+        "gpionotify -n 1000001 1",
+        "gpionotify -n x 1",
+        "gpionotify --num-events= 1",
+        "gpionotify 1 -n",
+        "gpionotify --format= 1",
+        "gpionotify 1 -F",
+        "gpionotify -F -x 1",
+    ]
+}
+
+/// Options that a tool lacks.
+fn lacking() -> [&'static str; 23] {
+    [
+        "gpioget -e rising 1",
+        "gpioget -p 5 1",
+        "gpioget -n 1 1",
+        "gpioset -e rising 1=1",
+        "gpioset -p 5 1=1",
+        "gpioset -n 1 1=1",
+        "gpioset -F x 1=1",
+        "gpiomon -d open-drain 1",
+        "gpionotify -d open-drain 1",
+        "gpionotify --numeric 1",
+        "gpionotify --edges both 1",
+        "gpioinfo --by-name",
+        "gpioinfo --strict",
+        "gpioinfo --numeric",
+        "gpioinfo -l",
+        "gpioinfo -b pull-up",
+        "gpioinfo -d open-drain",
+        "gpioinfo -p 5",
+        "gpioinfo -e rising",
+        "gpioinfo --event released",
+        "gpioinfo -n 1",
+        "gpioinfo -F x",
+        "gpioinfo -C me",
+    ]
+}
+
+/// Options that are given twice.
+fn taken_twice() -> [&'static str; 18] {
+    [
+        "gpioinfo --unquoted --unquoted",
+        "gpioget --by-name --by-name 1",
+        "gpioget -s --strict 1",
+        "gpioget --unquoted --unquoted 1",
+        "gpioget --numeric 1 --numeric",
+        "gpioget -l --active-low 1",
+        "gpioget -b pull-up --bias=pull-up 1",
+        "gpioget -C a -C a 1",
+        "gpioset -d push-pull --drive=push-pull 1=1",
+        "gpioset -s -s 1=1",
+        "gpioset -C a --consumer=a 1=1",
+        "gpiomon -p 1 --debounce-period=1 1",
+        "gpiomon -e both --edges=both 1",
+        "gpiomon -n 1 1 -n 1",
+        "gpiomon -F x --format=x 1",
+        "gpionotify -e released --event=released 1",
+        "gpionotify -n 1 --num-events=1 1",
+        "gpionotify -F x -F x 1",
+    ]
+}
+
 /// Each option of each tool, right and wrong.
 #[test]
 fn words_are_those_of_a_tool_or_its_usage(rt: HostRuntime) -> Result<(), Fail> {
@@ -138,16 +259,71 @@ fn options_are_as_they_were_given(rt: HostRuntime) -> Result<(), Fail> {
     Ok(())
 }
 
-/// 64 lines are taken, and 65 aren't.
 #[test]
-fn a_tool_has_at_most_64_lines(rt: HostRuntime) -> Result<(), Fail> {
-    let alloc = rt.alloc();
-    let mut words = words_of(alloc, b"gpioget")?;
-    for _ in 0..64u32 {
-        words.push(b"A")?;
+fn the_longest_words_are_taken(rt: HostRuntime) -> Result<(), Fail> {
+    for text in longest() {
+        assert!(rt; is_tool(rt.alloc(), text.as_bytes())?, "{text}");
     }
-    assert!(rt; read_tool(alloc, &words).is_ok());
-    words.push(b"A")?;
-    assert!(rt; read_tool(alloc, &words).is_err());
+    Ok(())
+}
+
+#[test]
+fn wrong_values_are_refused(rt: HostRuntime) -> Result<(), Fail> {
+    for text in wrong_values() {
+        assert!(rt; !is_tool(rt.alloc(), text.as_bytes())?, "{text}");
+    }
+    Ok(())
+}
+
+#[test]
+fn options_that_a_tool_lacks_are_refused(rt: HostRuntime) -> Result<(), Fail> {
+    for text in lacking() {
+        assert!(rt; !is_tool(rt.alloc(), text.as_bytes())?, "{text}");
+    }
+    Ok(())
+}
+
+#[test]
+fn an_option_comes_at_most_once(rt: HostRuntime) -> Result<(), Fail> {
+    for text in taken_twice() {
+        assert!(rt; !is_tool(rt.alloc(), text.as_bytes())?, "{text}");
+    }
+    Ok(())
+}
+
+/// A tool, a line or chip word of it, and how many of them it takes at most.
+fn most_words() -> [(&'static str, &'static str, u32); 5] {
+    [
+        ("gpiodetect", "0", 16),
+        ("gpioget", "A", 64),
+        ("gpioset", "A=1", 64),
+        ("gpiomon", "A", 64),
+        ("gpionotify", "A", 64),
+    ]
+}
+
+/// Whether a tool takes so many of these words.
+fn takes(alloc: Global, tool: &str, word: &str, count: u32) -> Result<bool, Fail> {
+    let mut words = words_of(alloc, tool.as_bytes())?;
+    for _ in 0..count {
+        words.push(word.as_bytes())?;
+    }
+    match read_tool(alloc, &words) {
+        Ok(_) => Ok(true),
+        Err(ArgFault::Usage) => Ok(false),
+        Err(ArgFault::NoMemory) => Err("memory")?,
+    }
+}
+
+/// 64 lines are taken, and 65 aren't; 16 chips of gpiodetect, and not 17.
+#[test]
+fn a_tool_has_at_most_so_many_words(rt: HostRuntime) -> Result<(), Fail> {
+    for (tool, word, most) in most_words() {
+        assert!(rt; takes(rt.alloc(), tool, word, most)?, "{tool}");
+        assert!(rt;
+            !takes(rt.alloc(), tool, word, most.saturating_add(1))?,
+            "{tool}"
+        );
+    }
     Ok(())
 }

@@ -1,25 +1,24 @@
 //! gpiomon and gpionotify over scripted results.
 
-use crate::tests::words_of;
+use crate::tests::{all_taken, result_at, words_of};
 use crate::transcript::{put_call, results_of};
 use gl_args::{Next, Tool, read_tool};
-use gl_base::Errno;
 use gl_monitor::Monitor;
 use std::alloc::Global;
 use std::test::Fail;
 
-/// Appends what a monitor asks and prints, up to its end, over these results, and whether it has ended.
+/// Appends what a monitor asks and prints, up to its end, over just these results, and whether it has ended.
 fn drive(
     alloc: Global,
     monitor: &mut Monitor,
     results: &[u8],
     out: &mut Vec<u8>,
-) -> Result<(), Errno> {
+) -> Result<(), Fail> {
     let results = results_of(alloc, results)?;
     let mut at = 0;
     let mut is_asked = false;
     for _ in 0..1000u32 {
-        let got = if is_asked { results.get(at) } else { None };
+        let got = result_at(&results, at, is_asked)?;
         if is_asked && at < results.len() {
             at += 1;
         }
@@ -31,17 +30,20 @@ fn drive(
             }
             Next::Print(text) => out.extend_from_slice(text.as_slice())?,
             Next::End => {
-                let state: &[u8] = if monitor.ended() {
-                    b"ended\n"
-                } else {
-                    b"watches\n"
-                };
-                out.extend_from_slice(state)?;
-                return Ok(());
+                out.extend_from_slice(state_of(monitor))?;
+                return all_taken(&results, at);
             }
         }
     }
-    Ok(())
+    Err(Fail::from("too many steps"))
+}
+
+/// Whether a monitor has ended, in a line.
+fn state_of(monitor: &Monitor) -> &'static [u8] {
+    if monitor.ended() {
+        return b"ended\n";
+    }
+    b"watches\n"
 }
 
 /// A monitor of these words.
@@ -74,15 +76,15 @@ fn cases() -> [Case; 11] {
             "found:2:5:1 ok ok ok",
             [
                 "ready:1 event:7:1:5+event:1000000008:2:5",
-                "ready:1 EAGAIN",
-                "ok",
+                "ready:1 EAGAIN ok",
+                "",
             ],
             "find - BUTTON\nopen 0 2\nrequest 0 592 as 1 5 flags 20 by gpiomon attribute 3 1000 1\nclose 0 \nwatches\npoll 1 \nread 1 768\n0.000000007\trising\t\"BUTTON\"\n1.000000008\tfalling\t\"BUTTON\"\nwatches\npoll 1 \nread 1 768\ngpiomon: EAGAIN\nclose 1 \nended\nended\n",
         ),
         (
             "gpiomon -c gpiochip3 -F %l%o%c%e%E%S%%%x%z% A 2 --unquoted",
             "ok found:3:1:1 ok ok",
-            ["ready:1 event:0:1:1+event:0:2:2", "ready:6", "ok"],
+            ["ready:1 event:0:1:1+event:0:2:2", "ready:6 ok", ""],
             "open 0 gpiochip3\nfind 0 A\nrequest 0 592 as 1 1 2 flags 52 by gpiomon\nclose 0 \nwatches\npoll 1 \nread 1 768\nA1gpiochip31rising0.000000000%%x%z%\nunnamed2gpiochip32falling0.000000000%%x%z%\nwatches\npoll 1 \ngpiomon: ENODEV\nclose 1 \nended\nended\n",
         ),
         (
@@ -98,13 +100,13 @@ fn cases() -> [Case; 11] {
         (
             "gpiomon -c 0 -n 1 1",
             "ok ok ok",
-            ["ready:1 event:0:1:1 ok", "ok", "ok"],
+            ["ready:1 event:0:1:1 ok", "", ""],
             "open 0 0\nrequest 0 592 as 1 1 flags 52 by gpiomon\nclose 0 \nwatches\npoll 1 \nread 1 48\n0.000000000\trising\tgpiochip0 1\nclose 1 \nended\nended\nended\n",
         ),
         (
             "gpiomon -c 0 -n 2 1",
             "ok ok ok",
-            ["ready:1 event:0:1:1+event:1:2:1 ok", "ok", "ok"],
+            ["ready:1 event:0:1:1+event:1:2:1 ok", "", ""],
             "open 0 0\nrequest 0 592 as 1 1 flags 52 by gpiomon\nclose 0 \nwatches\npoll 1 \nread 1 96\n0.000000000\trising\tgpiochip0 1\n0.000000001\tfalling\tgpiochip0 1\nclose 1 \nended\nended\nended\n",
         ),
         (
@@ -119,8 +121,8 @@ fn cases() -> [Case; 11] {
         ),
         (
             "gpiomon -c 0 2",
-            "ok ENXIO",
-            ["ok", "ok", "ok"],
+            "ok ENXIO ok",
+            ["", "", ""],
             "open 0 0\nrequest 0 592 as 1 2 flags 52 by gpiomon\ngpiomon: ENXIO\nclose 0 \nended\nended\nended\nended\n",
         ),
         (
@@ -135,8 +137,8 @@ fn cases() -> [Case; 11] {
         ),
         (
             "gpionotify -c 0 3 1",
-            "ok ok EBUSY",
-            ["ok", "ok", "ok"],
+            "ok ok EBUSY ok",
+            ["", "", ""],
             "open 0 0\nwatch 0 256 line 3 \nwatch 0 256 line 1 \ngpionotify: EBUSY\nclose 0 \nended\nended\nended\nended\n",
         ),
         (
@@ -152,19 +154,89 @@ fn cases() -> [Case; 11] {
     ]
 }
 
-/// A start, and then steps of three turns each, as long as there are results.
+/// How items are printed: a named line without quotes, and the formats of gpionotify.
+fn item_cases() -> [Case; 5] {
+    [
+        (
+            "gpiomon --unquoted A",
+            "found:3:1:1 ok ok ok",
+            [
+                "ready:1 event:0:1:1",
+                "ready:1 event:1:2:1",
+                "ready:0 ready:0 ready:0",
+            ],
+            "find - A\nopen 0 3\nrequest 0 592 as 1 1 flags 52 by gpiomon\nclose 0 \nwatches\npoll 1 \nread 1 768\n0.000000000\trising\tA\nwatches\npoll 1 \nread 1 768\n0.000000001\tfalling\tA\nwatches\npoll 1 \npoll 1 \npoll 1 \nidle\nwatches\n",
+        ),
+        (
+            "gpiomon --unquoted -c 3 A 2",
+            "ok found:3:1:1 ok ok",
+            [
+                "ready:1 event:0:1:1",
+                "ready:1 event:1:2:2",
+                "ready:0 ready:0 ready:0",
+            ],
+            "open 0 3\nfind 0 A\nrequest 0 592 as 1 1 2 flags 52 by gpiomon\nclose 0 \nwatches\npoll 1 \nread 1 768\n0.000000000\trising\tgpiochip3 1 A\nwatches\npoll 1 \nread 1 768\n0.000000001\tfalling\tgpiochip3 2\nwatches\npoll 1 \npoll 1 \npoll 1 \nidle\nwatches\n",
+        ),
+        (
+            "gpionotify --unquoted -c gpiochip2 A 2",
+            "ok found:2:1:1 ok ok",
+            [
+                "ready:1 change:0:1:1",
+                "ready:1 change:0:2:2",
+                "ready:0 ready:0 ready:0",
+            ],
+            "open 0 gpiochip2\nfind 0 A\nwatch 0 256 line 1 \nwatch 0 256 line 2 \nwatches\npoll 0 \nread 0 4608\n0.000000000\trequested\tgpiochip2 1 A\nwatches\npoll 0 \nread 0 4608\n0.000000000\treleased\tgpiochip2 2\nwatches\npoll 0 \npoll 0 \npoll 0 \nidle\nwatches\n",
+        ),
+        (
+            "gpionotify -c /dev/gpiochip2 -F %e:%E:%l:%c:%o A 2",
+            "ok found:2:4:1 ok ok",
+            [
+                "ready:1 change:0:1:4+change:0:2:4+change:0:3:4",
+                "ready:1 change:0:1:2+change:0:2:2+change:0:3:2",
+                "ready:0 ready:0 ready:0",
+            ],
+            "open 0 /dev/gpiochip2\nfind 0 A\nwatch 0 256 line 4 \nwatch 0 256 line 2 \nwatches\npoll 0 \nread 0 4608\n1:requested:A:gpiochip2:4\n2:released:A:gpiochip2:4\n3:reconfigured:A:gpiochip2:4\nwatches\npoll 0 \nread 0 4608\n1:requested:unnamed:gpiochip2:2\n2:released:unnamed:gpiochip2:2\n3:reconfigured:unnamed:gpiochip2:2\nwatches\npoll 0 \npoll 0 \npoll 0 \nidle\nwatches\n",
+        ),
+        (
+            "gpionotify -F %S%%%l%c%x% -e reconfigured -n 2 A",
+            "found:5:4:1 ok ok",
+            [
+                "ready:1 change:1000000002:3:4+change:3:2:4",
+                "ready:0 ready:1 change:4:3:4 ok",
+                "",
+            ],
+            "find - A\nopen 0 5\nwatch 0 256 line 4 \nwatches\npoll 0 \nread 0 576\n1.000000002%Agpiochip5%x%\nwatches\npoll 0 \npoll 0 \nread 0 288\n0.000000004%Agpiochip5%x%\nclose 0 \nended\nended\n",
+        ),
+    ]
+}
+
+/// What a row's monitor asks and prints, by a start and then steps of three turns each.
+fn told(alloc: Global, case: &Case) -> Result<Vec<u8>, Fail> {
+    let (words, start, steps, _) = case;
+    let mut monitor = monitor_of(alloc, words.as_bytes())?;
+    let mut out = Vec::new(alloc);
+    drive(alloc, &mut monitor, start.as_bytes(), &mut out)?;
+    for results in steps {
+        monitor.step(3);
+        drive(alloc, &mut monitor, results.as_bytes(), &mut out)?;
+    }
+    Ok(out)
+}
+
 #[test]
 fn monitors_ask_and_print(rt: HostRuntime) -> Result<(), Fail> {
-    for (words, start, steps, text) in cases() {
-        let alloc = rt.alloc();
-        let mut monitor = monitor_of(alloc, words.as_bytes())?;
-        let mut out = Vec::new(alloc);
-        drive(alloc, &mut monitor, start.as_bytes(), &mut out)?;
-        for results in steps {
-            monitor.step(3);
-            drive(alloc, &mut monitor, results.as_bytes(), &mut out)?;
-        }
-        assert_eq!(rt; out.as_slice(), text.as_bytes(), "{words}");
+    for case in cases() {
+        let out = told(rt.alloc(), &case)?;
+        assert_eq!(rt; out.as_slice(), case.3.as_bytes(), "{}", case.0);
+    }
+    Ok(())
+}
+
+#[test]
+fn items_are_printed_by_their_format(rt: HostRuntime) -> Result<(), Fail> {
+    for case in item_cases() {
+        let out = told(rt.alloc(), &case)?;
+        assert_eq!(rt; out.as_slice(), case.3.as_bytes(), "{}", case.0);
     }
     Ok(())
 }

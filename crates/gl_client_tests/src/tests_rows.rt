@@ -1,6 +1,7 @@
 //! Whole talks over scripted results: rows of sessions with the operations that their statements ask for, beside what they
 //! print.
 
+use crate::tests::{all_taken, result_at};
 use crate::transcript::{put_call, results_of};
 use gl_args::Next;
 use gl_base::Got;
@@ -24,7 +25,7 @@ fn finish(
         if talk.begun > 1000 {
             return Err(Fail::from("too many statements"));
         }
-        let got = if is_asked { results.get(at) } else { None };
+        let got = result_at(results, at, is_asked)?;
         if is_asked && at < results.len() {
             at += 1;
         }
@@ -54,9 +55,7 @@ fn talked(alloc: Global, statements: &[Statement<'_>], results: &[Got]) -> Resul
     }
     talk.quit();
     at = finish(alloc, &mut talk, results, at, &mut out)?;
-    if at != results.len() {
-        return Err(Fail::from("results are left"));
-    }
+    all_taken(results, at)?;
     Ok(out)
 }
 
@@ -184,6 +183,38 @@ fn refused_rows() -> [Row; 7] {
     ]
 }
 
+/// The same for what was started and for lines that are looked for on all chips: a gpioset, with a stop that is refused; a
+/// gpiomon and a gpionotify; a gpioget at what comes behind the opening.
+fn found_rows() -> [Row; 5] {
+    [
+        (
+            "start s gpioset -c 0 A=1\nstart s gpioset -c 0 A=1\nstart s gpioset -c 0 A=1\nstart s gpioset -c 0 A=1\nstart s gpioset -c 0 A=1\nstop s\nstop s\n",
+            "EIO ok EIO ok ok found:0:1:1 EIO ok ok found:0:1:1 ok EIO ok ok found:0:1:1 ok ok EIO",
+            "open 2 0\ngpioset: EIO\nopen 4 0\nfind 4 A\ngpioset: EIO\nclose 4 \nopen 6 0\nfind 6 A\nrequest 6 592 as 7 1 flags 8 by gpioset attribute 2 1 1\ngpioset: EIO\nclose 6 \nopen 8 0\nfind 8 A\nrequest 8 592 as 9 1 flags 8 by gpioset attribute 2 1 1\nclose 8 \ngpioset: EIO\nclose 9 \nopen 10 0\nfind 10 A\nrequest 10 592 as 11 1 flags 8 by gpioset attribute 2 1 1\nclose 10 \nclose 11 \ngpioset: EIO\nEBADF\n",
+        ),
+        (
+            "start s gpioset A=1\nstart s gpioset A=1\nstart s gpioset A=1\nstart s gpioset A=1\nstop s\n",
+            "EIO found:3:1:1 EIO found:3:1:1 ok EIO ok found:3:1:1 ok ok EIO ok",
+            "find - A\ngpioset: EIO\nfind - A\nopen 4 3\ngpioset: EIO\nfind - A\nopen 6 3\nrequest 6 592 as 7 1 flags 8 by gpioset attribute 2 1 1\ngpioset: EIO\nclose 6 \nfind - A\nopen 8 3\nrequest 8 592 as 9 1 flags 8 by gpioset attribute 2 1 1\nclose 8 \ngpioset: EIO\nclose 9 \nEBADF\n",
+        ),
+        (
+            "start m gpiomon A\nstart m gpiomon A\nstart m gpiomon A\nstart m gpiomon A\nstep m 1\n",
+            "EIO found:3:1:1 EIO found:3:1:1 ok EIO ok found:3:1:1 ok ok EIO ok",
+            "find - A\ngpiomon: EIO\nfind - A\nopen 4 3\ngpiomon: EIO\nfind - A\nopen 6 3\nrequest 6 592 as 7 1 flags 52 by gpiomon\ngpiomon: EIO\nclose 6 \nfind - A\nopen 8 3\nrequest 8 592 as 9 1 flags 52 by gpiomon\nclose 8 \ngpiomon: EIO\nclose 9 \nEBADF\n",
+        ),
+        (
+            "start n gpionotify A B\nstart n gpionotify A B\nstart n gpionotify A B\nstart n gpionotify A B\nstart n gpionotify A B\nstep n 1\n",
+            "EIO found:3:1:1 EIO found:3:1:1 found:3:2:1 EIO found:3:1:1 found:3:2:1 ok EIO ok found:3:1:1 found:3:2:1 ok ok EIO ok",
+            "find - A\ngpionotify: EIO\nfind - A\nfind - B\ngpionotify: EIO\nfind - A\nfind - B\nopen 6 3\ngpionotify: EIO\nfind - A\nfind - B\nopen 8 3\nwatch 8 256 line 1 \ngpionotify: EIO\nclose 8 \nfind - A\nfind - B\nopen 10 3\nwatch 10 256 line 1 \nwatch 10 256 line 2 \ngpionotify: EIO\nclose 10 \nEBADF\n",
+        ),
+        (
+            "gpioget A\ngpioget A\ngpioget A\ngpioget A\n",
+            "found:3:1:1 ok EIO ok found:3:1:1 ok ok EIO ok found:3:1:1 ok ok ok EIO ok found:3:1:1 ok ok ok values:0 EIO",
+            "find - A\nopen 2 3\nrequest 2 592 as 3 1 flags 4 by gpioget\ngpioget: EIO\nclose 2 \nfind - A\nopen 4 3\nrequest 4 592 as 5 1 flags 4 by gpioget\nclose 4 \ngpioget: EIO\nclose 5 \nfind - A\nopen 6 3\nrequest 6 592 as 7 1 flags 4 by gpioget\nclose 6 \nvalues 7 16 mask 1\ngpioget: EIO\nclose 7 \nfind - A\nopen 8 3\nrequest 8 592 as 9 1 flags 4 by gpioget\nclose 8 \nvalues 9 16 mask 1\nclose 9 \ngpioget: EIO\n",
+        ),
+    ]
+}
+
 fn check(alloc: Global, row: &Row) -> Result<bool, Fail> {
     let out = told(alloc, row.0, row.1)?;
     Ok(out.as_slice() == row.2.as_bytes())
@@ -207,6 +238,14 @@ fn a_full_queue_keeps_the_first_changes(rt: HostRuntime) -> Result<(), Fail> {
 #[test]
 fn a_refused_tool_closes_the_newest_first(rt: HostRuntime) -> Result<(), Fail> {
     for row in refused_rows() {
+        assert!(rt; check(rt.alloc(), &row)?, "{}", row.0);
+    }
+    Ok(())
+}
+
+#[test]
+fn a_refused_start_or_stop_leaves_nothing_open(rt: HostRuntime) -> Result<(), Fail> {
+    for row in found_rows() {
         assert!(rt; check(rt.alloc(), &row)?, "{}", row.0);
     }
     Ok(())

@@ -202,11 +202,13 @@ fn put_request(bytes: &[u8], out: &mut Vec<u8>) -> Result<(), Errno> {
 
 /// The results that words tell, one a word: `ok`, `number:N`, `text:VALUE`, `found:PLACE:OFFSET:COUNT`, `chip:NAME:LABEL:LINES`,
 /// `line:FLAGS:PERIOD:NAME:CONSUMER`, `values:BITS`, `ready:BITS`, `event:TIME:ID:OFFSET`, `change:TIME:KIND:OFFSET:FLAGS`,
-/// or the name of an error.
+/// or the name of an error. An empty text tells none.
 pub fn results_of(alloc: Global, text: &[u8]) -> Result<Vec<Got>, Errno> {
     let mut results = Vec::new(alloc);
     for word in text.split(|byte| *byte == b' ') {
-        results.push(result_of(alloc, word)?)?;
+        if !word.is_empty() {
+            results.push(result_of(alloc, word)?)?;
+        }
     }
     Ok(results)
 }
