@@ -1,5 +1,6 @@
 pub mod Continuing
 pub mod Front
+pub mod InARow
 pub mod NamedRows
 pub mod TalkedSteps
 pub mod OwnSlots

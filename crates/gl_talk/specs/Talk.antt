@@ -144,11 +144,15 @@ quits names = closes_all (slots_in_order names)
 abbrev pub slot_behind : ℕ → ℕ
 slot_behind begun = 2 * (begun + 1)
 
--- A whole talk, read a statement at a time: the statements one after the other, each by the names that the one before it
--- gives, and then the end. `begun` statements were begun before.
+-- Statements in a row, each by the names that the one before it gives; behind the last comes what `behind` says of the names
+-- that are there then. `begun` statements were begun before.
+abbrev pub says : {A : Type 0} → ℕ → List (List Span) → (Names → Program A) → Names → Program A
+says begun [] behind names = behind names
+says begun (words ∷ statements) behind names = then_by (does names (slot_behind begun) words) (says (begun + 1) statements behind)
+
+-- A whole talk, read a statement at a time: the statements in a row, and then the end.
 abbrev pub talks : ℕ → List (List Span) → Names → Does
-talks begun [] names = quits names
-talks begun (words ∷ statements) names = then_by (does names (slot_behind begun) words) (talks (begun + 1) statements)
+talks begun statements names = says begun statements quits names
 
 -- the operations that a talk asks for, and its text
 pub record Talked : Type 0 where

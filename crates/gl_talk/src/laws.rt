@@ -11,6 +11,7 @@ ghost use Rattle.gl_script.specs.Table.{keyword_name, keyword_of};
 ghost use Rattle.gl_script.specs.declared.table.Keyword.{Keyword};
 ghost use Rattle.gl_talk.specs.Costs.{StatementsKeepWithinCost, TalksKeepWithinCost, TalksMakeAtMost};
 ghost use Rattle.gl_talk.specs.Slots.{SlotsAreOwn};
+ghost use Rattle.gl_talk.specs.InParts.{StatementsComeInParts, TalksAreStatementsAndTheEnd};
 ghost use Rattle.gl_talk.specs.Readings.{CommandsAreRead, HeldToolsAreRead, IrqsAreRead, LabelsAreRead, NumbersAreRead, PathsAreRead, PinsAreRead, WordsAreRead};
 
 /// A statement makes at most as many entries of a history as it costs. The closing of a file is
@@ -35,6 +36,13 @@ pub fn talks_make_at_most()
 /// order of the slots is that in which files were opened, statement by statement.
 pub fn slots_are_own()
     ensures { SlotsAreOwn }
+{}
+
+/// Statements in a row are those of a first list and then those of a second one, so a talk may wait between the two; and what
+/// comes behind them comes behind the names that they give. A whole talk is its statements, and then the end.
+pub fn talks_are_statements_and_the_end()
+    ensures parts { StatementsComeInParts }
+    ensures end { TalksAreStatementsAndTheEnd }
 {}
 
 /// Each statement is the one that its word begins, each tool is the one that its name names, and each option of a tool is

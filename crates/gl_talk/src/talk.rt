@@ -1,10 +1,10 @@
 //! Statements one after the other.
 ghost use Rattle.std.specs.Prelude.{◌≡◌, ◌+◌, ◌*◌, ◌<◌, ◌≤◌, [], ◌∷◌, List, IfOk, OnOk, IsOkUnless, option_copied};
-ghost use Rattle.gl_args.specs.Program.{Goes, MatchNext, given, goes_on, done};
+ghost use Rattle.gl_args.specs.Program.{Goes, MatchNext, given, goes_on, done, then_left};
 ghost use Rattle.gl_base.specs.Words.{Span};
 ghost use Rattle.gl_script.specs.Columns.{columns};
-ghost use Rattle.gl_talk.specs.Open.{no_names};
-ghost use Rattle.gl_talk.specs.Talk.{does, left, names_in, quits, slot_behind, talk_left, talks};
+ghost use Rattle.gl_talk.specs.Open.{Names, no_names};
+ghost use Rattle.gl_talk.specs.Talk.{Does, does, left, names_in, quits, slot_behind, talk_left, talks};
 
 use crate::files::FileRow;
 use crate::held::{MonitorRow, SetRow};
@@ -104,11 +104,14 @@ impl<'a> Talk<'a> {
 
     /// What it does next. `got` is the result of the operation that it asked for last, if it asked for one. End means
     /// that the statement is done, or that all files are closed; the names that are there then are said by what is
-    /// left. With any statements behind that which is under way, it is what the whole talk does next.
+    /// left. With anything that may come behind it, it is what the whole does next; so with the talk's further statements.
     pub fn next(&mut self, alloc: Global, got: Option<&Got>) -> Result<Next, Errno>
         requires { self.old.begun ≤ 1048576 }
         ensures goes { IfOk result (λ next. Goes (given (left self.old) (option_copied got.entry)) next (left self.new)) }
         ensures rests { IfOk result (λ next. MatchNext next (Unit {0}) (left self.new ≡ goes_on (done (names_in self.new)))) }
+        ensures in_front { (behind : Names → Does) → IfOk result (λ next. MatchNext next
+            (Goes (given (then_left (left self.old) behind) (option_copied got.entry)) next (then_left (left self.new) behind))
+            (given (then_left (left self.old) behind) (option_copied got.entry) ≡ behind (names_in self.new))) }
         ensures whole { (statements : List (List Span)) → IfOk result (λ next. MatchNext next
             (Goes (given (talk_left self.old statements) (option_copied got.entry)) next (talk_left self.new statements))
             (given (talk_left self.old statements) (option_copied got.entry) ≡ talks self.new.begun statements (names_in self.new))) }
