@@ -1,11 +1,11 @@
 -- Calls of the gate as steps of one call of the device.
-use Rattle.std.proofs.Common.{◌≡◌, ℕ, ◌+◌, ◌<◌, ◌≤◌, List, [], ◌∷◌, ◌++◌, length, drop, sym, refl, ap, ◌∙◌, subst, arith, Bool, true, false, Option, Some, None, Result, Ok, Err, IfOk, IfErr}
+use Rattle.std.proofs.Common.{◌≡◌, ℕ, ◌<◌, ◌≤◌, List, [], ◌∷◌, ◌++◌, length, sym, refl, ap, ◌∙◌, subst, arith, Bool, true, false, Result, Ok, Err, IfOk, IfErr}
 use Rattle.std.specs.Prelude.{cond}
 use Rattle.std.proofs.lemmas.Bool.{true≢false}
 use Rattle.gl_world.specs.declared.machine.Machine.{Ghosts}
 use Rattle.gl_world.specs.declared.history.Entry.{Entry}
 use Rattle.gl_world.specs.History.{Legal, Answered, entry, entries_of, fold, owed}
-use Rattle.gl_world.specs.Deeds.{Deed, entries_in}
+use Rattle.gl_world.specs.Deeds.{Deed}
 use Rattle.gl_world.specs.Removal.{Removes, AllQuiet, QuietEntriesKeepRemovals}
 use Rattle.gl_driver.specs.Calls.{IsBack}
 use Rattle.gl_driver.proofs.OwnEntries.{own_entries_are_deeds}
@@ -15,7 +15,7 @@ use Rattle.gl_rule.specs.Sums.{times}
 use Rattle.gl_rule.specs.Turn.{owes}
 use Rattle.gl_rule.specs.Views.{with_closed, with_inside, without_inside}
 use Rattle.gl_gate.specs.Values.{PassValue, knowing}
-use Rattle.gl_gate.specs.Calls.{KnowsClosed, KnowsAsMuch, SamePass, HasItsOwn, RemovesNothing, Acts, Refuses}
+use Rattle.gl_gate.specs.Calls.{KnowsClosed, KnowsAsMuch, SamePass, HasItsOwn, Acts, Refuses}
 use Rattle.gl_gate.specs.Grown.{Grew, Moved, IsFree}
 use Rattle.gl_gate.proofs.Grown.{acts_are_deeds, grows_on, moves_do_nothing, refusals_do_nothing, still_removes_nothing}
 use Rattle.gl_chip.specs.Steps.{CalledGuarded, CalledOnce, Drove, FoundNoRoom, IsAsk, IsTell, IsWhole, Owes, StoodFull, deed_of}

@@ -3,3 +3,5 @@ pub mod RemovalSteps
 pub mod Idle
 pub mod WholeCalls
 pub mod RemovalCalls
+pub mod HandedBytes
+pub mod OpenedChips

@@ -1,16 +1,15 @@
 -- The entries of a removal.
-use Rattle.std.proofs.Common.{◌≡◌, ℕ, ◌+◌, ◌-◌, ◌<◌, ◌≤◌, List, [], ◌∷◌, ◌++◌, length, drop, sym, refl, ap, ◌∙◌, subst, arith, Bool, true, false, Option, Some, None, Result, Ok, Err, IfOk, inl, inr, ⊎_elim}
+use Rattle.std.proofs.Common.{◌≡◌, ℕ, ◌+◌, ◌-◌, ◌<◌, ◌≤◌, List, [], ◌∷◌, ◌++◌, length, drop, sym, refl, ap, ◌∙◌, subst, arith, Bool, true, false, Option, Some, None, Result, Err, IfOk, inl, inr, ⊎_elim}
 use Rattle.std.specs.Prelude.{Contains, cond, slice_index_or}
 use Rattle.std.proofs.lemmas.Bool.{true≢false}
-use Rattle.std.proofs.lemmas.List.{append_assoc, append-nil}
+use Rattle.std.proofs.lemmas.List.{append_assoc}
 use Rattle.gl_base.specs.declared.errno.Errno.{Errno}
 use Rattle.gl_base.specs.declared.errno.Errno.TheVariants.{Full}
 use Rattle.gl_base.specs.declared.limits.TheConstants.{PLACES}
 use Rattle.gl_world.specs.History.{Legal, entries_of, entry, fold, owed}
 use Rattle.gl_world.specs.Removal.{AllQuiet, Removes}
 use Rattle.gl_world.proofs.Histories.{answered_prefix, placed_prefix, entries_append}
-use Rattle.gl_rule.specs.Turn.{owes}
-use Rattle.gl_gate.specs.Calls.{Acts, HasItsOwn, KnowsAsMuch, KnowsDrained, MayCall, MayEndRemoval, MayName, Refuses, RemovesNothing, SamePass}
+use Rattle.gl_gate.specs.Calls.{Acts, HasItsOwn, KnowsDrained, MayEndRemoval, Refuses, SamePass}
 use Rattle.gl_gate.specs.Grown.{Grew, IsFree, Moved}
 use Rattle.gl_gate.proofs.Grown.{acts_are_deeds, grows_on, moves_do_nothing, still_removes_nothing}
 use Rattle.gl_core.specs.Kept.{Kept, StandsFor}
@@ -19,11 +18,11 @@ use Rattle.gl_model.specs.declared.call.Call.TheVariants.{Probe, Unplug, MakeDir
 use Rattle.gl_model.specs.declared.gift.Gift.{Gift}
 use Rattle.gl_model.specs.declared.reply.Reply.{Reply}
 use Rattle.gl_model.specs.declared.reply.Reply.TheVariants.{Done, Number, Go, Found, Text, Ready, Refused}
-use Rattle.gl_model.specs.Chips.{phase_at, places_from}
+use Rattle.gl_model.specs.Chips.{places_from}
 use Rattle.gl_model.specs.Entries.{awaited_call, begins, begun_places, ends, guarded_place, is_done, is_last_removal, last_call, places_named, refused_place}
 use Rattle.gl_model.specs.Fits.{Fits, FitsCall}
 use Rattle.gl_model.specs.Machine.{bytes_of, reply_of}
-use Rattle.gl_model.specs.Outcome.{Outcome, refused_or, writes}
+use Rattle.gl_model.specs.Outcome.{refused_or, writes}
 use Rattle.gl_model.specs.Parts.{DeviceCall, MakesRest, MakesTwo, Removing, first_call, guard_of}
 use Rattle.gl_model.specs.Removal.{removal_bytes, up_places}
 use Rattle.gl_model.specs.World.{World}
@@ -38,7 +37,7 @@ use Rattle.gl_chip.specs.Results.{done_of}
 use Rattle.gl_chip.specs.Steps.{FoundNoRoom, deed_of}
 use Rattle.gl_chip.specs.Values.{IsIdle, MayOwn, OneEntry, OneView, core}
 use Rattle.gl_chip.proofs.GateSteps.{free_owes, is_free, knows_on, knows_same, owes_refused, stood_full}
-use Rattle.gl_chip.proofs.WholeCalls.{called_not_full, full_is_told, idle_still, no_room_alone, none_not_some}
+use Rattle.gl_chip.proofs.WholeCalls.{called_not_full, errno_is_told, idle_still, no_room_alone, none_not_some}
 
 -- what the first and the last call of a removal are
 
@@ -641,7 +640,7 @@ two_are (x ∷ y ∷ z ∷ zs) e = absurd (omega arith)
 
 -- a removal that was made comes out as its last reply
 pub removes_out : (result : Result (Unit {0}) Errno) (v w : OneView) (call : DeviceCall) (reply : Reply) → result ≡ done_of reply → (bytes : List ℕ) × (called : HasCalled 0 v call reply bytes w) × AllDrained called.did w → RemovesOut result v call w
-removes_out result v w call reply is h = inl (h.0, record { reply = reply; result_is = is; not_full = λ full. called_not_full 0 v w call reply h.0 h.1 (full_is_told (λ _. tt) reply (sym is ∙ full)); called = h.1 }, h.2)
+removes_out result v w call reply is h = inl (h.0, record { reply = reply; result_is = is; not_full = λ full. called_not_full 0 v w call reply h.0 h.1 (errno_is_told (λ _. tt) Full reply (sym is ∙ full)); called = h.1 }, h.2)
 
 pub removes_none : (errno : Errno) (v w : OneView) (call : DeviceCall) → errno ≡ Full → FoundNoRoom core v w → RemovesOut (Err errno) v call w
 removes_none errno v w call is full = inr (ap Err is, full)

@@ -1,5 +1,5 @@
 -- One entry as a whole call of the device.
-use Rattle.std.proofs.Common.{◌≡◌, ◌≢◌, ℕ, ◌+◌, ◌<◌, ◌≤◌, List, [], ◌∷◌, ◌++◌, length, drop, sym, refl, ap, ◌∙◌, subst, arith, Bool, true, false, Option, Some, None, Result, Ok, Err, IfOk, IfErr, ◌⊎◌, inl, inr, ⊎_elim, length-append}
+use Rattle.std.proofs.Common.{◌≡◌, ◌≢◌, ℕ, ◌<◌, List, [], ◌∷◌, ◌++◌, length, drop, sym, refl, ap, ◌∙◌, subst, arith, Bool, true, false, Option, Some, None, Result, Ok, Err, IfOk, IfErr, ◌⊎◌, inl, inr, ⊎_elim, length-append}
 use Rattle.std.specs.Prelude.{cond}
 use Rattle.std.proofs.lemmas.Bool.{true≢false}
 use Rattle.std.proofs.lemmas.List.{append_assoc, append-nil}
@@ -11,18 +11,18 @@ use Rattle.gl_world.specs.History.{Answered, Legal, entry, fold}
 use Rattle.gl_world.proofs.Histories.{answered_rest}
 use Rattle.gl_gate.specs.Calls.{KnowsAsMuch, KnowsClosed, MayName}
 use Rattle.gl_gate.specs.Grown.{Grew, IsFree}
+use Rattle.gl_uapi.specs.Command.{command_of}
 use Rattle.gl_core.specs.Kept.{Kept, StandsFor}
 use Rattle.gl_model.specs.declared.call.Call.{Call}
 use Rattle.gl_model.specs.declared.call.Call.TheVariants.{Probe, Unplug, MakeDir, RemoveDir, Write, Read, Live, Remove, Tick, Pin, Irq, Pull, Level, Interrupt, OpenChip, Find, Ioctl, ReadEdges, ReadInfo, PollLine, PollChip, Close, Refused as RefusedCall}
-use Rattle.gl_model.specs.declared.gift.Gift.{Gift}
 use Rattle.gl_model.specs.declared.reply.Reply.{Reply}
 use Rattle.gl_model.specs.declared.reply.Reply.TheVariants.{Done, Number, Go, Found, Text, Ready, Refused}
 use Rattle.gl_model.specs.Calling.{AreOfCalls, Called, IsCalled, made_by}
 use Rattle.gl_model.specs.Entries.{guarded_place, refused_place}
-use Rattle.gl_model.specs.Fits.{Fits, FitsCall}
+use Rattle.gl_model.specs.Fits.{FitsCall}
 use Rattle.gl_model.specs.Written.{bytes_written, number_answered}
 use Rattle.gl_model.proofs.LegalLengths.{legal_replies_tell_lengths}
-use Rattle.gl_model.specs.Parts.{DeviceCall, MakesAt, Once, guard_of, is_poll, is_single, last_reply}
+use Rattle.gl_model.specs.Parts.{CommandIn, DeviceCall, MakesAt, MakesCommand, MakesInside, Commanding, Once, device_has, guard_of, in_whole, is_driver_asked, is_poll, is_single, last_reply}
 use Rattle.gl_model.specs.Replies.{has_form}
 use Rattle.gl_model.specs.Step.{guard_reply}
 use Rattle.gl_model.proofs.Replies.{replies_have_form}
@@ -152,37 +152,63 @@ abbrev is_err : {X : Type 0} → Result X Errno → Bool
 is_err (Ok x) = false
 is_err (Err errno) = true
 
-pub full_is_told : {X : Type 0} (value : Reply → X) (reply : Reply) → value_of value reply ≡ Err Full → reply ≡ Refused Full
-full_is_told value Done e = absurd (true≢false (sym (ap is_err e)))
-full_is_told value (Number n) e = absurd (true≢false (sym (ap is_err e)))
-full_is_told value (Go n) e = absurd (true≢false (sym (ap is_err e)))
-full_is_told value (Found p o n) e = absurd (true≢false (sym (ap is_err e)))
-full_is_told value (Text t) e = absurd (true≢false (sym (ap is_err e)))
-full_is_told value (Ready b) e = absurd (true≢false (sym (ap is_err e)))
-full_is_told value (Refused errno) e = ap Refused (ap errno_in e)
+-- a result that is an error was told by its reply
+pub errno_is_told : {X : Type 0} (value : Reply → X) (errno : Errno) (reply : Reply) → value_of value reply ≡ Err errno → reply ≡ Refused errno
+errno_is_told value errno Done e = absurd (true≢false (sym (ap is_err e)))
+errno_is_told value errno (Number n) e = absurd (true≢false (sym (ap is_err e)))
+errno_is_told value errno (Go n) e = absurd (true≢false (sym (ap is_err e)))
+errno_is_told value errno (Found p o n) e = absurd (true≢false (sym (ap is_err e)))
+errno_is_told value errno (Text t) e = absurd (true≢false (sym (ap is_err e)))
+errno_is_told value errno (Ready b) e = absurd (true≢false (sym (ap is_err e)))
+errno_is_told value errno (Refused told) e = ap Refused (ap errno_in e)
 
 -- a call that was made comes out as its reply
 pub is_made : {X : Type 0} (value : Reply → X) (result : Result X Errno) (v w : OneView) (call : DeviceCall) (bytes : List ℕ) (reply : Reply) → result ≡ value_of value reply → reply ≢ Refused Full → HasCalled 0 v call reply bytes w
     → ComesOut (λ r. value_of value r) result v call bytes w
-is_made value result v w call bytes reply is not_full called = inl record { reply = reply; result_is = is; not_full = λ full. not_full (full_is_told value reply (sym is ∙ full)); called = called }
+is_made value result v w call bytes reply is not_full called = inl record { reply = reply; result_is = is; not_full = λ full. not_full (errno_is_told value Full reply (sym is ∙ full)); called = called }
 
 -- and one for which the history had no room
 pub is_full : {X : Type 0} (value : Reply → X) (errno : Errno) (v w : OneView) (call : DeviceCall) (bytes : List ℕ) → errno ≡ Full → FoundNoRoom core v w → ComesOut {X = X} (λ r. value_of value r) (Err errno) v call bytes w
 is_full value errno v w call bytes is full = inr (ap Err is, full)
 
+-- Behind the guard of this place, a call of the device is this one entry.
+pub record IsOneEntry (place : ℕ) (poll : Bool) (call : Call) (whole : DeviceCall) : Type 0 where
+  pub has : device_has whole ≡ true
+  pub at : guard_of whole ≡ Some place
+  pub polls : is_poll whole ≡ poll
+  pub tells : has_form call (guard_reply poll) ≡ false
+  pub inside : (actor : ℕ) (reply : Reply) → MakesInside {M = Kept} actor whole None [] (entry actor call reply ∷ [])
+
+-- so are a call of the machine that needs the guard
+pub once_is_one : (place : ℕ) (poll : Bool) (call : Call) → is_single call ≡ true → guarded_place call ≡ Some place → is_poll (Once call) ≡ poll → has_form call (guard_reply poll) ≡ false → IsOneEntry place poll call (Once call)
+once_is_one place poll call single at polls tells = record { has = single; at = at; polls = polls; tells = tells; inside = λ actor reply. ((reply, refl), refl) }
+
+-- and a command that asks no driver
+pub command_is_one : (c : CommandIn) → is_driver_asked c.of_chip c.len (command_of c.cmd) ≡ false → IsOneEntry c.place false (in_whole c) (Commanding c)
+command_is_one c not_asked = record {
+  has = refl;
+  at = refl;
+  polls = refl;
+  tells = refl;
+  inside = λ actor reply. subst (λ asked. MakesCommand {M = Kept} actor asked None c [] (entry actor (in_whole c) reply ∷ [])) (sym not_asked) ((reply, refl), refl);
+}
+
+pub command_is_whole : (c : CommandIn) → IsWhole core (in_whole c)
+command_is_whole c = record { ends_not = refl; begins_not = λ _. refl; no_last_removal = refl; begins_no_removal = λ _ _. refl }
+
 -- One entry behind the guard of a place, or the record that it was closed, by whether it was.
-guarded_by : (place : ℕ) (poll : Bool) (v w : OneView) (call : Call) (reply : Reply) (wrote : List ℕ) → is_single call ≡ true → guarded_place call ≡ Some place → is_poll (Once call) ≡ poll → has_form call (guard_reply poll) ≡ false
+guarded_by : (place : ℕ) (poll : Bool) (v w : OneView) (call : Call) (whole : DeviceCall) (reply : Reply) (wrote : List ℕ) → IsOneEntry place poll call whole
     → (b : Bool) → (last : EndsWith w.seen (entry v.number (cond b (RefusedCall place poll) call) reply)) → length last.0 < v.room → Grew core v (deed_of v.number (cond b (RefusedCall place poll) call) reply wrote ∷ []) w → Legal core w.seen
-    → IsAnswered core v.number (cond b (RefusedCall place poll) call) reply wrote → (KnowsClosed v place → b ≡ true) → (b ≡ true → KnowsClosed w place) → KnowsAsMuch v w → HasCalled 0 v (Once call) reply wrote w
-guarded_by place poll v w call reply wrote single at polls tells true last room grew legal answered known knows knows_as_much = let e : OneEntry = entry v.number (RefusedCall place poll) reply in record {
+    → IsAnswered core v.number (cond b (RefusedCall place poll) call) reply wrote → (KnowsClosed v place → b ≡ true) → (b ≡ true → KnowsClosed w place) → KnowsAsMuch v w → HasCalled 0 v whole reply wrote w
+guarded_by place poll v w call whole reply wrote one true last room grew legal answered known knows knows_as_much = let e : OneEntry = entry v.number (RefusedCall place poll) reply in record {
   closed = true;
   answer = None;
   own = [];
   did = deed_of v.number (RefusedCall place poll) reply wrote ∷ [];
   makes = (
-    single,
-    subst (λ g. MakesAt {M = Kept} v.number g true (Once call) None [] (e ∷ [])) (sym at) (
-      subst (λ q. e ∷ [] ≡ entry v.number (RefusedCall place q) (guard_reply q) ∷ []) (sym polls) (ap (λ r. entry v.number (RefusedCall place poll) r ∷ []) answered.reply_is),
+    one.has,
+    subst (λ g. MakesAt {M = Kept} v.number g true whole None [] (e ∷ [])) (sym one.at) (
+      subst (λ q. e ∷ [] ≡ entry v.number (RefusedCall place q) (guard_reply q) ∷ []) (sym one.polls) (ap (λ r. entry v.number (RefusedCall place poll) r ∷ []) answered.reply_is),
       refl,
     ),
   );
@@ -196,18 +222,18 @@ guarded_by place poll v w call reply wrote single at polls tells true last room 
   bytes_are = refl;
   guard = λ p its. record {
     known = λ _. refl;
-    knows = λ _. subst (λ q. KnowsClosed w q) (ap (place_or p) (sym at ∙ its)) (knows refl);
-    gone = λ _. answered.reply_is ∙ ap guard_reply (sym polls);
+    knows = λ _. subst (λ q. KnowsClosed w q) (ap (place_or p) (sym one.at ∙ its)) (knows refl);
+    gone = λ _. answered.reply_is ∙ ap guard_reply (sym one.polls);
     gone_alone = λ _. refl;
   };
   knows_as_much = knows_as_much;
 }
-guarded_by place poll v w call reply wrote single at polls tells false last room grew legal answered known knows knows_as_much = let e : OneEntry = entry v.number call reply in record {
+guarded_by place poll v w call whole reply wrote one false last room grew legal answered known knows knows_as_much = let e : OneEntry = entry v.number call reply in record {
   closed = false;
   answer = None;
   own = [];
   did = deed_of v.number call reply wrote ∷ [];
-  makes = (single, subst (λ g. MakesAt {M = Kept} v.number g false (Once call) None [] (e ∷ [])) (sym at) ((reply, refl), refl));
+  makes = (one.has, subst (λ g. MakesAt {M = Kept} v.number g false whole None [] (e ∷ [])) (sym one.at) (one.inside v.number reply));
   few_own = omega arith;
   may_own = owns_nothing;
   grew = grew;
@@ -217,17 +243,17 @@ guarded_by place poll v w call reply wrote single at polls tells false last room
   reply_is = refl;
   bytes_are = refl;
   guard = λ p its. record {
-    known = λ k. known (subst (λ q. KnowsClosed v q) (ap (place_or p) (sym its ∙ at)) k);
+    known = λ k. known (subst (λ q. KnowsClosed v q) (ap (place_or p) (sym its ∙ one.at)) k);
     knows = λ f. absurd (true≢false (sym f));
     gone = λ f. absurd (true≢false (sym f));
-    gone_alone = λ told. absurd (true≢false (sym (subst (λ r. has_form call r ≡ true) (sym answered.reply_is ∙ (told ∙ ap guard_reply polls)) (replies_have_form.form (fold core answered.before) v.number call)) ∙ tells));
+    gone_alone = λ told. absurd (true≢false (sym (subst (λ r. has_form call r ≡ true) (sym answered.reply_is ∙ (told ∙ ap guard_reply one.polls)) (replies_have_form.form (fold core answered.before) v.number call)) ∙ one.tells));
   };
   knows_as_much = knows_as_much;
 }
 
-pub called_guarded : (place : ℕ) (poll : Bool) (v w : OneView) (call : Call) (reply : Reply) (old new : List ℕ) → is_single call ≡ true → guarded_place call ≡ Some place → is_poll (Once call) ≡ poll → has_form call (guard_reply poll) ≡ false
-    → CalledGuarded core place (RefusedCall place poll) v call reply old new w → (bytes : List ℕ) × (new ≡ bytes ++ drop (length bytes) old) × HasCalled 0 v (Once call) reply bytes w
-called_guarded place poll v w call reply old new single at polls tells c = (c.wrote, c.bytes, guarded_by place poll v w call reply c.wrote single at polls tells c.closed c.last c.had_room c.grew c.legal c.answered c.known c.knows c.knows_as_much)
+pub called_guarded : (place : ℕ) (poll : Bool) (v w : OneView) (call : Call) (whole : DeviceCall) (reply : Reply) (old new : List ℕ) → IsOneEntry place poll call whole
+    → CalledGuarded core place (RefusedCall place poll) v call reply old new w → (bytes : List ℕ) × (new ≡ bytes ++ drop (length bytes) old) × HasCalled 0 v whole reply bytes w
+called_guarded place poll v w call whole reply old new one c = (c.wrote, c.bytes, guarded_by place poll v w call whole reply c.wrote one c.closed c.last c.had_room c.grew c.legal c.answered c.known c.knows c.knows_as_much)
 
 -- the form of what it is answered
 form_by : (place : ℕ) (poll : Bool) (n : ℕ) (call : Call) (reply : Reply) (wrote : List ℕ) (b : Bool) → IsAnswered core n (cond b (RefusedCall place poll) call) reply wrote → (reply ≡ guard_reply poll) ⊎ (has_form call reply ≡ true)
@@ -292,10 +318,10 @@ pub idle_alone : (r : Result Reply Errno) (v w : OneView) (call : Call) (old new
 idle_alone (Ok reply) v w call old new T L single none empty idle owes step full = idle_called 0 v w (Once call) reply [] idle (is_free core w (step.same.inside ∙ idle.free.inside) owes) (called_alone v w call reply old new single none empty step)
 idle_alone (Err errno) v w call old new T L single none empty idle owes step full = idle_still v w idle (is_free core w (full.3.same.inside ∙ idle.free.inside) owes) full.3.grew
 
-pub idle_guarded : (r : Result Reply Errno) (place : ℕ) (poll : Bool) (v w : OneView) (call : Call) (old new : List ℕ) (Left : Type 0) → is_single call ≡ true → guarded_place call ≡ Some place → is_poll (Once call) ≡ poll → has_form call (guard_reply poll) ≡ false → IsIdle v → IsFree core w
+pub idle_guarded : (r : Result Reply Errno) (place : ℕ) (poll : Bool) (v w : OneView) (call : Call) (whole : DeviceCall) (old new : List ℕ) (Left : Type 0) → IsOneEntry place poll call whole → IsIdle v → IsFree core w
     → IfOk r (λ reply. CalledGuarded core place (RefusedCall place poll) v call reply old new w) → IfErr r (λ e. (e ≡ Full) × Left × FoundNoRoom core v w) → IsIdle w
-idle_guarded (Ok reply) place poll v w call old new L single at polls tells idle free c full = let h = called_guarded place poll v w call reply old new single at polls tells c in idle_called 0 v w (Once call) reply h.0 idle free h.2
-idle_guarded (Err errno) place poll v w call old new L single at polls tells idle free c full = idle_still v w idle free full.2.grew
+idle_guarded (Ok reply) place poll v w call whole old new L one idle free c full = let h = called_guarded place poll v w call whole reply old new one c in idle_called 0 v w whole reply h.0 idle free h.2
+idle_guarded (Err errno) place poll v w call whole old new L one idle free c full = idle_still v w idle free full.2.grew
 
 -- what is said of an actor's pass is said of the actor
 pub seen_from : {P : Type 0} (a b : ActorValue P) (Q : OneView → Type 0) → a ≡ b → Q a.pass.view → Q b.pass.view

@@ -6,7 +6,7 @@ use Rattle.gl_world.specs.History.{Legal, entry, fold}
 use Rattle.gl_world.specs.Deeds.{Deed, entries_in}
 use Rattle.gl_rule.specs.declared.view.View.{View}
 use Rattle.gl_rule.specs.Turn.{owes}
-use Rattle.gl_gate.specs.Calls.{IsInside, KnowsClosed, KnowsAsMuch, RemovesNothing, SamePass}
+use Rattle.gl_gate.specs.Calls.{KnowsClosed, KnowsAsMuch, RemovesNothing, SamePass}
 use Rattle.gl_gate.specs.Grown.{Grew}
 
 -- the list ends with this

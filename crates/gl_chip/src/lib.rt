@@ -4,13 +4,16 @@
 mod actor;
 mod answered;
 mod board;
+mod commands;
 mod driving;
 mod files;
 mod gpio;
+mod handed;
 mod inner;
 mod lines;
 mod making;
 mod open_files;
+mod opening;
 mod removals;
 mod removing;
 mod results;

@@ -2,15 +2,15 @@ use Rattle.std.proofs.Common.{◌≡◌, ℕ, List, ◌++◌, length, drop}
 use Rattle.gl_model.specs.Parts.{Once}
 use Rattle.gl_chip.specs.Called.{HasCalled}
 use Rattle.gl_chip.proofs.GateSteps.{if_ok}
-use Rattle.gl_chip.proofs.WholeCalls.{called_guarded, guarded_not_full, length_guarded, form_guarded, idle_guarded, seen_from}
+use Rattle.gl_chip.proofs.WholeCalls.{called_guarded, guarded_not_full, length_guarded, form_guarded, idle_guarded, once_is_one, seen_from}
 use Rattle.gl_chip.proofs.gpio.Gpio.behind_guard.Goals as goal
 
 pub invariant_of-actor : goal.invariant_of-actor
-invariant_of-actor g c = idle_guarded c.guarded.result c.args.place c.args.poll c.actor.inside.pass.view c.guarded.new.pass.view c.args.call c.args.out.now c.guarded.new.out _ c.requires.single c.requires.guard c.requires.poll c.requires.tells c.actor.invariant c.guarded.ensures.free c.guarded.ensures.called c.guarded.ensures.full
+invariant_of-actor g c = idle_guarded c.guarded.result c.args.place c.args.poll c.actor.inside.pass.view c.guarded.new.pass.view c.args.call (Once c.args.call) c.args.out.now c.guarded.new.out _ (once_is_one c.args.place c.args.poll c.args.call c.requires.single c.requires.guard c.requires.poll c.requires.tells) c.actor.invariant c.guarded.ensures.free c.guarded.ensures.called c.guarded.ensures.full
 
 pub returns-clause-called : goal.returns-clause-called
 returns-clause-called g c = if_ok c.guarded.result _ _ (λ r step. seen_from _ _ (λ v. (bytes : List ℕ) × (c.guarded.new.out ≡ bytes ++ drop (length bytes) c.args.out.now) × HasCalled 0 v (Once c.args.call) r bytes c.guarded.new.pass.view) c.actor.view_is
-    (called_guarded c.args.place c.args.poll c.actor.inside.pass.view c.guarded.new.pass.view c.args.call r c.args.out.now c.guarded.new.out c.requires.single c.requires.guard c.requires.poll c.requires.tells step)) c.guarded.ensures.called
+    (called_guarded c.args.place c.args.poll c.actor.inside.pass.view c.guarded.new.pass.view c.args.call (Once c.args.call) r c.args.out.now c.guarded.new.out (once_is_one c.args.place c.args.poll c.args.call c.requires.single c.requires.guard c.requires.poll c.requires.tells) step)) c.guarded.ensures.called
 
 pub returns-clause-form : goal.returns-clause-form
 returns-clause-form g c = if_ok c.guarded.result _ _ (λ r step. form_guarded c.args.place c.args.poll c.actor.inside.pass.view c.guarded.new.pass.view c.args.call r c.args.out.now c.guarded.new.out step) c.guarded.ensures.called

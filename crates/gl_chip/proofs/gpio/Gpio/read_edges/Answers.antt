@@ -1,4 +1,4 @@
-use Rattle.std.proofs.Common.{rules, ◌≡◌, ◌<◌, ◌^◌, ◌++◌, ℕ, List, [], length, drop, refl, subst, Err}
+use Rattle.std.proofs.Common.{rules, ◌≡◌, ◌^◌, ◌++◌, ℕ, List, [], length, drop, refl, subst}
 use Rattle.gl_model.specs.declared.call.Call.TheVariants.{ReadEdges}
 use Rattle.gl_model.specs.Parts.{Once}
 use Rattle.gl_model.specs.Written.{number_answered}

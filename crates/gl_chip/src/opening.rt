@@ -1,0 +1,88 @@
+//! Opening chips. This call takes no guard.
+
+ghost use Rattle.std.specs.Prelude.{◌≡◌, ◌≢◌, ◌↔◌, ◌<◌, ◌^◌, ℕ, [], Some, Err, IfOk};
+ghost use Rattle.gl_base.specs.ChipWord.{chip_number_of};
+ghost use Rattle.gl_base.specs.declared.errno.Errno.TheVariants.{Full, NoDev, NoMemory};
+ghost use Rattle.gl_base.specs.declared.limits.TheConstants.{PLACES};
+ghost use Rattle.gl_model.specs.declared.call.Call.TheVariants.{OpenChip};
+ghost use Rattle.gl_model.specs.declared.reply.Reply.TheVariants.{Number};
+ghost use Rattle.gl_model.specs.Parts.{Once};
+ghost use Rattle.gl_model.specs.Written.{number_answered};
+ghost use Rattle.gl_chip.specs.Called.{ComesOut};
+ghost use Rattle.gl_chip.specs.Opened.{LastFinds, names_leaving, opened_of, place_named};
+ghost use Rattle.gl_chip.specs.Values.{IsActorOf};
+
+use crate::actor::Actor;
+use crate::files::ChipFd;
+use crate::gpio::Gpio;
+use gl_base::{Errno, Path, chip_number};
+use gl_core::{Call, Core, Gift, Reply};
+use gl_driver::Driver;
+use gl_watch::InfoQueue;
+use std::alloc::Global;
+use std::sync::Wait;
+
+/// The place that a word names.
+fn place_named(word: &Path) -> u8
+    requires { place_named word.now < PLACES }
+    ensures { result ≡ place_named word.now }
+{
+    match chip_number(word.as_bytes()) {
+        Some(number) => number as u8,
+        None => 0,
+    }
+}
+
+/// The file of a chip that was opened by this word, or why it wasn't.
+fn opened(word: &Path, reply: Reply) -> Result<ChipFd, Errno>
+    requires number { number_answered reply < 2 ^ 32 }
+    requires place { (fd : ℕ) → reply ≡ Number fd → place_named word.now < PLACES }
+    ensures { result ≡ opened_of word.now reply }
+{
+    match reply {
+        Reply::Refused(errno) => Err(errno),
+        Reply::Number(number) => Ok(ChipFd {
+            place: place_named(word),
+            fd: number as u32,
+        }),
+        _ => Ok(ChipFd { place: 0, fd: 0 }),
+    }
+}
+
+impl<D: Driver<Core>> Gpio<D> {
+    /// Opens the chip that a word names: by its number, its name, or its path below `/dev/`. Where memory is wanted, nothing was
+    /// done.
+    ///
+    /// `NoEnt` where no chip that is up or leaving has the word; `NoDev` where the chip is leaving; `MFile` where there is no
+    /// number for the file; `NoMemory` where memory is wanted; `Full` where the history is full.
+    pub fn open_chip<R: Wait>(
+        &self,
+        rt: &R,
+        alloc: Global,
+        actor: &mut Actor<D>,
+        word: &Path,
+    ) -> Result<ChipFd, Errno>
+        requires actor { IsActorOf self.now actor.old }
+        ensures actor { IsActorOf self.now actor.new }
+        ensures port { actor.new.port ≡ actor.old.port }
+        ensures memory { result ≡ Err NoMemory → actor.new ≡ actor.old }
+        ensures called { result ≢ Err NoMemory
+            → ComesOut (opened_of word.now) result actor.old.pass.view (Once (OpenChip word.now)) [] actor.new.pass.view }
+        ensures place { IfOk result (λ file. chip_number_of word.now ≡ Some file.place) }
+        ensures leaving { result ≢ Err NoMemory → result ≢ Err Full
+            → ((result ≡ Err NoDev) ↔ LastFinds (names_leaving word.now) actor.new.pass.view.seen) }
+    {
+        let queue = match InfoQueue::new(alloc) {
+            Ok(queue) => queue,
+            Err(errno) => return Err(errno),
+        };
+        let mut gift = Gift {
+            ring: None,
+            queue: Some(queue),
+        };
+        match self.unguarded(rt, actor, Call::OpenChip { word: *word }, &mut gift) {
+            Ok(reply) => opened(word, reply),
+            Err(errno) => Err(errno),
+        }
+    }
+}
