@@ -1,6 +1,5 @@
 -- What programs cost.
 use Rattle.std.proofs.Common.{◌≤◌, ◌+◌, ◌-◌, ℕ, arith}
-use Rattle.gl_base.specs.declared.operation.Got.{Got}
 use Rattle.gl_args.specs.Gives.{Gives}
 use Rattle.gl_args.specs.Program.{Program, done, print, ask, then_by}
 use Rattle.gl_args.specs.Costs.{CostsAtMost, entries_of}

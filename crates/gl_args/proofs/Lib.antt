@@ -5,5 +5,6 @@ pub mod Divided
 pub mod Entries
 pub mod Fronts
 pub mod LineCounts
+pub mod OpenSlots
 pub mod Programs
 pub mod SameOptions

@@ -1,11 +1,9 @@
--- How many entries of a history a program makes, those of closings among them, and how many files it has open. This project's
--- choice.
-use Rattle.std.specs.Prelude.{◌≡◌, ℕ, ◌+◌, ◌-◌, ◌≤◌, nat_eq, if◌then◌else◌, Option, None, Some}
+-- How many entries of a history a program makes, those of closings among them. This project's choice.
+use Rattle.std.specs.Prelude.{◌≡◌, ℕ, ◌-◌, ◌≤◌, nat_eq, if◌then◌else◌, None}
 use Rattle.gl_base.specs.Operation.{refusal}
 use Rattle.gl_base.specs.declared.command.TheConstants.{GET_LINE, LINE_SET_CONFIG, LINE_GET_VALUES, LINE_SET_VALUES}
-use Rattle.gl_base.specs.declared.errno.Errno.{Errno}
 use Rattle.gl_base.specs.declared.operation.Do.{Do}
-use Rattle.gl_base.specs.declared.operation.Do.TheVariants.{Unplug, Live, OpenChip, Ioctl, Close, Plan}
+use Rattle.gl_base.specs.declared.operation.Do.TheVariants.{Unplug, Live, Ioctl, Close, Plan}
 use Rattle.gl_base.specs.declared.operation.Got.{Got}
 use Rattle.gl_args.specs.Program.{Program, done, print, ask}
 
@@ -37,26 +35,9 @@ EntriesAtMost n (done value) = Unit {0}
 EntriesAtMost n (print text p) = EntriesAtMost n p
 EntriesAtMost n (ask what p) = (entries_made what ≤ n) × ((got : Got) → IsKept what got → EntriesAtMost (n - entries_made what) (p got))
 
--- the files that an operation closes, and those that it opens: one where it isn't refused
-abbrev pub closed_by : Do → ℕ
-closed_by (Close slot) = 1
-closed_by _ = 0
-
-abbrev pub opens_one : Option Errno → ℕ
-opens_one None = 1
-opens_one (Some errno) = 0
-
-abbrev pub command_opens : ℕ → Option Errno → ℕ
-command_opens command fault = if nat_eq command GET_LINE then opens_one fault else 0
-
-abbrev pub opened_by : Do → Got → ℕ
-opened_by (OpenChip slot word) got = opens_one (refusal got)
-opened_by (Ioctl slot command len bytes made) got = command_opens command (refusal got)
-opened_by _ got = 0
-
--- A program that begins with so many open files never closes more than it has open, and behind it there are as many as the
--- value that it gives says.
-abbrev pub ClosesItsOwn : {A : Type 0} → (A → ℕ) → ℕ → Program A → Type 0
-ClosesItsOwn files n (done value) = files value ≤ n
-ClosesItsOwn files n (print text p) = ClosesItsOwn files n p
-ClosesItsOwn files n (ask what p) = (closed_by what ≤ n) × ((got : Got) → IsKept what got → ClosesItsOwn files (n - closed_by what + opened_by what got) (p got))
+-- A program makes at most so many entries, whatever it is answered; and where it gives a value, what is left of their number is
+-- at least as much as `wants` says of the value.
+abbrev pub EntriesLeave : {A : Type 0} → (A → ℕ) → ℕ → Program A → Type 0
+EntriesLeave wants n (done value) = wants value ≤ n
+EntriesLeave wants n (print text p) = EntriesLeave wants n p
+EntriesLeave wants n (ask what p) = (entries_made what ≤ n) × ((got : Got) → IsKept what got → EntriesLeave wants (n - entries_made what) (p got))

@@ -6,6 +6,7 @@ pub mod Gives
 pub mod Items
 pub mod LookUps
 pub mod Names
+pub mod OpenSlots
 pub mod Options
 pub mod Program
 pub mod Tools

@@ -1,5 +1,5 @@
 pub mod Buffers
-pub mod FindingCloses
 pub mod FindingCosts
+pub mod FindingSlots
 pub mod FoundEnds
 pub mod FoundFew

@@ -1,6 +1,6 @@
 pub mod Bytes
 pub mod Finding
-pub mod FoundFiles
 pub mod FoundLines
+pub mod FoundSlot
 pub mod OwnSlots
 pub mod Texts

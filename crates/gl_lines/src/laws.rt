@@ -1,11 +1,11 @@
-//! What finding lines costs and closes, whatever it is answered. Each law stands as the contract of a function that does
+//! What finding lines costs, and which files it opens and closes, whatever it is answered. Each law stands as the contract of a function that does
 //! nothing.
-ghost use Rattle.std.specs.Prelude.{◌≡◌, ℕ, ◌+◌, true, false, length};
+ghost use Rattle.std.specs.Prelude.{◌≡◌, ℕ, ◌+◌, true, false, List, ◌∷◌, length};
 ghost use Rattle.gl_args.specs.declared.names.ToolName.{ToolName};
 ghost use Rattle.gl_args.specs.Options.{Options};
 ghost use Rattle.gl_args.specs.Costs.{CostsAtMost};
-ghost use Rattle.gl_args.specs.Entries.{ClosesItsOwn};
-ghost use Rattle.gl_lines.specs.FoundFiles.{found_files};
+ghost use Rattle.gl_args.specs.OpenSlots.{AreApart, NamesOpenSlots, SameSlots, with_slot};
+ghost use Rattle.gl_lines.specs.FoundSlot.{found_slot};
 ghost use Rattle.gl_args.specs.Names.{requests_lines};
 ghost use Rattle.gl_lines.specs.Finding.{finds};
 
@@ -15,8 +15,10 @@ pub fn finding_costs()
     ensures alone { (tool : ToolName) (base made : ℕ) (opts : Options) → requests_lines tool ≡ false → CostsAtMost (length opts.lines + 2) (finds tool base made opts) }
 {}
 
-/// Beside the files that were open, finding leaves one open where it has found the lines, and none where it hasn't; it never
-/// closes more than it has open.
-pub fn finding_closes_its_own()
-    ensures { (n : ℕ) (tool : ToolName) (base made : ℕ) (opts : Options) → ClosesItsOwn (λ found. n + found_files found) n (finds tool base made opts) }
+/// Finding names no slot of a file that isn't open, and opens files in its own two slots alone, which are free before. Behind it
+/// those slots are open that were so before, and where it has found the lines one more: that of the request, or of the chip's
+/// file where it makes none.
+pub fn finding_names_open_slots()
+    ensures { (slots : List ℕ) (tool : ToolName) (base made : ℕ) (opts : Options) → AreApart (base ∷ made ∷ slots)
+        → NamesOpenSlots (λ found now. SameSlots now (with_slot (found_slot tool base made found) slots)) slots (finds tool base made opts) }
 {}

@@ -1,4 +1,4 @@
-pub mod MonitorCloses
 pub mod MonitorCosts
+pub mod MonitorNames
 pub mod MonitorSlots
 pub mod Turns

@@ -17,7 +17,7 @@ use Rattle.gl_lines.specs.declared.found_line.FoundLine.{FoundLine}
 use Rattle.gl_lines.specs.Finding.{finds}
 use Rattle.gl_monitor.specs.Items.{item_size, items_in}
 use Rattle.gl_monitor.specs.ItemText.{items_text}
-use Rattle.gl_monitor.specs.Monitor.{Watching, Watched, begins, closed, closes, fails, goes_behind, has_lines, is_complete, less_by, monitor_program, polled, room_of, shows, started, steps, steps_held, stops, was_read, watched, watches, watching}
+use Rattle.gl_monitor.specs.Monitor.{Watching, Watched, begins, closed, closes, fails, goes_behind, is_complete, less_by, monitor_program, polled, room_of, shows, started, steps, steps_held, stops, was_read, watched, watches, watching}
 use Rattle.gl_monitor.specs.WatchedSlots.{WatchedPasses}
 
 module _ (test : ℕ → Bool) where

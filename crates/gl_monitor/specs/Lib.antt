@@ -2,5 +2,4 @@ pub mod Costs
 pub mod ItemText
 pub mod Items
 pub mod Monitor
-pub mod WatchedFiles
 pub mod WatchedSlots

@@ -1,12 +1,11 @@
-//! What the monitors cost and close, whatever they are answered. Each law stands as the contract of a function that does nothing.
-ghost use Rattle.std.specs.Prelude.{◌≡◌, ℕ, ◌+◌, Bool, true};
+//! What the monitors cost, and which files they open and close, whatever they are answered. Each law stands as the contract of a function that does nothing.
+ghost use Rattle.std.specs.Prelude.{◌≡◌, ℕ, ◌+◌, Bool, true, List, ◌∷◌};
 ghost use Rattle.gl_args.specs.Options.{SaidTool};
 ghost use Rattle.gl_args.specs.Costs.{CostsAtMost};
-ghost use Rattle.gl_args.specs.Entries.{ClosesItsOwn};
 ghost use Rattle.gl_args.specs.Gives.{Gives};
+ghost use Rattle.gl_args.specs.OpenSlots.{AreApart, NamesOpenSlots, SameSlots, with_slot};
 ghost use Rattle.gl_monitor.specs.Costs.{monitor_cost};
-ghost use Rattle.gl_monitor.specs.Monitor.{Watched, monitor_program, steps_held, stops};
-ghost use Rattle.gl_monitor.specs.WatchedFiles.{watched_files};
+ghost use Rattle.gl_monitor.specs.Monitor.{Watched, monitor_program, steps_held, stops, watched_slot};
 ghost use Rattle.gl_monitor.specs.WatchedSlots.{WatchedPasses};
 
 /// A monitor makes at most as many entries as its cost says when it is started, one more than its turns in a step, and
@@ -17,12 +16,16 @@ pub fn monitors_within_cost()
     ensures stopped { (watched : Watched) → CostsAtMost 0 (stops watched) }
 {}
 
-/// Beside the files that were open, a monitor leaves one open where it watches its lines, and none where it has ended; it
-/// never closes more than it has open.
-pub fn monitors_close_their_own()
-    ensures started { (n : ℕ) (tool : SaidTool) (base : ℕ) → ClosesItsOwn (λ after. n + watched_files after) n (monitor_program tool base) }
-    ensures stepped { (n : ℕ) (watched : Watched) (turns : ℕ) → ClosesItsOwn (λ after. n + watched_files after) (n + watched_files watched) (steps_held watched turns) }
-    ensures stopped { (n : ℕ) (watched : Watched) → ClosesItsOwn (λ after. n + watched_files after) (n + watched_files watched) (stops watched) }
+/// A monitor names no slot of a file that isn't open, and when it is started opens files in its own two slots alone, which are
+/// free before. Behind it those slots are open that were so before, and where it watches its lines that of the file which it
+/// watches.
+pub fn monitors_name_open_slots()
+    ensures started { (slots : List ℕ) (tool : SaidTool) (base : ℕ) → AreApart (base ∷ (base + 1) ∷ slots)
+        → NamesOpenSlots (λ after now. SameSlots now (with_slot (watched_slot after) slots)) slots (monitor_program tool base) }
+    ensures stepped { (slots : List ℕ) (watched : Watched) (turns : ℕ) → AreApart (with_slot (watched_slot watched) slots)
+        → NamesOpenSlots (λ after now. SameSlots now (with_slot (watched_slot after) slots)) (with_slot (watched_slot watched) slots) (steps_held watched turns) }
+    ensures stopped { (slots : List ℕ) (watched : Watched) → AreApart (with_slot (watched_slot watched) slots)
+        → NamesOpenSlots (λ after now. SameSlots now (with_slot (watched_slot after) slots)) (with_slot (watched_slot watched) slots) (stops watched) }
 {}
 
 /// The file that a monitor watches has one of the slots `base` and `base + 1`, and keeps it: whatever is true of both is

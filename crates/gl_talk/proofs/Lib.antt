@@ -2,13 +2,14 @@ pub mod Continuing
 pub mod Front
 pub mod InARow
 pub mod NamedRows
-pub mod TalkedSteps
 pub mod OwnSlots
 pub mod Parts
 pub mod SlotOrder
 pub mod StatementCosts
 pub mod TablesWhole
-pub mod TalkCloses
+pub mod TalkFiles
+pub mod TalkNames
+pub mod TalkedSteps
 pub mod ToolParts
 pub mod Turns
 pub mod WordReadings

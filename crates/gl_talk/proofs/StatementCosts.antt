@@ -9,7 +9,7 @@ use Rattle.gl_base.specs.declared.errno.Errno.{Errno}
 use Rattle.gl_base.specs.declared.operation.Got.{Got}
 use Rattle.gl_args.specs.Costs.{CostsAtMost, entries_of, command_entries}
 use Rattle.gl_args.specs.Options.{SaidTool, SaidDetect, SaidInfo, SaidGet, SaidSet, SaidWatch, SaidNotify}
-use Rattle.gl_args.specs.Program.{done, then_by}
+use Rattle.gl_args.specs.Program.{Program, done, then_by}
 use Rattle.gl_args.specs.Tools.{tool_said}
 use Rattle.gl_args.proofs.Costs.{costs_more, costs_then}
 use Rattle.gl_monitor.specs.Costs.{monitor_cost}
@@ -33,7 +33,7 @@ use Rattle.gl_talk.specs.Costs.{StatementsKeepWithinCost, TalksKeepWithinCost}
 use Rattle.gl_talk.specs.Open.{File, Names, file_of, has_tool, held_of_name, watched_of_name, slots_in_order, without_monitor, without_set}
 use Rattle.gl_talk.specs.Paths.{line_file, live_device}
 use Rattle.gl_talk.specs.Plans.{closes, ioctls, irqs, lives, opens, pins, planned, polls, pulls, reads, reads_file, takes_name, unplugs, writes, writes_tree}
-use Rattle.gl_talk.specs.Talk.{acts, closes_all, does, does_by, keeps_monitor, keeps_set, replied_by, runs, slot_behind, starts, starts_said, starts_tool, steps, stops, talks}
+use Rattle.gl_talk.specs.Talk.{acts, closes_all, does, does_by, keeps_monitor, keeps_set, replied_by, runs, quits, says, slot_behind, starts, starts_said, starts_tool, steps, stops}
 use Rattle.gl_talk.specs.ToolWords.{kind_of, word_texts}
 use Rattle.gl_talk.specs.Words.{behind_two, live_word, or_else, place_word, pull_word, turns_word}
 use Rattle.gl_talk.proofs.ToolParts.{started_cost, started_fits, tool_fits}
@@ -322,10 +322,17 @@ closes_all_cost : (n : ℕ) (slots : List ℕ) → CostsAtMost n (closes_all slo
 closes_all_cost n [] = tt
 closes_all_cost n (slot ∷ slots) = (omega arith, λ got. closes_all_cost (n - 0) slots)
 
-pub talks_keep_within_cost : TalksKeepWithinCost
-talks_keep_within_cost begun [] names = closes_all_cost 0 (slots_in_order names)
-talks_keep_within_cost begun (words ∷ statements) names =
-    costs_more (then_by (does names (slot_behind begun) words) (talks (begun + 1) statements)) (words_cost words + sum_by words_cost statements) (sum_by words_cost (words ∷ statements))
+pub end_cost : (names : Names) → CostsAtMost 0 (quits names)
+end_cost names = closes_all_cost 0 (slots_in_order names)
+
+pub says_cost : {A : Type 0} (begun : ℕ) (statements : List (List Span)) (behind : Names → Program A) → ((names : Names) → CostsAtMost 0 (behind names)) → (names : Names)
+    → CostsAtMost (sum_by words_cost statements) (says begun statements behind names)
+says_cost begun [] behind h names = h names
+says_cost begun (words ∷ statements) behind h names =
+    costs_more (then_by (does names (slot_behind begun) words) (says (begun + 1) statements behind)) (words_cost words + sum_by words_cost statements) (sum_by words_cost (words ∷ statements))
     (omega (arith, sum_by-cons words_cost words statements))
-    (costs_then (does names (slot_behind begun) words) (talks (begun + 1) statements) (words_cost words) (sum_by words_cost statements) (statements_keep_within_cost names (slot_behind begun) words)
-    (λ after. talks_keep_within_cost (begun + 1) statements after))
+    (costs_then (does names (slot_behind begun) words) (says (begun + 1) statements behind) (words_cost words) (sum_by words_cost statements) (statements_keep_within_cost names (slot_behind begun) words)
+    (λ after. says_cost (begun + 1) statements behind h after))
+
+pub talks_keep_within_cost : TalksKeepWithinCost
+talks_keep_within_cost begun statements names = says_cost begun statements quits end_cost names

@@ -1,4 +1,5 @@
 pub mod Costs
+pub mod Files
 pub mod InParts
 pub mod Open
 pub mod Over

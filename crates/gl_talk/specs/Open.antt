@@ -3,6 +3,7 @@ use Rattle.std.specs.Prelude.{ℕ, Bool, nat_lt, ◌||◌, List, [], ◌∷◌, 
 use Rattle.std.specs.Str.{bytes_eq}
 use Rattle.gl_base.specs.Ordered.{ordered}
 use Rattle.gl_base.specs.Rows.{without_first}
+use Rattle.gl_args.specs.OpenSlots.{with_slot}
 use Rattle.gl_monitor.specs.Monitor.{Watched, watched_by, watched_slot}
 use Rattle.gl_values.specs.Client.{held_by}
 use Rattle.gl_values.specs.Set.{Held}
@@ -83,10 +84,6 @@ abbrev pub without_monitor : List ℕ → Names → Names
 without_monitor name names = record names { monitors = without_first (is_monitor name) names.monitors }
 
 -- the slots of open files; those of tools are among them
-abbrev pub with_slot : Option ℕ → List ℕ → List ℕ
-with_slot None slots = slots
-with_slot (Some slot) slots = slot ∷ slots
-
 abbrev pub set_slots : List SetTool → List ℕ
 set_slots [] = []
 set_slots (tool ∷ tools) = with_slot tool.held (set_slots tools)

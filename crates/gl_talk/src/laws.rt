@@ -11,6 +11,7 @@ ghost use Rattle.gl_script.specs.Table.{keyword_name, keyword_of};
 ghost use Rattle.gl_script.specs.declared.table.Keyword.{Keyword};
 ghost use Rattle.gl_talk.specs.Costs.{StatementsKeepWithinCost, TalksKeepWithinCost, TalksMakeAtMost};
 ghost use Rattle.gl_talk.specs.Slots.{SlotsAreOwn};
+ghost use Rattle.gl_talk.specs.Files.{EndClosesAll, EndMakesAtMost, NoneIsOpenBefore, StatementsFindTheirFiles, StatementsLeaveEntries, TalksFindTheirFiles};
 ghost use Rattle.gl_talk.specs.InParts.{StatementsComeInParts, TalksAreStatementsAndTheEnd};
 ghost use Rattle.gl_talk.specs.Readings.{CommandsAreRead, HeldToolsAreRead, IrqsAreRead, LabelsAreRead, NumbersAreRead, PathsAreRead, PinsAreRead, WordsAreRead};
 
@@ -26,8 +27,27 @@ pub fn talks_keep_within_cost()
     ensures { TalksKeepWithinCost }
 {}
 
+/// Whatever a talk is answered, but that no closing is refused, each of its operations on a file is one on a file that is open
+/// then, in the slot that it names; and what it opens goes into a slot that is free. Behind its statements those slots are open
+/// that its names have, each once, and behind its end none: so whoever keeps the open files by their slots finds the file of each
+/// operation.
+pub fn talks_find_their_files()
+    ensures before { NoneIsOpenBefore }
+    ensures statements { StatementsFindTheirFiles }
+    ensures end { EndClosesAll }
+    ensures whole { TalksFindTheirFiles }
+{}
+
+/// Statements in a row make at most as many entries of a history as they cost together, and one for each file that was open
+/// before, where each closing is counted as it is made; and they leave so many of that number as files are open behind them. The
+/// end makes one at most for each of these.
+pub fn statements_leave_entries()
+    ensures statements { StatementsLeaveEntries }
+    ensures end { EndMakesAtMost }
+{}
+
 /// The talk of an actor makes at most as many entries of a history as its statements cost together, where each closing is
-/// counted as it is made and none is refused: no more files are closed than were opened.
+/// counted as it is made and none is refused: no more files are closed than were opened (`talks_find_their_files`).
 pub fn talks_make_at_most()
     ensures { TalksMakeAtMost }
 {}

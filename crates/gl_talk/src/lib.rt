@@ -18,8 +18,9 @@ mod tools;
 mod words;
 
 pub use laws::{
-    slots_are_own, statements_keep_within_cost, tables_are_whole, talks_are_statements_and_the_end,
-    talks_keep_within_cost, talks_make_at_most, words_are_read_as_they_are,
+    slots_are_own, statements_keep_within_cost, statements_leave_entries, tables_are_whole,
+    talks_are_statements_and_the_end, talks_find_their_files, talks_keep_within_cost,
+    talks_make_at_most, words_are_read_as_they_are,
 };
 pub use over::{TalkedOver, talk_over};
 pub use talk::Talk;

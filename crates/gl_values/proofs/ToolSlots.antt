@@ -10,7 +10,7 @@ use Rattle.gl_lines.specs.declared.found_line.FoundLine.{FoundLine}
 use Rattle.gl_lines.specs.Finding.{finds}
 use Rattle.gl_values.specs.Client.{held_program}
 use Rattle.gl_lines.specs.OwnSlots.{SlotPasses}
-use Rattle.gl_values.specs.Set.{Held, behind, closed, closes, stops}
+use Rattle.gl_values.specs.Set.{Held, behind, closed, stops}
 use Rattle.gl_values.specs.declared.set.Hold.TheVariants.{Yes}
 
 module _ (test : ℕ → Bool) where

@@ -4,7 +4,6 @@ pub mod Costs
 pub mod Detect
 pub mod Get
 pub mod GetText
-pub mod HeldFiles
 pub mod Info
 pub mod InfoText
 pub mod Set

@@ -1,12 +1,11 @@
-//! What the tools cost and close, whatever they are answered. Each law stands as the contract of a function that does nothing.
-ghost use Rattle.std.specs.Prelude.{◌≡◌, ℕ, ◌+◌, Bool, true};
+//! What the tools cost, and which files they open and close, whatever they are answered. Each law stands as the contract of a function that does nothing.
+ghost use Rattle.std.specs.Prelude.{◌≡◌, ℕ, ◌+◌, Bool, true, List, ◌∷◌};
 ghost use Rattle.gl_args.specs.Options.{SaidTool};
 ghost use Rattle.gl_args.specs.Costs.{CostsAtMost};
-ghost use Rattle.gl_args.specs.Entries.{ClosesItsOwn};
 ghost use Rattle.gl_args.specs.Gives.{Gives};
+ghost use Rattle.gl_args.specs.OpenSlots.{AreApart, NamesOpenSlots, SameSlots, with_slot};
 ghost use Rattle.gl_values.specs.Client.{tool_program, held_program};
 ghost use Rattle.gl_values.specs.Costs.{tool_cost, held_cost};
-ghost use Rattle.gl_values.specs.HeldFiles.{held_files};
 ghost use Rattle.gl_lines.specs.OwnSlots.{SlotPasses};
 ghost use Rattle.gl_values.specs.Set.{Held, stops};
 
@@ -18,12 +17,13 @@ pub fn tools_within_cost()
     ensures stopped { (held : Held) → CostsAtMost 0 (stops held) }
 {}
 
-/// Beside the files that were open, a tool leaves none open but the request that a started gpioset holds; it never closes
-/// more than it has open. A stop closes that request.
-pub fn tools_close_their_own()
-    ensures statement { (n : ℕ) (tool : SaidTool) (base : ℕ) → ClosesItsOwn (λ held. n + held_files held) n (tool_program tool base) }
-    ensures started { (n : ℕ) (tool : SaidTool) (base : ℕ) → ClosesItsOwn (λ held. n + held_files held) n (held_program tool base) }
-    ensures stopped { (n : ℕ) (held : Held) → ClosesItsOwn (λ after. n + held_files after) (n + held_files held) (stops held) }
+/// A tool names no slot of a file that isn't open, and opens files in its own two slots alone, which are free before. As a statement
+/// it leaves those slots open that were so before; a started gpioset also that of the request which it holds, until a stop closes
+/// it.
+pub fn tools_name_open_slots()
+    ensures statement { (slots : List ℕ) (tool : SaidTool) (base : ℕ) → AreApart (base ∷ (base + 1) ∷ slots) → NamesOpenSlots (λ held now. SameSlots now slots) slots (tool_program tool base) }
+    ensures started { (slots : List ℕ) (tool : SaidTool) (base : ℕ) → AreApart (base ∷ (base + 1) ∷ slots) → NamesOpenSlots (λ held now. SameSlots now (with_slot held slots)) slots (held_program tool base) }
+    ensures stopped { (slots : List ℕ) (held : Held) → AreApart (with_slot held slots) → NamesOpenSlots (λ after now. SameSlots now (with_slot after slots)) (with_slot held slots) (stops held) }
 {}
 
 /// The request that a started gpioset holds has the slot `base + 1`: whatever is true of that slot is true of what it holds.

@@ -1,4 +1,4 @@
-use Rattle.gl_talk.proofs.TalkCloses.{talks_make_at_most}
+use Rattle.gl_talk.proofs.TalkFiles.{talks_make_at_most}
 use Rattle.gl_talk.proofs.laws.talks_make_at_most.Goals as goal
 
 pub returns : goal.returns
