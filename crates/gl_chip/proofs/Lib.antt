@@ -5,3 +5,5 @@ pub mod WholeCalls
 pub mod RemovalCalls
 pub mod HandedBytes
 pub mod OpenedChips
+pub mod CommandCalls
+pub mod CommandResults

@@ -32,7 +32,7 @@ use Rattle.gl_chip.specs.Steps.{CalledGuarded, CalledOnce, EndsWith, FoundNoRoom
 use Rattle.gl_chip.specs.Values.{ActorValue, IsIdle, MayOwn, OneEntry, OneView, core}
 use Rattle.gl_chip.proofs.GateSteps.{is_free, knows_same}
 
-abbrev place_or : ℕ → Option ℕ → ℕ
+abbrev pub place_or : ℕ → Option ℕ → ℕ
 place_or d (Some p) = p
 place_or d None = d
 
@@ -338,12 +338,12 @@ reply_in None = None
 none_not_some_entry : (e : OneEntry) → None ≡ Some e → ⊥
 none_not_some_entry e is = true≢false (sym (ap is_some_entry is))
 
-last_reply_is : (made : List OneEntry) (last : OneEntry) → last_entry made ≡ Some last → last_reply made ≡ Some last.reply
+pub last_reply_is : (made : List OneEntry) (last : OneEntry) → last_entry made ≡ Some last → last_reply made ≡ Some last.reply
 last_reply_is [] last e = absurd (none_not_some_entry last e)
 last_reply_is (x ∷ []) last e = ap reply_in e
 last_reply_is (x ∷ y ∷ zs) last e = last_reply_is (y ∷ zs) last e
 
-abbrev reply_or : Reply → Option Reply → Reply
+abbrev pub reply_or : Reply → Option Reply → Reply
 reply_or d (Some r) = r
 reply_or d None = d
 

@@ -3,13 +3,16 @@
 
 mod actor;
 mod answered;
+mod asking;
 mod board;
+mod commanding;
 mod commands;
 mod driving;
 mod files;
 mod gpio;
 mod handed;
 mod inner;
+mod ioctls;
 mod lines;
 mod making;
 mod open_files;

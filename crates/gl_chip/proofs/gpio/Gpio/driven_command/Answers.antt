@@ -1,0 +1,52 @@
+use Rattle.std.proofs.Common.{rules, ◌≡◌, ℕ, List, ◌++◌, length, drop, sym, refl, ap, subst, ◌∙◌}
+use Rattle.std.proofs.lemmas.Bool.{true≢false}
+use Rattle.gl_rule.specs.Sums.{without}
+use Rattle.gl_chip.specs.Commanding.{HasCommanded}
+use Rattle.gl_chip.specs.Handed.{command_in}
+use Rattle.gl_chip.specs.Values.{core}
+use Rattle.gl_chip.proofs.CommandCalls.{called_command, idle_commanded, inside_after, left_place, turned_away}
+use Rattle.gl_chip.proofs.GateSteps.{came_in, found_closed, if_err, if_ok, is_free, no_room, no_room_left, owes_moved, went_out}
+use Rattle.gl_chip.proofs.gpio.Gpio.driven_command.Goals as goal
+
+pub invariant_of-actor : goal.invariant_of-actor
+invariant_of-actor g c =
+    let found = found_closed core c.args.file.place c.actor.inside.pass c.enter.new.pass (c.enter.ensures.refused (search rules)) in
+    idle_commanded g.D.Port.Port.told g.D.Port.Port.faults g.D.Driver.OwnEntries g.D.Driver.ENTRIES g.D.Driver.is_planned c.alone.result c.args.op.now (record { pass = c.actor.inside.pass; port = c.actor.inside.port }) (record { pass = c.alone.new.pass; port = c.actor.inside.port })
+    (command_in c.args.file.place c.args.file.fd c.args.file.of_chip c.args.cmd c.args.out.now) c.args.out.now c.alone.new.out c.actor.invariant
+    (is_free core c.alone.new.pass.view (inside_after c.alone.result c.enter.new.pass.view c.alone.new.pass.view _ _ _ _ _ c.alone.ensures.called c.alone.ensures.full ∙ (found.1 ∙ c.actor.invariant.free.inside)) c.alone.ensures.owes)
+    (if_ok c.alone.result _ _ (λ r step. turned_away g.D.Port.Port.told g.D.Port.Port.faults g.D.Driver.OwnEntries g.D.Driver.ENTRIES g.D.Driver.is_planned c.args.op.now (record { pass = c.actor.inside.pass; port = c.actor.inside.port }) (record { pass = c.alone.new.pass; port = c.actor.inside.port })
+    c.enter.new.pass.view (command_in c.args.file.place c.args.file.fd c.args.file.of_chip c.args.cmd c.args.out.now) r c.args.out.now c.alone.new.out found.0 c.enter.ensures.knows (c.enter.ensures.closed (search rules)) step refl) c.alone.ensures.called)
+    (if_err c.alone.result _ _ (λ e full. (no_room core c.actor.inside.pass.view c.enter.new.pass.view c.alone.new.pass.view found.0 c.enter.ensures.knows full.3).grew) c.alone.ensures.full)
+
+pub returns-then-not-enter-clause-commanded : goal.returns-then-not-enter-clause-commanded
+returns-then-not-enter-clause-commanded g c =
+    let found = found_closed core c.args.file.place c.actor.inside.pass c.enter.new.pass (c.enter.ensures.refused (search rules)) in
+    if_ok c.alone.result _ _ (λ r step. subst (λ x. (bytes : List ℕ) × (c.alone.new.out ≡ bytes ++ drop (length bytes) c.args.out.now)
+    × HasCommanded g.D.Port.Port.told g.D.Port.Port.faults g.D.Driver.OwnEntries g.D.Driver.ENTRIES g.D.Driver.is_planned c.args.op.now x (command_in c.args.file.place c.args.file.fd c.args.file.of_chip c.args.cmd c.args.out.now) r bytes (record { pass = c.alone.new.pass; port = c.actor.inside.port })) c.actor.view_is
+    (turned_away g.D.Port.Port.told g.D.Port.Port.faults g.D.Driver.OwnEntries g.D.Driver.ENTRIES g.D.Driver.is_planned c.args.op.now (record { pass = c.actor.inside.pass; port = c.actor.inside.port }) (record { pass = c.alone.new.pass; port = c.actor.inside.port })
+    c.enter.new.pass.view (command_in c.args.file.place c.args.file.fd c.args.file.of_chip c.args.cmd c.args.out.now) r c.args.out.now c.alone.new.out found.0 c.enter.ensures.knows (c.enter.ensures.closed (search rules)) step refl)) c.alone.ensures.called
+
+pub invariant_of-actor-2 : goal.invariant_of-actor-2
+invariant_of-actor-2 g c =
+    let entered = came_in core c.args.file.place c.actor.inside.pass c.enter.new.pass (c.enter.ensures.entered (search rules)) in
+    let out = went_out core c.args.file.place c.command_inside-answer.new.pass c.leave.new.pass c.leave.ensures in
+    idle_commanded g.D.Port.Port.told g.D.Port.Port.faults g.D.Driver.OwnEntries g.D.Driver.ENTRIES g.D.Driver.is_planned c.command_inside-answer.result c.args.op.now (record { pass = c.actor.inside.pass; port = c.actor.inside.port }) (record { pass = c.leave.new.pass; port = c.command_inside-answer.new.port })
+    (command_in c.args.file.place c.args.file.fd c.args.file.of_chip c.args.cmd c.args.out.now) c.args.out.now c.command_inside-answer.new.out c.actor.invariant
+    (is_free core c.leave.new.pass.view
+    (left_place c.args.file.place c.command_inside-answer.new.pass c.leave.new.pass c.leave.ensures ∙ (ap (λ (l : List ℕ). without c.args.file.place l) c.command_inside-answer.ensures.inside ∙ (c.enter.ensures.back (search rules) ∙ c.actor.invariant.free.inside)))
+    (owes_moved core c.command_inside-answer.new.pass.view c.leave.new.pass.view out.0 0 c.command_inside-answer.ensures.owes))
+    (if_ok c.command_inside-answer.result _ _ (λ r did. called_command g.D.Port.Port.told g.D.Port.Port.faults g.D.Driver.OwnEntries g.D.Driver.ENTRIES g.D.Driver.is_planned c.args.op.now (record { pass = c.actor.inside.pass; port = c.actor.inside.port }) (record { pass = c.leave.new.pass; port = c.command_inside-answer.new.port })
+    c.enter.new.pass.view c.command_inside-answer.new.pass.view (command_in c.args.file.place c.args.file.fd c.args.file.of_chip c.args.cmd c.args.out.now) r c.args.out.now c.command_inside-answer.new.out c.requires.asked entered c.enter.ensures.knows
+    (λ k. true≢false (sym c.if-not-enter.false ∙ c.enter.ensures.known k)) did out.0 out.1 out.2) c.command_inside-answer.ensures.called)
+    (if_err c.command_inside-answer.result _ _ (λ e full. (no_room_left core c.actor.inside.pass.view c.command_inside-answer.new.pass.view c.leave.new.pass.view
+    (no_room core c.actor.inside.pass.view c.enter.new.pass.view c.command_inside-answer.new.pass.view entered c.enter.ensures.knows full.3) out.0 out.1 out.2).grew) c.command_inside-answer.ensures.full)
+
+pub returns-clause-commanded : goal.returns-clause-commanded
+returns-clause-commanded g c =
+    let entered = came_in core c.args.file.place c.actor.inside.pass c.enter.new.pass (c.enter.ensures.entered (search rules)) in
+    let out = went_out core c.args.file.place c.command_inside-answer.new.pass c.leave.new.pass c.leave.ensures in
+    if_ok c.command_inside-answer.result _ _ (λ r did. subst (λ x. (bytes : List ℕ) × (c.command_inside-answer.new.out ≡ bytes ++ drop (length bytes) c.args.out.now)
+    × HasCommanded g.D.Port.Port.told g.D.Port.Port.faults g.D.Driver.OwnEntries g.D.Driver.ENTRIES g.D.Driver.is_planned c.args.op.now x (command_in c.args.file.place c.args.file.fd c.args.file.of_chip c.args.cmd c.args.out.now) r bytes (record { pass = c.leave.new.pass; port = c.command_inside-answer.new.port })) c.actor.view_is
+    (called_command g.D.Port.Port.told g.D.Port.Port.faults g.D.Driver.OwnEntries g.D.Driver.ENTRIES g.D.Driver.is_planned c.args.op.now (record { pass = c.actor.inside.pass; port = c.actor.inside.port }) (record { pass = c.leave.new.pass; port = c.command_inside-answer.new.port })
+    c.enter.new.pass.view c.command_inside-answer.new.pass.view (command_in c.args.file.place c.args.file.fd c.args.file.of_chip c.args.cmd c.args.out.now) r c.args.out.now c.command_inside-answer.new.out c.requires.asked entered c.enter.ensures.knows
+    (λ k. true≢false (sym c.if-not-enter.false ∙ c.enter.ensures.known k)) did out.0 out.1 out.2)) c.command_inside-answer.ensures.called

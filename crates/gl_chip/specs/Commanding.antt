@@ -1,0 +1,151 @@
+-- What a command on an open file did that may ask the driver: its entries, and what went through the actor's port.
+use Rattle.std.specs.Prelude.{◌≡◌, ◌≢◌, ◌⊎◌, ◌≤◌, ℕ, Bool, true, false, List, [], ◌∷◌, ◌++◌, length, take, drop, Option, Some, None, IfSome, Result, Err}
+use Rattle.gl_attrs.specs.ConfigFault.{config_fault}
+use Rattle.gl_attrs.specs.Setting.{resolved_for}
+use Rattle.gl_base.specs.Count.{Rises, counted_up}
+use Rattle.gl_base.specs.Planned.{planned_answer}
+use Rattle.gl_base.specs.Positions.{table_from}
+use Rattle.gl_base.specs.Settings.{no_settings}
+use Rattle.gl_base.specs.declared.errno.Errno.{Errno}
+use Rattle.gl_base.specs.declared.errno.Errno.TheVariants.{Full, Io, NoMemory}
+use Rattle.gl_base.specs.declared.limits.TheConstants.{LINES_PER_REQUEST}
+use Rattle.gl_base.specs.declared.lines.Lines.{Lines}
+use Rattle.gl_base.specs.declared.settings.Resolved.{Resolved}
+use Rattle.gl_driver.specs.Calls.{FitsOp}
+use Rattle.gl_driver.specs.Told.{Told, with_call}
+use Rattle.gl_driver.specs.declared.op.Op.{Op}
+use Rattle.gl_driver.specs.declared.op.Op.TheVariants.{Get, Set, Apply}
+use Rattle.gl_uapi.specs.Command.{command_of, size_of}
+use Rattle.gl_uapi.specs.declared.commands.Command.{Command}
+use Rattle.gl_uapi.specs.declared.commands.Command.TheVariants.{GetLine, SetConfig, GetValues, SetValues}
+use Rattle.gl_world.specs.Deeds.{entries_in}
+use Rattle.gl_world.specs.History.{Legal, fold}
+use Rattle.gl_gate.specs.Calls.{KnowsAsMuch}
+use Rattle.gl_gate.specs.Grown.{Grew}
+use Rattle.gl_model.specs.declared.call.Call.{Call}
+use Rattle.gl_model.specs.declared.reply.Reply.{Reply}
+use Rattle.gl_model.specs.declared.reply.Reply.TheVariants.{Go, Refused}
+use Rattle.gl_model.specs.Asked.{asked_in, lines_asked, request_fault}
+use Rattle.gl_model.specs.Entries.{begins}
+use Rattle.gl_model.specs.Machine.{reply_of}
+use Rattle.gl_model.specs.Parts.{CommandIn, Commanding, MakesTwo, in_ask, in_tell, last_reply}
+use Rattle.gl_model.specs.Places.{place_at}
+use Rattle.gl_model.specs.Replies.{AsksLockedOutput, SetsLockedOutput}
+use Rattle.gl_model.specs.Step.{guard_reply}
+use Rattle.gl_model.specs.Values.{bits_in, mask_in}
+use Rattle.gl_model.specs.World.{World}
+use Rattle.gl_chip.specs.Called.{EndsWithLast, HadRoom, HasCalled, last_bytes}
+use Rattle.gl_chip.specs.Steps.{FoundNoRoom}
+use Rattle.gl_chip.specs.Values.{ActorValue, MayOwn, OneDeed, OneEntry, OneView, core}
+
+-- the settings of so many lines by a configuration with this fault: none, where it has one
+abbrev pub settings_unless : Option Errno → List ℕ → ℕ → Resolved
+settings_unless None config count = resolved_for config count
+settings_unless (Some errno) config count = record { count = count; lines = table_from (λ _. no_settings) 0 LINES_PER_REQUEST }
+
+-- The settings that a configuration gives each of so many lines. One that has a fault for so many lines gives none: it goes to the
+-- driver only for a file of another device, since the machine looks at its own request's lines. This is this project's choice.
+abbrev pub settings_given : List ℕ → ℕ → Resolved
+settings_given config count = settings_unless (config_fault config count) config count
+
+-- what the driver is asked for a request with these bytes, by what is wrong with the bytes alone: nothing where something is
+abbrev pub op_requested : Option Errno → List ℕ → Option Op
+op_requested None bytes = Some (Apply (lines_asked bytes) (asked_in bytes).settings)
+op_requested (Some errno) bytes = None
+
+-- What the driver is asked for a command with this structure, on a request with these lines: SET_CONFIG applies the settings that
+-- the structure gives to each of them, GET_VALUES gets them, SET_VALUES sets those of the mask to the bits. GET_LINE applies, to the lines
+-- that its structure names, the settings that it gives to each. For no other command it is asked.
+abbrev pub op_of : Lines → Option Command → List ℕ → Option Op
+op_of lines None bytes = None
+op_of lines (Some GetLine) bytes = op_requested (request_fault (take (size_of GetLine) bytes)) (take (size_of GetLine) bytes)
+op_of lines (Some SetConfig) bytes = Some (Apply lines (settings_given (take (size_of SetConfig) bytes) lines.count))
+op_of lines (Some GetValues) bytes = Some (Get lines)
+op_of lines (Some SetValues) bytes = Some (Set lines (mask_in (take (size_of SetValues) bytes)) (bits_in (take (size_of SetValues) bytes)))
+op_of lines (Some command) bytes = None
+
+-- what the driver is asked for a command on a file of these lines, where it is asked
+abbrev pub op_for : Lines → CommandIn → Option Op
+op_for lines c = op_of lines (command_of c.cmd) c.bytes
+
+-- there is an operation, on 1 to 64 lines
+abbrev pub IsOp : Option Op → Type 0
+IsOp None = ⊥
+IsOp (Some op) = FitsOp op
+
+-- the first of these entries owes a second one: it was answered Go
+abbrev pub is_asked : List OneEntry → Bool
+is_asked [] = false
+is_asked (e ∷ es) = begins e.call e.reply
+
+-- Where EIO of a command comes from: from a driver that failed, which the port has counted then; and of GET_LINE and SET_CONFIG also
+-- from a line that is to be an output and is locked as an enabled interrupt.
+abbrev pub IoComesOf : Type 0 → World → ℕ → ℕ → Option Command → List ℕ → Type 0
+IoComesOf Counted w place fd (Some GetLine) bytes = Counted ⊎ AsksLockedOutput (place_at w place) (take (size_of GetLine) bytes)
+IoComesOf Counted w place fd (Some SetConfig) bytes = Counted ⊎ SetsLockedOutput w place fd (take (size_of SetConfig) bytes)
+IoComesOf Counted w place fd (Some GetValues) bytes = Counted
+IoComesOf Counted w place fd (Some SetValues) bytes = Counted
+IoComesOf Counted w place fd _ bytes = ⊥
+
+-- there is an operation, wherever the machine answers this call Go
+abbrev pub IsOpAfterGo : Call → Option Op → Type 0
+IsOpAfterGo call op = (w : World) (actor n : ℕ) → reply_of w actor call ≡ Go n → IsOp op
+
+-- A driver and its ports: what a port tells, how many failures it has counted, which entries of its own the driver may make for a
+-- call, how many at most, and whether its answers are planned.
+module _ {P : Type 0} (told : P → Option Told) (faults : P → ℕ) (Own : P → ℕ → Op → List OneEntry → Type 0) (limit : ℕ) (planned : Bool) where
+  -- The driver was asked once, through this port: for just that operation, and it answered so. It made these entries of its own.
+  -- Where it failed, the port has counted that. A planned driver fails just where the port's plan says.
+  pub record WasAsked (op : Option Op) (place : ℕ) (answer : Option ℕ) (own : List OneEntry) (p q : P) : Type 0 where
+    pub asked_for : Op
+    pub is_this : op ≡ Some asked_for
+    pub told_then : told q ≡ with_call asked_for answer (told p)
+    pub own_entries : Own p place asked_for own
+    pub counted : answer ≡ None → Rises (faults p) (faults q)
+    pub as_planned : planned ≡ true → IfSome (told p) (λ t. answer ≡ planned_answer t.plan (counted_up t.calls))
+
+  -- the port after a command that asked the driver, or didn't
+  abbrev pub PortAfter : Bool → Option Op → ℕ → Option ℕ → List OneEntry → P → P → Type 0
+  PortAfter true op place answer own p q = WasAsked op place answer own p q
+  PortAfter false op place answer own p q = q ≡ p
+
+  -- One command, by an actor who was a and is b then, for which the driver is asked this if it is asked. It is a call of the device
+  -- (`HasCalled`). After Go, and only then, the driver was asked once, and the tell holds what it answered. EIO comes only from the
+  -- driver, whose port has counted that, or from a line that is locked.
+  pub record HasCommanded (op : Option Op) (a : ActorValue P) (c : CommandIn) (reply : Reply) (bytes : List ℕ) (b : ActorValue P) : Type 0 where
+    pub called : HasCalled limit a.pass.view (Commanding c) reply bytes b.pass.view
+    pub port : PortAfter (is_asked (entries_in called.did)) op c.place called.answer called.own a.port b.port
+    pub never_falls : faults a.port ≤ faults b.port
+    pub io : reply ≡ Refused Io → IoComesOf (Rises (faults a.port) (faults b.port)) (fold core called.last.at.0) c.place c.fd (command_of c.cmd) c.bytes
+
+  -- a command that asks the driver, inside its place: what became of the pass and of the port
+  pub record CommandedInside (op : Option Op) (v : OneView) (p : P) (c : CommandIn) (reply : Reply) (old new : List ℕ) (w : OneView) (q : P) : Type 0 where
+    pub answer : Option ℕ
+    pub own : List OneEntry
+    pub did : List OneDeed
+    pub makes : MakesTwo v.number (in_ask c) (in_tell answer c) own (entries_in did)
+    pub few_own : length own ≤ limit
+    pub may_own : MayOwn own
+    pub grew : Grew core v did w
+    pub last : EndsWithLast w.seen (entries_in did)
+    pub had_room : HadRoom v.room w.seen (entries_in did)
+    pub legal : Legal core w.seen
+    pub reply_is : last_reply (entries_in did) ≡ Some reply
+    pub bytes : new ≡ last_bytes did ++ drop (length (last_bytes did)) old
+    pub port : PortAfter (is_asked (entries_in did)) op c.place answer own p q
+    pub never_falls : faults p ≤ faults q
+    pub io : reply ≡ Refused Io → IoComesOf (Rises (faults p) (faults q)) (fold core last.at.0) c.place c.fd (command_of c.cmd) c.bytes
+    pub let_in : reply ≢ guard_reply false
+    pub knows_as_much : KnowsAsMuch v w
+
+  -- the command was made, and the result is what its reply comes to
+  pub record IsCommanded {X : Type 0} (answer : Reply → Result X Errno) (result : Result X Errno) (op : Option Op) (a : ActorValue P) (c : CommandIn) (bytes : List ℕ) (b : ActorValue P) : Type 0 where
+    pub reply : Reply
+    pub result_is : result ≡ answer reply
+    pub not_full : result ≢ Err Full
+    pub not_memory : result ≢ Err NoMemory
+    pub commanded : HasCommanded op a c reply bytes b
+
+  -- How a command comes out: it was made, or the history was full, and then, and only then, the result says so; nothing was asked.
+  abbrev pub CommandsOut : {X : Type 0} → (Reply → Result X Errno) → Result X Errno → Option Op → ActorValue P → CommandIn → List ℕ → ActorValue P → Type 0
+  CommandsOut answer result op a c bytes b = IsCommanded answer result op a c bytes b ⊎ ((result ≡ Err Full) × FoundNoRoom core a.pass.view b.pass.view × (b.port ≡ a.port))

@@ -1,0 +1,110 @@
+//! What the driver is asked for a command.
+
+ghost use Rattle.std.specs.Prelude.{◌≡◌, ◌≤◌, true, false, take, Some, None, IfSome, IfNone};
+ghost use Rattle.gl_attrs.specs.ConfigFault.{config_fault};
+ghost use Rattle.gl_base.specs.Lines.{IsLineCount};
+ghost use Rattle.gl_base.specs.Positions.{table_from};
+ghost use Rattle.gl_base.specs.Settings.{no_settings};
+ghost use Rattle.gl_base.specs.declared.limits.TheConstants.{LINES_PER_REQUEST};
+ghost use Rattle.gl_driver.specs.Calls.{FitsOp};
+ghost use Rattle.gl_uapi.specs.Command.{command_of, size_of};
+ghost use Rattle.gl_uapi.specs.declared.layout.TheConstants.{LINE_CONFIG_SIZE};
+ghost use Rattle.gl_model.specs.Parts.{is_driver_asked};
+ghost use Rattle.gl_chip.specs.Commanding.{op_of, settings_given};
+
+use gl_attrs::resolve;
+use gl_base::{LINES_PER_REQUEST, Lines, Resolved, Settings};
+use gl_driver::Op;
+use gl_uapi::layout::LINE_REQUEST_SIZE;
+use gl_uapi::{Command, ConfigRef, ValuesRef};
+
+/// No settings for so many lines.
+#[tactic(auto, unfolding(gl_base::specs::Positions::table_from))]
+fn no_settings(count: u32) -> Resolved
+    ensures { result ≡ record { count = count; lines = table_from (λ _. no_settings) 0 LINES_PER_REQUEST } }
+{
+    let none = Settings {
+        flags: 0,
+        value: false,
+        debounce_us: 0,
+    };
+    Resolved {
+        count,
+        lines: [none; LINES_PER_REQUEST as usize],
+    }
+}
+
+/// The settings that a configuration gives each of so many lines, and none where it has a fault for so many.
+fn settings_given(bytes: &[u8; LINE_REQUEST_SIZE], count: u32) -> Resolved
+    requires { IsLineCount count }
+    ensures settings { result ≡ settings_given (take LINE_CONFIG_SIZE bytes.now) count }
+    ensures count { result.count ≡ count }
+{
+    match resolve(ConfigRef::of(bytes).unwrap(), count) {
+        Ok(settings) => settings,
+        Err(_) => no_settings(count),
+    }
+}
+
+/// Sets those of the lines that the mask names.
+fn op_of_values(lines: &Lines, bytes: &[u8; LINE_REQUEST_SIZE]) -> Op
+    requires { IsLineCount lines.now.count }
+    ensures op { op_of lines.now (Some Command.SetValues) bytes.now ≡ Some result }
+    ensures fits { FitsOp result }
+{
+    let values = ValuesRef::of(bytes).unwrap();
+    Op::Set {
+        lines: *lines,
+        mask: values.mask(),
+        bits: values.bits(),
+    }
+}
+
+/// What the driver is asked for a command on a request with these lines, where it is asked.
+fn op_on_lines(
+    lines: &Lines,
+    command: Command,
+    len: u32,
+    bytes: &[u8; LINE_REQUEST_SIZE],
+) -> Option<Op>
+    requires { IsLineCount lines.now.count }
+    ensures op { IfSome result (λ op. (is_driver_asked false len (Some command) ≡ true)
+        × (op_of lines.now (Some command) bytes.now ≡ Some op) × FitsOp op) }
+    ensures none { IfNone result (is_driver_asked false len (Some command) ≡ false) }
+{
+    if len < command.size() {
+        return None;
+    }
+    match command {
+        Command::SetConfig => Some(Op::Apply {
+            lines: *lines,
+            settings: settings_given(bytes, lines.count),
+        }),
+        Command::GetValues => Some(Op::Get { lines: *lines }),
+        Command::SetValues => Some(op_of_values(lines, bytes)),
+        Command::ChipInfo
+        | Command::LineInfo
+        | Command::Watch
+        | Command::Unwatch
+        | Command::GetLine => None,
+    }
+}
+
+/// What the driver is asked for the command of a number on a request with these lines, with a buffer of so many bytes, where it
+/// is asked.
+pub(crate) fn line_op(
+    lines: &Lines,
+    cmd: u32,
+    len: u32,
+    bytes: &[u8; LINE_REQUEST_SIZE],
+) -> Option<Op>
+    requires { IsLineCount lines.now.count }
+    ensures op { IfSome result (λ op. (is_driver_asked false len (command_of cmd) ≡ true)
+        × (op_of lines.now (command_of cmd) bytes.now ≡ Some op) × FitsOp op) }
+    ensures none { IfNone result (is_driver_asked false len (command_of cmd) ≡ false) }
+{
+    match Command::of(cmd) {
+        None => None,
+        Some(command) => op_on_lines(lines, command, len, bytes),
+    }
+}

@@ -1,0 +1,63 @@
+//! Commands on open files, by their numbers.
+
+ghost use Rattle.std.specs.Prelude.{◌≡◌, ◌<◌, ◌^◌, ◌++◌, ℕ, List, false, length, drop};
+ghost use Rattle.gl_chip.specs.Commanding.{CommandsOut, op_for};
+ghost use Rattle.gl_chip.specs.Handed.{command_in};
+ghost use Rattle.gl_chip.specs.Results.{done_of};
+ghost use Rattle.gl_chip.specs.Values.{IsActorOf};
+
+use crate::actor::Actor;
+use crate::asking::line_op;
+use crate::commands::OpenFile;
+use crate::files::LineFd;
+use crate::gpio::Gpio;
+use crate::handed::handed_in;
+use crate::inner::nothing;
+use crate::results;
+use gl_base::Errno;
+use gl_core::Core;
+use gl_driver::Driver;
+use std::sync::Wait;
+
+impl<D: Driver<Core>> Gpio<D> {
+    /// A command on an open request, by its number in `linux/gpio.h`, with its structure in the buffer.
+    ///
+    /// SET_CONFIG, GET_VALUES and SET_VALUES ask the driver, once, where the machine lets them; GET_VALUES writes its structure.
+    ///
+    /// `NoDev` where the removal of the chip had closed the place; `BadF` where no open file has this number at this place;
+    /// `Inval` where the command is of no request, or a chip file has the number; `Fault` where the buffer is shorter than the
+    /// command's structure; then the command's own refusals; `Io` where the driver failed, which its port has counted, and of
+    /// SET_CONFIG also where a line is to be an output and is locked as an enabled interrupt; `Full` where the history is full.
+    pub fn line_ioctl<R: Wait>(
+        &self,
+        rt: &R,
+        actor: &mut Actor<D>,
+        fd: &LineFd,
+        cmd: u32,
+        buf: &mut [u8],
+    ) -> Result<(), Errno>
+        requires actor { IsActorOf self.now actor.old }
+        requires length { length buf.old < 2 ^ 32 }
+        ensures actor { IsActorOf self.now actor.new }
+        ensures called { let c = command_in fd.now.place fd.now.fd false cmd buf.old in
+            (bytes : List ℕ) × (buf.new ≡ bytes ++ drop (length bytes) buf.old)
+            × CommandsOut D.Port.told D.Port.faults D.OwnEntries D.ENTRIES D.is_planned
+            done_of result (op_for fd.now.lines c) actor.old c bytes actor.new }
+    {
+        let file = OpenFile {
+            place: fd.place,
+            fd: fd.fd,
+            of_chip: false,
+        };
+        match line_op(&fd.lines, cmd, buf.len() as u32, &handed_in(buf)) {
+            None => self.done_by_command(rt, actor, file, cmd, buf),
+            Some(op) => {
+                let mut gift = nothing();
+                match self.driven_command(rt, actor, file, cmd, &Some(op), &mut gift, buf) {
+                    Ok(reply) => results::done(reply),
+                    Err(errno) => Err(errno),
+                }
+            }
+        }
+    }
+}
