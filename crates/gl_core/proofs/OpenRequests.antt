@@ -1,55 +1,73 @@
 -- Open requests: the request of a number is the world's, and its lines are lines of its place.
 use Rattle.std.proofs.Common.{◌≡◌, ℕ, zero, suc, ◌<◌, ◌≤◌, Bool, true, false, List, [], ◌∷◌, length, take, Option, Some, None, refl, sym, ap, ◌∙◌, subst, eq-eqb, arith}
-use Rattle.std.specs.Prelude.{◌&&◌, ◌||◌, not, nat_eq, nat_lt, slice_index, slice_index_or}
+use Rattle.std.specs.Prelude.{◌&&◌, ◌||◌, not, is_some, IfSome, if◌then◌else◌, nat_eq, slice_index, slice_index_or}
 use Rattle.std.specs.List.{list_any}
 use Rattle.std.specs.Option.{option_map}
 use Rattle.std.proofs.lemmas.Bool.{true≢false}
 use Rattle.gl_base.proofs.FirstRows.{Each-find}
 use Rattle.gl_base.specs.declared.lines.Lines.{Lines}
 use Rattle.gl_base.specs.declared.settings.Resolved.{Resolved}
-use Rattle.gl_request.specs.Request.{claim_of, request_at as row_at}
+use Rattle.gl_request.specs.Request.{StandsAt, claim_of, is_open_at, request_at as row_at}
 use Rattle.gl_request.specs.declared.row.Claim.{Claim}
+use Rattle.gl_request.specs.declared.row.RequestAt.{RequestAt}
 use Rattle.gl_request.specs.declared.row.RequestRow.{RequestRow}
 use Rattle.gl_model.specs.Holders.{HasItsLines, has_line}
 use Rattle.gl_base.specs.Refusals.{first_of, when}
-use Rattle.gl_base.specs.declared.errno.Errno.TheVariants.{BadF, Fault, Inval}
-use Rattle.gl_uapi.specs.Command.{size_of}
-use Rattle.gl_uapi.specs.declared.commands.Command.{Command}
-use Rattle.gl_model.specs.declared.call.Part.{Part}
-use Rattle.gl_model.specs.OpenFiles.{command_refusal, has_part, is_chip_file, is_for_chips, kind_refusal, request_file_refusal, is_hold, is_place, is_request_file, on_request, request_place}
+use Rattle.gl_base.specs.declared.errno.Errno.{Errno}
+use Rattle.gl_base.specs.declared.errno.Errno.TheVariants.{BadF, Inval}
+use Rattle.gl_model.specs.OpenFiles.{is_chip_file, is_hold, is_place, is_request_file, on_request, request_file_refusal, request_place}
 use Rattle.gl_model.specs.Outcome.{Outcome}
 use Rattle.gl_model.specs.Places.{no_place, place_at}
 use Rattle.gl_model.specs.World.{Request, World, has_number, request_at}
 use Rattle.gl_model.specs.declared.place.Place.{Place}
-use Rattle.gl_model.proofs.Phases.{both, nothing_first, nothing_when, same_number}
+use Rattle.gl_model.proofs.Phases.{both, same_number}
 use Rattle.gl_core.specs.Kept.{Kept, StandsFor, kept_request}
+use Rattle.gl_core.specs.OpenRequests.{IsFound}
 use Rattle.gl_core.specs.Reached.{IsReached}
 use Rattle.gl_core.specs.Shape.{HasEachLine, IsShaped}
 use Rattle.gl_core.specs.Steps.{Tells}
 use Rattle.gl_core.proofs.KeptRequests.{kept_at}
 use Rattle.gl_core.proofs.RequestLines.{line_there}
 
--- what a command does on a request that the table has
+-- the table tells which requests are open
 
-with_lines : (P : Outcome → Type 0) (act : Lines → Resolved → World → Outcome) (w : World) (lines : Lines) (o : Option Request) → Some lines ≡ option_map (λ (row : RequestRow). row.lines) (option_map kept_request o)
-    → ((settings : Resolved) → P (act lines settings w)) → P (on_request act o w)
-with_lines P act w lines None is does = cc
-with_lines P act w lines (Some request) is does =
-    let same : lines ≡ request.lines = cc in subst (λ (lines : Lines). P (act lines request.settings w)) same (does request.settings)
+open_in : (place : ℕ) (o : Option Request) → is_open_at place (option_map kept_request o) ≡ (is_hold o && is_place place (request_place o))
+open_in place None = refl
+open_in place (Some request) = refl
 
-pub on_lines : (P : Outcome → Type 0) (act : Lines → Resolved → World → Outcome) (k : Kept) (w : World) (fd : ℕ) (lines : Lines) → StandsFor k w → Some lines ≡ option_map (λ (row : RequestRow). row.lines) (row_at k.requests fd)
-    → ((settings : Resolved) → P (act lines settings w)) → P (on_request act (request_at w.requests fd) w)
-on_lines P act k w fd lines s is = with_lines P act w lines (request_at w.requests fd) (is ∙ ap (option_map (λ (row : RequestRow). row.lines)) (kept_at k w fd s))
+pub open_told : (k : Kept) (w : World) (place fd : ℕ) → StandsFor k w → is_open_at place (row_at k.requests fd) ≡ is_request_file place fd w
+open_told k w place fd s = ap (is_open_at place) (kept_at k w fd s) ∙ open_in place (request_at w.requests fd)
 
-without_request : (P : Outcome → Type 0) (act : Lines → Resolved → World → Outcome) (w : World) (o : Option Request) → None ≡ option_map (λ (row : RequestRow). row.lines) (option_map kept_request o)
-    → P (on_request act None w) → P (on_request act o w)
-without_request P act w None is does = does
-without_request P act w (Some request) is does = cc
+pub request_told : (k : Kept) (place fd : ℕ) (b : Bool) → b ≡ is_open_at place (row_at k.requests fd) → Tells (is_request_file place fd) k b
+request_told k place fd b is w s = is ∙ open_told k w place fd s
 
--- and where it has none
-pub on_none : (P : Outcome → Type 0) (act : Lines → Resolved → World → Outcome) (k : Kept) (w : World) (fd : ℕ) → StandsFor k w → None ≡ option_map (λ (row : RequestRow). row.lines) (row_at k.requests fd)
-    → P (on_request act None w) → P (on_request act (request_at w.requests fd) w)
-on_none P act k w fd s is = without_request P act w (request_at w.requests fd) (is ∙ ap (option_map (λ (row : RequestRow). row.lines)) (kept_at k w fd s))
+refused_as : (chip request : Bool) → false ≡ request → Some (if chip then Inval else BadF) ≡ first_of (when (not (chip || request)) BadF ∷ when (not request) Inval ∷ [])
+refused_as true true isnt = absurd (true≢false (sym isnt))
+refused_as false true isnt = absurd (true≢false (sym isnt))
+refused_as true false isnt = refl
+refused_as false false isnt = refl
+
+pub request_refused : (k : Kept) (place fd : ℕ) (errno : Errno) → false ≡ is_open_at place (row_at k.requests fd) → Tells (λ w. if is_chip_file place fd w then Inval else BadF) k errno → Tells (request_file_refusal place fd) k (Some errno)
+request_refused k place fd errno none told w s =
+    ap Some (told w s) ∙ refused_as (is_chip_file place fd w) (is_request_file place fd w) (none ∙ open_told k w place fd s)
+
+passed_as : (chip request : Bool) → true ≡ request → None ≡ first_of (when (not (chip || request)) BadF ∷ when (not request) Inval ∷ [])
+passed_as chip false is = absurd (true≢false is)
+passed_as true true is = refl
+passed_as false true is = refl
+
+pub request_passed : (k : Kept) (place fd : ℕ) → true ≡ is_open_at place (row_at k.requests fd) → Tells (request_file_refusal place fd) k None
+request_passed k place fd there w s = passed_as (is_chip_file place fd w) (is_request_file place fd w) (there ∙ open_told k w place fd s)
+
+-- what a look-up answered
+
+none_there : (o : Option RequestRow) → false ≡ is_some o → o ≡ None
+none_there None is = refl
+none_there (Some row) is = absurd (true≢false (sym is))
+
+pub is_found : (fd : ℕ) (rows : List RequestRow) (o : Option RequestAt) → is_some o ≡ is_some (row_at rows fd) → IfSome o (λ found. found.fd ≡ fd) → IfSome o (λ found. StandsAt found rows) → IsFound fd rows o
+is_found fd rows None there number stands = none_there (row_at rows fd) there
+is_found fd rows (Some found) there number stands = (number, stands)
 
 -- the lines of an open request are lines of its place
 
@@ -77,7 +95,7 @@ world_line w request place lines i has at same size few lt =
     let one : has_line offset request ≡ true = ap (λ (ls : Lines). list_any (nat_eq offset) (take ls.count ls.offsets)) (sym same) ∙ among lines.offsets lines.count i lt (omega arith) in
     subst (λ p. offset < length (place_at w p).descs) at (has offset one).0
 
-pub each_line : (k : Kept) (place fd : ℕ) (lines : Lines) → IsShaped k.chips k.origins k.places → IsReached k → Tells (is_request_file place fd) k true
+each_line : (k : Kept) (place fd : ℕ) (lines : Lines) → IsShaped k.chips k.origins k.places → IsReached k → Tells (is_request_file place fd) k true
     → Some lines ≡ option_map (λ (row : RequestRow). row.lines) (row_at k.requests fd) → length lines.offsets ≡ 64 → lines.count ≤ 64 → HasEachLine k.places place lines
 each_line k place fd lines shape reached file is size few i lt =
     let w : World = reached.world in
@@ -95,42 +113,17 @@ with_claim P act w claim None is does = cc
 with_claim P act w claim (Some request) is does =
     let same : claim ≡ claim_of (kept_request request) = cc in subst (λ (claim : Claim). P (act claim.lines claim.settings w)) same does
 
-pub on_claim : (P : Outcome → Type 0) (act : Lines → Resolved → World → Outcome) (k : Kept) (w : World) (fd : ℕ) (claim : Claim) → StandsFor k w → Some claim ≡ option_map claim_of (row_at k.requests fd)
+on_claim : (P : Outcome → Type 0) (act : Lines → Resolved → World → Outcome) (k : Kept) (w : World) (fd : ℕ) (claim : Claim) → StandsFor k w → Some claim ≡ option_map claim_of (row_at k.requests fd)
     → P (act claim.lines claim.settings w) → P (on_request act (request_at w.requests fd) w)
 on_claim P act k w fd claim s is = with_claim P act w claim (request_at w.requests fd) (is ∙ ap (option_map claim_of) (kept_at k w fd s))
 
-without_claim : (P : Outcome → Type 0) (act : Lines → Resolved → World → Outcome) (w : World) (o : Option Request) → None ≡ option_map claim_of (option_map kept_request o)
-    → P (on_request act None w) → P (on_request act o w)
-without_claim P act w None is does = does
-without_claim P act w (Some request) is does = cc
+-- the same by its row
 
-pub on_no_claim : (P : Outcome → Type 0) (act : Lines → Resolved → World → Outcome) (k : Kept) (w : World) (fd : ℕ) → StandsFor k w → None ≡ option_map claim_of (row_at k.requests fd)
-    → P (on_request act None w) → P (on_request act (request_at w.requests fd) w)
-on_no_claim P act k w fd s is = without_claim P act w (request_at w.requests fd) (is ∙ ap (option_map claim_of) (kept_at k w fd s))
+pub on_row : (P : Outcome → Type 0) (act : Lines → Resolved → World → Outcome) (k : Kept) (w : World) (fd : ℕ) (row : RequestRow) → StandsFor k w → row_at k.requests fd ≡ Some row
+    → P (act row.lines row.settings w) → P (on_request act (request_at w.requests fd) w)
+on_row P act k w fd row s found = on_claim P act k w fd (claim_of row) s (sym (ap (option_map claim_of) found))
 
-lines_of_claim : (claim : Claim) (o : Option RequestRow) → Some claim ≡ option_map claim_of o → Some claim.lines ≡ option_map (λ (row : RequestRow). row.lines) o
-lines_of_claim claim None is = cc
-lines_of_claim claim (Some row) is = let same : claim ≡ claim_of row = cc in ap (λ (claim : Claim). Some claim.lines) same
-
-pub each_claimed_line : (k : Kept) (place fd : ℕ) (claim : Claim) → IsShaped k.chips k.origins k.places → IsReached k → Tells (is_request_file place fd) k true
-    → Some claim ≡ option_map claim_of (row_at k.requests fd) → length claim.lines.offsets ≡ 64 → claim.lines.count ≤ 64 → HasEachLine k.places place claim.lines
-each_claimed_line k place fd claim shape reached file is = each_line k place fd claim.lines shape reached file (lines_of_claim claim (row_at k.requests fd) is)
-
--- the number of a command on requests that isn't refused is that of an open request
-
-not_false : (b : Bool) → not b ≡ false → b ≡ true
-not_false true is = refl
-not_false false is = absurd (true≢false is)
-
-file_is_request : (place fd len : ℕ) (command : Command) (part : Part) (w : World) → is_for_chips command ≡ false → None ≡ command_refusal place fd len command part w → true ≡ is_request_file place fd w
-file_is_request place fd len command part w for_requests none =
-    let others = first_of (when (nat_lt len (size_of command)) Fault ∷ when (not (has_part command part)) Inval ∷ []) in
-    let kind : request_file_refusal place fd w ≡ None = ap (λ b. kind_refusal place fd b w) (sym for_requests) ∙ (nothing_first (kind_refusal place fd (is_for_chips command) w) others (sym none)).0 in
-    let bad = when (not (is_chip_file place fd w || is_request_file place fd w)) BadF in
-    let chip = when (not (is_request_file place fd w)) Inval in
-    let one = (nothing_first bad (first_of (chip ∷ [])) kind).1 in
-    let two = (nothing_first chip None one).0 in
-    sym (not_false (is_request_file place fd w) (nothing_when (not (is_request_file place fd w)) Inval two))
-
-pub open_request : (k : Kept) (place fd len : ℕ) (command : Command) (part : Part) → is_for_chips command ≡ false → Tells (command_refusal place fd len command part) k None → Tells (is_request_file place fd) k true
-open_request k place fd len command part for_requests none w s = file_is_request place fd len command part w for_requests (none w s)
+pub each_row_line : (k : Kept) (place fd : ℕ) (row : RequestRow) → IsShaped k.chips k.origins k.places → IsReached k → Tells (is_request_file place fd) k true
+    → row_at k.requests fd ≡ Some row → length row.lines.offsets ≡ 64 → row.lines.count ≤ 64 → HasEachLine k.places place row.lines
+each_row_line k place fd row shape reached file found =
+    each_line k place fd row.lines shape reached file (sym (ap (option_map (λ (row : RequestRow). row.lines)) found))

@@ -5,6 +5,7 @@ pub mod Kept
 pub mod KeptEdges
 pub mod LineByLine
 pub mod Steps
+pub mod OpenRequests
 pub mod Reached
 pub mod Shape
 pub mod View

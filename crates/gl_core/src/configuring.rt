@@ -1,16 +1,21 @@
 //! How the lines of a request are configured, and SET_CONFIG.
 
-ghost use Rattle.std.specs.Prelude.{◌≡◌, ◌<◌, slice_index, slice_index_or, take, true};
+ghost use Rattle.std.specs.Prelude.{◌≡◌, ◌<◌, IfErr, IfOk, None, Some, slice_index, slice_index_or, take};
+ghost use Rattle.gl_attrs.specs.Setting.{resolved_for};
 ghost use Rattle.gl_bank.specs.Level.{levels_at};
 ghost use Rattle.gl_base.specs.Lines.{IsLineCount, offsets_of};
 ghost use Rattle.gl_base.specs.Positions.{first_fault};
 ghost use Rattle.gl_base.specs.declared.limits.TheConstants.{LINES_PER_REQUEST};
 ghost use Rattle.gl_uapi.specs.declared.layout.TheConstants.{LINE_CONFIG_SIZE};
-ghost use Rattle.gl_model.specs.Configuring.{configure, configure_each, directed_fault, interrupt_fault, is_directed, needs_interrupt, reconfigure, reconfigure_from, set_config, settings_after, with_period};
-ghost use Rattle.gl_model.specs.OpenFiles.{is_request_file, on_request};
+ghost use Rattle.gl_model.specs.Configuring.{config_refusal, configure, configure_each, directed_fault, interrupt_fault, is_directed, needs_interrupt, reconfigure, reconfigure_from, set_config, settings_after, with_period};
+ghost use Rattle.gl_model.specs.OpenFiles.{in_parts, on_request};
+ghost use Rattle.gl_model.specs.Outcome.{done};
 ghost use Rattle.gl_model.specs.Places.{no_place, place_at};
 ghost use Rattle.gl_model.specs.World.{request_at};
+ghost use Rattle.gl_request.specs.Request.{StandsAt, request_at as row_at};
+ghost use Rattle.gl_request.specs.declared.row.RequestRow.{RequestRow};
 ghost use Rattle.gl_core.specs.LineByLine.{configure_at, line_after, reconfigure_at, with_settings_of};
+ghost use Rattle.gl_core.specs.OpenRequests.{IsOpenAt};
 ghost use Rattle.gl_core.specs.Reached.{IsReached};
 ghost use Rattle.gl_core.specs.Shape.{HasEachLine, HasLine, KeepsLines};
 ghost use Rattle.gl_core.specs.Steps.{Follows, Steps, Tells};
@@ -21,7 +26,7 @@ use gl_bank::Levels;
 use gl_base::{Errno, LINES_PER_REQUEST, Lines, Resolved, Settings, flag, has_bit};
 use gl_irq::Irq;
 use gl_model::{Part, Reply};
-use gl_request::Claim;
+use gl_request::RequestAt;
 use gl_uapi::ConfigRef;
 use gl_uapi::layout::{CHANGED_CONFIG, LINE_CONFIG_SIZE, LINE_REQUEST_SIZE};
 
@@ -189,58 +194,70 @@ impl State {
         }
     }
 
-    /// The request of this number has these settings from now on.
-    fn keep_settings(&mut self, fd: u32, settings: &Resolved)
-        ensures follows { Follows (with_settings_of fd settings.now) self.old self.new }
+    /// The request that was found has these settings from now on.
+    fn keep_settings(&mut self, found: RequestAt, settings: &Resolved)
+        requires { StandsAt found self.old.requests }
+        ensures follows { Follows (with_settings_of found.fd settings.now) self.old self.new }
         ensures places { self.new.places ≡ self.old.places }
     {
-        self.requests.configure(fd, settings);
+        self.requests.configure_at(found, settings);
     }
 
     /// Configures the lines of a request anew. Its events and their numbers go on.
-    fn reconfigure(
-        &mut self,
-        place: u8,
-        fd: u32,
-        lines: &Lines,
-        before: &Resolved,
-        after: &Resolved,
-    )
-        requires count { IsLineCount lines.now.count }
-        requires lines { HasEachLine self.old.places place lines.now }
-        ensures { Follows (reconfigure place fd lines.now before.now after.now) self.old self.new }
+    fn reconfigure(&mut self, place: u8, found: RequestAt, after: &Resolved)
+        requires stands { StandsAt found self.old.requests }
+        requires lines { (row : RequestRow) → row_at self.old.requests found.fd ≡ Some row → HasEachLine self.old.places place row.lines }
+        ensures { (row : RequestRow) → row_at self.old.requests found.fd ≡ Some row → Follows (reconfigure place found.fd row.lines row.settings after.now) self.old self.new }
     {
-        self.keep_settings(fd, &settings_after(before, after, lines.count));
-        self.reconfigure_each(place, lines, after);
+        let row = self.requests.row(found);
+        let lines = row.lines;
+        let settings = settings_after(&row.settings, after, lines.count);
+        self.keep_settings(found, &settings);
+        self.reconfigure_each(place, &lines, after);
     }
 
-    /// SET_CONFIG on a request with these lines and these settings.
-    fn set_config_of(
+    /// The settings that a configuration asks for, or why it is refused for these lines: what is wrong with its bytes, and then
+    /// with it for one of the lines, in order.
+    fn new_settings(
+        &self,
+        place: u8,
+        lines: &Lines,
+        bytes: &[u8; LINE_REQUEST_SIZE],
+    ) -> Result<Resolved, Errno>
+        requires count { IsLineCount lines.now.count }
+        requires lines { HasEachLine self.now.places place lines.now }
+        ensures ok { IfOk result (λ settings. settings ≡ resolved_for (take LINE_CONFIG_SIZE bytes.now) lines.now.count) }
+        ensures passed { IfOk result (λ _. Tells (config_refusal place lines.now (take LINE_CONFIG_SIZE bytes.now)) self.now None) }
+        ensures refused { IfErr result (λ errno. Tells (config_refusal place lines.now (take LINE_CONFIG_SIZE bytes.now)) self.now (Some errno)) }
+    {
+        match resolve(ConfigRef::of(bytes).unwrap(), lines.count) {
+            Err(errno) => Err(errno),
+            Ok(settings) => match self.first_directed_fault(place, lines, &settings) {
+                Some(errno) => Err(errno),
+                None => Ok(settings),
+            },
+        }
+    }
+
+    /// New settings of a request, once nothing is wrong with them: they go to the driver; `Io` where the driver failed; else the
+    /// lines are configured.
+    fn take_settings(
         &mut self,
         place: u8,
-        fd: u32,
-        claim: &Claim,
-        bytes: &[u8; LINE_REQUEST_SIZE],
+        found: RequestAt,
+        settings: &Resolved,
         part: &Part,
     ) -> Reply
-        requires count { IsLineCount claim.now.lines.count }
-        requires lines { HasEachLine self.old.places place claim.now.lines }
-        ensures { Steps (set_config place fd (take LINE_CONFIG_SIZE bytes.now) part.now claim.now.lines claim.now.settings) self.old self.new result }
+        requires stands { StandsAt found self.old.requests }
+        requires lines { (row : RequestRow) → row_at self.old.requests found.fd ≡ Some row → HasEachLine self.old.places place row.lines }
+        ensures { (row : RequestRow) → row_at self.old.requests found.fd ≡ Some row → Steps (in_parts part.now (λ bits v. done (reconfigure place found.fd row.lines row.settings settings.now v))) self.old self.new result }
     {
-        let lines = &claim.lines;
-        let settings = match resolve(ConfigRef::of(bytes).unwrap(), lines.count) {
-            Ok(settings) => settings,
-            Err(errno) => return Reply::Refused(errno),
-        };
-        if let Some(errno) = self.first_directed_fault(place, lines, &settings) {
-            return Reply::Refused(errno);
-        }
         match *part {
             Part::Whole => Reply::Refused(Errno::Inval),
             Part::Ask => Reply::Go(0),
             Part::Tell(None) => Reply::Refused(Errno::Io),
             Part::Tell(Some(_)) => {
-                self.reconfigure(place, fd, lines, &claim.settings, &settings);
+                self.reconfigure(place, found, settings);
                 Reply::Done
             }
         }
@@ -252,17 +269,18 @@ impl State {
     pub(crate) fn set_config(
         &mut self,
         place: u8,
-        fd: u32,
+        found: RequestAt,
         bytes: &[u8; LINE_REQUEST_SIZE],
         part: &Part,
     ) -> Reply
         requires reached { IsReached self.old }
-        requires file { Tells (is_request_file place fd) self.old true }
-        ensures { Steps (λ w. on_request (set_config place fd (take LINE_CONFIG_SIZE bytes.now) part.now) (request_at w.requests fd) w) self.old self.new result }
+        requires opened { IsOpenAt self.old place found }
+        ensures { Steps (λ w. on_request (set_config place found.fd (take LINE_CONFIG_SIZE bytes.now) part.now) (request_at w.requests found.fd) w) self.old self.new result }
     {
-        match self.requests.claimed_as(fd) {
-            None => Reply::Refused(Errno::BadF),
-            Some(claim) => self.set_config_of(place, fd, &claim, bytes, part),
+        let row = self.requests.row(found);
+        match self.new_settings(place, &row.lines, bytes) {
+            Err(errno) => Reply::Refused(errno),
+            Ok(settings) => self.take_settings(place, found, &settings, part),
         }
     }
 }

@@ -95,9 +95,9 @@ impl State {
         requires { is_line_of offset (request_at self.old.requests fd) ≡ true }
         ensures { self.new ≡ record self.old { requests = change_first (is_number fd) (noted_at offset rising timestamp) self.old.requests } }
     {
-        let lines = self.requests.lines(fd).unwrap();
-        let position = position_in(offset, &lines);
-        self.requests.edge(fd, position, rising, timestamp);
+        let found = self.requests.find(fd).unwrap();
+        let position = position_in(offset, &self.requests.row(found).lines);
+        self.requests.edge_at(found, position, rising, timestamp);
     }
 
     /// An edge of a line to a physical level, at a moment of the monotonic clock: it comes to the request that holds the line

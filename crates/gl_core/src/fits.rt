@@ -98,7 +98,7 @@ fn bytes_from(bytes: &[u8], from: usize) -> &[u8]
 }
 
 /// The memory that a call brings: an empty queue for an open, and for an ask of GET_LINE an empty ring of the capacity that
-/// it states, where its bytes are without fault. `NoMemory` alone is refused.
+/// it states, where its bytes are without fault. `NoMemory` is its only error.
 pub fn gift_for(call: &Call, alloc: Global) -> Result<Gift, Errno>
     ensures ok { IfOk result (λ gift. FitsGift call.now gift) }
     ensures memory_alone { IsOkUnless result Errno.NoMemory }

@@ -1,19 +1,22 @@
 //! The commands on open files, by their numbers.
 
-ghost use Rattle.std.specs.Prelude.{◌≡◌, ◌≤◌, false, true, length, take};
+ghost use Rattle.std.specs.Prelude.{◌≡◌, ◌≤◌, ℕ, false, true, length, take};
 ghost use Rattle.gl_uapi.specs.Command.{size_of};
 ghost use Rattle.gl_uapi.specs.declared.commands.Command.TheVariants.{GetLine};
 ghost use Rattle.gl_model.specs.Fits.{BringsRing, Leaves};
 ghost use Rattle.gl_model.specs.Ioctl.{act_on, checked, in_part, ioctl};
-ghost use Rattle.gl_model.specs.OpenFiles.{is_for_chips, is_request_file};
+ghost use Rattle.gl_model.specs.OpenFiles.{is_for_chips};
 ghost use Rattle.gl_model.specs.declared.call.Call.TheVariants.{Ioctl};
 ghost use Rattle.gl_model.specs.declared.call.Part.TheVariants.{Ask};
 ghost use Rattle.gl_core.specs.Claims.{BringsItsRing, IsNotTold, left_by};
+ghost use Rattle.gl_core.specs.OpenRequests.{IsOpenAt};
 ghost use Rattle.gl_core.specs.Reached.{IsReached};
-ghost use Rattle.gl_core.specs.Steps.{StepsInto, Tells};
+ghost use Rattle.gl_core.specs.Steps.{StepsInto};
 
 use crate::state::State;
+use gl_base::Errno;
 use gl_model::{Gift, Part, Reply};
+use gl_request::RequestAt;
 use gl_uapi::Command;
 use gl_uapi::layout::LINE_REQUEST_SIZE;
 
@@ -68,14 +71,11 @@ impl State {
     {
         match command {
             Command::GetLine => self.get_line(actor, place, fd, len, bytes, part, gift, out),
-            Command::ChipInfo
-            | Command::LineInfo
-            | Command::Watch
-            | Command::Unwatch
-            | Command::SetConfig
-            | Command::GetValues
-            | Command::SetValues => {
-                self.checked(actor, place, fd, len, command, bytes, part, gift, out)
+            Command::ChipInfo | Command::LineInfo | Command::Watch | Command::Unwatch => {
+                self.on_chip(actor, place, fd, len, command, bytes, part, gift, out)
+            }
+            Command::SetConfig | Command::GetValues | Command::SetValues => {
+                self.on_request(place, fd, len, command, bytes, part, out)
             }
         }
     }
@@ -100,33 +100,15 @@ impl State {
     {
         match part {
             Part::Tell(answer) => self.get_line_tell(place, actor, *answer, bytes, out),
-            Part::Whole => self.checked(
-                actor,
-                place,
-                fd,
-                len,
-                Command::GetLine,
-                bytes,
-                part,
-                gift,
-                out,
-            ),
-            Part::Ask => self.checked(
-                actor,
-                place,
-                fd,
-                len,
-                Command::GetLine,
-                bytes,
-                part,
-                gift,
-                out,
-            ),
+            Part::Whole | Part::Ask => {
+                let command = Command::GetLine;
+                self.on_chip(actor, place, fd, len, command, bytes, part, gift, out)
+            }
         }
     }
 
-    /// A command, after the refusals with which every command begins.
-    fn checked(
+    /// A command of chip files, after the refusals with which every command begins.
+    fn on_chip(
         &mut self,
         actor: u8,
         place: u8,
@@ -138,21 +120,21 @@ impl State {
         gift: &mut Gift,
         out: &mut [u8],
     ) -> Reply
-        requires reached { IsReached self.old }
+        requires for_chips { is_for_chips command ≡ true }
         requires brings { BringsItsRing command bytes.now part.now gift.old }
         requires told { IsNotTold command part.now }
         requires room { length out.old ≡ len }
         ensures steps { StepsInto (checked actor place fd len command bytes.now part.now) self.old self.new result out.old out.new }
         ensures gift { gift.new ≡ left_by command part.now result gift.old }
     {
-        match self.command_refusal(place, fd, len, command, part) {
+        match self.chip_command_refusal(place, fd, len, command, part) {
             Some(errno) => Reply::Refused(errno),
-            None => self.act_on(actor, place, fd, command, bytes, part, gift, out),
+            None => self.act_on_chip(actor, place, fd, command, bytes, part, gift, out),
         }
     }
 
-    /// What a command does once its file, its buffer's length and its part are right.
-    fn act_on(
+    /// What a command of chip files does once its file, its buffer's length and its part are right.
+    fn act_on_chip(
         &mut self,
         actor: u8,
         place: u8,
@@ -163,8 +145,7 @@ impl State {
         gift: &mut Gift,
         out: &mut [u8],
     ) -> Reply
-        requires reached { IsReached self.old }
-        requires file { is_for_chips command ≡ false → Tells (is_request_file place fd) self.old true }
+        requires for_chips { is_for_chips command ≡ true }
         requires ask { command ≡ GetLine → part.now ≡ Ask }
         requires brings { BringsItsRing command bytes.now part.now gift.old }
         requires room { size_of command ≤ length out.old }
@@ -177,9 +158,59 @@ impl State {
             Command::Watch => self.watch_line(place, fd, bytes, out),
             Command::Unwatch => self.unwatch_line(place, fd, bytes, out),
             Command::GetLine => self.get_line_ask(place, actor, bytes, gift),
-            Command::SetConfig => self.set_config(place, fd, bytes, part),
-            Command::GetValues => self.get_values(place, fd, bytes, part, out),
-            Command::SetValues => self.set_values(place, fd, bytes, part),
+            Command::SetConfig | Command::GetValues | Command::SetValues => {
+                Reply::Refused(Errno::Inval)
+            }
+        }
+    }
+
+    /// A command of requests, after the refusals with which every command begins. It is the same for every actor.
+    fn on_request(
+        &mut self,
+        place: u8,
+        fd: u32,
+        len: u32,
+        command: Command,
+        bytes: &[u8; LINE_REQUEST_SIZE],
+        part: &Part,
+        out: &mut [u8],
+    ) -> Reply
+        requires reached { IsReached self.old }
+        requires for_requests { is_for_chips command ≡ false }
+        requires room { length out.old ≡ len }
+        ensures { (actor : ℕ) → StepsInto (checked actor place fd len command bytes.now part.now) self.old self.new result out.old out.new }
+    {
+        match self.request_of_command(place, fd, len, command, part) {
+            Err(errno) => Reply::Refused(errno),
+            Ok(found) => self.act_on_request(place, found, command, bytes, part, out),
+        }
+    }
+
+    /// What a command of requests does once its file, its buffer's length and its part are right.
+    fn act_on_request(
+        &mut self,
+        place: u8,
+        found: RequestAt,
+        command: Command,
+        bytes: &[u8; LINE_REQUEST_SIZE],
+        part: &Part,
+        out: &mut [u8],
+    ) -> Reply
+        requires reached { IsReached self.old }
+        requires opened { IsOpenAt self.old place found }
+        requires for_requests { is_for_chips command ≡ false }
+        requires room { size_of command ≤ length out.old }
+        ensures { (actor : ℕ) → StepsInto (act_on actor place found.fd command (take (size_of command) bytes.now) part.now) self.old self.new result out.old out.new }
+    {
+        match command {
+            Command::SetConfig => self.set_config(place, found, bytes, part),
+            Command::GetValues => self.get_values(place, found, bytes, part, out),
+            Command::SetValues => self.set_values(place, found, bytes, part),
+            Command::ChipInfo
+            | Command::LineInfo
+            | Command::Watch
+            | Command::Unwatch
+            | Command::GetLine => Reply::Refused(Errno::Inval),
         }
     }
 }

@@ -1,37 +1,21 @@
 //! Open files, and the refusals with which every call on one begins.
 
-ghost use Rattle.std.specs.Prelude.{◌≡◌, ◌+◌, ◌<◌, ◌≤◌, ◌^◌, ◌∷◌, [], not, true, nat_lt, length, IfNone};
+ghost use Rattle.std.specs.Prelude.{◌≡◌, ◌+◌, ◌<◌, ◌≤◌, ◌^◌, ◌∷◌, [], not, true, false, nat_lt, if◌then◌else◌, length, None, Some, IfErr, IfNone, IfOk};
 ghost use Rattle.gl_base.specs.Refusals.{first_of, when};
-ghost use Rattle.gl_base.specs.declared.errno.Errno.TheVariants.{Fault, Inval};
+ghost use Rattle.gl_base.specs.declared.errno.Errno.TheVariants.{BadF, Fault, Inval};
 ghost use Rattle.gl_base.specs.declared.limits.TheConstants.{FILES_MAX};
 ghost use Rattle.gl_uapi.specs.Command.{size_of};
-ghost use Rattle.gl_model.specs.OpenFiles.{asks_driver, chip_file_refusal, command_refusal, has_part, is_chip_file, is_for_chips, is_hold, is_place, is_request_file, is_whole, kind_refusal, number_refusal, request_file_refusal, request_place, unknown_refusal};
-ghost use Rattle.gl_model.specs.World.{request_at};
+ghost use Rattle.gl_model.specs.OpenFiles.{asks_driver, chip_file_refusal, command_refusal, has_part, is_chip_file, is_for_chips, is_place, is_request_file, is_whole, number_refusal, request_file_refusal, unknown_refusal};
+ghost use Rattle.gl_core.specs.OpenRequests.{IsOpenAt};
 ghost use Rattle.gl_core.specs.Steps.{Tells};
 
 use crate::state::State;
 use gl_base::{Errno, FILES_MAX};
 use gl_model::Part;
+use gl_request::RequestAt;
 use gl_uapi::Command;
 
 impl State {
-    /// Whether the number is that of a request that holds its lines.
-    pub(crate) fn is_hold(&self, fd: u32) -> bool
-        ensures { Tells (λ w. is_hold (request_at w.requests fd)) self.now result }
-    {
-        match self.requests.is_held(fd) {
-            Some(held) => held,
-            None => false,
-        }
-    }
-
-    /// The place of the lines of a request, be they claimed or held.
-    fn request_place(&self, fd: u32) -> Option<u8>
-        ensures { Tells (λ w. request_place (request_at w.requests fd)) self.now result }
-    {
-        self.requests.place(fd)
-    }
-
     /// Whether the number is that of an open chip file of this place.
     fn is_chip_file(&self, place: u8, fd: u32) -> bool
         ensures { Tells (is_chip_file place fd) self.now result }
@@ -43,7 +27,7 @@ impl State {
     fn is_request_file(&self, place: u8, fd: u32) -> bool
         ensures { Tells (is_request_file place fd) self.now result }
     {
-        self.is_hold(fd) && is_place(place, self.request_place(fd))
+        self.requests.find_open(place, fd).is_some()
     }
 
     /// Why a call that is for chip files alone is refused, first case first: `BadF` where no open file of the place has the
@@ -60,35 +44,35 @@ impl State {
         }
     }
 
-    /// Why a call that is for requests alone is refused, first case first: `BadF` where no open file of the place has the
-    /// number; `Inval` where a chip file has it.
-    pub(crate) fn request_file_refusal(&self, place: u8, fd: u32) -> Option<Errno>
-        ensures { Tells (request_file_refusal place fd) self.now result }
+    /// Where the open request of a number and a place stands, or why a call that is for requests alone is refused, first case
+    /// first: `BadF` where no open file of the place has the number; `Inval` where a chip file has it.
+    pub(crate) fn open_request(&self, place: u8, fd: u32) -> Result<RequestAt, Errno>
+        ensures number { IfOk result (λ found. found.fd ≡ fd) }
+        ensures opened { IfOk result (IsOpenAt self.now place) }
+        ensures passed { IfOk result (λ _. Tells (request_file_refusal place fd) self.now None) }
+        ensures refused { IfErr result (λ errno. Tells (request_file_refusal place fd) self.now (Some errno)) }
     {
-        if self.is_request_file(place, fd) {
-            None
-        } else if self.is_chip_file(place, fd) {
-            Some(Errno::Inval)
-        } else {
-            Some(Errno::BadF)
+        match self.requests.find_open(place, fd) {
+            Some(found) => Ok(found),
+            None => Err(self.no_request(place, fd)),
         }
     }
 
-    /// Why a number is refused where a file of one kind is needed.
-    fn kind_refusal(&self, place: u8, fd: u32, for_chips: bool) -> Option<Errno>
-        ensures { Tells (kind_refusal place fd for_chips) self.now result }
+    /// Why a number is refused that isn't that of an open request of the place.
+    fn no_request(&self, place: u8, fd: u32) -> Errno
+        ensures { Tells (λ w. if is_chip_file place fd w then Inval else BadF) self.now result }
     {
-        if for_chips {
-            self.chip_file_refusal(place, fd)
+        if self.is_chip_file(place, fd) {
+            Errno::Inval
         } else {
-            self.request_file_refusal(place, fd)
+            Errno::BadF
         }
     }
 
-    /// Why a command is refused before it is looked at, first case first: `BadF` where no open file of the place has the
-    /// number; `Inval` where the command isn't one of that kind of file; `Fault` where the buffer is shorter than the
-    /// command's structure; `Inval` where the command hasn't this part.
-    pub(crate) fn command_refusal(
+    /// Why a command of chip files is refused before it is looked at, first case first: `BadF` where no open file of the place
+    /// has the number; `Inval` where a request has it; `Fault` where the buffer is shorter than the command's structure; `Inval`
+    /// where the command hasn't this part.
+    pub(crate) fn chip_command_refusal(
         &self,
         place: u8,
         fd: u32,
@@ -96,13 +80,41 @@ impl State {
         command: Command,
         part: &Part,
     ) -> Option<Errno>
+        requires { is_for_chips command ≡ true }
         ensures told { Tells (command_refusal place fd len command part.now) self.now result }
         ensures long { IfNone result (size_of command ≤ len) }
         ensures part { IfNone result (has_part command part.now ≡ true) }
     {
-        match self.kind_refusal(place, fd, is_for_chips(command)) {
+        match self.chip_file_refusal(place, fd) {
             Some(errno) => Some(errno),
             None => part_refusal(len, command, part),
+        }
+    }
+
+    /// Where the open request stands that a command is for, or why the command is refused before it is looked at, first case
+    /// first: `BadF` where no open file of the place has the number; `Inval` where a chip file has it; `Fault` where the buffer is
+    /// shorter than the command's structure; `Inval` where the command hasn't this part.
+    pub(crate) fn request_of_command(
+        &self,
+        place: u8,
+        fd: u32,
+        len: u32,
+        command: Command,
+        part: &Part,
+    ) -> Result<RequestAt, Errno>
+        requires { is_for_chips command ≡ false }
+        ensures number { IfOk result (λ found. found.fd ≡ fd) }
+        ensures opened { IfOk result (IsOpenAt self.now place) }
+        ensures long { IfOk result (λ _. size_of command ≤ len) }
+        ensures passed { IfOk result (λ _. Tells (command_refusal place fd len command part.now) self.now None) }
+        ensures refused { IfErr result (λ errno. Tells (command_refusal place fd len command part.now) self.now (Some errno)) }
+    {
+        match self.open_request(place, fd) {
+            Err(errno) => Err(errno),
+            Ok(found) => match part_refusal(len, command, part) {
+                Some(errno) => Err(errno),
+                None => Ok(found),
+            },
         }
     }
 
@@ -156,20 +168,6 @@ fn part_refusal(len: u32, command: Command, part: &Part) -> Option<Errno>
         return Some(Errno::Inval);
     }
     None
-}
-
-/// Whether a command is one of chip files.
-fn is_for_chips(command: Command) -> bool
-    ensures { result ≡ is_for_chips command }
-{
-    match command {
-        Command::ChipInfo
-        | Command::LineInfo
-        | Command::Watch
-        | Command::Unwatch
-        | Command::GetLine => true,
-        Command::SetConfig | Command::GetValues | Command::SetValues => false,
-    }
 }
 
 /// Whether a command asks the driver, and so makes two entries.

@@ -1,15 +1,17 @@
 //! Opening chips and closing files.
 
 ghost use Rattle.std.specs.Prelude.{◌≡◌, ◌+◌, ◌<◌, ◌^◌, [], Some, length, IfNone};
-ghost use Rattle.std.specs.Option.{option_map};
-ghost use Rattle.gl_base.specs.Lines.{IsLineCount, offsets_of};
+ghost use Rattle.gl_base.specs.Lines.{offsets_of};
 ghost use Rattle.gl_base.specs.Rows.{Each};
 ghost use Rattle.gl_base.specs.declared.limits.TheConstants.{FILES_MAX};
-ghost use Rattle.gl_request.specs.Request.{claim_of, request_at as row_at};
+ghost use Rattle.gl_request.specs.Request.{StandsAt, request_at as row_at};
+ghost use Rattle.gl_request.specs.declared.row.RequestRow.{RequestRow};
 ghost use Rattle.gl_model.specs.declared.call.Call.TheVariants.{OpenChip};
 ghost use Rattle.gl_model.specs.Fits.{FitsGift, Leaves};
+ghost use Rattle.gl_model.specs.OpenFiles.{is_hold};
 ghost use Rattle.gl_model.specs.Opening.{close, close_request, is_open, open_chip, open_refusal, with_file, without_deadlines_at};
 ghost use Rattle.gl_model.specs.World.{request_at};
+ghost use Rattle.gl_core.specs.OpenRequests.{IsFound};
 ghost use Rattle.gl_core.specs.Reached.{IsReached};
 ghost use Rattle.gl_core.specs.Shape.{HasLine, IsInRange};
 ghost use Rattle.gl_core.specs.Steps.{Follows, Steps, Tells};
@@ -18,7 +20,7 @@ use crate::state::State;
 use gl_base::{Errno, Path, Phase};
 use gl_debounce::Timers;
 use gl_model::{Gift, Reply};
-use gl_request::Claim;
+use gl_request::RequestAt;
 use gl_uapi::layout::CHANGED_RELEASED;
 use gl_watch::InfoQueue;
 
@@ -72,36 +74,48 @@ impl State {
         requires reached { IsReached self.old }
         ensures { Steps (close fd) self.old self.new result }
     {
-        if !self.is_open(fd) {
+        let found = self.requests.find(fd);
+        if !self.is_open(fd, found) {
             return Reply::Refused(Errno::BadF);
         }
-        let claim = self.requests.claimed_as(fd);
         self.files.remove(fd);
-        match claim {
-            Some(claim) => self.close_request(fd, &claim),
+        match found {
+            Some(found) => self.close_request(found),
             None => {}
         }
         Reply::Done
     }
 
-    /// Whether the number is that of an open file: of a chip file, or of a request that holds its lines.
-    fn is_open(&self, fd: u32) -> bool
+    /// Whether the number is that of an open file: of a chip file, or of a request that holds its lines. `found` tells where the
+    /// request of the number stands.
+    fn is_open(&self, fd: u32, found: Option<RequestAt>) -> bool
+        requires found { IsFound fd self.now.requests found }
         ensures { Tells (is_open fd) self.now result }
     {
-        self.files.place(fd).is_some() || self.is_hold(fd)
+        self.files.place(fd).is_some() || self.is_hold(fd, found)
+    }
+
+    /// Whether the number is that of a request that holds its lines.
+    fn is_hold(&self, fd: u32, found: Option<RequestAt>) -> bool
+        requires found { IsFound fd self.now.requests found }
+        ensures { Tells (λ w. is_hold (request_at w.requests fd)) self.now result }
+    {
+        match found {
+            Some(found) => self.requests.row(found).held,
+            None => false,
+        }
     }
 
     /// Lets go of the lines of a request and of the request itself, and tells of each line as released.
-    fn close_request(&mut self, fd: u32, claim: &Claim)
-        requires found { option_map claim_of (row_at self.old.requests fd) ≡ Some claim.now }
-        requires count { IsLineCount claim.now.lines.count }
-        requires lines { Each (HasLine self.old.places claim.now.place) (offsets_of claim.now.lines) }
-        ensures { Follows (λ w. close_request (request_at w.requests fd) w) self.old self.new }
+    fn close_request(&mut self, found: RequestAt)
+        requires stands { StandsAt found self.old.requests }
+        requires lines { (row : RequestRow) → row_at self.old.requests found.fd ≡ Some row → Each (HasLine self.old.places row.place) (offsets_of row.lines) }
+        ensures { Follows (λ w. close_request (request_at w.requests found.fd) w) self.old self.new }
     {
-        self.requests.release(fd);
-        clear_each(&mut self.timers, claim.place, claim.lines.offsets());
-        self.places.free(claim.place, &claim.lines);
-        self.notify_each(claim.place, &claim.lines, CHANGED_RELEASED);
+        let row = self.requests.take_at(found);
+        clear_each(&mut self.timers, row.place, row.lines.offsets());
+        self.places.free(row.place, &row.lines);
+        self.notify_each(row.place, &row.lines, CHANGED_RELEASED);
     }
 }
 

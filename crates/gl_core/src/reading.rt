@@ -1,15 +1,15 @@
 //! Reads and polls of open files: whole items, as many as wait and fit.
 
-ghost use Rattle.std.specs.Prelude.{◌≡◌, ◌<◌, ◌/◌, ◌∷◌, [], length};
-ghost use Rattle.gl_base.specs.Refusals.{first_of};
-ghost use Rattle.gl_uapi.specs.declared.layout.TheConstants.{LINE_EVENT_SIZE};
-ghost use Rattle.gl_model.specs.OpenFiles.{request_file_refusal};
+ghost use Rattle.std.specs.Prelude.{◌≡◌, ◌<◌, ◌/◌, None, Some, IfErr, IfOk, length};
+ghost use Rattle.gl_request.specs.Request.{StandsAt};
 ghost use Rattle.gl_model.specs.Reading.{events_for, poll_line, read_edges, read_refusal, readiness};
+ghost use Rattle.gl_core.specs.OpenRequests.{edges_refusal};
 ghost use Rattle.gl_core.specs.Steps.{Steps, StepsInto, Tells};
 
 use crate::state::State;
 use gl_base::Errno;
 use gl_model::Reply;
+use gl_request::RequestAt;
 use gl_uapi::layout::LINE_EVENT_SIZE;
 
 /// Why a read of items of one size is refused where so many wait, first case first: `Inval` where the buffer is shorter than
@@ -42,21 +42,28 @@ pub(crate) fn readiness(count: u32) -> u8
 }
 
 impl State {
-    /// How many events of the request of a number wait.
-    fn events_waiting(&self, fd: u32) -> u32
-        ensures { Tells (λ w. length (events_for fd w)) self.now result }
+    /// How many events of an open request wait.
+    fn events_waiting(&self, found: RequestAt) -> u32
+        requires { StandsAt found self.now.requests }
+        ensures { Tells (λ w. length (events_for found.fd w)) self.now result }
     {
-        self.requests.waiting(fd)
+        self.requests.row(found).ring.len()
     }
 
-    /// Why a read of a request is refused, first case first: the number isn't that of an open request of the place; nothing
-    /// can be read.
-    fn edges_refusal(&self, place: u8, fd: u32, len: u32) -> Option<Errno>
-        ensures { Tells (λ w. first_of (request_file_refusal place fd w ∷ read_refusal LINE_EVENT_SIZE len (length (events_for fd w)) ∷ [])) self.now result }
+    /// Where the request stands that is read into a buffer of `len` bytes, or why the read is refused, first case first: the
+    /// number isn't that of an open request of the place; nothing can be read.
+    fn edges_file(&self, place: u8, fd: u32, len: u32) -> Result<RequestAt, Errno>
+        ensures number { IfOk result (λ found. found.fd ≡ fd) }
+        ensures stands { IfOk result (λ found. StandsAt found self.now.requests) }
+        ensures passed { IfOk result (λ _. Tells (edges_refusal place fd len) self.now None) }
+        ensures refused { IfErr result (λ errno. Tells (edges_refusal place fd len) self.now (Some errno)) }
     {
-        match self.request_file_refusal(place, fd) {
-            Some(errno) => Some(errno),
-            None => read_refusal(LINE_EVENT_SIZE, len, self.events_waiting(fd)),
+        match self.open_request(place, fd) {
+            Err(errno) => Err(errno),
+            Ok(found) => match read_refusal(LINE_EVENT_SIZE, len, self.events_waiting(found)) {
+                Some(errno) => Err(errno),
+                None => Ok(found),
+            },
         }
     }
 
@@ -66,11 +73,11 @@ impl State {
         requires { length out.old ≡ len }
         ensures { StepsInto (read_edges place fd len) self.old self.new result out.old out.new }
     {
-        match self.edges_refusal(place, fd, len) {
-            Some(errno) => Reply::Refused(errno),
-            None => {
+        match self.edges_file(place, fd, len) {
+            Err(errno) => Reply::Refused(errno),
+            Ok(found) => {
                 let room = room_for(LINE_EVENT_SIZE, len);
-                let count = self.requests.read(fd, room, out);
+                let count = self.requests.read_at(found, room, out);
                 Reply::Number(LINE_EVENT_SIZE as u64 * u64::from(count))
             }
         }
@@ -80,9 +87,9 @@ impl State {
     pub(crate) fn poll_line(&self, place: u8, fd: u32) -> Reply
         ensures { Steps (poll_line place fd) self.now self.now result }
     {
-        match self.request_file_refusal(place, fd) {
-            Some(errno) => Reply::Refused(errno),
-            None => Reply::Ready(readiness(self.events_waiting(fd))),
+        match self.open_request(place, fd) {
+            Err(errno) => Reply::Refused(errno),
+            Ok(found) => Reply::Ready(readiness(self.events_waiting(found))),
         }
     }
 }

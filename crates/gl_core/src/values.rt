@@ -1,17 +1,18 @@
 //! GET_VALUES and SET_VALUES: the values of a request's lines, a bit a line.
 
-ghost use Rattle.std.specs.Prelude.{◌≡◌, ◌<◌, ◌≤◌, ◌^◌, ◌&&◌, length, slice_index, take, true};
+ghost use Rattle.std.specs.Prelude.{◌≡◌, ◌<◌, ◌≤◌, ◌&&◌, length, slice_index, take};
 ghost use Rattle.gl_base.specs.Bits.{has_bit};
 ghost use Rattle.gl_base.specs.Lines.{IsLineCount, offsets_of};
 ghost use Rattle.gl_base.specs.Positions.{first_fault};
 ghost use Rattle.gl_base.specs.declared.settings.Resolved.{Resolved};
 ghost use Rattle.gl_model.specs.Bits.{has_bit_below};
 ghost use Rattle.gl_model.specs.Configuring.{with_levels};
-ghost use Rattle.gl_model.specs.OpenFiles.{is_request_file, on_request};
+ghost use Rattle.gl_model.specs.OpenFiles.{on_request};
 ghost use Rattle.gl_model.specs.Places.{with_place};
 ghost use Rattle.gl_model.specs.Values.{drive_from, driven_with, get_values, output_fault, set_values, set_values_refusal, value_of, values_of};
-ghost use Rattle.gl_model.specs.World.{World, request_at};
+ghost use Rattle.gl_model.specs.World.{request_at};
 ghost use Rattle.gl_uapi.specs.declared.layout.TheConstants.{LINE_VALUES_SIZE};
+ghost use Rattle.gl_core.specs.OpenRequests.{IsOpenAt};
 ghost use Rattle.gl_core.specs.Reached.{IsReached};
 ghost use Rattle.gl_core.specs.Shape.{HasEachLine, HasLine, KeepsLines};
 ghost use Rattle.gl_core.specs.Steps.{Follows, Steps, StepsInto, Tells};
@@ -22,6 +23,7 @@ use crate::state::State;
 use gl_bank::flip;
 use gl_base::{Errno, Kind, LINES_PER_REQUEST, Lines, has_bit};
 use gl_model::{Part, Reply};
+use gl_request::RequestAt;
 use gl_uapi::layout::{LINE_REQUEST_SIZE, LINE_VALUES_SIZE};
 use gl_uapi::{ValuesRef, write_values};
 
@@ -120,20 +122,18 @@ impl State {
     pub(crate) fn get_values(
         &self,
         place: u8,
-        fd: u32,
+        found: RequestAt,
         bytes: &[u8; LINE_REQUEST_SIZE],
         part: &Part,
         out: &mut [u8],
     ) -> Reply
         requires reached { IsReached self.now }
-        requires file { Tells (is_request_file place fd) self.now true }
+        requires opened { IsOpenAt self.now place found }
         requires room { LINE_VALUES_SIZE ≤ length out.old }
-        ensures { StepsInto (λ w. on_request (get_values place (take LINE_VALUES_SIZE bytes.now) part.now) (request_at w.requests fd) w) self.now self.now result out.old out.new }
+        ensures { StepsInto (λ w. on_request (get_values place (take LINE_VALUES_SIZE bytes.now) part.now) (request_at w.requests found.fd) w) self.now self.now result out.old out.new }
     {
-        match self.requests.lines(fd) {
-            None => Reply::Refused(Errno::BadF),
-            Some(lines) => self.get_values_of(place, &lines, bytes, part, out),
-        }
+        let row = self.requests.row(found);
+        self.get_values_of(place, &row.lines, bytes, part, out)
     }
 
     /// What is wrong with the line at position `i` of a request whose values are to be set: `Perm` where it is masked and is no
@@ -247,17 +247,15 @@ impl State {
     pub(crate) fn set_values(
         &mut self,
         place: u8,
-        fd: u32,
+        found: RequestAt,
         bytes: &[u8; LINE_REQUEST_SIZE],
         part: &Part,
     ) -> Reply
         requires reached { IsReached self.old }
-        requires file { Tells (is_request_file place fd) self.old true }
-        ensures { Steps (λ w. on_request (set_values place (take LINE_VALUES_SIZE bytes.now) part.now) (request_at w.requests fd) w) self.old self.new result }
+        requires opened { IsOpenAt self.old place found }
+        ensures { Steps (λ w. on_request (set_values place (take LINE_VALUES_SIZE bytes.now) part.now) (request_at w.requests found.fd) w) self.old self.new result }
     {
-        match self.requests.lines(fd) {
-            None => Reply::Refused(Errno::BadF),
-            Some(lines) => self.set_values_of(place, &lines, bytes, part),
-        }
+        let lines = self.requests.row(found).lines;
+        self.set_values_of(place, &lines, bytes, part)
     }
 }

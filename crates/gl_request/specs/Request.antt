@@ -1,6 +1,6 @@
 -- The requests of lines, after the kernel's GPIO character device. A table has a row for each request, in the
 -- order of their claims.
-use Rattle.std.specs.Prelude.{ℕ, Bool, false, true, ◌+◌, ◌%◌, ◌^◌, ◌&&◌, ◌==◌, not, nat_lt, if◌then◌else◌, List, Option, Some, None, find, replicate, slice_index, slice_index_or, slice_set}
+use Rattle.std.specs.Prelude.{ℕ, ◌≡◌, Bool, false, true, ◌+◌, ◌%◌, ◌^◌, ◌&&◌, ◌==◌, not, nat_lt, if◌then◌else◌, List, length, Option, Some, None, find, position, replicate, slice_index, slice_index_or, slice_set}
 use Rattle.circular_buffer.specs.Buffer.{Buffer}
 use Rattle.gl_base.specs.Bits.{has_bit}
 use Rattle.gl_base.specs.Lines.{IsLineCount}
@@ -12,6 +12,7 @@ use Rattle.gl_uapi.specs.declared.line_events.Event.{Event}
 use Rattle.gl_ring.specs.Edges.{direction_flag, direction_id}
 use Rattle.gl_ring.specs.Waiting.{left, pushed}
 use Rattle.gl_request.specs.declared.row.Claim.{Claim}
+use Rattle.gl_request.specs.declared.row.RequestAt.{RequestAt}
 use Rattle.gl_request.specs.declared.row.RequestRow.{RequestRow}
 
 -- the request has this number
@@ -21,6 +22,15 @@ is_number fd row = row.fd == fd
 -- the request of a number
 abbrev pub request_at : List RequestRow → ℕ → Option RequestRow
 request_at rows fd = find (is_number fd) rows
+
+-- the request of this number stands there
+abbrev pub StandsAt : RequestAt → List RequestRow → Type 0
+StandsAt found rows = position (is_number found.fd) rows ≡ Some found.at
+
+-- a request, where there is one, is finished and of this place
+abbrev pub is_open_at : ℕ → Option RequestRow → Bool
+is_open_at place None = false
+is_open_at place (Some row) = row.held && row.place == place
 
 -- it is an unfinished claim of this actor
 abbrev pub is_claim_of : ℕ → RequestRow → Bool
@@ -102,6 +112,6 @@ noted i rising timestamp row = if is_monitored i rising row then with_event i ri
 abbrev pub read_from : ℕ → RequestRow → RequestRow
 read_from max row = record row { ring = left max row.ring }
 
--- the request has 1 to 64 lines
+-- the request has 1 to 64 lines, and a slot for each
 abbrev pub HasLines : RequestRow → Type 0
-HasLines row = IsLineCount row.lines.count
+HasLines row = IsLineCount row.lines.count × (length row.lines.offsets ≡ LINES_PER_REQUEST)

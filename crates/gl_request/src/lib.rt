@@ -10,7 +10,7 @@ pub mod laws;
 mod row;
 mod table;
 
-pub use row::{Claim, RequestRow};
+pub use row::{Claim, RequestAt, RequestRow};
 pub use table::Requests;
 
 #[cfg(test)]

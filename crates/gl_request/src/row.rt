@@ -1,8 +1,8 @@
 //! One request.
 
-ghost use Rattle.std.specs.Prelude.{◌≡◌, ◌<◌};
+ghost use Rattle.std.specs.Prelude.{◌≡◌, ◌<◌, Some};
 ghost use Rattle.gl_ring.specs.Edges.{direction_flag};
-ghost use Rattle.gl_request.specs.Request.{claim_of, event_of, noted, row_of};
+ghost use Rattle.gl_request.specs.Request.{claim_of, event_of, is_open_at, noted, row_of};
 
 use gl_base::{LINES_PER_REQUEST, Lines, Resolved, flag, has_bit};
 use gl_ring::EdgeRing;
@@ -22,6 +22,15 @@ pub struct Claim {
     pub lines: Lines,
     /// How they are to be configured.
     pub settings: Resolved,
+}
+
+/// A request where it stands in the table, as a look-up found it. It stands there until a request is taken out.
+#[derive(Clone, Copy, PartialEq, Eq, Debug)]
+pub struct RequestAt {
+    /// The number of the request's file.
+    pub fd: u32,
+    /// The position of its row, counted from 0.
+    pub at: usize,
 }
 
 /// A request.
@@ -77,6 +86,13 @@ impl RequestRow {
             lines: self.lines,
             settings: self.settings,
         }
+    }
+
+    /// Whether the request is finished and of this place.
+    pub(crate) fn is_open_at(&self, place: u8) -> bool
+        ensures { result ≡ is_open_at place (Some self.now) }
+    {
+        self.held && self.place == place
     }
 
     /// Notes an edge of the line at position `i`, which is an event where its direction is monitored.

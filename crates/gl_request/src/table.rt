@@ -1,15 +1,15 @@
 //! The table of requests.
 
-ghost use Rattle.std.specs.Prelude.{◌≡◌, ◌*◌, ◌<◌, ◌≤◌, ◌++◌, ◌∷◌, [], None, IfOk, IfSome, IsOkUnless, length, drop, vec_capacity, find, position};
+ghost use Rattle.std.specs.Prelude.{◌≡◌, ◌*◌, ◌<◌, ◌≤◌, ◌++◌, ◌∷◌, [], None, IfOk, IfSome, IsOkUnless, Some, length, drop, is_some, vec_capacity, find, position};
 ghost use Rattle.std.specs.List.{flat_map};
 ghost use Rattle.std.specs.Option.{option_and_then, option_map, option_map_or};
 ghost use Rattle.gl_base.specs.Lines.{IsLineCount};
 ghost use Rattle.gl_base.specs.Rows.{change_first, without_first};
 ghost use Rattle.gl_uapi.specs.LineEvent.{event_bytes};
 ghost use Rattle.gl_ring.specs.Waiting.{taken, taken_count};
-ghost use Rattle.gl_request.specs.Request.{claim_by, claim_of, configured, event_of, held, is_claim_of, is_number, noted, read_from, request_at, row_of, settings_at};
+ghost use Rattle.gl_request.specs.Request.{StandsAt, claim_by, claim_of, configured, event_of, held, is_claim_of, is_number, is_open_at, noted, read_from, request_at, row_of, settings_at};
 
-use crate::row::{Claim, RequestRow};
+use crate::row::{Claim, RequestAt, RequestRow};
 use gl_base::{Errno, FILES_MAX, LINES_PER_REQUEST, Lines, Resolved, Settings, push_within};
 use gl_ring::EdgeRing;
 use gl_uapi::Event;
@@ -102,6 +102,60 @@ impl Requests {
         take_row(&mut self.rows, fd)
     }
 
+    /// Where the request of this number stands, or None where there is no such request.
+    #[tactic(auto, using(crate::proofs::Found::found, crate::proofs::Found::found_some))]
+    pub fn find(&self, fd: u32) -> Option<RequestAt>
+        ensures there { is_some result ≡ is_some (request_at self.now fd) }
+        ensures number { IfSome result (λ found. found.fd ≡ fd) }
+        ensures stands { IfSome result (λ found. StandsAt found self.now) }
+    {
+        match position_of(&self.rows, fd) {
+            Some(at) => Some(RequestAt { fd, at }),
+            None => None,
+        }
+    }
+
+    /// Where the request of this number stands, if it is finished and of this place.
+    #[tactic(auto, using(crate::proofs::Found::found))]
+    pub fn find_open(&self, place: u8, fd: u32) -> Option<RequestAt>
+        ensures open { is_some result ≡ is_open_at place (request_at self.now fd) }
+        ensures number { IfSome result (λ found. found.fd ≡ fd) }
+        ensures stands { IfSome result (λ found. StandsAt found self.now) }
+    {
+        match position_of(&self.rows, fd) {
+            Some(at) => {
+                if self.rows[at].is_open_at(place) {
+                    Some(RequestAt { fd, at })
+                } else {
+                    None
+                }
+            }
+            None => None,
+        }
+    }
+
+    /// The request that was found.
+    #[tactic(auto, using(crate::proofs::Found::found, crate::proofs::Found::lines_found, crate::proofs::Found::slots_found))]
+    pub fn row(&self, found: RequestAt) -> &RequestRow
+        requires { StandsAt found self.now }
+        ensures row { request_at self.now found.fd ≡ Some result.now }
+        ensures lines { IsLineCount result.now.lines.count }
+        ensures slots { length result.now.lines.offsets ≡ LINES_PER_REQUEST }
+    {
+        &self.rows[found.at]
+    }
+
+    /// Takes the request that was found out of the table.
+    #[tactic(auto, using(crate::proofs::Found::kept, crate::proofs::Found::lines_taken))]
+    pub fn take_at(&mut self, found: RequestAt) -> RequestRow
+        requires { StandsAt found self.old }
+        ensures rows { self.new ≡ without_first (is_number found.fd) self.old }
+        ensures row { request_at self.old found.fd ≡ Some result }
+        ensures lines { IsLineCount result.lines.count }
+    {
+        take_row_at(&mut self.rows, found)
+    }
+
     /// What the request of this number was claimed as, with its settings as they are now.
     #[tactic(auto, using(crate::proofs::Found::found, crate::proofs::Found::lines_found))]
     pub fn claimed_as(&self, fd: u32) -> Option<Claim>
@@ -176,6 +230,15 @@ impl Requests {
         configure_row(&mut self.rows, fd, settings);
     }
 
+    /// The same, at the request that was found.
+    #[tactic(auto, using(crate::proofs::Found::kept))]
+    pub fn configure_at(&mut self, found: RequestAt, settings: &Resolved)
+        requires { StandsAt found self.old }
+        ensures { self.new ≡ change_first (is_number found.fd) (configured settings.now) self.old }
+    {
+        configure_row_at(&mut self.rows, found, settings);
+    }
+
     /// An edge has come to the line at position `i`, 0 to 63, of the request of this number. Where its direction
     /// is monitored it is an event: it is numbered, waits, and is the answer.
     #[tactic(auto, using(crate::proofs::Found::kept))]
@@ -185,6 +248,23 @@ impl Requests {
         ensures event { result ≡ option_and_then (event_of i rising timestamp) (request_at self.old fd) }
     {
         note_edge(&mut self.rows, fd, i, rising, timestamp)
+    }
+
+    /// The same, at the request that was found.
+    #[tactic(auto, using(crate::proofs::Found::kept))]
+    pub fn edge_at(
+        &mut self,
+        found: RequestAt,
+        i: u32,
+        rising: bool,
+        timestamp: u64,
+    ) -> Option<Event>
+        requires position { i < LINES_PER_REQUEST }
+        requires stands { StandsAt found self.old }
+        ensures rows { self.new ≡ change_first (is_number found.fd) (noted i rising timestamp) self.old }
+        ensures event { result ≡ option_and_then (event_of i rising timestamp) (request_at self.old found.fd) }
+    {
+        note_edge_at(&mut self.rows, found, i, rising, timestamp)
     }
 
     /// How many events of the request of this number wait.
@@ -209,6 +289,19 @@ impl Requests {
             ++ drop (LINE_EVENT_SIZE * result) out.old }
     {
         read_row(&mut self.rows, fd, max, out)
+    }
+
+    /// The same, from the request that was found.
+    #[tactic(auto, using(crate::proofs::Found::kept))]
+    pub fn read_at(&mut self, found: RequestAt, max: u32, out: &mut [u8]) -> u32
+        requires room { LINE_EVENT_SIZE * max ≤ length out.old }
+        requires stands { StandsAt found self.old }
+        ensures count { result ≡ option_map_or (λ row. taken_count max row.ring) (request_at self.old found.fd) 0 }
+        ensures rows { self.new ≡ change_first (is_number found.fd) (read_from max) self.old }
+        ensures out { out.new ≡ flat_map event_bytes (option_map_or (λ row. taken max row.ring) (request_at self.old found.fd) [])
+            ++ drop (LINE_EVENT_SIZE * result) out.old }
+    {
+        read_row_at(&mut self.rows, found, max, out)
     }
 }
 
@@ -245,11 +338,21 @@ fn take_row(rows: &mut Vec<RequestRow>, fd: u32) -> Option<EdgeRing>
 {
     match position_of(rows, fd) {
         Some(at) => {
-            let row = rows.remove(at);
+            let row = take_row_at(rows, RequestAt { fd, at });
             Some(row.ring)
         }
         None => None,
     }
+}
+
+#[tactic(auto, using(crate::proofs::Found::found))]
+fn take_row_at(rows: &mut Vec<RequestRow>, found: RequestAt) -> RequestRow
+    requires { StandsAt found rows.old.items }
+    ensures rows { rows.new.items ≡ without_first (is_number found.fd) rows.old.items }
+    ensures row { request_at rows.old.items found.fd ≡ Some result }
+    ensures capacity { vec_capacity rows.new ≡ vec_capacity rows.old }
+{
+    rows.remove(found.at)
 }
 
 #[tactic(auto, using(crate::proofs::Found::found))]
@@ -258,9 +361,18 @@ fn configure_row(rows: &mut Vec<RequestRow>, fd: u32, settings: &Resolved)
     ensures capacity { vec_capacity rows.new ≡ vec_capacity rows.old }
 {
     match position_of(rows, fd) {
-        Some(at) => rows[at].settings = *settings,
+        Some(at) => configure_row_at(rows, RequestAt { fd, at }, settings),
         None => {}
     }
+}
+
+#[tactic(auto, using(crate::proofs::Found::found))]
+fn configure_row_at(rows: &mut Vec<RequestRow>, found: RequestAt, settings: &Resolved)
+    requires { StandsAt found rows.old.items }
+    ensures rows { rows.new.items ≡ change_first (is_number found.fd) (configured settings.now) rows.old.items }
+    ensures capacity { vec_capacity rows.new ≡ vec_capacity rows.old }
+{
+    rows[found.at].settings = *settings;
 }
 
 #[tactic(auto, using(crate::proofs::Found::found))]
@@ -277,9 +389,26 @@ fn note_edge(
     ensures capacity { vec_capacity rows.new ≡ vec_capacity rows.old }
 {
     match position_of(rows, fd) {
-        Some(at) => rows[at].note(i, rising, timestamp),
+        Some(at) => note_edge_at(rows, RequestAt { fd, at }, i, rising, timestamp),
         None => None,
     }
+}
+
+#[tactic(auto, using(crate::proofs::Found::found))]
+fn note_edge_at(
+    rows: &mut Vec<RequestRow>,
+    found: RequestAt,
+    i: u32,
+    rising: bool,
+    timestamp: u64,
+) -> Option<Event>
+    requires position { i < LINES_PER_REQUEST }
+    requires stands { StandsAt found rows.old.items }
+    ensures rows { rows.new.items ≡ change_first (is_number found.fd) (noted i rising timestamp) rows.old.items }
+    ensures event { result ≡ option_and_then (event_of i rising timestamp) (request_at rows.old.items found.fd) }
+    ensures capacity { vec_capacity rows.new ≡ vec_capacity rows.old }
+{
+    rows[found.at].note(i, rising, timestamp)
 }
 
 #[tactic(auto, using(crate::proofs::Found::found))]
@@ -292,7 +421,20 @@ fn read_row(rows: &mut Vec<RequestRow>, fd: u32, max: u32, out: &mut [u8]) -> u3
     ensures capacity { vec_capacity rows.new ≡ vec_capacity rows.old }
 {
     match position_of(rows, fd) {
-        Some(at) => rows[at].ring.read(max, out),
+        Some(at) => read_row_at(rows, RequestAt { fd, at }, max, out),
         None => 0,
     }
+}
+
+#[tactic(auto, using(crate::proofs::Found::found))]
+fn read_row_at(rows: &mut Vec<RequestRow>, found: RequestAt, max: u32, out: &mut [u8]) -> u32
+    requires room { LINE_EVENT_SIZE * max ≤ length out.old }
+    requires stands { StandsAt found rows.old.items }
+    ensures count { result ≡ option_map_or (λ row. taken_count max row.ring) (request_at rows.old.items found.fd) 0 }
+    ensures rows { rows.new.items ≡ change_first (is_number found.fd) (read_from max) rows.old.items }
+    ensures out { out.new ≡ flat_map event_bytes (option_map_or (λ row. taken max row.ring) (request_at rows.old.items found.fd) [])
+        ++ drop (LINE_EVENT_SIZE * result) out.old }
+    ensures capacity { vec_capacity rows.new ≡ vec_capacity rows.old }
+{
+    rows[found.at].ring.read(max, out)
 }

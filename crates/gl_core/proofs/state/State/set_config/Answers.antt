@@ -1,37 +1,57 @@
-use Rattle.std.proofs.Common.{rules, ◌≡◌, take, length, Some, None, refl, ap, ◌∙◌, subst}
-use Rattle.std.specs.Option.{option_map}
-use Rattle.gl_base.specs.declared.errno.Errno.TheVariants.{BadF}
-use Rattle.gl_request.specs.Request.{claim_of, request_at}
+use Rattle.std.proofs.Common.{◌≡◌, take, Option, Some, refl, sym, ◌∙◌, subst}
+use Rattle.gl_request.specs.Request.{request_at}
+use Rattle.gl_request.specs.declared.row.RequestRow.{RequestRow}
+use Rattle.gl_attrs.specs.Setting.{resolved_for}
+use Rattle.gl_base.specs.declared.errno.Errno.{Errno}
+use Rattle.gl_base.specs.declared.settings.Resolved.{Resolved}
 use Rattle.gl_uapi.specs.declared.layout.TheConstants.{LINE_CONFIG_SIZE}
-use Rattle.gl_model.specs.Configuring.{set_config}
-use Rattle.gl_model.specs.declared.reply.Reply.{Reply}
+use Rattle.gl_model.specs.Configuring.{reconfigure, set_config}
+use Rattle.gl_model.specs.OpenFiles.{in_parts}
+use Rattle.gl_model.specs.Outcome.{Outcome, done, refused_or}
 use Rattle.gl_model.specs.declared.reply.Reply.TheVariants.{Refused}
 use Rattle.gl_core.specs.Kept.{Kept, StandsFor}
-use Rattle.gl_core.specs.Shape.{IsShaped}
-use Rattle.gl_core.proofs.OpenRequests.{each_claimed_line, on_claim, on_no_claim}
+use Rattle.gl_core.specs.Shape.{HasEachLine, IsShaped}
+use Rattle.gl_core.proofs.OpenRequests.{each_row_line, on_row}
 use Rattle.gl_core.proofs.state.State.set_config.Goals as goal
 
-pub set_config_of-requires-clause-lines : goal.set_config_of-requires-clause-lines
-set_config_of-requires-clause-lines c =
+pub new_settings-requires-clause-lines : goal.new_settings-requires-clause-lines
+new_settings-requires-clause-lines c =
     let k : Kept = c.args.self.now in
+    let row : RequestRow = c.row-row.result.now in
     let shape : IsShaped k.chips k.origins k.places = subst (λ (k : Kept). IsShaped k.chips k.origins k.places) c.self.view_is c.self.invariant.0 in
-    let found : Some c.in-Some.claim ≡ option_map claim_of (request_at k.requests c.args.fd) =
-    c.in-Some.ensures.claim ∙ ap (λ (k : Kept). option_map claim_of (request_at k.requests c.args.fd)) c.self.view_is in
-    let size : length c.in-Some.claim.lines.offsets ≡ 64 = search rules in
-    each_claimed_line k c.args.place c.args.fd c.in-Some.claim shape c.requires.reached c.requires.file found size c.in-Some.ensures.lines.1
+    let found : request_at k.requests c.args.found.fd ≡ Some row = subst (λ (k : Kept). request_at k.requests c.args.found.fd ≡ Some row) c.self.view_is c.row-row.ensures.row in
+    each_row_line k c.args.place c.args.found.fd row shape c.requires.reached c.requires.opened.opened found c.row-row.ensures.slots c.row-row.ensures.lines.1
 
-pub returns-in-None : goal.returns-in-None
-returns-in-None c w s =
+pub take_settings-requires-clause-lines : goal.take_settings-requires-clause-lines
+take_settings-requires-clause-lines c other is =
     let k : Kept = c.args.self.now in
-    let found : None ≡ option_map claim_of (request_at k.requests c.args.fd) =
-    c.in-None.ensures.claim ∙ ap (λ (k : Kept). option_map claim_of (request_at k.requests c.args.fd)) c.self.view_is in
-    on_no_claim (λ out. StandsFor k out.world × ◌≡◌ {A = Reply} (Refused BadF) out.reply)
-    (set_config c.args.place c.args.fd (take LINE_CONFIG_SIZE c.args.bytes.now) c.args.part.now) k w c.args.fd s found (s, refl)
+    let row : RequestRow = c.row-row.result.now in
+    let shape : IsShaped k.chips k.origins k.places = subst (λ (k : Kept). IsShaped k.chips k.origins k.places) c.self.view_is c.self.invariant.0 in
+    let found : request_at k.requests c.args.found.fd ≡ Some row = subst (λ (k : Kept). request_at k.requests c.args.found.fd ≡ Some row) c.self.view_is c.row-row.ensures.row in
+    let same : row ≡ other = (let one : Some row ≡ Some other = sym found ∙ is in cc) in
+    subst (λ (row : RequestRow). HasEachLine k.places c.args.place row.lines) same
+    (each_row_line k c.args.place c.args.found.fd row shape c.requires.reached c.requires.opened.opened found c.row-row.ensures.slots c.row-row.ensures.lines.1)
 
-pub returns-in-Some : goal.returns-in-Some
-returns-in-Some c w s =
+pub returns-in-Err : goal.returns-in-Err
+returns-in-Err c w s =
     let k : Kept = c.args.self.now in
-    let found : Some c.in-Some.claim ≡ option_map claim_of (request_at k.requests c.args.fd) =
-    c.in-Some.ensures.claim ∙ ap (λ (k : Kept). option_map claim_of (request_at k.requests c.args.fd)) c.self.view_is in
-    on_claim (λ out. StandsFor c.set_config_of.new.self out.world × (c.set_config_of.result ≡ out.reply))
-    (set_config c.args.place c.args.fd (take LINE_CONFIG_SIZE c.args.bytes.now) c.args.part.now) k w c.args.fd c.in-Some.claim s found (c.set_config_of.ensures w s)
+    let row : RequestRow = c.row-row.result.now in
+    let found : request_at k.requests c.args.found.fd ≡ Some row = subst (λ (k : Kept). request_at k.requests c.args.found.fd ≡ Some row) c.self.view_is c.row-row.ensures.row in
+    let bytes = take LINE_CONFIG_SIZE c.args.bytes.now in
+    let rest : Outcome = in_parts c.args.part.now (λ bits v. done (reconfigure c.args.place c.args.found.fd row.lines row.settings (resolved_for bytes row.lines.count) v)) w in
+    on_row (λ out. StandsFor k out.world × (Refused c.in-Err.errno ≡ out.reply))
+    (set_config c.args.place c.args.found.fd bytes c.args.part.now) k w c.args.found.fd row s found
+    (subst (λ (refusal : Option Errno). let out = refused_or refusal w rest in StandsFor k out.world × (Refused c.in-Err.errno ≡ out.reply)) (c.in-Err.ensures.refused w s) (s, refl))
+
+pub returns-in-Ok : goal.returns-in-Ok
+returns-in-Ok c w s =
+    let k : Kept = c.args.self.now in
+    let row : RequestRow = c.row-row.result.now in
+    let found : request_at k.requests c.args.found.fd ≡ Some row = subst (λ (k : Kept). request_at k.requests c.args.found.fd ≡ Some row) c.self.view_is c.row-row.ensures.row in
+    let bytes = take LINE_CONFIG_SIZE c.args.bytes.now in
+    let rest : Resolved → Outcome = λ settings. in_parts c.args.part.now (λ bits v. done (reconfigure c.args.place c.args.found.fd row.lines row.settings settings v)) w in
+    let told : StandsFor c.take_settings.new.self (rest (resolved_for bytes row.lines.count)).world × (c.take_settings.result ≡ (rest (resolved_for bytes row.lines.count)).reply) =
+    subst (λ (settings : Resolved). StandsFor c.take_settings.new.self (rest settings).world × (c.take_settings.result ≡ (rest settings).reply)) c.in-Ok.ensures.ok (c.take_settings.ensures row found w s) in
+    on_row (λ out. StandsFor c.take_settings.new.self out.world × (c.take_settings.result ≡ out.reply))
+    (set_config c.args.place c.args.found.fd bytes c.args.part.now) k w c.args.found.fd row s found
+    (subst (λ (refusal : Option Errno). let out = refused_or refusal w (rest (resolved_for bytes row.lines.count)) in StandsFor c.take_settings.new.self out.world × (c.take_settings.result ≡ out.reply)) (c.in-Ok.ensures.passed w s) told)
