@@ -28,3 +28,4 @@ pub mod Replaying
 pub mod GoingLive
 pub mod Telling
 pub mod Twice
+pub mod Refusing

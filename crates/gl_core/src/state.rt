@@ -5,6 +5,7 @@ ghost use Rattle.gl_model.specs.Chips.{phase_at};
 ghost use Rattle.gl_model.specs.World.{World, opening};
 ghost use Rattle.gl_core.specs.Kept.{StandsFor};
 ghost use Rattle.gl_core.specs.Steps.{Tells};
+ghost use Rattle.gl_core.specs.WellKept.{HasItsTables};
 
 use crate::places::Places;
 use crate::plan::Plan;
@@ -75,6 +76,14 @@ impl State {
             mono: 0,
             real: 0,
         })
+    }
+
+    /// What the tables tell by themselves, at every moment. The call does nothing.
+    pub(crate) fn has_its_tables(&self)
+        ensures { HasItsTables self.now }
+    {
+        let _timers = self.timers.len();
+        self.requests.have_limits();
     }
 
     /// The phase of a place.

@@ -1,11 +1,12 @@
 -- The row of a number, and what each row keeps.
-use Rattle.std.proofs.Common.{ℕ, Bool, true, false, cond, ◌≡◌, List, length, ◌∷◌, ◌++◌, [], get_or, set, Some, ap, sym, ◌∙◌}
+use Rattle.std.proofs.Common.{ℕ, Bool, true, false, cond, ◌≡◌, ◌≤◌, List, length, ◌∷◌, ◌++◌, [], get_or, set, Some, ap, sym, ◌∙◌}
 use Rattle.std.specs.Prelude.{find, is_some, position}
 use Rattle.gl_base.specs.Lines.{IsLineCount}
 use Rattle.gl_base.specs.declared.limits.TheConstants.{LINES_PER_REQUEST}
 use Rattle.gl_base.specs.Rows.{Each, change_first, without_first}
 use Rattle.gl_base.proofs.FirstRows.{at_position, change_first-no_position, change_first-position, find-no_position, find-position, length-change_first, length-without_first-le, without_first-no_position, without_first-position, Each-at, Each-change_first, Each-find, Each-push, Each-without_first}
 use Rattle.gl_base.specs.declared.settings.Resolved.{Resolved}
+use Rattle.gl_ring.specs.declared.ring.TheConstants.{RING_EVENTS_MAX}
 use Rattle.gl_request.specs.declared.row.RequestRow.{RequestRow}
 use Rattle.gl_request.specs.Request.{HasLines, configured, held, is_monitored, noted, read_from, with_event}
 
@@ -38,8 +39,8 @@ lines_noted i rising time test rows each =
 pub lines_without : (test : RequestRow → Bool) (rows : List RequestRow) → Each HasLines rows → Each HasLines (without_first test rows)
 lines_without test rows each = Each-without_first HasLines test rows each
 
-pub lines_more : (rows : List RequestRow) (row : RequestRow) → Each HasLines rows → IsLineCount row.lines.count → length row.lines.offsets ≡ LINES_PER_REQUEST → Each HasLines (rows ++ row ∷ [])
-lines_more rows row each some slots = Each-push HasLines rows row each (some, slots)
+pub lines_more : (rows : List RequestRow) (row : RequestRow) → Each HasLines rows → IsLineCount row.lines.count → length row.lines.offsets ≡ LINES_PER_REQUEST → 1 ≤ row.ring.capacity → row.ring.capacity ≤ RING_EVENTS_MAX → Each HasLines (rows ++ row ∷ [])
+lines_more rows row each some slots room few = Each-push HasLines rows row each (some, slots, room, few)
 
 pub ruleset kept = (length-change_first, length-without_first-le, lines_held, lines_configured, lines_read, lines_noted, lines_without, lines_more)
 

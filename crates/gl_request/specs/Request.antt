@@ -1,6 +1,6 @@
 -- The requests of lines, after the kernel's GPIO character device. A table has a row for each request, in the
 -- order of their claims.
-use Rattle.std.specs.Prelude.{ℕ, ◌≡◌, Bool, false, true, ◌+◌, ◌%◌, ◌^◌, ◌&&◌, ◌==◌, not, nat_lt, if◌then◌else◌, List, length, Option, Some, None, find, position, replicate, slice_index, slice_index_or, slice_set}
+use Rattle.std.specs.Prelude.{ℕ, ◌≡◌, ◌≤◌, Bool, false, true, ◌+◌, ◌%◌, ◌^◌, ◌&&◌, ◌==◌, not, nat_lt, if◌then◌else◌, List, length, Option, Some, None, find, position, replicate, slice_index, slice_index_or, slice_set}
 use Rattle.circular_buffer.specs.Buffer.{Buffer}
 use Rattle.gl_base.specs.Bits.{has_bit}
 use Rattle.gl_base.specs.Lines.{IsLineCount}
@@ -11,6 +11,7 @@ use Rattle.gl_base.specs.declared.settings.Settings.{Settings}
 use Rattle.gl_uapi.specs.declared.line_events.Event.{Event}
 use Rattle.gl_ring.specs.Edges.{direction_flag, direction_id}
 use Rattle.gl_ring.specs.Waiting.{left, pushed}
+use Rattle.gl_ring.specs.declared.ring.TheConstants.{RING_EVENTS_MAX}
 use Rattle.gl_request.specs.declared.row.Claim.{Claim}
 use Rattle.gl_request.specs.declared.row.RequestAt.{RequestAt}
 use Rattle.gl_request.specs.declared.row.RequestRow.{RequestRow}
@@ -112,6 +113,6 @@ noted i rising timestamp row = if is_monitored i rising row then with_event i ri
 abbrev pub read_from : ℕ → RequestRow → RequestRow
 read_from max row = record row { ring = left max row.ring }
 
--- the request has 1 to 64 lines, and a slot for each
+-- the request has 1 to 64 lines with a slot for each, and room for 1 to 1024 events
 abbrev pub HasLines : RequestRow → Type 0
-HasLines row = IsLineCount row.lines.count × (length row.lines.offsets ≡ LINES_PER_REQUEST)
+HasLines row = IsLineCount row.lines.count × (length row.lines.offsets ≡ LINES_PER_REQUEST) × (1 ≤ row.ring.capacity) × (row.ring.capacity ≤ RING_EVENTS_MAX)

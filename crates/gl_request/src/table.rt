@@ -4,10 +4,10 @@ ghost use Rattle.std.specs.Prelude.{◌≡◌, ◌*◌, ◌<◌, ◌≤◌, ◌+
 ghost use Rattle.std.specs.List.{flat_map};
 ghost use Rattle.std.specs.Option.{option_and_then, option_map, option_map_or};
 ghost use Rattle.gl_base.specs.Lines.{IsLineCount};
-ghost use Rattle.gl_base.specs.Rows.{change_first, without_first};
+ghost use Rattle.gl_base.specs.Rows.{Each, change_first, without_first};
 ghost use Rattle.gl_uapi.specs.LineEvent.{event_bytes};
 ghost use Rattle.gl_ring.specs.Waiting.{taken, taken_count};
-ghost use Rattle.gl_request.specs.Request.{StandsAt, claim_by, claim_of, configured, event_of, held, is_claim_of, is_number, is_open_at, noted, read_from, request_at, row_of, settings_at};
+ghost use Rattle.gl_request.specs.Request.{HasLines, StandsAt, claim_by, claim_of, configured, event_of, held, is_claim_of, is_number, is_open_at, noted, read_from, request_at, row_of, settings_at};
 
 use crate::row::{Claim, RequestAt, RequestRow};
 use gl_base::{Errno, FILES_MAX, LINES_PER_REQUEST, Lines, Resolved, Settings, push_within};
@@ -62,6 +62,13 @@ impl Requests {
         ensures { result ≡ FILES_MAX }
     {
         self.rows.capacity() as u32
+    }
+
+    /// Each request has 1 to 64 lines, and room for 1 to 1024 events. The call does nothing: its contract is what is always so.
+    pub fn have_limits(&self)
+        ensures { Each HasLines self.now }
+    {
+        let _requests = self.rows.len();
     }
 
     /// Adds a claim, behind the others. No event of it waits.
