@@ -23,7 +23,7 @@ use Rattle.gl_model.specs.Entries.{awaited_call, begins, begun_places, ends, gua
 use Rattle.gl_model.specs.Fits.{Fits, FitsCall}
 use Rattle.gl_model.specs.Machine.{bytes_of, reply_of}
 use Rattle.gl_model.specs.Outcome.{refused_or, writes}
-use Rattle.gl_model.specs.Parts.{DeviceCall, MakesRest, MakesTwo, Removing, first_call, guard_of}
+use Rattle.gl_model.specs.Parts.{DeviceCall, MakesRest, MakesTwo, OfChip, OfDevice, RemovalOf, Removing, first_call, guard_of}
 use Rattle.gl_model.specs.Removal.{removal_bytes, up_places}
 use Rattle.gl_model.specs.World.{World}
 use Rattle.gl_model.specs.Replies.{has_form}
@@ -40,276 +40,6 @@ use Rattle.gl_chip.proofs.GateSteps.{free_owes, is_free, knows_on, knows_same, o
 use Rattle.gl_chip.proofs.WholeCalls.{called_not_full, errno_is_told, idle_still, no_room_alone, none_not_some}
 
 -- what the first and the last call of a removal are
-
-pub first_ends_not : (call : Call) → is_first_call call ≡ true → ends call ≡ false
-first_ends_not (Probe a b c) s = absurd (true≢false (sym s))
-first_ends_not (Unplug a false) s = refl
-first_ends_not (Unplug a true) s = absurd (true≢false (sym s))
-first_ends_not (MakeDir a) s = absurd (true≢false (sym s))
-first_ends_not (RemoveDir a) s = absurd (true≢false (sym s))
-first_ends_not (Write a b) s = absurd (true≢false (sym s))
-first_ends_not (Read a) s = absurd (true≢false (sym s))
-first_ends_not (Live a) s = absurd (true≢false (sym s))
-first_ends_not (Remove a false) s = refl
-first_ends_not (Remove a true) s = absurd (true≢false (sym s))
-first_ends_not (Tick a b) s = absurd (true≢false (sym s))
-first_ends_not (Pin a b) s = absurd (true≢false (sym s))
-first_ends_not (Irq a b c) s = absurd (true≢false (sym s))
-first_ends_not (Pull a b c) s = absurd (true≢false (sym s))
-first_ends_not (Level a b c) s = absurd (true≢false (sym s))
-first_ends_not (Interrupt a b c) s = absurd (true≢false (sym s))
-first_ends_not (OpenChip a) s = absurd (true≢false (sym s))
-first_ends_not (Find a b) s = absurd (true≢false (sym s))
-first_ends_not (Ioctl a b c d e f) s = absurd (true≢false (sym s))
-first_ends_not (ReadEdges a b c) s = absurd (true≢false (sym s))
-first_ends_not (ReadInfo a b c) s = absurd (true≢false (sym s))
-first_ends_not (PollLine a b) s = absurd (true≢false (sym s))
-first_ends_not (PollChip a b) s = absurd (true≢false (sym s))
-first_ends_not (Close a) s = absurd (true≢false (sym s))
-first_ends_not (RefusedCall a b) s = absurd (true≢false (sym s))
-
-pub first_is_not_last : (call : Call) → is_first_call call ≡ true → is_last_removal call ≡ false
-first_is_not_last (Probe a b c) s = absurd (true≢false (sym s))
-first_is_not_last (Unplug a false) s = refl
-first_is_not_last (Unplug a true) s = absurd (true≢false (sym s))
-first_is_not_last (MakeDir a) s = absurd (true≢false (sym s))
-first_is_not_last (RemoveDir a) s = absurd (true≢false (sym s))
-first_is_not_last (Write a b) s = absurd (true≢false (sym s))
-first_is_not_last (Read a) s = absurd (true≢false (sym s))
-first_is_not_last (Live a) s = absurd (true≢false (sym s))
-first_is_not_last (Remove a false) s = refl
-first_is_not_last (Remove a true) s = absurd (true≢false (sym s))
-first_is_not_last (Tick a b) s = absurd (true≢false (sym s))
-first_is_not_last (Pin a b) s = absurd (true≢false (sym s))
-first_is_not_last (Irq a b c) s = absurd (true≢false (sym s))
-first_is_not_last (Pull a b c) s = absurd (true≢false (sym s))
-first_is_not_last (Level a b c) s = absurd (true≢false (sym s))
-first_is_not_last (Interrupt a b c) s = absurd (true≢false (sym s))
-first_is_not_last (OpenChip a) s = absurd (true≢false (sym s))
-first_is_not_last (Find a b) s = absurd (true≢false (sym s))
-first_is_not_last (Ioctl a b c d e f) s = absurd (true≢false (sym s))
-first_is_not_last (ReadEdges a b c) s = absurd (true≢false (sym s))
-first_is_not_last (ReadInfo a b c) s = absurd (true≢false (sym s))
-first_is_not_last (PollLine a b) s = absurd (true≢false (sym s))
-first_is_not_last (PollChip a b) s = absurd (true≢false (sym s))
-first_is_not_last (Close a) s = absurd (true≢false (sym s))
-first_is_not_last (RefusedCall a b) s = absurd (true≢false (sym s))
-
-pub first_needs_no_place : (call : Call) → is_first_call call ≡ true → (guarded_place call ≡ None) × (refused_place call ≡ None)
-first_needs_no_place (Probe a b c) s = absurd (true≢false (sym s))
-first_needs_no_place (Unplug a false) s = (refl, refl)
-first_needs_no_place (Unplug a true) s = absurd (true≢false (sym s))
-first_needs_no_place (MakeDir a) s = absurd (true≢false (sym s))
-first_needs_no_place (RemoveDir a) s = absurd (true≢false (sym s))
-first_needs_no_place (Write a b) s = absurd (true≢false (sym s))
-first_needs_no_place (Read a) s = absurd (true≢false (sym s))
-first_needs_no_place (Live a) s = absurd (true≢false (sym s))
-first_needs_no_place (Remove a false) s = (refl, refl)
-first_needs_no_place (Remove a true) s = absurd (true≢false (sym s))
-first_needs_no_place (Tick a b) s = absurd (true≢false (sym s))
-first_needs_no_place (Pin a b) s = absurd (true≢false (sym s))
-first_needs_no_place (Irq a b c) s = absurd (true≢false (sym s))
-first_needs_no_place (Pull a b c) s = absurd (true≢false (sym s))
-first_needs_no_place (Level a b c) s = absurd (true≢false (sym s))
-first_needs_no_place (Interrupt a b c) s = absurd (true≢false (sym s))
-first_needs_no_place (OpenChip a) s = absurd (true≢false (sym s))
-first_needs_no_place (Find a b) s = absurd (true≢false (sym s))
-first_needs_no_place (Ioctl a b c d e f) s = absurd (true≢false (sym s))
-first_needs_no_place (ReadEdges a b c) s = absurd (true≢false (sym s))
-first_needs_no_place (ReadInfo a b c) s = absurd (true≢false (sym s))
-first_needs_no_place (PollLine a b) s = absurd (true≢false (sym s))
-first_needs_no_place (PollChip a b) s = absurd (true≢false (sym s))
-first_needs_no_place (Close a) s = absurd (true≢false (sym s))
-first_needs_no_place (RefusedCall a b) s = absurd (true≢false (sym s))
-
-pub last_needs_no_place : (call : Call) → is_first_call call ≡ true → (guarded_place (last_call call) ≡ None) × (refused_place (last_call call) ≡ None)
-last_needs_no_place (Probe a b c) s = absurd (true≢false (sym s))
-last_needs_no_place (Unplug a false) s = (refl, refl)
-last_needs_no_place (Unplug a true) s = absurd (true≢false (sym s))
-last_needs_no_place (MakeDir a) s = absurd (true≢false (sym s))
-last_needs_no_place (RemoveDir a) s = absurd (true≢false (sym s))
-last_needs_no_place (Write a b) s = absurd (true≢false (sym s))
-last_needs_no_place (Read a) s = absurd (true≢false (sym s))
-last_needs_no_place (Live a) s = absurd (true≢false (sym s))
-last_needs_no_place (Remove a false) s = (refl, refl)
-last_needs_no_place (Remove a true) s = absurd (true≢false (sym s))
-last_needs_no_place (Tick a b) s = absurd (true≢false (sym s))
-last_needs_no_place (Pin a b) s = absurd (true≢false (sym s))
-last_needs_no_place (Irq a b c) s = absurd (true≢false (sym s))
-last_needs_no_place (Pull a b c) s = absurd (true≢false (sym s))
-last_needs_no_place (Level a b c) s = absurd (true≢false (sym s))
-last_needs_no_place (Interrupt a b c) s = absurd (true≢false (sym s))
-last_needs_no_place (OpenChip a) s = absurd (true≢false (sym s))
-last_needs_no_place (Find a b) s = absurd (true≢false (sym s))
-last_needs_no_place (Ioctl a b c d e f) s = absurd (true≢false (sym s))
-last_needs_no_place (ReadEdges a b c) s = absurd (true≢false (sym s))
-last_needs_no_place (ReadInfo a b c) s = absurd (true≢false (sym s))
-last_needs_no_place (PollLine a b) s = absurd (true≢false (sym s))
-last_needs_no_place (PollChip a b) s = absurd (true≢false (sym s))
-last_needs_no_place (Close a) s = absurd (true≢false (sym s))
-last_needs_no_place (RefusedCall a b) s = absurd (true≢false (sym s))
-
-pub last_ends : (call : Call) → is_first_call call ≡ true → ends (last_call call) ≡ true
-last_ends (Probe a b c) s = absurd (true≢false (sym s))
-last_ends (Unplug a false) s = refl
-last_ends (Unplug a true) s = absurd (true≢false (sym s))
-last_ends (MakeDir a) s = absurd (true≢false (sym s))
-last_ends (RemoveDir a) s = absurd (true≢false (sym s))
-last_ends (Write a b) s = absurd (true≢false (sym s))
-last_ends (Read a) s = absurd (true≢false (sym s))
-last_ends (Live a) s = absurd (true≢false (sym s))
-last_ends (Remove a false) s = refl
-last_ends (Remove a true) s = absurd (true≢false (sym s))
-last_ends (Tick a b) s = absurd (true≢false (sym s))
-last_ends (Pin a b) s = absurd (true≢false (sym s))
-last_ends (Irq a b c) s = absurd (true≢false (sym s))
-last_ends (Pull a b c) s = absurd (true≢false (sym s))
-last_ends (Level a b c) s = absurd (true≢false (sym s))
-last_ends (Interrupt a b c) s = absurd (true≢false (sym s))
-last_ends (OpenChip a) s = absurd (true≢false (sym s))
-last_ends (Find a b) s = absurd (true≢false (sym s))
-last_ends (Ioctl a b c d e f) s = absurd (true≢false (sym s))
-last_ends (ReadEdges a b c) s = absurd (true≢false (sym s))
-last_ends (ReadInfo a b c) s = absurd (true≢false (sym s))
-last_ends (PollLine a b) s = absurd (true≢false (sym s))
-last_ends (PollChip a b) s = absurd (true≢false (sym s))
-last_ends (Close a) s = absurd (true≢false (sym s))
-last_ends (RefusedCall a b) s = absurd (true≢false (sym s))
-
-pub last_begins_not : (call : Call) → is_first_call call ≡ true → (reply : Reply) → begins (last_call call) reply ≡ false
-last_begins_not (Probe a b c) s r = absurd (true≢false (sym s))
-last_begins_not (Unplug a false) s r = refl
-last_begins_not (Unplug a true) s r = absurd (true≢false (sym s))
-last_begins_not (MakeDir a) s r = absurd (true≢false (sym s))
-last_begins_not (RemoveDir a) s r = absurd (true≢false (sym s))
-last_begins_not (Write a b) s r = absurd (true≢false (sym s))
-last_begins_not (Read a) s r = absurd (true≢false (sym s))
-last_begins_not (Live a) s r = absurd (true≢false (sym s))
-last_begins_not (Remove a false) s r = refl
-last_begins_not (Remove a true) s r = absurd (true≢false (sym s))
-last_begins_not (Tick a b) s r = absurd (true≢false (sym s))
-last_begins_not (Pin a b) s r = absurd (true≢false (sym s))
-last_begins_not (Irq a b c) s r = absurd (true≢false (sym s))
-last_begins_not (Pull a b c) s r = absurd (true≢false (sym s))
-last_begins_not (Level a b c) s r = absurd (true≢false (sym s))
-last_begins_not (Interrupt a b c) s r = absurd (true≢false (sym s))
-last_begins_not (OpenChip a) s r = absurd (true≢false (sym s))
-last_begins_not (Find a b) s r = absurd (true≢false (sym s))
-last_begins_not (Ioctl a b c d e f) s r = absurd (true≢false (sym s))
-last_begins_not (ReadEdges a b c) s r = absurd (true≢false (sym s))
-last_begins_not (ReadInfo a b c) s r = absurd (true≢false (sym s))
-last_begins_not (PollLine a b) s r = absurd (true≢false (sym s))
-last_begins_not (PollChip a b) s r = absurd (true≢false (sym s))
-last_begins_not (Close a) s r = absurd (true≢false (sym s))
-last_begins_not (RefusedCall a b) s r = absurd (true≢false (sym s))
-
-pub last_begins_no_removal : (call : Call) → is_first_call call ≡ true → (reply : Reply) (bytes : List ℕ) → begun_places (last_call call) reply bytes ≡ []
-last_begins_no_removal (Probe a b c) s r bytes = absurd (true≢false (sym s))
-last_begins_no_removal (Unplug a false) s r bytes = refl
-last_begins_no_removal (Unplug a true) s r bytes = absurd (true≢false (sym s))
-last_begins_no_removal (MakeDir a) s r bytes = absurd (true≢false (sym s))
-last_begins_no_removal (RemoveDir a) s r bytes = absurd (true≢false (sym s))
-last_begins_no_removal (Write a b) s r bytes = absurd (true≢false (sym s))
-last_begins_no_removal (Read a) s r bytes = absurd (true≢false (sym s))
-last_begins_no_removal (Live a) s r bytes = absurd (true≢false (sym s))
-last_begins_no_removal (Remove a false) s r bytes = refl
-last_begins_no_removal (Remove a true) s r bytes = absurd (true≢false (sym s))
-last_begins_no_removal (Tick a b) s r bytes = absurd (true≢false (sym s))
-last_begins_no_removal (Pin a b) s r bytes = absurd (true≢false (sym s))
-last_begins_no_removal (Irq a b c) s r bytes = absurd (true≢false (sym s))
-last_begins_no_removal (Pull a b c) s r bytes = absurd (true≢false (sym s))
-last_begins_no_removal (Level a b c) s r bytes = absurd (true≢false (sym s))
-last_begins_no_removal (Interrupt a b c) s r bytes = absurd (true≢false (sym s))
-last_begins_no_removal (OpenChip a) s r bytes = absurd (true≢false (sym s))
-last_begins_no_removal (Find a b) s r bytes = absurd (true≢false (sym s))
-last_begins_no_removal (Ioctl a b c d e f) s r bytes = absurd (true≢false (sym s))
-last_begins_no_removal (ReadEdges a b c) s r bytes = absurd (true≢false (sym s))
-last_begins_no_removal (ReadInfo a b c) s r bytes = absurd (true≢false (sym s))
-last_begins_no_removal (PollLine a b) s r bytes = absurd (true≢false (sym s))
-last_begins_no_removal (PollChip a b) s r bytes = absurd (true≢false (sym s))
-last_begins_no_removal (Close a) s r bytes = absurd (true≢false (sym s))
-last_begins_no_removal (RefusedCall a b) s r bytes = absurd (true≢false (sym s))
-
-pub first_begins : (call : Call) → is_first_call call ≡ true → (reply : Reply) → begins call reply ≡ is_done reply
-first_begins (Probe a b c) s r = absurd (true≢false (sym s))
-first_begins (Unplug a false) s r = refl
-first_begins (Unplug a true) s r = absurd (true≢false (sym s))
-first_begins (MakeDir a) s r = absurd (true≢false (sym s))
-first_begins (RemoveDir a) s r = absurd (true≢false (sym s))
-first_begins (Write a b) s r = absurd (true≢false (sym s))
-first_begins (Read a) s r = absurd (true≢false (sym s))
-first_begins (Live a) s r = absurd (true≢false (sym s))
-first_begins (Remove a false) s r = refl
-first_begins (Remove a true) s r = absurd (true≢false (sym s))
-first_begins (Tick a b) s r = absurd (true≢false (sym s))
-first_begins (Pin a b) s r = absurd (true≢false (sym s))
-first_begins (Irq a b c) s r = absurd (true≢false (sym s))
-first_begins (Pull a b c) s r = absurd (true≢false (sym s))
-first_begins (Level a b c) s r = absurd (true≢false (sym s))
-first_begins (Interrupt a b c) s r = absurd (true≢false (sym s))
-first_begins (OpenChip a) s r = absurd (true≢false (sym s))
-first_begins (Find a b) s r = absurd (true≢false (sym s))
-first_begins (Ioctl a b c d e f) s r = absurd (true≢false (sym s))
-first_begins (ReadEdges a b c) s r = absurd (true≢false (sym s))
-first_begins (ReadInfo a b c) s r = absurd (true≢false (sym s))
-first_begins (PollLine a b) s r = absurd (true≢false (sym s))
-first_begins (PollChip a b) s r = absurd (true≢false (sym s))
-first_begins (Close a) s r = absurd (true≢false (sym s))
-first_begins (RefusedCall a b) s r = absurd (true≢false (sym s))
-
-pub first_begun : (call : Call) → is_first_call call ≡ true → (reply : Reply) (bytes : List ℕ) → is_done reply ≡ true → begun_places call reply bytes ≡ places_named bytes
-first_begun (Probe a b c) s r bytes is_so = absurd (true≢false (sym s))
-first_begun (Unplug a false) s r bytes is_so = ap (λ b. cond b (places_named bytes) []) is_so
-first_begun (Unplug a true) s r bytes is_so = absurd (true≢false (sym s))
-first_begun (MakeDir a) s r bytes is_so = absurd (true≢false (sym s))
-first_begun (RemoveDir a) s r bytes is_so = absurd (true≢false (sym s))
-first_begun (Write a b) s r bytes is_so = absurd (true≢false (sym s))
-first_begun (Read a) s r bytes is_so = absurd (true≢false (sym s))
-first_begun (Live a) s r bytes is_so = absurd (true≢false (sym s))
-first_begun (Remove a false) s r bytes is_so = ap (λ b. cond b (places_named bytes) []) is_so
-first_begun (Remove a true) s r bytes is_so = absurd (true≢false (sym s))
-first_begun (Tick a b) s r bytes is_so = absurd (true≢false (sym s))
-first_begun (Pin a b) s r bytes is_so = absurd (true≢false (sym s))
-first_begun (Irq a b c) s r bytes is_so = absurd (true≢false (sym s))
-first_begun (Pull a b c) s r bytes is_so = absurd (true≢false (sym s))
-first_begun (Level a b c) s r bytes is_so = absurd (true≢false (sym s))
-first_begun (Interrupt a b c) s r bytes is_so = absurd (true≢false (sym s))
-first_begun (OpenChip a) s r bytes is_so = absurd (true≢false (sym s))
-first_begun (Find a b) s r bytes is_so = absurd (true≢false (sym s))
-first_begun (Ioctl a b c d e f) s r bytes is_so = absurd (true≢false (sym s))
-first_begun (ReadEdges a b c) s r bytes is_so = absurd (true≢false (sym s))
-first_begun (ReadInfo a b c) s r bytes is_so = absurd (true≢false (sym s))
-first_begun (PollLine a b) s r bytes is_so = absurd (true≢false (sym s))
-first_begun (PollChip a b) s r bytes is_so = absurd (true≢false (sym s))
-first_begun (Close a) s r bytes is_so = absurd (true≢false (sym s))
-first_begun (RefusedCall a b) s r bytes is_so = absurd (true≢false (sym s))
-
-pub first_refused : (call : Call) → is_first_call call ≡ true → (reply : Reply) (bytes : List ℕ) → is_done reply ≡ false → begun_places call reply bytes ≡ []
-first_refused (Probe a b c) s r bytes is_so = absurd (true≢false (sym s))
-first_refused (Unplug a false) s r bytes is_so = ap (λ b. cond b (places_named bytes) []) is_so
-first_refused (Unplug a true) s r bytes is_so = absurd (true≢false (sym s))
-first_refused (MakeDir a) s r bytes is_so = absurd (true≢false (sym s))
-first_refused (RemoveDir a) s r bytes is_so = absurd (true≢false (sym s))
-first_refused (Write a b) s r bytes is_so = absurd (true≢false (sym s))
-first_refused (Read a) s r bytes is_so = absurd (true≢false (sym s))
-first_refused (Live a) s r bytes is_so = absurd (true≢false (sym s))
-first_refused (Remove a false) s r bytes is_so = ap (λ b. cond b (places_named bytes) []) is_so
-first_refused (Remove a true) s r bytes is_so = absurd (true≢false (sym s))
-first_refused (Tick a b) s r bytes is_so = absurd (true≢false (sym s))
-first_refused (Pin a b) s r bytes is_so = absurd (true≢false (sym s))
-first_refused (Irq a b c) s r bytes is_so = absurd (true≢false (sym s))
-first_refused (Pull a b c) s r bytes is_so = absurd (true≢false (sym s))
-first_refused (Level a b c) s r bytes is_so = absurd (true≢false (sym s))
-first_refused (Interrupt a b c) s r bytes is_so = absurd (true≢false (sym s))
-first_refused (OpenChip a) s r bytes is_so = absurd (true≢false (sym s))
-first_refused (Find a b) s r bytes is_so = absurd (true≢false (sym s))
-first_refused (Ioctl a b c d e f) s r bytes is_so = absurd (true≢false (sym s))
-first_refused (ReadEdges a b c) s r bytes is_so = absurd (true≢false (sym s))
-first_refused (ReadInfo a b c) s r bytes is_so = absurd (true≢false (sym s))
-first_refused (PollLine a b) s r bytes is_so = absurd (true≢false (sym s))
-first_refused (PollChip a b) s r bytes is_so = absurd (true≢false (sym s))
-first_refused (Close a) s r bytes is_so = absurd (true≢false (sym s))
-first_refused (RefusedCall a b) s r bytes is_so = absurd (true≢false (sym s))
 
 pub first_is : (call : Call) → is_first_call call ≡ true → call ≡ first_call (removal_of call)
 first_is (Probe a b c) s = absurd (true≢false (sym s))
@@ -338,6 +68,80 @@ first_is (PollChip a b) s = absurd (true≢false (sym s))
 first_is (Close a) s = absurd (true≢false (sym s))
 first_is (RefusedCall a b) s = absurd (true≢false (sym s))
 
+-- what is true of the first call of every removal
+by_removal : (P : Call → Type 0) → ((removal : RemovalOf) → P (first_call removal)) → (call : Call) → is_first_call call ≡ true → P call
+by_removal P h call first = subst P (sym (first_is call first)) (h (removal_of call))
+
+pub first_ends_not : (call : Call) → is_first_call call ≡ true → ends call ≡ false
+first_ends_not call first = by_removal (λ call. ends call ≡ false) at call first
+  where
+    at : (removal : RemovalOf) → ends (first_call removal) ≡ false
+    at (OfChip a) = refl
+    at (OfDevice a) = refl
+
+pub first_is_not_last : (call : Call) → is_first_call call ≡ true → is_last_removal call ≡ false
+first_is_not_last call first = by_removal (λ call. is_last_removal call ≡ false) at call first
+  where
+    at : (removal : RemovalOf) → is_last_removal (first_call removal) ≡ false
+    at (OfChip a) = refl
+    at (OfDevice a) = refl
+
+pub first_needs_no_place : (call : Call) → is_first_call call ≡ true → (guarded_place call ≡ None) × (refused_place call ≡ None)
+first_needs_no_place call first = by_removal (λ call. (guarded_place call ≡ None) × (refused_place call ≡ None)) at call first
+  where
+    at : (removal : RemovalOf) → (guarded_place (first_call removal) ≡ None) × (refused_place (first_call removal) ≡ None)
+    at (OfChip a) = (refl, refl)
+    at (OfDevice a) = (refl, refl)
+
+pub last_needs_no_place : (call : Call) → is_first_call call ≡ true → (guarded_place (last_call call) ≡ None) × (refused_place (last_call call) ≡ None)
+last_needs_no_place call first = by_removal (λ call. (guarded_place (last_call call) ≡ None) × (refused_place (last_call call) ≡ None)) at call first
+  where
+    at : (removal : RemovalOf) → (guarded_place (last_call (first_call removal)) ≡ None) × (refused_place (last_call (first_call removal)) ≡ None)
+    at (OfChip a) = (refl, refl)
+    at (OfDevice a) = (refl, refl)
+
+pub last_ends : (call : Call) → is_first_call call ≡ true → ends (last_call call) ≡ true
+last_ends call first = by_removal (λ call. ends (last_call call) ≡ true) at call first
+  where
+    at : (removal : RemovalOf) → ends (last_call (first_call removal)) ≡ true
+    at (OfChip a) = refl
+    at (OfDevice a) = refl
+
+pub last_begins_not : (call : Call) → is_first_call call ≡ true → (reply : Reply) → begins (last_call call) reply ≡ false
+last_begins_not call first = by_removal (λ call. (reply : Reply) → begins (last_call call) reply ≡ false) at call first
+  where
+    at : (removal : RemovalOf) → (reply : Reply) → begins (last_call (first_call removal)) reply ≡ false
+    at (OfChip a) r = refl
+    at (OfDevice a) r = refl
+
+pub last_begins_no_removal : (call : Call) → is_first_call call ≡ true → (reply : Reply) (bytes : List ℕ) → begun_places (last_call call) reply bytes ≡ []
+last_begins_no_removal call first = by_removal (λ call. (reply : Reply) (bytes : List ℕ) → begun_places (last_call call) reply bytes ≡ []) at call first
+  where
+    at : (removal : RemovalOf) → (reply : Reply) (bytes : List ℕ) → begun_places (last_call (first_call removal)) reply bytes ≡ []
+    at (OfChip a) r bytes = refl
+    at (OfDevice a) r bytes = refl
+
+pub first_begins : (call : Call) → is_first_call call ≡ true → (reply : Reply) → begins call reply ≡ is_done reply
+first_begins call first = by_removal (λ call. (reply : Reply) → begins call reply ≡ is_done reply) at call first
+  where
+    at : (removal : RemovalOf) → (reply : Reply) → begins (first_call removal) reply ≡ is_done reply
+    at (OfChip a) r = refl
+    at (OfDevice a) r = refl
+
+pub first_begun : (call : Call) → is_first_call call ≡ true → (reply : Reply) (bytes : List ℕ) → is_done reply ≡ true → begun_places call reply bytes ≡ places_named bytes
+first_begun call first = by_removal (λ call. (reply : Reply) (bytes : List ℕ) → is_done reply ≡ true → begun_places call reply bytes ≡ places_named bytes) at call first
+  where
+    at : (removal : RemovalOf) → (reply : Reply) (bytes : List ℕ) → is_done reply ≡ true → begun_places (first_call removal) reply bytes ≡ places_named bytes
+    at (OfChip a) r bytes is_so = ap (λ b. cond b (places_named bytes) []) is_so
+    at (OfDevice a) r bytes is_so = ap (λ b. cond b (places_named bytes) []) is_so
+
+pub first_refused : (call : Call) → is_first_call call ≡ true → (reply : Reply) (bytes : List ℕ) → is_done reply ≡ false → begun_places call reply bytes ≡ []
+first_refused call first = by_removal (λ call. (reply : Reply) (bytes : List ℕ) → is_done reply ≡ false → begun_places call reply bytes ≡ []) at call first
+  where
+    at : (removal : RemovalOf) → (reply : Reply) (bytes : List ℕ) → is_done reply ≡ false → begun_places (first_call removal) reply bytes ≡ []
+    at (OfChip a) r bytes is_so = ap (λ b. cond b (places_named bytes) []) is_so
+    at (OfDevice a) r bytes is_so = ap (λ b. cond b (places_named bytes) []) is_so
+
 pub done_is : (reply : Reply) → is_done reply ≡ true → reply ≡ Done
 done_is Done d = refl
 done_is (Number n) d = absurd (true≢false (sym d))
@@ -354,31 +158,11 @@ writes_two (Some errno) w v places d = absurd (true≢false (sym d))
 
 -- the first call writes its first place, and how many there are
 pub first_writes : (call : Call) → is_first_call call ≡ true → (w : World) (actor : ℕ) → is_done (reply_of w actor call) ≡ true → (from count : ℕ) × (bytes_of w actor call ≡ from ∷ count ∷ [])
-first_writes (Probe a b c) s w actor is_so = absurd (true≢false (sym s))
-first_writes (Unplug a false) s w actor is_so = writes_two _ w _ (a ∷ []) is_so
-first_writes (Unplug a true) s w actor is_so = absurd (true≢false (sym s))
-first_writes (MakeDir a) s w actor is_so = absurd (true≢false (sym s))
-first_writes (RemoveDir a) s w actor is_so = absurd (true≢false (sym s))
-first_writes (Write a b) s w actor is_so = absurd (true≢false (sym s))
-first_writes (Read a) s w actor is_so = absurd (true≢false (sym s))
-first_writes (Live a) s w actor is_so = absurd (true≢false (sym s))
-first_writes (Remove a false) s w actor is_so = writes_two _ w _ (up_places a w) is_so
-first_writes (Remove a true) s w actor is_so = absurd (true≢false (sym s))
-first_writes (Tick a b) s w actor is_so = absurd (true≢false (sym s))
-first_writes (Pin a b) s w actor is_so = absurd (true≢false (sym s))
-first_writes (Irq a b c) s w actor is_so = absurd (true≢false (sym s))
-first_writes (Pull a b c) s w actor is_so = absurd (true≢false (sym s))
-first_writes (Level a b c) s w actor is_so = absurd (true≢false (sym s))
-first_writes (Interrupt a b c) s w actor is_so = absurd (true≢false (sym s))
-first_writes (OpenChip a) s w actor is_so = absurd (true≢false (sym s))
-first_writes (Find a b) s w actor is_so = absurd (true≢false (sym s))
-first_writes (Ioctl a b c d e f) s w actor is_so = absurd (true≢false (sym s))
-first_writes (ReadEdges a b c) s w actor is_so = absurd (true≢false (sym s))
-first_writes (ReadInfo a b c) s w actor is_so = absurd (true≢false (sym s))
-first_writes (PollLine a b) s w actor is_so = absurd (true≢false (sym s))
-first_writes (PollChip a b) s w actor is_so = absurd (true≢false (sym s))
-first_writes (Close a) s w actor is_so = absurd (true≢false (sym s))
-first_writes (RefusedCall a b) s w actor is_so = absurd (true≢false (sym s))
+first_writes call first = by_removal (λ call. (w : World) (actor : ℕ) → is_done (reply_of w actor call) ≡ true → (from count : ℕ) × (bytes_of w actor call ≡ from ∷ count ∷ [])) at call first
+  where
+    at : (removal : RemovalOf) → (w : World) (actor : ℕ) → is_done (reply_of w actor (first_call removal)) ≡ true → (from count : ℕ) × (bytes_of w actor (first_call removal) ≡ from ∷ count ∷ [])
+    at (OfChip a) w actor is_so = writes_two _ w _ (a ∷ []) is_so
+    at (OfDevice a) w actor is_so = writes_two _ w _ (up_places a w) is_so
 
 abbrev first_of_two : List ℕ → ℕ
 first_of_two [] = 0
@@ -484,58 +268,18 @@ last_leaves_free from count first w u reply old new is_first begun outside same 
 }
 
 pub fits_last : (call : Call) → is_first_call call ≡ true → FitsCall call → (gift : Gift) → Fits (last_call call) gift []
-fits_last (Probe a b c) s fits gift = absurd (true≢false (sym s))
-fits_last (Unplug a false) s fits gift = record { fits_call = fits; brings = tt; buffer_fits = tt }
-fits_last (Unplug a true) s fits gift = absurd (true≢false (sym s))
-fits_last (MakeDir a) s fits gift = absurd (true≢false (sym s))
-fits_last (RemoveDir a) s fits gift = absurd (true≢false (sym s))
-fits_last (Write a b) s fits gift = absurd (true≢false (sym s))
-fits_last (Read a) s fits gift = absurd (true≢false (sym s))
-fits_last (Live a) s fits gift = absurd (true≢false (sym s))
-fits_last (Remove a false) s fits gift = record { fits_call = fits; brings = tt; buffer_fits = tt }
-fits_last (Remove a true) s fits gift = absurd (true≢false (sym s))
-fits_last (Tick a b) s fits gift = absurd (true≢false (sym s))
-fits_last (Pin a b) s fits gift = absurd (true≢false (sym s))
-fits_last (Irq a b c) s fits gift = absurd (true≢false (sym s))
-fits_last (Pull a b c) s fits gift = absurd (true≢false (sym s))
-fits_last (Level a b c) s fits gift = absurd (true≢false (sym s))
-fits_last (Interrupt a b c) s fits gift = absurd (true≢false (sym s))
-fits_last (OpenChip a) s fits gift = absurd (true≢false (sym s))
-fits_last (Find a b) s fits gift = absurd (true≢false (sym s))
-fits_last (Ioctl a b c d e f) s fits gift = absurd (true≢false (sym s))
-fits_last (ReadEdges a b c) s fits gift = absurd (true≢false (sym s))
-fits_last (ReadInfo a b c) s fits gift = absurd (true≢false (sym s))
-fits_last (PollLine a b) s fits gift = absurd (true≢false (sym s))
-fits_last (PollChip a b) s fits gift = absurd (true≢false (sym s))
-fits_last (Close a) s fits gift = absurd (true≢false (sym s))
-fits_last (RefusedCall a b) s fits gift = absurd (true≢false (sym s))
+fits_last call first = by_removal (λ call. FitsCall call → (gift : Gift) → Fits (last_call call) gift []) at call first
+  where
+    at : (removal : RemovalOf) → FitsCall (first_call removal) → (gift : Gift) → Fits (last_call (first_call removal)) gift []
+    at (OfChip a) fits gift = record { fits_call = fits; brings = tt; buffer_fits = tt }
+    at (OfDevice a) fits gift = record { fits_call = fits; brings = tt; buffer_fits = tt }
 
 pub fits_first : (call : Call) → is_first_call call ≡ true → FitsCall call → (gift : Gift) (out : List ℕ) → length out ≡ 2 → Fits call gift out
-fits_first (Probe a b c) s fits gift out two = absurd (true≢false (sym s))
-fits_first (Unplug a false) s fits gift out two = record { fits_call = fits; brings = tt; buffer_fits = two }
-fits_first (Unplug a true) s fits gift out two = absurd (true≢false (sym s))
-fits_first (MakeDir a) s fits gift out two = absurd (true≢false (sym s))
-fits_first (RemoveDir a) s fits gift out two = absurd (true≢false (sym s))
-fits_first (Write a b) s fits gift out two = absurd (true≢false (sym s))
-fits_first (Read a) s fits gift out two = absurd (true≢false (sym s))
-fits_first (Live a) s fits gift out two = absurd (true≢false (sym s))
-fits_first (Remove a false) s fits gift out two = record { fits_call = fits; brings = tt; buffer_fits = two }
-fits_first (Remove a true) s fits gift out two = absurd (true≢false (sym s))
-fits_first (Tick a b) s fits gift out two = absurd (true≢false (sym s))
-fits_first (Pin a b) s fits gift out two = absurd (true≢false (sym s))
-fits_first (Irq a b c) s fits gift out two = absurd (true≢false (sym s))
-fits_first (Pull a b c) s fits gift out two = absurd (true≢false (sym s))
-fits_first (Level a b c) s fits gift out two = absurd (true≢false (sym s))
-fits_first (Interrupt a b c) s fits gift out two = absurd (true≢false (sym s))
-fits_first (OpenChip a) s fits gift out two = absurd (true≢false (sym s))
-fits_first (Find a b) s fits gift out two = absurd (true≢false (sym s))
-fits_first (Ioctl a b c d e f) s fits gift out two = absurd (true≢false (sym s))
-fits_first (ReadEdges a b c) s fits gift out two = absurd (true≢false (sym s))
-fits_first (ReadInfo a b c) s fits gift out two = absurd (true≢false (sym s))
-fits_first (PollLine a b) s fits gift out two = absurd (true≢false (sym s))
-fits_first (PollChip a b) s fits gift out two = absurd (true≢false (sym s))
-fits_first (Close a) s fits gift out two = absurd (true≢false (sym s))
-fits_first (RefusedCall a b) s fits gift out two = absurd (true≢false (sym s))
+fits_first call first = by_removal (λ call. FitsCall call → (gift : Gift) (out : List ℕ) → length out ≡ 2 → Fits call gift out) at call first
+  where
+    at : (removal : RemovalOf) → FitsCall (first_call removal) → (gift : Gift) (out : List ℕ) → length out ≡ 2 → Fits (first_call removal) gift out
+    at (OfChip a) fits gift out two = record { fits_call = fits; brings = tt; buffer_fits = two }
+    at (OfDevice a) fits gift out two = record { fits_call = fits; brings = tt; buffer_fits = two }
 
 pub has_ended : (from count : ℕ) (first : Call) (v w u : OneView) (reply : Reply) (old new : List ℕ) → is_first_call first ≡ true → HasBegun from count first v → HasDrained core from (from + count) v w → SamePass w u → Acts core w (last_call first) reply old new u
     → HasEnded from count first v reply u
@@ -680,31 +424,11 @@ refused_remove a (Ready b) form d = absurd (true≢false (sym form))
 refused_remove a (Refused errno) form d = (errno, refl)
 
 refused_first : (call : Call) → is_first_call call ≡ true → (reply : Reply) → has_form call reply ≡ true → is_done reply ≡ false → (errno : Errno) × (reply ≡ Refused errno)
-refused_first (Probe xa xb xc) s reply form d = absurd (true≢false (sym s))
-refused_first (Unplug a false) s reply form d = refused_unplug a reply form d
-refused_first (Unplug a true) s reply form d = absurd (true≢false (sym s))
-refused_first (MakeDir xa) s reply form d = absurd (true≢false (sym s))
-refused_first (RemoveDir xa) s reply form d = absurd (true≢false (sym s))
-refused_first (Write xa xb) s reply form d = absurd (true≢false (sym s))
-refused_first (Read xa) s reply form d = absurd (true≢false (sym s))
-refused_first (Live xa) s reply form d = absurd (true≢false (sym s))
-refused_first (Remove a false) s reply form d = refused_remove a reply form d
-refused_first (Remove a true) s reply form d = absurd (true≢false (sym s))
-refused_first (Tick xa xb) s reply form d = absurd (true≢false (sym s))
-refused_first (Pin xa xb) s reply form d = absurd (true≢false (sym s))
-refused_first (Irq xa xb xc) s reply form d = absurd (true≢false (sym s))
-refused_first (Pull xa xb xc) s reply form d = absurd (true≢false (sym s))
-refused_first (Level xa xb xc) s reply form d = absurd (true≢false (sym s))
-refused_first (Interrupt xa xb xc) s reply form d = absurd (true≢false (sym s))
-refused_first (OpenChip xa) s reply form d = absurd (true≢false (sym s))
-refused_first (Find xa xb) s reply form d = absurd (true≢false (sym s))
-refused_first (Ioctl xa xb xc xd xe xf) s reply form d = absurd (true≢false (sym s))
-refused_first (ReadEdges xa xb xc) s reply form d = absurd (true≢false (sym s))
-refused_first (ReadInfo xa xb xc) s reply form d = absurd (true≢false (sym s))
-refused_first (PollLine xa xb) s reply form d = absurd (true≢false (sym s))
-refused_first (PollChip xa xb) s reply form d = absurd (true≢false (sym s))
-refused_first (Close xa) s reply form d = absurd (true≢false (sym s))
-refused_first (RefusedCall xa xb) s reply form d = absurd (true≢false (sym s))
+refused_first call first = by_removal (λ call. (reply : Reply) → has_form call reply ≡ true → is_done reply ≡ false → (errno : Errno) × (reply ≡ Refused errno)) at call first
+  where
+    at : (removal : RemovalOf) → (reply : Reply) → has_form (first_call removal) reply ≡ true → is_done reply ≡ false → (errno : Errno) × (reply ≡ Refused errno)
+    at (OfChip a) reply form d = refused_unplug a reply form d
+    at (OfDevice a) reply form d = refused_remove a reply form d
 
 -- a first entry that isn't done is refused
 pub first_is_refused : (v w : OneView) (call : Call) (reply : Reply) (old new : List ℕ) → is_first_call call ≡ true → Acts core v call reply old new w → is_done reply ≡ false → (errno : Errno) × (reply ≡ Refused errno)
