@@ -1,0 +1,10 @@
+//! The laws of the texts. Each is a function with nothing to do: its contract is the law, and a caller gets it by the call.
+
+ghost use Rattle.gl_trace.specs.EntryText.{LegalEntriesHaveTexts};
+
+use gl_model::Image;
+
+/// Each entry of a legal history has a text, and so has each entry that comes, whatever happens.
+pub fn legal_entries_have_texts<K: Image>()
+    ensures { LegalEntriesHaveTexts K.Image.stands_for }
+{}
