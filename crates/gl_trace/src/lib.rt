@@ -5,6 +5,8 @@ mod form;
 pub mod laws;
 mod put;
 mod put_call;
+#[cfg(test)]
+mod tests;
 mod verb;
 mod words;
 
