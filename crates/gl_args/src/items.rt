@@ -7,13 +7,16 @@ ghost use Rattle.gl_args.specs.Items.{texts, items_of, item_in, item_given, step
 use crate::cuts::cut;
 use crate::names::{OPTIONS, OptionName, ToolName, long_among, short_among};
 use std::alloc::Global;
+use thiserror::Error;
 
 /// Why words are no tool's.
-#[derive(Clone, Copy, PartialEq, Eq, Debug)]
+#[derive(Clone, Copy, PartialEq, Eq, Debug, Error)]
 pub enum ArgFault {
     /// They aren't the words of a tool.
+    #[error("the words aren't those of a tool")]
     Usage,
     /// Memory is wanted.
+    #[error("memory is wanted")]
     NoMemory,
 }
 

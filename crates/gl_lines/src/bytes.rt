@@ -17,7 +17,8 @@ pub fn values_sent(count: usize) -> [u8; 592]
     bytes
 }
 
-/// What asks for the information on the line at an offset.
+/// What asks for the information on the line at an offset, by GET_LINEINFO or its watch: the structure with nothing but its
+/// offset set, in front of zeros. `write_line_info` writes it, of an information that has the offset alone.
 #[tactic(auto, using(crate::proofs::Buffers::behind_info))]
 pub fn info_sent(offset: u32) -> [u8; 592]
     ensures { result ≡ info_sent offset }

@@ -20,7 +20,7 @@ use Rattle.gl_lines.specs.Texts.{line, failed_line}
 use Rattle.gl_monitor.specs.declared.item.Item.{Item}
 use Rattle.gl_monitor.specs.declared.monitor.Monitor.{Monitor}
 use Rattle.gl_monitor.specs.declared.monitor.MonitorStage.{MonitorStage}
-use Rattle.gl_monitor.specs.declared.monitor.MonitorStage.TheVariants.{Begin, Finding, Watching as WatchingLines, Stepping, Polling, Reading, Shown, Failed, Leaving, Stopped, Closing, Resting, Ended}
+use Rattle.gl_monitor.specs.declared.monitor.MonitorStage.TheVariants.{Begin, Finding, Watching as WatchingLines, Stepping, Polling, Reading, Shown, Failed, Leaving, Stopped, Closing, NotClosed, Resting, Ended}
 use Rattle.gl_monitor.specs.Items.{item_size, items_in}
 use Rattle.gl_monitor.specs.ItemText.{items_text}
 
@@ -198,6 +198,7 @@ left_of m w Failed = goes_on (leaves w.slot)
 left_of m w Leaving = waits (λ _. ends)
 left_of m w Stopped = goes_on (closes w)
 left_of m w Closing = waits (λ got. closed w (refusal got))
+left_of m w NotClosed = goes_on ends
 left_of m w Resting = goes_on (done (Some w))
 left_of m w Ended = goes_on ends
 

@@ -1,5 +1,5 @@
 //! gpiomon and gpionotify.
-ghost use Rattle.std.specs.Prelude.{◌≡◌, ◌+◌, ◌<◌, ◌^◌, ◌≤◌, [], ◌∷◌, not, is_some, drop, IfOk, IsSome, IsOkUnless, MatchOption, option_copied};
+ghost use Rattle.std.specs.Prelude.{◌≡◌, ◌+◌, ◌<◌, ◌^◌, ◌≤◌, [], ◌∷◌, true, false, not, is_some, None, drop, IfOk, IsSome, IsOkUnless, MatchOption, option_copied};
 ghost use Rattle.gl_args.specs.Options.{options_in, tool_in};
 ghost use Rattle.gl_args.specs.Program.{Goes, given, goes_on, done, then_by, MatchNext};
 ghost use Rattle.gl_lines.specs.declared.found_line.FoundLine.{FoundLine};
@@ -39,6 +39,8 @@ pub enum MonitorStage {
     Stopped,
     /// Its file is being closed.
     Closing,
+    /// The closing was refused, and that was printed.
+    NotClosed,
     /// Its start or its step is done, and it watches its lines.
     Resting,
     /// It has ended.
@@ -88,11 +90,11 @@ impl Monitor {
 
     /// What it does next. `got` is the result of the operation that it asked for last, if it asked for one. End means
     /// that the start, the step or the stop is done: then what is left is said by what it watches, and it has ended
-    /// exactly where it watches nothing.
+    /// exactly where it watches nothing. Behind a Call or a Print it hasn't ended.
     pub fn next(&mut self, alloc: Global, got: Option<&Got>) -> Result<Next, Errno>
         ensures goes { IfOk result (λ next. Goes (given (monitor_left self.old) (option_copied got.entry)) next (monitor_left self.new)) }
         ensures rests { IfOk result (λ next. MatchNext next (Unit {0}) (monitor_left self.new ≡ goes_on (done (watched_by self.new)))) }
-        ensures ended { IfOk result (λ next. MatchNext next (Unit {0}) (has_ended self.new.stage ≡ not (is_some (watched_by self.new)))) }
+        ensures ended { IfOk result (λ next. MatchNext next (has_ended self.new.stage ≡ false) (has_ended self.new.stage ≡ not (is_some (watched_by self.new)))) }
         ensures memory_alone { IsOkUnless result Errno.NoMemory }
     {
         let none = Got::Done;
@@ -119,6 +121,7 @@ impl Monitor {
             MonitorStage::Leaving => Ok(self.end()),
             MonitorStage::Stopped => Ok(self.close()),
             MonitorStage::Closing => self.closed(alloc, told.refusal()),
+            MonitorStage::NotClosed => Ok(self.end()),
             MonitorStage::Resting | MonitorStage::Ended => Ok(Next::End),
         }
     }
@@ -139,9 +142,11 @@ impl Monitor {
         self.leave_rest(MonitorStage::Stopped);
     }
 
-    /// Whether the tool has ended, so that its name is free.
+    /// Whether the tool has ended, so that its name is free: so it is from the End on at which it watches nothing. Then
+    /// nothing is left of its program.
     pub fn ended(&self) -> bool
-        ensures { result ≡ has_ended self.now.stage }
+        ensures told { result ≡ has_ended self.now.stage }
+        ensures nothing_left { result ≡ true → monitor_left self.now ≡ goes_on (done None) }
     {
         match &self.stage {
             MonitorStage::Ended => true,
@@ -156,6 +161,7 @@ impl Monitor {
             | MonitorStage::Leaving
             | MonitorStage::Stopped
             | MonitorStage::Closing
+            | MonitorStage::NotClosed
             | MonitorStage::Resting => false,
         }
     }
@@ -178,6 +184,7 @@ impl Monitor {
             | MonitorStage::Leaving
             | MonitorStage::Stopped
             | MonitorStage::Closing
+            | MonitorStage::NotClosed
             | MonitorStage::Ended => None,
         }
     }
@@ -203,6 +210,7 @@ impl Monitor {
             | MonitorStage::Leaving
             | MonitorStage::Stopped
             | MonitorStage::Closing
+            | MonitorStage::NotClosed
             | MonitorStage::Ended => self.stage = MonitorStage::Ended,
         }
     }
@@ -211,7 +219,7 @@ impl Monitor {
     fn go_on(&mut self, step: Next) -> Next
         ensures goes { (p : Finding) → Goes p step (left self.old.finder) → Goes (then_by p (started self.old.finder.tool self.old.finder.base self.old.finder.made (options_in self.old.finder.opts))) result (monitor_left self.new) }
         ensures rests { MatchNext result (Unit {0}) (monitor_left self.new ≡ goes_on (done (watched_by self.new))) }
-        ensures ended { MatchNext result (Unit {0}) (has_ended self.new.stage ≡ not (is_some (watched_by self.new))) }
+        ensures ended { MatchNext result (has_ended self.new.stage ≡ false) (has_ended self.new.stage ≡ not (is_some (watched_by self.new))) }
     {
         match step {
             Next::Call(what) => {
@@ -236,7 +244,7 @@ impl Monitor {
     fn watch_found(&mut self) -> Next
         ensures goes { Goes (has_lines (first_watching self.old.finder)) result (monitor_left self.new) }
         ensures rests { MatchNext result (Unit {0}) (monitor_left self.new ≡ goes_on (done (watched_by self.new))) }
-        ensures ended { MatchNext result (Unit {0}) (has_ended self.new.stage ≡ not (is_some (watched_by self.new))) }
+        ensures ended { MatchNext result (has_ended self.new.stage ≡ false) (has_ended self.new.stage ≡ not (is_some (watched_by self.new))) }
     {
         self.missing = self.finder.opts.count;
         self.next = 0;
@@ -251,7 +259,7 @@ impl Monitor {
     fn watch(&mut self) -> Next
         ensures goes { Goes (watches (watching_in self.old) (drop self.old.next self.old.finder.found.items)) result (monitor_left self.new) }
         ensures rests { MatchNext result (Unit {0}) (monitor_left self.new ≡ goes_on (done (watched_by self.new))) }
-        ensures ended { MatchNext result (Unit {0}) (has_ended self.new.stage ≡ not (is_some (watched_by self.new))) }
+        ensures ended { MatchNext result (has_ended self.new.stage ≡ false) (has_ended self.new.stage ≡ not (is_some (watched_by self.new))) }
     {
         match self.line_offset() {
             Some(offset) => {
@@ -285,7 +293,7 @@ impl Monitor {
     fn watched(&mut self, alloc: Global, refusal: Option<Errno>) -> Result<Next, Errno>
         ensures goes { IfOk result (λ next. Goes (watched (watching_in self.old) (watches (watching_in self.old) (drop self.old.next self.old.finder.found.items)) refusal) next (monitor_left self.new)) }
         ensures rests { IfOk result (λ next. MatchNext next (Unit {0}) (monitor_left self.new ≡ goes_on (done (watched_by self.new)))) }
-        ensures ended { IfOk result (λ next. MatchNext next (Unit {0}) (has_ended self.new.stage ≡ not (is_some (watched_by self.new)))) }
+        ensures ended { IfOk result (λ next. MatchNext next (has_ended self.new.stage ≡ false) (has_ended self.new.stage ≡ not (is_some (watched_by self.new)))) }
         ensures memory_alone { IsOkUnless result Errno.NoMemory }
     {
         match refusal {
@@ -298,7 +306,7 @@ impl Monitor {
     #[tactic(auto, using(crate::proofs::Turns::one_turn))]
     fn turn(&mut self, alloc: Global) -> Result<Next, Errno>
         ensures goes { IfOk result (λ next. Goes (steps (watching_in self.old) self.old.turns) next (monitor_left self.new)) }
-        ensures goes_on { IfOk result (λ next. MatchNext next (Unit {0}) ⊥) }
+        ensures goes_on { IfOk result (λ next. MatchNext next (has_ended self.new.stage ≡ false) ⊥) }
         ensures memory_alone { IsOkUnless result Errno.NoMemory }
     {
         if self.turns == 0 {
@@ -314,7 +322,7 @@ impl Monitor {
 
     fn polled(&mut self, alloc: Global, refusal: Option<Errno>, bits: u8) -> Result<Next, Errno>
         ensures goes { IfOk result (λ next. Goes (polled (watching_in self.old) (steps (watching_in self.old) self.old.turns) refusal bits) next (monitor_left self.new)) }
-        ensures goes_on { IfOk result (λ next. MatchNext next (Unit {0}) ⊥) }
+        ensures goes_on { IfOk result (λ next. MatchNext next (has_ended self.new.stage ≡ false) ⊥) }
         ensures memory_alone { IsOkUnless result Errno.NoMemory }
     {
         match refusal {
@@ -326,7 +334,7 @@ impl Monitor {
     /// What is ready: nothing, the chip is gone, or items wait.
     fn ready(&mut self, alloc: Global, bits: u8) -> Result<Next, Errno>
         ensures goes { IfOk result (λ next. Goes (ready (watching_in self.old) (steps (watching_in self.old) self.old.turns) bits) next (monitor_left self.new)) }
-        ensures goes_on { IfOk result (λ next. MatchNext next (Unit {0}) ⊥) }
+        ensures goes_on { IfOk result (λ next. MatchNext next (has_ended self.new.stage ≡ false) ⊥) }
         ensures memory_alone { IsOkUnless result Errno.NoMemory }
     {
         if bits == 0 {
@@ -350,7 +358,7 @@ impl Monitor {
     ) -> Result<Next, Errno>
         ensures goes { IfOk result (λ next. Goes (was_read (watching_in self.old) refusal bytes.now) next (monitor_left self.new)) }
         ensures rests { IfOk result (λ next. MatchNext next (Unit {0}) (monitor_left self.new ≡ goes_on (done (watched_by self.new)))) }
-        ensures ended { IfOk result (λ next. MatchNext next (Unit {0}) (has_ended self.new.stage ≡ not (is_some (watched_by self.new)))) }
+        ensures ended { IfOk result (λ next. MatchNext next (has_ended self.new.stage ≡ false) (has_ended self.new.stage ≡ not (is_some (watched_by self.new)))) }
         ensures memory_alone { IsOkUnless result Errno.NoMemory }
     {
         match refusal {
@@ -370,7 +378,7 @@ impl Monitor {
     fn show(&mut self, text: ByteList) -> Next
         ensures goes { Goes (shows text (goes_behind (watching_in self.old))) result (monitor_left self.new) }
         ensures rests { MatchNext result (Unit {0}) (monitor_left self.new ≡ goes_on (done (watched_by self.new))) }
-        ensures ended { MatchNext result (Unit {0}) (has_ended self.new.stage ≡ not (is_some (watched_by self.new))) }
+        ensures ended { MatchNext result (has_ended self.new.stage ≡ false) (has_ended self.new.stage ≡ not (is_some (watched_by self.new))) }
     {
         if text.as_slice().is_empty() {
             return self.go_behind();
@@ -384,7 +392,7 @@ impl Monitor {
     fn go_behind(&mut self) -> Next
         ensures goes { Goes (goes_behind (watching_in self.old)) result (monitor_left self.new) }
         ensures rests { MatchNext result (Unit {0}) (monitor_left self.new ≡ goes_on (done (watched_by self.new))) }
-        ensures ended { MatchNext result (Unit {0}) (has_ended self.new.stage ≡ not (is_some (watched_by self.new))) }
+        ensures ended { MatchNext result (has_ended self.new.stage ≡ false) (has_ended self.new.stage ≡ not (is_some (watched_by self.new))) }
     {
         if is_complete(self.missing) {
             return self.close();
@@ -414,7 +422,7 @@ impl Monitor {
     /// Prints a refusal.
     fn fail(&mut self, alloc: Global, errno: Errno) -> Result<Next, Errno>
         ensures goes { IfOk result (λ next. Goes (fails (watching_in self.old) errno) next (monitor_left self.new)) }
-        ensures goes_on { IfOk result (λ next. MatchNext next (Unit {0}) ⊥) }
+        ensures goes_on { IfOk result (λ next. MatchNext next (has_ended self.new.stage ≡ false) ⊥) }
         ensures memory_alone { IsOkUnless result Errno.NoMemory }
     {
         let text = failed_line(alloc, self.finder.tool, errno)?;
@@ -425,7 +433,7 @@ impl Monitor {
     /// Closes its file behind a refusal.
     fn leave(&mut self) -> Next
         ensures goes { Goes (leaves (watching_in self.old).slot) result (monitor_left self.new) }
-        ensures goes_on { MatchNext result (Unit {0}) ⊥ }
+        ensures goes_on { MatchNext result (has_ended self.new.stage ≡ false) ⊥ }
     {
         self.stage = MonitorStage::Leaving;
         Next::Call(Do::Close { slot: self.slot() })
@@ -434,7 +442,7 @@ impl Monitor {
     /// Closes its file.
     fn close(&mut self) -> Next
         ensures goes { Goes (closes (watching_in self.old)) result (monitor_left self.new) }
-        ensures goes_on { MatchNext result (Unit {0}) ⊥ }
+        ensures goes_on { MatchNext result (has_ended self.new.stage ≡ false) ⊥ }
     {
         self.stage = MonitorStage::Closing;
         Next::Call(Do::Close { slot: self.slot() })
@@ -442,13 +450,13 @@ impl Monitor {
 
     fn closed(&mut self, alloc: Global, refusal: Option<Errno>) -> Result<Next, Errno>
         ensures goes { IfOk result (λ next. Goes (closed (watching_in self.old) refusal) next (monitor_left self.new)) }
-        ensures ended { IfOk result (λ next. MatchNext next (Unit {0}) (self.new.stage ≡ MonitorStage.Ended)) }
+        ensures ended { IfOk result (λ next. MatchNext next (has_ended self.new.stage ≡ false) (self.new.stage ≡ MonitorStage.Ended)) }
         ensures memory_alone { IsOkUnless result Errno.NoMemory }
     {
         match refusal {
             Some(errno) => {
                 let text = failed_line(alloc, self.finder.tool, errno)?;
-                self.stage = MonitorStage::Ended;
+                self.stage = MonitorStage::NotClosed;
                 Ok(Next::Print(text))
             }
             None => Ok(self.end()),

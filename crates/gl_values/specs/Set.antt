@@ -15,7 +15,7 @@ use Rattle.gl_values.specs.declared.set.Hold.{Hold}
 use Rattle.gl_values.specs.declared.set.Hold.TheVariants.{No, Yes}
 use Rattle.gl_values.specs.declared.set.Set.{Set}
 use Rattle.gl_values.specs.declared.set.SetStage.{SetStage}
-use Rattle.gl_values.specs.declared.set.SetStage.TheVariants.{Begin, Finding, Holding, Stopped, Closing, Ended}
+use Rattle.gl_values.specs.declared.set.SetStage.TheVariants.{Begin, Finding, Holding, Stopped, Closing, NotClosed, Ended}
 
 abbrev pub tool : List ℕ
 tool = tool_text SetName
@@ -59,6 +59,7 @@ left_of s Finding = then_left (left s.finder) (behind s.hold s.finder.made)
 left_of s Holding = goes_on (done (Some s.finder.made))
 left_of s Stopped = goes_on (closes s.finder.made)
 left_of s Closing = waits (λ got. closed (refusal got))
+left_of s NotClosed = goes_on ends
 left_of s Ended = goes_on ends
 
 abbrev pub set_left : Set → Left Held

@@ -1,5 +1,5 @@
 //! The four tools as one client.
-ghost use Rattle.std.specs.Prelude.{◌≡◌, ◌+◌, ◌<◌, ◌^◌, not, is_some, IfOk, IsOkUnless, option_copied};
+ghost use Rattle.std.specs.Prelude.{◌≡◌, ◌+◌, ◌<◌, ◌^◌, true, false, not, is_some, None, IfOk, IsOkUnless, option_copied};
 ghost use Rattle.gl_args.specs.Options.{tool_in};
 ghost use Rattle.gl_args.specs.Program.{Program, Left, Goes, given, goes_on, done, MatchNext};
 ghost use Rattle.gl_values.specs.Set.{stops};
@@ -63,11 +63,11 @@ impl Client {
 
     /// What it does next. `got` is the result of the operation that it asked for last, if it asked for one. End means
     /// that the statement, the start or the stop is done: then what is left is said by what it holds, and it has
-    /// ended exactly where it holds nothing.
+    /// ended exactly where it holds nothing. Behind a Call or a Print it hasn't ended.
     pub fn next(&mut self, alloc: Global, got: Option<&Got>) -> Result<Next, Errno>
         ensures goes { IfOk result (λ next. Goes (given (client_left self.old) (option_copied got.entry)) next (client_left self.new)) }
         ensures rests { IfOk result (λ next. MatchNext next (Unit {0}) (client_left self.new ≡ goes_on (done (held_by self.new)))) }
-        ensures ended { IfOk result (λ next. MatchNext next (Unit {0}) (has_ended self.new ≡ not (is_some (held_by self.new)))) }
+        ensures ended { IfOk result (λ next. MatchNext next (has_ended self.new ≡ false) (has_ended self.new ≡ not (is_some (held_by self.new)))) }
         ensures memory_alone { IsOkUnless result Errno.NoMemory }
     {
         match self {
@@ -110,9 +110,11 @@ impl Client {
         }
     }
 
-    /// Whether the tool has ended, so that its name is free.
+    /// Whether the tool has ended, so that its name is free: so it is from the End on at which it holds nothing. Then
+    /// nothing is left of its program.
     pub fn ended(&self) -> bool
-        ensures { result ≡ has_ended self.now }
+        ensures told { result ≡ has_ended self.now }
+        ensures nothing_left { result ≡ true → client_left self.now ≡ goes_on (done None) }
     {
         match self {
             Client::Set(set) => set.ended(),
@@ -124,7 +126,7 @@ impl Client {
     /// Behind a step of a tool that holds nothing: where it has come to its end, nothing is left of it.
     fn behind(&mut self, step: Next) -> Next
         ensures goes { (p : Program (Unit {0})) (l : Left (Unit {0})) → client_left self.old ≡ nothing_held l → Goes p step l → Goes (holding_nothing p) result (client_left self.new) }
-        ensures ended { MatchNext result (Unit {0}) (self.new ≡ Client.Nothing) }
+        ensures ended { MatchNext result (self.new ≡ self.old) (self.new ≡ Client.Nothing) }
     {
         match step {
             Next::Call(what) => Next::Call(what),

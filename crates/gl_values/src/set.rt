@@ -1,5 +1,5 @@
 //! gpioset.
-ghost use Rattle.std.specs.Prelude.{◌≡◌, not, is_some, IfOk, IsOkUnless, option_copied};
+ghost use Rattle.std.specs.Prelude.{◌≡◌, true, false, not, is_some, None, IfOk, IsOkUnless, option_copied};
 ghost use Rattle.gl_args.specs.Options.{options_in};
 ghost use Rattle.gl_args.specs.Program.{Goes, given, goes_on, done, then_by, MatchNext};
 ghost use Rattle.gl_lines.specs.Finding.{Finding, left};
@@ -32,6 +32,8 @@ pub enum SetStage {
     Stopped,
     /// The request is being closed.
     Closing,
+    /// The closing was refused, and that was printed.
+    NotClosed,
     /// It has ended.
     Ended,
 }
@@ -63,7 +65,7 @@ impl Set {
     pub fn next(&mut self, alloc: Global, got: Option<&Got>) -> Result<Next, Errno>
         ensures goes { IfOk result (λ next. Goes (given (set_left self.old) (option_copied got.entry)) next (set_left self.new)) }
         ensures rests { IfOk result (λ next. MatchNext next (Unit {0}) (set_left self.new ≡ goes_on (done (held_of self.new)))) }
-        ensures ended { IfOk result (λ next. MatchNext next (Unit {0}) (has_ended self.new.stage ≡ not (is_some (held_of self.new)))) }
+        ensures ended { IfOk result (λ next. MatchNext next (has_ended self.new.stage ≡ false) (has_ended self.new.stage ≡ not (is_some (held_of self.new)))) }
         ensures memory_alone { IsOkUnless result Errno.NoMemory }
     {
         let none = Got::Done;
@@ -84,13 +86,15 @@ impl Set {
             SetStage::Holding => Ok(Next::End),
             SetStage::Stopped => Ok(self.close()),
             SetStage::Closing => self.closed(alloc, told.refusal()),
+            SetStage::NotClosed => Ok(self.end()),
             SetStage::Ended => Ok(Next::End),
         }
     }
 
-    /// Whether it has ended.
+    /// Whether it has ended: so it is from the End on at which it holds nothing. Then nothing is left of its program.
     pub fn ended(&self) -> bool
-        ensures { result ≡ has_ended self.now.stage }
+        ensures told { result ≡ has_ended self.now.stage }
+        ensures nothing_left { result ≡ true → set_left self.now ≡ goes_on (done None) }
     {
         match &self.stage {
             SetStage::Ended => true,
@@ -98,7 +102,8 @@ impl Set {
             | SetStage::Finding
             | SetStage::Holding
             | SetStage::Stopped
-            | SetStage::Closing => false,
+            | SetStage::Closing
+            | SetStage::NotClosed => false,
         }
     }
 
@@ -112,6 +117,7 @@ impl Set {
             | SetStage::Finding
             | SetStage::Stopped
             | SetStage::Closing
+            | SetStage::NotClosed
             | SetStage::Ended => None,
         }
     }
@@ -127,6 +133,7 @@ impl Set {
             | SetStage::Finding
             | SetStage::Stopped
             | SetStage::Closing
+            | SetStage::NotClosed
             | SetStage::Ended => self.stage = SetStage::Ended,
         }
     }
@@ -135,7 +142,7 @@ impl Set {
     fn go_on(&mut self, step: Next) -> Next
         ensures goes { (p : Finding) → Goes p step (left self.old.finder) → Goes (then_by p (behind self.old.hold self.old.finder.made)) result (set_left self.new) }
         ensures rests { MatchNext result (Unit {0}) (set_left self.new ≡ goes_on (done (held_of self.new))) }
-        ensures ended { MatchNext result (Unit {0}) (has_ended self.new.stage ≡ not (is_some (held_of self.new))) }
+        ensures ended { MatchNext result (has_ended self.new.stage ≡ false) (has_ended self.new.stage ≡ not (is_some (held_of self.new))) }
     {
         match step {
             Next::Call(what) => {
@@ -148,8 +155,7 @@ impl Set {
             }
             Next::End => {
                 if !self.finder.has_found() {
-                    self.stage = SetStage::Ended;
-                    return Next::End;
+                    return self.end();
                 }
                 let hold = self.hold;
                 match &hold {
@@ -166,7 +172,7 @@ impl Set {
     /// Closes its request.
     fn close(&mut self) -> Next
         ensures goes { Goes (closes self.old.finder.made) result (set_left self.new) }
-        ensures asks { MatchNext result (Unit {0}) ⊥ }
+        ensures asks { MatchNext result (has_ended self.new.stage ≡ false) ⊥ }
     {
         self.stage = SetStage::Closing;
         Next::Call(Do::Close {
@@ -176,19 +182,25 @@ impl Set {
 
     fn closed(&mut self, alloc: Global, refusal: Option<Errno>) -> Result<Next, Errno>
         ensures goes { IfOk result (λ next. Goes (closed refusal) next (set_left self.new)) }
-        ensures ended { IfOk result (λ next. MatchNext next (Unit {0}) (self.new.stage ≡ SetStage.Ended)) }
+        ensures ended { IfOk result (λ next. MatchNext next (has_ended self.new.stage ≡ false) (self.new.stage ≡ SetStage.Ended)) }
         ensures memory_alone { IsOkUnless result Errno.NoMemory }
     {
         match refusal {
             Some(errno) => {
                 let text = failed_line(alloc, ToolName::Set, errno)?;
-                self.stage = SetStage::Ended;
+                self.stage = SetStage::NotClosed;
                 Ok(Next::Print(text))
             }
-            None => {
-                self.stage = SetStage::Ended;
-                Ok(Next::End)
-            }
+            None => Ok(self.end()),
         }
+    }
+
+    /// Ends.
+    fn end(&mut self) -> Next
+        ensures end { result ≡ Next.End }
+        ensures stage { self.new.stage ≡ SetStage.Ended }
+    {
+        self.stage = SetStage::Ended;
+        Next::End
     }
 }
