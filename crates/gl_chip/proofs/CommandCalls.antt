@@ -7,6 +7,7 @@ use Rattle.gl_base.specs.Count.{Rises, counted_up}
 use Rattle.gl_base.specs.Planned.{planned_answer}
 use Rattle.gl_base.specs.declared.errno.Errno.{Errno}
 use Rattle.gl_base.specs.declared.errno.Errno.TheVariants.{Full, Io, NoDev}
+use Rattle.gl_driver.specs.Calls.{FitsOp}
 use Rattle.gl_driver.specs.Told.{Told, with_call}
 use Rattle.gl_driver.specs.declared.op.Op.{Op}
 use Rattle.gl_uapi.specs.Command.{command_of}
@@ -16,15 +17,16 @@ use Rattle.gl_uapi.specs.declared.layout.TheConstants.{LINE_REQUEST_SIZE}
 use Rattle.gl_world.specs.Deeds.{entries_in}
 use Rattle.gl_world.specs.History.{Answered, Legal, StartsWith, entry, fold}
 use Rattle.gl_world.proofs.Deeds.{entries_in_append}
-use Rattle.gl_world.proofs.Histories.{answered_rest}
+use Rattle.gl_world.proofs.Histories.{answered_prefix, answered_rest, placed_prefix}
 use Rattle.gl_rule.specs.Sums.{times, without}
+use Rattle.gl_chip.proofs.RequestedLines.{ask_no_number, told_number}
 use Rattle.gl_chip.proofs.Idle.{OnePass}
 use Rattle.gl_gate.specs.Calls.{IsInside, KnowsAsMuch, KnowsClosed, MayName}
 use Rattle.gl_gate.specs.Grown.{Grew, IsFree, Moved}
 use Rattle.gl_gate.specs.Values.{knowing}
 use Rattle.gl_rule.specs.Views.{without_inside}
 use Rattle.gl_gate.proofs.Grown.{begins_further, grows_on, moves_do_nothing}
-use Rattle.gl_core.specs.Kept.{Kept}
+use Rattle.gl_core.specs.Kept.{Kept, StandsFor}
 use Rattle.gl_model.specs.declared.call.Call.{Call}
 use Rattle.gl_model.specs.declared.call.Call.TheVariants.{Ioctl, Refused as RefusedCall}
 use Rattle.gl_model.specs.declared.call.Part.{Part}
@@ -38,6 +40,8 @@ use Rattle.gl_model.specs.Parts.{CommandIn, Commanding, MakesCommand, MakesRest,
 use Rattle.gl_model.specs.Replies.{IoCause, has_form}
 use Rattle.gl_model.specs.Step.{guard_reply}
 use Rattle.gl_model.specs.World.{World}
+use Rattle.gl_model.specs.Bounds.{HasBounds}
+use Rattle.gl_model.proofs.Bounds.{legal_worlds_have_bounds}
 use Rattle.gl_model.proofs.IoCauses.{io_has_cause}
 use Rattle.gl_model.proofs.Replies.{replies_have_form}
 use Rattle.gl_chip.specs.Called.{last_bytes, last_entry}
@@ -102,6 +106,19 @@ io_told C answer w place fd (Some SetValues) bytes f e = f (ap answer_told e)
 -- a command that the machine looks at isn't answered as at a closed guard
 not_gone : (w : World) (actor place fd cmd len : ℕ) (bytes : List ℕ) (part : Part) (reply : Reply) → reply ≡ core.reply_of w actor (Ioctl place fd cmd len bytes part) → reply ≢ guard_reply false
 not_gone w actor place fd cmd len bytes part reply is gone = true≢false (sym (subst (λ r. has_form (Ioctl place fd cmd len bytes part) r ≡ true) (sym is ∙ gone) (replies_have_form.form w actor (Ioctl place fd cmd len bytes part))))
+
+-- the bounds of the world in which the last entry was made
+bounds_before : (seen : List OneEntry) (e : OneEntry) (last : EndsWith seen e) → Legal core seen → HasBounds (fold core last.0)
+bounds_before seen e last legal = let whole : Legal core (last.0 ++ e ∷ []) = subst (λ l. Legal core l) last.1 legal in
+    (legal_worlds_have_bounds StandsFor).behind_a_history last.0 (answered_prefix core core.opening last.0 (e ∷ []) whole.0, placed_prefix core core.opening last.0 (e ∷ []) whole.1)
+
+abbrev is_number_reply : Reply → Bool
+is_number_reply (Number n) = true
+is_number_reply _ = false
+
+-- at a closed guard no number is answered
+pub refused_no_number : (v w : OneView) (place : ℕ) (reply : Reply) (old new : List ℕ) → CalledOnce core v (RefusedCall place false) reply old new w → (n : ℕ) → reply ≡ Number n → ⊥
+refused_no_number v w place reply old new step n is = true≢false (ap is_number_reply (sym is ∙ step.answered.reply_is))
 
 last_entry_snoc : (xs : List OneEntry) (e : OneEntry) → last_entry (xs ++ e ∷ []) ≡ Some e
 last_entry_snoc [] e = refl
@@ -175,15 +192,16 @@ module _ {P : Type 0} (told : P → Option Told) (faults : P → ℕ) (Own : P �
     io = λ is. io_asked (Rises (faults p) (faults p)) (fold core step.last.0) c.place c.fd (command_of c.cmd) c.bytes
         (io_has_cause (fold core step.last.0) v.number c.place c.fd c.cmd c.len c.bytes Ask (sym (answered_last v w (in_ask c) reply step.last step.legal) ∙ is));
     let_in = not_gone (fold core step.last.0) v.number c.place c.fd c.cmd c.len c.bytes Ask reply (answered_last v w (in_ask c) reply step.last step.legal);
+    numbered = λ n is. absurd (ask_no_number (command_of c.cmd) n (subst (λ r. has_form (in_ask c) r ≡ true) (sym (answered_last v w (in_ask c) reply step.last step.legal) ∙ is) (replies_have_form.form (fold core step.last.0) v.number (in_ask c))));
     knows_as_much = knows_same v w step.same.closed step.same.drained;
   }
 
   -- it was asked, and the machine told
   pub asked_and_told : (op : Option Op) (asked_for : Op) (v w u x : OneView) (p q : P) (c : CommandIn) (first : Reply) (answer : Option ℕ) (own : List OneEntry) (did : List OneDeed) (reply : Reply) (old mid new : List ℕ)
-      → CalledOnce core v (in_ask c) first old mid w → is_go first ≡ true → op ≡ Some asked_for → Own p c.place asked_for own → MayOwn own → Drove core limit w own did u → CalledOnce core u (in_tell answer c) reply mid new x
+      → CalledOnce core v (in_ask c) first old mid w → is_go first ≡ true → op ≡ Some asked_for → FitsOp asked_for → Own p c.place asked_for own → MayOwn own → Drove core limit w own did u → CalledOnce core u (in_tell answer c) reply mid new x
       → told q ≡ with_call asked_for answer (told p) → faults p ≤ faults q → (answer ≡ None → Rises (faults p) (faults q)) → (planned ≡ true → IfSome (told p) (λ t. answer ≡ planned_answer t.plan (counted_up t.calls)))
       → CommandedInside told faults Own limit planned op v p c reply old new x q
-  asked_and_told op asked_for v w u x p q c first answer own did reply old mid new step go this its may drove last told_then never counted plan =
+  asked_and_told op asked_for v w u x p q c first answer own did reply old mid new step go this fits its may drove last told_then never counted plan =
       let number : u.number ≡ v.number = drove.grew.number ∙ step.grew.number in
       let second : OneEntry = entry v.number (in_tell answer c) reply in
       let told_deed : OneDeed = deed_of v.number (in_tell answer c) reply last.wrote in
@@ -217,6 +235,11 @@ module _ {P : Type 0} (told : P → Option Told) (faults : P → ℕ) (Own : P �
         io = λ is. io_told (Rises (faults p) (faults q)) answer (fold core ends.0) c.place c.fd (command_of c.cmd) c.bytes counted
             (io_has_cause (fold core ends.0) v.number c.place c.fd c.cmd c.len c.bytes (Tell answer) (sym answered ∙ is));
         let_in = not_gone (fold core ends.0) v.number c.place c.fd c.cmd c.len c.bytes (Tell answer) reply answered;
+        numbered = λ n is. (
+          told_number (fold core ends.0) (bounds_before x.seen second ends last.legal) v.number c.place c.fd c.len c.bytes answer (command_of c.cmd) n (sym answered ∙ is)
+              (subst (λ r. has_form (in_tell answer c) r ≡ true) (sym answered ∙ is) (replies_have_form.form (fold core ends.0) v.number (in_tell answer c))),
+          subst (λ (o : Option Op). IsOp o) (sym this) fits,
+        );
         knows_as_much = knows_on v w x (knows_same v w step.same.closed step.same.drained) (knows_on w u x drove.knows_as_much (knows_same u x last.same.closed last.same.drained));
       }
 

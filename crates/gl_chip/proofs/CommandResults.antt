@@ -78,7 +78,7 @@ called_last limit v w c reply bytes called = let l = called.last in (
   ap (reply_or reply) (sym (last_reply_is (entries_in called.did) l.last l.is_last) ∙ called.reply_is),
 )
 
-called_no_memory : (limit : ℕ) (v w : OneView) (c : CommandIn) (reply : Reply) (bytes : List ℕ) → HasCalled limit v (Commanding c) reply bytes w → reply ≢ Refused NoMemory
+pub called_no_memory : (limit : ℕ) (v w : OneView) (c : CommandIn) (reply : Reply) (bytes : List ℕ) → HasCalled limit v (Commanding c) reply bytes w → reply ≢ Refused NoMemory
 called_no_memory limit v w c reply bytes called is = let h = called_last limit v w c reply bytes called in
     replies_have_form.no_memory (fold core called.last.at.0) called.last.last.actor called.last.last.call (sym h.0 ∙ (h.1 ∙ is))
 

@@ -5,5 +5,6 @@ pub mod WholeCalls
 pub mod RemovalCalls
 pub mod HandedBytes
 pub mod OpenedChips
+pub mod RequestedLines
 pub mod CommandCalls
 pub mod CommandResults

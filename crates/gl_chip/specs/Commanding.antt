@@ -1,5 +1,5 @@
 -- What a command on an open file did that may ask the driver: its entries, and what went through the actor's port.
-use Rattle.std.specs.Prelude.{◌≡◌, ◌≢◌, ◌⊎◌, ◌≤◌, ℕ, Bool, true, false, List, [], ◌∷◌, ◌++◌, length, take, drop, Option, Some, None, IfSome, Result, Err}
+use Rattle.std.specs.Prelude.{◌≡◌, ◌≢◌, ◌⊎◌, ◌<◌, ◌≤◌, ◌^◌, ℕ, Bool, true, false, List, [], ◌∷◌, ◌++◌, length, take, drop, Option, Some, None, IfSome, Result, Err}
 use Rattle.gl_attrs.specs.ConfigFault.{config_fault}
 use Rattle.gl_attrs.specs.Setting.{resolved_for}
 use Rattle.gl_base.specs.Count.{Rises, counted_up}
@@ -24,17 +24,19 @@ use Rattle.gl_gate.specs.Calls.{KnowsAsMuch}
 use Rattle.gl_gate.specs.Grown.{Grew}
 use Rattle.gl_model.specs.declared.call.Call.{Call}
 use Rattle.gl_model.specs.declared.reply.Reply.{Reply}
-use Rattle.gl_model.specs.declared.reply.Reply.TheVariants.{Go, Refused}
+use Rattle.gl_model.specs.declared.reply.Reply.TheVariants.{Number, Go, Refused}
 use Rattle.gl_model.specs.Asked.{asked_in, lines_asked, request_fault}
 use Rattle.gl_model.specs.Entries.{begins}
 use Rattle.gl_model.specs.Machine.{reply_of}
-use Rattle.gl_model.specs.Parts.{CommandIn, Commanding, MakesTwo, in_ask, in_tell, last_reply}
+use Rattle.gl_model.specs.Parts.{CommandIn, Commanding, MakesTwo, in_ask, in_tell, is_driver_asked, last_reply}
 use Rattle.gl_model.specs.Places.{place_at}
 use Rattle.gl_model.specs.Replies.{AsksLockedOutput, SetsLockedOutput}
 use Rattle.gl_model.specs.Step.{guard_reply}
 use Rattle.gl_model.specs.Values.{bits_in, mask_in}
 use Rattle.gl_model.specs.World.{World}
 use Rattle.gl_chip.specs.Called.{EndsWithLast, HadRoom, HasCalled, last_bytes}
+use Rattle.gl_chip.specs.Files.{LineFile}
+use Rattle.gl_chip.specs.Results.{value_of}
 use Rattle.gl_chip.specs.Steps.{FoundNoRoom}
 use Rattle.gl_chip.specs.Values.{ActorValue, MayOwn, OneDeed, OneEntry, OneView, core}
 
@@ -72,6 +74,19 @@ op_for lines c = op_of lines (command_of c.cmd) c.bytes
 abbrev pub IsOp : Option Op → Type 0
 IsOp None = ⊥
 IsOp (Some op) = FitsOp op
+
+-- the file of a request of these lines at this place: its number is the one that was answered; nothing where none was
+abbrev pub request_in : ℕ → Lines → Reply → Option LineFile
+request_in place lines (Number fd) = Some (record { place = place; fd = fd; lines = lines })
+request_in place lines reply = None
+
+-- that file, if there is one, or why the command was refused
+abbrev pub requested_of : ℕ → Lines → Reply → Result (Option LineFile) Errno
+requested_of place lines reply = value_of (request_in place lines) reply
+
+-- Memory is taken for a request of lines alone, whose buffer has room for its structure and whose bytes alone don't have it refused.
+abbrev pub TakesMemory : CommandIn → Type 0
+TakesMemory c = (is_driver_asked c.of_chip c.len (command_of c.cmd) ≡ true) × (command_of c.cmd ≡ Some GetLine) × (request_fault (take (size_of GetLine) c.bytes) ≡ None)
 
 -- the first of these entries owes a second one: it was answered Go
 abbrev pub is_asked : List OneEntry → Bool
@@ -136,6 +151,7 @@ module _ {P : Type 0} (told : P → Option Told) (faults : P → ℕ) (Own : P �
     pub never_falls : faults p ≤ faults q
     pub io : reply ≡ Refused Io → IoComesOf (Rises (faults p) (faults q)) (fold core last.at.0) c.place c.fd (command_of c.cmd) c.bytes
     pub let_in : reply ≢ guard_reply false
+    pub numbered : (n : ℕ) → reply ≡ Number n → (n < 2 ^ 31) × IsOp op
     pub knows_as_much : KnowsAsMuch v w
 
   -- the command was made, and the result is what its reply comes to

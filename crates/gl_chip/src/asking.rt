@@ -8,15 +8,16 @@ ghost use Rattle.gl_base.specs.Settings.{no_settings};
 ghost use Rattle.gl_base.specs.declared.limits.TheConstants.{LINES_PER_REQUEST};
 ghost use Rattle.gl_driver.specs.Calls.{FitsOp};
 ghost use Rattle.gl_uapi.specs.Command.{command_of, size_of};
-ghost use Rattle.gl_uapi.specs.declared.layout.TheConstants.{LINE_CONFIG_SIZE};
+ghost use Rattle.gl_uapi.specs.declared.layout.TheConstants.{LINE_CONFIG_SIZE, LINE_REQUEST_SIZE};
+ghost use Rattle.gl_model.specs.Asked.{lines_asked, request_fault};
 ghost use Rattle.gl_model.specs.Parts.{is_driver_asked};
-ghost use Rattle.gl_chip.specs.Commanding.{op_of, settings_given};
+ghost use Rattle.gl_chip.specs.Commanding.{op_of, op_requested, settings_given};
 
 use gl_attrs::resolve;
 use gl_base::{LINES_PER_REQUEST, Lines, Resolved, Settings};
 use gl_driver::Op;
 use gl_uapi::layout::LINE_REQUEST_SIZE;
-use gl_uapi::{Command, ConfigRef, ValuesRef};
+use gl_uapi::{Command, ConfigRef, RequestRef, ValuesRef};
 
 /// No settings for so many lines.
 #[tactic(auto, unfolding(gl_base::specs::Positions::table_from))]
@@ -107,4 +108,54 @@ pub(crate) fn line_op(
         None => None,
         Some(command) => op_on_lines(lines, command, len, bytes),
     }
+}
+
+/// The lines that a request names, in order.
+fn lines_in(request: &RequestRef<'_>) -> Lines
+    ensures { result ≡ lines_asked request.now }
+{
+    let mut offsets = [0; LINES_PER_REQUEST as usize];
+    for i in 0..LINES_PER_REQUEST {
+        offsets[i as usize] = request.offset(i);
+    }
+    Lines {
+        count: request.num_lines(),
+        offsets,
+    }
+}
+
+/// The lines that the bytes of a request name, in order, as many as the bytes say.
+pub(crate) fn lines_named(bytes: &[u8; LINE_REQUEST_SIZE]) -> Lines
+    ensures { result ≡ lines_asked (take LINE_REQUEST_SIZE bytes.now) }
+{
+    lines_in(&RequestRef::of(bytes).unwrap())
+}
+
+/// What the driver is asked for a request of lines: nothing, where its bytes alone have it refused.
+fn op_in(request: &RequestRef<'_>) -> Option<Op>
+    ensures op { result ≡ op_requested (request_fault request.now) request.now }
+    ensures fits { IfSome result (λ op. FitsOp op) }
+{
+    let count = request.num_lines();
+    if count == 0 || count > LINES_PER_REQUEST {
+        return None;
+    }
+    if !request.padding_is_zero() {
+        return None;
+    }
+    match resolve(request.config(), count) {
+        Err(_) => None,
+        Ok(settings) => Some(Op::Apply {
+            lines: lines_in(request),
+            settings,
+        }),
+    }
+}
+
+/// What the driver is asked for a request of lines with these bytes: nothing, where the bytes alone have it refused.
+pub(crate) fn request_op(bytes: &[u8; LINE_REQUEST_SIZE]) -> Option<Op>
+    ensures op { result ≡ op_requested (request_fault (take LINE_REQUEST_SIZE bytes.now)) (take LINE_REQUEST_SIZE bytes.now) }
+    ensures fits { IfSome result (λ op. FitsOp op) }
+{
+    op_in(&RequestRef::of(bytes).unwrap())
 }

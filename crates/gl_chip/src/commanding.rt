@@ -7,6 +7,7 @@ ghost use Rattle.gl_uapi.specs.Command.{command_of};
 ghost use Rattle.gl_gate.specs.Values.{IsPassOf};
 ghost use Rattle.gl_gate.specs.Calls.{IsInside};
 ghost use Rattle.gl_driver.specs.Calls.{FitsOp};
+ghost use Rattle.gl_model.specs.declared.reply.Reply.TheVariants.{Number};
 ghost use Rattle.gl_model.specs.Entries.{is_go};
 ghost use Rattle.gl_model.specs.Fits.{FitsGift};
 ghost use Rattle.gl_model.specs.Parts.{in_ask, is_driver_asked};
@@ -127,6 +128,7 @@ impl<D: Driver<Core>> Gpio<D> {
         ensures commanded { IfOk result (λ r. (bytes : List ℕ) × (out.new ≡ bytes ++ drop (length bytes) out.old)
             × HasCommanded D.Port.told D.Port.faults D.OwnEntries D.ENTRIES D.is_planned op.now
             actor.old (command_in file.place file.fd file.of_chip cmd out.old) r bytes actor.new) }
+        ensures number { IfOk result (λ r. (n : ℕ) → r ≡ Number n → (n < 2 ^ 31) × IsOp op.now) }
         ensures full { IfErr result (λ e. (e ≡ Full) × (out.new ≡ out.old) × (actor.new.port ≡ actor.old.port)
             × FoundNoRoom core actor.old.pass.view actor.new.pass.view) }
     {

@@ -1,25 +1,75 @@
 //! Commands on open files, by their numbers.
 
-ghost use Rattle.std.specs.Prelude.{◌≡◌, ◌<◌, ◌^◌, ◌++◌, ℕ, List, false, length, drop};
-ghost use Rattle.gl_chip.specs.Commanding.{CommandsOut, op_for};
+ghost use Rattle.std.specs.Prelude.{◌≡◌, ◌≢◌, ◌<◌, ◌^◌, ◌++◌, ℕ, List, false, true, Err, length, take, drop};
+ghost use Rattle.gl_base.specs.declared.errno.Errno.TheVariants.{NoMemory};
+ghost use Rattle.gl_uapi.specs.declared.layout.TheConstants.{LINE_REQUEST_SIZE};
+ghost use Rattle.gl_model.specs.Asked.{lines_asked};
+ghost use Rattle.gl_chip.specs.Commanding.{CommandsOut, TakesMemory, op_for, requested_of};
 ghost use Rattle.gl_chip.specs.Handed.{command_in};
 ghost use Rattle.gl_chip.specs.Results.{done_of};
 ghost use Rattle.gl_chip.specs.Values.{IsActorOf};
 
 use crate::actor::Actor;
-use crate::asking::line_op;
-use crate::commands::OpenFile;
-use crate::files::LineFd;
+use crate::asking::{line_op, lines_named};
+use crate::commands::{OpenFile, is_driver_asked};
+use crate::files::{ChipFd, LineFd};
 use crate::gpio::Gpio;
 use crate::handed::handed_in;
 use crate::inner::nothing;
+use crate::requesting::requested;
 use crate::results;
 use gl_base::Errno;
 use gl_core::Core;
 use gl_driver::Driver;
+use std::alloc::Global;
 use std::sync::Wait;
 
 impl<D: Driver<Core>> Gpio<D> {
+    /// A command on an open chip, by its number in `linux/gpio.h`, with its structure in the buffer.
+    ///
+    /// GET_LINE asks the driver, once, where the machine lets it; where it succeeds, and only there, it gives a file, of the lines
+    /// that the buffer named. Its ring is taken before its first entry: where memory is wanted, nothing was done.
+    ///
+    /// `NoDev` where the removal of the chip had closed the place; `BadF` where no open file has this number at this place;
+    /// `Inval` where the command is of no chip, or a request has the number; `Fault` where the buffer is shorter than the
+    /// command's structure; then the command's own refusals; of GET_LINE `Io` where the driver failed, which its port has
+    /// counted, or where a line is to be an output and is locked as an enabled interrupt, and `NoMemory`; `Full` where the
+    /// history is full.
+    pub fn chip_ioctl<R: Wait>(
+        &self,
+        rt: &R,
+        alloc: Global,
+        actor: &mut Actor<D>,
+        fd: &ChipFd,
+        cmd: u32,
+        buf: &mut [u8],
+    ) -> Result<Option<LineFd>, Errno>
+        requires actor { IsActorOf self.now actor.old }
+        requires length { length buf.old < 2 ^ 32 }
+        ensures actor { IsActorOf self.now actor.new }
+        ensures memory { result ≡ Err NoMemory → TakesMemory (command_in fd.now.place fd.now.fd true cmd buf.old) × (actor.new ≡ actor.old) × (buf.new ≡ buf.old) }
+        ensures called { result ≢ Err NoMemory → let c = command_in fd.now.place fd.now.fd true cmd buf.old in
+            let lines = lines_asked (take LINE_REQUEST_SIZE c.bytes) in
+            (bytes : List ℕ) × (buf.new ≡ bytes ++ drop (length bytes) buf.old)
+            × CommandsOut D.Port.told D.Port.faults D.OwnEntries D.ENTRIES D.is_planned
+            (requested_of fd.now.place lines) result (op_for lines c) actor.old c bytes actor.new }
+    {
+        let (place, fd) = (fd.place, fd.fd);
+        if is_driver_asked(true, buf.len() as u32, cmd) {
+            return self.get_line(rt, alloc, actor, place, fd, cmd, buf);
+        }
+        let lines = lines_named(&handed_in(buf));
+        let file = OpenFile {
+            place,
+            fd,
+            of_chip: true,
+        };
+        match self.whole_command(rt, actor, file, cmd, buf) {
+            Ok(reply) => requested(place, &lines, reply),
+            Err(errno) => Err(errno),
+        }
+    }
+
     /// A command on an open request, by its number in `linux/gpio.h`, with its structure in the buffer.
     ///
     /// SET_CONFIG, GET_VALUES and SET_VALUES ask the driver, once, where the machine lets them; GET_VALUES writes its structure.

@@ -19,6 +19,7 @@ mod open_files;
 mod opening;
 mod removals;
 mod removing;
+mod requesting;
 mod results;
 mod steps;
 mod tree;

@@ -4,7 +4,7 @@ use Rattle.gl_rule.specs.Sums.{without}
 use Rattle.gl_chip.specs.Commanding.{HasCommanded}
 use Rattle.gl_chip.specs.Handed.{command_in}
 use Rattle.gl_chip.specs.Values.{core}
-use Rattle.gl_chip.proofs.CommandCalls.{called_command, idle_commanded, inside_after, left_place, turned_away}
+use Rattle.gl_chip.proofs.CommandCalls.{called_command, idle_commanded, inside_after, left_place, refused_no_number, turned_away}
 use Rattle.gl_chip.proofs.GateSteps.{came_in, found_closed, if_err, if_ok, is_free, no_room, no_room_left, owes_moved, went_out}
 use Rattle.gl_chip.proofs.gpio.Gpio.driven_command.Goals as goal
 
@@ -50,3 +50,9 @@ returns-clause-commanded g c =
     (called_command g.D.Port.Port.told g.D.Port.Port.faults g.D.Driver.OwnEntries g.D.Driver.ENTRIES g.D.Driver.is_planned c.args.op.now (record { pass = c.actor.inside.pass; port = c.actor.inside.port }) (record { pass = c.leave.new.pass; port = c.command_inside-answer.new.port })
     c.enter.new.pass.view c.command_inside-answer.new.pass.view (command_in c.args.file.place c.args.file.fd c.args.file.of_chip c.args.cmd c.args.out.now) r c.args.out.now c.command_inside-answer.new.out c.requires.asked entered c.enter.ensures.knows
     (λ k. true≢false (sym c.if-not-enter.false ∙ c.enter.ensures.known k)) did out.0 out.1 out.2)) c.command_inside-answer.ensures.called
+
+pub returns-then-not-enter-clause-number : goal.returns-then-not-enter-clause-number
+returns-then-not-enter-clause-number g c = if_ok c.alone.result _ _ (λ r step n is. absurd (refused_no_number c.enter.new.pass.view c.alone.new.pass.view c.args.file.place r _ _ step n is)) c.alone.ensures.called
+
+pub returns-clause-number : goal.returns-clause-number
+returns-clause-number g c = if_ok c.command_inside-answer.result _ _ (λ r did. did.numbered) c.command_inside-answer.ensures.called

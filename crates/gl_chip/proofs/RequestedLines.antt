@@ -1,0 +1,179 @@
+-- GET_LINE: what its bytes say, and the number that it is answered.
+use Rattle.std.proofs.Common.{◌≡◌, ℕ, ◌<◌, ◌^◌, List, [], ◌∷◌, ◌++◌, length, map, take, sym, refl, ap, ◌∙◌, subst, arith, Bool, true, false, Option, Some, None}
+use Rattle.std.specs.Prelude.{IfSome}
+use Rattle.std.specs.Option.{option_and_then}
+use Rattle.std.proofs.lemmas.Bool.{true≢false}
+use Rattle.gl_base.proofs.FirstRows.{Each-find}
+use Rattle.gl_base.specs.Lines.{IsLineCount}
+use Rattle.gl_base.specs.Rows.{Each}
+use Rattle.gl_base.specs.declared.errno.Errno.{Errno}
+use Rattle.gl_base.specs.declared.lines.Lines.{Lines}
+use Rattle.gl_driver.specs.Calls.{FitsOp}
+use Rattle.gl_driver.specs.declared.op.Op.{Op}
+use Rattle.gl_uapi.specs.Command.{command_of, size_of}
+use Rattle.gl_uapi.specs.declared.commands.Command.{Command}
+use Rattle.gl_uapi.specs.declared.commands.Command.TheVariants.{ChipInfo, LineInfo, Watch, Unwatch, GetLine, SetConfig, GetValues, SetValues}
+use Rattle.gl_uapi.specs.declared.layout.TheConstants.{LINE_REQUEST_SIZE}
+use Rattle.gl_watch.specs.declared.file.ChipFile.{ChipFile}
+use Rattle.gl_model.specs.declared.call.Call.TheVariants.{Ioctl}
+use Rattle.gl_model.specs.declared.call.Part.TheVariants.{Whole, Ask, Tell}
+use Rattle.gl_model.specs.declared.reply.Reply.{Reply}
+use Rattle.gl_model.specs.declared.reply.Reply.TheVariants.{Done, Number, Go, Found, Text, Ready, Refused}
+use Rattle.gl_model.specs.Asked.{asked_in, lines_asked, request_fault}
+use Rattle.gl_model.specs.Bounds.{HasBounds}
+use Rattle.gl_model.specs.Claiming.{claim, claim_at, claim_by, claim_number, told_claim}
+use Rattle.gl_model.specs.Entries.{is_go}
+use Rattle.gl_model.specs.Ioctl.{act_on, by_number, checked}
+use Rattle.gl_model.specs.Machine.{reply_of}
+use Rattle.gl_model.specs.OpenFiles.{command_refusal}
+use Rattle.gl_model.specs.Outcome.{Outcome, refused_or}
+use Rattle.gl_model.specs.Parts.{is_driver_asked}
+use Rattle.gl_model.specs.Replies.{numbered_form}
+use Rattle.gl_model.specs.World.{World, Request, has_number, request_at}
+use Rattle.gl_model.specs.Written.{number_answered}
+use Rattle.gl_model.proofs.Requests.{claim_by_any}
+use Rattle.gl_chip.specs.Commanding.{IsOp, IsOpAfterGo, TakesMemory, op_of, op_requested}
+use Rattle.gl_chip.specs.Handed.{command_in, handed_in}
+
+abbrev is_request : Option Request → Bool
+is_request (Some request) = true
+is_request None = false
+
+-- of the commands on a chip file the driver is asked for GET_LINE alone
+pub only_get_line : (len : ℕ) (command : Option Command) → is_driver_asked true len command ≡ true → command ≡ Some GetLine
+only_get_line len None e = absurd (true≢false (sym e))
+only_get_line len (Some ChipInfo) e = absurd (true≢false (sym e))
+only_get_line len (Some LineInfo) e = absurd (true≢false (sym e))
+only_get_line len (Some Watch) e = absurd (true≢false (sym e))
+only_get_line len (Some Unwatch) e = absurd (true≢false (sym e))
+only_get_line len (Some GetLine) e = refl
+only_get_line len (Some SetConfig) e = absurd (true≢false (sym e))
+only_get_line len (Some GetValues) e = absurd (true≢false (sym e))
+only_get_line len (Some SetValues) e = absurd (true≢false (sym e))
+
+-- what is answered Go wasn't refused
+go_unrefused : (refusal : Option Errno) (w : World) (out : Outcome) (n : ℕ) → (refused_or refusal w out).reply ≡ Go n → (refusal ≡ None) × (out.reply ≡ Go n)
+go_unrefused None w out n e = (refl, e)
+go_unrefused (Some errno) w out n e = absurd (true≢false (sym (ap is_go e)))
+
+go_by_number : (w : World) (actor place fd len n : ℕ) (bytes : List ℕ) (command : Option Command) → command ≡ Some GetLine → (by_number actor place fd len command bytes Ask w).reply ≡ Go n → request_fault (take (size_of GetLine) bytes) ≡ None
+go_by_number w actor place fd len n bytes command is e =
+    let go : (checked actor place fd len GetLine bytes Ask w).reply ≡ Go n = subst (λ (o : Option Command). (by_number actor place fd len o bytes Ask w).reply ≡ Go n) is e in
+    let passed = go_unrefused (command_refusal place fd len GetLine Ask w) w (act_on actor place fd GetLine (take (size_of GetLine) bytes) Ask w) n go in
+    (go_unrefused (request_fault (take (size_of GetLine) bytes)) w (claim place actor (asked_in (take (size_of GetLine) bytes)) w) n passed.1).0
+
+-- a request that is answered Go has no fault by its bytes alone
+pub go_has_no_fault : (w : World) (actor n place fd cmd len : ℕ) (bytes : List ℕ) → command_of cmd ≡ Some GetLine → reply_of w actor (Ioctl place fd cmd len bytes Ask) ≡ Go n → request_fault (take (size_of GetLine) bytes) ≡ None
+go_has_no_fault w actor n place fd cmd len bytes is e = go_by_number w actor place fd len n bytes (command_of cmd) is e
+
+-- there is an operation then
+pub op_after_go : (fault : Option Errno) (bytes : List ℕ) (op : Option Op) → op ≡ op_requested fault bytes → IfSome op (λ o. FitsOp o) → fault ≡ None → IsOp op
+op_after_go fault bytes op is fits none = let there = is ∙ ap (λ (f : Option Errno). op_requested f bytes) none in
+    subst (λ (o : Option Op). IsOp o) (sym there) (subst (λ (o : Option Op). IfSome o (λ x. FitsOp x)) there fits)
+
+-- and it is on lines that the bytes name
+pub lines_of_op : (fault : Option Errno) (bytes : List ℕ) → IsOp (op_requested fault bytes) → IsLineCount (lines_asked bytes).count
+lines_of_op None bytes op = op.0
+lines_of_op (Some errno) bytes op = absurd op
+
+-- numbers
+
+each_first : {X : Type 0} (P : X → Type 0) (xs ys : List X) → Each P (xs ++ ys) → Each P xs
+each_first P [] ys h = tt
+each_first P (x ∷ xs) ys h = (h.0, each_first P xs ys h.1)
+
+each_mapped : (P : ℕ → Type 0) (rows : List Request) → Each P (map (λ (r : Request). r.fd) rows) → Each (λ (r : Request). P r.fd) rows
+each_mapped P [] h = tt
+each_mapped P (r ∷ rows) h = (h.0, each_mapped P rows h.1)
+
+request_below : (w : World) → HasBounds w → (fd : ℕ) (request : Request) → request_at w.requests fd ≡ Some request → request.fd < 2 ^ 31
+request_below w bounds fd request at = Each-find (λ (r : Request). r.fd < 2 ^ 31) (has_number fd) w.requests request
+    (each_mapped (λ n. n < 2 ^ 31) w.requests (each_first (λ n. n < 2 ^ 31) (map (λ (r : Request). r.fd) w.requests) (map (λ (f : ChipFile). f.fd) w.files) bounds.numbers)) at
+
+claim_below : (w : World) → HasBounds w → (number : Option ℕ) (request : Request) → option_and_then (request_at w.requests) number ≡ Some request → request.fd < 2 ^ 31
+claim_below w bounds None request e = absurd (true≢false (sym (ap is_request e)))
+claim_below w bounds (Some fd) request e = request_below w bounds fd request e
+
+told_below : (w : World) → HasBounds w → (place actor : ℕ) (answer : Option ℕ) (len : ℕ) (bytes : List ℕ) (found : Option Request) → claim_at place (claim_by w.requests actor) ≡ found → number_answered (told_claim answer len bytes found w).reply < 2 ^ 31
+told_below w bounds place actor None len bytes None e = omega arith
+told_below w bounds place actor (Some bits) len bytes None e = omega arith
+told_below w bounds place actor None len bytes (Some request) e = omega arith
+told_below w bounds place actor (Some bits) len bytes (Some request) e =
+    claim_below w bounds (claim_number w.requests actor) request (claim_by_any place (claim_by w.requests actor) request e)
+
+-- the number that a tell is answered is below 2^31
+pub told_number : (w : World) → HasBounds w → (actor place fd len : ℕ) (bytes : List ℕ) (answer : Option ℕ) (command : Option Command) (n : ℕ) → (by_number actor place fd len command bytes (Tell answer) w).reply ≡ Number n
+    → numbered_form command (Tell answer) (Number n) ≡ true → n < 2 ^ 31
+told_number w bounds actor place fd len bytes answer None n e form = absurd (true≢false (sym form))
+told_number w bounds actor place fd len bytes answer (Some ChipInfo) n e form = absurd (true≢false (sym form))
+told_number w bounds actor place fd len bytes answer (Some LineInfo) n e form = absurd (true≢false (sym form))
+told_number w bounds actor place fd len bytes answer (Some Watch) n e form = absurd (true≢false (sym form))
+told_number w bounds actor place fd len bytes answer (Some Unwatch) n e form = absurd (true≢false (sym form))
+told_number w bounds actor place fd len bytes answer (Some GetLine) n e form =
+    subst (λ k. k < 2 ^ 31) (ap (λ r. number_answered r) e) (told_below w bounds place actor answer len bytes (claim_at place (claim_by w.requests actor)) refl)
+told_number w bounds actor place fd len bytes answer (Some SetConfig) n e form = absurd (true≢false (sym form))
+told_number w bounds actor place fd len bytes answer (Some GetValues) n e form = absurd (true≢false (sym form))
+told_number w bounds actor place fd len bytes answer (Some SetValues) n e form = absurd (true≢false (sym form))
+
+-- no ask is answered a number, and no whole command
+pub ask_no_number : (command : Option Command) (n : ℕ) → numbered_form command Ask (Number n) ≡ true → ⊥
+ask_no_number None n form = true≢false (sym form)
+ask_no_number (Some ChipInfo) n form = true≢false (sym form)
+ask_no_number (Some LineInfo) n form = true≢false (sym form)
+ask_no_number (Some Watch) n form = true≢false (sym form)
+ask_no_number (Some Unwatch) n form = true≢false (sym form)
+ask_no_number (Some GetLine) n form = true≢false (sym form)
+ask_no_number (Some SetConfig) n form = true≢false (sym form)
+ask_no_number (Some GetValues) n form = true≢false (sym form)
+ask_no_number (Some SetValues) n form = true≢false (sym form)
+
+pub whole_no_number : (command : Option Command) (n : ℕ) → numbered_form command Whole (Number n) ≡ true → ⊥
+whole_no_number None n form = true≢false (sym form)
+whole_no_number (Some ChipInfo) n form = true≢false (sym form)
+whole_no_number (Some LineInfo) n form = true≢false (sym form)
+whole_no_number (Some Watch) n form = true≢false (sym form)
+whole_no_number (Some Unwatch) n form = true≢false (sym form)
+whole_no_number (Some GetLine) n form = true≢false (sym form)
+whole_no_number (Some SetConfig) n form = true≢false (sym form)
+whole_no_number (Some GetValues) n form = true≢false (sym form)
+whole_no_number (Some SetValues) n form = true≢false (sym form)
+
+-- a number in a reply, where all numbers that it may have are below this one
+pub number_below : (reply : Reply) (X : Type 0) → ((n : ℕ) → reply ≡ Number n → (n < 2 ^ 31) × X) → number_answered reply < 2 ^ 32
+number_below Done X h = omega arith
+number_below (Number n) X h = let below = (h n refl).0 in omega arith
+number_below (Go n) X h = omega arith
+number_below (Found p o n) X h = omega arith
+number_below (Text t) X h = omega arith
+number_below (Ready b) X h = omega arith
+number_below (Refused errno) X h = omega arith
+
+-- where there is an operation the bytes have no fault
+pub fault_is_none : (fault : Option Errno) (bytes : List ℕ) (op : Option Op) → op ≡ op_requested fault bytes → (op ≡ None → ⊥) → fault ≡ None
+fault_is_none None bytes op is there = refl
+fault_is_none (Some errno) bytes op is there = absurd (there is)
+
+-- what the driver is asked for GET_LINE, by the bytes that were handed in
+pub op_is_for : (lines : Lines) (command : Option Command) (bytes handed : List ℕ) (op : Option Op) → command ≡ Some GetLine → handed ≡ bytes → op ≡ op_requested (request_fault (take LINE_REQUEST_SIZE handed)) (take LINE_REQUEST_SIZE handed)
+    → op ≡ op_of lines command bytes
+op_is_for lines command bytes handed op is same asked = asked ∙ (ap (λ (b : List ℕ). op_requested (request_fault (take LINE_REQUEST_SIZE b)) (take LINE_REQUEST_SIZE b)) same ∙ ap (λ (o : Option Command). op_of lines o bytes) (sym is))
+
+-- after Go it is one, on 1 to 64 lines
+pub op_goes : (place fd cmd len : ℕ) (bytes handed : List ℕ) (op : Option Op) → command_of cmd ≡ Some GetLine → handed ≡ bytes → op ≡ op_requested (request_fault (take LINE_REQUEST_SIZE handed)) (take LINE_REQUEST_SIZE handed)
+    → IfSome op (λ o. FitsOp o) → IsOpAfterGo (Ioctl place fd cmd len bytes Ask) op
+op_goes place fd cmd len bytes handed op is same asked fits w actor n e =
+    op_after_go (request_fault (take LINE_REQUEST_SIZE handed)) (take LINE_REQUEST_SIZE handed) op asked fits
+    (ap (λ (b : List ℕ). request_fault (take LINE_REQUEST_SIZE b)) same ∙ go_has_no_fault w actor n place fd cmd len bytes is e)
+
+-- the lines of a request that was answered a number
+pub lines_are_some : (handed : List ℕ) (op : Option Op) (lines : Lines) → op ≡ op_requested (request_fault (take LINE_REQUEST_SIZE handed)) (take LINE_REQUEST_SIZE handed) → lines ≡ lines_asked (take LINE_REQUEST_SIZE handed) → IsOp op → IsLineCount lines.count
+lines_are_some handed op lines asked are there = subst (λ (l : Lines). IsLineCount l.count) (sym are) (lines_of_op (request_fault (take LINE_REQUEST_SIZE handed)) (take LINE_REQUEST_SIZE handed) (subst (λ (o : Option Op). IsOp o) asked there))
+
+-- memory was wanted for it
+pub takes_memory : (place fd cmd : ℕ) (buffer handed : List ℕ) (op : Option Op) → is_driver_asked true (length buffer) (command_of cmd) ≡ true → handed ≡ handed_in buffer
+    → op ≡ op_requested (request_fault (take LINE_REQUEST_SIZE handed)) (take LINE_REQUEST_SIZE handed) → (op ≡ None → ⊥) → TakesMemory (command_in place fd true cmd buffer)
+takes_memory place fd cmd buffer handed op asks same asked there = (
+  asks,
+  only_get_line (length buffer) (command_of cmd) asks,
+  ap (λ (b : List ℕ). request_fault (take LINE_REQUEST_SIZE b)) (sym same) ∙ fault_is_none (request_fault (take LINE_REQUEST_SIZE handed)) (take LINE_REQUEST_SIZE handed) op asked there,
+)

@@ -1,0 +1,34 @@
+use Rattle.std.proofs.Common.{◌≡◌, ℕ, List, [], ◌++◌, length, take, drop, true, ap, ◌∙◌, Option, sym, subst}
+use Rattle.gl_base.specs.declared.lines.Lines.{Lines}
+use Rattle.gl_uapi.specs.declared.layout.TheConstants.{LINE_REQUEST_SIZE}
+use Rattle.gl_model.specs.Asked.{lines_asked}
+use Rattle.gl_chip.specs.Commanding.{CommandsOut, op_for, request_in, requested_of}
+use Rattle.gl_chip.specs.Files.{ChipFile, LineFile}
+use Rattle.gl_chip.specs.Handed.{command_in, handed_in}
+use Rattle.gl_chip.proofs.CommandResults.{command_is_full, command_is_made, whole_commanded}
+use Rattle.gl_chip.proofs.gpio.Gpio.chip_ioctl.Goals as goal
+
+pub returns-in-Ok-clause-called : goal.returns-in-Ok-clause-called
+returns-in-Ok-clause-called g c = let h = c.in-Ok.ensures.called in
+    let named : Lines = lines_asked (take LINE_REQUEST_SIZE (handed_in c.args.buf.now)) in
+    λ _. subst (λ (f : ChipFile). (bytes : List ℕ) × (c.whole_command.new.out ≡ bytes ++ drop (length bytes) c.args.buf.now)
+    × CommandsOut g.D.Port.Port.told g.D.Port.Port.faults g.D.Driver.OwnEntries g.D.Driver.ENTRIES g.D.Driver.is_planned (requested_of f.place named) c.requested.result (op_for named (command_in f.place f.fd true c.args.cmd c.args.buf.now))
+    c.args.actor.now (command_in f.place f.fd true c.args.cmd c.args.buf.now) bytes c.whole_command.new.actor) c.fd.view_is (
+      h.0,
+      h.1,
+      command_is_made g.D.Port.Port.told g.D.Port.Port.faults g.D.Driver.OwnEntries g.D.Driver.ENTRIES g.D.Driver.is_planned {X = Option LineFile} (request_in c.fd.inside.place named) c.requested.result
+          (op_for named (command_in c.fd.inside.place c.fd.inside.fd true c.args.cmd c.args.buf.now)) c.args.actor.now c.whole_command.new.actor (command_in c.fd.inside.place c.fd.inside.fd true c.args.cmd c.args.buf.now) h.0 c.in-Ok.reply
+          (subst (λ (l : Lines). c.requested.result ≡ requested_of c.fd.inside.place l c.in-Ok.reply) (c.lines_named-lines.ensures ∙ ap (λ (b : List ℕ). lines_asked (take LINE_REQUEST_SIZE b)) c.handed_in.ensures) c.requested.ensures)
+          (whole_commanded g.D.Port.Port.told g.D.Port.Port.faults g.D.Driver.OwnEntries g.D.Driver.ENTRIES g.D.Driver.is_planned (op_for named (command_in c.fd.inside.place c.fd.inside.fd true c.args.cmd c.args.buf.now)) c.args.actor.now c.whole_command.new.actor
+          (command_in c.fd.inside.place c.fd.inside.fd true c.args.cmd c.args.buf.now) c.in-Ok.reply h.0 (sym c.if-is_driver_asked.ensures) h.2 c.in-Ok.ensures.port),
+    )
+
+pub returns-in-Err-clause-called : goal.returns-in-Err-clause-called
+returns-in-Err-clause-called g c = let full = c.in-Err.ensures.full in
+    let named : Lines = lines_asked (take LINE_REQUEST_SIZE (handed_in c.args.buf.now)) in
+    λ _. (
+      [],
+      full.1,
+      command_is_full g.D.Port.Port.told g.D.Port.Port.faults g.D.Driver.OwnEntries g.D.Driver.ENTRIES g.D.Driver.is_planned {X = Option LineFile} (request_in c.args.fd.now.place named) c.in-Err.errno
+          (op_for named (command_in c.args.fd.now.place c.args.fd.now.fd true c.args.cmd c.args.buf.now)) c.args.actor.now c.whole_command.new.actor (command_in c.args.fd.now.place c.args.fd.now.fd true c.args.cmd c.args.buf.now) [] full.0 full.2 c.in-Err.ensures.port,
+    )

@@ -1,0 +1,55 @@
+use Rattle.std.proofs.Common.{◌≡◌, ℕ, List, [], length, take, true, refl, ap, ◌∙◌, Option, sym, subst}
+use Rattle.gl_base.specs.declared.errno.Errno.TheVariants.{NoMemory}
+use Rattle.gl_base.specs.declared.lines.Lines.{Lines}
+use Rattle.gl_driver.specs.declared.op.Op.{Op}
+use Rattle.gl_uapi.specs.Command.{command_of}
+use Rattle.gl_uapi.specs.declared.layout.TheConstants.{LINE_REQUEST_SIZE}
+use Rattle.gl_model.specs.Asked.{lines_asked}
+use Rattle.gl_chip.specs.Commanding.{HasCommanded, IsOp, op_for, request_in, requested_of}
+use Rattle.gl_chip.specs.Files.{LineFile}
+use Rattle.gl_chip.specs.Handed.{command_in, handed_in}
+use Rattle.gl_chip.proofs.CommandResults.{called_no_memory, command_is_full, command_is_made}
+use Rattle.gl_chip.proofs.RequestedLines.{lines_are_some, number_below, only_get_line, op_goes, op_is_for, takes_memory}
+use Rattle.gl_chip.proofs.WholeCalls.{errno_is_told}
+use Rattle.gl_chip.proofs.gpio.Gpio.get_line.Goals as goal
+
+pub returns-in-Err-clause-memory : goal.returns-in-Err-clause-memory
+returns-in-Err-clause-memory g c = λ e. (takes_memory c.args.place c.args.fd c.args.cmd c.args.buf.now c.handed_in-bytes.result c.request_op-op.result c.requires.asked c.handed_in-bytes.ensures c.request_op-op.ensures.op c.in-Err.ensures.memory.1, refl, refl)
+
+pub driven_command-requires-clause-op : goal.driven_command-requires-clause-op
+driven_command-requires-clause-op g c κs within = op_goes c.args.place c.args.fd c.args.cmd (length c.args.buf.now) (handed_in c.args.buf.now) c.handed_in-bytes.result c.request_op-op.result (only_get_line (length c.args.buf.now) (command_of c.args.cmd) c.requires.asked)
+    c.handed_in-bytes.ensures c.request_op-op.ensures.op c.request_op-op.ensures.fits
+
+pub requested-requires-clause-number : goal.requested-requires-clause-number
+requested-requires-clause-number g c = number_below c.in-Ok-driven_command.reply (IsOp c.request_op-op.result) c.in-Ok-driven_command.ensures.number
+
+pub requested-requires-clause-lines : goal.requested-requires-clause-lines
+requested-requires-clause-lines g c = λ k e. lines_are_some c.handed_in-bytes.result c.request_op-op.result c.lines_named.result c.request_op-op.ensures.op c.lines_named.ensures ((c.in-Ok-driven_command.ensures.number k e).1)
+
+pub returns-in-Ok-driven_command-clause-memory : goal.returns-in-Ok-driven_command-clause-memory
+returns-in-Ok-driven_command-clause-memory g c = let h = c.in-Ok-driven_command.ensures.commanded in
+    λ e. absurd (called_no_memory g.D.Driver.ENTRIES c.args.actor.now.pass.view c.driven_command.new.actor.pass.view (command_in c.args.place c.args.fd true c.args.cmd c.args.buf.now) c.in-Ok-driven_command.reply h.0 h.2.called
+    (errno_is_told (request_in c.args.place c.lines_named.result) NoMemory c.in-Ok-driven_command.reply (sym c.requested.ensures ∙ e)))
+
+pub returns-in-Ok-driven_command-clause-called : goal.returns-in-Ok-driven_command-clause-called
+returns-in-Ok-driven_command-clause-called g c = let h = c.in-Ok-driven_command.ensures.commanded in
+    let named : Lines = lines_asked (take LINE_REQUEST_SIZE (handed_in c.args.buf.now)) in
+    λ _. (
+      h.0,
+      h.1,
+      command_is_made g.D.Port.Port.told g.D.Port.Port.faults g.D.Driver.OwnEntries g.D.Driver.ENTRIES g.D.Driver.is_planned {X = Option LineFile} (request_in c.args.place named) c.requested.result
+          (op_for named (command_in c.args.place c.args.fd true c.args.cmd c.args.buf.now)) c.args.actor.now c.driven_command.new.actor (command_in c.args.place c.args.fd true c.args.cmd c.args.buf.now) h.0 c.in-Ok-driven_command.reply
+          (subst (λ (l : Lines). c.requested.result ≡ requested_of c.args.place l c.in-Ok-driven_command.reply) (c.lines_named.ensures ∙ ap (λ (b : List ℕ). lines_asked (take LINE_REQUEST_SIZE b)) c.handed_in-bytes.ensures) c.requested.ensures)
+          (subst (λ (o : Option Op). HasCommanded g.D.Port.Port.told g.D.Port.Port.faults g.D.Driver.OwnEntries g.D.Driver.ENTRIES g.D.Driver.is_planned o c.args.actor.now (command_in c.args.place c.args.fd true c.args.cmd c.args.buf.now) c.in-Ok-driven_command.reply h.0 c.driven_command.new.actor)
+          (op_is_for named (command_of c.args.cmd) (handed_in c.args.buf.now) c.handed_in-bytes.result c.request_op-op.result (only_get_line (length c.args.buf.now) (command_of c.args.cmd) c.requires.asked) c.handed_in-bytes.ensures c.request_op-op.ensures.op) h.2),
+    )
+
+pub returns-clause-called : goal.returns-clause-called
+returns-clause-called g c = let full = c.in-Err-driven_command.ensures.full in
+    let named : Lines = lines_asked (take LINE_REQUEST_SIZE (handed_in c.args.buf.now)) in
+    λ _. (
+      [],
+      full.1,
+      command_is_full g.D.Port.Port.told g.D.Port.Port.faults g.D.Driver.OwnEntries g.D.Driver.ENTRIES g.D.Driver.is_planned {X = Option LineFile} (request_in c.args.place named) c.in-Err-driven_command.errno
+          (op_for named (command_in c.args.place c.args.fd true c.args.cmd c.args.buf.now)) c.args.actor.now c.driven_command.new.actor (command_in c.args.place c.args.fd true c.args.cmd c.args.buf.now) [] full.0 full.3 full.2,
+    )
