@@ -1,0 +1,108 @@
+//! Two actors unplug one chip at once.
+
+ghost use Rattle.std.specs.Prelude.{◌≡◌};
+ghost use Rattle.gl_chip.specs.Values.{IsActorOf};
+ghost use Rattle.gl_chip_tests.specs.Same.{IsSame};
+
+use crate::devices::device;
+use gl_base::{Errno, Kind, Name, Phase};
+use gl_chip::{Actor, Gpio};
+use gl_core::laws::first_bad;
+use gl_driver::{SimDriver, SimPort};
+use gl_world::Machine;
+use std::alloc::Global;
+use std::sync::Wait;
+use std::thread::{Threads, join};
+
+/// An actor that unplugged a chip, and what it was answered.
+type Unplugged = (Actor<SimDriver>, Result<(), Errno>);
+
+/// Unplugs the chip of place 0, by an actor that comes back.
+#[tactic(auto, using(crate::proofs::SameActors::same_removed))]
+fn unplug_once<R: Wait>(rt: &R, gpio: &Gpio<SimDriver>, mut actor: Actor<SimDriver>) -> Unplugged
+    requires actor { IsActorOf gpio.now actor }
+    ensures actor { IsActorOf gpio.now result.0 }
+    ensures same { IsSame actor.pass.view result.0.pass.view }
+{
+    let answer = gpio.unplug(rt, &mut actor, 0);
+    (actor, answer)
+}
+
+/// Two actors unplug the chip of place 0, in two threads.
+fn unplug_in_two_threads<R: Threads + Wait + Sync>(
+    rt: &R,
+    gpio: &Gpio<SimDriver>,
+    first: Actor<SimDriver>,
+    second: Actor<SimDriver>,
+) -> (Unplugged, Unplugged)
+    requires first { IsActorOf gpio.now first }
+    requires second { IsActorOf gpio.now second }
+    ensures first { IsActorOf gpio.now result.0.0 }
+    ensures second { IsActorOf gpio.now result.1.0 }
+    ensures same_first { IsSame first.pass.view result.0.0.pass.view }
+    ensures same_second { IsSame second.pass.view result.1.0.pass.view }
+{
+    join(
+        rt,
+        || -> Unplugged
+            requires { IsActorOf gpio.now first }
+            ensures actor { IsActorOf gpio.entry.now result.0 }
+            ensures same { IsSame first.pass.view result.0.pass.view }
+        { unplug_once(rt, gpio, first) },
+        || -> Unplugged
+            requires { IsActorOf gpio.now second }
+            ensures actor { IsActorOf gpio.entry.now result.0 }
+            ensures same { IsSame second.pass.view result.0.pass.view }
+        { unplug_once(rt, gpio, second) },
+    )
+}
+
+/// What came of two actors that unplugged one chip.
+#[derive(Clone, Copy, PartialEq, Eq, Debug)]
+pub struct Race {
+    /// What the first actor was answered.
+    pub first: Result<(), Errno>,
+    /// What the second actor was answered.
+    pub second: Result<(), Errno>,
+    /// The phase of the chip afterwards.
+    pub phase: Phase,
+    /// The first entry of the history that the machine can't have, if there is one.
+    pub bad: Option<u32>,
+}
+
+/// Whether an actor was told that another one unplugs the chip, or has unplugged it.
+fn is_late(answer: Result<(), Errno>) -> bool {
+    matches!(answer, Err(Errno::Busy) | Err(Errno::NoDev))
+}
+
+impl Race {
+    /// One actor unplugged the chip, the other was late, and the history is one that the machine can have.
+    pub fn has_one_winner(&self) -> bool {
+        let one = if self.first == Ok(()) {
+            is_late(self.second)
+        } else {
+            is_late(self.first) && self.second == Ok(())
+        };
+        one && self.phase == Phase::Gone && self.bad == None
+    }
+}
+
+/// On a new device two actors unplug one chip at once.
+pub fn unplug_twice<R: Threads + Wait + Sync>(rt: &R, alloc: Global) -> Result<Race, Errno> {
+    let (gpio, mut actor) = device(alloc, SimDriver::new(), SimPort::new(), 10)?;
+    let other = gpio.split(&mut actor, SimPort::new());
+    gpio.probe(rt, &mut actor, Name::empty(), 4, Kind::Simulated)?;
+    let ((mut actor, first), (other, second)) = unplug_in_two_threads(rt, &gpio, actor, other);
+    gpio.join(&mut actor, other);
+    let (core, history, _port) = gpio.finish(actor);
+    if history.len() > 10 {
+        return Err(Errno::Full);
+    }
+    let bad = first_bad(history.as_slice(), alloc)?;
+    Ok(Race {
+        first,
+        second,
+        phase: core.phase(0),
+        bad,
+    })
+}
