@@ -1,8 +1,10 @@
 -- What the core stands for after a request was let go of.
-use Rattle.std.proofs.Common.{◌≡◌, ℕ, Bool, true, List, [], ◌∷◌, map, Option, Some, None, refl, sym, ap, ◌∙◌, subst, arith}
+use Rattle.std.proofs.Common.{◌≡◌, ℕ, Bool, true, false, cond, List, [], ◌∷◌, ◌++◌, map, Option, Some, None, refl, sym, ap, ◌∙◌, subst, arith}
 use Rattle.std.proofs.lemmas.Bool.Decides.{nat_tests}
 use Rattle.std.specs.Option.{option_map}
-use Rattle.std.specs.Prelude.{not}
+use Rattle.std.specs.Prelude.{not, is_some, nat_eq, ◌==◌, ◌||◌}
+use Rattle.std.specs.List.{AllByRecursion, IsDistinct}
+use Rattle.std.proofs.lemmas.Bool.{true≢false}
 use Rattle.gl_base.specs.Lines.{offsets_of}
 use Rattle.gl_base.specs.Positions.{change_at}
 use Rattle.gl_base.specs.Refusals.{when}
@@ -25,16 +27,20 @@ use Rattle.gl_model.specs.Notify.{notify_each}
 use Rattle.gl_model.specs.Opening.{close, close_request, is_open, with_lines_freed, without_deadlines_at, without_request}
 use Rattle.gl_model.specs.Outcome.{done, refused_or}
 use Rattle.gl_model.specs.Places.{no_place}
-use Rattle.gl_model.specs.declared.reply.Reply.TheVariants.{Done}
+use Rattle.gl_model.specs.declared.reply.Reply.TheVariants.{Done, Refused}
 use Rattle.gl_model.specs.SoundRequests.{IsSoundRequest}
 use Rattle.gl_model.specs.World.{Request, World, has_number, request_at}
-use Rattle.gl_watch.specs.Files.{is_file}
+use Rattle.gl_watch.specs.Answers.{changes_of}
+use Rattle.gl_watch.specs.Files.{file_at, is_file}
+use Rattle.gl_model.specs.OpenFiles.{is_hold}
+use Rattle.gl_model.proofs.Ledger.{file_number}
 use Rattle.gl_watch.specs.declared.file.ChipFile.{ChipFile}
 use Rattle.gl_model.proofs.Finishing.{first_true}
 use Rattle.gl_core.specs.Kept.{Kept, StandsFor, kept_of, kept_request}
+use Rattle.gl_core.specs.Reached.{IsReached}
 use Rattle.gl_core.specs.Shape.{HasLine, HasLines, IsInRange, IsShaped}
 use Rattle.gl_core.specs.Steps.{Follows}
-use Rattle.gl_core.proofs.KeptRequests.{kept_at}
+use Rattle.gl_core.proofs.KeptRequests.{hold_told, kept_at, no_hold_told}
 use Rattle.gl_core.proofs.Shapes.{line_stays, shape_changed}
 
 -- the lines of a request are in range
@@ -138,3 +144,93 @@ unclaimed (Some request) is = cc
 pub only_file : (k : Kept) (w : World) (fd : ℕ) (new : Kept) → StandsFor k w → option_map claim_of (row_at k.requests fd) ≡ None → StandsFor new (file_closed fd w) → StandsFor new (close_request (request_at w.requests fd) (file_closed fd w))
 only_file k w fd new s none after =
     subst (λ (request : Option Request). StandsFor new (close_request request (file_closed fd w))) (sym (unclaimed (request_at w.requests fd) (sym (ap (option_map claim_of) (kept_at k w fd s)) ∙ none))) after
+
+-- no request has the number of a chip file
+
+no_file : (n fd : ℕ) (xs : List ℕ) (files : List ChipFile) → AllByRecursion (λ m. nat_eq n m ≡ false) (xs ++ map file_number files) → is_some (file_at fd files) ≡ true → (n == fd) ≡ false
+no_file n fd [] [] all is = absurd (true≢false (sym is))
+no_file n fd [] (file ∷ files) all is = elim (file.fd == fd) as (λ b. (file.fd == fd) ≡ b → is_some (cond b (Some file) (file_at fd files)) ≡ true → (n == fd) ≡ false) [
+  | true ↦ (λ same h. let other : nat_eq n file.fd ≡ false = all.0 in grind (arith, nat_tests))
+  | false ↦ (λ other h. no_file n fd [] files all.1 h)
+] refl is
+no_file n fd (x ∷ xs) files all is = no_file n fd xs files all.1 is
+
+no_request : (fd : ℕ) (rows : List Request) (files : List ChipFile) → IsDistinct nat_eq (map (λ (request : Request). request.fd) rows ++ map file_number files)
+    → is_some (file_at fd files) ≡ true → request_at rows fd ≡ None
+unfolding IsDistinct
+no_request fd [] files differ is = refl
+no_request fd (x ∷ rows) files differ is =
+    ap (λ b. cond b (Some x) (request_at rows fd)) (no_file x.fd fd (map (λ (request : Request). request.fd) rows) files differ.0 is) ∙ no_request fd rows files differ.1 is
+
+by_request : (o : Option ChipFile) (r : Option Request) (row : RequestRow) → (is_some o ≡ true → r ≡ None) → Some row ≡ option_map kept_request r → o ≡ None
+by_request None r row none is = refl
+by_request (Some file) r row none is = let no : Some row ≡ None = is ∙ ap (option_map kept_request) (none refl) in cc
+
+-- so no chip file has the number of a request
+pub free_of_files : (k : Kept) (fd : ℕ) (row : RequestRow) → IsReached k → row_at k.requests fd ≡ Some row → file_at fd k.files ≡ None
+free_of_files k fd row reached found =
+    let w : World = reached.world in
+    ap (λ (k : Kept). file_at fd k.files) (sym reached.stands.kept_so)
+    ∙ by_request (file_at fd w.files) (request_at w.requests fd) row (no_request fd w.requests w.files reached.good.holders.numbers_differ) (sym found ∙ kept_at k w fd reached.stands)
+
+nothing_gone : (fd : ℕ) (files : List ChipFile) → file_at fd files ≡ None → without_first (is_file fd) files ≡ files
+nothing_gone fd [] is = refl
+nothing_gone fd (file ∷ files) is = elim (file.fd == fd) as (λ b. cond b (Some file) (file_at fd files) ≡ None → cond b files (file ∷ without_first (is_file fd) files) ≡ file ∷ files) [
+  | true ↦ (λ no. cc)
+  | false ↦ (λ rest. ap (λ fs. file ∷ fs) (nothing_gone fd files rest))
+] is
+
+world_files : (k : Kept) (w : World) (fd : ℕ) → StandsFor k w → file_at fd w.files ≡ file_at fd k.files
+world_files k w fd s = ap (λ (k : Kept). file_at fd k.files) s.kept_so
+
+or_true : (a b : Bool) → b ≡ true → (a || b) ≡ true
+or_true true b e = refl
+or_true false b e = e
+
+-- a request that holds its lines is closed
+pub hold_closed : (k : Kept) (w : World) (fd : ℕ) (row : RequestRow) (new : Kept) → StandsFor k w → IsReached k → row_at k.requests fd ≡ Some row → row.held ≡ true
+    → Follows (λ w. close_request (request_at w.requests fd) w) k new → StandsFor new (close fd w).world × (Done ≡ (close fd w).reply)
+hold_closed k w fd row new s reached found held follows =
+    let holds : row.held ≡ is_hold (request_at w.requests fd) = hold_told k w fd row.held s (sym (ap (option_map (λ (row : RequestRow). row.held)) found)) in
+    close_done k w fd k.files new s (sym (or_true (is_some (file_at fd w.files)) (is_hold (request_at w.requests fd)) (sym holds ∙ held))) (sym (nothing_gone fd k.files (free_of_files k fd row reached found)))
+    (λ after. follows (file_closed fd w) after)
+
+not_open : (w : World) (fd : ℕ) (k : Kept) → StandsFor k w → is_open fd w ≡ false → StandsFor k (close fd w).world × (Refused BadF ≡ (close fd w).reply)
+not_open w fd k s shut =
+    subst (λ (b : Bool). let out = refused_or (when (not b) BadF) w (done (close_request (request_at w.requests fd) (file_closed fd w))) in StandsFor k out.world × (Refused BadF ≡ out.reply)) (sym shut) (s, refl)
+
+-- and a claim isn't
+pub claim_refused : (k : Kept) (w : World) (fd : ℕ) (row : RequestRow) → StandsFor k w → IsReached k → row_at k.requests fd ≡ Some row → row.held ≡ false
+    → StandsFor k (close fd w).world × (Refused BadF ≡ (close fd w).reply)
+claim_refused k w fd row s reached found claimed =
+    let holds : row.held ≡ is_hold (request_at w.requests fd) = hold_told k w fd row.held s (sym (ap (option_map (λ (row : RequestRow). row.held)) found)) in
+    let none : is_some (file_at fd w.files) ≡ false = ap is_some (world_files k w fd s ∙ free_of_files k fd row reached found) in
+    not_open w fd k s (ap (λ b. b || is_hold (request_at w.requests fd)) none ∙ sym holds ∙ claimed)
+
+no_hold_there : (k : Kept) (w : World) (fd : ℕ) → StandsFor k w → row_at k.requests fd ≡ None → is_hold (request_at w.requests fd) ≡ false
+no_hold_there k w fd s none = sym (no_hold_told k w fd s (sym (ap (option_map (λ (row : RequestRow). row.held)) none)))
+
+changes_there : (file : Option ChipFile) → is_some (changes_of file) ≡ true → is_some file ≡ true
+changes_there None is = is
+changes_there (Some file) is = refl
+
+no_changes : (file : Option ChipFile) → is_some (changes_of file) ≡ false → file ≡ None
+no_changes None is = refl
+no_changes (Some file) is = absurd (true≢false is)
+
+-- a chip file is closed
+pub file_done : (k : Kept) (w : World) (fd : ℕ) (files : List ChipFile) → StandsFor k w → row_at k.requests fd ≡ None → is_some (changes_of (file_at fd k.files)) ≡ true
+    → files ≡ without_first (is_file fd) k.files → StandsFor (record k { files = files }) (close fd w).world × (Done ≡ (close fd w).reply)
+file_done k w fd files s none there gone =
+    let here : is_some (file_at fd w.files) ≡ true = ap is_some (world_files k w fd s) ∙ changes_there (file_at fd k.files) there in
+    close_done k w fd files (record k { files = files }) s (sym (ap (λ b. b || is_hold (request_at w.requests fd)) here)) gone
+    (λ after. only_file k w fd (record k { files = files }) s (ap (option_map claim_of) none) after)
+
+-- and where there is none, nothing is
+pub file_refused : (k : Kept) (w : World) (fd : ℕ) (files : List ChipFile) → StandsFor k w → row_at k.requests fd ≡ None → is_some (changes_of (file_at fd k.files)) ≡ false
+    → files ≡ without_first (is_file fd) k.files → StandsFor (record k { files = files }) (close fd w).world × (Refused BadF ≡ (close fd w).reply)
+file_refused k w fd files s none there gone =
+    let absent : file_at fd k.files ≡ None = no_changes (file_at fd k.files) there in
+    let same : k.files ≡ files = sym (nothing_gone fd k.files absent) ∙ sym gone in
+    let shut : is_open fd w ≡ false = ap (λ b. b || is_hold (request_at w.requests fd)) (ap is_some (world_files k w fd s ∙ absent)) ∙ no_hold_there k w fd s none in
+    not_open w fd (record k { files = files }) (subst (λ (fs : List ChipFile). StandsFor (record k { files = fs }) w) same s) shut

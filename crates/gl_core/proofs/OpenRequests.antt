@@ -1,15 +1,14 @@
 -- Open requests: the request of a number is the world's, and its lines are lines of its place.
 use Rattle.std.proofs.Common.{◌≡◌, ℕ, zero, suc, ◌<◌, ◌≤◌, Bool, true, false, List, [], ◌∷◌, length, take, Option, Some, None, refl, sym, ap, ◌∙◌, subst, eq-eqb, arith}
-use Rattle.std.specs.Prelude.{◌&&◌, ◌||◌, not, is_some, IfSome, if◌then◌else◌, nat_eq, slice_index, slice_index_or}
+use Rattle.std.specs.Prelude.{◌&&◌, ◌||◌, not, is_some, if◌then◌else◌, nat_eq, slice_index, slice_index_or}
 use Rattle.std.specs.List.{list_any}
 use Rattle.std.specs.Option.{option_map}
 use Rattle.std.proofs.lemmas.Bool.{true≢false}
 use Rattle.gl_base.proofs.FirstRows.{Each-find}
 use Rattle.gl_base.specs.declared.lines.Lines.{Lines}
 use Rattle.gl_base.specs.declared.settings.Resolved.{Resolved}
-use Rattle.gl_request.specs.Request.{StandsAt, claim_of, is_open_at, request_at as row_at}
+use Rattle.gl_request.specs.Request.{claim_of, is_open_at, request_at as row_at}
 use Rattle.gl_request.specs.declared.row.Claim.{Claim}
-use Rattle.gl_request.specs.declared.row.RequestAt.{RequestAt}
 use Rattle.gl_request.specs.declared.row.RequestRow.{RequestRow}
 use Rattle.gl_model.specs.Holders.{HasItsLines, has_line}
 use Rattle.gl_base.specs.Refusals.{first_of, when}
@@ -22,7 +21,6 @@ use Rattle.gl_model.specs.World.{Request, World, has_number, request_at}
 use Rattle.gl_model.specs.declared.place.Place.{Place}
 use Rattle.gl_model.proofs.Phases.{both, same_number}
 use Rattle.gl_core.specs.Kept.{Kept, StandsFor, kept_request}
-use Rattle.gl_core.specs.OpenRequests.{IsFound}
 use Rattle.gl_core.specs.Reached.{IsReached}
 use Rattle.gl_core.specs.Shape.{HasEachLine, IsShaped}
 use Rattle.gl_core.specs.Steps.{Tells}
@@ -59,15 +57,11 @@ passed_as false true is = refl
 pub request_passed : (k : Kept) (place fd : ℕ) → true ≡ is_open_at place (row_at k.requests fd) → Tells (request_file_refusal place fd) k None
 request_passed k place fd there w s = passed_as (is_chip_file place fd w) (is_request_file place fd w) (there ∙ open_told k w place fd s)
 
--- what a look-up answered
+-- what a look-up answered that found none
 
-none_there : (o : Option RequestRow) → false ≡ is_some o → o ≡ None
+pub none_there : (o : Option RequestRow) → false ≡ is_some o → o ≡ None
 none_there None is = refl
 none_there (Some row) is = absurd (true≢false (sym is))
-
-pub is_found : (fd : ℕ) (rows : List RequestRow) (o : Option RequestAt) → is_some o ≡ is_some (row_at rows fd) → IfSome o (λ found. found.fd ≡ fd) → IfSome o (λ found. StandsAt found rows) → IsFound fd rows o
-is_found fd rows None there number stands = none_there (row_at rows fd) there
-is_found fd rows (Some found) there number stands = (number, stands)
 
 -- the lines of an open request are lines of its place
 

@@ -1,10 +1,9 @@
 -- Open requests: where the table has them, and why a call on one is refused.
-use Rattle.std.specs.Prelude.{◌≡◌, ℕ, true, List, length, [], ◌∷◌, Option, Some, None}
+use Rattle.std.specs.Prelude.{ℕ, true, length, [], ◌∷◌, Option}
 use Rattle.gl_base.specs.Refusals.{first_of}
 use Rattle.gl_base.specs.declared.errno.Errno.{Errno}
-use Rattle.gl_request.specs.Request.{StandsAt, request_at as row_at}
+use Rattle.gl_request.specs.Request.{StandsAt}
 use Rattle.gl_request.specs.declared.row.RequestAt.{RequestAt}
-use Rattle.gl_request.specs.declared.row.RequestRow.{RequestRow}
 use Rattle.gl_uapi.specs.declared.layout.TheConstants.{LINE_EVENT_SIZE}
 use Rattle.gl_model.specs.OpenFiles.{is_request_file, request_file_refusal}
 use Rattle.gl_model.specs.Reading.{events_for, read_refusal}
@@ -16,11 +15,6 @@ use Rattle.gl_core.specs.Steps.{Tells}
 pub record IsOpenAt (k : Kept) (place : ℕ) (found : RequestAt) : Type 0 where
   pub stands : StandsAt found k.requests
   pub opened : Tells (is_request_file place found.fd) k true
-
--- what a look-up of the request of a number answered: where it stands, or that there is none
-abbrev pub IsFound : ℕ → List RequestRow → Option RequestAt → Type 0
-IsFound fd rows None = row_at rows fd ≡ None
-IsFound fd rows (Some found) = (found.fd ≡ fd) × StandsAt found rows
 
 -- why a read of events is refused
 abbrev pub edges_refusal : ℕ → ℕ → ℕ → World → Option Errno

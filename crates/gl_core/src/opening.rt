@@ -1,6 +1,6 @@
 //! Opening chips and closing files.
 
-ghost use Rattle.std.specs.Prelude.{◌≡◌, ◌+◌, ◌<◌, ◌^◌, [], Some, length, IfNone};
+ghost use Rattle.std.specs.Prelude.{◌≡◌, ◌+◌, ◌<◌, ◌^◌, [], None, Some, length, IfNone};
 ghost use Rattle.gl_base.specs.Lines.{offsets_of};
 ghost use Rattle.gl_base.specs.Rows.{Each};
 ghost use Rattle.gl_base.specs.declared.limits.TheConstants.{FILES_MAX};
@@ -8,10 +8,8 @@ ghost use Rattle.gl_request.specs.Request.{StandsAt, request_at as row_at};
 ghost use Rattle.gl_request.specs.declared.row.RequestRow.{RequestRow};
 ghost use Rattle.gl_model.specs.declared.call.Call.TheVariants.{OpenChip};
 ghost use Rattle.gl_model.specs.Fits.{FitsGift, Leaves};
-ghost use Rattle.gl_model.specs.OpenFiles.{is_hold};
-ghost use Rattle.gl_model.specs.Opening.{close, close_request, is_open, open_chip, open_refusal, with_file, without_deadlines_at};
+ghost use Rattle.gl_model.specs.Opening.{close, close_request, open_chip, open_refusal, with_file, without_deadlines_at};
 ghost use Rattle.gl_model.specs.World.{request_at};
-ghost use Rattle.gl_core.specs.OpenRequests.{IsFound};
 ghost use Rattle.gl_core.specs.Reached.{IsReached};
 ghost use Rattle.gl_core.specs.Shape.{HasLine, IsInRange};
 ghost use Rattle.gl_core.specs.Steps.{Follows, Steps, Tells};
@@ -74,36 +72,35 @@ impl State {
         requires reached { IsReached self.old }
         ensures { Steps (close fd) self.old self.new result }
     {
-        let found = self.requests.find(fd);
-        if !self.is_open(fd, found) {
+        match self.requests.find(fd) {
+            Some(found) => self.close_hold(found),
+            None => self.close_file(fd),
+        }
+    }
+
+    /// Closes the request that was found. `BadF` comes where it is a claim: that isn't open yet.
+    fn close_hold(&mut self, found: RequestAt) -> Reply
+        requires reached { IsReached self.old }
+        requires stands { StandsAt found self.old.requests }
+        ensures { Steps (close found.fd) self.old self.new result }
+    {
+        if !self.requests.row(found).held {
             return Reply::Refused(Errno::BadF);
         }
-        self.files.remove(fd);
-        match found {
-            Some(found) => self.close_request(found),
-            None => {}
-        }
+        self.close_request(found);
         Reply::Done
     }
 
-    /// Whether the number is that of an open file: of a chip file, or of a request that holds its lines. `found` tells where the
-    /// request of the number stands.
-    fn is_open(&self, fd: u32, found: Option<RequestAt>) -> bool
-        requires found { IsFound fd self.now.requests found }
-        ensures { Tells (is_open fd) self.now result }
+    /// Closes the chip file of a number that is no request's. `BadF` comes where there is none.
+    fn close_file(&mut self, fd: u32) -> Reply
+        requires { row_at self.old.requests fd ≡ None }
+        ensures { Steps (close fd) self.old self.new result }
     {
-        self.files.place(fd).is_some() || self.is_hold(fd, found)
-    }
-
-    /// Whether the number is that of a request that holds its lines.
-    fn is_hold(&self, fd: u32, found: Option<RequestAt>) -> bool
-        requires found { IsFound fd self.now.requests found }
-        ensures { Tells (λ w. is_hold (request_at w.requests fd)) self.now result }
-    {
-        match found {
-            Some(found) => self.requests.row(found).held,
-            None => false,
+        let there = self.files.remove(fd).is_some();
+        if !there {
+            return Reply::Refused(Errno::BadF);
         }
+        Reply::Done
     }
 
     /// Lets go of the lines of a request and of the request itself, and tells of each line as released.
