@@ -9,6 +9,8 @@ mod tests_args;
 mod tests_monitor;
 #[cfg(test)]
 mod tests_rows;
+#[cfg(test)]
+mod tests_statements;
 mod transcript;
 
 pub use transcript::{put_call, results_of};

@@ -79,19 +79,11 @@ fn told(alloc: Global, words: &[u8], results: &[u8]) -> Result<Vec<u8>, Fail> {
 }
 
 /// A tool's words, the results that it gets, and what it asks and prints.
-fn cases() -> [(&'static str, &'static str, &'static str); 22] {
+type Case = (&'static str, &'static str, &'static str);
+
+/// Lines that gpioget finds and requests, and its options.
+fn get_cases() -> [Case; 5] {
     [
-        (
-            "gpiodetect gpiochip0 1",
-            "ok chip:gpiochip0:soc-gpio:8 ok ok chip:gpiochip1:board-exp:1 ok",
-            "open 0 gpiochip0\nchipinfo 0 68\nclose 0 \ngpiochip0 [soc-gpio] (8 lines)\nopen 0 1\nchipinfo 0 68\nclose 0 \ngpiochip1 [board-exp] (1 lines)\n",
-        ),
-        ("gpiodetect 5", "ENOENT", "open 0 5\ngpiodetect: ENOENT\n"),
-        (
-            "gpiodetect 5",
-            "ok ENODEV ok",
-            "open 0 5\nchipinfo 0 68\ngpiodetect: ENODEV\nclose 0 \n",
-        ),
         (
             "gpioget BUTTON",
             "found:0:3:1 ok ok ok values:0 ok",
@@ -112,6 +104,17 @@ fn cases() -> [(&'static str, &'static str, &'static str); 22] {
             "ok ok ok values:1 ok",
             "open 0 0\nrequest 0 592 as 1 2 3 flags 4 by gpioget\nclose 0 \nvalues 1 16 mask 3\nclose 1 \n2=active 3=inactive\n",
         ),
+        (
+            "gpioget -c 0 --by-name 1",
+            "ok found:0:7:1 ok ok values:1 ok",
+            "open 0 0\nfind 0 1\nrequest 0 592 as 1 7 flags 4 by gpioget\nclose 0 \nvalues 1 16 mask 1\nclose 1 \n\"1\"=active\n",
+        ),
+    ]
+}
+
+/// Each operation of gpioget refused in turn, with what is then closed.
+fn refused_get_cases() -> [Case; 8] {
+    [
         ("gpioget -c 1 0", "ENOENT", "open 0 1\ngpioget: ENOENT\n"),
         ("gpioget 2", "ENOENT", "find - 2\ngpioget: ENOENT\n"),
         (
@@ -144,10 +147,17 @@ fn cases() -> [(&'static str, &'static str, &'static str); 22] {
             "found:2:1:2 EMFILE",
             "find - A\nopen 0 2\ngpioget: EMFILE\n",
         ),
+    ]
+}
+
+/// The same of the others.
+fn refused_cases() -> [Case; 4] {
+    [
+        ("gpiodetect 5", "ENOENT", "open 0 5\ngpiodetect: ENOENT\n"),
         (
-            "gpioset -c 0 -d open-drain -b pull-up -C me 1=1 2=off 3=true",
-            "ok ok ok ok",
-            "open 0 0\nrequest 0 592 as 1 1 2 3 flags 328 by me attribute 2 5 7\nclose 0 \nclose 1 \n",
+            "gpiodetect 5",
+            "ok ENODEV ok",
+            "open 0 5\nchipinfo 0 68\ngpiodetect: ENODEV\nclose 0 \n",
         ),
         (
             "gpioset -c 0 1=1",
@@ -155,9 +165,25 @@ fn cases() -> [(&'static str, &'static str, &'static str); 22] {
             "open 0 0\nrequest 0 592 as 1 1 flags 8 by gpioset attribute 2 1 1\ngpioset: EIO\nclose 0 \n",
         ),
         (
-            "gpioget -c 0 --by-name 1",
-            "ok found:0:7:1 ok ok values:1 ok",
-            "open 0 0\nfind 0 1\nrequest 0 592 as 1 7 flags 4 by gpioget\nclose 0 \nvalues 1 16 mask 1\nclose 1 \n\"1\"=active\n",
+            "gpioinfo -c 0",
+            "ok chip:gpiochip0:d-b:2 line:4:0:: ENODEV ok",
+            "open 0 0\nchipinfo 0 68\nlineinfo 0 256 line 0 \nlineinfo 0 256 line 1 \ngpioinfo: ENODEV\nclose 0 \n",
+        ),
+    ]
+}
+
+/// Chips, lines and the values that gpioset asks for.
+fn chip_cases() -> [Case; 5] {
+    [
+        (
+            "gpiodetect gpiochip0 1",
+            "ok chip:gpiochip0:soc-gpio:8 ok ok chip:gpiochip1:board-exp:1 ok",
+            "open 0 gpiochip0\nchipinfo 0 68\nclose 0 \ngpiochip0 [soc-gpio] (8 lines)\nopen 0 1\nchipinfo 0 68\nclose 0 \ngpiochip1 [board-exp] (1 lines)\n",
+        ),
+        (
+            "gpioset -c 0 -d open-drain -b pull-up -C me 1=1 2=off 3=true",
+            "ok ok ok ok",
+            "open 0 0\nrequest 0 592 as 1 1 2 3 flags 328 by me attribute 2 5 7\nclose 0 \nclose 1 \n",
         ),
         (
             "gpioinfo -c gpiochip2",
@@ -174,19 +200,43 @@ fn cases() -> [(&'static str, &'static str, &'static str); 22] {
             "ok chip:gpiochip0:d-b:1 line:9:0:BUTTON:led ok",
             "open 0 0\nchipinfo 0 68\nlineinfo 0 256 line 0 \nclose 0 \ngpiochip0 - 1 lines:\n\tline   0:\tBUTTON          \toutput consumer=led\n",
         ),
-        (
-            "gpioinfo -c 0",
-            "ok chip:gpiochip0:d-b:2 line:4:0:: ENODEV ok",
-            "open 0 0\nchipinfo 0 68\nlineinfo 0 256 line 0 \nlineinfo 0 256 line 1 \ngpioinfo: ENODEV\nclose 0 \n",
-        ),
     ]
 }
 
-/// The operations and texts of the tools: of the rows of a board, of options, of a planned fault, of hogs and locks, and
-/// of each operation refused in turn, with what is then closed.
+/// The operations and texts of gpioget: of the rows of a board and of options.
 #[test]
-fn tools_ask_and_print(rt: HostRuntime) -> Result<(), Fail> {
-    for (words, results, text) in cases() {
+fn gpioget_asks_and_prints(rt: HostRuntime) -> Result<(), Fail> {
+    for (words, results, text) in get_cases() {
+        let out = told(rt.alloc(), words.as_bytes(), results.as_bytes())?;
+        assert_eq!(rt; out.as_slice(), text.as_bytes(), "{words}");
+    }
+    Ok(())
+}
+
+/// gpioget that is refused prints the refusal, closes what it has open and ends, at each of its operations.
+#[test]
+fn a_refused_gpioget_closes_and_ends(rt: HostRuntime) -> Result<(), Fail> {
+    for (words, results, text) in refused_get_cases() {
+        let out = told(rt.alloc(), words.as_bytes(), results.as_bytes())?;
+        assert_eq!(rt; out.as_slice(), text.as_bytes(), "{words} over {results}");
+    }
+    Ok(())
+}
+
+/// So do the other tools.
+#[test]
+fn a_refused_tool_closes_and_ends(rt: HostRuntime) -> Result<(), Fail> {
+    for (words, results, text) in refused_cases() {
+        let out = told(rt.alloc(), words.as_bytes(), results.as_bytes())?;
+        assert_eq!(rt; out.as_slice(), text.as_bytes(), "{words} over {results}");
+    }
+    Ok(())
+}
+
+/// The operations and texts of gpiodetect, gpioinfo and gpioset: of the rows of a board, and of hogs and locks.
+#[test]
+fn chips_are_told(rt: HostRuntime) -> Result<(), Fail> {
+    for (words, results, text) in chip_cases() {
         let out = told(rt.alloc(), words.as_bytes(), results.as_bytes())?;
         assert_eq!(rt; out.as_slice(), text.as_bytes(), "{words}");
     }
@@ -194,7 +244,7 @@ fn tools_ask_and_print(rt: HostRuntime) -> Result<(), Fail> {
 }
 
 /// Runs over all places: a whole one of each tool, and some with a refusal in their middle.
-fn place_cases() -> [(&'static str, &'static str, &'static str); 9] {
+fn place_cases() -> [Case; 9] {
     [
         (
             "gpiodetect",

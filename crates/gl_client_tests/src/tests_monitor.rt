@@ -59,7 +59,8 @@ fn monitor_of(alloc: Global, text: &[u8]) -> Result<Monitor, Fail> {
 /// What a monitor is told, at its start and in three steps, and what it asks and prints.
 type Case = (&'static str, &'static str, [&'static str; 3], &'static str);
 
-fn cases() -> [Case; 11] {
+/// gpiomon with a number of events less than, equal to and above what waits.
+fn number_cases() -> [Case; 4] {
     [
         (
             "gpiomon -c 0 -n 2 -F %c:%o:%E:%S 1",
@@ -71,6 +72,34 @@ fn cases() -> [Case; 11] {
             ],
             "open 0 0\nrequest 0 592 as 1 1 flags 52 by gpiomon\nclose 0 \nwatches\npoll 1 \nread 1 96\ngpiochip0:1:rising:1.500000000\nwatches\npoll 1 \npoll 1 \npoll 1 \nidle\nwatches\npoll 1 \npoll 1 \nread 1 48\ngpiochip0:1:falling:1.500000000\nclose 1 \nended\n",
         ),
+        (
+            "gpiomon -c 0 -n 1 1",
+            "ok ok ok",
+            ["ready:1 event:0:1:1 ok", "", ""],
+            "open 0 0\nrequest 0 592 as 1 1 flags 52 by gpiomon\nclose 0 \nwatches\npoll 1 \nread 1 48\n0.000000000\trising\tgpiochip0 1\nclose 1 \nended\nended\nended\n",
+        ),
+        (
+            "gpiomon -c 0 -n 2 1",
+            "ok ok ok",
+            ["ready:1 event:0:1:1+event:1:2:1 ok", "", ""],
+            "open 0 0\nrequest 0 592 as 1 1 flags 52 by gpiomon\nclose 0 \nwatches\npoll 1 \nread 1 96\n0.000000000\trising\tgpiochip0 1\n0.000000001\tfalling\tgpiochip0 1\nclose 1 \nended\nended\nended\n",
+        ),
+        (
+            "gpiomon -c 0 -n 20 1",
+            "ok ok ok",
+            [
+                "ready:1 event:0:1:1+event:1:2:1",
+                "ready:0 ready:0 ready:1 event:2:1:1",
+                "ready:0 ready:0 ready:0",
+            ],
+            "open 0 0\nrequest 0 592 as 1 1 flags 52 by gpiomon\nclose 0 \nwatches\npoll 1 \nread 1 768\n0.000000000\trising\tgpiochip0 1\n0.000000001\tfalling\tgpiochip0 1\nwatches\npoll 1 \npoll 1 \npoll 1 \nread 1 768\n0.000000002\trising\tgpiochip0 1\nwatches\npoll 1 \npoll 1 \npoll 1 \nidle\nwatches\n",
+        ),
+    ]
+}
+
+/// gpiomon without a number, its formats, and what is refused.
+fn edge_cases() -> [Case; 4] {
+    [
         (
             "gpiomon -p 1 -e rising BUTTON",
             "found:2:5:1 ok ok ok",
@@ -98,33 +127,17 @@ fn cases() -> [Case; 11] {
             "open 0 0\nfind 0 A\nrequest 0 592 as 1 1 2 flags 52 by gpiomon\nclose 0 \nwatches\npoll 1 \nread 1 768\n0.000000000\trising\tgpiochip0 1 \"A\"\n0.000000000\tfalling\tgpiochip0 2\nwatches\npoll 1 \npoll 1 \npoll 1 \nidle\nwatches\npoll 1 \nread 1 768\n0.000000000\trising\tgpiochip0 2\nwatches\n",
         ),
         (
-            "gpiomon -c 0 -n 1 1",
-            "ok ok ok",
-            ["ready:1 event:0:1:1 ok", "", ""],
-            "open 0 0\nrequest 0 592 as 1 1 flags 52 by gpiomon\nclose 0 \nwatches\npoll 1 \nread 1 48\n0.000000000\trising\tgpiochip0 1\nclose 1 \nended\nended\nended\n",
-        ),
-        (
-            "gpiomon -c 0 -n 2 1",
-            "ok ok ok",
-            ["ready:1 event:0:1:1+event:1:2:1 ok", "", ""],
-            "open 0 0\nrequest 0 592 as 1 1 flags 52 by gpiomon\nclose 0 \nwatches\npoll 1 \nread 1 96\n0.000000000\trising\tgpiochip0 1\n0.000000001\tfalling\tgpiochip0 1\nclose 1 \nended\nended\nended\n",
-        ),
-        (
-            "gpiomon -c 0 -n 20 1",
-            "ok ok ok",
-            [
-                "ready:1 event:0:1:1+event:1:2:1",
-                "ready:0 ready:0 ready:1 event:2:1:1",
-                "ready:0 ready:0 ready:0",
-            ],
-            "open 0 0\nrequest 0 592 as 1 1 flags 52 by gpiomon\nclose 0 \nwatches\npoll 1 \nread 1 768\n0.000000000\trising\tgpiochip0 1\n0.000000001\tfalling\tgpiochip0 1\nwatches\npoll 1 \npoll 1 \npoll 1 \nread 1 768\n0.000000002\trising\tgpiochip0 1\nwatches\npoll 1 \npoll 1 \npoll 1 \nidle\nwatches\n",
-        ),
-        (
             "gpiomon -c 0 2",
             "ok ENXIO ok",
             ["", "", ""],
             "open 0 0\nrequest 0 592 as 1 2 flags 52 by gpiomon\ngpiomon: ENXIO\nclose 0 \nended\nended\nended\nended\n",
         ),
+    ]
+}
+
+/// gpionotify.
+fn change_cases() -> [Case; 3] {
+    [
         (
             "gpionotify -c 0 -e released -n 1 3 1",
             "ok ok ok",
@@ -224,8 +237,26 @@ fn told(alloc: Global, case: &Case) -> Result<Vec<u8>, Fail> {
 }
 
 #[test]
-fn monitors_ask_and_print(rt: HostRuntime) -> Result<(), Fail> {
-    for case in cases() {
+fn events_are_counted(rt: HostRuntime) -> Result<(), Fail> {
+    for case in number_cases() {
+        let out = told(rt.alloc(), &case)?;
+        assert_eq!(rt; out.as_slice(), case.3.as_bytes(), "{}", case.0);
+    }
+    Ok(())
+}
+
+#[test]
+fn gpiomon_asks_and_prints(rt: HostRuntime) -> Result<(), Fail> {
+    for case in edge_cases() {
+        let out = told(rt.alloc(), &case)?;
+        assert_eq!(rt; out.as_slice(), case.3.as_bytes(), "{}", case.0);
+    }
+    Ok(())
+}
+
+#[test]
+fn gpionotify_asks_and_prints(rt: HostRuntime) -> Result<(), Fail> {
+    for case in change_cases() {
         let out = told(rt.alloc(), &case)?;
         assert_eq!(rt; out.as_slice(), case.3.as_bytes(), "{}", case.0);
     }

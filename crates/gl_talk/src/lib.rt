@@ -12,8 +12,6 @@ mod plans;
 mod replies;
 mod steps;
 mod talk;
-#[cfg(test)]
-mod tests;
 mod tools;
 mod words;
 

@@ -1,9 +1,9 @@
 //! Statements over scripted results: what they ask and what they print.
 
-use super::Talk;
 use gl_args::Next;
 use gl_base::{ByteList, Do, Errno, Got, Name};
 use gl_script::{Script, Statement};
+use gl_talk::Talk;
 use std::alloc::Global;
 use std::test::Fail;
 
@@ -134,9 +134,12 @@ fn run_all(alloc: Global, statements: &str, answers: &[Answer]) -> Result<Vec<u8
     run_text(alloc, &text, answers)
 }
 
-#[test]
-fn statements_ask_and_print(rt: HostRuntime) -> Result<(), Fail> {
-    let sessions: [(&str, &[Answer], &str); 7] = [
+/// Statements of a section, the results that they get, and what they ask and print.
+type Case = (&'static str, &'static [Answer], &'static str);
+
+/// Names of files, and usages of tools.
+fn name_cases() -> [Case; 4] {
+    [
         (
             "probe demo 4\nopen A gpiochip0\nopen A 0\nopen B 1\npoll A\npoll A\npoll C\nclose A",
             &[
@@ -150,6 +153,33 @@ fn statements_ask_and_print(rt: HostRuntime) -> Result<(), Fail> {
             ],
             "(probe 4)(open 4)EEXIST\n(open 8)(poll 4)IN\n(poll 4)HUP ERR\nEBADF\n(close 4)(close 8)",
         ),
+        (
+            "open as 0\nioctl as GET_LINE 00*592 as R\npoll R",
+            &[
+                Answer::Number(3),
+                Answer::Bytes(592),
+                Answer::Ready(0),
+                Answer::Done,
+                Answer::Done,
+            ],
+            "(open 2)(ioctl 2)fd 50462976\n(poll 4)-\n(close 2)(close 4)",
+        ),
+        (
+            "gpiodetect 0",
+            &[Answer::Refused(Errno::NoEnt)],
+            "(open 2)gpiodetect: ENOENT\n",
+        ),
+        (
+            "gpioget -x 1\ngpiodetect a b c d e f g h i j k l m n o p q",
+            &[],
+            "gpioget: usage\ngpiodetect: usage\n",
+        ),
+    ]
+}
+
+/// Commands and reads, paths, and calls on the board.
+fn call_cases() -> [Case; 3] {
+    [
         (
             "read gpiochip0/sim_gpio3/value\nwrite gpiochip0/sim_gpio3/value 1\nwrite gpiochip15/sim_gpio2/pull pull-up\nwrite gpiochip0/sim_gpio2/pull up\nread gpiochip16/sim_gpio0/pull\nread board/live\nwrite board/live 1\nwrite board/live 2\nwrite gpiochip0/live 1",
             &[
@@ -175,17 +205,6 @@ fn statements_ask_and_print(rt: HostRuntime) -> Result<(), Fail> {
             "(open 2)(ioctl 2)00010203\n(ioctl 2)fd 50462976\nEEXIST\nEINVAL\nEINVAL\n(readfile 96)216736831629295872 falling 50462976 50462976 50462976\n(ioctl 6)(close 6)(close 2)",
         ),
         (
-            "open as 0\nioctl as GET_LINE 00*592 as R\npoll R",
-            &[
-                Answer::Number(3),
-                Answer::Bytes(592),
-                Answer::Ready(0),
-                Answer::Done,
-                Answer::Done,
-            ],
-            "(open 2)(ioctl 2)fd 50462976\n(poll 4)-\n(close 2)(close 4)",
-        ),
-        (
             "mkdir a\nrmdir a\nclock 1 2\nfault 3\npin hold 15 5\npin hold 16 5\nirq lock 0 7\nunplug 0",
             &[
                 Answer::Done,
@@ -198,18 +217,21 @@ fn statements_ask_and_print(rt: HostRuntime) -> Result<(), Fail> {
             ],
             "(mkdir 0)(rmdir 0)ENOENT\n(tick 2)(plan 3)(pin 15)ENOENT\n(irq 7)(unplug 0)EBUSY\n",
         ),
-        (
-            "gpioget -x 1\ngpiodetect a b c d e f g h i j k l m n o p q",
-            &[],
-            "gpioget: usage\ngpiodetect: usage\n",
-        ),
-        (
-            "gpiodetect 0",
-            &[Answer::Refused(Errno::NoEnt)],
-            "(open 2)gpiodetect: ENOENT\n",
-        ),
-    ];
-    for (statements, answers, wanted) in sessions {
+    ]
+}
+
+#[test]
+fn names_ask_and_print(rt: HostRuntime) -> Result<(), Fail> {
+    for (statements, answers, wanted) in name_cases() {
+        let printed = run_all(rt.alloc(), statements, answers)?;
+        assert_eq!(rt; printed.as_slice(), wanted.as_bytes(), "{statements}");
+    }
+    Ok(())
+}
+
+#[test]
+fn calls_ask_and_print(rt: HostRuntime) -> Result<(), Fail> {
+    for (statements, answers, wanted) in call_cases() {
         let printed = run_all(rt.alloc(), statements, answers)?;
         assert_eq!(rt; printed.as_slice(), wanted.as_bytes(), "{statements}");
     }
