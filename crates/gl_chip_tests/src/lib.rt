@@ -5,6 +5,10 @@ mod boards;
 mod chip_files;
 mod devices;
 mod on_places;
+mod rendezvous;
+#[cfg(test)]
+mod request_tests;
+mod requesting;
 #[cfg(test)]
 mod tests;
 mod unplugging;
