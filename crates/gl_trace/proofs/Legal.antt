@@ -1,11 +1,11 @@
 -- Each entry of a legal history has a text.
-use Rattle.std.proofs.Common.{◌≡◌, ℕ, Bool, true, false, not, cond, List, [], ◌∷◌, Option, Some, None, refl, sym, ap, ◌∙◌, subst}
+use Rattle.std.proofs.Common.{◌≡◌, ℕ, Bool, true, false, List, [], ◌∷◌, Option, Some, None, refl, sym, ap, ◌∙◌, subst}
 use Rattle.std.specs.Prelude.{◌||◌, ◌==◌, nat_lt, take}
 use Rattle.std.proofs.lemmas.Bool.{true≢false, false≢true}
 use Rattle.gl_base.specs.Refusals.{first_of, when}
 use Rattle.gl_base.specs.Rows.{Each}
 use Rattle.gl_base.specs.declared.errno.Errno.{Errno}
-use Rattle.gl_base.specs.declared.errno.Errno.TheVariants.{Fault, Inval, NoDev}
+use Rattle.gl_base.specs.declared.errno.Errno.TheVariants.{Fault, Inval}
 use Rattle.gl_uapi.specs.Command.{command_of, size_of}
 use Rattle.gl_uapi.specs.declared.commands.Command.{Command}
 use Rattle.gl_uapi.specs.declared.commands.Command.TheVariants.{ChipInfo, LineInfo, Watch, Unwatch, GetLine, SetConfig, GetValues, SetValues}
@@ -19,11 +19,11 @@ use Rattle.gl_model.specs.declared.gift.Gift.{Gift}
 use Rattle.gl_model.specs.declared.reply.Reply.{Reply}
 use Rattle.gl_model.specs.declared.reply.Reply.TheVariants.{Done, Number, Go, Found, Text, Ready, Refused}
 use Rattle.gl_model.specs.Fits.{FitsCall}
-use Rattle.gl_model.specs.Ioctl.{act_on, by_number, checked, in_part}
+use Rattle.gl_model.specs.Ioctl.{act_on, by_number, in_part}
 use Rattle.gl_model.specs.Machine.{machine}
 use Rattle.gl_model.specs.OpenFiles.{command_refusal, has_part, is_for_chips, kind_refusal}
 use Rattle.gl_model.specs.Outcome.{Outcome, refused_or}
-use Rattle.gl_model.specs.Replies.{has_form, is_ready, numbered_form}
+use Rattle.gl_model.specs.Replies.{has_form, numbered_form}
 use Rattle.gl_model.specs.Step.{step}
 use Rattle.gl_model.specs.World.{World, opening}
 use Rattle.gl_model.proofs.MachineLaws.{always}

@@ -1,2 +1,16 @@
+pub mod Buffers
+pub mod Calls
+pub mod Commands
+pub mod Cutting
+pub mod Entries
+pub mod Fields
+pub mod Guessing
 pub mod Legal
+pub mod Numbers
+pub mod Pairs
 pub mod Putting
+pub mod Replies
+pub mod Shapes
+pub mod Spelling
+pub mod Stripping
+pub mod Texts

@@ -1,5 +1,5 @@
 -- The text of an entry of a history, and which entries have one. This project's choice.
-use Rattle.std.specs.Prelude.{◌≡◌, ℕ, Bool, true, ◌==◌, IsTrue, List, ◌∷◌, ◌++◌, drop, codes}
+use Rattle.std.specs.Prelude.{◌≡◌, ℕ, true, ◌==◌, IsTrue, List, ◌∷◌, ◌++◌, drop, codes}
 use Rattle.std.specs.List.{list_all}
 use Rattle.gl_base.specs.Decimal.{decimal}
 use Rattle.gl_base.specs.Rows.{Each}

@@ -1,7 +1,15 @@
+pub mod BufferRead
+pub mod CallRead
 pub mod CallText
+pub mod EntryRead
 pub mod EntryText
 pub mod Forms
+pub mod Fronts
+pub mod ReplyRead
 pub mod ReplyText
 pub mod TextWord
+pub mod Typed
+pub mod Unique
 pub mod Verbs
+pub mod WordRead
 pub mod Words

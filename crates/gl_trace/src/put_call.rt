@@ -273,7 +273,7 @@ fn put_length(len: u32, out: &mut Vec<u8>) -> Result<(), Errno>
 }
 
 /// The first `len` bytes; all where there are no more.
-fn first_bytes(bytes: &[u8], len: u32) -> &[u8]
+pub(crate) fn first_bytes(bytes: &[u8], len: u32) -> &[u8]
     ensures { result.now ≡ take len bytes.now }
 {
     &bytes[..bytes.len().min(len as usize)]

@@ -1,6 +1,66 @@
 //! The words with which the texts of calls begin.
-ghost use Rattle.std.specs.Prelude.{◌≡◌};
-ghost use Rattle.gl_trace.specs.Verbs.{verb_word};
+ghost use Rattle.std.specs.Prelude.{◌≡◌, find, option_copied};
+ghost use Rattle.gl_trace.specs.Verbs.{asked_of, is_verb, verb_count, verb_of, verb_word};
+
+/// How many words stand behind a verb, before the bytes of a command.
+#[derive(Clone, Copy, PartialEq, Eq, Debug)]
+pub enum Count {
+    /// One.
+    One,
+    /// Two.
+    Two,
+    /// Three.
+    Three,
+    /// Four.
+    Four,
+}
+
+/// The part of a command that a verb is of.
+#[derive(Clone, Copy, PartialEq, Eq, Debug)]
+pub enum Asked {
+    /// A command that needs no driver.
+    Whole,
+    /// A command that is asked for.
+    Ask,
+    /// A command whose driver answered.
+    Tell,
+}
+
+/// All verbs.
+pub const VERBS: [Verb; 32] = [
+    Verb::Probe,
+    Verb::Unplug,
+    Verb::MakeDir,
+    Verb::RemoveDir,
+    Verb::Write,
+    Verb::Read,
+    Verb::Live,
+    Verb::Remove,
+    Verb::Tick,
+    Verb::Range,
+    Verb::Hold,
+    Verb::Drop,
+    Verb::Lock,
+    Verb::Unlock,
+    Verb::Enable,
+    Verb::Disable,
+    Verb::Never,
+    Verb::Pull,
+    Verb::Interrupt,
+    Verb::Level,
+    Verb::PullOf,
+    Verb::Open,
+    Verb::Find,
+    Verb::Ioctl,
+    Verb::Ask,
+    Verb::Tell,
+    Verb::ReadLine,
+    Verb::ReadChip,
+    Verb::PollLine,
+    Verb::PollChip,
+    Verb::Close,
+    Verb::Refused,
+];
 
 /// The word with which the text of a call begins. The words are this project's choice.
 #[derive(Clone, Copy, PartialEq, Eq, Debug)]
@@ -111,4 +171,62 @@ impl Verb {
             Verb::Refused => "refused",
         }
     }
+
+    /// How many words stand behind it, before the bytes of a command.
+    pub fn count(self) -> Count
+        ensures { result ≡ verb_count self }
+    {
+        match self {
+            Verb::MakeDir | Verb::RemoveDir | Verb::Read | Verb::Live | Verb::Open | Verb::Close =>
+                Count::One,
+            Verb::Unplug
+            | Verb::Write
+            | Verb::Remove
+            | Verb::Tick
+            | Verb::Hold
+            | Verb::Drop
+            | Verb::Lock
+            | Verb::Unlock
+            | Verb::Enable
+            | Verb::Disable
+            | Verb::Never
+            | Verb::Level
+            | Verb::PullOf
+            | Verb::Find
+            | Verb::PollLine
+            | Verb::PollChip
+            | Verb::Refused => Count::Two,
+            Verb::Probe | Verb::Pull | Verb::Interrupt | Verb::ReadLine | Verb::ReadChip =>
+                Count::Three,
+            Verb::Range | Verb::Ioctl | Verb::Ask | Verb::Tell => Count::Four,
+        }
+    }
+
+    /// The part of a command that it is of, if it is of one.
+    pub fn asked(self) -> Option<Asked>
+        ensures { result ≡ asked_of self }
+    {
+        match self {
+            Verb::Ioctl => Some(Asked::Whole),
+            Verb::Ask => Some(Asked::Ask),
+            Verb::Tell => Some(Asked::Tell),
+            _ => None,
+        }
+    }
+
+    /// The verb of a word, if it is one.
+    pub fn of(word: &[u8]) -> Option<Verb>
+        ensures { result ≡ verb_of word.now }
+    {
+        match verb_among(&VERBS, word) {
+            Some(verb) => Some(*verb),
+            None => None,
+        }
+    }
+}
+
+fn verb_among<'a>(verbs: &'a [Verb], word: &[u8]) -> Option<&'a Verb>
+    ensures { option_copied result ≡ find (is_verb word.now) verbs.now }
+{
+    verbs.iter().find(|verb| verb.word().as_bytes() == word)
 }

@@ -98,7 +98,7 @@ fn put_pair(byte: u8, out: &mut Vec<u8>) -> Result<(), Errno>
 }
 
 /// The lower-case digit of a number below 16.
-fn hex_digit(n: u8) -> u8
+pub(crate) fn hex_digit(n: u8) -> u8
     requires { n < 16 }
     ensures { result ≡ hex_digit n }
 {

@@ -1,4 +1,3 @@
-use Rattle.std.proofs.Common.{rules}
 use Rattle.gl_trace.proofs.put_call.put_call.Goals as goal
 
 pub returns-in-Ioctl-clause-ok : goal.returns-in-Ioctl-clause-ok
