@@ -68,7 +68,7 @@ named_inside v place fd cmd len bytes part inside = record {
 }
 
 -- what the machine answered at the last entry
-answered_last : (v w : OneView) (call : Call) (reply : Reply) (last : EndsWith w.seen (entry v.number call reply)) → Legal core w.seen → reply ≡ core.reply_of (fold core last.0) v.number call
+pub answered_last : (v w : OneView) (call : Call) (reply : Reply) (last : EndsWith w.seen (entry v.number call reply)) → Legal core w.seen → reply ≡ core.reply_of (fold core last.0) v.number call
 answered_last v w call reply last legal = (answered_rest core core.opening last.0 (entry v.number call reply ∷ []) (subst (λ s. Answered core s) last.1 legal.0)).0
 
 -- EIO of an ask, and of a tell
@@ -125,7 +125,7 @@ last_entry_snoc [] e = refl
 last_entry_snoc (x ∷ []) e = refl
 last_entry_snoc (x ∷ y ∷ zs) e = last_entry_snoc (y ∷ zs) e
 
-last_entry_on : (x : OneEntry) (xs : List OneEntry) (e : OneEntry) → last_entry (x ∷ (xs ++ e ∷ [])) ≡ Some e
+pub last_entry_on : (x : OneEntry) (xs : List OneEntry) (e : OneEntry) → last_entry (x ∷ (xs ++ e ∷ [])) ≡ Some e
 last_entry_on x xs e = last_entry_snoc (x ∷ xs) e
 
 last_reply_snoc : (xs : List OneEntry) (e : OneEntry) → last_reply (xs ++ e ∷ []) ≡ Some e.reply

@@ -46,7 +46,7 @@ io_whole C w place fd (Some SetConfig) bytes (inr h) = inr h
 io_whole C w place fd (Some GetValues) bytes e = absurd (true≢false (sym (ap is_tell e)))
 io_whole C w place fd (Some SetValues) bytes e = absurd (true≢false (sym (ap is_tell e)))
 
-abbrev entry_or : OneEntry → Option OneEntry → OneEntry
+abbrev pub entry_or : OneEntry → Option OneEntry → OneEntry
 entry_or d (Some e) = e
 entry_or d None = d
 
@@ -71,7 +71,7 @@ io_made C n false c answer own made w last not_asked makes is_last replied is =
     io_whole C w c.place c.fd (command_of c.cmd) c.bytes (io_has_cause w n c.place c.fd c.cmd c.len c.bytes Whole told)
 
 -- the last entry of a call is answered as the machine answers there, and so is the call
-called_last : (limit : ℕ) (v w : OneView) (c : CommandIn) (reply : Reply) (bytes : List ℕ) (called : HasCalled limit v (Commanding c) reply bytes w)
+pub called_last : (limit : ℕ) (v w : OneView) (c : CommandIn) (reply : Reply) (bytes : List ℕ) (called : HasCalled limit v (Commanding c) reply bytes w)
     → (called.last.last.reply ≡ core.reply_of (fold core called.last.at.0) called.last.last.actor called.last.last.call) × (called.last.last.reply ≡ reply)
 called_last limit v w c reply bytes called = let l = called.last in (
   (answered_rest core core.opening l.at.0 (l.last ∷ []) (subst (λ s. Answered core s) l.at.1 called.legal.0)).0,

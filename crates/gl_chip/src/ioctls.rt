@@ -1,9 +1,11 @@
 //! Commands on open files, by their numbers.
 
-ghost use Rattle.std.specs.Prelude.{◌≡◌, ◌≢◌, ◌<◌, ◌^◌, ◌++◌, ℕ, List, false, true, Err, length, take, drop};
+ghost use Rattle.std.specs.Prelude.{◌≡◌, ◌≢◌, ◌<◌, ◌^◌, ◌++◌, ℕ, List, false, true, Err, length, take, drop, is_some, IfOk};
 ghost use Rattle.gl_base.specs.declared.errno.Errno.TheVariants.{NoMemory};
+ghost use Rattle.gl_uapi.specs.Command.{command_of};
 ghost use Rattle.gl_uapi.specs.declared.layout.TheConstants.{LINE_REQUEST_SIZE};
 ghost use Rattle.gl_model.specs.Asked.{lines_asked};
+ghost use Rattle.gl_model.specs.Entries.{is_get_line};
 ghost use Rattle.gl_chip.specs.Commanding.{CommandsOut, TakesMemory, op_for, requested_of};
 ghost use Rattle.gl_chip.specs.Handed.{command_in};
 ghost use Rattle.gl_chip.specs.Results.{done_of};
@@ -53,6 +55,7 @@ impl<D: Driver<Core>> Gpio<D> {
             (bytes : List ℕ) × (buf.new ≡ bytes ++ drop (length bytes) buf.old)
             × CommandsOut D.Port.told D.Port.faults D.OwnEntries D.ENTRIES D.is_planned
             (requested_of fd.now.place lines) result (op_for lines c) actor.old c bytes actor.new }
+        ensures file { IfOk result (λ file. is_some file ≡ is_get_line (command_of cmd)) }
     {
         let (place, fd) = (fd.place, fd.fd);
         if is_driver_asked(true, buf.len() as u32, cmd) {

@@ -1,6 +1,6 @@
 //! GET_LINE: a request of lines on an open chip.
 
-ghost use Rattle.std.specs.Prelude.{◌≡◌, ◌≢◌, ◌<◌, ◌^◌, ◌++◌, ℕ, List, true, None, Err, length, take, drop, IfOk, IfErr};
+ghost use Rattle.std.specs.Prelude.{◌≡◌, ◌≢◌, ◌<◌, ◌^◌, ◌++◌, ℕ, List, true, None, Err, length, take, drop, is_some, IfOk, IfErr};
 ghost use Rattle.gl_base.specs.Lines.{IsLineCount};
 ghost use Rattle.gl_base.specs.declared.errno.Errno.TheVariants.{NoMemory};
 ghost use Rattle.gl_base.specs.declared.limits.TheConstants.{PLACES};
@@ -9,6 +9,7 @@ ghost use Rattle.gl_uapi.specs.declared.layout.TheConstants.{LINE_REQUEST_SIZE};
 ghost use Rattle.gl_model.specs.declared.gift.Gift.{Gift as AGift};
 ghost use Rattle.gl_model.specs.declared.reply.Reply.TheVariants.{Number};
 ghost use Rattle.gl_model.specs.Asked.{lines_asked};
+ghost use Rattle.gl_model.specs.Entries.{is_get_line};
 ghost use Rattle.gl_model.specs.Fits.{FitsGift};
 ghost use Rattle.gl_model.specs.Parts.{is_driver_asked};
 ghost use Rattle.gl_model.specs.Written.{number_answered};
@@ -83,6 +84,7 @@ impl<D: Driver<Core>> Gpio<D> {
             (bytes : List ℕ) × (buf.new ≡ bytes ++ drop (length bytes) buf.old)
             × CommandsOut D.Port.told D.Port.faults D.OwnEntries D.ENTRIES D.is_planned
             (requested_of place lines) result (op_for lines c) actor.old c bytes actor.new }
+        ensures file { IfOk result (λ file. is_some file ≡ is_get_line (command_of cmd)) }
     {
         let bytes = handed_in(buf);
         let op = request_op(&bytes);

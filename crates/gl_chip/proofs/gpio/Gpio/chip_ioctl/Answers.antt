@@ -6,6 +6,7 @@ use Rattle.gl_chip.specs.Commanding.{CommandsOut, op_for, request_in, requested_
 use Rattle.gl_chip.specs.Files.{ChipFile, LineFile}
 use Rattle.gl_chip.specs.Handed.{command_in, handed_in}
 use Rattle.gl_chip.proofs.CommandResults.{command_is_full, command_is_made, whole_commanded}
+use Rattle.gl_chip.proofs.RequestedFiles.{file_where_requested}
 use Rattle.gl_chip.proofs.gpio.Gpio.chip_ioctl.Goals as goal
 
 pub returns-in-Ok-clause-called : goal.returns-in-Ok-clause-called
@@ -32,3 +33,7 @@ returns-in-Err-clause-called g c = let full = c.in-Err.ensures.full in
       command_is_full g.D.Port.Port.told g.D.Port.Port.faults g.D.Driver.OwnEntries g.D.Driver.ENTRIES g.D.Driver.is_planned {X = Option LineFile} (request_in c.args.fd.now.place named) c.in-Err.errno
           (op_for named (command_in c.args.fd.now.place c.args.fd.now.fd true c.args.cmd c.args.buf.now)) c.args.actor.now c.whole_command.new.actor (command_in c.args.fd.now.place c.args.fd.now.fd true c.args.cmd c.args.buf.now) [] full.0 full.2 c.in-Err.ensures.port,
     )
+
+pub returns-in-Ok-clause-file : goal.returns-in-Ok-clause-file
+returns-in-Ok-clause-file g c = let h = c.in-Ok.ensures.called in
+    file_where_requested 0 c.args.actor.now.pass.view c.whole_command.new.actor.pass.view (command_in c.fd.inside.place c.fd.inside.fd true c.args.cmd c.args.buf.now) c.in-Ok.reply h.0 c.fd.inside.place c.lines_named-lines.result c.requested.result c.requested.ensures h.2

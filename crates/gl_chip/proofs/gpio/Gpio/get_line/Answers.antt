@@ -9,6 +9,7 @@ use Rattle.gl_chip.specs.Commanding.{HasCommanded, IsOp, op_for, request_in, req
 use Rattle.gl_chip.specs.Files.{LineFile}
 use Rattle.gl_chip.specs.Handed.{command_in, handed_in}
 use Rattle.gl_chip.proofs.CommandResults.{called_no_memory, command_is_full, command_is_made}
+use Rattle.gl_chip.proofs.RequestedFiles.{file_where_requested}
 use Rattle.gl_chip.proofs.RequestedLines.{lines_are_some, number_below, only_get_line, op_goes, op_is_for, takes_memory}
 use Rattle.gl_chip.proofs.WholeCalls.{errno_is_told}
 use Rattle.gl_chip.proofs.gpio.Gpio.get_line.Goals as goal
@@ -53,3 +54,7 @@ returns-clause-called g c = let full = c.in-Err-driven_command.ensures.full in
       command_is_full g.D.Port.Port.told g.D.Port.Port.faults g.D.Driver.OwnEntries g.D.Driver.ENTRIES g.D.Driver.is_planned {X = Option LineFile} (request_in c.args.place named) c.in-Err-driven_command.errno
           (op_for named (command_in c.args.place c.args.fd true c.args.cmd c.args.buf.now)) c.args.actor.now c.driven_command.new.actor (command_in c.args.place c.args.fd true c.args.cmd c.args.buf.now) [] full.0 full.3 full.2,
     )
+
+pub returns-in-Ok-driven_command-clause-file : goal.returns-in-Ok-driven_command-clause-file
+returns-in-Ok-driven_command-clause-file g c = let h = c.in-Ok-driven_command.ensures.commanded in
+    file_where_requested g.D.Driver.ENTRIES c.args.actor.now.pass.view c.driven_command.new.actor.pass.view (command_in c.args.place c.args.fd true c.args.cmd c.args.buf.now) c.in-Ok-driven_command.reply h.0 c.args.place c.lines_named.result c.requested.result c.requested.ensures h.2.called
