@@ -5,6 +5,7 @@ pub mod WholeCalls
 pub mod RemovalCalls
 pub mod HandedBytes
 pub mod OpenedChips
+pub mod GoneChips
 pub mod RequestedFiles
 pub mod RequestedLines
 pub mod CommandCalls

@@ -31,7 +31,7 @@ use Rattle.gl_chip.specs.Files.{ChipFile}
 use Rattle.gl_chip.specs.Opened.{LastFinds, file_in, is_leaving_at, names_leaving, opened_of, place_named, place_or_first}
 use Rattle.gl_chip.specs.Values.{OneEntry, OneView, core}
 
-abbrev is_no_dev : Reply → Bool
+abbrev pub is_no_dev : Reply → Bool
 is_no_dev (Refused NoDev) = true
 is_no_dev _ = false
 
@@ -124,12 +124,15 @@ front_is [] x = refl
 front_is (a ∷ []) x = refl
 front_is (a ∷ b ∷ cs) x = ap (λ l. a ∷ l) (front_is (b ∷ cs) x)
 
+-- the last entry of this history was made in a world that passes the test
+pub found_last : (test : World → Bool) (seen before : List OneEntry) (e : OneEntry) → seen ≡ before ++ e ∷ [] → LastFinds test seen → test (fold core before) ≡ true
+found_last test seen before e at found = let same : found.0 ≡ before = sym (front_is found.0 found.1) ∙ (ap (λ (l : List OneEntry). front l) (sym found.2 ∙ at) ∙ front_is before e) in subst (λ b. test (fold core b) ≡ true) same found.3
+
 -- an open is refused so exactly where its last entry found the chip leaving
 pub no_dev_leaving : (v w : OneView) (word : List ℕ) (reply : Reply) → OpenedIn v word reply w → (reply ≡ Refused NoDev) ↔ LastFinds (names_leaving word) w.seen
 no_dev_leaving v w word reply o = (
   (λ is. (o.before, entry v.number (OpenChip word) reply, o.at, refused_leaving (named_place (fold core o.before).chips (chip_number_of word)) (fold core o.before) (sym o.answered ∙ is))),
-  (λ found. let same : found.0 ≡ o.before = sym (front_is found.0 found.1) ∙ (ap (λ (l : List OneEntry). front l) (sym found.2 ∙ o.at) ∙ front_is o.before (entry v.number (OpenChip word) reply)) in
-      o.answered ∙ leaving_refuses (named_place (fold core o.before).chips (chip_number_of word)) (fold core o.before) (subst (λ b. names_leaving word (fold core b) ≡ true) same found.3)),
+  (λ found. o.answered ∙ leaving_refuses (named_place (fold core o.before).chips (chip_number_of word)) (fold core o.before) (found_last (names_leaving word) w.seen o.before (entry v.number (OpenChip word) reply) o.at found)),
 )
 
 -- the file of a chip that was opened has the place that the word names

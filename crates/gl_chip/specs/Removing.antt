@@ -1,5 +1,6 @@
 -- A removal, as a call of the device: its first entry, then each of its places closed and drained, then its last entry.
-use Rattle.std.specs.Prelude.{◌≡◌, ℕ, ◌+◌, ◌<◌, ◌≤◌, Bool, true, false, List, [], ◌∷◌, ◌++◌, ◌⊎◌, Contains, Result, Err}
+use Rattle.std.specs.Prelude.{◌≡◌, ℕ, ◌+◌, ◌<◌, ◌≤◌, Bool, true, false, ◌&&◌, List, [], ◌∷◌, ◌++◌, ◌⊎◌, Contains, Result, Err}
+use Rattle.gl_base.specs.Phases.{is_gone}
 use Rattle.gl_base.specs.declared.errno.Errno.{Errno}
 use Rattle.gl_base.specs.declared.errno.Errno.TheVariants.{Full}
 use Rattle.gl_world.specs.declared.machine.Machine.{Ghosts}
@@ -13,8 +14,11 @@ use Rattle.gl_model.specs.declared.call.Call.{Call}
 use Rattle.gl_model.specs.declared.call.Call.TheVariants.{Remove, Unplug}
 use Rattle.gl_model.specs.declared.reply.Reply.{Reply}
 use Rattle.gl_model.specs.declared.reply.Reply.TheVariants.{Done}
+use Rattle.gl_model.specs.Chips.{phase_at}
 use Rattle.gl_model.specs.Entries.{awaited_call, begun_places, last_call}
 use Rattle.gl_model.specs.Parts.{DeviceCall, RemovalOf, OfChip, OfDevice}
+use Rattle.gl_model.specs.Removal.{is_outside_tree}
+use Rattle.gl_model.specs.World.{World}
 use Rattle.gl_chip.specs.Called.{IsMade}
 use Rattle.gl_chip.specs.Results.{done_of}
 use Rattle.gl_chip.specs.Steps.{EndsWith, FoundNoRoom, deed_of}
@@ -31,6 +35,10 @@ abbrev pub removal_of : Call → RemovalOf
 removal_of (Unplug place last) = OfChip place
 removal_of (Remove device last) = OfDevice device
 removal_of _ = OfChip 0
+
+-- the chip of a place was removed, and is of no device of the tree
+abbrev pub is_gone_outside : ℕ → World → Bool
+is_gone_outside place w = is_gone (phase_at w place) && is_outside_tree w place
 
 -- each place whose removal these deeds began is drained
 abbrev pub AllDrained : List OneDeed → OneView → Type 0

@@ -1,12 +1,14 @@
 //! Chips that go away: an unplugged chip, and all chips of a device of the tree.
 
-ghost use Rattle.std.specs.Prelude.{◌≡◌, ◌<◌, [], true, false, IfOk};
+ghost use Rattle.std.specs.Prelude.{◌≡◌, ◌≢◌, ◌↔◌, ◌<◌, [], true, false, Err, IfOk};
+ghost use Rattle.gl_base.specs.declared.errno.Errno.TheVariants.{Full, NoDev};
 ghost use Rattle.gl_base.specs.declared.limits.TheConstants.{PLACES};
 ghost use Rattle.gl_gate.specs.Calls.{KnowsDrained};
 ghost use Rattle.gl_model.specs.declared.call.Call.TheVariants.{Live as LiveCall};
 ghost use Rattle.gl_model.specs.Parts.{Once, Removing, OfChip, OfDevice};
 ghost use Rattle.gl_chip.specs.Called.{ComesOut};
-ghost use Rattle.gl_chip.specs.Removing.{RemovesOut};
+ghost use Rattle.gl_chip.specs.Opened.{LastFinds};
+ghost use Rattle.gl_chip.specs.Removing.{RemovesOut, is_gone_outside};
 ghost use Rattle.gl_chip.specs.Results.{done_of};
 ghost use Rattle.gl_chip.specs.Values.{IsActorOf};
 
@@ -31,6 +33,7 @@ impl<D: Driver<Core>> Gpio<D> {
         ensures port { actor.new.port ≡ actor.old.port }
         ensures called { RemovesOut result actor.old.pass.view (Removing (OfChip place)) actor.new.pass.view }
         ensures drained { IfOk result (λ _. KnowsDrained actor.new.pass.view place) }
+        ensures gone { result ≢ Err Full → ((result ≡ Err NoDev) ↔ LastFinds (is_gone_outside place) actor.new.pass.view.seen) }
     {
         let first = Call::Unplug { place, last: false };
         match self.remove_by(rt, actor, &first) {

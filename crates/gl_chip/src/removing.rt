@@ -1,8 +1,8 @@
 //! Removals: the first entry, then each place closed and drained, then the last entry.
 
-ghost use Rattle.std.specs.Prelude.{◌≡◌, ℕ, ◌+◌, ◌<◌, ◌≤◌, List, [], true, false, IfOk, IfErr};
+ghost use Rattle.std.specs.Prelude.{◌≡◌, ◌↔◌, ℕ, ◌+◌, ◌<◌, ◌≤◌, List, [], true, false, IfOk, IfErr};
 ghost use Rattle.gl_base.specs.declared.errno.Errno.{Errno as AnErrno};
-ghost use Rattle.gl_base.specs.declared.errno.Errno.TheVariants.{Full};
+ghost use Rattle.gl_base.specs.declared.errno.Errno.TheVariants.{Full, NoDev};
 ghost use Rattle.gl_world.specs.History.{Legal, fold};
 ghost use Rattle.gl_world.specs.Removal.{Removes};
 ghost use Rattle.gl_gate.specs.Values.{IsPassOf};
@@ -14,7 +14,8 @@ ghost use Rattle.gl_model.specs.Entries.{is_done, last_call};
 ghost use Rattle.gl_model.specs.Fits.{FitsCall};
 ghost use Rattle.gl_model.specs.Parts.{Removing};
 ghost use Rattle.gl_chip.specs.Called.{HasCalled};
-ghost use Rattle.gl_chip.specs.Removing.{AllDrained, HasBegun, HasDrained, HasEnded, is_first_call, removal_of};
+ghost use Rattle.gl_chip.specs.Opened.{LastFinds};
+ghost use Rattle.gl_chip.specs.Removing.{AllDrained, HasBegun, HasDrained, HasEnded, is_first_call, is_gone_outside, removal_of};
 ghost use Rattle.gl_chip.specs.Steps.{FoundNoRoom};
 ghost use Rattle.gl_chip.specs.Values.{IsActorOf, core};
 
@@ -123,6 +124,8 @@ impl<D: Driver<Core>> Gpio<D> {
         ensures refused { IfOk result (λ r. is_done r ≡ false → (errno : AnErrno) × (r ≡ Refused errno)) }
         ensures drained { IfOk result (λ r. is_done r ≡ true → (place : ℕ) → first.now ≡ UnplugCall place false
             → KnowsDrained actor.new.pass.view place) }
+        ensures gone { IfOk result (λ r. (place : ℕ) → first.now ≡ UnplugCall place false
+            → ((r ≡ Refused NoDev) ↔ LastFinds (is_gone_outside place) actor.new.pass.view.seen)) }
         ensures full { IfErr result (λ e. (e ≡ Full) × FoundNoRoom core actor.old.pass.view actor.new.pass.view) }
     {
         let _number = actor.pass.number();

@@ -3,6 +3,7 @@ use Rattle.std.proofs.lemmas.Bool.{true≢false}
 use Rattle.gl_model.specs.Parts.{Removing}
 use Rattle.gl_chip.specs.Called.{HasCalled}
 use Rattle.gl_chip.specs.Removing.{AllDrained, removal_of}
+use Rattle.gl_chip.proofs.GoneChips.{ended_not_gone, refused_as_gone}
 use Rattle.gl_chip.proofs.RemovalCalls.{done_not_undone, first_is_refused, full_removal, unplug_drains, has_begun, not_begun, refused_idle, refused_removal, two_are, whole_removal}
 use Rattle.gl_chip.proofs.WholeCalls.{idle_called, seen_from}
 use Rattle.gl_chip.specs.Steps.{FoundNoRoom}
@@ -49,3 +50,9 @@ returns-then-not-is_done-clause-refused g c = first_is_refused c.actor.inside.pa
 
 pub returns-clause-refused : goal.returns-clause-refused
 returns-clause-refused g c = done_not_undone c.end_removal.result c.end_removal.ensures.ended.done
+
+pub returns-then-not-is_done-clause-gone : goal.returns-then-not-is_done-clause-gone
+returns-then-not-is_done-clause-gone g c = λ place is. refused_as_gone c.actor.inside.pass.view c.act-begun.new.pass.view place c.args.first.now c.in-Ok.reply _ _ is c.in-Ok.ensures.acts
+
+pub returns-clause-gone : goal.returns-clause-gone
+returns-clause-gone g c = λ place is. ended_not_gone _ _ c.act-begun.new.pass.view c.end_removal.new.pass.view place c.args.first.now c.end_removal.result is c.end_removal.ensures.ended
