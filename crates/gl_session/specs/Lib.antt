@@ -1,5 +1,11 @@
+pub mod Alone
+pub mod Asking
+pub mod Files
 pub mod LeftOut
+pub mod One
+pub mod OneChip
 pub mod Run
 pub mod Status
 pub mod Streams
 pub mod Text
+pub mod Turns

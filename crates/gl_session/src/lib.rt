@@ -1,6 +1,7 @@
 //! A session: from the bytes read to the bytes written and the status.
 #![tactic(auto)]
 
+pub mod laws;
 mod left_out;
 mod session;
 mod status;

@@ -1,0 +1,296 @@
+-- A session that one actor alone carried out, from its turns: what it printed is what One prints over the answers of the driver,
+-- wherever One's answers come from.
+use Rattle.std.proofs.Common.{◌≡◌, ℕ, Bool, true, false, List, [], ◌∷◌, ◌++◌, length, Option, None, Some, IfSome, refl, sym, ap, ◌∙◌, subst, arith}
+use Rattle.std.specs.Prelude.{if◌then◌else◌}
+use Rattle.std.proofs.lemmas.Bool.{true≢false}
+use Rattle.std.proofs.lemmas.List.{append_assoc, append-nil}
+use Rattle.gl_base.specs.Count.{counted_up}
+use Rattle.gl_base.specs.Planned.{planned_answer, planned_call}
+use Rattle.gl_base.specs.declared.operation.Got.{Got}
+use Rattle.gl_world.specs.Deeds.{deeds_of, entries_in}
+use Rattle.gl_world.specs.History.{Answered, Placed}
+use Rattle.gl_world.specs.Laws.{Laws}
+use Rattle.gl_world.proofs.Deeds.{entries_in_append}
+use Rattle.gl_args.specs.Program.{Program, done}
+use Rattle.gl_core.specs.Kept.{StandsFor}
+use Rattle.gl_driver.specs.Told.{Told, new_port, with_call, with_plan}
+use Rattle.gl_model.specs.declared.reply.Reply.{Reply}
+use Rattle.gl_model.specs.declared.reply.Reply.TheVariants.{Done as DoneReply, Refused as RefusedReply}
+use Rattle.gl_model.specs.Parts.{DeviceCall}
+use Rattle.gl_model.specs.World.{World, opening}
+use Rattle.gl_model.proofs.MachineLaws.{machine_laws}
+use Rattle.gl_script.specs.Section.{SaidSection}
+use Rattle.gl_script.specs.declared.section.SectionKind.TheVariants.{Setup, Actor, After}
+use Rattle.gl_talk.specs.Open.{Names, no_names}
+use Rattle.gl_talk.specs.Talk.{quits, says, talks}
+use Rattle.gl_chip.specs.Values.{OneDeed, OneEntry, core}
+use Rattle.gl_session.specs.Alone.{AnswersAsPlanned, IsAlone, Part, PlayedSession, PortTells, PrintsOne, TellsAfter, answered_last, calls_after, last_or}
+use Rattle.gl_session.specs.Asking.{Asking, Calls, Plans, Refuses, asking, files_behind, got_of}
+use Rattle.gl_session.specs.Files.{OpenFile}
+use Rattle.gl_session.specs.One.{Answers, PlannedPort, Ran, Standing, came_to, comes_to, first_of_list, from_list, from_plan, is_asked, performs, performs_as, rest_of_list, run, run_actor, run_session, run_setup, said_in_kind, with_answer}
+use Rattle.gl_session.specs.Turns.{Carried, Carries, Did, DidNothing, Exchange, Follows, HasMade, IsDone, PortAfter, Said, Turn, call_tells, did_by, said_by, tells_in}
+use Rattle.gl_session.proofs.OneCalls.{Came, Comes, comes}
+use Rattle.gl_session.proofs.OneHistories.{IsSteady, Rest}
+
+laws : Laws core
+laws = machine_laws StandsFor
+
+-- the answers that deeds tell
+abbrev told_by : List OneDeed → List (Option ℕ)
+told_by did = tells_in (entries_in did)
+
+pub tells_append : (first later : List OneEntry) → tells_in (first ++ later) ≡ tells_in first ++ tells_in later
+tells_append [] later = refl
+tells_append (e ∷ first) later = ap (λ l. call_tells e.call ++ l) (tells_append first later) ∙ sym (append_assoc (call_tells e.call) (tells_in first) (tells_in later))
+
+pub told_append : (first later : List OneDeed) → told_by (first ++ later) ≡ told_by first ++ told_by later
+told_append first later = ap (λ (l : List OneEntry). tells_in l) (entries_in_append first later) ∙ tells_append (entries_in first) (entries_in later)
+
+abbrev reply_or : Reply → Option Reply → Reply
+reply_or d (Some reply) = reply
+reply_or d None = d
+
+module _ {X : Type 0} (answers : Answers X) (is_planned : Bool) (Fits : X → Option Told → List (Option ℕ) → Type 0) where
+  -- A source fits a port that tells this, and the answers that are left: it gives the answer that the port comes to.
+  pub record Serves : Type 0 where
+    pub gives : (x : X) (before after : Option Told) (answer : Option ℕ) (rest : List (Option ℕ)) → Fits x before (answer ∷ rest) → PortAfter is_planned (answer ∷ []) before after
+        → (answers.next x ≡ answer) × Fits (answers.behind x) after rest
+    pub plans : (x : X) (before : Option Told) (nth : ℕ) (rest : List (Option ℕ)) → Fits x before rest → Fits (answers.planned nth x) (with_plan nth before) rest
+
+  -- a session stands where who carried it out stands, with these deeds and answers left
+  pub record At (st : Standing X) (s : Carried) (ds : List OneDeed) (rest : List (Option ℕ)) : Type 0 where
+    pub files : st.files ≡ s.files
+    pub left : Rest core st.world ds
+    pub steady : IsSteady core st.world
+    pub fits : Fits st.source s.told rest
+
+  pub record Performed (e : Exchange) (r : Carried) (st : Standing X) (ds : List OneDeed) (rest : List (Option ℕ)) (out : Got × Standing X) : Type 0 where
+    pub got : out.0 ≡ got_of e.what e.reply e.wrote
+    pub at : At out.1 r ds rest
+    pub took : out.1.took ≡ st.took ++ told_by e.did
+
+  pub record RunsAs {A : Type 0} (text : List ℕ) (did : List OneDeed) (value : A) (r : Carried) (took : List (Option ℕ)) (ds : List OneDeed) (rest : List (Option ℕ)) (ran : Ran X A) : Type 0 where
+    pub text_is : ran.text ≡ text
+    pub value_is : ran.value ≡ value
+    pub at : At ran.behind r ds rest
+    pub took_is : ran.behind.took ≡ took ++ told_by did
+
+  module _ (serves : Serves) where
+    -- a call of the device
+    called : (call : DeviceCall) (e : Exchange) (s r : Carried) (st : Standing X) (ds : List OneDeed) (rest : List (Option ℕ)) → HasMade is_planned 0 call e s.told r.told
+        → r.files ≡ files_behind e.what e.reply s.files → At st s (e.did ++ ds) (told_by e.did ++ rest) → Performed e r st ds rest (performs_as answers (Calls call) e.what st)
+    called call e s r st ds rest made files at = by (is_asked st.world call) refl
+      where
+        c : Comes st.world call e.answer e.did ds
+        c = comes laws st.world call e.closed e.answer e.did ds made.makes at.left at.steady
+
+        reply_same : Came e.did ds (comes_to st.world call (answers.next st.source)) → (comes_to st.world call (answers.next st.source)).reply ≡ e.reply
+        reply_same came = ap (λ x. reply_or e.reply x) (sym came.reply ∙ made.reply_is)
+
+        bytes_same : Came e.did ds (comes_to st.world call (answers.next st.source)) → (comes_to st.world call (answers.next st.source)).bytes ≡ e.wrote
+        bytes_same came = sym came.bytes ∙ made.bytes_are
+
+        by : (b : Bool) → is_asked st.world call ≡ b → Performed e r st ds rest (came_to answers e.what (comes_to st.world call (answers.next st.source)) (with_answer answers b st))
+        by false unasked = let none : told_by e.did ≡ [] = c.tells ∙ ap (λ (b : Bool). if b then e.answer ∷ [] else []) unasked in
+            let came = c.came (answers.next st.source) (λ is. absurd (true≢false (sym is ∙ unasked))) in
+            let port : r.told ≡ s.told = subst (λ l. PortAfter is_planned l s.told r.told) none made.port in record {
+              got = λ i. got_of e.what (reply_same came i) (bytes_same came i);
+              at = record {
+                files = (λ i. files_behind e.what (reply_same came i) (at.files i)) ∙ sym files;
+                left = came.rest;
+                steady = came.steady;
+                fits = subst (λ t. Fits st.source t rest) (sym port) (subst (λ l. Fits st.source s.told (l ++ rest)) none at.fits);
+              };
+              took = sym (append-nil st.took) ∙ ap (λ l. st.took ++ l) (sym none);
+            }
+        by true is = let one : told_by e.did ≡ e.answer ∷ [] = c.tells ∙ ap (λ (b : Bool). if b then e.answer ∷ [] else []) is in
+            let g = serves.gives st.source s.told r.told e.answer rest (subst (λ l. Fits st.source s.told (l ++ rest)) one at.fits) (subst (λ l. PortAfter is_planned l s.told r.told) one made.port) in
+            let came = c.came (answers.next st.source) (λ _. g.0) in record {
+              got = λ i. got_of e.what (reply_same came i) (bytes_same came i);
+              at = record {
+                files = (λ i. files_behind e.what (reply_same came i) (at.files i)) ∙ sym files;
+                left = came.rest;
+                steady = came.steady;
+                fits = g.1;
+              };
+              took = ap (λ a. st.took ++ a ∷ []) g.0 ∙ ap (λ l. st.took ++ l) (sym one);
+            }
+
+    -- an operation without a call of the device
+    nothing : (e : Exchange) (reply : Reply) (s r : Carried) (st next : Standing X) (ds : List OneDeed) (rest : List (Option ℕ)) → DidNothing is_planned 0 e reply → r.files ≡ files_behind e.what e.reply s.files
+        → At st s (e.did ++ ds) (told_by e.did ++ rest) → next.world ≡ st.world → next.files ≡ files_behind e.what reply st.files → next.took ≡ st.took → (Fits st.source s.told rest → Fits next.source r.told rest)
+        → Performed e r st ds rest (got_of e.what reply [], next)
+    nothing e reply s r st next ds rest none files at same_world same_files same_took fits = record {
+      got = λ i. got_of e.what (sym none.reply_is i) (sym none.bytes_are i);
+      at = record {
+        files = same_files ∙ (λ i. files_behind e.what (sym none.reply_is i) (at.files i)) ∙ sym files;
+        left = subst (λ (w : World). Rest core w ds) (sym same_world) (subst (λ (l : List OneDeed). Rest core st.world (l ++ ds)) none.did at.left);
+        steady = subst (λ (w : World). IsSteady core w) (sym same_world) at.steady;
+        fits = fits (subst (λ (l : List OneDeed). Fits st.source s.told (told_by l ++ rest)) none.did at.fits);
+      };
+      took = same_took ∙ sym (append-nil st.took) ∙ ap (λ (l : List OneDeed). st.took ++ told_by l) (sym none.did);
+    }
+
+    asked : (a : Asking) (e : Exchange) (s r : Carried) (st : Standing X) (ds : List OneDeed) (rest : List (Option ℕ)) → IsDone is_planned 0 a e s.told r.told
+        → r.files ≡ files_behind e.what e.reply s.files → At st s (e.did ++ ds) (told_by e.did ++ rest) → Performed e r st ds rest (performs_as answers a e.what st)
+    asked (Calls call) e s r st ds rest is files at = called call e s r st ds rest is files at
+    asked (Plans nth) e s r st ds rest is files at = nothing e DoneReply s r st (performs_as answers (Plans nth) e.what st).1 ds rest is.0 files at refl refl refl
+        (λ fits. subst (λ t. Fits (answers.planned nth st.source) t rest) (sym is.1) (serves.plans st.source s.told nth rest fits))
+    asked (Refuses errno) e s r st ds rest is files at = nothing e (RefusedReply errno) s r st (performs_as answers (Refuses errno) e.what st).1 ds rest is.0 files at refl refl refl
+        (λ fits. subst (λ t. Fits st.source t rest) (sym is.1) fits)
+
+    performed : (e : Exchange) (s r : Carried) (st : Standing X) (ds : List OneDeed) (rest : List (Option ℕ)) → Carries is_planned 0 s e r → At st s (e.did ++ ds) (told_by e.did ++ rest)
+        → Performed e r st ds rest (performs answers e.what st)
+    performed e s r st ds rest carries at = subst (λ (files : List OpenFile). Performed e r st ds rest (performs_as answers (asking files e.what) e.what st)) (sym at.files)
+        (asked (asking s.files e.what) e s r st ds rest carries.is_done carries.files at)
+
+    -- turns one after another
+    pub follows_run : {A : Type 0} (turns : List Turn) (p : Program A) (s r : Carried) (value : A) (st : Standing X) (ds : List OneDeed) (rest : List (Option ℕ))
+        → Follows is_planned 0 p s turns (done value) r → At st s (did_by turns ++ ds) (told_by (did_by turns) ++ rest)
+        → RunsAs (said_by turns) (did_by turns) value r st.took ds rest (run answers p st)
+    follows_run {A} [] p s r value st ds rest (is, same) at = subst (λ (q : Program A). RunsAs [] [] value r st.took ds rest (run answers q st)) (sym is) (record {
+      text_is = refl;
+      value_is = refl;
+      at = subst (λ (c : Carried). At st c ds rest) same at;
+      took_is = sym (append-nil st.took);
+    })
+    follows_run {A} (Said text ∷ turns) p s r value st ds rest (q, mid, (is, same), follows) at =
+        let on = follows_run turns q mid r value st ds rest follows (subst (λ (c : Carried). At st c (did_by turns ++ ds) (told_by (did_by turns) ++ rest)) (sym same) at) in
+        subst (λ (o : Program A). RunsAs (text ++ said_by turns) (did_by turns) value r st.took ds rest (run answers o st)) (sym is) (record {
+          text_is = ap (λ t. text ++ t) on.text_is;
+          value_is = on.value_is;
+          at = on.at;
+          took_is = on.took_is;
+        })
+    follows_run {A} (Did e ∷ turns) p s r value st ds rest (q, mid, (goes, is, next, carries), follows) at =
+        let now : At st s (e.did ++ (did_by turns ++ ds)) (told_by e.did ++ (told_by (did_by turns) ++ rest)) = record {
+          files = at.files;
+          left = subst (λ (l : List OneDeed). Rest core st.world l) (append_assoc e.did (did_by turns) ds) at.left;
+          steady = at.steady;
+          fits = subst (λ l. Fits st.source s.told l) (ap (λ l. l ++ rest) (told_append e.did (did_by turns)) ∙ append_assoc (told_by e.did) (told_by (did_by turns)) rest) at.fits;
+        } in
+        let o = performed e s mid st (did_by turns ++ ds) (told_by (did_by turns) ++ rest) carries now in
+        let on = follows_run turns q mid r value (performs answers e.what st).1 ds rest follows o.at in
+        let here = subst (λ (x : Program A). RunsAs (said_by turns) (did_by turns) value r (performs answers e.what st).1.took ds rest (run answers x (performs answers e.what st).1)) (next ∙ ap goes (sym o.got)) on in
+        subst (λ (x : Program A). RunsAs (said_by turns) (e.did ++ did_by turns) value r st.took ds rest (run answers x st)) (sym is) (record {
+          text_is = here.text_is;
+          value_is = here.value_is;
+          at = here.at;
+          took_is = here.took_is ∙ ap (λ l. l ++ told_by (did_by turns)) o.took ∙ append_assoc st.took (told_by e.did) (told_by (did_by turns)) ∙ ap (λ l. st.took ++ l) (sym (told_append e.did (did_by turns)));
+        })
+
+    -- a whole program
+    part_runs : (program : Program Names) (files : List OpenFile) (told : Option Told) (part : Part is_planned program files told) (st : Standing X) (ds : List OneDeed) (rest : List (Option ℕ))
+        → At st (record { files = files; told = told }) (part.did ++ ds) (told_by part.did ++ rest) → RunsAs part.text part.did part.names part.behind st.took ds rest (run answers program st)
+    part_runs program files told part st ds rest at = let turns : List Turn = part.played.turns in
+        let now = subst (λ (l : List OneDeed). At st (record { files = files; told = told }) (l ++ ds) (told_by l ++ rest)) part.played.did_is at in
+        let on = follows_run turns program (record { files = files; told = told }) part.behind part.names st ds rest part.played.follows now in
+        subst (λ (x : List ℕ × List OneDeed). RunsAs x.0 x.1 part.names part.behind st.took ds rest (run answers program st)) (λ i. (sym part.played.text_is i, sym part.played.did_is i)) on
+
+    -- the three parts of a session
+    pub session_runs : (sections : List SaidSection) (before left : Option Told) (text : List ℕ) (did : List OneDeed) (source : X) → PlayedSession is_planned sections before text did left
+        → Rest core opening did → IsSteady core opening → Fits source before (told_by did) → ((run_session answers sections source).text ≡ text) × ((run_session answers sections source).behind.took ≡ told_by did) × Fits (run_session answers sections source).behind.source left []
+    session_runs sections before left text did source p whole steady fits =
+        let first : List OneDeed = p.setup.did in let middle : List OneDeed = p.actor.did in let last : List OneDeed = p.last.did in
+        let told_is : told_by did ≡ told_by first ++ (told_by middle ++ (told_by last ++ [])) =
+        ap (λ (l : List OneDeed). told_by l) p.did_is ∙ told_append first (middle ++ last) ∙ ap (λ l. told_by first ++ l) (told_append middle last ∙ ap (λ l. told_by middle ++ l) (sym (append-nil (told_by last)))) in
+        let did_is : did ≡ first ++ (middle ++ (last ++ [])) = p.did_is ∙ ap (λ l. first ++ (middle ++ l)) (sym (append-nil last)) in
+        let start : Standing X = record { world = opening; files = []; source = source; took = [] } in
+        let setup = part_runs (says 0 (said_in_kind Setup sections) done no_names) [] before p.setup start (middle ++ (last ++ [])) (told_by middle ++ (told_by last ++ [])) (record {
+          files = refl;
+          left = subst (λ (l : List OneDeed). Rest core opening l) did_is whole;
+          steady = steady;
+          fits = subst (λ l. Fits source before l) told_is fits;
+        }) in
+        let after_setup : Ran X Names = run_setup answers sections source in
+        let actor = part_runs (talks 0 (said_in_kind Actor sections) no_names) [] p.setup.behind.told p.actor (record after_setup.behind { files = [] }) (last ++ []) (told_by last ++ []) (record {
+          files = refl;
+          left = setup.at.left;
+          steady = setup.at.steady;
+          fits = setup.at.fits;
+        }) in
+        let after_actor : Ran X Names = run_actor answers sections after_setup.behind in
+        let end = part_runs (says (length (said_in_kind Setup sections)) (said_in_kind After sections) quits p.setup.names) p.setup.behind.files p.actor.behind.told p.last (record after_actor.behind { files = after_setup.behind.files }) [] [] (record {
+          files = setup.at.files;
+          left = actor.at.left;
+          steady = actor.at.steady;
+          fits = actor.at.fits;
+        }) in
+        let ends = subst (λ (names : Names). RunsAs p.last.text p.last.did p.last.names p.last.behind after_actor.behind.took [] []
+        (run answers (says (length (said_in_kind Setup sections)) (said_in_kind After sections) quits names) (record after_actor.behind { files = after_setup.behind.files }))) (sym setup.value_is) end in (
+          (λ i. (setup.text_is i ++ actor.text_is i) ++ ends.text_is i) ∙ sym p.text_is,
+          ends.took_is ∙ ap (λ l. l ++ told_by last) (actor.took_is ∙ ap (λ l. l ++ told_by middle) setup.took_is) ∙ append_assoc (told_by first) (told_by middle) (told_by last)
+              ∙ ap (λ l. told_by first ++ l) (sym (told_append middle last)) ∙ sym (told_append first (middle ++ last)) ∙ ap (λ (l : List OneDeed). told_by l) (sym p.did_is),
+          subst (λ told. Fits (run_session answers sections source).behind.source told []) (sym p.left_is) ends.at.fits,
+        )
+
+-- a history of one actor alone, from the opening world on
+whole_rest : (history : List OneEntry) (did : List OneDeed) → IsAlone history did → Rest core opening did
+whole_rest history did alone = let r = alone.entries in record {
+  answered = subst (λ (l : List OneEntry). Answered core l) r alone.legal.0;
+  placed = subst (λ (l : List OneEntry). Placed core l) r alone.legal.1;
+  deeds = ap (λ (l : List OneEntry). deeds_of core 0 l) (sym r) ∙ alone.deeds;
+  sound = laws.opens_sound;
+}
+
+opens_steady : IsSteady core opening
+opens_steady p two = let low = laws.opens_places p in absurd (omega arith)
+
+-- answers in the order of a list
+list_serves : (is_planned : Bool) → Serves from_list is_planned (λ source told rest. source ≡ rest)
+list_serves is_planned = record {
+  gives = λ x before after answer rest is port. (ap (λ l. first_of_list l) is, ap (λ l. rest_of_list l) is);
+  plans = λ x before nth rest is. is;
+}
+
+pub prints_one : PrintsOne
+prints_one is_planned sections before left text did history p alone =
+    let told : tells_in history ≡ told_by did = ap (λ (l : List OneEntry). tells_in l) alone.entries in
+    let s = session_runs from_list is_planned (λ source told rest. source ≡ rest) (list_serves is_planned) sections before left text did (tells_in history) p (whole_rest history did alone) opens_steady told in
+    (sym s.0, s.1 ∙ sym told)
+
+-- answers as the plan of a port says
+abbrev PlannedFits : PlannedPort → Option Told → List (Option ℕ) → Type 0
+PlannedFits port told rest = (t : Told) × (told ≡ Some t) × (port ≡ record { calls = t.calls; plan = t.plan })
+
+plan_gives : (x : PlannedPort) (before after : Option Told) (answer : Option ℕ) (rest : List (Option ℕ)) → PlannedFits x before (answer ∷ rest) → PortAfter true (answer ∷ []) before after
+    → (from_plan.next x ≡ answer) × PlannedFits (from_plan.behind x) after rest
+plan_gives x before after answer rest (t, is, same) (op, becomes, as_planned) = (
+  ap (λ (port : PlannedPort). planned_answer port.plan (counted_up port.calls)) same ∙ sym (subst (λ (o : Option Told). IfSome o (λ told. answer ≡ planned_answer told.plan (counted_up told.calls))) is (as_planned refl)),
+  (record { calls = counted_up t.calls; plan = t.plan; last = Some (record { op = op; answer = answer }) }, becomes ∙ ap (λ (o : Option Told). with_call op answer o) is, ap (λ (port : PlannedPort). from_plan.behind port) same),
+)
+
+plan_plans : (x : PlannedPort) (before : Option Told) (nth : ℕ) (rest : List (Option ℕ)) → PlannedFits x before rest → PlannedFits (from_plan.planned nth x) (with_plan nth before) rest
+plan_plans x before nth rest (t, is, same) = (record t { plan = planned_call t.calls nth }, ap (λ (o : Option Told). with_plan nth o) is, ap (λ (port : PlannedPort). from_plan.planned nth port) same)
+
+plan_serves : Serves from_plan true PlannedFits
+plan_serves = record { gives = plan_gives; plans = plan_plans }
+
+pub answers_as_planned : AnswersAsPlanned
+answers_as_planned sections left text did history p alone =
+    let told : tells_in history ≡ told_by did = ap (λ (l : List OneEntry). tells_in l) alone.entries in
+    let s = session_runs from_plan true PlannedFits plan_serves sections (Some new_port) left text did (record { calls = 0; plan = None }) p (whole_rest history did alone) opens_steady (new_port, refl, refl) in
+    told ∙ sym s.1
+
+-- answers in the order of a list, of which a port tells how many there were so far, and the last
+abbrev PortFits : Told → List (Option ℕ) → List (Option ℕ) → Option Told → List (Option ℕ) → Type 0
+PortFits t all source told rest = (source ≡ rest) × (u : Told) × (told ≡ Some u) × (calls_after u.calls rest ≡ calls_after t.calls all) × (last_or (answered_last u.last) rest ≡ last_or (answered_last t.last) all)
+
+port_gives : (is_planned : Bool) (t : Told) (all : List (Option ℕ)) (x : List (Option ℕ)) (before after : Option Told) (answer : Option ℕ) (rest : List (Option ℕ)) → PortFits t all x before (answer ∷ rest)
+    → PortAfter is_planned (answer ∷ []) before after → (from_list.next x ≡ answer) × PortFits t all (from_list.behind x) after rest
+port_gives is_planned t all x before after answer rest (is, u, told, count, last) (op, becomes, as_planned) = (
+  ap (λ l. first_of_list l) is,
+  (ap (λ l. rest_of_list l) is, record { calls = counted_up u.calls; plan = u.plan; last = Some (record { op = op; answer = answer }) }, becomes ∙ ap (λ (o : Option Told). with_call op answer o) told, count, last),
+)
+
+port_plans : (t : Told) (all : List (Option ℕ)) (x : List (Option ℕ)) (before : Option Told) (nth : ℕ) (rest : List (Option ℕ)) → PortFits t all x before rest → PortFits t all x (with_plan nth before) rest
+port_plans t all x before nth rest (is, u, told, count, last) = (is, record u { plan = planned_call u.calls nth }, ap (λ (o : Option Told). with_plan nth o) told, count, last)
+
+port_serves : (is_planned : Bool) (t : Told) (all : List (Option ℕ)) → Serves from_list is_planned (PortFits t all)
+port_serves is_planned t all = record { gives = port_gives is_planned t all; plans = port_plans t all }
+
+pub port_tells : PortTells
+port_tells is_planned sections t left text did history p alone =
+    let told : tells_in history ≡ told_by did = ap (λ (l : List OneEntry). tells_in l) alone.entries in let all : List (Option ℕ) = told_by did in
+    let s = session_runs from_list is_planned (PortFits t all) (port_serves is_planned t all) sections (Some t) left text did all p (whole_rest history did alone) opens_steady (refl, t, refl, refl, refl) in
+    let u = s.2 in subst (λ l. TellsAfter t l left) (sym told) (record { told = u.1; left_is = u.2; calls = u.3; last = u.4 })

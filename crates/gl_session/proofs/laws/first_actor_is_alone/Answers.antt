@@ -1,0 +1,5 @@
+use Rattle.gl_session.proofs.laws.first_actor_is_alone.Goals as goal
+use Rattle.gl_session.proofs.Alone as alone
+
+pub returns : goal.returns
+returns c = alone.first_actor_is_alone

@@ -1,0 +1,88 @@
+-- A session of one actor as it was carried out on the device, and what follows of it: its text is One of the answers that the
+-- driver gave. This project's choice.
+use Rattle.std.specs.Prelude.{◌≡◌, ℕ, ◌≤◌, Bool, true, List, [], ◌∷◌, ◌++◌, length, Option, Some, None}
+use Rattle.gl_base.specs.Count.{counted_up}
+use Rattle.gl_world.specs.Deeds.{deeds_of, entries_in}
+use Rattle.gl_world.specs.History.{Legal, StartsWith, entries_of}
+use Rattle.gl_rule.specs.Views.{newcomer}
+use Rattle.gl_gate.specs.Grown.{Grew}
+use Rattle.gl_args.specs.Program.{Program, done}
+use Rattle.gl_driver.specs.Told.{Told, new_port}
+use Rattle.gl_driver.specs.declared.op.Asked.{Asked}
+use Rattle.gl_script.specs.Section.{SaidSection}
+use Rattle.gl_script.specs.declared.section.SectionKind.TheVariants.{Setup, Actor, After}
+use Rattle.gl_talk.specs.Open.{Names, no_names}
+use Rattle.gl_talk.specs.Talk.{quits, says, talks}
+use Rattle.gl_chip.specs.Values.{OneDeed, OneEntry, OneView, core}
+use Rattle.gl_session.specs.One.{one, planned, said_in_kind, taken}
+use Rattle.gl_session.specs.Files.{OpenFile}
+use Rattle.gl_session.specs.Turns.{Carried, Played, tells_in}
+
+-- a program that was carried out to its end from these open files on: what it printed, what it did, and what it left
+pub record Part (is_planned : Bool) (program : Program Names) (files : List OpenFile) (told : Option Told) : Type 0 where
+  pub text : List ℕ
+  pub did : List OneDeed
+  pub names : Names
+  pub behind : Carried
+  pub played : Played is_planned 0 program (record { files = files; told = told }) text did names behind
+
+-- The sections of a session, carried out by actor 0 one after another: `setup` and `after` are one talk, which waits in between
+-- with its files and names, and the actor's section is a talk of its own.
+pub record PlayedSession (is_planned : Bool) (sections : List SaidSection) (before : Option Told) (text : List ℕ) (did : List OneDeed) (left : Option Told) : Type 0 where
+  pub setup : Part is_planned (says 0 (said_in_kind Setup sections) done no_names) [] before
+  pub actor : Part is_planned (talks 0 (said_in_kind Actor sections) no_names) [] setup.behind.told
+  pub last : Part is_planned (says (length (said_in_kind Setup sections)) (said_in_kind After sections) quits setup.names) setup.behind.files actor.behind.told
+  pub text_is : text ≡ (setup.text ++ actor.text) ++ last.text
+  pub did_is : did ≡ setup.did ++ (actor.did ++ last.did)
+  pub left_is : left ≡ last.behind.told
+
+-- a legal history that has the entries of actor 0 alone, and these are what it did
+pub record IsAlone (history : List OneEntry) (did : List OneDeed) : Type 0 where
+  pub legal : Legal core history
+  pub entries : history ≡ entries_in did
+  pub deeds : deeds_of core 0 history ≡ did
+
+-- The first actor of a new device did this, and no other actor was made until the device came to its end: then its history has
+-- these entries alone.
+abbrev pub FirstActorIsAlone : Type 0
+FirstActorIsAlone = (room : ℕ) (v w : OneView) (did : List OneDeed) (history : List OneEntry) → v ≡ newcomer 0 room [] 1 [] [] → Grew core v did w
+    → Legal core history → StartsWith history w.seen → entries_of 0 history ≡ w.mine → ((n : ℕ) → w.made ≤ n → entries_of n history ≡ [])
+    → IsAlone history did
+
+-- What was printed is One of the answers that the driver's tells have in order, and One takes just these.
+abbrev pub PrintsOne : Type 0
+PrintsOne = (is_planned : Bool) (sections : List SaidSection) (before left : Option Told) (text : List ℕ) (did : List OneDeed) (history : List OneEntry)
+    → PlayedSession is_planned sections before text did left → IsAlone history did
+    → (text ≡ one sections (tells_in history)) × (taken sections (tells_in history) ≡ tells_in history)
+
+-- A planned driver over a new port answers as Planned says.
+abbrev pub AnswersAsPlanned : Type 0
+AnswersAsPlanned = (sections : List SaidSection) (left : Option Told) (text : List ℕ) (did : List OneDeed) (history : List OneEntry)
+    → PlayedSession true sections (Some new_port) text did left → IsAlone history did → tells_in history ≡ planned sections
+
+-- how many calls went through a port after so many answers more
+abbrev pub calls_after : ℕ → List (Option ℕ) → ℕ
+calls_after calls [] = calls
+calls_after calls (answer ∷ answers) = calls_after (counted_up calls) answers
+
+-- the answer of a port's last call
+abbrev pub answered_last : Option Asked → Option (Option ℕ)
+answered_last None = None
+answered_last (Some asked) = Some asked.answer
+
+-- the last of these answers, or what was known before them
+abbrev pub last_or : Option (Option ℕ) → List (Option ℕ) → Option (Option ℕ)
+last_or known [] = known
+last_or known (answer ∷ answers) = last_or (Some answer) answers
+
+-- a port that told t tells in the end as many calls more as there are answers, and as its last answer the last of these
+pub record TellsAfter (t : Told) (answers : List (Option ℕ)) (left : Option Told) : Type 0 where
+  pub told : Told
+  pub left_is : left ≡ Some told
+  pub calls : told.calls ≡ calls_after t.calls answers
+  pub last : answered_last told.last ≡ last_or (answered_last t.last) answers
+
+-- Every driver is asked through the port: where the port told, it tells just the answers of the history's tells.
+abbrev pub PortTells : Type 0
+PortTells = (is_planned : Bool) (sections : List SaidSection) (t : Told) (left : Option Told) (text : List ℕ) (did : List OneDeed) (history : List OneEntry)
+    → PlayedSession is_planned sections (Some t) text did left → IsAlone history did → TellsAfter t (tells_in history) left

@@ -1,0 +1,117 @@
+-- A talk as an actor carried it out on the device: what it printed and what it did, one turn after another. The history may have
+-- entries of other actors between any two of its own. This project's choice.
+use Rattle.std.specs.Prelude.{◌≡◌, ℕ, Bool, true, List, [], ◌∷◌, ◌++◌, Option, Some, None, IfSome}
+use Rattle.gl_base.specs.Count.{counted_up}
+use Rattle.gl_base.specs.Planned.{planned_answer}
+use Rattle.gl_base.specs.declared.operation.Do.{Do}
+use Rattle.gl_base.specs.declared.operation.Got.{Got}
+use Rattle.gl_world.specs.Deeds.{entries_in}
+use Rattle.gl_args.specs.Program.{Program, done, print, ask}
+use Rattle.gl_driver.specs.Told.{Told, with_call, with_plan}
+use Rattle.gl_driver.specs.declared.op.Op.{Op}
+use Rattle.gl_model.specs.Parts.{DeviceCall, Makes, last_reply}
+use Rattle.gl_model.specs.declared.call.Call.{Call}
+use Rattle.gl_model.specs.declared.call.Call.TheVariants.{Ioctl}
+use Rattle.gl_model.specs.declared.call.Part.{Part}
+use Rattle.gl_model.specs.declared.call.Part.TheVariants.{Whole, Ask, Tell}
+use Rattle.gl_model.specs.declared.reply.Reply.{Reply}
+use Rattle.gl_model.specs.declared.reply.Reply.TheVariants.{Done, Refused}
+use Rattle.gl_chip.specs.Called.{last_bytes}
+use Rattle.gl_chip.specs.Values.{OneDeed, OneEntry}
+use Rattle.gl_session.specs.Asking.{Asking, Calls, Plans, Refuses, asking, files_behind, got_of}
+use Rattle.gl_session.specs.Files.{OpenFile}
+
+-- the answer of the driver that a call tells, if it tells one
+abbrev pub part_tells : Part → List (Option ℕ)
+part_tells Whole = []
+part_tells Ask = []
+part_tells (Tell answer) = answer ∷ []
+
+abbrev pub call_tells : Call → List (Option ℕ)
+call_tells (Ioctl place fd cmd len bytes part) = part_tells part
+call_tells _ = []
+
+-- the answers that entries tell, in order
+abbrev pub tells_in : List OneEntry → List (Option ℕ)
+tells_in [] = []
+tells_in (e ∷ es) = call_tells e.call ++ tells_in es
+
+-- an operation as it was carried out: whether the guard of its place was closed, what the driver answered where it was asked,
+-- what the actor did, and the last reply and what was written there
+pub record Exchange : Type 0 where
+  pub what : Do
+  pub closed : Bool
+  pub answer : Option ℕ
+  pub did : List OneDeed
+  pub reply : Reply
+  pub wrote : List ℕ
+
+-- who carries a talk out has its open files, and a port that may tell what went through it
+pub record Carried : Type 0 where
+  pub files : List OpenFile
+  pub told : Option Told
+
+-- What becomes of a port by the answers that a call told: none, or one. A planned driver answers as the port plans.
+abbrev pub PortAfter : Bool → List (Option ℕ) → Option Told → Option Told → Type 0
+PortAfter is_planned [] before after = after ≡ before
+PortAfter is_planned (answer ∷ answers) before after =
+    (op : Op) × (after ≡ with_call op answer before)
+    × (is_planned ≡ true → IfSome before (λ told. answer ≡ planned_answer told.plan (counted_up told.calls)))
+
+module _ (is_planned : Bool) (actor : ℕ) where
+  -- a call of the device was made: its deeds are parts of the call, and reply and bytes are the last one's
+  pub record HasMade (call : DeviceCall) (e : Exchange) (before after : Option Told) : Type 0 where
+    pub makes : Makes actor e.closed call e.answer [] (entries_in e.did)
+    pub reply_is : last_reply (entries_in e.did) ≡ Some e.reply
+    pub bytes_are : last_bytes e.did ≡ e.wrote
+    pub port : PortAfter is_planned (tells_in (entries_in e.did)) before after
+
+  -- nothing was done
+  pub record DidNothing (e : Exchange) (reply : Reply) : Type 0 where
+    pub did : e.did ≡ []
+    pub reply_is : e.reply ≡ reply
+    pub bytes_are : e.wrote ≡ []
+
+  abbrev pub IsDone : Asking → Exchange → Option Told → Option Told → Type 0
+  IsDone (Calls call) e before after = HasMade call e before after
+  IsDone (Plans nth) e before after = DidNothing e Done × (after ≡ with_plan nth before)
+  IsDone (Refuses errno) e before after = DidNothing e (Refused errno) × (after ≡ before)
+
+  -- an operation was carried out
+  pub record Carries (s : Carried) (e : Exchange) (r : Carried) : Type 0 where
+    pub is_done : IsDone (asking s.files e.what) e s.told r.told
+    pub files : r.files ≡ files_behind e.what e.reply s.files
+
+-- a turn: a text is printed, or an operation is carried out
+pub data Turn : Type 0 where
+  Said : List ℕ → Turn
+  Did : Exchange → Turn
+
+-- what turns printed, and what they did
+abbrev pub said_by : List Turn → List ℕ
+said_by [] = []
+said_by (Said text ∷ turns) = text ++ said_by turns
+said_by (Did e ∷ turns) = said_by turns
+
+abbrev pub did_by : List Turn → List OneDeed
+did_by [] = []
+did_by (Said text ∷ turns) = did_by turns
+did_by (Did e ∷ turns) = e.did ++ did_by turns
+
+module _ {A : Type 0} (is_planned : Bool) (actor : ℕ) where
+  -- what is left of a program behind a turn
+  abbrev pub Takes : Program A → Carried → Turn → Program A → Carried → Type 0
+  Takes p s (Said text) q r = (p ≡ print text q) × (r ≡ s)
+  Takes p s (Did e) q r = (rest : Got → Program A) × (p ≡ ask e.what rest) × (q ≡ rest (got_of e.what e.reply e.wrote)) × Carries is_planned actor s e r
+
+  -- and behind turns, one after another
+  abbrev pub Follows : Program A → Carried → List Turn → Program A → Carried → Type 0
+  Follows p s [] q r = (p ≡ q) × (s ≡ r)
+  Follows p s (turn ∷ turns) q r = (next : Program A) × (then : Carried) × Takes p s turn next then × Follows next then turns q r
+
+  -- A program was carried out to its end: it printed this text and did these deeds, and gives this value.
+  pub record Played (p : Program A) (s : Carried) (text : List ℕ) (did : List OneDeed) (value : A) (r : Carried) : Type 0 where
+    pub turns : List Turn
+    pub follows : Follows p s turns (done value) r
+    pub text_is : text ≡ said_by turns
+    pub did_is : did ≡ did_by turns
