@@ -1,5 +1,5 @@
 -- Commands on open files, as their callers get them.
-use Rattle.std.proofs.Common.{◌≡◌, ◌≢◌, ℕ, ◌≤◌, List, [], ◌∷◌, sym, ap, ◌∙◌, subst, arith, Bool, true, false, Option, Some, None, Result, Err, inl, inr}
+use Rattle.std.proofs.Common.{◌≡◌, ℕ, ◌≤◌, List, [], ◌∷◌, sym, refl, ap, ◌∙◌, subst, arith, Bool, true, false, Option, Some, None, Result, Err, inl, inr}
 use Rattle.std.proofs.lemmas.Bool.{true≢false}
 use Rattle.gl_base.specs.Count.{Rises}
 use Rattle.gl_base.specs.declared.errno.Errno.{Errno}
@@ -23,14 +23,13 @@ use Rattle.gl_model.specs.Replies.{IoCause}
 use Rattle.gl_model.specs.Step.{guard_reply}
 use Rattle.gl_model.specs.World.{World}
 use Rattle.gl_model.proofs.IoCauses.{io_has_cause}
-use Rattle.gl_model.proofs.Replies.{replies_have_form}
 use Rattle.gl_chip.specs.Called.{ComesOut, HasCalled, last_entry}
 use Rattle.gl_chip.specs.Commanding.{CommandsOut, HasCommanded, IoComesOf, PortAfter, is_asked}
 use Rattle.gl_chip.specs.Results.{value_of}
 use Rattle.gl_chip.specs.Steps.{FoundNoRoom}
 use Rattle.gl_chip.specs.Values.{ActorValue, OneEntry, OneView, core}
 use Rattle.gl_chip.proofs.CommandCalls.{not_gone_io}
-use Rattle.gl_chip.proofs.WholeCalls.{called_not_full, errno_is_told, last_reply_is, reply_or}
+use Rattle.gl_chip.proofs.WholeCalls.{called_not_full, called_not_memory, errno_is_told, last_reply_is, reply_or}
 
 -- EIO of a whole command
 io_whole : (Counted : Type 0) (w : World) (place fd : ℕ) (command : Option Command) (bytes : List ℕ) → IoCause w place fd command bytes Whole → IoComesOf Counted w place fd command bytes
@@ -78,10 +77,6 @@ called_last limit v w c reply bytes called = let l = called.last in (
   ap (reply_or reply) (sym (last_reply_is (entries_in called.did) l.last l.is_last) ∙ called.reply_is),
 )
 
-pub called_no_memory : (limit : ℕ) (v w : OneView) (c : CommandIn) (reply : Reply) (bytes : List ℕ) → HasCalled limit v (Commanding c) reply bytes w → reply ≢ Refused NoMemory
-called_no_memory limit v w c reply bytes called is = let h = called_last limit v w c reply bytes called in
-    replies_have_form.no_memory (fold core called.last.at.0) called.last.last.actor called.last.last.call (sym h.0 ∙ (h.1 ∙ is))
-
 module _ {P : Type 0} (told : P → Option Told) (faults : P → ℕ) (Own : P → ℕ → Op → List OneEntry → Type 0) (limit : ℕ) (planned : Bool) where
   -- a command for which the driver isn't asked
   pub whole_commanded : (op : Option Op) (a b : ActorValue P) (c : CommandIn) (reply : Reply) (bytes : List ℕ) → is_driver_asked c.of_chip c.len (command_of c.cmd) ≡ false
@@ -118,17 +113,17 @@ module _ {P : Type 0} (told : P → Option Told) (faults : P → ℕ) (Own : P �
     reply = reply;
     result_is = is;
     not_full = λ full. called_not_full limit a.pass.view b.pass.view (Commanding c) reply bytes did.called (errno_is_told value Full reply (sym is ∙ full));
-    not_memory = λ none. called_no_memory limit a.pass.view b.pass.view c reply bytes did.called (errno_is_told value NoMemory reply (sym is ∙ none));
+    not_memory = λ none. called_not_memory limit a.pass.view b.pass.view (Commanding c) reply bytes did.called (errno_is_told value NoMemory reply (sym is ∙ none));
     commanded = did;
   }
 
   -- and one for which the history had no room
-  pub command_is_full : {X : Type 0} (value : Reply → X) (errno : Errno) (op : Option Op) (a b : ActorValue P) (c : CommandIn) (bytes : List ℕ) → errno ≡ Full → FoundNoRoom core a.pass.view b.pass.view → b.port ≡ a.port
-      → CommandsOut told faults Own limit planned {X = X} (λ r. value_of value r) (Err errno) op a c bytes b
-  command_is_full value errno op a b c bytes is full same = inr (ap Err is, full, same)
+  pub command_is_full : {X : Type 0} (value : Reply → X) (errno : Errno) (op : Option Op) (a b : ActorValue P) (c : CommandIn) → errno ≡ Full → FoundNoRoom core a.pass.view b.pass.view → b.port ≡ a.port
+      → CommandsOut told faults Own limit planned {X = X} (λ r. value_of value r) (Err errno) op a c [] b
+  command_is_full value errno op a b c is full same = inr (ap Err is, full, same, refl)
 
   -- a command for which the driver isn't asked, as its caller gets it
   pub whole_comes_out : {X : Type 0} (value : Reply → X) (result : Result X Errno) (op : Option Op) (a b : ActorValue P) (c : CommandIn) (bytes : List ℕ) → is_driver_asked c.of_chip c.len (command_of c.cmd) ≡ false
       → ComesOut (λ r. value_of value r) result a.pass.view (Commanding c) bytes b.pass.view → b.port ≡ a.port → CommandsOut told faults Own limit planned {X = X} (λ r. value_of value r) result op a c bytes b
   whole_comes_out value result op a b c bytes not_asked (inl made) same = command_is_made value result op a b c bytes made.reply made.result_is (whole_commanded op a b c made.reply bytes not_asked made.called same)
-  whole_comes_out value result op a b c bytes not_asked (inr full) same = inr (full.0, full.1, same)
+  whole_comes_out value result op a b c bytes not_asked (inr full) same = inr (full.0, full.1, same, full.2)

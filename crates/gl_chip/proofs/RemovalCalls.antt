@@ -4,7 +4,7 @@ use Rattle.std.specs.Prelude.{Contains, cond, slice_index_or}
 use Rattle.std.proofs.lemmas.Bool.{true≢false}
 use Rattle.std.proofs.lemmas.List.{append_assoc}
 use Rattle.gl_base.specs.declared.errno.Errno.{Errno}
-use Rattle.gl_base.specs.declared.errno.Errno.TheVariants.{Full}
+use Rattle.gl_base.specs.declared.errno.Errno.TheVariants.{Full, NoMemory}
 use Rattle.gl_base.specs.declared.limits.TheConstants.{PLACES}
 use Rattle.gl_world.specs.History.{Legal, entries_of, entry, fold, owed}
 use Rattle.gl_world.specs.Removal.{AllQuiet, Removes}
@@ -37,7 +37,7 @@ use Rattle.gl_chip.specs.Results.{done_of}
 use Rattle.gl_chip.specs.Steps.{FoundNoRoom, deed_of}
 use Rattle.gl_chip.specs.Values.{IsIdle, MayOwn, OneEntry, OneView, core}
 use Rattle.gl_chip.proofs.GateSteps.{free_owes, is_free, knows_on, knows_same, owes_refused, stood_full}
-use Rattle.gl_chip.proofs.WholeCalls.{called_not_full, errno_is_told, idle_still, no_room_alone, none_not_some}
+use Rattle.gl_chip.proofs.WholeCalls.{called_not_full, called_not_memory, errno_is_told, idle_still, no_room_alone, none_not_some}
 
 -- what the first and the last call of a removal are
 
@@ -384,7 +384,7 @@ two_are (x ∷ y ∷ z ∷ zs) e = absurd (omega arith)
 
 -- a removal that was made comes out as its last reply
 pub removes_out : (result : Result (Unit {0}) Errno) (v w : OneView) (call : DeviceCall) (reply : Reply) → result ≡ done_of reply → (bytes : List ℕ) × (called : HasCalled 0 v call reply bytes w) × AllDrained called.did w → RemovesOut result v call w
-removes_out result v w call reply is h = inl (h.0, record { reply = reply; result_is = is; not_full = λ full. called_not_full 0 v w call reply h.0 h.1 (errno_is_told (λ _. tt) Full reply (sym is ∙ full)); called = h.1 }, h.2)
+removes_out result v w call reply is h = inl (h.0, record { reply = reply; result_is = is; not_full = λ full. called_not_full 0 v w call reply h.0 h.1 (errno_is_told (λ _. tt) Full reply (sym is ∙ full)); not_memory = λ none. called_not_memory 0 v w call reply h.0 h.1 (errno_is_told (λ _. tt) NoMemory reply (sym is ∙ none)); called = h.1 }, h.2)
 
 pub removes_none : (errno : Errno) (v w : OneView) (call : DeviceCall) → errno ≡ Full → FoundNoRoom core v w → RemovesOut (Err errno) v call w
 removes_none errno v w call is full = inr (ap Err is, full)

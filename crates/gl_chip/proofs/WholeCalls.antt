@@ -4,7 +4,7 @@ use Rattle.std.specs.Prelude.{cond}
 use Rattle.std.proofs.lemmas.Bool.{true≢false}
 use Rattle.std.proofs.lemmas.List.{append_assoc, append-nil}
 use Rattle.gl_base.specs.declared.errno.Errno.{Errno}
-use Rattle.gl_base.specs.declared.errno.Errno.TheVariants.{Full, NoEnt}
+use Rattle.gl_base.specs.declared.errno.Errno.TheVariants.{Full, NoEnt, NoMemory}
 use Rattle.gl_base.specs.Rows.{Each}
 use Rattle.gl_world.specs.Deeds.{entries_in}
 use Rattle.gl_world.specs.History.{Answered, Legal, entry, fold}
@@ -106,6 +106,10 @@ named_nowhere v call single none = record {
 owns_nothing : MayOwn []
 owns_nothing = record { quiet = tt; no_claims = tt }
 
+nothing_wrote : (xs ys : List ℕ) → length (xs ++ ys) ≡ 0 → xs ≡ []
+nothing_wrote [] ys e = refl
+nothing_wrote (x ∷ xs) ys e = absurd (omega arith)
+
 -- one entry, without a guard
 pub called_alone : (v w : OneView) (call : Call) (reply : Reply) (old new : List ℕ) → is_single call ≡ true → guarded_place call ≡ None → length new ≡ 0 → CalledOnce core v call reply old new w → HasCalled 0 v (Once call) reply [] w
 called_alone v w call reply old new single none empty step = record {
@@ -125,10 +129,6 @@ called_alone v w call reply old new single none empty step = record {
   guard = λ p at. absurd (none_not_some p (sym none ∙ at));
   knows_as_much = knows_same v w step.same.closed step.same.drained;
 }
-  where
-    nothing_wrote : (xs ys : List ℕ) → length (xs ++ ys) ≡ 0 → xs ≡ []
-    nothing_wrote [] ys e = refl
-    nothing_wrote (x ∷ xs) ys e = absurd (omega arith)
 
 -- the form of what it is answered
 pub form_alone : (v w : OneView) (call : Call) (reply : Reply) (old new : List ℕ) → CalledOnce core v call reply old new w → has_form call reply ≡ true
@@ -161,15 +161,6 @@ errno_is_told value errno (Found p o n) e = absurd (true≢false (sym (ap is_err
 errno_is_told value errno (Text t) e = absurd (true≢false (sym (ap is_err e)))
 errno_is_told value errno (Ready b) e = absurd (true≢false (sym (ap is_err e)))
 errno_is_told value errno (Refused told) e = ap Refused (ap errno_in e)
-
--- a call that was made comes out as its reply
-pub is_made : {X : Type 0} (value : Reply → X) (result : Result X Errno) (v w : OneView) (call : DeviceCall) (bytes : List ℕ) (reply : Reply) → result ≡ value_of value reply → reply ≢ Refused Full → HasCalled 0 v call reply bytes w
-    → ComesOut (λ r. value_of value r) result v call bytes w
-is_made value result v w call bytes reply is not_full called = inl record { reply = reply; result_is = is; not_full = λ full. not_full (errno_is_told value Full reply (sym is ∙ full)); called = called }
-
--- and one for which the history had no room
-pub is_full : {X : Type 0} (value : Reply → X) (errno : Errno) (v w : OneView) (call : DeviceCall) (bytes : List ℕ) → errno ≡ Full → FoundNoRoom core v w → ComesOut {X = X} (λ r. value_of value r) (Err errno) v call bytes w
-is_full value errno v w call bytes is full = inr (ap Err is, full)
 
 -- Behind the guard of this place, a call of the device is this one entry.
 pub record IsOneEntry (place : ℕ) (poll : Bool) (call : Call) (whole : DeviceCall) : Type 0 where
@@ -347,10 +338,30 @@ abbrev pub reply_or : Reply → Option Reply → Reply
 reply_or d (Some r) = r
 reply_or d None = d
 
+-- what a call is answered at its last entry, the machine answered there
+answered_at : (limit : ℕ) (v w : OneView) (call : DeviceCall) (reply : Reply) (bytes : List ℕ) (called : HasCalled limit v call reply bytes w) → core.reply_of (fold core called.last.at.0) called.last.last.actor called.last.last.call ≡ reply
+answered_at limit v w call reply bytes called =
+    let l = called.last in
+    let told : l.last.reply ≡ reply = ap (reply_or reply) (sym (last_reply_is (entries_in called.did) l.last l.is_last) ∙ called.reply_is) in
+    let answered = answered_rest core core.opening l.at.0 (l.last ∷ []) (subst (λ s. Answered core s) l.at.1 called.legal.0) in sym answered.0 ∙ told
+
 -- whatever a call of the device made, it isn't answered that the history is full
 pub called_not_full : (limit : ℕ) (v w : OneView) (call : DeviceCall) (reply : Reply) (bytes : List ℕ) → HasCalled limit v call reply bytes w → reply ≢ Refused Full
-called_not_full limit v w call reply bytes c is =
-    let l = c.last in
-    let told : l.last.reply ≡ reply = ap (reply_or reply) (sym (last_reply_is (entries_in c.did) l.last l.is_last) ∙ c.reply_is) in
-    let answered = answered_rest core core.opening l.at.0 (l.last ∷ []) (subst (λ s. Answered core s) l.at.1 c.legal.0) in
-    replies_have_form.not_full (fold core l.at.0) l.last.actor l.last.call (sym answered.0 ∙ (told ∙ is))
+called_not_full limit v w call reply bytes c is = replies_have_form.not_full (fold core c.last.at.0) c.last.last.actor c.last.last.call (answered_at limit v w call reply bytes c ∙ is)
+
+-- nor want of memory
+pub called_not_memory : (limit : ℕ) (v w : OneView) (call : DeviceCall) (reply : Reply) (bytes : List ℕ) → HasCalled limit v call reply bytes w → reply ≢ Refused NoMemory
+called_not_memory limit v w call reply bytes c is = replies_have_form.no_memory (fold core c.last.at.0) c.last.last.actor c.last.last.call (answered_at limit v w call reply bytes c ∙ is)
+
+-- a call that was made comes out as its reply
+pub is_made : {X : Type 0} (value : Reply → X) (result : Result X Errno) (v w : OneView) (call : DeviceCall) (bytes : List ℕ) (reply : Reply) → result ≡ value_of value reply → reply ≢ Refused Full → HasCalled 0 v call reply bytes w
+    → ComesOut (λ r. value_of value r) result v call bytes w
+is_made value result v w call bytes reply is not_full called = inl record { reply = reply; result_is = is; not_full = λ full. not_full (errno_is_told value Full reply (sym is ∙ full)); not_memory = λ none. called_not_memory 0 v w call reply bytes called (errno_is_told value NoMemory reply (sym is ∙ none)); called = called }
+
+-- and one for which the history had no room
+pub is_full : {X : Type 0} (value : Reply → X) (errno : Errno) (v w : OneView) (call : DeviceCall) → errno ≡ Full → FoundNoRoom core v w → ComesOut {X = X} (λ r. value_of value r) (Err errno) v call [] w
+is_full value errno v w call is full = inr (ap Err is, full, refl)
+
+-- a call without a buffer wrote nothing
+pub made_with_nothing : (v w : OneView) (call : DeviceCall) (reply : Reply) (old new : List ℕ) → length new ≡ 0 → (bytes : List ℕ) × (new ≡ bytes ++ drop (length bytes) old) × HasCalled 0 v call reply bytes w → HasCalled 0 v call reply [] w
+made_with_nothing v w call reply old new empty h = subst (λ (bytes : List ℕ). HasCalled 0 v call reply bytes w) (nothing_wrote h.0 (drop (length h.0) old) (sym (ap (λ (l : List ℕ). length l) h.1) ∙ empty)) h.2

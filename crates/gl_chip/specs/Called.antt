@@ -1,7 +1,7 @@
 -- What one call of the device did.
 use Rattle.std.specs.Prelude.{◌≡◌, ◌≢◌, ◌⊎◌, ◌<◌, ◌≤◌, ℕ, Bool, true, List, [], ◌∷◌, ◌++◌, Option, Some, None, Result, Err, length}
 use Rattle.gl_base.specs.declared.errno.Errno.{Errno}
-use Rattle.gl_base.specs.declared.errno.Errno.TheVariants.{Full}
+use Rattle.gl_base.specs.declared.errno.Errno.TheVariants.{Full, NoMemory}
 use Rattle.gl_world.specs.Deeds.{entries_in}
 use Rattle.gl_world.specs.History.{Legal}
 use Rattle.gl_gate.specs.Calls.{KnowsAsMuch, KnowsClosed}
@@ -71,13 +71,15 @@ pub record HasCalled (limit : ℕ) (v : OneView) (call : DeviceCall) (reply : Re
   pub guard : (place : ℕ) → guard_of call ≡ Some place → AtGuard place (is_poll call) closed reply v w
   pub knows_as_much : KnowsAsMuch v w
 
--- The call was made, and the result is what its reply comes to.
+-- The call was made, and the result is what its reply comes to: never that the history is full, and never want of memory.
 pub record IsMade {X : Type 0} (answer : Reply → Result X Errno) (result : Result X Errno) (v : OneView) (call : DeviceCall) (bytes : List ℕ) (w : OneView) : Type 0 where
   pub reply : Reply
   pub result_is : result ≡ answer reply
   pub not_full : result ≢ Err Full
+  pub not_memory : result ≢ Err NoMemory
   pub called : HasCalled 0 v call reply bytes w
 
--- How a call comes out that asks no driver: it was made, or the history was full, and then, and only then, the result says so.
+-- How a call comes out that asks no driver: it was made, or the history was full, and then, and only then, the result says so, and
+-- nothing was written.
 abbrev pub ComesOut : {X : Type 0} → (Reply → Result X Errno) → Result X Errno → OneView → DeviceCall → List ℕ → OneView → Type 0
-ComesOut answer result v call bytes w = IsMade answer result v call bytes w ⊎ ((result ≡ Err Full) × FoundNoRoom core v w)
+ComesOut answer result v call bytes w = IsMade answer result v call bytes w ⊎ ((result ≡ Err Full) × FoundNoRoom core v w × (bytes ≡ []))

@@ -162,6 +162,7 @@ module _ {P : Type 0} (told : P → Option Told) (faults : P → ℕ) (Own : P �
     pub not_memory : result ≢ Err NoMemory
     pub commanded : HasCommanded op a c reply bytes b
 
-  -- How a command comes out: it was made, or the history was full, and then, and only then, the result says so; nothing was asked.
+  -- How a command comes out: it was made, or the history was full, and then, and only then, the result says so; nothing was asked, and
+  -- nothing was written.
   abbrev pub CommandsOut : {X : Type 0} → (Reply → Result X Errno) → Result X Errno → Option Op → ActorValue P → CommandIn → List ℕ → ActorValue P → Type 0
-  CommandsOut answer result op a c bytes b = IsCommanded answer result op a c bytes b ⊎ ((result ≡ Err Full) × FoundNoRoom core a.pass.view b.pass.view × (b.port ≡ a.port))
+  CommandsOut answer result op a c bytes b = IsCommanded answer result op a c bytes b ⊎ ((result ≡ Err Full) × FoundNoRoom core a.pass.view b.pass.view × (b.port ≡ a.port) × (bytes ≡ []))

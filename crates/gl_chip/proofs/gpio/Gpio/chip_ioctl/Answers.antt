@@ -31,7 +31,7 @@ returns-in-Err-clause-called g c = let full = c.in-Err.ensures.full in
       [],
       full.1,
       command_is_full g.D.Port.Port.told g.D.Port.Port.faults g.D.Driver.OwnEntries g.D.Driver.ENTRIES g.D.Driver.is_planned {X = Option LineFile} (request_in c.args.fd.now.place named) c.in-Err.errno
-          (op_for named (command_in c.args.fd.now.place c.args.fd.now.fd true c.args.cmd c.args.buf.now)) c.args.actor.now c.whole_command.new.actor (command_in c.args.fd.now.place c.args.fd.now.fd true c.args.cmd c.args.buf.now) [] full.0 full.2 c.in-Err.ensures.port,
+          (op_for named (command_in c.args.fd.now.place c.args.fd.now.fd true c.args.cmd c.args.buf.now)) c.args.actor.now c.whole_command.new.actor (command_in c.args.fd.now.place c.args.fd.now.fd true c.args.cmd c.args.buf.now) full.0 full.2 c.in-Err.ensures.port,
     )
 
 pub returns-in-Ok-clause-file : goal.returns-in-Ok-clause-file

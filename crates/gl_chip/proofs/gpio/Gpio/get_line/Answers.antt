@@ -5,13 +5,14 @@ use Rattle.gl_driver.specs.declared.op.Op.{Op}
 use Rattle.gl_uapi.specs.Command.{command_of}
 use Rattle.gl_uapi.specs.declared.layout.TheConstants.{LINE_REQUEST_SIZE}
 use Rattle.gl_model.specs.Asked.{lines_asked}
+use Rattle.gl_model.specs.Parts.{Commanding}
 use Rattle.gl_chip.specs.Commanding.{HasCommanded, IsOp, op_for, request_in, requested_of}
 use Rattle.gl_chip.specs.Files.{LineFile}
 use Rattle.gl_chip.specs.Handed.{command_in, handed_in}
-use Rattle.gl_chip.proofs.CommandResults.{called_no_memory, command_is_full, command_is_made}
+use Rattle.gl_chip.proofs.CommandResults.{command_is_full, command_is_made}
 use Rattle.gl_chip.proofs.RequestedFiles.{file_where_requested}
 use Rattle.gl_chip.proofs.RequestedLines.{lines_are_some, number_below, only_get_line, op_goes, op_is_for, takes_memory}
-use Rattle.gl_chip.proofs.WholeCalls.{errno_is_told}
+use Rattle.gl_chip.proofs.WholeCalls.{called_not_memory, errno_is_told}
 use Rattle.gl_chip.proofs.gpio.Gpio.get_line.Goals as goal
 
 pub returns-in-Err-clause-memory : goal.returns-in-Err-clause-memory
@@ -29,7 +30,7 @@ requested-requires-clause-lines g c = λ k e. lines_are_some c.handed_in-bytes.r
 
 pub returns-in-Ok-driven_command-clause-memory : goal.returns-in-Ok-driven_command-clause-memory
 returns-in-Ok-driven_command-clause-memory g c = let h = c.in-Ok-driven_command.ensures.commanded in
-    λ e. absurd (called_no_memory g.D.Driver.ENTRIES c.args.actor.now.pass.view c.driven_command.new.actor.pass.view (command_in c.args.place c.args.fd true c.args.cmd c.args.buf.now) c.in-Ok-driven_command.reply h.0 h.2.called
+    λ e. absurd (called_not_memory g.D.Driver.ENTRIES c.args.actor.now.pass.view c.driven_command.new.actor.pass.view (Commanding (command_in c.args.place c.args.fd true c.args.cmd c.args.buf.now)) c.in-Ok-driven_command.reply h.0 h.2.called
     (errno_is_told (request_in c.args.place c.lines_named.result) NoMemory c.in-Ok-driven_command.reply (sym c.requested.ensures ∙ e)))
 
 pub returns-in-Ok-driven_command-clause-called : goal.returns-in-Ok-driven_command-clause-called
@@ -52,7 +53,7 @@ returns-clause-called g c = let full = c.in-Err-driven_command.ensures.full in
       [],
       full.1,
       command_is_full g.D.Port.Port.told g.D.Port.Port.faults g.D.Driver.OwnEntries g.D.Driver.ENTRIES g.D.Driver.is_planned {X = Option LineFile} (request_in c.args.place named) c.in-Err-driven_command.errno
-          (op_for named (command_in c.args.place c.args.fd true c.args.cmd c.args.buf.now)) c.args.actor.now c.driven_command.new.actor (command_in c.args.place c.args.fd true c.args.cmd c.args.buf.now) [] full.0 full.3 full.2,
+          (op_for named (command_in c.args.place c.args.fd true c.args.cmd c.args.buf.now)) c.args.actor.now c.driven_command.new.actor (command_in c.args.place c.args.fd true c.args.cmd c.args.buf.now) full.0 full.3 full.2,
     )
 
 pub returns-in-Ok-driven_command-clause-file : goal.returns-in-Ok-driven_command-clause-file

@@ -37,5 +37,5 @@ returns-clause-called g c = let full = c.in-Err.ensures.full in (
   [],
   full.1,
   command_is_full g.D.Port.Port.told g.D.Port.Port.faults g.D.Driver.OwnEntries g.D.Driver.ENTRIES g.D.Driver.is_planned {X = Unit {0}} (λ _. tt) c.in-Err.errno (op_for c.args.fd.now.lines (command_in c.args.fd.now.place c.args.fd.now.fd false c.args.cmd c.args.buf.now))
-      c.args.actor.now c.driven_command.new.actor (command_in c.args.fd.now.place c.args.fd.now.fd false c.args.cmd c.args.buf.now) [] full.0 full.3 full.2,
+      c.args.actor.now c.driven_command.new.actor (command_in c.args.fd.now.place c.args.fd.now.fd false c.args.cmd c.args.buf.now) full.0 full.3 full.2,
 )

@@ -19,4 +19,4 @@ returns-in-Ok-clause-called g c = let h = c.in-Ok.ensures.called in
 
 pub returns-in-Err-clause-called : goal.returns-in-Err-clause-called
 returns-in-Err-clause-called g c = let full = c.in-Err.ensures.full in
-    ([], full.1, is_full number_answered c.in-Err.errno c.args.actor.now.pass.view c.behind_guard.new.actor.pass.view (Once (ReadInfo c.args.fd.now.place c.args.fd.now.fd (length c.args.buf.now))) [] full.0 full.2)
+    ([], full.1, is_full number_answered c.in-Err.errno c.args.actor.now.pass.view c.behind_guard.new.actor.pass.view (Once (ReadInfo c.args.fd.now.place c.args.fd.now.fd (length c.args.buf.now))) full.0 full.2)
