@@ -15,7 +15,7 @@ use Rattle.gl_uapi.specs.declared.commands.Command.{Command}
 use Rattle.gl_uapi.specs.declared.commands.Command.TheVariants.{ChipInfo, LineInfo, Watch, Unwatch, GetLine, SetConfig, GetValues, SetValues}
 use Rattle.gl_uapi.specs.declared.layout.TheConstants.{LINE_REQUEST_SIZE}
 use Rattle.gl_world.specs.Deeds.{entries_in}
-use Rattle.gl_world.specs.History.{Answered, Legal, StartsWith, entry, fold}
+use Rattle.gl_world.specs.History.{Answered, Legal, StartsWith, entry, entries_of, fold}
 use Rattle.gl_world.proofs.Deeds.{entries_in_append}
 use Rattle.gl_world.proofs.Histories.{answered_prefix, answered_rest, placed_prefix}
 use Rattle.gl_rule.specs.Sums.{times, without}
@@ -183,7 +183,7 @@ module _ {P : Type 0} (told : P → Option Told) (faults : P → ℕ) (Own : P �
     may_own = owns_nothing;
     grew = step.grew;
     last = record { last = entry v.number (in_ask c) reply; is_last = refl; at = step.last };
-    had_room = record { first = entry v.number (in_ask c) reply; is_first = refl; before = step.last.0; behind = []; at = step.last.1; room_left = step.had_room refl };
+    had_room = record { first = entry v.number (in_ask c) reply; is_first = refl; before = step.last.0; behind = []; at = step.last.1; room_left = step.had_room refl; own_before = step.own_before };
     legal = step.legal;
     reply_is = refl;
     bytes = step.bytes;
@@ -226,6 +226,7 @@ module _ {P : Type 0} (told : P → Option Told) (faults : P → ℕ) (Own : P �
           behind = seen.0;
           at = seen.1 ∙ (ap (λ l. l ++ seen.0) step.last.1 ∙ append_assoc step.last.0 (entry v.number (in_ask c) first ∷ []) seen.0);
           room_left = step.had_room refl;
+          own_before = step.own_before;
         };
         legal = last.legal;
         reply_is = ap (λ l. last_reply (entry v.number (in_ask c) first ∷ l)) entries ∙ last_reply_snoc (entry v.number (in_ask c) first ∷ own) second;
@@ -264,7 +265,7 @@ module _ {P : Type 0} (told : P → Option Told) (faults : P → ℕ) (Own : P �
             grew = subst (λ (l : List OneDeed). Grew core a.pass.view l b.pass.view) (append-nil did.did)
                 (grows_on core a.pass.view w b.pass.view did.did [] (grows_on core a.pass.view v w [] did.did (moves_do_nothing core a.pass.view v entered) did.grew) (moves_do_nothing core w b.pass.view left));
             last = record { last = did.last.last; is_last = did.last.is_last; at = (did.last.at.0, left.seen ∙ did.last.at.1) };
-            had_room = let h = did.had_room in record { first = h.first; is_first = h.is_first; before = h.before; behind = h.behind; at = left.seen ∙ h.at; room_left = subst (λ k. length h.before < k) entered.room h.room_left };
+            had_room = let h = did.had_room in record { first = h.first; is_first = h.is_first; before = h.before; behind = h.behind; at = left.seen ∙ h.at; room_left = subst (λ k. length h.before < k) entered.room h.room_left; own_before = ap (λ k. entries_of k h.before) (sym n) ∙ (h.own_before ∙ entered.mine) };
             legal = subst (λ l. Legal core l) (sym left.seen) did.legal;
             reply_is = did.reply_is;
             bytes_are = refl;
@@ -305,7 +306,7 @@ module _ {P : Type 0} (told : P → Option Told) (faults : P → ℕ) (Own : P �
             may_own = owns_nothing;
             grew = grows_on core a.pass.view v w [] (d ∷ []) (moves_do_nothing core a.pass.view v moved) (subst (λ n. Grew core v (deed_of n call reply step.wrote ∷ []) w) moved.number step.grew);
             last = record { last = entry a.pass.view.number call reply; is_last = refl; at = ends };
-            had_room = record { first = entry a.pass.view.number call reply; is_first = refl; before = ends.0; behind = []; at = ends.1; room_left = subst (λ k. length step.last.0 < k) moved.room (step.had_room refl) };
+            had_room = record { first = entry a.pass.view.number call reply; is_first = refl; before = ends.0; behind = []; at = ends.1; room_left = subst (λ k. length step.last.0 < k) moved.room (step.had_room refl); own_before = ap (λ k. entries_of k step.last.0) (sym moved.number) ∙ (step.own_before ∙ moved.mine) };
             legal = step.legal;
             reply_is = refl;
             bytes_are = refl;

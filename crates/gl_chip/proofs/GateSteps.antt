@@ -2,6 +2,7 @@
 use Rattle.std.proofs.Common.{◌≡◌, ℕ, ◌<◌, ◌≤◌, List, [], ◌∷◌, ◌++◌, length, sym, refl, ap, ◌∙◌, subst, arith, Bool, true, false, Result, Ok, Err, IfOk, IfErr}
 use Rattle.std.specs.Prelude.{cond}
 use Rattle.std.proofs.lemmas.Bool.{true≢false}
+use Rattle.std.proofs.lemmas.List.{append-nil}
 use Rattle.gl_world.specs.declared.machine.Machine.{Ghosts}
 use Rattle.gl_world.specs.declared.history.Entry.{Entry}
 use Rattle.gl_world.specs.History.{Legal, Answered, entry, entries_of, fold, owed}
@@ -48,13 +49,18 @@ module _ {M C R G : Type 0} where
   knows_on v w u a b = record { closed = λ p h. b.closed p (a.closed p h); drained = λ p h. b.drained p (a.drained p h) }
 
 module _ {M C R G : Type 0} (m : Ghosts M C R G) where
+  -- the own entries in front of the next one are those from before
+  pub own_in_front : (v : View M C R G) (between : List (Entry M C R G)) → HasItsOwn v → entries_of v.number between ≡ [] → entries_of v.number (v.seen ++ between) ≡ v.mine
+  own_in_front v between own others = entries_append v.number v.seen between ∙ (ap (λ l. l ++ entries_of v.number between) own ∙ (ap (λ l. v.mine ++ l) others ∙ append-nil v.mine))
+
   -- one call was made
-  pub called_once : (v : View M C R G) (call : C) (reply : R) (old new : List ℕ) (w : View M C R G) → SamePass v w → Acts m v call reply old new w → CalledOnce m v call reply old new w
-  called_once v call reply old new w same acts = record {
+  pub called_once : (v : View M C R G) (call : C) (reply : R) (old new : List ℕ) (w : View M C R G) → HasItsOwn v → SamePass v w → Acts m v call reply old new w → CalledOnce m v call reply old new w
+  called_once v call reply old new w own same acts = record {
     wrote = m.bytes_of (fold m (v.seen ++ acts.between)) v.number call;
     grew = acts_are_deeds m v call reply old new w acts same;
     last = (v.seen ++ acts.between, acts.seen);
     had_room = acts.room;
+    own_before = own_in_front v acts.between own acts.others;
     bytes = acts.bytes;
     same = same;
     legal = acts.legal;
@@ -125,6 +131,7 @@ module _ {M C R G : Type 0} (m : Ghosts M C R G) where
     grew = grows_on m v w u [] (deed_of v.number refused reply step.wrote ∷ []) (moves_do_nothing m v w moved) (same_deed v.number w.number w u refused reply step.wrote moved.number step.grew);
     last = (step.last.0, subst (λ n. u.seen ≡ step.last.0 ++ entry n refused reply ∷ []) moved.number step.last.1);
     had_room = subst (λ n. length step.last.0 < n) moved.room (step.had_room ends_not);
+    own_before = ap (λ n. entries_of n step.last.0) (sym moved.number) ∙ (step.own_before ∙ moved.mine);
     bytes = step.bytes;
     legal = step.legal;
     answered = let a = step.answered in record { before = a.before; legal_before = a.legal_before; reply_is = subst (λ n. reply ≡ m.reply_of (fold m a.before) n refused) moved.number a.reply_is; bytes_are = subst (λ n. step.wrote ≡ m.bytes_of (fold m a.before) n refused) moved.number a.bytes_are };
@@ -143,6 +150,7 @@ module _ {M C R G : Type 0} (m : Ghosts M C R G) where
         (grows_on m v w u [] (deed_of v.number call reply step.wrote ∷ []) (moves_do_nothing m v w moved) (same_deed v.number w.number w u call reply step.wrote moved.number step.grew)) (moves_do_nothing m u x left);
     last = (step.last.0, left.seen ∙ subst (λ n. u.seen ≡ step.last.0 ++ entry n call reply ∷ []) moved.number step.last.1);
     had_room = subst (λ n. length step.last.0 < n) moved.room (step.had_room ends_not);
+    own_before = ap (λ n. entries_of n step.last.0) (sym moved.number) ∙ (step.own_before ∙ moved.mine);
     bytes = step.bytes;
     legal = subst (λ l. Legal m l) (sym left.seen) step.legal;
     answered = let a = step.answered in record { before = a.before; legal_before = a.legal_before; reply_is = subst (λ n. reply ≡ m.reply_of (fold m a.before) n call) moved.number a.reply_is; bytes_are = subst (λ n. step.wrote ≡ m.bytes_of (fold m a.before) n call) moved.number a.bytes_are };

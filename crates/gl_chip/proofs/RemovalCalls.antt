@@ -36,7 +36,7 @@ use Rattle.gl_chip.specs.Removing.{AllDrained, HasBegun, HasDrained, HasEnded, R
 use Rattle.gl_chip.specs.Results.{done_of}
 use Rattle.gl_chip.specs.Steps.{FoundNoRoom, deed_of}
 use Rattle.gl_chip.specs.Values.{IsIdle, MayOwn, OneEntry, OneView, core}
-use Rattle.gl_chip.proofs.GateSteps.{free_owes, is_free, knows_on, knows_same, owes_refused, stood_full}
+use Rattle.gl_chip.proofs.GateSteps.{free_owes, is_free, knows_on, knows_same, own_in_front, owes_refused, stood_full}
 use Rattle.gl_chip.proofs.WholeCalls.{called_not_full, called_not_memory, errno_is_told, idle_still, no_room_alone, none_not_some}
 
 -- what the first and the last call of a removal are
@@ -304,9 +304,9 @@ guard_none : (call : Call) → guard_of (Removing (removal_of call)) ≡ None
 guard_none call = refl
 
 -- a removal that was refused at its first entry
-pub refused_removal : (v w : OneView) (first : Call) (reply : Reply) (old new : List ℕ) → is_first_call first ≡ true → SamePass v w → Acts core v first reply old new w → is_done reply ≡ false
+pub refused_removal : (v w : OneView) (first : Call) (reply : Reply) (old new : List ℕ) → is_first_call first ≡ true → HasItsOwn v → SamePass v w → Acts core v first reply old new w → is_done reply ≡ false
     → (bytes : List ℕ) × (called : HasCalled 0 v (Removing (removal_of first)) reply bytes w) × AllDrained called.did w
-refused_removal v w first reply old new is_first same acts undone = let wrote : List ℕ = bytes_of (fold core (v.seen ++ acts.between)) v.number first in let e : OneEntry = entry v.number first reply in (
+refused_removal v w first reply old new is_first own same acts undone = let wrote : List ℕ = bytes_of (fold core (v.seen ++ acts.between)) v.number first in let e : OneEntry = entry v.number first reply in (
   wrote,
   record {
     closed = false;
@@ -318,7 +318,7 @@ refused_removal v w first reply old new is_first same acts undone = let wrote : 
     may_own = owns_nothing;
     grew = acts_are_deeds core v first reply old new w acts same;
     last = record { last = e; is_last = refl; at = (v.seen ++ acts.between, acts.seen) };
-    had_room = record { first = e; is_first = refl; before = v.seen ++ acts.between; behind = []; at = acts.seen; room_left = acts.room (first_ends_not first is_first) };
+    had_room = record { first = e; is_first = refl; before = v.seen ++ acts.between; behind = []; at = acts.seen; room_left = acts.room (first_ends_not first is_first); own_before = own_in_front core v acts.between own acts.others };
     legal = acts.legal;
     reply_is = refl;
     bytes_are = refl;
@@ -329,9 +329,9 @@ refused_removal v w first reply old new is_first same acts undone = let wrote : 
 )
 
 -- a removal that was begun and ended
-pub whole_removal : (v w u : OneView) (first : Call) (first_reply reply : Reply) (old new : List ℕ) (from count : ℕ) → is_first_call first ≡ true → length old ≡ 2 → new ≡ from ∷ count ∷ [] → SamePass v w → Acts core v first first_reply old new w → is_done first_reply ≡ true
+pub whole_removal : (v w u : OneView) (first : Call) (first_reply reply : Reply) (old new : List ℕ) (from count : ℕ) → is_first_call first ≡ true → length old ≡ 2 → new ≡ from ∷ count ∷ [] → HasItsOwn v → SamePass v w → Acts core v first first_reply old new w → is_done first_reply ≡ true
     → HasEnded from count first w reply u → (bytes : List ℕ) × (called : HasCalled 0 v (Removing (removal_of first)) reply bytes u) × AllDrained called.did u
-whole_removal v w u first first_reply reply old new from count is_first two are same acts d ended =
+whole_removal v w u first first_reply reply old new from count is_first two are own same acts d ended =
     let before : World = fold core (v.seen ++ acts.between) in let wrote : List ℕ = bytes_of before v.number first in let e : OneEntry = entry v.number first first_reply in let l : OneEntry = entry v.number (last_call first) reply in
     let is : wrote ≡ from ∷ count ∷ [] = written_are wrote old new from count (first_writes first is_first before v.number (ap is_done (sym acts.answer) ∙ d)) two acts.bytes are in
     let begun : begun_places first first_reply wrote ≡ places_from from count = first_begun first is_first first_reply wrote d ∙ ap (λ x. places_named x) is in
@@ -354,6 +354,7 @@ whole_removal v w u first first_reply reply old new from count is_first two are 
           behind = behind.seen.0;
           at = behind.seen.1 ∙ (ap (λ x. x ++ behind.seen.0) acts.seen ∙ append_assoc (v.seen ++ acts.between) (e ∷ []) behind.seen.0);
           room_left = acts.room (first_ends_not first is_first);
+          own_before = own_in_front core v acts.between own acts.others;
         };
         legal = ended.legal;
         reply_is = refl;

@@ -7,7 +7,7 @@ use Rattle.gl_base.specs.declared.errno.Errno.{Errno}
 use Rattle.gl_base.specs.declared.errno.Errno.TheVariants.{Full, NoEnt, NoMemory}
 use Rattle.gl_base.specs.Rows.{Each}
 use Rattle.gl_world.specs.Deeds.{entries_in}
-use Rattle.gl_world.specs.History.{Answered, Legal, entry, fold}
+use Rattle.gl_world.specs.History.{Answered, Legal, entry, entries_of, fold}
 use Rattle.gl_world.proofs.Histories.{answered_rest}
 use Rattle.gl_gate.specs.Calls.{KnowsAsMuch, KnowsClosed, MayName}
 use Rattle.gl_gate.specs.Grown.{Grew, IsFree}
@@ -122,7 +122,7 @@ called_alone v w call reply old new single none empty step = record {
   may_own = owns_nothing;
   grew = step.grew;
   last = record { last = entry v.number call reply; is_last = refl; at = step.last };
-  had_room = record { first = entry v.number call reply; is_first = refl; before = step.last.0; behind = []; at = step.last.1; room_left = step.had_room (single_is_whole call single).ends_not };
+  had_room = record { first = entry v.number call reply; is_first = refl; before = step.last.0; behind = []; at = step.last.1; room_left = step.had_room (single_is_whole call single).ends_not; own_before = step.own_before };
   legal = step.legal;
   reply_is = refl;
   bytes_are = nothing_wrote step.wrote (drop (length step.wrote) old) (sym (ap (λ (l : List ℕ). length l) step.bytes) ∙ empty);
@@ -189,9 +189,9 @@ command_is_whole c = record { ends_not = refl; begins_not = λ _. refl; no_last_
 
 -- One entry behind the guard of a place, or the record that it was closed, by whether it was.
 guarded_by : (place : ℕ) (poll : Bool) (v w : OneView) (call : Call) (whole : DeviceCall) (reply : Reply) (wrote : List ℕ) → IsOneEntry place poll call whole
-    → (b : Bool) → (last : EndsWith w.seen (entry v.number (cond b (RefusedCall place poll) call) reply)) → length last.0 < v.room → Grew core v (deed_of v.number (cond b (RefusedCall place poll) call) reply wrote ∷ []) w → Legal core w.seen
+    → (b : Bool) → (last : EndsWith w.seen (entry v.number (cond b (RefusedCall place poll) call) reply)) → length last.0 < v.room → entries_of v.number last.0 ≡ v.mine → Grew core v (deed_of v.number (cond b (RefusedCall place poll) call) reply wrote ∷ []) w → Legal core w.seen
     → IsAnswered core v.number (cond b (RefusedCall place poll) call) reply wrote → (KnowsClosed v place → b ≡ true) → (b ≡ true → KnowsClosed w place) → KnowsAsMuch v w → HasCalled 0 v whole reply wrote w
-guarded_by place poll v w call whole reply wrote one true last room grew legal answered known knows knows_as_much = let e : OneEntry = entry v.number (RefusedCall place poll) reply in record {
+guarded_by place poll v w call whole reply wrote one true last room before grew legal answered known knows knows_as_much = let e : OneEntry = entry v.number (RefusedCall place poll) reply in record {
   closed = true;
   answer = None;
   own = [];
@@ -207,7 +207,7 @@ guarded_by place poll v w call whole reply wrote one true last room grew legal a
   may_own = owns_nothing;
   grew = grew;
   last = record { last = e; is_last = refl; at = last };
-  had_room = record { first = e; is_first = refl; before = last.0; behind = []; at = last.1; room_left = room };
+  had_room = record { first = e; is_first = refl; before = last.0; behind = []; at = last.1; room_left = room; own_before = before };
   legal = legal;
   reply_is = refl;
   bytes_are = refl;
@@ -219,7 +219,7 @@ guarded_by place poll v w call whole reply wrote one true last room grew legal a
   };
   knows_as_much = knows_as_much;
 }
-guarded_by place poll v w call whole reply wrote one false last room grew legal answered known knows knows_as_much = let e : OneEntry = entry v.number call reply in record {
+guarded_by place poll v w call whole reply wrote one false last room before grew legal answered known knows knows_as_much = let e : OneEntry = entry v.number call reply in record {
   closed = false;
   answer = None;
   own = [];
@@ -229,7 +229,7 @@ guarded_by place poll v w call whole reply wrote one false last room grew legal 
   may_own = owns_nothing;
   grew = grew;
   last = record { last = e; is_last = refl; at = last };
-  had_room = record { first = e; is_first = refl; before = last.0; behind = []; at = last.1; room_left = room };
+  had_room = record { first = e; is_first = refl; before = last.0; behind = []; at = last.1; room_left = room; own_before = before };
   legal = legal;
   reply_is = refl;
   bytes_are = refl;
@@ -244,7 +244,7 @@ guarded_by place poll v w call whole reply wrote one false last room grew legal 
 
 pub called_guarded : (place : ℕ) (poll : Bool) (v w : OneView) (call : Call) (whole : DeviceCall) (reply : Reply) (old new : List ℕ) → IsOneEntry place poll call whole
     → CalledGuarded core place (RefusedCall place poll) v call reply old new w → (bytes : List ℕ) × (new ≡ bytes ++ drop (length bytes) old) × HasCalled 0 v whole reply bytes w
-called_guarded place poll v w call whole reply old new one c = (c.wrote, c.bytes, guarded_by place poll v w call whole reply c.wrote one c.closed c.last c.had_room c.grew c.legal c.answered c.known c.knows c.knows_as_much)
+called_guarded place poll v w call whole reply old new one c = (c.wrote, c.bytes, guarded_by place poll v w call whole reply c.wrote one c.closed c.last c.had_room c.own_before c.grew c.legal c.answered c.known c.knows c.knows_as_much)
 
 -- the form of what it is answered
 form_by : (place : ℕ) (poll : Bool) (n : ℕ) (call : Call) (reply : Reply) (wrote : List ℕ) (b : Bool) → IsAnswered core n (cond b (RefusedCall place poll) call) reply wrote → (reply ≡ guard_reply poll) ⊎ (has_form call reply ≡ true)

@@ -3,7 +3,7 @@ use Rattle.std.specs.Prelude.{◌≡◌, ◌≢◌, ◌⊎◌, ◌<◌, ◌≤�
 use Rattle.gl_base.specs.declared.errno.Errno.{Errno}
 use Rattle.gl_base.specs.declared.errno.Errno.TheVariants.{Full, NoMemory}
 use Rattle.gl_world.specs.Deeds.{entries_in}
-use Rattle.gl_world.specs.History.{Legal}
+use Rattle.gl_world.specs.History.{Legal, entries_of}
 use Rattle.gl_gate.specs.Calls.{KnowsAsMuch, KnowsClosed}
 use Rattle.gl_gate.specs.Grown.{Grew}
 use Rattle.gl_model.specs.declared.reply.Reply.{Reply}
@@ -33,14 +33,16 @@ pub record EndsWithLast (seen made : List OneEntry) : Type 0 where
   pub is_last : last_entry made ≡ Some last
   pub at : EndsWith seen last
 
--- the history had fewer than `room` entries when the first of these was made
-pub record HadRoom (room : ℕ) (seen made : List OneEntry) : Type 0 where
+-- The history had fewer than `room` entries when the first of these was made: in front of it stand, of the actor's own entries, just
+-- those that it had made before.
+pub record HadRoom (v : OneView) (seen made : List OneEntry) : Type 0 where
   pub first : OneEntry
   pub is_first : first_entry made ≡ Some first
   pub before : List OneEntry
   pub behind : List OneEntry
   pub at : seen ≡ before ++ first ∷ behind
-  pub room_left : length before < room
+  pub room_left : length before < v.room
+  pub own_before : entries_of v.number before ≡ v.mine
 
 -- What the guard of a place told: `closed` where the closed bit stood at the call's step there. Then, and only then, the call is
 -- answered as every call at a closed guard is; the actor knows the place closed from then on, and who knows it finds it so.
@@ -64,7 +66,7 @@ pub record HasCalled (limit : ℕ) (v : OneView) (call : DeviceCall) (reply : Re
   pub may_own : MayOwn own
   pub grew : Grew core v did w
   pub last : EndsWithLast w.seen (entries_in did)
-  pub had_room : HadRoom v.room w.seen (entries_in did)
+  pub had_room : HadRoom v w.seen (entries_in did)
   pub legal : Legal core w.seen
   pub reply_is : last_reply (entries_in did) ≡ Some reply
   pub bytes_are : last_bytes did ≡ bytes

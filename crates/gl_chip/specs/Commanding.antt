@@ -143,7 +143,7 @@ module _ {P : Type 0} (told : P → Option Told) (faults : P → ℕ) (Own : P �
     pub may_own : MayOwn own
     pub grew : Grew core v did w
     pub last : EndsWithLast w.seen (entries_in did)
-    pub had_room : HadRoom v.room w.seen (entries_in did)
+    pub had_room : HadRoom v w.seen (entries_in did)
     pub legal : Legal core w.seen
     pub reply_is : last_reply (entries_in did) ≡ Some reply
     pub bytes : new ≡ last_bytes did ++ drop (length (last_bytes did)) old

@@ -2,7 +2,7 @@
 use Rattle.std.specs.Prelude.{◌≡◌, ℕ, ◌<◌, ◌≤◌, Bool, true, false, cond, List, [], ◌∷◌, ◌++◌, length, drop}
 use Rattle.gl_world.specs.declared.machine.Machine.{Ghosts}
 use Rattle.gl_world.specs.declared.history.Entry.{Entry}
-use Rattle.gl_world.specs.History.{Legal, entry, fold}
+use Rattle.gl_world.specs.History.{Legal, entry, entries_of, fold}
 use Rattle.gl_world.specs.Deeds.{Deed, entries_in}
 use Rattle.gl_rule.specs.declared.view.View.{View}
 use Rattle.gl_rule.specs.Turn.{owes}
@@ -57,6 +57,7 @@ module _ {M C R G : Type 0} (m : Ghosts M C R G) where
     pub grew : Grew m v (deed_of v.number call reply wrote ∷ []) w
     pub last : EndsWith w.seen (entry v.number call reply)
     pub had_room : m.ends call ≡ false → length last.0 < v.room
+    pub own_before : entries_of v.number last.0 ≡ v.mine
     pub bytes : new ≡ wrote ++ drop (length wrote) old
     pub same : SamePass v w
     pub legal : Legal m w.seen
@@ -76,6 +77,7 @@ module _ {M C R G : Type 0} (m : Ghosts M C R G) where
     pub grew : Grew m v (deed_of v.number (cond closed refused call) reply wrote ∷ []) w
     pub last : EndsWith w.seen (entry v.number (cond closed refused call) reply)
     pub had_room : length last.0 < v.room
+    pub own_before : entries_of v.number last.0 ≡ v.mine
     pub bytes : new ≡ wrote ++ drop (length wrote) old
     pub legal : Legal m w.seen
     pub answered : IsAnswered v.number (cond closed refused call) reply wrote

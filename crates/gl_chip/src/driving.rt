@@ -103,6 +103,7 @@ pub(crate) fn tell<M: Machine, R: Wait>(
     ensures owes { Owes M.Machine pass.new.view 0 }
     ensures called { CalledOnce M.Machine pass.old.view call result out.old out.new pass.new.view }
 {
+    let _number = pass.number();
     match gate.act(rt, pass, call, gift, out) {
         Ok(reply) => reply,
         Err(_) => unreachable!(),

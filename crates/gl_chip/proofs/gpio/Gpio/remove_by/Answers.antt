@@ -17,12 +17,12 @@ pub returns-in-Err-clause-full : goal.returns-in-Err-clause-full
 returns-in-Err-clause-full g c = (c.in-Err.ensures.full, seen_from _ _ (λ v. FoundNoRoom core v c.act-begun.new.pass.view) c.actor.view_is (full_removal c.actor.inside.pass.view c.act-begun.new.pass.view c.args.first.now c.number-number.ensures.own c.in-Err.ensures.own c.in-Err.ensures.same c.in-Err.ensures.refuses))
 
 pub invariant_of-actor-then-not-is_done : goal.invariant_of-actor-then-not-is_done
-invariant_of-actor-then-not-is_done g c = let h = refused_removal c.actor.inside.pass.view c.act-begun.new.pass.view c.args.first.now c.in-Ok.reply _ _ c.requires.first c.in-Ok.ensures.same c.in-Ok.ensures.acts (sym c.if-not-is_done.ensures) in
+invariant_of-actor-then-not-is_done g c = let h = refused_removal c.actor.inside.pass.view c.act-begun.new.pass.view c.args.first.now c.in-Ok.reply _ _ c.requires.first c.number-number.ensures.own c.in-Ok.ensures.same c.in-Ok.ensures.acts (sym c.if-not-is_done.ensures) in
     idle_called 0 c.actor.inside.pass.view c.act-begun.new.pass.view (Removing (removal_of c.args.first.now)) c.in-Ok.reply h.0 c.actor.invariant (not_begun c.actor.inside.pass.view c.act-begun.new.pass.view c.args.first.now c.in-Ok.reply _ _ c.requires.first c.in-Ok.ensures.same c.in-Ok.ensures.acts (sym c.if-not-is_done.ensures) c.actor.invariant.free) h.1
 
 pub returns-then-not-is_done-clause-called : goal.returns-then-not-is_done-clause-called
 returns-then-not-is_done-clause-called g c = seen_from _ _ (λ v. (x : List ℕ) × (called : HasCalled 0 v (Removing (removal_of c.args.first.now)) c.in-Ok.reply x c.act-begun.new.pass.view) × AllDrained called.did c.act-begun.new.pass.view) c.actor.view_is
-    (refused_removal c.actor.inside.pass.view c.act-begun.new.pass.view c.args.first.now c.in-Ok.reply _ _ c.requires.first c.in-Ok.ensures.same c.in-Ok.ensures.acts (sym c.if-not-is_done.ensures))
+    (refused_removal c.actor.inside.pass.view c.act-begun.new.pass.view c.args.first.now c.in-Ok.reply _ _ c.requires.first c.number-number.ensures.own c.in-Ok.ensures.same c.in-Ok.ensures.acts (sym c.if-not-is_done.ensures))
 
 pub end_removal-requires-clause-begun : goal.end_removal-requires-clause-begun
 end_removal-requires-clause-begun g c κs within = let two : length c.act-begun.new.out ≡ 2 = search rules in
@@ -30,13 +30,13 @@ end_removal-requires-clause-begun g c κs within = let two : length c.act-begun.
 
 pub invariant_of-actor-in-Ok : goal.invariant_of-actor-in-Ok
 invariant_of-actor-in-Ok g c = let two : length c.act-begun.new.out ≡ 2 = search rules in
-    let h = whole_removal c.actor.inside.pass.view c.act-begun.new.pass.view c.end_removal.new.pass.view c.args.first.now c.in-Ok.reply c.end_removal.result _ c.act-begun.new.out _ _ c.requires.first (search rules) (two_are c.act-begun.new.out two) c.in-Ok.ensures.same c.in-Ok.ensures.acts (sym c.if-not-is_done.ensures) c.end_removal.ensures.ended in
+    let h = whole_removal c.actor.inside.pass.view c.act-begun.new.pass.view c.end_removal.new.pass.view c.args.first.now c.in-Ok.reply c.end_removal.result _ c.act-begun.new.out _ _ c.requires.first (search rules) (two_are c.act-begun.new.out two) c.number-number.ensures.own c.in-Ok.ensures.same c.in-Ok.ensures.acts (sym c.if-not-is_done.ensures) c.end_removal.ensures.ended in
     idle_called 0 c.actor.inside.pass.view c.end_removal.new.pass.view (Removing (removal_of c.args.first.now)) c.end_removal.result h.0 c.actor.invariant c.end_removal.ensures.free h.1
 
 pub returns-clause-called : goal.returns-clause-called
 returns-clause-called g c = let two : length c.act-begun.new.out ≡ 2 = search rules in
     seen_from _ _ (λ v. (x : List ℕ) × (called : HasCalled 0 v (Removing (removal_of c.args.first.now)) c.end_removal.result x c.end_removal.new.pass.view) × AllDrained called.did c.end_removal.new.pass.view) c.actor.view_is
-    (whole_removal c.actor.inside.pass.view c.act-begun.new.pass.view c.end_removal.new.pass.view c.args.first.now c.in-Ok.reply c.end_removal.result _ c.act-begun.new.out _ _ c.requires.first (search rules) (two_are c.act-begun.new.out two) c.in-Ok.ensures.same c.in-Ok.ensures.acts (sym c.if-not-is_done.ensures) c.end_removal.ensures.ended)
+    (whole_removal c.actor.inside.pass.view c.act-begun.new.pass.view c.end_removal.new.pass.view c.args.first.now c.in-Ok.reply c.end_removal.result _ c.act-begun.new.out _ _ c.requires.first (search rules) (two_are c.act-begun.new.out two) c.number-number.ensures.own c.in-Ok.ensures.same c.in-Ok.ensures.acts (sym c.if-not-is_done.ensures) c.end_removal.ensures.ended)
 
 pub returns-then-not-is_done-clause-drained : goal.returns-then-not-is_done-clause-drained
 returns-then-not-is_done-clause-drained g c = λ d place is. absurd (true≢false (sym d ∙ sym c.if-not-is_done.ensures))
