@@ -9,7 +9,7 @@ use Rattle.gl_base.specs.declared.limits.TheConstants.{PLACES}
 use Rattle.gl_world.specs.History.{Legal, entries_of, entry, fold, owed}
 use Rattle.gl_world.specs.Removal.{AllQuiet, Removes}
 use Rattle.gl_world.proofs.Histories.{answered_prefix, placed_prefix, entries_append}
-use Rattle.gl_gate.specs.Calls.{Acts, HasItsOwn, KnowsDrained, MayEndRemoval, Refuses, SamePass}
+use Rattle.gl_gate.specs.Calls.{Acts, HasItsOwn, KnowsClosed, KnowsDrained, MayEndRemoval, Refuses, SamePass}
 use Rattle.gl_gate.specs.Grown.{Grew, IsFree, Moved}
 use Rattle.gl_gate.proofs.Grown.{acts_are_deeds, grows_on, moves_do_nothing, still_removes_nothing}
 use Rattle.gl_core.specs.Kept.{Kept, StandsFor}
@@ -289,6 +289,7 @@ has_ended from count first v w u reply old new is_first begun drained same acts 
       (subst (λ n. Grew core w (deed_of n (last_call first) reply (bytes_of (fold core (w.seen ++ acts.between)) w.number (last_call first)) ∷ []) u) drained.moved.number (acts_are_deeds core w (last_call first) reply old new u acts same));
   last = (w.seen ++ acts.between, subst (λ n. u.seen ≡ (w.seen ++ acts.between) ++ entry n (last_call first) reply ∷ []) drained.moved.number acts.seen);
   done = last_is_done from count first w u reply old new is_first (begun_still from count first v w drained.moved begun) acts;
+  closed = λ p low high. (knows_same w u same.closed same.drained).closed p (drained.closed p low high);
   drained = λ p low high. (knows_same w u same.closed same.drained).drained p (drained.drained p low high);
   legal = acts.legal;
   knows_as_much = knows_on v w u drained.knows_as_much (knows_same w u same.closed same.drained);
@@ -363,7 +364,7 @@ whole_removal v w u first first_reply reply old new from count is_first two are 
         knows_as_much = knows_on v w u (knows_same v w same.closed same.drained) ended.knows_as_much;
       },
       (
-        (λ p c. let h = at_named from count p (subst (λ x. Contains x p) begun c) in ended.drained p h.0 h.1),
+        (λ p c. let h = at_named from count p (subst (λ x. Contains x p) begun c) in (ended.closed p h.0 h.1, ended.drained p h.0 h.1)),
         ((λ p c. absurd (none_in p (subst (λ x. Contains x p) (last_begins_no_removal first is_first reply ended.wrote) c))), tt),
       ),
     )
@@ -394,9 +395,9 @@ first_of : (refusal : Option Errno) (w v : World) (places : List ℕ) → is_don
 first_of None w v places d = refl
 first_of (Some errno) w v places d = absurd (true≢false (sym d))
 
--- an unplug that has ended has drained its place
+-- an unplug that has ended has closed and drained its place
 pub unplug_drains : (v w u : OneView) (place : ℕ) (call : Call) (first_reply reply : Reply) (old new : List ℕ) (from count : ℕ) → call ≡ Unplug place false → is_first_call call ≡ true → length old ≡ 2 → new ≡ from ∷ count ∷ [] → Acts core v call first_reply old new w → is_done first_reply ≡ true
-    → HasEnded from count call w reply u → KnowsDrained u place
+    → HasEnded from count call w reply u → KnowsClosed u place × KnowsDrained u place
 unplug_drains v w u place call first_reply reply old new from count is is_first two are acts d ended =
     let before : World = fold core (v.seen ++ acts.between) in
     let done : is_done (reply_of before v.number call) ≡ true = ap is_done (sym acts.answer) ∙ d in
@@ -404,7 +405,7 @@ unplug_drains v w u place call first_reply reply old new from count is is_first 
     let its : bytes_of before v.number call ≡ place ∷ 1 ∷ [] = ap (λ k. bytes_of before v.number k) is ∙ first_of _ before _ (place ∷ []) (ap (λ k. is_done (reply_of before v.number k)) (sym is) ∙ done) in
     let same : from ∷ count ∷ [] ≡ place ∷ 1 ∷ [] = sym wrote ∙ its in
     let at : from ≡ place = ap first_of_two same in let one : count ≡ 1 = ap second_of_two same in
-    ended.drained place (omega arith) (omega arith)
+    (ended.closed place (omega arith) (omega arith), ended.drained place (omega arith) (omega arith))
 
 refused_unplug : (a : ℕ) (reply : Reply) → has_form (Unplug a false) reply ≡ true → is_done reply ≡ false → (errno : Errno) × (reply ≡ Refused errno)
 refused_unplug a Done form d = absurd (true≢false d)

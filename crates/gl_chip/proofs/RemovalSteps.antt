@@ -7,7 +7,7 @@ use Rattle.gl_world.specs.Removal.{Removes}
 use Rattle.gl_rule.specs.declared.view.View.{View}
 use Rattle.gl_rule.specs.Views.{with_closed, with_drained}
 use Rattle.gl_gate.specs.Values.{PassValue, knowing}
-use Rattle.gl_gate.specs.Calls.{KnowsDrained, KnowsAsMuch}
+use Rattle.gl_gate.specs.Calls.{KnowsAsMuch, KnowsClosed, KnowsDrained}
 use Rattle.gl_gate.specs.Grown.{Moved}
 use Rattle.gl_chip.specs.Removing.{HasDrained}
 use Rattle.gl_chip.proofs.GateSteps.{knows_on}
@@ -22,12 +22,13 @@ module _ {M C R G : Type 0} (m : Ghosts M C R G) where
   drained_it : (place : ℕ) (x y : PassValue M C R G) → y ≡ knowing x (with_drained x.view place) → Moved m x.view y.view × (y.view.inside ≡ x.view.inside)
   drained_it place x y is = subst (λ (z : PassValue M C R G). Moved m x.view z.view × (z.view.inside ≡ x.view.inside)) (sym is) (record { number = refl; room = refl; made = refl; joined = refl; seen = refl; mine = refl }, refl)
 
-  pub has_drained_one : (place : ℕ) (x y z : PassValue M C R G) → y ≡ knowing x (with_closed x.view place) → KnowsAsMuch x.view y.view → z ≡ knowing y (with_drained y.view place) → KnowsAsMuch y.view z.view → KnowsDrained z.view place
+  pub has_drained_one : (place : ℕ) (x y z : PassValue M C R G) → y ≡ knowing x (with_closed x.view place) → KnowsAsMuch x.view y.view → KnowsClosed y.view place → z ≡ knowing y (with_drained y.view place) → KnowsAsMuch y.view z.view → KnowsDrained z.view place
       → HasDrained m place (place + 1) x.view z.view
-  has_drained_one place x y z closed knows drained knows' it = let a = closed_it place x y closed in let b = drained_it place y z drained in record {
+  has_drained_one place x y z closed knows shut drained knows' it = let a = closed_it place x y closed in let b = drained_it place y z drained in record {
     moved = moved_on x.view y.view z.view a.0 b.0;
     inside = b.1 ∙ a.1;
     knows_as_much = knows_on x.view y.view z.view knows knows';
+    closed = λ p low high. let e : place ≡ p = omega arith in subst (λ q. KnowsClosed z.view q) e (knows'.closed place shut);
     drained = λ p low high. let e : place ≡ p = omega arith in subst (λ q. KnowsDrained z.view q) e it;
   }
 
@@ -36,6 +37,7 @@ module _ {M C R G : Type 0} (m : Ghosts M C R G) where
     moved = record { number = refl; room = refl; made = refl; joined = refl; seen = refl; mine = refl };
     inside = refl;
     knows_as_much = record { closed = λ p h. h; drained = λ p h. h };
+    closed = λ p low high. absurd (omega arith);
     drained = λ p low high. absurd (omega arith);
   }
 
@@ -44,6 +46,10 @@ module _ {M C R G : Type 0} (m : Ghosts M C R G) where
     moved = moved_on v w u so_far.moved one.moved;
     inside = one.inside ∙ so_far.inside;
     knows_as_much = knows_on v w u so_far.knows_as_much one.knows_as_much;
+    closed = λ p low high. elim (before_or_at p past (omega arith)) as (λ _. KnowsClosed u p) [
+      | inl less ↦ one.knows_as_much.closed p (so_far.closed p low less)
+      | inr at ↦ one.closed p (omega arith) (omega arith)
+    ];
     drained = λ p low high. elim (before_or_at p past (omega arith)) as (λ _. KnowsDrained u p) [
       | inl less ↦ one.knows_as_much.drained p (so_far.drained p low less)
       | inr at ↦ one.drained p (omega arith) (omega arith)

@@ -8,7 +8,7 @@ use Rattle.gl_world.specs.History.{Legal, entry, entries_of, fold}
 use Rattle.gl_world.specs.Removal.{Removes}
 use Rattle.gl_rule.specs.declared.view.View.{View}
 use Rattle.gl_rule.specs.Turn.{owes}
-use Rattle.gl_gate.specs.Calls.{KnowsAsMuch, KnowsDrained}
+use Rattle.gl_gate.specs.Calls.{KnowsAsMuch, KnowsClosed, KnowsDrained}
 use Rattle.gl_gate.specs.Grown.{Grew, Moved}
 use Rattle.gl_model.specs.declared.call.Call.{Call}
 use Rattle.gl_model.specs.declared.call.Call.TheVariants.{Remove, Unplug}
@@ -40,10 +40,10 @@ removal_of _ = OfChip 0
 abbrev pub is_gone_outside : ℕ → World → Bool
 is_gone_outside place w = is_gone (phase_at w place) && is_outside_tree w place
 
--- each place whose removal these deeds began is drained
+-- each place whose removal these deeds began is closed and drained: nobody comes in any more, and nobody is inside
 abbrev pub AllDrained : List OneDeed → OneView → Type 0
 AllDrained [] w = Unit {0}
-AllDrained (d ∷ ds) w = ((p : ℕ) → Contains (begun_places d.entry.call d.entry.reply d.bytes) p → KnowsDrained w p) × AllDrained ds w
+AllDrained (d ∷ ds) w = ((p : ℕ) → Contains (begun_places d.entry.call d.entry.reply d.bytes) p → KnowsClosed w p × KnowsDrained w p) × AllDrained ds w
 
 -- The first entry was made and begins, and the pass removes just so many places from this one on, by the removal that began so.
 pub record HasBegun (from count : ℕ) (first : Call) (v : OneView) : Type 0 where
@@ -56,12 +56,13 @@ pub record HasBegun (from count : ℕ) (first : Call) (v : OneView) : Type 0 whe
   pub only : (p : ℕ) → Removes core (fold core v.seen) v.number p → (from ≤ p) × (p < from + count)
   pub awaits : (p : ℕ) → from ≤ p → p < from + count → awaited_call (fold core v.seen) p ≡ last_call first
 
--- its last entry was made, and each of its places is drained
+-- its last entry was made, and each of its places is closed and drained
 pub record HasEnded (from count : ℕ) (first : Call) (v : OneView) (reply : Reply) (w : OneView) : Type 0 where
   pub wrote : List ℕ
   pub grew : Grew core v (deed_of v.number (last_call first) reply wrote ∷ []) w
   pub last : EndsWith w.seen (entry v.number (last_call first) reply)
   pub done : reply ≡ Done
+  pub closed : (p : ℕ) → from ≤ p → p < from + count → KnowsClosed w p
   pub drained : (p : ℕ) → from ≤ p → p < from + count → KnowsDrained w p
   pub legal : Legal core w.seen
   pub knows_as_much : KnowsAsMuch v w
@@ -72,9 +73,10 @@ module _ {M C R G : Type 0} (m : Ghosts M C R G) where
     pub moved : Moved m v w
     pub inside : w.inside ≡ v.inside
     pub knows_as_much : KnowsAsMuch v w
+    pub closed : (p : ℕ) → from ≤ p → p < past → KnowsClosed w p
     pub drained : (p : ℕ) → from ≤ p → p < past → KnowsDrained w p
 
--- How a removal comes out: it was made, the result is what its last reply comes to, and each place whose removal it began is drained; or
+-- How a removal comes out: it was made, the result is what its last reply comes to, and each place whose removal it began is closed and drained; or
 -- the history was full, and then, and only then, the result says so.
 abbrev pub RemovesOut : Result (Unit {0}) Errno → OneView → DeviceCall → OneView → Type 0
 RemovesOut result v call w = ((bytes : List ℕ) × (made : IsMade done_of result v call bytes w) × AllDrained made.called.did w) ⊎ ((result ≡ Err Full) × FoundNoRoom core v w)

@@ -3,14 +3,15 @@
 ghost use Rattle.std.specs.Prelude.{◌≡◌, ◌≢◌, ◌↔◌, ◌<◌, [], true, false, Err, IfOk};
 ghost use Rattle.gl_base.specs.declared.errno.Errno.TheVariants.{Full, NoDev};
 ghost use Rattle.gl_base.specs.declared.limits.TheConstants.{PLACES};
-ghost use Rattle.gl_gate.specs.Calls.{KnowsDrained};
+ghost use Rattle.gl_world.specs.Events.{DrainedStaysEmpty};
+ghost use Rattle.gl_gate.specs.Calls.{KnowsClosed, KnowsDrained};
 ghost use Rattle.gl_model.specs.declared.call.Call.TheVariants.{Live as LiveCall};
 ghost use Rattle.gl_model.specs.Parts.{Once, Removing, OfChip, OfDevice};
 ghost use Rattle.gl_chip.specs.Called.{ComesOut};
 ghost use Rattle.gl_chip.specs.Opened.{LastFinds};
 ghost use Rattle.gl_chip.specs.Removing.{RemovesOut, is_gone_outside};
 ghost use Rattle.gl_chip.specs.Results.{done_of};
-ghost use Rattle.gl_chip.specs.Values.{IsActorOf};
+ghost use Rattle.gl_chip.specs.Values.{IsActorOf, core};
 
 use crate::actor::Actor;
 use crate::gpio::Gpio;
@@ -18,11 +19,12 @@ use crate::results;
 use gl_base::{Errno, Name};
 use gl_core::{Call, Core};
 use gl_driver::Driver;
+use gl_world::drained_stays_empty;
 use std::sync::Wait;
 
 impl<D: Driver<Core>> Gpio<D> {
     /// Removes the chip of a place that is of no device of the tree, and waits until nobody is inside. From the answer Ok on
-    /// nobody is inside, and no driver call of the chip runs.
+    /// nobody is inside, whatever happens: no driver call of the chip runs, and each later guarded call there is refused.
     ///
     /// `NoEnt` where the place has no chip; `Perm` where the chip is of a device of the tree; `Busy` where it is leaving;
     /// `NoDev` where it is gone; `Full` where the history is full.
@@ -32,9 +34,12 @@ impl<D: Driver<Core>> Gpio<D> {
         ensures actor { IsActorOf self.now actor.new }
         ensures port { actor.new.port ≡ actor.old.port }
         ensures called { RemovesOut result actor.old.pass.view (Removing (OfChip place)) actor.new.pass.view }
+        ensures closed { IfOk result (λ _. KnowsClosed actor.new.pass.view place) }
         ensures drained { IfOk result (λ _. KnowsDrained actor.new.pass.view place) }
+        ensures stays_empty { DrainedStaysEmpty core }
         ensures gone { result ≢ Err Full → ((result ≡ Err NoDev) ↔ LastFinds (is_gone_outside place) actor.new.pass.view.seen) }
     {
+        drained_stays_empty::<Core>();
         let first = Call::Unplug { place, last: false };
         match self.remove_by(rt, actor, &first) {
             Ok(reply) => results::done(reply),
@@ -43,7 +48,8 @@ impl<D: Driver<Core>> Gpio<D> {
     }
 
     /// Makes the chips of a device of the tree, where `up`; else removes them, and waits until nobody is inside any of them.
-    /// From the answer Ok on nobody is inside, and no driver call of these chips runs.
+    /// From the answer Ok on nobody is inside, whatever happens: no driver call of these chips runs, and each later guarded call
+    /// there is refused.
     ///
     /// Its refusals are those of the machine's calls; `Full` where the history is full.
     pub fn live<R: Wait>(
@@ -58,7 +64,9 @@ impl<D: Driver<Core>> Gpio<D> {
         ensures port { actor.new.port ≡ actor.old.port }
         ensures made { up ≡ true → ComesOut done_of result actor.old.pass.view (Once (LiveCall device.now)) [] actor.new.pass.view }
         ensures removed { up ≡ false → RemovesOut result actor.old.pass.view (Removing (OfDevice device.now)) actor.new.pass.view }
+        ensures stays_empty { DrainedStaysEmpty core }
     {
+        drained_stays_empty::<Core>();
         if up {
             return self.done_alone(rt, actor, Call::Live { device: *device });
         }

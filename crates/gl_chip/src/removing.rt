@@ -7,7 +7,7 @@ ghost use Rattle.gl_world.specs.History.{Legal, fold};
 ghost use Rattle.gl_world.specs.Removal.{Removes};
 ghost use Rattle.gl_gate.specs.Values.{IsPassOf};
 ghost use Rattle.gl_gate.specs.Grown.{IsFree};
-ghost use Rattle.gl_gate.specs.Calls.{KnowsDrained};
+ghost use Rattle.gl_gate.specs.Calls.{KnowsClosed, KnowsDrained};
 ghost use Rattle.gl_model.specs.declared.call.Call.TheVariants.{Unplug as UnplugCall};
 ghost use Rattle.gl_model.specs.declared.reply.Reply.TheVariants.{Refused};
 ghost use Rattle.gl_model.specs.Entries.{is_done, last_call};
@@ -123,7 +123,7 @@ impl<D: Driver<Core>> Gpio<D> {
             × AllDrained called.did actor.new.pass.view) }
         ensures refused { IfOk result (λ r. is_done r ≡ false → (errno : AnErrno) × (r ≡ Refused errno)) }
         ensures drained { IfOk result (λ r. is_done r ≡ true → (place : ℕ) → first.now ≡ UnplugCall place false
-            → KnowsDrained actor.new.pass.view place) }
+            → KnowsClosed actor.new.pass.view place × KnowsDrained actor.new.pass.view place) }
         ensures gone { IfOk result (λ r. (place : ℕ) → first.now ≡ UnplugCall place false
             → ((r ≡ Refused NoDev) ↔ LastFinds (is_gone_outside place) actor.new.pass.view.seen)) }
         ensures full { IfErr result (λ e. (e ≡ Full) × FoundNoRoom core actor.old.pass.view actor.new.pass.view) }

@@ -1,6 +1,6 @@
 use Rattle.std.proofs.Common.{refl}
 use Rattle.gl_model.specs.Parts.{Removing, OfChip}
-use Rattle.gl_gate.specs.Calls.{KnowsDrained}
+use Rattle.gl_gate.specs.Calls.{KnowsClosed, KnowsDrained}
 use Rattle.gl_chip.specs.Opened.{LastFinds}
 use Rattle.gl_chip.specs.Removing.{is_gone_outside}
 use Rattle.gl_chip.proofs.GoneChips.{gone_is_told}
@@ -11,7 +11,10 @@ pub returns-in-Ok-clause-called : goal.returns-in-Ok-clause-called
 returns-in-Ok-clause-called g c = removes_out c.done.result c.args.actor.now.pass.view c.remove_by.new.actor.pass.view (Removing (OfChip c.args.place)) c.in-Ok.reply c.done.ensures c.in-Ok.ensures.called
 
 pub returns-in-Ok-clause-drained : goal.returns-in-Ok-clause-drained
-returns-in-Ok-clause-drained g c = ok_is_done c.in-Ok.reply c.done.result (KnowsDrained c.remove_by.new.actor.pass.view c.args.place) c.done.ensures c.in-Ok.ensures.refused (λ d. c.in-Ok.ensures.drained d c.args.place refl)
+returns-in-Ok-clause-drained g c = ok_is_done c.in-Ok.reply c.done.result (KnowsDrained c.remove_by.new.actor.pass.view c.args.place) c.done.ensures c.in-Ok.ensures.refused (λ d. (c.in-Ok.ensures.drained d c.args.place refl).1)
+
+pub returns-in-Ok-clause-closed : goal.returns-in-Ok-clause-closed
+returns-in-Ok-clause-closed g c = ok_is_done c.in-Ok.reply c.done.result (KnowsClosed c.remove_by.new.actor.pass.view c.args.place) c.done.ensures c.in-Ok.ensures.refused (λ d. (c.in-Ok.ensures.drained d c.args.place refl).0)
 
 pub returns-in-Ok-clause-gone : goal.returns-in-Ok-clause-gone
 returns-in-Ok-clause-gone g c = λ not_full. gone_is_told c.in-Ok.reply c.done.result (LastFinds (is_gone_outside c.args.place) c.remove_by.new.actor.pass.view.seen) c.done.ensures (c.in-Ok.ensures.gone c.args.place refl)
