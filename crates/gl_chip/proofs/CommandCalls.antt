@@ -8,7 +8,7 @@ use Rattle.gl_base.specs.Planned.{planned_answer}
 use Rattle.gl_base.specs.declared.errno.Errno.{Errno}
 use Rattle.gl_base.specs.declared.errno.Errno.TheVariants.{Full, Io, NoDev}
 use Rattle.gl_driver.specs.Calls.{FitsOp}
-use Rattle.gl_driver.specs.Told.{Told, with_call}
+use Rattle.gl_driver.specs.Told.{Told, faults_after, with_call}
 use Rattle.gl_driver.specs.declared.op.Op.{Op}
 use Rattle.gl_uapi.specs.Command.{command_of}
 use Rattle.gl_uapi.specs.declared.commands.Command.{Command}
@@ -199,9 +199,9 @@ module _ {P : Type 0} (told : P → Option Told) (faults : P → ℕ) (Own : P �
   -- it was asked, and the machine told
   pub asked_and_told : (op : Option Op) (asked_for : Op) (v w u x : OneView) (p q : P) (c : CommandIn) (first : Reply) (answer : Option ℕ) (own : List OneEntry) (did : List OneDeed) (reply : Reply) (old mid new : List ℕ)
       → CalledOnce core v (in_ask c) first old mid w → is_go first ≡ true → op ≡ Some asked_for → FitsOp asked_for → Own p c.place asked_for own → MayOwn own → Drove core limit w own did u → CalledOnce core u (in_tell answer c) reply mid new x
-      → told q ≡ with_call asked_for answer (told p) → faults p ≤ faults q → (answer ≡ None → Rises (faults p) (faults q)) → (planned ≡ true → IfSome (told p) (λ t. answer ≡ planned_answer t.plan (counted_up t.calls)))
+      → told q ≡ with_call asked_for answer (told p) → faults p ≤ faults q → (answer ≡ None → Rises (faults p) (faults q)) → faults q ≡ faults_after answer (faults p) → (planned ≡ true → IfSome (told p) (λ t. answer ≡ planned_answer t.plan (counted_up t.calls)))
       → CommandedInside told faults Own limit planned op v p c reply old new x q
-  asked_and_told op asked_for v w u x p q c first answer own did reply old mid new step go this fits its may drove last told_then never counted plan =
+  asked_and_told op asked_for v w u x p q c first answer own did reply old mid new step go this fits its may drove last told_then never counted after plan =
       let number : u.number ≡ v.number = drove.grew.number ∙ step.grew.number in
       let second : OneEntry = entry v.number (in_tell answer c) reply in
       let told_deed : OneDeed = deed_of v.number (in_tell answer c) reply last.wrote in
@@ -231,7 +231,7 @@ module _ {P : Type 0} (told : P → Option Told) (faults : P → ℕ) (Own : P �
         legal = last.legal;
         reply_is = ap (λ l. last_reply (entry v.number (in_ask c) first ∷ l)) entries ∙ last_reply_snoc (entry v.number (in_ask c) first ∷ own) second;
         bytes = subst (λ (l : List ℕ). new ≡ l ++ drop (length l) old) (sym (last_bytes_snoc (ask_deed ∷ did) told_deed)) (subst (λ (m : List ℕ). new ≡ last.wrote ++ drop (length last.wrote) m) (go_left_buffer v w c first old mid step go) last.bytes);
-        port = subst (λ b. PortAfter told faults Own limit planned b op c.place answer own p q) (sym go) record { asked_for = asked_for; is_this = this; told_then = told_then; own_entries = its; counted = counted; as_planned = plan };
+        port = subst (λ b. PortAfter told faults Own limit planned b op c.place answer own p q) (sym go) record { asked_for = asked_for; is_this = this; told_then = told_then; own_entries = its; counted = counted; as_planned = plan; count_after = after };
         never_falls = never;
         io = λ is. io_told (Rises (faults p) (faults q)) answer (fold core ends.0) c.place c.fd (command_of c.cmd) c.bytes counted
             (io_has_cause (fold core ends.0) v.number c.place c.fd c.cmd c.len c.bytes (Tell answer) (sym answered ∙ is));

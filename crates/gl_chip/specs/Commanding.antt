@@ -12,7 +12,7 @@ use Rattle.gl_base.specs.declared.limits.TheConstants.{LINES_PER_REQUEST}
 use Rattle.gl_base.specs.declared.lines.Lines.{Lines}
 use Rattle.gl_base.specs.declared.settings.Resolved.{Resolved}
 use Rattle.gl_driver.specs.Calls.{FitsOp}
-use Rattle.gl_driver.specs.Told.{Told, with_call}
+use Rattle.gl_driver.specs.Told.{Told, faults_after, with_call}
 use Rattle.gl_driver.specs.declared.op.Op.{Op}
 use Rattle.gl_driver.specs.declared.op.Op.TheVariants.{Get, Set, Apply}
 use Rattle.gl_uapi.specs.Command.{command_of, size_of}
@@ -110,7 +110,8 @@ IsOpAfterGo call op = (w : World) (actor n : ℕ) → reply_of w actor call ≡ 
 -- call, how many at most, and whether its answers are planned.
 module _ {P : Type 0} (told : P → Option Told) (faults : P → ℕ) (Own : P → ℕ → Op → List OneEntry → Type 0) (limit : ℕ) (planned : Bool) where
   -- The driver was asked once, through this port: for just that operation, and it answered so. It made these entries of its own.
-  -- Where it failed, the port has counted that. A planned driver fails just where the port's plan says.
+  -- Where it failed, the port has counted that, and nothing else changes its count. A planned driver fails just where the port's plan
+  -- says.
   pub record WasAsked (op : Option Op) (place : ℕ) (answer : Option ℕ) (own : List OneEntry) (p q : P) : Type 0 where
     pub asked_for : Op
     pub is_this : op ≡ Some asked_for
@@ -118,6 +119,7 @@ module _ {P : Type 0} (told : P → Option Told) (faults : P → ℕ) (Own : P �
     pub own_entries : Own p place asked_for own
     pub counted : answer ≡ None → Rises (faults p) (faults q)
     pub as_planned : planned ≡ true → IfSome (told p) (λ t. answer ≡ planned_answer t.plan (counted_up t.calls))
+    pub count_after : faults q ≡ faults_after answer (faults p)
 
   -- the port after a command that asked the driver, or didn't
   abbrev pub PortAfter : Bool → Option Op → ℕ → Option ℕ → List OneEntry → P → P → Type 0

@@ -11,7 +11,7 @@ ghost use Rattle.gl_world.specs.Removal.{AllQuiet};
 ghost use Rattle.gl_gate.specs.Values.{IsPassOf};
 ghost use Rattle.gl_gate.specs.Calls.{IsInside, MayName};
 ghost use Rattle.gl_driver.specs.Calls.{FitsOp};
-ghost use Rattle.gl_driver.specs.Told.{with_call};
+ghost use Rattle.gl_driver.specs.Told.{faults_after, with_call};
 ghost use Rattle.gl_chip.specs.Steps.{CalledOnce, Drove, IsAsk, IsTell, Owes, StoodFull};
 
 use gl_base::Errno;
@@ -70,6 +70,7 @@ pub(crate) fn drive<M: Machine, D: Driver<M>, R: Wait>(
     ensures drove { (own : List (Entry M M.Call M.Reply M.Gift)) × (did : List (Deed M M.Call M.Reply M.Gift))
         × D.OwnEntries port.old place op.now own × Drove M.Machine D.ENTRIES pass.old.view own did pass.new.view }
     ensures told { D.Port.told port.new ≡ with_call op.now result (D.Port.told port.old) }
+    ensures counted { D.Port.faults port.new ≡ faults_after result (D.Port.faults port.old) }
     ensures never_falls { D.Port.faults port.old ≤ D.Port.faults port.new }
     ensures fault { result ≡ None → Rises (D.Port.faults port.old) (D.Port.faults port.new) }
     ensures planned { D.is_planned ≡ true

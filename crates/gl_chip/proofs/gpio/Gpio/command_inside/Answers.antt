@@ -37,4 +37,4 @@ returns-else-not-is_go-clause-called g c =
     let d = c.drive-answer.ensures.drove in
     asked_and_told g.D.Port.Port.told g.D.Port.Port.faults g.D.Driver.OwnEntries g.D.Driver.ENTRIES g.D.Driver.is_planned c.args.op.now c.the_op.result.now c.args.pass.now.view c.ask.new.pass.view c.drive-answer.new.pass.view c.tell.new.pass.view
     c.args.port.now c.drive-answer.new.port (command_in c.args.file.place c.args.file.fd c.args.file.of_chip c.args.cmd c.args.out.now) c.in-Ok.reply c.drive-answer.result d.0 d.1 c.tell.result c.args.out.now c.ask.new.out c.tell.new.out
-    asked (sym c.if-not-is_go.ensures) c.the_op.ensures.this c.the_op.ensures.fits d.2 (c.self.invariant.1 _ _ _ d.0 d.2) d.3 told c.drive-answer.ensures.told c.drive-answer.ensures.never_falls c.drive-answer.ensures.fault c.drive-answer.ensures.planned
+    asked (sym c.if-not-is_go.ensures) c.the_op.ensures.this c.the_op.ensures.fits d.2 (c.self.invariant.1 _ _ _ d.0 d.2) d.3 told c.drive-answer.ensures.told c.drive-answer.ensures.never_falls c.drive-answer.ensures.fault c.drive-answer.ensures.counted c.drive-answer.ensures.planned
