@@ -1,6 +1,7 @@
 pub mod GateSteps
 pub mod RemovalSteps
 pub mod Idle
+pub mod SameActors
 pub mod WholeCalls
 pub mod RemovalCalls
 pub mod HandedBytes

@@ -5,8 +5,10 @@ use Rattle.gl_world.specs.declared.machine.Machine.{Ghosts}
 use Rattle.gl_world.specs.declared.history.Entry.{Entry}
 use Rattle.gl_world.specs.Deeds.{Deed}
 use Rattle.gl_world.specs.Removal.{AllQuiet}
+use Rattle.gl_world.specs.History.{StartsWith}
 use Rattle.gl_rule.specs.declared.view.View.{View}
 use Rattle.gl_gate.specs.Values.{GateValue, PassValue, IsPassOf}
+use Rattle.gl_gate.specs.Calls.{KnowsAsMuch}
 use Rattle.gl_gate.specs.Grown.{IsFree}
 use Rattle.gl_driver.specs.declared.op.Op.{Op}
 use Rattle.gl_model.specs.declared.call.Call.{Call}
@@ -39,6 +41,16 @@ pub record ActorValue (P : Type 0) : Type 0 where
 -- the actor is one of this device
 abbrev pub IsActorOf : {P : Type 0} → GateValue → ActorValue P → Type 0
 IsActorOf gate actor = IsPassOf gate actor.pass
+
+-- The same actor after a call: it has made and taken in no other actor, what it has seen has grown, and it knows of places what it
+-- knew, and perhaps more.
+pub record IsSameActor (v w : OneView) : Type 0 where
+  pub number : w.number ≡ v.number
+  pub room : w.room ≡ v.room
+  pub made : w.made ≡ v.made
+  pub joined : w.joined ≡ v.joined
+  pub seen : StartsWith w.seen v.seen
+  pub knows_as_much : KnowsAsMuch v w
 
 -- An actor between two calls: it is inside no place, owes no second entry, and removes nothing; and its entries are those of
 -- whole calls of the device, one after another.

@@ -27,17 +27,20 @@ impl<D: Driver<Core>> Model for Actor<D> {
 impl<D: Driver<Core>> Actor<D> {
     ghost use Rattle.std.specs.Prelude.{◌≡◌};
     ghost use Rattle.gl_world.specs.History.{Legal};
+    ghost use Rattle.gl_rule.specs.Turn.{NoStrangers};
     ghost use Rattle.gl_gate.specs.Calls.{HasItsOwn};
     ghost use Rattle.gl_driver.specs.Told.{with_plan};
     ghost use Rattle.gl_chip.specs.Values.{IsIdle, core};
 
     /// The number of the actor: that of its entries. The first actor of a device has 0.
     ///
-    /// What it has seen of the history is legal, and has just its own entries with its number.
+    /// What it has seen of the history is legal, and has just its own entries with its number. The first actor has seen no entry of
+    /// a number that no actor was made with, so all that it has seen is its own where it is the only one.
     pub fn number(&self) -> u8
         ensures number { result ≡ self.now.pass.view.number }
         ensures own { HasItsOwn self.now.pass.view }
         ensures legal { Legal core self.now.pass.view.seen }
+        ensures strangers { NoStrangers self.now.pass.view self.now.pass.view.seen }
         ensures idle { IsIdle self.now.pass.view }
     {
         self.pass.number()

@@ -9,7 +9,7 @@ ghost use Rattle.gl_model.specs.Replies.{has_form};
 ghost use Rattle.gl_model.specs.Step.{guard_reply};
 ghost use Rattle.gl_chip.specs.Called.{ComesOut};
 ghost use Rattle.gl_chip.specs.Results.{done_of, level_of, ready_of};
-ghost use Rattle.gl_chip.specs.Values.{IsActorOf};
+ghost use Rattle.gl_chip.specs.Values.{IsActorOf, IsSameActor};
 
 use crate::actor::Actor;
 use crate::gpio::Gpio;
@@ -33,6 +33,7 @@ impl<D: Driver<Core>> Gpio<D> {
         requires no_guard { guarded_place call ≡ None }
         requires fits { Fits call (record { ring = None; queue = None }) [] }
         ensures actor { IsActorOf self.now actor.new }
+        ensures same { IsSameActor actor.old.pass.view actor.new.pass.view }
         ensures port { actor.new.port ≡ actor.old.port }
         ensures called { ComesOut done_of result actor.old.pass.view (Once call) [] actor.new.pass.view }
     {
@@ -59,6 +60,7 @@ impl<D: Driver<Core>> Gpio<D> {
         requires tells { has_form call (guard_reply false) ≡ false }
         requires fits { Fits call (record { ring = None; queue = None }) [] }
         ensures actor { IsActorOf self.now actor.new }
+        ensures same { IsSameActor actor.old.pass.view actor.new.pass.view }
         ensures port { actor.new.port ≡ actor.old.port }
         ensures called { ComesOut done_of result actor.old.pass.view (Once call) [] actor.new.pass.view }
     {

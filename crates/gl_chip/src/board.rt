@@ -7,7 +7,7 @@ ghost use Rattle.gl_model.specs.Fits.{IsSomePlace};
 ghost use Rattle.gl_model.specs.Parts.{Once};
 ghost use Rattle.gl_chip.specs.Called.{ComesOut};
 ghost use Rattle.gl_chip.specs.Results.{done_of, found_of, number_of};
-ghost use Rattle.gl_chip.specs.Values.{IsActorOf};
+ghost use Rattle.gl_chip.specs.Values.{IsActorOf, IsSameActor};
 
 use crate::actor::Actor;
 use crate::gpio::Gpio;
@@ -34,6 +34,7 @@ impl<D: Driver<Core>> Gpio<D> {
         requires some_lines { 1 ≤ lines }
         requires few_lines { lines ≤ LINES_MAX }
         ensures actor { IsActorOf self.now actor.new }
+        ensures same { IsSameActor actor.old.pass.view actor.new.pass.view }
         ensures port { actor.new.port ≡ actor.old.port }
         ensures called { ComesOut number_of result actor.old.pass.view (Once (ProbeCall label lines kind)) [] actor.new.pass.view }
     {
@@ -46,7 +47,7 @@ impl<D: Driver<Core>> Gpio<D> {
 
     /// Sets the monotonic and the real clock, in nanoseconds, and fires the deadlines that have come.
     ///
-    /// `Inval` where the monotonic clock is below the present one, or 2^63 or more. `Full` where the history is full.
+    /// `Inval` where the monotonic clock is below the present one, or one of them is 2^63 or more. `Full` where the history is full.
     pub fn tick<R: Wait>(
         &self,
         rt: &R,
@@ -56,6 +57,7 @@ impl<D: Driver<Core>> Gpio<D> {
     ) -> Result<(), Errno>
         requires actor { IsActorOf self.now actor.old }
         ensures actor { IsActorOf self.now actor.new }
+        ensures same { IsSameActor actor.old.pass.view actor.new.pass.view }
         ensures port { actor.new.port ≡ actor.old.port }
         ensures called { ComesOut done_of result actor.old.pass.view (Once (TickCall mono real)) [] actor.new.pass.view }
     {
@@ -76,6 +78,7 @@ impl<D: Driver<Core>> Gpio<D> {
         requires actor { IsActorOf self.now actor.old }
         requires place { IsSomePlace place }
         ensures actor { IsActorOf self.now actor.new }
+        ensures same { IsSameActor actor.old.pass.view actor.new.pass.view }
         ensures port { actor.new.port ≡ actor.old.port }
         ensures called { ComesOut found_of result actor.old.pass.view (Once (FindCall place name.now)) [] actor.new.pass.view }
     {

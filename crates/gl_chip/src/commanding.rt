@@ -14,7 +14,7 @@ ghost use Rattle.gl_model.specs.Parts.{in_ask, is_driver_asked};
 ghost use Rattle.gl_chip.specs.Commanding.{CommandedInside, IsOp, IsOpAfterGo, HasCommanded};
 ghost use Rattle.gl_chip.specs.Handed.{command_in};
 ghost use Rattle.gl_chip.specs.Steps.{FoundNoRoom, Owes, StoodFull};
-ghost use Rattle.gl_chip.specs.Values.{IsActorOf, core};
+ghost use Rattle.gl_chip.specs.Values.{IsActorOf, IsSameActor, core};
 
 use crate::actor::Actor;
 use crate::commands::OpenFile;
@@ -125,6 +125,7 @@ impl<D: Driver<Core>> Gpio<D> {
         requires brings { FitsGift (in_ask (command_in file.place file.fd file.of_chip cmd out.old)) gift.old }
         requires op { IsOpAfterGo (in_ask (command_in file.place file.fd file.of_chip cmd out.old)) op.now }
         ensures actor { IsActorOf self.now actor.new }
+        ensures same { IsSameActor actor.old.pass.view actor.new.pass.view }
         ensures commanded { IfOk result (λ r. (bytes : List ℕ) × (out.new ≡ bytes ++ drop (length bytes) out.old)
             × HasCommanded D.Port.told D.Port.faults D.OwnEntries D.ENTRIES D.is_planned op.now
             actor.old (command_in file.place file.fd file.of_chip cmd out.old) r bytes actor.new) }

@@ -13,7 +13,7 @@ ghost use Rattle.gl_chip.specs.Called.{ComesOut, HasCalled};
 ghost use Rattle.gl_chip.specs.Handed.{command_in};
 ghost use Rattle.gl_chip.specs.Results.{done_of};
 ghost use Rattle.gl_chip.specs.Steps.{FoundNoRoom};
-ghost use Rattle.gl_chip.specs.Values.{IsActorOf, core};
+ghost use Rattle.gl_chip.specs.Values.{IsActorOf, IsSameActor, core};
 
 use crate::actor::Actor;
 use crate::gpio::Gpio;
@@ -87,6 +87,7 @@ impl<D: Driver<Core>> Gpio<D> {
         requires length { length out.old < 2 ^ 32 }
         requires not_asked { is_driver_asked file.of_chip (length out.old) (command_of cmd) ≡ false }
         ensures actor { IsActorOf self.now actor.new }
+        ensures same { IsSameActor actor.old.pass.view actor.new.pass.view }
         ensures port { actor.new.port ≡ actor.old.port }
         ensures called { IfOk result (λ r. (bytes : List ℕ) × (out.new ≡ bytes ++ drop (length bytes) out.old)
             × HasCalled 0 actor.old.pass.view (Commanding (command_in file.place file.fd file.of_chip cmd out.old)) r bytes actor.new.pass.view) }
@@ -133,6 +134,7 @@ impl<D: Driver<Core>> Gpio<D> {
         requires length { length out.old < 2 ^ 32 }
         requires not_asked { is_driver_asked file.of_chip (length out.old) (command_of cmd) ≡ false }
         ensures actor { IsActorOf self.now actor.new }
+        ensures same { IsSameActor actor.old.pass.view actor.new.pass.view }
         ensures port { actor.new.port ≡ actor.old.port }
         ensures called { (bytes : List ℕ) × (out.new ≡ bytes ++ drop (length bytes) out.old)
             × ComesOut done_of result actor.old.pass.view (Commanding (command_in file.place file.fd file.of_chip cmd out.old)) bytes actor.new.pass.view }

@@ -12,7 +12,7 @@ ghost use Rattle.gl_model.specs.Written.{bytes_written};
 ghost use Rattle.gl_model.specs.Step.{guard_reply};
 ghost use Rattle.gl_chip.specs.Called.{HasCalled};
 ghost use Rattle.gl_chip.specs.Steps.{FoundNoRoom};
-ghost use Rattle.gl_chip.specs.Values.{IsActorOf, core};
+ghost use Rattle.gl_chip.specs.Values.{IsActorOf, IsSameActor, core};
 
 use crate::actor::Actor;
 use crate::gpio::Gpio;
@@ -47,6 +47,7 @@ impl<D: Driver<Core>> Gpio<D> {
         requires no_guard { guarded_place call ≡ None }
         requires fits { Fits call gift.old [] }
         ensures actor { IsActorOf self.now actor.new }
+        ensures same { IsSameActor actor.old.pass.view actor.new.pass.view }
         ensures port { actor.new.port ≡ actor.old.port }
         ensures called { IfOk result (λ r. HasCalled 0 actor.old.pass.view (Once call) r [] actor.new.pass.view) }
         ensures form { IfOk result (λ r. has_form call r ≡ true) }
@@ -75,6 +76,7 @@ impl<D: Driver<Core>> Gpio<D> {
         requires tells { has_form call (guard_reply poll) ≡ false }
         requires fits { Fits call (record { ring = None; queue = None }) out.old }
         ensures actor { IsActorOf self.now actor.new }
+        ensures same { IsSameActor actor.old.pass.view actor.new.pass.view }
         ensures port { actor.new.port ≡ actor.old.port }
         ensures called { IfOk result (λ r. (bytes : List ℕ) × (out.new ≡ bytes ++ drop (length bytes) out.old)
             × HasCalled 0 actor.old.pass.view (Once call) r bytes actor.new.pass.view) }

@@ -9,7 +9,7 @@ ghost use Rattle.gl_model.specs.Entries.{is_get_line};
 ghost use Rattle.gl_chip.specs.Commanding.{CommandsOut, TakesMemory, op_for, requested_of};
 ghost use Rattle.gl_chip.specs.Handed.{command_in};
 ghost use Rattle.gl_chip.specs.Results.{done_of};
-ghost use Rattle.gl_chip.specs.Values.{IsActorOf};
+ghost use Rattle.gl_chip.specs.Values.{IsActorOf, IsSameActor};
 
 use crate::actor::Actor;
 use crate::asking::{line_op, lines_named};
@@ -49,6 +49,7 @@ impl<D: Driver<Core>> Gpio<D> {
         requires actor { IsActorOf self.now actor.old }
         requires length { length buf.old < 2 ^ 32 }
         ensures actor { IsActorOf self.now actor.new }
+        ensures same { IsSameActor actor.old.pass.view actor.new.pass.view }
         ensures memory { result ≡ Err NoMemory → TakesMemory (command_in fd.now.place fd.now.fd true cmd buf.old) × (actor.new ≡ actor.old) × (buf.new ≡ buf.old) }
         ensures called { result ≢ Err NoMemory → let c = command_in fd.now.place fd.now.fd true cmd buf.old in
             let lines = lines_asked (take LINE_REQUEST_SIZE c.bytes) in
@@ -92,6 +93,7 @@ impl<D: Driver<Core>> Gpio<D> {
         requires actor { IsActorOf self.now actor.old }
         requires length { length buf.old < 2 ^ 32 }
         ensures actor { IsActorOf self.now actor.new }
+        ensures same { IsSameActor actor.old.pass.view actor.new.pass.view }
         ensures called { let c = command_in fd.now.place fd.now.fd false cmd buf.old in
             (bytes : List ℕ) × (buf.new ≡ bytes ++ drop (length bytes) buf.old)
             × CommandsOut D.Port.told D.Port.faults D.OwnEntries D.ENTRIES D.is_planned

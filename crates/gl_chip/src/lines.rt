@@ -6,7 +6,7 @@ ghost use Rattle.gl_model.specs.declared.call.Call.TheVariants.{Interrupt, Irq a
 ghost use Rattle.gl_model.specs.Parts.{Once};
 ghost use Rattle.gl_chip.specs.Called.{ComesOut};
 ghost use Rattle.gl_chip.specs.Results.{done_of, level_of};
-ghost use Rattle.gl_chip.specs.Values.{IsActorOf};
+ghost use Rattle.gl_chip.specs.Values.{IsActorOf, IsSameActor};
 
 use crate::actor::Actor;
 use crate::gpio::Gpio;
@@ -19,8 +19,8 @@ use std::sync::Wait;
 impl<D: Driver<Core>> Gpio<D> {
     /// Pulls a line of a simulated chip up or down.
     ///
-    /// `NoEnt` where the place has no chip; `Inval` where the offset is past its lines or the chip is remote; `NoDev` where its
-    /// removal had closed the place; `Full` where the history is full.
+    /// `NoDev` where the removal of its chip had closed the place; `NoEnt` where the place has no chip; `Inval` where the offset is
+    /// at or past the number of its lines, or the chip is remote; `Full` where the history is full.
     pub fn set_pull<R: Wait>(
         &self,
         rt: &R,
@@ -32,6 +32,7 @@ impl<D: Driver<Core>> Gpio<D> {
         requires actor { IsActorOf self.now actor.old }
         requires place { place < PLACES }
         ensures actor { IsActorOf self.now actor.new }
+        ensures same { IsSameActor actor.old.pass.view actor.new.pass.view }
         ensures port { actor.new.port ≡ actor.old.port }
         ensures called { ComesOut done_of result actor.old.pass.view (Once (PullCall place offset up)) [] actor.new.pass.view }
     {
@@ -40,8 +41,8 @@ impl<D: Driver<Core>> Gpio<D> {
 
     /// The physical level of a line of a simulated chip: true for high.
     ///
-    /// `NoEnt` where the place has no chip; `Inval` where the offset is past its lines or the chip is remote; `NoDev` where its
-    /// removal had closed the place; `Full` where the history is full.
+    /// `NoDev` where the removal of its chip had closed the place; `NoEnt` where the place has no chip; `Inval` where the offset is
+    /// at or past the number of its lines, or the chip is remote; `Full` where the history is full.
     pub fn level<R: Wait>(
         &self,
         rt: &R,
@@ -52,6 +53,7 @@ impl<D: Driver<Core>> Gpio<D> {
         requires actor { IsActorOf self.now actor.old }
         requires place { place < PLACES }
         ensures actor { IsActorOf self.now actor.new }
+        ensures same { IsSameActor actor.old.pass.view actor.new.pass.view }
         ensures port { actor.new.port ≡ actor.old.port }
         ensures called { ComesOut level_of result actor.old.pass.view (Once (LevelCall place offset false)) [] actor.new.pass.view }
     {
@@ -60,8 +62,8 @@ impl<D: Driver<Core>> Gpio<D> {
 
     /// The pull of a line of a simulated chip: true for up.
     ///
-    /// `NoEnt` where the place has no chip; `Inval` where the offset is past its lines or the chip is remote; `NoDev` where its
-    /// removal had closed the place; `Full` where the history is full.
+    /// `NoDev` where the removal of its chip had closed the place; `NoEnt` where the place has no chip; `Inval` where the offset is
+    /// at or past the number of its lines, or the chip is remote; `Full` where the history is full.
     pub fn pull<R: Wait>(
         &self,
         rt: &R,
@@ -72,6 +74,7 @@ impl<D: Driver<Core>> Gpio<D> {
         requires actor { IsActorOf self.now actor.old }
         requires place { place < PLACES }
         ensures actor { IsActorOf self.now actor.new }
+        ensures same { IsSameActor actor.old.pass.view actor.new.pass.view }
         ensures port { actor.new.port ≡ actor.old.port }
         ensures called { ComesOut level_of result actor.old.pass.view (Once (LevelCall place offset true)) [] actor.new.pass.view }
     {
@@ -90,6 +93,7 @@ impl<D: Driver<Core>> Gpio<D> {
         requires actor { IsActorOf self.now actor.old }
         requires place { place < PLACES }
         ensures actor { IsActorOf self.now actor.new }
+        ensures same { IsSameActor actor.old.pass.view actor.new.pass.view }
         ensures port { actor.new.port ≡ actor.old.port }
         ensures called { ComesOut level_of result actor.old.pass.view (Once (LevelCall place offset pull)) [] actor.new.pass.view }
     {
@@ -106,8 +110,8 @@ impl<D: Driver<Core>> Gpio<D> {
 
     /// An interrupt of a remote chip tells the level of a line.
     ///
-    /// `NoEnt` where the place has no chip; `Inval` where the offset is past its lines or the chip is simulated; `NoDev` where
-    /// its removal had closed the place; `Full` where the history is full.
+    /// `NoDev` where the removal of its chip had closed the place; `NoEnt` where the place has no chip; `Inval` where the offset is
+    /// at or past the number of its lines, or the chip is simulated; `Full` where the history is full.
     pub fn interrupt<R: Wait>(
         &self,
         rt: &R,
@@ -119,14 +123,15 @@ impl<D: Driver<Core>> Gpio<D> {
         requires actor { IsActorOf self.now actor.old }
         requires place { place < PLACES }
         ensures actor { IsActorOf self.now actor.new }
+        ensures same { IsSameActor actor.old.pass.view actor.new.pass.view }
         ensures port { actor.new.port ≡ actor.old.port }
         ensures called { ComesOut done_of result actor.old.pass.view (Once (Interrupt place offset up)) [] actor.new.pass.view }
     {
         self.done_behind_guard(rt, actor, place, Call::Interrupt { place, offset, up })
     }
 
-    /// Does something with the pins of a chip. Its refusals are those of the machine's call; `NoDev` where a removal had closed
-    /// the place; `Full` where the history is full.
+    /// Does something with the pins of a chip. `NoDev` where a removal had closed the place; then its refusals are those of the
+    /// machine's call; `Full` where the history is full.
     pub fn pin<R: Wait>(
         &self,
         rt: &R,
@@ -137,14 +142,15 @@ impl<D: Driver<Core>> Gpio<D> {
         requires actor { IsActorOf self.now actor.old }
         requires place { place < PLACES }
         ensures actor { IsActorOf self.now actor.new }
+        ensures same { IsSameActor actor.old.pass.view actor.new.pass.view }
         ensures port { actor.new.port ≡ actor.old.port }
         ensures called { ComesOut done_of result actor.old.pass.view (Once (PinCall place what)) [] actor.new.pass.view }
     {
         self.done_behind_guard(rt, actor, place, Call::Pin { place, what })
     }
 
-    /// Does something with the interrupt of a line. Its refusals are those of the machine's call; `NoDev` where a removal had
-    /// closed the place; `Full` where the history is full.
+    /// Does something with the interrupt of a line. `NoDev` where a removal had closed the place; then its refusals are those of
+    /// the machine's call; `Full` where the history is full.
     pub fn irq<R: Wait>(
         &self,
         rt: &R,
@@ -156,6 +162,7 @@ impl<D: Driver<Core>> Gpio<D> {
         requires actor { IsActorOf self.now actor.old }
         requires place { place < PLACES }
         ensures actor { IsActorOf self.now actor.new }
+        ensures same { IsSameActor actor.old.pass.view actor.new.pass.view }
         ensures port { actor.new.port ≡ actor.old.port }
         ensures called { ComesOut done_of result actor.old.pass.view (Once (IrqCall place offset what)) [] actor.new.pass.view }
     {

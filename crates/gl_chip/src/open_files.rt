@@ -6,7 +6,7 @@ ghost use Rattle.gl_model.specs.Parts.{Once};
 ghost use Rattle.gl_chip.specs.Called.{ComesOut};
 ghost use Rattle.gl_chip.specs.Files.{close_result};
 ghost use Rattle.gl_chip.specs.Results.{done_of, number_of, ready_of};
-ghost use Rattle.gl_chip.specs.Values.{IsActorOf};
+ghost use Rattle.gl_chip.specs.Values.{IsActorOf, IsSameActor};
 
 use crate::actor::Actor;
 use crate::files::{ChipFd, LineFd};
@@ -25,6 +25,7 @@ impl<D: Driver<Core>> Gpio<D> {
     pub fn poll_chip<R: Wait>(&self, rt: &R, actor: &mut Actor<D>, fd: &ChipFd) -> Result<u8, Errno>
         requires actor { IsActorOf self.now actor.old }
         ensures actor { IsActorOf self.now actor.new }
+        ensures same { IsSameActor actor.old.pass.view actor.new.pass.view }
         ensures port { actor.new.port ≡ actor.old.port }
         ensures called { ComesOut ready_of result actor.old.pass.view (Once (PollChipCall fd.now.place fd.now.fd)) [] actor.new.pass.view }
     {
@@ -50,6 +51,7 @@ impl<D: Driver<Core>> Gpio<D> {
     pub fn poll_line<R: Wait>(&self, rt: &R, actor: &mut Actor<D>, fd: &LineFd) -> Result<u8, Errno>
         requires actor { IsActorOf self.now actor.old }
         ensures actor { IsActorOf self.now actor.new }
+        ensures same { IsSameActor actor.old.pass.view actor.new.pass.view }
         ensures port { actor.new.port ≡ actor.old.port }
         ensures called { ComesOut ready_of result actor.old.pass.view (Once (PollLineCall fd.now.place fd.now.fd)) [] actor.new.pass.view }
     {
@@ -81,6 +83,7 @@ impl<D: Driver<Core>> Gpio<D> {
         requires actor { IsActorOf self.now actor.old }
         requires length { length buf.old < 2 ^ 32 }
         ensures actor { IsActorOf self.now actor.new }
+        ensures same { IsSameActor actor.old.pass.view actor.new.pass.view }
         ensures port { actor.new.port ≡ actor.old.port }
         ensures called { (bytes : List ℕ) × (buf.new ≡ bytes ++ drop (length bytes) buf.old)
             × ComesOut number_of result actor.old.pass.view (Once (ReadInfo fd.now.place fd.now.fd (length buf.old))) bytes actor.new.pass.view }
@@ -114,6 +117,7 @@ impl<D: Driver<Core>> Gpio<D> {
         requires actor { IsActorOf self.now actor.old }
         requires length { length buf.old < 2 ^ 32 }
         ensures actor { IsActorOf self.now actor.new }
+        ensures same { IsSameActor actor.old.pass.view actor.new.pass.view }
         ensures port { actor.new.port ≡ actor.old.port }
         ensures called { (bytes : List ℕ) × (buf.new ≡ bytes ++ drop (length bytes) buf.old)
             × ComesOut number_of result actor.old.pass.view (Once (ReadEdges fd.now.place fd.now.fd (length buf.old))) bytes actor.new.pass.view }
@@ -144,6 +148,7 @@ impl<D: Driver<Core>> Gpio<D> {
     ) -> Result<(), (ChipFd, Errno)>
         requires actor { IsActorOf self.now actor.old }
         ensures actor { IsActorOf self.now actor.new }
+        ensures same { IsSameActor actor.old.pass.view actor.new.pass.view }
         ensures port { actor.new.port ≡ actor.old.port }
         ensures called { ComesOut done_of (close_result result) actor.old.pass.view (Once (Close fd.fd)) [] actor.new.pass.view }
         ensures file { IfErr result (λ refused. refused.0 ≡ fd) }
@@ -165,6 +170,7 @@ impl<D: Driver<Core>> Gpio<D> {
     ) -> Result<(), (LineFd, Errno)>
         requires actor { IsActorOf self.now actor.old }
         ensures actor { IsActorOf self.now actor.new }
+        ensures same { IsSameActor actor.old.pass.view actor.new.pass.view }
         ensures port { actor.new.port ≡ actor.old.port }
         ensures called { ComesOut done_of (close_result result) actor.old.pass.view (Once (Close fd.fd)) [] actor.new.pass.view }
         ensures file { IfErr result (λ refused. refused.0 ≡ fd) }

@@ -10,7 +10,7 @@ ghost use Rattle.gl_model.specs.Parts.{Once};
 ghost use Rattle.gl_model.specs.Written.{number_answered};
 ghost use Rattle.gl_chip.specs.Called.{ComesOut};
 ghost use Rattle.gl_chip.specs.Opened.{LastFinds, names_leaving, opened_of, place_named};
-ghost use Rattle.gl_chip.specs.Values.{IsActorOf};
+ghost use Rattle.gl_chip.specs.Values.{IsActorOf, IsSameActor};
 
 use crate::actor::Actor;
 use crate::files::ChipFd;
@@ -64,6 +64,7 @@ impl<D: Driver<Core>> Gpio<D> {
     ) -> Result<ChipFd, Errno>
         requires actor { IsActorOf self.now actor.old }
         ensures actor { IsActorOf self.now actor.new }
+        ensures same { IsSameActor actor.old.pass.view actor.new.pass.view }
         ensures port { actor.new.port ≡ actor.old.port }
         ensures memory { result ≡ Err NoMemory → actor.new ≡ actor.old }
         ensures called { result ≢ Err NoMemory

@@ -11,7 +11,7 @@ ghost use Rattle.gl_chip.specs.Called.{ComesOut};
 ghost use Rattle.gl_chip.specs.Opened.{LastFinds};
 ghost use Rattle.gl_chip.specs.Removing.{RemovesOut, is_gone_outside};
 ghost use Rattle.gl_chip.specs.Results.{done_of};
-ghost use Rattle.gl_chip.specs.Values.{IsActorOf, core};
+ghost use Rattle.gl_chip.specs.Values.{IsActorOf, IsSameActor, core};
 
 use crate::actor::Actor;
 use crate::gpio::Gpio;
@@ -32,6 +32,7 @@ impl<D: Driver<Core>> Gpio<D> {
         requires actor { IsActorOf self.now actor.old }
         requires place { place < PLACES }
         ensures actor { IsActorOf self.now actor.new }
+        ensures same { IsSameActor actor.old.pass.view actor.new.pass.view }
         ensures port { actor.new.port ≡ actor.old.port }
         ensures called { RemovesOut result actor.old.pass.view (Removing (OfChip place)) actor.new.pass.view }
         ensures closed { IfOk result (λ _. KnowsClosed actor.new.pass.view place) }
@@ -61,6 +62,7 @@ impl<D: Driver<Core>> Gpio<D> {
     ) -> Result<(), Errno>
         requires actor { IsActorOf self.now actor.old }
         ensures actor { IsActorOf self.now actor.new }
+        ensures same { IsSameActor actor.old.pass.view actor.new.pass.view }
         ensures port { actor.new.port ≡ actor.old.port }
         ensures made { up ≡ true → ComesOut done_of result actor.old.pass.view (Once (LiveCall device.now)) [] actor.new.pass.view }
         ensures removed { up ≡ false → RemovesOut result actor.old.pass.view (Removing (OfDevice device.now)) actor.new.pass.view }

@@ -17,7 +17,7 @@ ghost use Rattle.gl_chip.specs.Called.{HasCalled};
 ghost use Rattle.gl_chip.specs.Opened.{LastFinds};
 ghost use Rattle.gl_chip.specs.Removing.{AllDrained, HasBegun, HasDrained, HasEnded, is_first_call, is_gone_outside, removal_of};
 ghost use Rattle.gl_chip.specs.Steps.{FoundNoRoom};
-ghost use Rattle.gl_chip.specs.Values.{IsActorOf, core};
+ghost use Rattle.gl_chip.specs.Values.{IsActorOf, IsSameActor, core};
 
 use crate::actor::Actor;
 use crate::gpio::Gpio;
@@ -117,6 +117,7 @@ impl<D: Driver<Core>> Gpio<D> {
         requires first { is_first_call first.now ≡ true }
         requires fits { FitsCall first.now }
         ensures actor { IsActorOf self.now actor.new }
+        ensures same { IsSameActor actor.old.pass.view actor.new.pass.view }
         ensures port { actor.new.port ≡ actor.old.port }
         ensures called { IfOk result (λ r. (bytes : List ℕ)
             × (called : HasCalled 0 actor.old.pass.view (Removing (removal_of first.now)) r bytes actor.new.pass.view)

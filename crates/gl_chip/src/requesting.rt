@@ -15,7 +15,7 @@ ghost use Rattle.gl_model.specs.Parts.{is_driver_asked};
 ghost use Rattle.gl_model.specs.Written.{number_answered};
 ghost use Rattle.gl_chip.specs.Commanding.{CommandsOut, TakesMemory, op_for, requested_of};
 ghost use Rattle.gl_chip.specs.Handed.{command_in};
-ghost use Rattle.gl_chip.specs.Values.{IsActorOf};
+ghost use Rattle.gl_chip.specs.Values.{IsActorOf, IsSameActor};
 
 use crate::actor::Actor;
 use crate::asking::{lines_named, request_op};
@@ -78,6 +78,7 @@ impl<D: Driver<Core>> Gpio<D> {
         requires length { length buf.old < 2 ^ 32 }
         requires asked { is_driver_asked true (length buf.old) (command_of cmd) ≡ true }
         ensures actor { IsActorOf self.now actor.new }
+        ensures same { IsSameActor actor.old.pass.view actor.new.pass.view }
         ensures memory { result ≡ Err NoMemory → TakesMemory (command_in place fd true cmd buf.old) × (actor.new ≡ actor.old) × (buf.new ≡ buf.old) }
         ensures called { result ≢ Err NoMemory → let c = command_in place fd true cmd buf.old in
             let lines = lines_asked (take LINE_REQUEST_SIZE c.bytes) in

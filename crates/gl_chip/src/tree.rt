@@ -5,7 +5,7 @@ ghost use Rattle.gl_model.specs.declared.call.Call.TheVariants.{MakeDir, Read as
 ghost use Rattle.gl_model.specs.Parts.{Once};
 ghost use Rattle.gl_chip.specs.Called.{ComesOut};
 ghost use Rattle.gl_chip.specs.Results.{done_of, text_of};
-ghost use Rattle.gl_chip.specs.Values.{IsActorOf};
+ghost use Rattle.gl_chip.specs.Values.{IsActorOf, IsSameActor};
 
 use crate::actor::Actor;
 use crate::gpio::Gpio;
@@ -21,6 +21,7 @@ impl<D: Driver<Core>> Gpio<D> {
     pub fn mkdir<R: Wait>(&self, rt: &R, actor: &mut Actor<D>, path: &Path) -> Result<(), Errno>
         requires actor { IsActorOf self.now actor.old }
         ensures actor { IsActorOf self.now actor.new }
+        ensures same { IsSameActor actor.old.pass.view actor.new.pass.view }
         ensures port { actor.new.port ≡ actor.old.port }
         ensures called { ComesOut done_of result actor.old.pass.view (Once (MakeDir path.now)) [] actor.new.pass.view }
     {
@@ -31,6 +32,7 @@ impl<D: Driver<Core>> Gpio<D> {
     pub fn rmdir<R: Wait>(&self, rt: &R, actor: &mut Actor<D>, path: &Path) -> Result<(), Errno>
         requires actor { IsActorOf self.now actor.old }
         ensures actor { IsActorOf self.now actor.new }
+        ensures same { IsSameActor actor.old.pass.view actor.new.pass.view }
         ensures port { actor.new.port ≡ actor.old.port }
         ensures called { ComesOut done_of result actor.old.pass.view (Once (RemoveDir path.now)) [] actor.new.pass.view }
     {
@@ -47,6 +49,7 @@ impl<D: Driver<Core>> Gpio<D> {
     ) -> Result<(), Errno>
         requires actor { IsActorOf self.now actor.old }
         ensures actor { IsActorOf self.now actor.new }
+        ensures same { IsSameActor actor.old.pass.view actor.new.pass.view }
         ensures port { actor.new.port ≡ actor.old.port }
         ensures called { ComesOut done_of result actor.old.pass.view (Once (WriteCall path.now value.now)) [] actor.new.pass.view }
     {
@@ -65,6 +68,7 @@ impl<D: Driver<Core>> Gpio<D> {
     pub fn read<R: Wait>(&self, rt: &R, actor: &mut Actor<D>, path: &Path) -> Result<Name, Errno>
         requires actor { IsActorOf self.now actor.old }
         ensures actor { IsActorOf self.now actor.new }
+        ensures same { IsSameActor actor.old.pass.view actor.new.pass.view }
         ensures port { actor.new.port ≡ actor.old.port }
         ensures called { ComesOut text_of result actor.old.pass.view (Once (ReadCall path.now)) [] actor.new.pass.view }
     {

@@ -3,6 +3,8 @@ use Rattle.gl_model.specs.Parts.{Once}
 use Rattle.gl_chip.specs.Called.{HasCalled}
 use Rattle.gl_chip.proofs.GateSteps.{if_ok}
 use Rattle.gl_chip.proofs.WholeCalls.{called_guarded, guarded_not_full, length_guarded, form_guarded, idle_guarded, once_is_one, seen_from}
+use Rattle.gl_chip.specs.Values.{IsSameActor}
+use Rattle.gl_chip.proofs.SameActors.{either, same_grown}
 use Rattle.gl_chip.proofs.gpio.Gpio.behind_guard.Goals as goal
 
 pub invariant_of-actor : goal.invariant_of-actor
@@ -20,3 +22,9 @@ returns-clause-not_full g c = if_ok c.guarded.result _ _ (λ r step. guarded_not
 
 pub returns-clause-lengths : goal.returns-clause-lengths
 returns-clause-lengths g c = if_ok c.guarded.result _ _ (λ r step. length_guarded c.args.place c.args.poll c.actor.inside.pass.view c.guarded.new.pass.view c.args.call r c.args.out.now c.guarded.new.out c.requires.fits.fits_call step) c.guarded.ensures.called
+
+pub returns-clause-same : goal.returns-clause-same
+returns-clause-same g c = seen_from _ _ (λ v. IsSameActor v c.guarded.new.pass.view) c.actor.view_is
+    (either c.guarded.result _ _ (IsSameActor c.actor.inside.pass.view c.guarded.new.pass.view) c.guarded.ensures.called c.guarded.ensures.full
+    (λ r step. same_grown c.actor.inside.pass.view c.guarded.new.pass.view _ step.grew step.knows_as_much)
+    (λ e full. same_grown c.actor.inside.pass.view c.guarded.new.pass.view _ full.2.grew full.2.knows_as_much))

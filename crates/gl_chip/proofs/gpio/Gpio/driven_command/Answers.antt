@@ -6,6 +6,9 @@ use Rattle.gl_chip.specs.Handed.{command_in}
 use Rattle.gl_chip.specs.Values.{core}
 use Rattle.gl_chip.proofs.CommandCalls.{called_command, idle_commanded, inside_after, left_place, refused_no_number, turned_away}
 use Rattle.gl_chip.proofs.GateSteps.{came_in, found_closed, if_err, if_ok, is_free, no_room, no_room_left, owes_moved, went_out}
+use Rattle.gl_chip.specs.Values.{IsSameActor}
+use Rattle.gl_chip.proofs.SameActors.{either, same_grown}
+use Rattle.gl_chip.proofs.WholeCalls.{seen_from}
 use Rattle.gl_chip.proofs.gpio.Gpio.driven_command.Goals as goal
 
 pub invariant_of-actor : goal.invariant_of-actor
@@ -56,3 +59,19 @@ returns-then-not-enter-clause-number g c = if_ok c.alone.result _ _ (λ r step n
 
 pub returns-clause-number : goal.returns-clause-number
 returns-clause-number g c = if_ok c.command_inside-answer.result _ _ (λ r did. did.numbered) c.command_inside-answer.ensures.called
+
+pub returns-then-not-enter-clause-same : goal.returns-then-not-enter-clause-same
+returns-then-not-enter-clause-same g c =
+    let found = found_closed core c.args.file.place c.actor.inside.pass c.enter.new.pass (c.enter.ensures.refused (search rules)) in
+    either c.alone.result _ _ (IsSameActor c.args.actor.now.pass.view c.alone.new.pass.view) (returns-then-not-enter-clause-commanded g c) c.alone.ensures.full (λ r h. same_grown _ _ _ h.2.called.grew h.2.called.knows_as_much)
+    (λ e full. seen_from _ _ (λ v. IsSameActor v c.alone.new.pass.view) c.actor.view_is
+    (let none = no_room core c.actor.inside.pass.view c.enter.new.pass.view c.alone.new.pass.view found.0 c.enter.ensures.knows full.3 in same_grown c.actor.inside.pass.view c.alone.new.pass.view _ none.grew none.knows_as_much))
+
+pub returns-clause-same : goal.returns-clause-same
+returns-clause-same g c =
+    let entered = came_in core c.args.file.place c.actor.inside.pass c.enter.new.pass (c.enter.ensures.entered (search rules)) in
+    let out = went_out core c.args.file.place c.command_inside-answer.new.pass c.leave.new.pass c.leave.ensures in
+    either c.command_inside-answer.result _ _ (IsSameActor c.args.actor.now.pass.view c.leave.new.pass.view) (returns-clause-commanded g c) c.command_inside-answer.ensures.full (λ r h. same_grown _ _ _ h.2.called.grew h.2.called.knows_as_much)
+    (λ e full. seen_from _ _ (λ v. IsSameActor v c.leave.new.pass.view) c.actor.view_is
+    (let none = no_room_left core c.actor.inside.pass.view c.command_inside-answer.new.pass.view c.leave.new.pass.view
+    (no_room core c.actor.inside.pass.view c.enter.new.pass.view c.command_inside-answer.new.pass.view entered c.enter.ensures.knows full.3) out.0 out.1 out.2 in same_grown c.actor.inside.pass.view c.leave.new.pass.view _ none.grew none.knows_as_much))

@@ -13,6 +13,7 @@ use Rattle.gl_chip.proofs.CommandResults.{command_is_full, command_is_made}
 use Rattle.gl_chip.proofs.RequestedFiles.{file_where_requested}
 use Rattle.gl_chip.proofs.RequestedLines.{lines_are_some, number_below, only_get_line, op_goes, op_is_for, takes_memory}
 use Rattle.gl_chip.proofs.WholeCalls.{called_not_memory, errno_is_told}
+use Rattle.gl_chip.proofs.SameActors.{same_actor}
 use Rattle.gl_chip.proofs.gpio.Gpio.get_line.Goals as goal
 
 pub returns-in-Err-clause-memory : goal.returns-in-Err-clause-memory
@@ -59,3 +60,6 @@ returns-clause-called g c = let full = c.in-Err-driven_command.ensures.full in
 pub returns-in-Ok-driven_command-clause-file : goal.returns-in-Ok-driven_command-clause-file
 returns-in-Ok-driven_command-clause-file g c = let h = c.in-Ok-driven_command.ensures.commanded in
     file_where_requested g.D.Driver.ENTRIES c.args.actor.now.pass.view c.driven_command.new.actor.pass.view (command_in c.args.place c.args.fd true c.args.cmd c.args.buf.now) c.in-Ok-driven_command.reply h.0 c.args.place c.lines_named.result c.requested.result c.requested.ensures h.2.called
+
+pub returns-in-Err-clause-same : goal.returns-in-Err-clause-same
+returns-in-Err-clause-same g c = same_actor c.args.actor.now.pass.view

@@ -1,5 +1,6 @@
 use Rattle.std.proofs.Common.{[]}
 use Rattle.gl_chip.proofs.OpenedChips.{file_place, named_within, opened_in, opened_no_dev}
+use Rattle.gl_chip.proofs.SameActors.{same_actor}
 use Rattle.gl_chip.proofs.gpio.Gpio.open_chip.Goals as goal
 
 pub opened-requires-clause-place : goal.opened-requires-clause-place
@@ -10,3 +11,6 @@ returns-in-Ok-unguarded-clause-place g c = file_place _ _ c.args.word.now c.in-O
 
 pub returns-in-Ok-unguarded-clause-leaving : goal.returns-in-Ok-unguarded-clause-leaving
 returns-in-Ok-unguarded-clause-leaving g c = λ not_memory not_full. opened_no_dev _ _ c.args.word.now c.in-Ok-unguarded.reply c.opened.result (opened_in 0 _ _ c.args.word.now c.in-Ok-unguarded.reply [] c.in-Ok-unguarded.ensures.called) c.opened.ensures
+
+pub returns-in-Err-clause-same : goal.returns-in-Err-clause-same
+returns-in-Err-clause-same g c = same_actor c.args.actor.now.pass.view

@@ -8,6 +8,7 @@ use Rattle.gl_chip.proofs.RemovalCalls.{done_not_undone, first_is_refused, full_
 use Rattle.gl_chip.proofs.WholeCalls.{idle_called, seen_from}
 use Rattle.gl_chip.specs.Steps.{FoundNoRoom}
 use Rattle.gl_chip.specs.Values.{core}
+use Rattle.gl_chip.proofs.SameActors.{same_grown}
 use Rattle.gl_chip.proofs.gpio.Gpio.remove_by.Goals as goal
 
 pub invariant_of-actor : goal.invariant_of-actor
@@ -56,3 +57,12 @@ returns-then-not-is_done-clause-gone g c = λ place is. refused_as_gone c.actor.
 
 pub returns-clause-gone : goal.returns-clause-gone
 returns-clause-gone g c = λ place is. ended_not_gone _ _ c.act-begun.new.pass.view c.end_removal.new.pass.view place c.args.first.now c.end_removal.result is c.end_removal.ensures.ended
+
+pub returns-in-Err-clause-same : goal.returns-in-Err-clause-same
+returns-in-Err-clause-same g c = let full = (returns-in-Err-clause-full g c).1 in same_grown c.args.actor.now.pass.view c.act-begun.new.pass.view _ full.grew full.knows_as_much
+
+pub returns-then-not-is_done-clause-same : goal.returns-then-not-is_done-clause-same
+returns-then-not-is_done-clause-same g c = let called = (returns-then-not-is_done-clause-called g c).1 in same_grown c.args.actor.now.pass.view c.act-begun.new.pass.view _ called.grew called.knows_as_much
+
+pub returns-clause-same : goal.returns-clause-same
+returns-clause-same g c = let called = (returns-clause-called g c).1 in same_grown c.args.actor.now.pass.view c.end_removal.new.pass.view _ called.grew called.knows_as_much

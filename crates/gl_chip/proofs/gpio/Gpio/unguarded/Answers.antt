@@ -3,6 +3,9 @@ use Rattle.gl_model.specs.Parts.{Once}
 use Rattle.gl_chip.specs.Called.{HasCalled}
 use Rattle.gl_chip.proofs.GateSteps.{if_ok}
 use Rattle.gl_chip.proofs.WholeCalls.{alone_not_full, called_alone, form_alone, idle_alone, seen_from, single_is_whole}
+use Rattle.gl_chip.specs.Values.{IsSameActor}
+use Rattle.gl_chip.proofs.SameActors.{either, same_grown}
+use Rattle.gl_chip.proofs.GateSteps.{knows_same}
 use Rattle.gl_chip.proofs.gpio.Gpio.unguarded.Goals as goal
 
 pub alone-requires-clause-whole : goal.alone-requires-clause-whole
@@ -22,3 +25,9 @@ returns-clause-form g c = if_ok c.alone.result _ _ (λ r step. form_alone c.acto
 
 pub returns-clause-not_full : goal.returns-clause-not_full
 returns-clause-not_full g c = if_ok c.alone.result _ _ (λ r step. alone_not_full c.actor.inside.pass.view c.alone.new.pass.view c.args.call r _ _ step) c.alone.ensures.called
+
+pub returns-clause-same : goal.returns-clause-same
+returns-clause-same g c = seen_from _ _ (λ v. IsSameActor v c.alone.new.pass.view) c.actor.view_is
+    (either c.alone.result _ _ (IsSameActor c.actor.inside.pass.view c.alone.new.pass.view) c.alone.ensures.called c.alone.ensures.full
+    (λ r step. same_grown c.actor.inside.pass.view c.alone.new.pass.view _ step.grew (knows_same c.actor.inside.pass.view c.alone.new.pass.view step.same.closed step.same.drained))
+    (λ e full. same_grown c.actor.inside.pass.view c.alone.new.pass.view _ full.3.grew (knows_same c.actor.inside.pass.view c.alone.new.pass.view full.3.same.closed full.3.same.drained)))

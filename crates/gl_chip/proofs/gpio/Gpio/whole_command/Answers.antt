@@ -5,6 +5,8 @@ use Rattle.gl_chip.specs.Handed.{command_in}
 use Rattle.gl_chip.proofs.GateSteps.{if_ok}
 use Rattle.gl_chip.proofs.HandedBytes.{command_fits, handed_call}
 use Rattle.gl_chip.proofs.WholeCalls.{called_guarded, command_is_one, guarded_not_full, form_guarded, idle_guarded, seen_from}
+use Rattle.gl_chip.specs.Values.{IsSameActor}
+use Rattle.gl_chip.proofs.SameActors.{either, same_grown}
 use Rattle.gl_chip.proofs.gpio.Gpio.whole_command.Goals as goal
 
 pub guarded-requires-clause-fits : goal.guarded-requires-clause-fits
@@ -28,3 +30,9 @@ returns-clause-form g c = let command = command_in c.args.file.place c.args.file
 
 pub returns-clause-not_full : goal.returns-clause-not_full
 returns-clause-not_full g c = if_ok c.guarded.result _ _ (λ r step. guarded_not_full c.args.file.place _ c.actor.inside.pass.view c.guarded.new.pass.view _ r c.args.out.now c.guarded.new.out step) c.guarded.ensures.called
+
+pub returns-clause-same : goal.returns-clause-same
+returns-clause-same g c = seen_from _ _ (λ v. IsSameActor v c.guarded.new.pass.view) c.actor.view_is
+    (either c.guarded.result _ _ (IsSameActor c.actor.inside.pass.view c.guarded.new.pass.view) c.guarded.ensures.called c.guarded.ensures.full
+    (λ r step. same_grown c.actor.inside.pass.view c.guarded.new.pass.view _ step.grew step.knows_as_much)
+    (λ e full. same_grown c.actor.inside.pass.view c.guarded.new.pass.view _ full.2.grew full.2.knows_as_much))
