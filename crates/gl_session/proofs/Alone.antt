@@ -9,7 +9,7 @@ use Rattle.gl_world.proofs.Deeds.{deeds_stay}
 use Rattle.gl_gate.specs.Calls.{HasItsOwn}
 use Rattle.gl_gate.proofs.Grown.{grown_has_its_own}
 use Rattle.gl_chip.specs.Values.{OneEntry, OneView, core}
-use Rattle.gl_session.specs.Alone.{FirstActorIsAlone}
+use Rattle.gl_session.specs.Alone.{FirstActorIsAlone, FirstActorSeesItself}
 
 -- a history of actor 0 alone is its entries
 only_zero : (history : List OneEntry) → ((n : ℕ) → 1 ≤ n → entries_of n history ≡ []) → entries_of 0 history ≡ history
@@ -43,3 +43,12 @@ first_actor_is_alone room v w did history new grew legal begins mine others =
       entries = sym (only_zero history alone) ∙ mine ∙ mine_is;
       deeds = deeds_stay core 0 history w.seen begins (mine ∙ sym own_then) ∙ seen;
     }
+
+pub first_actor_sees_itself : FirstActorSeesItself
+first_actor_sees_itself room v w did new grew strangers =
+    let number : w.number ≡ 0 = grew.number ∙ ap (λ (x : OneView). x.number) new in
+    let made : w.made ≡ 1 = grew.made ∙ ap (λ (x : OneView). x.made) new in
+    let alone : (n : ℕ) → 1 ≤ n → entries_of n w.seen ≡ [] = λ n positive. (strangers number).1 n (subst (λ k. k ≤ n) (sym made) positive) in
+    let own : HasItsOwn v = subst (λ (x : OneView). HasItsOwn x) (sym new) refl in
+    let own_then : entries_of 0 w.seen ≡ w.mine = ap (λ k. entries_of k w.seen) (sym number) ∙ grown_has_its_own core v w did own grew in
+    sym (only_zero w.seen alone) ∙ own_then ∙ grew.mine ∙ ap (λ (x : OneView). x.mine ++ entries_in did) new

@@ -4,3 +4,4 @@ pub mod Causes
 pub mod Known
 pub mod OneCalls
 pub mod OneHistories
+pub mod Within

@@ -4,6 +4,7 @@ use Rattle.std.specs.Prelude.{◌≡◌, ℕ, ◌≤◌, Bool, true, List, [], �
 use Rattle.gl_base.specs.Count.{counted_up}
 use Rattle.gl_world.specs.Deeds.{deeds_of, entries_in}
 use Rattle.gl_world.specs.History.{Legal, StartsWith, entries_of}
+use Rattle.gl_rule.specs.Turn.{NoStrangers}
 use Rattle.gl_rule.specs.Views.{newcomer}
 use Rattle.gl_gate.specs.Grown.{Grew}
 use Rattle.gl_args.specs.Program.{Program, done}
@@ -26,12 +27,22 @@ pub record Part (is_planned : Bool) (program : Program Names) (files : List Open
   pub behind : Carried
   pub played : Played is_planned 0 program (record { files = files; told = told }) text did names behind
 
+-- the programs of a session's three parts, the last one by the names that the first gave
+abbrev pub setup_of : List SaidSection → Program Names
+setup_of sections = says 0 (said_in_kind Setup sections) done no_names
+
+abbrev pub actor_of : List SaidSection → Program Names
+actor_of sections = talks 0 (said_in_kind Actor sections) no_names
+
+abbrev pub after_of : List SaidSection → Names → Program Names
+after_of sections names = says (length (said_in_kind Setup sections)) (said_in_kind After sections) quits names
+
 -- The sections of a session, carried out by actor 0 one after another: `setup` and `after` are one talk, which waits in between
 -- with its files and names, and the actor's section is a talk of its own.
 pub record PlayedSession (is_planned : Bool) (sections : List SaidSection) (before : Option Told) (text : List ℕ) (did : List OneDeed) (left : Option Told) : Type 0 where
-  pub setup : Part is_planned (says 0 (said_in_kind Setup sections) done no_names) [] before
-  pub actor : Part is_planned (talks 0 (said_in_kind Actor sections) no_names) [] setup.behind.told
-  pub last : Part is_planned (says (length (said_in_kind Setup sections)) (said_in_kind After sections) quits setup.names) setup.behind.files actor.behind.told
+  pub setup : Part is_planned (setup_of sections) [] before
+  pub actor : Part is_planned (actor_of sections) [] setup.behind.told
+  pub last : Part is_planned (after_of sections setup.names) setup.behind.files actor.behind.told
   pub text_is : text ≡ (setup.text ++ actor.text) ++ last.text
   pub did_is : did ≡ setup.did ++ (actor.did ++ last.did)
   pub left_is : left ≡ last.behind.told
@@ -48,6 +59,11 @@ abbrev pub FirstActorIsAlone : Type 0
 FirstActorIsAlone = (room : ℕ) (v w : OneView) (did : List OneDeed) (history : List OneEntry) → v ≡ newcomer 0 room [] 1 [] [] → Grew core v did w
     → Legal core history → StartsWith history w.seen → entries_of 0 history ≡ w.mine → ((n : ℕ) → w.made ≤ n → entries_of n history ≡ [])
     → IsAlone history did
+
+-- The first actor of a new device did this, and no other actor was made so far: then it has seen these entries alone. (What no actor
+-- could see of strangers, each pass of the gate tells: `Pass::number`.)
+abbrev pub FirstActorSeesItself : Type 0
+FirstActorSeesItself = (room : ℕ) (v w : OneView) (did : List OneDeed) → v ≡ newcomer 0 room [] 1 [] [] → Grew core v did w → NoStrangers w w.seen → w.seen ≡ entries_in did
 
 -- What was printed is One of the answers that the driver's tells have in order, and One takes just these.
 abbrev pub PrintsOne : Type 0

@@ -9,3 +9,4 @@ pub mod Status
 pub mod Streams
 pub mod Text
 pub mod Turns
+pub mod Within

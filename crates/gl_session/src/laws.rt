@@ -2,12 +2,15 @@
 //! the law, and a caller gets it by the call.
 
 ghost use Rattle.std.specs.Prelude.{◌≡◌, []};
-ghost use Rattle.gl_session.specs.Alone.{AnswersAsPlanned, FirstActorIsAlone, PortTells, PrintsOne};
+ghost use Rattle.gl_session.specs.Alone.{AnswersAsPlanned, FirstActorIsAlone, FirstActorSeesItself, PortTells, PrintsOne};
 ghost use Rattle.gl_session.specs.OneChip.{output, plans, printed, takes};
+ghost use Rattle.gl_session.specs.Within.{CallsComeBelowCost, CallsHaveRoom, EntriesWithinCost, SessionsCostTheirParts, SessionsKeepWithinCost};
 
-/// Where the first actor of a device made all of its calls, the history has its entries alone.
+/// Where the first actor of a device made all of its calls, the history has its entries alone; and until another actor is made
+/// it has seen its entries alone.
 pub fn first_actor_is_alone()
-    ensures { FirstActorIsAlone }
+    ensures history { FirstActorIsAlone }
+    ensures seen { FirstActorSeesItself }
 {}
 
 /// What one actor alone prints is One of the answers that the driver's tells have in order, and One takes just these.
@@ -32,4 +35,19 @@ pub fn one_chip()
     ensures prints { printed ≡ output }
     ensures asks_nothing { takes ≡ [] }
     ensures plans_nothing { plans ≡ [] }
+{}
+
+/// Whatever it is answered, a program that an actor carries out on the device makes no more entries than it costs: each file that
+/// is open counts one, for its closing. Where its next operation is a call of the device, it has made fewer.
+pub fn programs_keep_within_cost()
+    ensures so_far { EntriesWithinCost }
+    ensures before_a_call { CallsComeBelowCost }
+{}
+
+/// The three parts of a session cost together what it costs, and a session of one actor makes no more entries than that. So a
+/// history with room for them is not full before any of its calls.
+pub fn sessions_keep_within_cost()
+    ensures parts { SessionsCostTheirParts }
+    ensures whole { SessionsKeepWithinCost }
+    ensures before_a_call { CallsHaveRoom }
 {}
