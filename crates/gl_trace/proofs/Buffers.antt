@@ -188,9 +188,9 @@ guess_back len bytes text size are zeros =
     let behind : drop (min len 592) (replicate 592 0) ≡ drop len bytes = zeros_behind (min len 592) 592 ∙ sym (zeros_only (drop len bytes) zeros ∙ ap (λ k. replicate k 0) left) in
     ap (λ t. t ++ drop (min len 592) (replicate 592 0)) front ∙ ap (λ t. told ++ t) behind ∙ splits len bytes
 
-guess_length : (n zeros : ℕ) (text : List ℕ) → length (guess n zeros text) ≡ n
-guess_length zero zeros text = refl
-guess_length (suc n) zeros text = ap suc (guess_length n (next_after zeros text).zeros (next_after zeros text).rest)
+guess_length : (n leading : ℕ) (text : List ℕ) → length (guess n leading text) ≡ n
+guess_length zero leading text = refl
+guess_length (suc n) leading text = ap suc (guess_length n (next_after leading text).zeros (next_after leading text).rest)
 
 all_zeros : (n : ℕ) → list_all (λ byte. byte == 0) (replicate n 0) ≡ true
 all_zeros zero = refl

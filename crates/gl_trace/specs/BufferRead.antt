@@ -42,10 +42,10 @@ next_of text =
 abbrev pub next_after : ℕ → List ℕ → Next
 next_after zeros text = if zeros == 0 then next_of text else next 0 (zeros - 1) text
 
--- so many bytes, where these zeros come first
+-- so many bytes, where so many zeros come first
 abbrev pub guess : ℕ → ℕ → List ℕ → List ℕ
-guess zero zeros text = []
-guess (suc n) zeros text = (next_after zeros text).byte ∷ guess n (next_after zeros text).zeros (next_after zeros text).rest
+guess zero leading text = []
+guess (suc n) leading text = (next_after leading text).byte ∷ guess n (next_after leading text).zeros (next_after leading text).rest
 
 -- all bytes of a command, of which the first `count` are told
 abbrev pub whole_guess : ℕ → List ℕ → List ℕ

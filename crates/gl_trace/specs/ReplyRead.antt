@@ -71,8 +71,8 @@ done_of AReady text = ready_of text
 done_of Never text = None
 
 abbrev pub refused_or_done : Option Errno → Option Reply → Option Reply
-refused_or_done None done = done
-refused_or_done (Some errno) done = Some (Refused errno)
+refused_or_done None reply = reply
+refused_or_done (Some errno) reply = Some (Refused errno)
 
 -- the reply of a text, where a call may be answered a reply of this form
 abbrev pub reply_of : Form → List ℕ → Option Reply
