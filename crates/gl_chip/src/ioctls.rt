@@ -33,10 +33,10 @@ impl<D: Driver<Core>> Gpio<D> {
     /// that the buffer named. Its ring is taken before its first entry: where memory is wanted, nothing was done.
     ///
     /// `NoDev` where the removal of the chip had closed the place; `BadF` where no open file has this number at this place;
-    /// `Inval` where the command is of no chip, or a request has the number; `Fault` where the buffer is shorter than the
-    /// command's structure; then the command's own refusals; of GET_LINE `Io` where the driver failed, which its port has
-    /// counted, or where a line is to be an output and is locked as an enabled interrupt, and `NoMemory`; `Full` where the
-    /// history is full.
+    /// `Inval` where the command isn't one of the file that has this number here (a chip's, where the file is of this device);
+    /// `Fault` where the buffer is shorter than the command's structure; then the command's own refusals; of GET_LINE `Io`
+    /// where the driver failed, which its port has counted, or where a line is to be an output and is locked as an enabled
+    /// interrupt, and `NoMemory`; `Full` where the history is full.
     pub fn chip_ioctl<R: Wait>(
         &self,
         rt: &R,
@@ -79,9 +79,10 @@ impl<D: Driver<Core>> Gpio<D> {
     /// SET_CONFIG, GET_VALUES and SET_VALUES ask the driver, once, where the machine lets them; GET_VALUES writes its structure.
     ///
     /// `NoDev` where the removal of the chip had closed the place; `BadF` where no open file has this number at this place;
-    /// `Inval` where the command is of no request, or a chip file has the number; `Fault` where the buffer is shorter than the
-    /// command's structure; then the command's own refusals; `Io` where the driver failed, which its port has counted, and of
-    /// SET_CONFIG also where a line is to be an output and is locked as an enabled interrupt; `Full` where the history is full.
+    /// `Inval` where the command isn't one of the file that has this number here (a request, where the file is of this
+    /// device); `Fault` where the buffer is shorter than the command's structure; then the command's own refusals; `Io` where
+    /// the driver failed, which its port has counted, and of SET_CONFIG also where a line is to be an output and is locked as an
+    /// enabled interrupt; `Full` where the history is full.
     pub fn line_ioctl<R: Wait>(
         &self,
         rt: &R,
