@@ -1,7 +1,10 @@
 pub mod Alone
 pub mod AloneRuns
 pub mod Causes
+pub mod Commands
 pub mod Known
 pub mod OneCalls
 pub mod OneHistories
+pub mod Performing
+pub mod Plays
 pub mod Within

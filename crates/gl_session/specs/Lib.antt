@@ -1,9 +1,13 @@
 pub mod Alone
+pub mod Answers
 pub mod Asking
 pub mod Files
 pub mod LeftOut
+pub mod Making
 pub mod One
 pub mod OneChip
+pub mod Performed
+pub mod Rows
 pub mod Run
 pub mod Status
 pub mod Streams

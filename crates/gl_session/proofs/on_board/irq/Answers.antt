@@ -1,0 +1,15 @@
+use Rattle.std.proofs.Common.{rules, refl, []}
+use Rattle.gl_base.specs.declared.operation.Do.TheVariants.{Irq as Asked}
+use Rattle.gl_base.specs.declared.operation.Got.TheVariants.{Done}
+use Rattle.gl_model.specs.declared.call.Call.TheVariants.{Irq as Made}
+use Rattle.gl_chip.specs.Results.{done_of}
+use Rattle.gl_base.specs.declared.errno.Errno.TheVariants.{NoEnt}
+use Rattle.gl_session.proofs.Performing.{once_outcome, refused_outcome, at_some_place, at_no_place}
+use Rattle.gl_session.proofs.on_board.irq.Goals as goal
+
+pub returns-then-place-lt-PLACES-clause-performs : goal.returns-then-place-lt-PLACES-clause-performs
+returns-then-place-lt-PLACES-clause-performs g c =
+    once_outcome _ (Asked _ _ _) (Made _ _ _) (λ _. Done) done_of _ _ [] g.D.Port.Port.told _ _ _ _ (λ _. at_some_place _ _ (search rules)) (λ _. refl) (λ _ _. refl) c.done.ensures c.irq.ensures.port c.irq.ensures.called
+
+pub returns-clause-performs : goal.returns-clause-performs
+returns-clause-performs g c = refused_outcome _ (Asked _ _ _) NoEnt _ _ (λ _. at_no_place c.args.place _ (search rules)) refl (λ _. refl)

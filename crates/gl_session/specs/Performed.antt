@@ -1,0 +1,63 @@
+-- One operation of a talk, carried out on the device; and a program in the midst of being carried out.
+use Rattle.std.specs.Prelude.{◌≡◌, ◌⊎◌, ℕ, Bool, List, [], ◌∷◌, ◌++◌, Option, Result, Ok, Err}
+use Rattle.gl_base.specs.declared.errno.Errno.{Errno}
+use Rattle.gl_base.specs.declared.errno.Errno.TheVariants.{Full, NoMemory}
+use Rattle.gl_base.specs.declared.operation.Do.{Do}
+use Rattle.gl_base.specs.declared.operation.Got.{Got}
+use Rattle.gl_gate.specs.Grown.{Grew}
+use Rattle.gl_args.specs.Program.{Program, ask}
+use Rattle.gl_driver.specs.Told.{Told}
+use Rattle.gl_model.specs.Parts.{DeviceCall}
+use Rattle.gl_chip.specs.Steps.{FoundNoRoom}
+use Rattle.gl_chip.specs.Values.{OneView, core}
+use Rattle.gl_session.specs.Asking.{Asking, Calls, Plans, Refuses, asking, got_of}
+use Rattle.gl_session.specs.Files.{OpenFile}
+use Rattle.gl_session.specs.Turns.{Carried, Carries, Exchange, Follows, Turn, did_by, said_by}
+
+abbrev pub carried : List OpenFile → Option Told → Carried
+carried files told = record { files = files; told = told }
+
+-- An operation was carried out by the actor whose pass knew v and knows w then: it got this, and did just the deeds of the exchange.
+pub record HasPerformed (is_planned : Bool) (what : Do) (v : OneView) (s : Carried) (got : Got) (w : OneView) (r : Carried) : Type 0 where
+  pub exchange : Exchange
+  pub what_is : exchange.what ≡ what
+  pub got_is : got ≡ got_of what exchange.reply exchange.wrote
+  pub carries : Carries is_planned v.number s exchange r
+  pub grew : Grew core v exchange.did w
+
+-- the operation is a call of the device
+abbrev pub IsCall : Asking → Type 0
+IsCall (Calls call) = Unit {0}
+IsCall (Plans nth) = ⊥
+IsCall (Refuses errno) = ⊥
+
+-- the history was full when a call was to be made
+abbrev pub MetFull : Do → OneView → Carried → OneView → Type 0
+MetFull what v s w = IsCall (asking s.files what) × FoundNoRoom core v w
+
+-- How an operation comes out: it was carried out; or memory was wanted, or the history was full, and then it has no result.
+abbrev pub Performs : Bool → Do → Result Got Errno → OneView → Carried → OneView → Carried → Type 0
+Performs is_planned what (Ok got) v s w r = HasPerformed is_planned what v s got w r
+Performs is_planned what (Err errno) v s w r = (errno ≡ NoMemory) ⊎ ((errno ≡ Full) × MetFull what v s w)
+
+-- A program was carried out so far: what it printed and what it did, and what is left of it.
+pub record PlaysOn {A : Type 0} (is_planned : Bool) (p : Program A) (v : OneView) (s : Carried) (before : List ℕ) (q : Program A) (w : OneView) (r : Carried) (text : List ℕ) : Type 0 where
+  pub turns : List Turn
+  pub follows : Follows is_planned v.number p s turns q r
+  pub text_is : text ≡ before ++ said_by turns
+  pub grew : Grew core v (did_by turns) w
+
+-- It was carried out until the history was full.
+pub record StoppedFull {A : Type 0} (is_planned : Bool) (p : Program A) (v : OneView) (s : Carried) (w : OneView) : Type 0 where
+  pub turns : List Turn
+  pub what : Do
+  pub rest : Got → Program A
+  pub then : Carried
+  pub view : OneView
+  pub follows : Follows is_planned v.number p s turns (ask what rest) then
+  pub grew : Grew core v (did_by turns) view
+  pub full : MetFull what view then w
+
+-- The same of an operation that leaves the open files as they are, whichever these are.
+abbrev pub PerformsAlone : Bool → Do → Result Got Errno → OneView → Option Told → OneView → Option Told → Type 0
+PerformsAlone is_planned what result v before w after = (files : List OpenFile) → Performs is_planned what result v (carried files before) w (carried files after)
