@@ -8,12 +8,12 @@ use Rattle.gl_base.specs.Ordered.{ordered, put_in_order}
 use Rattle.gl_base.specs.Rows.{Each}
 use Rattle.gl_debounce.specs.declared.timer.Fired.{Fired}
 use Rattle.gl_debounce.specs.declared.timer.Timer.{Timer}
-use Rattle.gl_debounce.specs.Fire.{after_first, comes_before, due, earlier_of, fired, fired_at, fires, when_due, with_fired}
+use Rattle.gl_debounce.specs.Fire.{after_first, comes_before, due, fired, fired_at, fires, when_due, with_fired}
 use Rattle.gl_debounce.specs.Timer.{line_number, settled_at_raw}
-use Rattle.gl_debounce.proofs.Firing.{put_first}
+use Rattle.gl_debounce.proofs.Firing.{earlier_of, put_first}
 
 -- the number by which a line comes before another
-key : Fired → ℕ
+unfoldable pub key : Fired → ℕ
 key f = f.deadline * 2048 + f.place * 128 + f.offset
 
 -- the line lies on the table, from number n on
@@ -22,7 +22,7 @@ pub record LiesFrom (n : ℕ) (f : Fired) : Type 0 where
   pub offset : f.offset < 128
   pub from : n ≤ f.place * 128 + f.offset
 
-by_key : (n m : ℕ) (a b : Fired) → LiesFrom n a → LiesFrom m b → comes_before a b ≡ ltb (key a) (key b)
+pub by_key : (n m : ℕ) (a b : Fired) → LiesFrom n a → LiesFrom m b → comes_before a b ≡ ltb (key a) (key b)
 unfolding key
 by_key n m a b on_a on_b =
     elim (cases_order a.deadline b.deadline) [
@@ -178,7 +178,7 @@ others_behind now n timers z y k f on_y first within =
     ))
 
 -- what is found of a line is at its number
-fired_number : (now n : ℕ) (timer : Option Timer) (y : Fired) → fired_at now n timer ≡ Some y → y.place * 128 + y.offset ≡ n
+pub fired_number : (now n : ℕ) (timer : Option Timer) (y : Fired) → fired_at now n timer ≡ Some y → y.place * 128 + y.offset ≡ n
 fired_number now n None y is = cc
 fired_number now n (Some timer) y is = by_deadline timer.deadline is
   where
@@ -193,12 +193,12 @@ fired_number now n (Some timer) y is = by_deadline timer.deadline is
             sym (ap (λ (f : Fired). f.place * 128 + f.offset) same) ∙ number
         by_test false h = cc
 
-one_lies : (now n : ℕ) (timer : Option Timer) (y : Fired) → n < 2048 → fired_at now n timer ≡ Some y → LiesFrom n y
+pub one_lies : (now n : ℕ) (timer : Option Timer) (y : Fired) → n < 2048 → fired_at now n timer ≡ Some y → LiesFrom n y
 one_lies now n timer y within is =
     let Lies : Option Fired → Type 0 = λ o. Each (LiesFrom n) (with_fired o []) in
     (subst Lies is (with_fired_lies now n timer [] within tt)).0
 
-none_left : (ys : List Fired) → slice_get (ordered comes_before ys) 0 ≡ None → ys ≡ []
+pub none_left : (ys : List Fired) → slice_get (ordered comes_before ys) 0 ≡ None → ys ≡ []
 none_left [] none = refl
 none_left (y ∷ ys) none = by_rest (slice_get (ordered comes_before ys) 0) (sym (put_first y (ordered comes_before ys)) ∙ none)
   where
@@ -292,7 +292,7 @@ found_step now n timer timers x within rest first = by_line (fired_at now n time
                 key_first a b number less from on_a on_b = keys_apart a b n number less from on_a.place on_a.offset on_b.place on_b.offset
 
 -- which line is the first
-found : (now n : ℕ) (lines : List (Option Timer)) (x : Fired) → n + length lines ≤ 2048 → slice_get (ordered comes_before (due now n lines)) 0 ≡ Some x → First now n lines x
+pub found : (now n : ℕ) (lines : List (Option Timer)) (x : Fired) → n + length lines ≤ 2048 → slice_get (ordered comes_before (due now n lines)) 0 ≡ Some x → First now n lines x
 found now n [] x within first = cc
 found now n (timer ∷ timers) x within first =
     found_step now n timer timers x within (λ z h. found now (n + 1) timers z (omega arith) h) first

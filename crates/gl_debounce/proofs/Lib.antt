@@ -1,2 +1,6 @@
+pub mod Earliest
 pub mod Firing
 pub mod GoingOn
+pub mod Lookup
+pub mod Ranks
+pub mod Slots

@@ -51,12 +51,3 @@ fires now lines = ordered comes_before (due now 0 lines)
 abbrev pub after_first : Option Fired → List (Option Timer) → List (Option Timer)
 after_first None lines = lines
 after_first (Some line) lines = with_timer settled_at_raw line.place line.offset lines
-
--- the earlier of two lines
-abbrev pub earlier_of : Fired → Option Fired → Option Fired
-earlier_of line None = Some line
-earlier_of line (Some other) = if comes_before line other then Some line else Some other
-
-abbrev pub earlier : Option Fired → Option Fired → Option Fired
-earlier None other = other
-earlier (Some line) other = earlier_of line other

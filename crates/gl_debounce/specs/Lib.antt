@@ -1,2 +1,3 @@
 pub mod Fire
+pub mod Order
 pub mod Timer

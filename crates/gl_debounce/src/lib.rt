@@ -6,6 +6,9 @@
 //! offset is this project's choice. No call but the maker takes memory.
 #![tactic(auto)]
 
+mod deadlines;
+mod due;
+mod heap;
 pub mod laws;
 mod table;
 mod timer;

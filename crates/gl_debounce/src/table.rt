@@ -1,11 +1,13 @@
 //! The timers of all lines.
 
-ghost use Rattle.std.specs.Prelude.{◌≡◌, ◌*◌, ◌<◌, replicate, None, IfOk, IfSome, IsOkUnless, slice_get, length};
+ghost use Rattle.std.specs.Prelude.{◌≡◌, ◌*◌, ◌<◌, replicate, None, IfOk, IfSome, IsOkUnless, slice_get, length, map};
 ghost use Rattle.std.specs.Option.{option_map};
-ghost use Rattle.gl_debounce.specs.Fire.{after_first, earlier, fires};
+ghost use Rattle.gl_debounce.specs.Fire.{after_first, fires};
+ghost use Rattle.gl_debounce.specs.Order.{deadline_of};
 ghost use Rattle.gl_debounce.specs.Timer.{line_number, no_timers, still, timer_at, with_new_timer, with_raw, with_timer, without_deadline};
 
-use crate::timer::{Fired, TABLE_SIZE, Timer, comes_before, fired_at};
+use crate::deadlines::Deadlines;
+use crate::timer::{Fired, TABLE_SIZE, Timer, fired_at};
 use gl_base::{Errno, LINES_MAX, PLACES};
 use std::alloc::Global;
 use std::marker::Model;
@@ -15,10 +17,12 @@ use std::marker::Model;
 #[derive(Drop)]
 pub struct Timers {
     lines: Vec<Option<Timer>>,
+    deadlines: Deadlines,
 }
 
 impl Model for Timers {
-    ghost use Rattle.std.specs.Prelude.{◌≡◌, List, Option, length};
+    ghost use Rattle.std.specs.Prelude.{◌≡◌, List, Option, length, map};
+    ghost use Rattle.gl_debounce.specs.Order.{deadline_of};
     ghost use Rattle.gl_debounce.specs.declared.timer.Timer.{Timer};
     ghost use Rattle.gl_debounce.specs.declared.timer.TheConstants.{TABLE_SIZE};
 
@@ -26,7 +30,7 @@ impl Model for Timers {
 
     ghost view = { λ t. t.lines.items };
 
-    ghost invariant = { λ t. length t.lines.items ≡ TABLE_SIZE };
+    ghost invariant = { λ t. (length t.lines.items ≡ TABLE_SIZE) × (t.deadlines ≡ map deadline_of t.lines.items) };
 }
 
 impl Timers {
@@ -37,7 +41,8 @@ impl Timers {
         ensures memory_alone { IsOkUnless result Errno.NoMemory }
     {
         let lines = without_timers(alloc, TABLE_SIZE)?;
-        Ok(Timers { lines })
+        let deadlines = Deadlines::new(alloc)?;
+        Ok(Timers { lines, deadlines })
     }
 
     /// The line is debounced from now on, and has settled at this level.
@@ -46,7 +51,9 @@ impl Timers {
         requires offset { offset < LINES_MAX }
         ensures { self.new ≡ with_new_timer (still level) place offset self.old }
     {
-        self.lines[number_of(place, offset)] = Some(Timer::still(level));
+        let line = number_of(place, offset);
+        self.lines[line] = Some(Timer::still(level));
+        self.deadlines.clear(line);
     }
 
     /// Takes the line's deadline away. Its levels stay.
@@ -58,6 +65,7 @@ impl Timers {
         let line = number_of(place, offset);
         if let Some(timer) = self.lines[line] {
             self.lines[line] = Some(timer.without_deadline());
+            self.deadlines.clear(line);
         }
     }
 
@@ -71,6 +79,7 @@ impl Timers {
         let line = number_of(place, offset);
         if let Some(timer) = self.lines[line] {
             self.lines[line] = Some(timer.with_raw(level, deadline));
+            self.deadlines.set(line, deadline);
         }
     }
 
@@ -101,12 +110,13 @@ impl Timers {
         ensures first { result ≡ slice_get (fires now self.old) 0 }
         ensures timers { self.new ≡ after_first result self.old }
     {
-        match first_due(&self.lines, now) {
+        match first_due(&self.lines, &self.deadlines, now) {
             None => None,
             Some(fired) => {
                 let line = number_of(fired.place, fired.offset);
                 if let Some(timer) = self.lines[line] {
                     self.lines[line] = Some(timer.settled_at_raw());
+                    self.deadlines.clear(line);
                 }
                 Some(fired)
             }
@@ -134,35 +144,15 @@ fn number_of(place: u8, offset: u32) -> usize
 }
 
 /// The first line whose deadline has come.
-fn first_due(lines: &[Option<Timer>], now: u64) -> Option<Fired>
-    requires { length lines.now ≡ PLACES * LINES_MAX }
+fn first_due(lines: &[Option<Timer>], deadlines: &Deadlines, now: u64) -> Option<Fired>
+    requires lines { length lines.now ≡ PLACES * LINES_MAX }
+    requires deadlines { deadlines.now ≡ map deadline_of lines.now }
     ensures first { result ≡ slice_get (fires now lines.now) 0 }
     ensures place { IfSome result (λ fired. fired.place < PLACES) }
     ensures offset { IfSome result (λ fired. fired.offset < LINES_MAX) }
 {
-    let mut first: Option<Fired> = None;
-    for passed in 0..lines.len() {
-        let n = lines.len() - 1 - passed;
-        first = earlier(fired_at(now, n, lines[n]), first);
-    }
-    first
-}
-
-/// The earlier of two lines, where the first of them wins where it comes before the second.
-fn earlier(line: Option<Fired>, other: Option<Fired>) -> Option<Fired>
-    ensures { result ≡ earlier line other }
-{
-    match line {
-        None => other,
-        Some(fired) => match other {
-            None => line,
-            Some(later) => {
-                if comes_before(&fired, &later) {
-                    line
-                } else {
-                    other
-                }
-            }
-        },
+    match deadlines.first() {
+        None => None,
+        Some(due) => fired_at(now, due.line, lines[due.line]),
     }
 }

@@ -1,7 +1,7 @@
 //! One line's timer.
 
 ghost use Rattle.std.specs.Prelude.{◌≡◌, ◌<◌};
-ghost use Rattle.gl_debounce.specs.Fire.{comes_before, fired_at};
+ghost use Rattle.gl_debounce.specs.Fire.{fired_at};
 ghost use Rattle.gl_debounce.specs.Timer.{settled_at_raw, still, with_raw, without_deadline};
 
 use gl_base::{LINES_MAX, PLACES};
@@ -100,14 +100,4 @@ pub(crate) fn fired_at(now: u64, n: usize, timer: Option<Timer>) -> Option<Fired
             }
         },
     }
-}
-
-/// Whether a line settles before another: by deadline, place and offset.
-pub(crate) fn comes_before(first: &Fired, second: &Fired) -> bool
-    ensures { result ≡ comes_before first.now second.now }
-{
-    first.deadline < second.deadline
-        || (first.deadline == second.deadline
-            && (first.place < second.place
-                || (first.place == second.place && first.offset < second.offset)))
 }
