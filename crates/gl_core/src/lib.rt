@@ -39,6 +39,3 @@ mod values;
 pub use asked::Asked;
 pub use gl_model::{Call, Gift, Origin, Part, Place, Reply};
 pub use machine::Core;
-
-#[cfg(test)]
-mod tests;

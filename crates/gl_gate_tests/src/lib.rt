@@ -5,6 +5,8 @@ mod adder;
 mod adding;
 mod asking;
 mod core_calls;
+#[cfg(test)]
+mod core_memory_tests;
 mod core_passes;
 #[cfg(test)]
 mod core_tests;

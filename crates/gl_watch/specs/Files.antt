@@ -1,13 +1,14 @@
 -- The open chip files, in order of their opening: which lines each watches, and what waits for it
 -- (the kernel's GPIO character device, line information watches).
-use Rattle.std.specs.Prelude.{ℕ, Bool, false, ◌&&◌, ◌==◌, if◌then◌else◌, List, [], drop, replicate, slice_set, slice_index_or, Option, Some, None}
-use Rattle.std.specs.List.{find}
+use Rattle.std.specs.Prelude.{ℕ, ◌≡◌, Bool, false, ◌&&◌, ◌==◌, if◌then◌else◌, List, [], drop, replicate, slice_set, slice_index_or, Option, Some, None}
+use Rattle.std.specs.List.{find, position}
 use Rattle.gl_base.specs.Refusals.{when}
 use Rattle.gl_base.specs.declared.limits.TheConstants.{LINES_MAX}
 use Rattle.gl_base.specs.declared.errno.Errno.{Errno}
 use Rattle.gl_base.specs.declared.errno.Errno.TheVariants.{Busy}
 use Rattle.gl_uapi.specs.declared.info_changes.Changed.{Changed}
 use Rattle.gl_watch.specs.declared.file.ChipFile.{ChipFile}
+use Rattle.gl_watch.specs.declared.file.FileAt.{FileAt}
 use Rattle.gl_watch.specs.Queue.{appended}
 
 -- the file has this number
@@ -16,6 +17,15 @@ is_file fd file = file.fd == fd
 
 abbrev pub file_at : ℕ → List ChipFile → Option ChipFile
 file_at fd files = find (is_file fd) files
+
+-- the file of this number stands there
+abbrev pub StandsAt : FileAt → List ChipFile → Type 0
+StandsAt found files = position (is_file found.fd) files ≡ Some found.at
+
+-- a file, where there is one, is of a chip at this place
+abbrev pub is_open_at : ℕ → Option ChipFile → Bool
+is_open_at place None = false
+is_open_at place (Some file) = file.place == place
 
 -- no line
 unfoldable pub no_lines : List Bool

@@ -7,6 +7,15 @@ use crate::queue::InfoQueue;
 use gl_base::LINES_MAX;
 use gl_uapi::Changed;
 
+/// An open chip file where it stands among the files, as a look-up found it. It stands there until a file is closed.
+#[derive(Clone, Copy, PartialEq, Eq, Debug)]
+pub struct FileAt {
+    /// The file's number.
+    pub fd: u32,
+    /// The position of its row, counted from 0.
+    pub at: usize,
+}
+
 /// An open chip file: its number, its chip's place, the lines that it watches, and the changes that wait
 /// for it.
 #[derive(Drop)]

@@ -12,6 +12,6 @@ mod table;
 mod tests;
 mod watches;
 
-pub use file::ChipFile;
+pub use file::{ChipFile, FileAt};
 pub use queue::{InfoQueue, QUEUE_CHANGES_MAX};
 pub use watches::Watches;

@@ -4,10 +4,10 @@ ghost use Rattle.std.specs.Prelude.{◌≡◌, ◌*◌, ◌<◌, ◌≤◌, ◌+
 ghost use Rattle.std.specs.List.{flat_map, position};
 ghost use Rattle.gl_base.specs.Rows.{change_first, without_first};
 ghost use Rattle.gl_uapi.specs.InfoChanged.{changed_bytes};
-ghost use Rattle.gl_watch.specs.Files.{is_file, file_at, with_watch, notified, waiting_in, without_changes};
+ghost use Rattle.gl_watch.specs.Files.{StandsAt, is_file, file_at, with_watch, notified, waiting_in, without_changes};
 ghost use Rattle.gl_watch.specs.Answers.{changes_of};
 
-use crate::file::ChipFile;
+use crate::file::{ChipFile, FileAt};
 use crate::queue::InfoQueue;
 use gl_base::LINES_MAX;
 use gl_uapi::Changed;
@@ -41,6 +41,7 @@ pub(crate) fn remove_file(files: &mut Vec<ChipFile>, fd: u32) -> Option<InfoQueu
 }
 
 /// Sets whether a file watches a line.
+#[tactic(auto, using(crate::proofs::Found::found))]
 pub(crate) fn set_watch(files: &mut Vec<ChipFile>, fd: u32, offset: u32, watch: bool)
     requires { offset < LINES_MAX }
     ensures files { files.new.items ≡ change_first (is_file fd) (with_watch offset watch) files.old.items }
@@ -48,9 +49,21 @@ pub(crate) fn set_watch(files: &mut Vec<ChipFile>, fd: u32, offset: u32, watch: 
     ensures as_many { length files.new.items ≡ length files.old.items }
 {
     match position_of(files, fd) {
-        Some(at) => files[at].set_watch(offset, watch),
+        Some(at) => set_watch_at(files, FileAt { fd, at }, offset, watch),
         None => {}
     }
+}
+
+/// The same, of the file that was found.
+#[tactic(auto, using(crate::proofs::Found::found))]
+pub(crate) fn set_watch_at(files: &mut Vec<ChipFile>, found: FileAt, offset: u32, watch: bool)
+    requires offset { offset < LINES_MAX }
+    requires stands { StandsAt found files.old.items }
+    ensures files { files.new.items ≡ change_first (is_file found.fd) (with_watch offset watch) files.old.items }
+    ensures capacity { vec_capacity files.new ≡ vec_capacity files.old }
+    ensures as_many { length files.new.items ≡ length files.old.items }
+{
+    files[found.at].set_watch(offset, watch);
 }
 
 /// Tells each file of a change.
@@ -66,6 +79,7 @@ pub(crate) fn notify_all(files: &mut Vec<ChipFile>, place: u8, changed: &Changed
 }
 
 /// Moves a file's first changes into `out`.
+#[tactic(auto, using(crate::proofs::Found::found))]
 pub(crate) fn read_file(files: &mut Vec<ChipFile>, fd: u32, max: u32, out: &mut [u8]) -> u32
     requires { INFO_CHANGED_SIZE * max ≤ length out.old }
     ensures count { result ≡ min max (length (waiting_in (file_at fd files.old.items))) }
@@ -75,7 +89,26 @@ pub(crate) fn read_file(files: &mut Vec<ChipFile>, fd: u32, max: u32, out: &mut 
     ensures as_many { length files.new.items ≡ length files.old.items }
 {
     match position_of(files, fd) {
-        Some(at) => files[at].changes.read(max, out),
+        Some(at) => read_file_at(files, FileAt { fd, at }, max, out),
         None => 0,
     }
+}
+
+/// The same, of the file that was found.
+#[tactic(auto, using(crate::proofs::Found::found))]
+pub(crate) fn read_file_at(
+    files: &mut Vec<ChipFile>,
+    found: FileAt,
+    max: u32,
+    out: &mut [u8],
+) -> u32
+    requires room { INFO_CHANGED_SIZE * max ≤ length out.old }
+    requires stands { StandsAt found files.old.items }
+    ensures count { result ≡ min max (length (waiting_in (file_at found.fd files.old.items))) }
+    ensures files { files.new.items ≡ change_first (is_file found.fd) (without_changes result) files.old.items }
+    ensures out { out.new ≡ flat_map changed_bytes (take result (waiting_in (file_at found.fd files.old.items))) ++ drop (INFO_CHANGED_SIZE * result) out.old }
+    ensures capacity { vec_capacity files.new ≡ vec_capacity files.old }
+    ensures as_many { length files.new.items ≡ length files.old.items }
+{
+    files[found.at].changes.read(max, out)
 }

@@ -1,14 +1,16 @@
 //! The open chip files, in order of their opening.
 
-ghost use Rattle.std.specs.Prelude.{◌≡◌, ◌*◌, ◌<◌, ◌≤◌, [], ◌∷◌, ◌++◌, length, map, min, take, drop, nat_le, true, false, IfOk, IsOkUnless};
+ghost use Rattle.std.specs.Prelude.{◌≡◌, ◌*◌, ◌<◌, ◌≤◌, [], ◌∷◌, ◌++◌, length, map, min, take, drop, nat_le, true, false, is_some, IfOk, IfSome, IsOkUnless};
 ghost use Rattle.std.specs.List.{flat_map};
 ghost use Rattle.gl_base.specs.Refusals.{answer, unless};
 ghost use Rattle.gl_base.specs.Rows.{change_first, without_first};
 ghost use Rattle.gl_uapi.specs.InfoChanged.{changed_bytes};
 
-use crate::file::ChipFile;
+use crate::file::{ChipFile, FileAt};
 use crate::queue::InfoQueue;
-use crate::table::{file_at, notify_all, read_file, remove_file, set_watch};
+use crate::table::{
+    file_at, notify_all, position_of, read_file, read_file_at, remove_file, set_watch, set_watch_at,
+};
 use gl_base::{Errno, FILES_MAX, LINES_MAX, push_within};
 use gl_uapi::Changed;
 use gl_uapi::layout::INFO_CHANGED_SIZE;
@@ -34,7 +36,7 @@ impl Model for Watches {
 }
 
 impl Watches {
-    ghost use Rattle.gl_watch.specs.Files.{is_file, file_at, new_file, with_watch, watch_refusal, unwatch_refusal, notified, waiting_in, without_changes};
+    ghost use Rattle.gl_watch.specs.Files.{StandsAt, is_file, is_open_at, file_at, new_file, with_watch, watch_refusal, unwatch_refusal, notified, waiting_in, without_changes};
     ghost use Rattle.gl_watch.specs.Answers.{changes_of, place_of};
 
     /// No open file, with room for all that may be open. `NoMemory` alone is refused.
@@ -104,6 +106,25 @@ impl Watches {
         }
     }
 
+    /// Where the file of this number stands, if its chip is at this place.
+    #[tactic(auto, using(crate::proofs::Found::found))]
+    pub fn find_open(&self, place: u8, fd: u32) -> Option<FileAt>
+        ensures open { is_some result ≡ is_open_at place (file_at fd self.now) }
+        ensures number { IfSome result (λ found. found.fd ≡ fd) }
+        ensures stands { IfSome result (λ found. StandsAt found self.now) }
+    {
+        match position_of(&self.files, fd) {
+            Some(at) => {
+                if self.files[at].place == place {
+                    Some(FileAt { fd, at })
+                } else {
+                    None
+                }
+            }
+            None => None,
+        }
+    }
+
     /// Makes a file watch a line. `Busy` comes exactly where this file watches it, and then nothing changes;
     /// without such a file nothing changes either.
     pub fn watch(&mut self, fd: u32, offset: u32) -> Result<(), Errno>
@@ -120,6 +141,21 @@ impl Watches {
             None => {}
         }
         set_watch(&mut self.files, fd, offset, true);
+        Ok(())
+    }
+
+    /// The same, of the file that was found.
+    #[tactic(auto, using(crate::proofs::Found::found))]
+    pub fn watch_at(&mut self, found: FileAt, offset: u32) -> Result<(), Errno>
+        requires offset { offset < LINES_MAX }
+        requires stands { StandsAt found self.old }
+        ensures answer { result ≡ answer (watch_refusal offset (file_at found.fd self.old)) tt }
+        ensures files { self.new ≡ unless (watch_refusal offset (file_at found.fd self.old)) (change_first (is_file found.fd) (with_watch offset true) self.old) self.old }
+    {
+        if self.files[found.at].is_watching(offset) {
+            return Err(Errno::Busy);
+        }
+        set_watch_at(&mut self.files, found, offset, true);
         Ok(())
     }
 
@@ -142,6 +178,21 @@ impl Watches {
         Ok(())
     }
 
+    /// The same, of the file that was found.
+    #[tactic(auto, using(crate::proofs::Found::found))]
+    pub fn unwatch_at(&mut self, found: FileAt, offset: u32) -> Result<(), Errno>
+        requires offset { offset < LINES_MAX }
+        requires stands { StandsAt found self.old }
+        ensures answer { result ≡ answer (unwatch_refusal offset (file_at found.fd self.old)) tt }
+        ensures files { self.new ≡ unless (unwatch_refusal offset (file_at found.fd self.old)) (change_first (is_file found.fd) (with_watch offset false) self.old) self.old }
+    {
+        if !self.files[found.at].is_watching(offset) {
+            return Err(Errno::Busy);
+        }
+        set_watch_at(&mut self.files, found, offset, false);
+        Ok(())
+    }
+
     /// Tells each file of the place that watches the changed line. A file with 32 changes keeps those.
     pub fn notify(&mut self, place: u8, changed: &Changed)
         requires { changed.now.info.offset < LINES_MAX }
@@ -160,6 +211,15 @@ impl Watches {
         }
     }
 
+    /// How many changes wait for the file that was found.
+    #[tactic(auto, using(crate::proofs::Found::found))]
+    pub fn waiting_at(&self, found: FileAt) -> u32
+        requires { StandsAt found self.now }
+        ensures { result ≡ length (waiting_in (file_at found.fd self.now)) }
+    {
+        self.files[found.at].changes.len()
+    }
+
     /// Moves a file's first changes into `out`, at most `max` of them, as bytes one after the other, and
     /// answers how many. What stands behind them in `out` stays.
     pub fn read(&mut self, fd: u32, max: u32, out: &mut [u8]) -> u32
@@ -169,5 +229,16 @@ impl Watches {
         ensures out { out.new ≡ flat_map changed_bytes (take result (waiting_in (file_at fd self.old))) ++ drop (INFO_CHANGED_SIZE * result) out.old }
     {
         read_file(&mut self.files, fd, max, out)
+    }
+
+    /// The same, of the file that was found.
+    pub fn read_at(&mut self, found: FileAt, max: u32, out: &mut [u8]) -> u32
+        requires room { INFO_CHANGED_SIZE * max ≤ length out.old }
+        requires stands { StandsAt found self.old }
+        ensures count { result ≡ min max (length (waiting_in (file_at found.fd self.old))) }
+        ensures files { self.new ≡ change_first (is_file found.fd) (without_changes result) self.old }
+        ensures out { out.new ≡ flat_map changed_bytes (take result (waiting_in (file_at found.fd self.old))) ++ drop (INFO_CHANGED_SIZE * result) out.old }
+    {
+        read_file_at(&mut self.files, found, max, out)
     }
 }
