@@ -1,6 +1,10 @@
 -- The row of a number, and what each row keeps.
-use Rattle.std.proofs.Common.{ℕ, Bool, true, false, cond, ◌≡◌, ◌≤◌, List, length, ◌∷◌, ◌++◌, [], get_or, set, Some, ap, sym, ◌∙◌}
-use Rattle.std.specs.Prelude.{find, is_some, position}
+use Rattle.std.proofs.Common.{ℕ, zero, suc, Bool, true, false, cond, ltb, ◌≡◌, ◌<◌, ◌≤◌, List, length, map, ◌∷◌, ◌++◌, [], get_or, set, Some, None, refl, ap, sym, ◌∙◌, arith, eq-eqb}
+use Rattle.std.specs.Prelude.{◌+◌, ◌==◌, find, is_some, nat_eq, not, position}
+use Rattle.std.specs.List.{AllByRecursion, IsDistinct, position_or_len}
+use Rattle.std.proofs.lemmas.Bool.Decides.{nat_tests}
+use Rattle.std.proofs.lemmas.List.Quantifiers.{position-Some}
+use Rattle.std.proofs.lemmas.List.Sums.{position_or_len_is}
 use Rattle.gl_base.specs.Lines.{IsLineCount}
 use Rattle.gl_base.specs.declared.limits.TheConstants.{LINES_PER_REQUEST}
 use Rattle.gl_base.specs.Rows.{Each, change_first, without_first}
@@ -8,7 +12,7 @@ use Rattle.gl_base.proofs.FirstRows.{at_position, change_first-no_position, chan
 use Rattle.gl_base.specs.declared.settings.Resolved.{Resolved}
 use Rattle.gl_ring.specs.declared.ring.TheConstants.{RING_EVENTS_MAX}
 use Rattle.gl_request.specs.declared.row.RequestRow.{RequestRow}
-use Rattle.gl_request.specs.Request.{HasLines, configured, held, is_monitored, noted, read_from, with_event}
+use Rattle.gl_request.specs.Request.{HasLines, HaveDifferentNumbers, configured, held, is_claim_of, is_monitored, is_number, noted, read_from, with_event}
 
 -- the row that was read at the position of the first that passes
 pub change_first-read : (test : RequestRow → Bool) (f : RequestRow → RequestRow) (rows : List RequestRow) (i : ℕ) (row : RequestRow) → position test rows ≡ Some i → row ≡ get_or rows i row
@@ -53,3 +57,45 @@ slots_found test rows i d at each = (Each-at HasLines rows i d each (at_position
 
 pub lines_taken : (test : RequestRow → Bool) (rows : List RequestRow) (row : RequestRow) → find test rows ≡ Some row → Each HasLines rows → IsLineCount row.lines.count
 lines_taken test rows row is each = (Each-find HasLines test rows row each is).0
+
+-- a number that no other has
+
+number_of : RequestRow → ℕ
+number_of row = row.fd
+
+first_only : (n : ℕ) (rows : List RequestRow) (i : ℕ) (d : RequestRow) → AllByRecursion (λ y. nat_eq n y ≡ false) (map (λ (row : RequestRow). row.fd) rows) → i < length rows → nat_eq n (get_or rows i d).fd ≡ false
+first_only n [] i d all lt = absurd (omega arith)
+first_only n (row ∷ rows) zero d all lt = all.0
+first_only n (row ∷ rows) (suc i) d all lt = first_only n rows i d all.1 (omega arith)
+
+others_differ : (rows : List RequestRow) (k i : ℕ) (d : RequestRow) → HaveDifferentNumbers rows → k < i → i < length rows → is_number (get_or rows i d).fd (get_or rows k d) ≡ false
+unfolding IsDistinct
+others_differ [] k i d differ before lt = absurd (omega arith)
+others_differ (row ∷ rows) zero zero d differ before lt = absurd (omega arith)
+others_differ (row ∷ rows) zero (suc i) d differ before lt = first_only row.fd rows i d differ.0 (omega arith)
+others_differ (row ∷ rows) (suc k) zero d differ before lt = absurd (omega arith)
+others_differ (row ∷ rows) (suc k) (suc i) d differ before lt = others_differ rows k i d differ.1 (omega arith) (omega arith)
+
+-- the claim that was found is the request of its number
+pub claim_found : (actor : ℕ) (rows : List RequestRow) (i : ℕ) (d : RequestRow) → position (is_claim_of actor) rows ≡ Some i → HaveDifferentNumbers rows
+    → position (is_number (get_or rows i d).fd) rows ≡ Some i
+claim_found actor rows i d at differ =
+    let here = position-Some (is_claim_of actor) rows i d at in
+    let test : RequestRow → Bool = is_number (get_or rows i d).fd in
+    let first : position_or_len test rows ≡ i =
+    position_or_len_is test rows i d (omega (arith, here.0)) (λ k before. others_differ rows k i d differ before here.0) (λ lt. eq-eqb (get_or rows i d).fd (get_or rows i d).fd refl) in
+    let within : ltb i (length rows) ≡ true = grind (arith, nat_tests, here.0) in
+    ap (λ (n : ℕ). cond (ltb n (length rows)) (Some n) None) first ∙ ap (λ b. cond b (Some i) None) within
+
+-- it stands there still when it is held
+
+positions_stay : (fd : ℕ) (rows : List RequestRow) → position_or_len (is_number fd) (change_first (is_number fd) held rows) ≡ position_or_len (is_number fd) rows
+positions_stay fd [] = refl
+positions_stay fd (row ∷ rows) =
+    elim (row.fd == fd) as (λ b. position_or_len (is_number fd) (cond b (held row ∷ rows) (row ∷ change_first (is_number fd) held rows)) ≡ position_or_len (is_number fd) (row ∷ rows)) [
+      | true ↦ refl
+      | false ↦ ap (λ (n : ℕ). cond (not (row.fd == fd)) (1 + n) 0) (positions_stay fd rows)
+    ]
+
+pub stays : (fd at : ℕ) (rows : List RequestRow) → position (is_number fd) rows ≡ Some at → position (is_number fd) (change_first (is_number fd) held rows) ≡ Some at
+stays fd at rows is = ap (λ (n : ℕ). cond (ltb n (length (change_first (is_number fd) held rows))) (Some n) None) (positions_stay fd rows) ∙ ap (λ (n : ℕ). cond (ltb (position_or_len (is_number fd) rows) n) (Some (position_or_len (is_number fd) rows)) None) (length-change_first (is_number fd) held rows) ∙ is

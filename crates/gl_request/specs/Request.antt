@@ -1,6 +1,7 @@
 -- The requests of lines, after the kernel's GPIO character device. A table has a row for each request, in the
 -- order of their claims.
-use Rattle.std.specs.Prelude.{ℕ, ◌≡◌, ◌≤◌, Bool, false, true, ◌+◌, ◌%◌, ◌^◌, ◌&&◌, ◌==◌, not, nat_lt, if◌then◌else◌, List, length, Option, Some, None, find, position, replicate, slice_index, slice_index_or, slice_set}
+use Rattle.std.specs.Prelude.{ℕ, ◌≡◌, ◌≤◌, Bool, false, true, ◌+◌, ◌%◌, ◌^◌, ◌&&◌, ◌==◌, not, nat_lt, if◌then◌else◌, List, length, map, nat_eq, Option, Some, None, find, position, replicate, slice_index, slice_index_or, slice_set}
+use Rattle.std.specs.List.{IsDistinct}
 use Rattle.circular_buffer.specs.Buffer.{Buffer}
 use Rattle.gl_base.specs.Bits.{has_bit}
 use Rattle.gl_base.specs.Lines.{IsLineCount}
@@ -27,6 +28,10 @@ request_at rows fd = find (is_number fd) rows
 -- the request of this number stands there
 abbrev pub StandsAt : RequestAt → List RequestRow → Type 0
 StandsAt found rows = position (is_number found.fd) rows ≡ Some found.at
+
+-- the requests have different numbers
+abbrev pub HaveDifferentNumbers : List RequestRow → Type 0
+HaveDifferentNumbers rows = IsDistinct nat_eq (map (λ (row : RequestRow). row.fd) rows)
 
 -- a request, where there is one, is finished and of this place
 abbrev pub is_open_at : ℕ → Option RequestRow → Bool

@@ -7,7 +7,7 @@ ghost use Rattle.gl_base.specs.Lines.{IsLineCount};
 ghost use Rattle.gl_base.specs.Rows.{Each, change_first, without_first};
 ghost use Rattle.gl_uapi.specs.LineEvent.{event_bytes};
 ghost use Rattle.gl_ring.specs.Waiting.{taken, taken_count};
-ghost use Rattle.gl_request.specs.Request.{HasLines, StandsAt, claim_by, claim_of, configured, event_of, held, is_claim_of, is_number, is_open_at, noted, read_from, request_at, row_of, settings_at};
+ghost use Rattle.gl_request.specs.Request.{HasLines, HaveDifferentNumbers, StandsAt, claim_by, claim_of, configured, event_of, held, is_claim_of, is_number, is_open_at, noted, read_from, request_at, row_of, settings_at};
 
 use crate::row::{Claim, RequestAt, RequestRow};
 use gl_base::{Errno, FILES_MAX, LINES_PER_REQUEST, Lines, Resolved, Settings, push_within};
@@ -141,6 +141,22 @@ impl Requests {
         }
     }
 
+    /// Where an actor's unfinished claim stands, or None where the actor has none.
+    #[tactic(auto, using(crate::proofs::Found::found, crate::proofs::Found::claim_found))]
+    pub fn find_pending(&self, actor: u8) -> Option<RequestAt>
+        requires { HaveDifferentNumbers self.now }
+        ensures number { option_map (λ found. found.fd) result ≡ option_map (λ row. row.fd) (claim_by self.now actor) }
+        ensures stands { IfSome result (λ found. StandsAt found self.now) }
+    {
+        match claim_position(&self.rows, actor) {
+            Some(at) => Some(RequestAt {
+                fd: self.rows[at].fd,
+                at,
+            }),
+            None => None,
+        }
+    }
+
     /// The request that was found.
     #[tactic(auto, using(crate::proofs::Found::found, crate::proofs::Found::lines_found, crate::proofs::Found::slots_found))]
     pub fn row(&self, found: RequestAt) -> &RequestRow
@@ -150,6 +166,16 @@ impl Requests {
         ensures slots { length result.now.lines.offsets ≡ LINES_PER_REQUEST }
     {
         &self.rows[found.at]
+    }
+
+    /// The claim that was found is finished: its lines are held. It stands there still.
+    #[tactic(auto, using(crate::proofs::Found::kept, crate::proofs::Found::stays))]
+    pub fn settle_at(&mut self, found: RequestAt)
+        requires { StandsAt found self.old }
+        ensures rows { self.new ≡ change_first (is_number found.fd) held self.old }
+        ensures stands { StandsAt found self.new }
+    {
+        settle_row_at(&mut self.rows, found);
     }
 
     /// Takes the request that was found out of the table.
@@ -332,9 +358,18 @@ fn settle_row(rows: &mut Vec<RequestRow>, fd: u32)
     ensures capacity { vec_capacity rows.new ≡ vec_capacity rows.old }
 {
     match position_of(rows, fd) {
-        Some(at) => rows[at].held = true,
+        Some(at) => settle_row_at(rows, RequestAt { fd, at }),
         None => {}
     }
+}
+
+#[tactic(auto, using(crate::proofs::Found::found))]
+fn settle_row_at(rows: &mut Vec<RequestRow>, found: RequestAt)
+    requires { StandsAt found rows.old.items }
+    ensures rows { rows.new.items ≡ change_first (is_number found.fd) held rows.old.items }
+    ensures capacity { vec_capacity rows.new ≡ vec_capacity rows.old }
+{
+    rows[found.at].held = true;
 }
 
 #[tactic(auto, using(crate::proofs::Found::found))]
