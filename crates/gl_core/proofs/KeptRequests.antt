@@ -1,12 +1,16 @@
 -- The requests that are kept, by their numbers.
-use Rattle.std.proofs.Common.{◌≡◌, ℕ, Bool, false, Option, Some, None, refl, ap, ◌∙◌, subst}
+use Rattle.std.proofs.Common.{◌≡◌, ℕ, Bool, false, List, [], ◌∷◌, ◌++◌, map, Option, Some, None, refl, ap, ◌∙◌, subst}
+use Rattle.std.specs.Prelude.{nat_eq}
+use Rattle.std.specs.List.{AllByRecursion, IsDistinct}
 use Rattle.std.specs.Option.{option_map}
 use Rattle.gl_base.proofs.Seen.{find-map}
-use Rattle.gl_request.specs.Request.{is_number, request_at as row_at}
+use Rattle.gl_request.specs.Request.{HaveDifferentNumbers, is_number, request_at as row_at}
 use Rattle.gl_request.specs.declared.row.RequestRow.{RequestRow}
 use Rattle.gl_model.specs.OpenFiles.{is_hold, request_place}
 use Rattle.gl_model.specs.World.{Request, World, has_number, request_at}
+use Rattle.gl_watch.specs.declared.file.ChipFile.{ChipFile}
 use Rattle.gl_core.specs.Kept.{Kept, StandsFor, kept_request}
+use Rattle.gl_core.specs.Reached.{IsReached}
 
 -- what is kept of the request of a number
 pub kept_at : (k : Kept) (w : World) (fd : ℕ) → StandsFor k w → row_at k.requests fd ≡ option_map kept_request (request_at w.requests fd)
@@ -40,3 +44,20 @@ place_in (Some request) = refl
 pub place_told : (k : Kept) (w : World) (fd : ℕ) (place : Option ℕ) → StandsFor k w → place ≡ option_map (λ (row : RequestRow). row.place) (row_at k.requests fd) → place ≡ request_place (request_at w.requests fd)
 place_told k w fd place s told =
     told ∙ ap (λ row. option_map (λ (row : RequestRow). row.place) row) (kept_at k w fd s) ∙ place_in (request_at w.requests fd)
+
+-- the requests have different numbers
+
+others_kept : (n : ℕ) (requests : List Request) (ys : List ℕ) → AllByRecursion (λ y. nat_eq n y ≡ false) (map (λ (request : Request). request.fd) requests ++ ys)
+    → AllByRecursion (λ y. nat_eq n y ≡ false) (map (λ (row : RequestRow). row.fd) (map kept_request requests))
+others_kept n [] ys all = tt
+others_kept n (request ∷ requests) ys all = (all.0, others_kept n requests ys all.1)
+
+differ_kept : (requests : List Request) (ys : List ℕ) → IsDistinct nat_eq (map (λ (request : Request). request.fd) requests ++ ys) → HaveDifferentNumbers (map kept_request requests)
+unfolding IsDistinct
+differ_kept [] ys differ = tt
+differ_kept (request ∷ requests) ys differ = (others_kept request.fd requests ys differ.0, differ_kept requests ys differ.1)
+
+pub numbers_differ : (k : Kept) → IsReached k → HaveDifferentNumbers k.requests
+numbers_differ k reached =
+    subst (λ (k : Kept). HaveDifferentNumbers k.requests) reached.stands.kept_so
+    (differ_kept reached.world.requests (map (λ (file : ChipFile). file.fd) reached.world.files) reached.good.holders.numbers_differ)

@@ -14,7 +14,10 @@ use Rattle.gl_model.specs.Holders.{HasItsLines, has_line}
 use Rattle.gl_base.specs.Refusals.{first_of, when}
 use Rattle.gl_base.specs.declared.errno.Errno.{Errno}
 use Rattle.gl_base.specs.declared.errno.Errno.TheVariants.{BadF, Inval}
-use Rattle.gl_model.specs.OpenFiles.{is_chip_file, is_hold, is_place, is_request_file, on_request, request_file_refusal, request_place}
+use Rattle.gl_watch.specs.Answers.{place_of}
+use Rattle.gl_watch.specs.Files.{file_at, is_open_at as is_file_at}
+use Rattle.gl_watch.specs.declared.file.ChipFile.{ChipFile}
+use Rattle.gl_model.specs.OpenFiles.{chip_file_refusal, is_chip_file, is_hold, is_place, is_request_file, on_request, request_file_refusal, request_place}
 use Rattle.gl_model.specs.Outcome.{Outcome}
 use Rattle.gl_model.specs.Places.{no_place, place_at}
 use Rattle.gl_model.specs.World.{Request, World, has_number, request_at}
@@ -56,6 +59,31 @@ passed_as false true is = refl
 
 pub request_passed : (k : Kept) (place fd : ℕ) → true ≡ is_open_at place (row_at k.requests fd) → Tells (request_file_refusal place fd) k None
 request_passed k place fd there w s = passed_as (is_chip_file place fd w) (is_request_file place fd w) (there ∙ open_told k w place fd s)
+
+-- the table tells which chip files are open
+
+file_in : (place : ℕ) (o : Option ChipFile) → is_file_at place o ≡ is_place place (place_of o)
+file_in place None = refl
+file_in place (Some file) = refl
+
+pub file_told : (k : Kept) (w : World) (place fd : ℕ) → StandsFor k w → is_file_at place (file_at fd k.files) ≡ is_chip_file place fd w
+file_told k w place fd s = file_in place (file_at fd k.files) ∙ ap (λ (k : Kept). is_place place (place_of (file_at fd k.files))) (sym s.kept_so)
+
+file_refused_as : (chip request : Bool) → false ≡ chip → Some (if request then Inval else BadF) ≡ first_of (when (not (chip || request)) BadF ∷ when (not chip) Inval ∷ [])
+file_refused_as true request isnt = absurd (true≢false (sym isnt))
+file_refused_as false true isnt = refl
+file_refused_as false false isnt = refl
+
+pub file_refused : (k : Kept) (place fd : ℕ) (errno : Errno) → false ≡ is_file_at place (file_at fd k.files) → Tells (λ w. if is_request_file place fd w then Inval else BadF) k errno → Tells (chip_file_refusal place fd) k (Some errno)
+file_refused k place fd errno none told w s =
+    ap Some (told w s) ∙ file_refused_as (is_chip_file place fd w) (is_request_file place fd w) (none ∙ file_told k w place fd s)
+
+file_passed_as : (chip request : Bool) → true ≡ chip → None ≡ first_of (when (not (chip || request)) BadF ∷ when (not chip) Inval ∷ [])
+file_passed_as false request is = absurd (true≢false is)
+file_passed_as true request is = refl
+
+pub file_passed : (k : Kept) (place fd : ℕ) → true ≡ is_file_at place (file_at fd k.files) → Tells (chip_file_refusal place fd) k None
+file_passed k place fd there w s = file_passed_as (is_chip_file place fd w) (is_request_file place fd w) (there ∙ file_told k w place fd s)
 
 -- what a look-up answered that found none
 

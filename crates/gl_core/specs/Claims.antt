@@ -1,10 +1,13 @@
 -- What a claim of lines needs, and what it takes of what a call brings.
-use Rattle.std.specs.Prelude.{◌≡◌, ℕ, ◌+◌, ◌<◌, ◌^◌, false, if◌then◌else◌, List, [], length, take, slice_index_or, Some, None}
+use Rattle.std.specs.Prelude.{◌≡◌, ℕ, ◌+◌, ◌<◌, ◌^◌, false, if◌then◌else◌, List, [], length, take, slice_index_or, Option, Some, None}
 use Rattle.circular_buffer.specs.Buffer.{buffer}
 use Rattle.gl_base.specs.declared.limits.TheConstants.{FILES_MAX}
 use Rattle.gl_base.specs.Lines.{offsets_of}
 use Rattle.gl_base.specs.Rows.{change_first}
 use Rattle.gl_desc.specs.Desc.{claim_fault, settled}
+use Rattle.gl_request.specs.Request.{request_at as row_at}
+use Rattle.gl_request.specs.declared.row.RequestAt.{RequestAt}
+use Rattle.gl_request.specs.declared.row.RequestRow.{RequestRow}
 use Rattle.gl_uapi.specs.declared.commands.Command.{Command}
 use Rattle.gl_uapi.specs.declared.commands.Command.TheVariants.{GetLine}
 use Rattle.gl_uapi.specs.declared.layout.TheConstants.{LINE_REQUEST_SIZE}
@@ -35,6 +38,11 @@ pub record MayClaim (k : Kept) (place : ℕ) (asked : AskedLines) : Type 0 where
 abbrev pub without_ring : Reply → Gift → Gift
 without_ring (Go number) gift = record gift { ring = None }
 without_ring _ gift = gift
+
+-- the row of a request that a look-up found, if it found one
+abbrev pub row_found : List RequestRow → Option RequestAt → Option RequestRow
+row_found rows None = None
+row_found rows (Some found) = row_at rows found.fd
 
 -- the world in which the lines of a claim are held, not yet configured
 abbrev pub settled_claim : Request → World → World

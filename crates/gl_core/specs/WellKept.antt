@@ -1,5 +1,5 @@
 -- What is true of a core at every moment, fact by fact. Nothing above the core needs to know it.
-use Rattle.std.specs.Prelude.{◌≡◌, ℕ, ◌*◌, ◌<◌, ◌≤◌, ◌^◌, List, length, nat_eq}
+use Rattle.std.specs.Prelude.{◌≡◌, ℕ, ◌*◌, ◌<◌, ◌≤◌, ◌^◌, length, nat_eq}
 use Rattle.std.specs.List.{IsDistinct}
 use Rattle.gl_base.specs.Rows.{Each}
 use Rattle.gl_base.specs.declared.limits.TheConstants.{LINES_MAX, PLACES}

@@ -2,29 +2,31 @@
 
 ghost use Rattle.std.specs.Prelude.{◌≡◌, ◌<◌, ◌++◌, [], IfNone, IfSome, None, Some, drop, is_some, length, take};
 ghost use Rattle.circular_buffer.specs.Buffer.{buffer};
-ghost use Rattle.gl_base.specs.Lines.{IsLineCount};
+ghost use Rattle.gl_base.specs.Lines.{IsLineCount, offsets_of};
 ghost use Rattle.gl_base.specs.Positions.{first_fault};
+ghost use Rattle.gl_base.specs.Rows.{Each};
 ghost use Rattle.gl_base.specs.declared.limits.TheConstants.{LINES_PER_REQUEST};
 ghost use Rattle.gl_model.specs.Asked.{capacity_asked, request_fault};
 ghost use Rattle.gl_model.specs.Claiming.{claim, claim_at, claim_by, claim_lines, claim_number, claim_refusal, drop_claim, errno_of, get_line_ask, get_line_tell, hold_claim, line_refusal, with_fd};
 ghost use Rattle.gl_model.specs.Places.{place_at};
-ghost use Rattle.gl_model.specs.World.{Request, request_at};
-ghost use Rattle.gl_request.specs.Request.{claim_of};
+ghost use Rattle.gl_model.specs.World.{Request};
+ghost use Rattle.gl_request.specs.Request.{StandsAt, held, request_at as row_at};
+ghost use Rattle.gl_request.specs.declared.row.RequestRow.{RequestRow};
 ghost use Rattle.std.specs.Option.{option_map};
 ghost use Rattle.gl_uapi.specs.declared.layout.TheConstants.{LINE_REQUEST_SIZE};
-ghost use Rattle.gl_core.specs.Claims.{AreFree, MayClaim, settled_claim, without_ring};
+ghost use Rattle.gl_core.specs.Claims.{AreFree, MayClaim, row_found, settled_claim, without_ring};
 ghost use Rattle.gl_core.specs.Kept.{kept_request};
 ghost use Rattle.gl_core.specs.Reached.{IsReached};
-ghost use Rattle.gl_core.specs.Shape.{HasEachLine, HasLines, KeepsLines};
+ghost use Rattle.gl_core.specs.Shape.{HasLine, HasLines, KeepsLines};
 ghost use Rattle.gl_core.specs.Steps.{Follows, Steps, StepsInto, Tells};
 
 use crate::asked::Asked;
 use crate::configuring::interrupt_fault;
 use crate::state::State;
-use gl_base::Errno;
+use gl_base::{Errno, Lines};
 use gl_desc::LineFault;
 use gl_model::{Gift, Place, Reply};
-use gl_request::Claim;
+use gl_request::{Claim, RequestAt};
 use gl_ring::EdgeRing;
 use gl_uapi::layout::{CHANGED_REQUESTED, LINE_REQUEST_SIZE};
 use gl_uapi::write_request_answer;
@@ -173,31 +175,18 @@ impl State {
         }
     }
 
-    /// An actor's unfinished claim, if it is of this place.
-    fn claim_at(&self, place: u8, actor: u8) -> Option<Claim>
+    /// Where an actor's unfinished claim stands, if it is of this place.
+    fn claim_at(&self, place: u8, actor: u8) -> Option<RequestAt>
         requires { IsReached self.now }
-        ensures told { Tells (λ w. option_map (λ request. claim_of (kept_request request)) (claim_at place (claim_by w.requests actor))) self.now result }
-        ensures count { IfSome result (λ claim. IsLineCount claim.lines.count) }
-        ensures lines { IfSome result (λ claim. HasEachLine self.now.places claim.place claim.lines) }
+        ensures told { Tells (λ w. option_map kept_request (claim_at place (claim_by w.requests actor))) self.now (row_found self.now.requests result) }
+        ensures stands { IfSome result (λ found. StandsAt found self.now.requests) }
+        ensures lines { IfSome result (λ found. (row : RequestRow) → row_at self.now.requests found.fd ≡ Some row → Each (HasLine self.now.places row.place) (offsets_of row.lines)) }
     {
-        match self.requests.pending(actor) {
+        match self.requests.find_pending(actor) {
             None => None,
-            Some(fd) => self.claim_of_place(place, fd),
-        }
-    }
-
-    /// What the request of a number was claimed as, if it is of this place.
-    fn claim_of_place(&self, place: u8, fd: u32) -> Option<Claim>
-        requires { IsReached self.now }
-        ensures told { Tells (λ w. option_map (λ request. claim_of (kept_request request)) (claim_at place (request_at w.requests fd))) self.now result }
-        ensures count { IfSome result (λ claim. IsLineCount claim.lines.count) }
-        ensures lines { IfSome result (λ claim. HasEachLine self.now.places claim.place claim.lines) }
-    {
-        match self.requests.claimed_as(fd) {
-            None => None,
-            Some(claim) => {
-                if claim.place == place {
-                    Some(claim)
+            Some(found) => {
+                if self.requests.row(found).place == place {
+                    Some(found)
                 } else {
                     None
                 }
@@ -205,34 +194,41 @@ impl State {
         }
     }
 
-    /// Gives up a claim: its lines are free again.
-    fn drop_claim(&mut self, claim: &Claim)
-        requires { IsLineCount claim.now.lines.count }
-        ensures { (request : Request) → claim_of (kept_request request) ≡ claim.now → Follows (drop_claim request) self.old self.new }
+    /// Gives up the claim that was found: its lines are free again.
+    fn drop_claim(&mut self, found: RequestAt)
+        requires { StandsAt found self.old.requests }
+        ensures { (request : Request) → row_at self.old.requests found.fd ≡ Some (kept_request request) → Follows (drop_claim request) self.old self.new }
     {
-        self.requests.release(claim.fd);
-        self.places.unclaim(claim.place, &claim.lines);
+        let row = self.requests.take_at(found);
+        self.places.unclaim(row.place, &row.lines);
     }
 
-    /// A claim becomes a hold of its lines.
-    fn settle_claim(&mut self, claim: &Claim)
-        requires { IsLineCount claim.now.lines.count }
-        ensures follows { (request : Request) → claim_of (kept_request request) ≡ claim.now → Follows (settled_claim request) self.old self.new }
+    /// The claim that was found becomes a hold of its lines at its place.
+    fn settle_claim(&mut self, place: u8, lines: &Lines, found: RequestAt)
+        requires count { IsLineCount lines.now.count }
+        requires stands { StandsAt found self.old.requests }
+        ensures follows { (request : Request) → row_at self.old.requests found.fd ≡ Some (kept_request request) → request.place ≡ place → request.lines ≡ lines.now
+            → Follows (settled_claim request) self.old self.new }
         ensures lines { KeepsLines self.old.places self.new.places }
+        ensures row { row_at self.new.requests found.fd ≡ option_map held (row_at self.old.requests found.fd) }
+        ensures stands { StandsAt found self.new.requests }
     {
-        self.requests.settle(claim.fd);
-        self.places.settle(claim.place, &claim.lines);
+        self.requests.settle_at(found);
+        self.places.settle(place, lines);
     }
 
-    /// Finishes a claim: its lines are held, configured, and told of as requested, each in order.
-    fn hold_claim(&mut self, claim: &Claim)
-        requires count { IsLineCount claim.now.lines.count }
-        requires lines { HasEachLine self.old.places claim.now.place claim.now.lines }
-        ensures { (request : Request) → claim_of (kept_request request) ≡ claim.now → Follows (hold_claim request) self.old self.new }
+    /// Finishes the claim that was found: its lines are held, configured, and told of as requested, each in order.
+    fn hold_claim(&mut self, found: RequestAt)
+        requires stands { StandsAt found self.old.requests }
+        requires lines { (row : RequestRow) → row_at self.old.requests found.fd ≡ Some row → Each (HasLine self.old.places row.place) (offsets_of row.lines) }
+        ensures { (request : Request) → row_at self.old.requests found.fd ≡ Some (kept_request request) → Follows (hold_claim request) self.old self.new }
     {
-        self.settle_claim(claim);
-        self.configure_each(claim.place, &claim.lines, &claim.settings);
-        self.notify_each(claim.place, &claim.lines, CHANGED_REQUESTED);
+        let row = self.requests.row(found);
+        let place = row.place;
+        let lines = row.lines;
+        self.settle_claim(place, &lines, found);
+        self.configure_each(place, &lines, found);
+        self.notify_each(place, &lines, CHANGED_REQUESTED);
     }
 
     /// GET_LINE is told what the driver answered, `None` where it failed. The actor's unfinished claim at this place alone
@@ -252,15 +248,15 @@ impl State {
     {
         match self.claim_at(place, actor) {
             None => Reply::Refused(Errno::Inval),
-            Some(claim) => match answer {
+            Some(found) => match answer {
                 None => {
-                    self.drop_claim(&claim);
+                    self.drop_claim(found);
                     Reply::Refused(Errno::Io)
                 }
                 Some(_) => {
-                    self.hold_claim(&claim);
-                    write_with_fd(out, bytes, claim.fd);
-                    Reply::Number(u64::from(claim.fd))
+                    self.hold_claim(found);
+                    write_with_fd(out, bytes, found.fd);
+                    Reply::Number(u64::from(found.fd))
                 }
             },
         }

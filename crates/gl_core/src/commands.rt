@@ -8,6 +8,7 @@ ghost use Rattle.gl_uapi.specs.declared.layout.TheConstants.{CHIP_INFO_SIZE, LIN
 ghost use Rattle.gl_model.specs.Commands.{get_chip_info, get_line_info, info_refusal, offset_named, unwatch_line, watch_line, write_info};
 ghost use Rattle.gl_model.specs.Places.{lines_at};
 ghost use Rattle.gl_model.specs.declared.reply.Reply.TheVariants.{Done};
+ghost use Rattle.gl_watch.specs.Files.{StandsAt};
 ghost use Rattle.gl_core.specs.Shape.{HasLine};
 ghost use Rattle.gl_core.specs.Steps.{StepsInto, Tells};
 
@@ -17,6 +18,7 @@ use gl_base::{Errno, chip_name};
 use gl_model::Reply;
 use gl_uapi::layout::UNWATCH_SIZE;
 use gl_uapi::{InfoRef, UnwatchRef, write_chip_info, write_line_info};
+use gl_watch::FileAt;
 
 impl State {
     /// GET_CHIPINFO: the chip's name, its label and its number of lines.
@@ -43,17 +45,24 @@ impl State {
     }
 
     /// GET_LINEINFO_WATCH: the same, and the file watches the line from now on. `Busy` comes besides where it watches it.
-    pub(crate) fn watch_line(&mut self, place: u8, fd: u32, bytes: &[u8], out: &mut [u8]) -> Reply
+    pub(crate) fn watch_line(
+        &mut self,
+        place: u8,
+        found: FileAt,
+        bytes: &[u8],
+        out: &mut [u8],
+    ) -> Reply
+        requires stands { StandsAt found self.old.files }
         requires bytes { LINE_INFO_SIZE ≤ length bytes.now }
         requires out { LINE_INFO_SIZE ≤ length out.old }
-        ensures { StepsInto (watch_line place fd (take LINE_INFO_SIZE bytes.now)) self.old self.new result out.old out.new }
+        ensures { StepsInto (watch_line place found.fd (take LINE_INFO_SIZE bytes.now)) self.old self.new result out.old out.new }
     {
         let asked = asked_info(bytes);
         match self.info_refusal(place, &asked) {
             Some(errno) => Reply::Refused(errno),
             None => {
                 let offset = asked.offset();
-                match self.files.watch(fd, offset) {
+                match self.files.watch_at(found, offset) {
                     Err(errno) => Reply::Refused(errno),
                     Ok(()) => self.write_info(place, offset, out),
                 }
@@ -63,15 +72,22 @@ impl State {
 
     /// GET_LINEINFO_UNWATCH: the file watches the line no more. `Inval` comes where the chip has no such line, then `Busy`
     /// where this file doesn't watch it.
-    pub(crate) fn unwatch_line(&mut self, place: u8, fd: u32, bytes: &[u8], out: &mut [u8]) -> Reply
+    pub(crate) fn unwatch_line(
+        &mut self,
+        place: u8,
+        found: FileAt,
+        bytes: &[u8],
+        out: &mut [u8],
+    ) -> Reply
+        requires stands { StandsAt found self.old.files }
         requires bytes { UNWATCH_SIZE ≤ length bytes.now }
         requires out { UNWATCH_SIZE ≤ length out.old }
-        ensures { StepsInto (unwatch_line place fd (take UNWATCH_SIZE bytes.now)) self.old self.new result out.old out.new }
+        ensures { StepsInto (unwatch_line place found.fd (take UNWATCH_SIZE bytes.now)) self.old self.new result out.old out.new }
     {
         let offset = asked_offset(bytes);
         match self.offset_refusal(place, offset) {
             Some(errno) => Reply::Refused(errno),
-            None => match self.files.unwatch(fd, offset) {
+            None => match self.files.unwatch_at(found, offset) {
                 Err(errno) => Reply::Refused(errno),
                 Ok(()) => write_offset(bytes, out),
             },

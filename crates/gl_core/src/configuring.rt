@@ -105,6 +105,7 @@ impl State {
         requires { HasLine self.old.places place offset }
         ensures follows { Follows (configure place settings.now offset) self.old self.new }
         ensures lines { KeepsLines self.old.places self.new.places }
+        ensures requests { self.new.requests ≡ self.old.requests }
     {
         let before = self.places.at(place).bank.line(offset);
         let kind = self.kind(place);
@@ -127,15 +128,30 @@ impl State {
         );
     }
 
-    /// Configures the lines of a request, in order, each with its settings.
-    pub(crate) fn configure_each(&mut self, place: u8, lines: &Lines, settings: &Resolved)
+    /// Configures the line at position `i` of the request that was found with its settings.
+    fn configure_found(&mut self, place: u8, lines: &Lines, found: RequestAt, i: u32)
+        requires i { i < lines.now.count }
+        requires count { IsLineCount lines.now.count }
+        requires line { HasLine self.old.places place (slice_index lines.now.offsets i) }
+        requires stands { StandsAt found self.old.requests }
+        ensures follows { (row : RequestRow) → row_at self.old.requests found.fd ≡ Some row → Follows (configure_at place lines.now row.settings i) self.old self.new }
+        ensures lines { KeepsLines self.old.places self.new.places }
+        ensures requests { self.new.requests ≡ self.old.requests }
+    {
+        let settings = self.requests.row(found).settings.lines[i as usize];
+        self.configure(place, &settings, lines.offsets[i as usize]);
+    }
+
+    /// Configures the lines of the request that was found, in order, each with its settings.
+    pub(crate) fn configure_each(&mut self, place: u8, lines: &Lines, found: RequestAt)
         requires count { IsLineCount lines.now.count }
         requires lines { HasEachLine self.old.places place lines.now }
-        ensures follows { Follows (configure_each place lines.now settings.now) self.old self.new }
+        requires stands { StandsAt found self.old.requests }
+        ensures follows { (row : RequestRow) → row_at self.old.requests found.fd ≡ Some row → Follows (configure_each place lines.now row.settings) self.old self.new }
         ensures lines { KeepsLines self.old.places self.new.places }
     {
         for i in 0..lines.count {
-            self.configure_at(place, lines, settings, i);
+            self.configure_found(place, lines, found, i);
         }
     }
 

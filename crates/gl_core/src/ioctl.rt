@@ -8,6 +8,7 @@ ghost use Rattle.gl_model.specs.Ioctl.{act_on, checked, in_part, ioctl};
 ghost use Rattle.gl_model.specs.OpenFiles.{is_for_chips};
 ghost use Rattle.gl_model.specs.declared.call.Call.TheVariants.{Ioctl};
 ghost use Rattle.gl_model.specs.declared.call.Part.TheVariants.{Ask};
+ghost use Rattle.gl_watch.specs.Files.{StandsAt};
 ghost use Rattle.gl_core.specs.Claims.{BringsItsRing, IsNotTold, left_by};
 ghost use Rattle.gl_core.specs.OpenRequests.{IsOpenAt};
 ghost use Rattle.gl_core.specs.Reached.{IsReached};
@@ -19,6 +20,7 @@ use gl_model::{Gift, Part, Reply};
 use gl_request::RequestAt;
 use gl_uapi::Command;
 use gl_uapi::layout::LINE_REQUEST_SIZE;
+use gl_watch::FileAt;
 
 impl State {
     /// A command on the file of a number, into a buffer of `len` bytes that begins with these. A number that is no command's is
@@ -127,9 +129,9 @@ impl State {
         ensures steps { StepsInto (checked actor place fd len command bytes.now part.now) self.old self.new result out.old out.new }
         ensures gift { gift.new ≡ left_by command part.now result gift.old }
     {
-        match self.chip_command_refusal(place, fd, len, command, part) {
-            Some(errno) => Reply::Refused(errno),
-            None => self.act_on_chip(actor, place, fd, command, bytes, part, gift, out),
+        match self.file_of_command(place, fd, len, command, part) {
+            Err(errno) => Reply::Refused(errno),
+            Ok(found) => { self.act_on_chip(actor, place, found, command, bytes, part, gift, out) }
         }
     }
 
@@ -138,25 +140,26 @@ impl State {
         &mut self,
         actor: u8,
         place: u8,
-        fd: u32,
+        found: FileAt,
         command: Command,
         bytes: &[u8; LINE_REQUEST_SIZE],
         part: &Part,
         gift: &mut Gift,
         out: &mut [u8],
     ) -> Reply
+        requires stands { StandsAt found self.old.files }
         requires for_chips { is_for_chips command ≡ true }
         requires ask { command ≡ GetLine → part.now ≡ Ask }
         requires brings { BringsItsRing command bytes.now part.now gift.old }
         requires room { size_of command ≤ length out.old }
-        ensures steps { StepsInto (act_on actor place fd command (take (size_of command) bytes.now) part.now) self.old self.new result out.old out.new }
+        ensures steps { StepsInto (act_on actor place found.fd command (take (size_of command) bytes.now) part.now) self.old self.new result out.old out.new }
         ensures gift { gift.new ≡ left_by command part.now result gift.old }
     {
         match command {
             Command::ChipInfo => self.get_chip_info(place, out),
             Command::LineInfo => self.get_line_info(place, bytes, out),
-            Command::Watch => self.watch_line(place, fd, bytes, out),
-            Command::Unwatch => self.unwatch_line(place, fd, bytes, out),
+            Command::Watch => self.watch_line(place, found, bytes, out),
+            Command::Unwatch => self.unwatch_line(place, found, bytes, out),
             Command::GetLine => self.get_line_ask(place, actor, bytes, gift),
             Command::SetConfig | Command::GetValues | Command::SetValues => {
                 Reply::Refused(Errno::Inval)

@@ -6,6 +6,7 @@ ghost use Rattle.gl_base.specs.declared.errno.Errno.TheVariants.{BadF, Fault, In
 ghost use Rattle.gl_base.specs.declared.limits.TheConstants.{FILES_MAX};
 ghost use Rattle.gl_uapi.specs.Command.{size_of};
 ghost use Rattle.gl_model.specs.OpenFiles.{asks_driver, chip_file_refusal, command_refusal, has_part, is_chip_file, is_for_chips, is_place, is_request_file, is_whole, number_refusal, request_file_refusal, unknown_refusal};
+ghost use Rattle.gl_watch.specs.Files.{StandsAt};
 ghost use Rattle.gl_core.specs.OpenRequests.{IsOpenAt};
 ghost use Rattle.gl_core.specs.Steps.{Tells};
 
@@ -14,6 +15,7 @@ use gl_base::{Errno, FILES_MAX};
 use gl_model::Part;
 use gl_request::RequestAt;
 use gl_uapi::Command;
+use gl_watch::FileAt;
 
 impl State {
     /// Whether the number is that of an open chip file of this place.
@@ -30,17 +32,28 @@ impl State {
         self.requests.find_open(place, fd).is_some()
     }
 
-    /// Why a call that is for chip files alone is refused, first case first: `BadF` where no open file of the place has the
-    /// number; `Inval` where a request has it.
-    pub(crate) fn chip_file_refusal(&self, place: u8, fd: u32) -> Option<Errno>
-        ensures { Tells (chip_file_refusal place fd) self.now result }
+    /// Where the open chip file of a number and a place stands, or why a call that is for chip files alone is refused, first
+    /// case first: `BadF` where no open file of the place has the number; `Inval` where a request has it.
+    pub(crate) fn open_chip_file(&self, place: u8, fd: u32) -> Result<FileAt, Errno>
+        ensures number { IfOk result (λ found. found.fd ≡ fd) }
+        ensures stands { IfOk result (λ found. StandsAt found self.now.files) }
+        ensures passed { IfOk result (λ _. Tells (chip_file_refusal place fd) self.now None) }
+        ensures refused { IfErr result (λ errno. Tells (chip_file_refusal place fd) self.now (Some errno)) }
     {
-        if self.is_chip_file(place, fd) {
-            None
-        } else if self.is_request_file(place, fd) {
-            Some(Errno::Inval)
+        match self.files.find_open(place, fd) {
+            Some(found) => Ok(found),
+            None => Err(self.no_chip_file(place, fd)),
+        }
+    }
+
+    /// Why a number is refused that isn't that of an open chip file of the place.
+    fn no_chip_file(&self, place: u8, fd: u32) -> Errno
+        ensures { Tells (λ w. if is_request_file place fd w then Inval else BadF) self.now result }
+    {
+        if self.is_request_file(place, fd) {
+            Errno::Inval
         } else {
-            Some(Errno::BadF)
+            Errno::BadF
         }
     }
 
@@ -69,25 +82,31 @@ impl State {
         }
     }
 
-    /// Why a command of chip files is refused before it is looked at, first case first: `BadF` where no open file of the place
-    /// has the number; `Inval` where a request has it; `Fault` where the buffer is shorter than the command's structure; `Inval`
-    /// where the command hasn't this part.
-    pub(crate) fn chip_command_refusal(
+    /// Where the open chip file stands that a command is for, or why the command is refused before it is looked at, first case
+    /// first: `BadF` where no open file of the place has the number; `Inval` where a request has it; `Fault` where the buffer is
+    /// shorter than the command's structure; `Inval` where the command hasn't this part.
+    pub(crate) fn file_of_command(
         &self,
         place: u8,
         fd: u32,
         len: u32,
         command: Command,
         part: &Part,
-    ) -> Option<Errno>
+    ) -> Result<FileAt, Errno>
         requires { is_for_chips command ≡ true }
-        ensures told { Tells (command_refusal place fd len command part.now) self.now result }
-        ensures long { IfNone result (size_of command ≤ len) }
-        ensures part { IfNone result (has_part command part.now ≡ true) }
+        ensures number { IfOk result (λ found. found.fd ≡ fd) }
+        ensures stands { IfOk result (λ found. StandsAt found self.now.files) }
+        ensures long { IfOk result (λ _. size_of command ≤ len) }
+        ensures part { IfOk result (λ _. has_part command part.now ≡ true) }
+        ensures passed { IfOk result (λ _. Tells (command_refusal place fd len command part.now) self.now None) }
+        ensures refused { IfErr result (λ errno. Tells (command_refusal place fd len command part.now) self.now (Some errno)) }
     {
-        match self.chip_file_refusal(place, fd) {
-            Some(errno) => Some(errno),
-            None => part_refusal(len, command, part),
+        match self.open_chip_file(place, fd) {
+            Err(errno) => Err(errno),
+            Ok(found) => match part_refusal(len, command, part) {
+                Some(errno) => Err(errno),
+                None => Ok(found),
+            },
         }
     }
 

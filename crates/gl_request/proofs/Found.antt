@@ -2,6 +2,7 @@
 use Rattle.std.proofs.Common.{ℕ, zero, suc, Bool, true, false, cond, ltb, ◌≡◌, ◌<◌, ◌≤◌, List, length, map, ◌∷◌, ◌++◌, [], get_or, set, Some, None, refl, ap, sym, ◌∙◌, arith, eq-eqb}
 use Rattle.std.specs.Prelude.{◌+◌, ◌==◌, find, is_some, nat_eq, not, position}
 use Rattle.std.specs.List.{AllByRecursion, IsDistinct, position_or_len}
+use Rattle.std.specs.Option.{option_map}
 use Rattle.std.proofs.lemmas.Bool.Decides.{nat_tests}
 use Rattle.std.proofs.lemmas.List.Quantifiers.{position-Some}
 use Rattle.std.proofs.lemmas.List.Sums.{position_or_len_is}
@@ -99,3 +100,11 @@ positions_stay fd (row ∷ rows) =
 
 pub stays : (fd at : ℕ) (rows : List RequestRow) → position (is_number fd) rows ≡ Some at → position (is_number fd) (change_first (is_number fd) held rows) ≡ Some at
 stays fd at rows is = ap (λ (n : ℕ). cond (ltb n (length (change_first (is_number fd) held rows))) (Some n) None) (positions_stay fd rows) ∙ ap (λ (n : ℕ). cond (ltb (position_or_len (is_number fd) rows) n) (Some (position_or_len (is_number fd) rows)) None) (length-change_first (is_number fd) held rows) ∙ is
+
+pub held_there : (fd : ℕ) (rows : List RequestRow) → find (is_number fd) (change_first (is_number fd) held rows) ≡ option_map held (find (is_number fd) rows)
+held_there fd [] = refl
+held_there fd (row ∷ rows) =
+    elim (row.fd == fd) as (λ b. (row.fd == fd) ≡ b → find (is_number fd) (cond b (held row ∷ rows) (row ∷ change_first (is_number fd) held rows)) ≡ option_map held (cond b (Some row) (find (is_number fd) rows))) [
+      | true ↦ (λ e. ap (λ b. cond b (Some (held row)) (find (is_number fd) rows)) e)
+      | false ↦ (λ e. ap (λ b. cond b (Some row) (find (is_number fd) (change_first (is_number fd) held rows))) e ∙ held_there fd rows)
+    ] refl

@@ -169,10 +169,11 @@ impl Requests {
     }
 
     /// The claim that was found is finished: its lines are held. It stands there still.
-    #[tactic(auto, using(crate::proofs::Found::kept, crate::proofs::Found::stays))]
+    #[tactic(auto, using(crate::proofs::Found::kept, crate::proofs::Found::stays, crate::proofs::Found::held_there))]
     pub fn settle_at(&mut self, found: RequestAt)
         requires { StandsAt found self.old }
         ensures rows { self.new ≡ change_first (is_number found.fd) held self.old }
+        ensures row { request_at self.new found.fd ≡ option_map held (request_at self.old found.fd) }
         ensures stands { StandsAt found self.new }
     {
         settle_row_at(&mut self.rows, found);

@@ -11,6 +11,6 @@ use Rattle.gl_core.proofs.state.State.act_on_chip.Goals as goal
 pub returns-in-GetLine-clause-steps : goal.returns-in-GetLine-clause-steps
 returns-in-GetLine-clause-steps c =
     let bytes = take LINE_REQUEST_SIZE c.args.bytes.now in
-    let P : Command → Type 0 = λ command. StepsInto (act_on c.args.actor c.args.place c.args.fd command (take (size_of command) c.args.bytes.now) c.args.part.now) c.args.self.now c.get_line_ask.new.self c.get_line_ask.result c.args.out.now c.args.out.now in
+    let P : Command → Type 0 = λ command. StepsInto (act_on c.args.actor c.args.place c.args.found.fd command (take (size_of command) c.args.bytes.now) c.args.part.now) c.args.self.now c.get_line_ask.new.self c.get_line_ask.result c.args.out.now c.args.out.now in
     subst P (sym c.in-GetLine.is)
     (silent (get_line_ask c.args.place c.args.actor bytes) c.args.self.now c.get_line_ask.new.self c.get_line_ask.result c.args.out.now (ask_silent c.args.place c.args.actor bytes) c.get_line_ask.ensures.steps)

@@ -9,6 +9,6 @@ use Rattle.gl_core.proofs.state.State.take_changes.Goals as goal
 
 pub returns : goal.returns
 returns c w s =
-    let comes = take_done (view_of c.self.inside) w c.args.fd c.args.len c.read-count.result c.read-count.new.self c.args.out.now c.read-count.new.out (subst (λ k. StandsFor k w) (sym c.self.view_is) s)
-    (c.read-count.ensures.count ∙ ap (λ (n : ℕ). min n (length (waiting_in (file_at c.args.fd c.self.inside.files)))) c.room_for.ensures) c.read-count.ensures.files c.requires c.read-count.auto.out c.read-count.ensures.out in
+    let comes = take_done (view_of c.self.inside) w c.args.found.fd c.args.len c.read_at-count.result c.read_at-count.new.self c.args.out.now c.read_at-count.new.out (subst (λ k. StandsFor k w) (sym c.self.view_is) s)
+    (c.read_at-count.ensures.count ∙ ap (λ (n : ℕ). min n (length (waiting_in (file_at c.args.found.fd c.self.inside.files)))) c.room_for.ensures) c.read_at-count.ensures.files c.requires.room c.read_at-count.auto.out c.read_at-count.ensures.out in
     (comes.0, ap (λ (n : ℕ). Number (288 * n)) c.from.ensures ∙ comes.1, comes.2)
