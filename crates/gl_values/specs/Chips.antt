@@ -1,12 +1,16 @@
 -- A chip as its information tells of it, and the chips that a tool tries. The texts follow libgpiod's tools.
-use Rattle.std.specs.Prelude.{ℕ, zero, suc, ◌-◌, Bool, true, false, nat_le, if◌then◌else◌, List, [], ◌∷◌, ◌++◌, length, take, drop, codes, Option, Some, None}
+use Rattle.std.specs.Prelude.{ℕ, zero, suc, ◌-◌, Bool, true, false, not, ◌&&◌, nat_le, if◌then◌else◌, List, [], ◌∷◌, ◌++◌, length, take, drop, replicate, codes, Option, Some, None}
 use Rattle.gl_base.specs.Decimal.{decimal}
 use Rattle.gl_base.specs.Name.{name_in}
 use Rattle.gl_base.specs.declared.errno.Errno.{Errno}
 use Rattle.gl_base.specs.declared.errno.Errno.TheVariants.{NoEnt, NoDev}
+use Rattle.gl_base.specs.declared.command.TheConstants.{GET_CHIPINFO}
 use Rattle.gl_base.specs.declared.limits.TheConstants.{PLACES}
+use Rattle.gl_base.specs.declared.operation.Do.{Do}
+use Rattle.gl_base.specs.declared.operation.Do.TheVariants.{Ioctl, Close}
 use Rattle.gl_uapi.specs.Fields.{number_at, stretch}
 use Rattle.gl_uapi.specs.declared.layout.TheConstants.{CHIP_INFO_SIZE, CHIP_NAME, CHIP_LABEL, CHIP_LINES, NAME_SIZE}
+use Rattle.gl_args.specs.Program.{Program, done, ask}
 use Rattle.gl_lines.specs.Texts.{line}
 use Rattle.gl_values.specs.declared.chip.Chip.{Chip}
 
@@ -54,3 +58,19 @@ is_named_by (word ∷ words) = true
 abbrev pub to_words : Option (List ℕ) → List (List ℕ)
 to_words None = []
 to_words (Some word) = word ∷ []
+
+-- a chip that wasn't opened is passed over, where no chip was given by a word and it isn't there
+abbrev pub passes_over : Errno → Bool → Bool
+passes_over errno is_named = is_absent errno && not is_named
+
+-- the chip in a slot is asked for its information
+abbrev pub chip_query : ℕ → Do
+chip_query slot = Ioctl slot GET_CHIPINFO 68 (replicate 592 0) 0
+
+-- a tool that goes over chips ends
+abbrev pub ends : Program (Unit {0})
+ends = done tt
+
+-- its chip is closed for the last time
+abbrev pub leaves : ℕ → Program (Unit {0})
+leaves slot = ask (Close slot) (λ _. ends)

@@ -1,30 +1,21 @@
 -- gpiodetect: it opens, asks and closes each chip, and prints a line for it (libgpiod's manual page; the order of the calls
 -- is this project's choice). Without words it tries all places, and passes over those without a chip.
-use Rattle.std.specs.Prelude.{ℕ, Bool, not, ◌&&◌, if◌then◌else◌, List, [], ◌∷◌, replicate, Option, Some, None}
-use Rattle.gl_base.specs.declared.command.TheConstants.{GET_CHIPINFO}
+use Rattle.std.specs.Prelude.{ℕ, Bool, if◌then◌else◌, List, [], ◌∷◌, Option, Some, None}
 use Rattle.gl_base.specs.declared.errno.Errno.{Errno}
-use Rattle.gl_base.specs.declared.operation.Do.TheVariants.{OpenChip, Ioctl, Close}
+use Rattle.gl_base.specs.declared.operation.Do.TheVariants.{OpenChip, Close}
 use Rattle.gl_base.specs.Operation.{refusal, bytes_of}
 use Rattle.gl_args.specs.declared.names.ToolName.TheVariants.{Detect as DetectName}
 use Rattle.gl_args.specs.Names.{tool_text}
-use Rattle.gl_args.specs.Program.{Program, done, print, ask, Left, goes_on, waits}
+use Rattle.gl_args.specs.Program.{Program, print, ask, Left, goes_on, waits}
 use Rattle.gl_lines.specs.Texts.{failed_line}
 use Rattle.gl_values.specs.declared.chip.Chip.{Chip}
 use Rattle.gl_values.specs.declared.detect.Detect.{Detect}
 use Rattle.gl_values.specs.declared.detect.DetectStage.{DetectStage}
 use Rattle.gl_values.specs.declared.detect.DetectStage.TheVariants.{Next, Opening, Asking, Closing, Failed, Leaving, Ended}
-use Rattle.gl_values.specs.Chips.{chip_told, chip_line, is_absent, is_named_by, words_from}
+use Rattle.gl_values.specs.Chips.{chip_told, chip_line, chip_query, ends, is_named_by, leaves, passes_over, words_from}
 
 abbrev pub tool : List ℕ
 tool = tool_text DetectName
-
--- it ends
-abbrev pub ends : Program (Unit {0})
-ends = done tt
-
--- the chip is closed for the last time
-abbrev pub leaves : ℕ → Program (Unit {0})
-leaves base = ask (Close base) (λ _. ends)
 
 -- the chip was closed; then comes what follows
 abbrev pub closed : Chip → Program (Unit {0}) → Option Errno → Program (Unit {0})
@@ -42,8 +33,8 @@ asked base next None bytes = told base next (chip_told bytes)
 
 -- the chip was opened, or not
 abbrev pub opened : ℕ → Program (Unit {0}) → Bool → Option Errno → Program (Unit {0})
-opened base next is_named (Some errno) = if is_absent errno && not is_named then next else print (failed_line tool errno) ends
-opened base next is_named None = ask (Ioctl base GET_CHIPINFO 68 (replicate 592 0) 0) (λ got. asked base next (refusal got) (bytes_of got))
+opened base next is_named (Some errno) = if passes_over errno is_named then next else print (failed_line tool errno) ends
+opened base next is_named None = ask (chip_query base) (λ got. asked base next (refusal got) (bytes_of got))
 
 -- one chip after the other
 abbrev pub chips : ℕ → Bool → List (List ℕ) → Program (Unit {0})

@@ -1,8 +1,8 @@
 -- gpioinfo: it opens the chip of `-c` or the chips of all places, asks each and each of its lines, closes it, and then prints
 -- its text (libgpiod's manual page; the order of the calls is this project's choice). Without `-c` places without a chip are
 -- passed over.
-use Rattle.std.specs.Prelude.{ℕ, zero, suc, ◌-◌, min, not, ◌&&◌, nat_le, is_some, if◌then◌else◌, List, [], ◌∷◌, ◌++◌, length, take, replicate, Option, Some, None}
-use Rattle.gl_base.specs.declared.command.TheConstants.{GET_CHIPINFO, GET_LINEINFO}
+use Rattle.std.specs.Prelude.{ℕ, zero, suc, ◌-◌, min, nat_le, is_some, if◌then◌else◌, List, [], ◌∷◌, ◌++◌, length, take, Option, Some, None}
+use Rattle.gl_base.specs.declared.command.TheConstants.{GET_LINEINFO}
 use Rattle.gl_base.specs.declared.errno.Errno.{Errno}
 use Rattle.gl_base.specs.declared.limits.TheConstants.{LINES_MAX}
 use Rattle.gl_base.specs.declared.operation.Do.TheVariants.{OpenChip, Ioctl, Close}
@@ -13,26 +13,18 @@ use Rattle.gl_uapi.specs.LineInfo.{info_in}
 use Rattle.gl_args.specs.declared.names.ToolName.TheVariants.{Info as InfoName}
 use Rattle.gl_args.specs.Names.{tool_text}
 use Rattle.gl_args.specs.Options.{options_in, Options}
-use Rattle.gl_args.specs.Program.{Program, done, print, ask, Left, goes_on, waits}
+use Rattle.gl_args.specs.Program.{Program, print, ask, Left, goes_on, waits}
 use Rattle.gl_lines.specs.Bytes.{info_sent}
 use Rattle.gl_lines.specs.Texts.{failed_line}
 use Rattle.gl_values.specs.declared.chip.Chip.{Chip}
 use Rattle.gl_values.specs.declared.info.InfoTool.{InfoTool}
 use Rattle.gl_values.specs.declared.info.InfoStage.{InfoStage}
 use Rattle.gl_values.specs.declared.info.InfoStage.TheVariants.{Next, Opening, Asking, Line, Closing, Failed, Leaving, Ended}
-use Rattle.gl_values.specs.Chips.{chip_told, chip_head, is_absent, words_from, to_words}
+use Rattle.gl_values.specs.Chips.{chip_told, chip_head, chip_query, ends, leaves, passes_over, words_from, to_words}
 use Rattle.gl_values.specs.InfoText.{line_text}
 
 abbrev pub tool : List ℕ
 tool = tool_text InfoName
-
--- it ends
-abbrev pub ends : Program (Unit {0})
-ends = done tt
-
--- the chip is closed for the last time
-abbrev pub leaves : ℕ → Program (Unit {0})
-leaves base = ask (Close base) (λ _. ends)
 
 -- the information that bytes tell, where there are enough of them
 abbrev pub info_told : List ℕ → Option Info
@@ -74,8 +66,8 @@ module _ (base : ℕ) (opts : Options) where
 
   -- the chip was opened, or not
   abbrev pub opened : Program (Unit {0}) → Option Errno → Program (Unit {0})
-  opened next (Some errno) = if is_absent errno && not (is_some opts.chip) then next else print (failed_line tool errno) ends
-  opened next None = ask (Ioctl base GET_CHIPINFO 68 (replicate 592 0) 0) (λ got. asked next (refusal got) (bytes_of got))
+  opened next (Some errno) = if passes_over errno (is_some opts.chip) then next else print (failed_line tool errno) ends
+  opened next None = ask (chip_query base) (λ got. asked next (refusal got) (bytes_of got))
 
   -- one chip after the other
   abbrev pub chips : List (List ℕ) → Program (Unit {0})

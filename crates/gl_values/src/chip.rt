@@ -1,8 +1,10 @@
 //! A chip as its information tells of it.
-ghost use Rattle.std.specs.Prelude.{◌≡◌, IfOk, IsOkUnless, option_map};
-ghost use Rattle.gl_values.specs.Chips.{chip_told, chip_line, chip_head, is_absent};
+ghost use Rattle.std.specs.Prelude.{◌≡◌, ◌+◌, ◌<◌, ◌^◌, [], ◌∷◌, IfOk, IsSome, IsOkUnless, MatchOption};
+ghost use Rattle.gl_values.specs.Chips.{chip_told, chip_line, chip_head, chip_query, is_absent, passes_over, words_from};
 
-use gl_base::{ByteList, Errno, Name, put_decimal};
+use gl_base::command::GET_CHIPINFO;
+use gl_base::{ByteList, Do, Errno, Name, PLACES, Path, put_decimal};
+use gl_lines::{path_of_name, path_of_number};
 use gl_uapi::ChipRef;
 use std::alloc::Global;
 
@@ -32,10 +34,48 @@ pub(crate) fn chip_told(bytes: &[u8]) -> Option<Chip>
 }
 
 /// Whether a chip that was to be opened isn't there.
-pub(crate) fn is_absent(errno: Errno) -> bool
+fn is_absent(errno: Errno) -> bool
     ensures { result ≡ is_absent errno }
 {
     matches!(errno, Errno::NoEnt | Errno::NoDev)
+}
+
+/// Whether a chip that wasn't opened is passed over: it isn't there, and no chip was given by a word.
+pub(crate) fn passes_over(errno: Errno, is_named: bool) -> bool
+    ensures { result ≡ passes_over errno is_named }
+{
+    is_absent(errno) && !is_named
+}
+
+/// The chip word behind the first `next`: of those that were given, or of the numbers of all places.
+#[tactic(auto, using(crate::proofs::ChipWords::words))]
+pub(crate) fn word_at(words: &[Name], next: usize) -> Option<Path>
+    ensures word { MatchOption result (words_from words.now next ≡ []) (λ word. words_from words.now next ≡ word ∷ words_from words.now (next + 1)) }
+    ensures small { IsSome result → next < 2 ^ 63 }
+{
+    if words.is_empty() {
+        if next < PLACES as usize {
+            return Some(path_of_number(next as u32));
+        }
+        return None;
+    }
+    match words.get(next) {
+        Some(word) => Some(path_of_name(word)),
+        None => None,
+    }
+}
+
+/// The question for what the chip in a slot tells of itself.
+pub(crate) fn chip_query(slot: u32) -> Do
+    ensures { result ≡ chip_query slot }
+{
+    Do::Ioctl {
+        slot,
+        cmd: GET_CHIPINFO,
+        len: 68,
+        bytes: [0; 592],
+        made: 0,
+    }
 }
 
 /// `NAME [LABEL] (N lines)`.

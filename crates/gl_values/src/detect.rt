@@ -1,15 +1,14 @@
 //! gpiodetect.
-ghost use Rattle.std.specs.Prelude.{◌≡◌, ◌+◌, ◌<◌, ◌^◌, ◌&&◌, not, [], ◌∷◌, IfOk, IsSome, IsOkUnless, MatchOption, option_copied};
+ghost use Rattle.std.specs.Prelude.{◌≡◌, ◌+◌, ◌<◌, ◌^◌, [], ◌∷◌, IfOk, IsSome, IsOkUnless, MatchOption, option_copied};
 ghost use Rattle.gl_args.specs.Program.{print, Goes, given, goes_on};
 ghost use Rattle.gl_lines.specs.Texts.{failed_line};
-ghost use Rattle.gl_values.specs.Chips.{is_absent, is_named_by, words_from};
-ghost use Rattle.gl_values.specs.Detect.{tool, detects, left, chips_from, ends, leaves, opened, asked, closed};
+ghost use Rattle.gl_values.specs.Chips.{ends, is_named_by, leaves, passes_over, words_from};
+ghost use Rattle.gl_values.specs.Detect.{tool, detects, left, chips_from, opened, asked, closed};
 
-use crate::chip::{Chip, chip_line, chip_told, is_absent};
+use crate::chip::{Chip, chip_line, chip_query, chip_told, passes_over, word_at};
 use gl_args::{Next, ToolName};
-use gl_base::command::GET_CHIPINFO;
-use gl_base::{Do, Errno, Got, Name, PLACES, Path};
-use gl_lines::{failed_line, path_of_name, path_of_number};
+use gl_base::{Do, Errno, Got, Name, Path};
+use gl_lines::failed_line;
 use std::alloc::Global;
 
 /// Where gpiodetect stands.
@@ -89,22 +88,12 @@ impl Detect {
     }
 
     /// The word of the next chip, where there is one.
-    #[tactic(auto, using(crate::proofs::ChipWords::words))]
     fn word(&self) -> Option<Path>
         ensures word { MatchOption result (words_from self.now.words.items self.now.next ≡ []) (λ word.
             words_from self.now.words.items self.now.next ≡ word ∷ words_from self.now.words.items (self.now.next + 1)) }
         ensures small { IsSome result → self.now.next < 2 ^ 63 }
     {
-        if self.words.is_empty() {
-            if self.next < PLACES as usize {
-                return Some(path_of_number(self.next as u32));
-            }
-            return None;
-        }
-        match self.words.get(self.next) {
-            Some(word) => Some(path_of_name(word)),
-            None => None,
-        }
+        word_at(&self.words, self.next)
     }
 
     /// Opens the next chip, or ends.
@@ -140,22 +129,16 @@ impl Detect {
             }
             None => {
                 self.stage = DetectStage::Asking;
-                Ok(Next::Call(Do::Ioctl {
-                    slot: self.base,
-                    cmd: GET_CHIPINFO,
-                    len: 68,
-                    bytes: [0; 592],
-                    made: 0,
-                }))
+                Ok(Next::Call(chip_query(self.base)))
             }
         }
     }
 
     /// Whether a chip that wasn't opened is passed over.
     fn passes_over(&self, errno: Errno) -> bool
-        ensures { result ≡ (is_absent errno && not (is_named_by self.now.words.items)) }
+        ensures { result ≡ passes_over errno (is_named_by self.now.words.items) }
     {
-        is_absent(errno) && !self.is_named()
+        passes_over(errno, self.is_named())
     }
 
     fn asked(&mut self, alloc: Global, refusal: Option<Errno>, bytes: &[u8]) -> Result<Next, Errno>

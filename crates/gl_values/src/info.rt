@@ -1,17 +1,17 @@
 //! gpioinfo.
-ghost use Rattle.std.specs.Prelude.{◌≡◌, ◌+◌, ◌<◌, ◌^◌, ◌&&◌, not, [], ◌∷◌, IfOk, IsSome, IsOkUnless, MatchOption, option_copied, is_some};
+ghost use Rattle.std.specs.Prelude.{◌≡◌, ◌+◌, ◌<◌, ◌^◌, [], ◌∷◌, IfOk, IsSome, IsOkUnless, MatchOption, option_copied, is_some};
 ghost use Rattle.gl_args.specs.Options.{options_in};
 ghost use Rattle.gl_args.specs.Program.{print, Goes, given, goes_on};
 ghost use Rattle.gl_lines.specs.Texts.{failed_line};
-ghost use Rattle.gl_values.specs.Chips.{is_absent, words_from, to_words};
-ghost use Rattle.gl_values.specs.Info.{tool, infos, info_left, chips_from, ends, leaves, opened, asked, told, lines_from, line_told, info_told, closed};
+ghost use Rattle.gl_values.specs.Chips.{ends, leaves, passes_over, words_from, to_words};
+ghost use Rattle.gl_values.specs.Info.{tool, infos, info_left, chips_from, opened, asked, told, lines_from, line_told, info_told, closed};
 
-use crate::chip::{Chip, chip_head, chip_told, is_absent};
+use crate::chip::{Chip, chip_head, chip_query, chip_told, passes_over, word_at};
 use crate::info_text::put_line;
 use gl_args::{Next, Opts, ToolName};
-use gl_base::command::{GET_CHIPINFO, GET_LINEINFO};
-use gl_base::{ByteList, Do, Errno, Got, LINES_MAX, Name, PLACES, Path};
-use gl_lines::{failed_line, info_sent, path_of_name, path_of_number};
+use gl_base::command::GET_LINEINFO;
+use gl_base::{ByteList, Do, Errno, Got, LINES_MAX, Name, Path};
+use gl_lines::{failed_line, info_sent};
 use gl_uapi::{Info, InfoRef};
 use std::alloc::Global;
 
@@ -103,8 +103,8 @@ impl InfoTool {
         ensures small { IsSome result → self.now.next < 2 ^ 63 }
     {
         match &self.opts.chip {
-            Some(chip) => given_word(chip, self.next),
-            None => place_word(self.next),
+            Some(chip) => word_at(&[*chip], self.next),
+            None => word_at(&[], self.next),
         }
     }
 
@@ -141,22 +141,16 @@ impl InfoTool {
             }
             None => {
                 self.stage = InfoStage::Asking;
-                Ok(Next::Call(Do::Ioctl {
-                    slot: self.base,
-                    cmd: GET_CHIPINFO,
-                    len: 68,
-                    bytes: [0; 592],
-                    made: 0,
-                }))
+                Ok(Next::Call(chip_query(self.base)))
             }
         }
     }
 
     /// Whether a chip that wasn't opened is passed over.
     fn passes_over(&self, errno: Errno) -> bool
-        ensures { result ≡ (is_absent errno && not (is_some self.now.opts.chip)) }
+        ensures { result ≡ passes_over errno (is_some self.now.opts.chip) }
     {
-        is_absent(errno) && self.opts.chip.is_none()
+        passes_over(errno, self.opts.chip.is_some())
     }
 
     fn asked(&mut self, alloc: Global, refusal: Option<Errno>, bytes: &[u8]) -> Result<Next, Errno>
@@ -268,30 +262,6 @@ impl InfoTool {
         self.stage = InfoStage::Leaving;
         Next::Call(Do::Close { slot: self.base })
     }
-}
-
-/// The word of the chip that was given, which comes once.
-#[tactic(auto, using(crate::proofs::ChipWords::words))]
-fn given_word(chip: &Name, next: usize) -> Option<Path>
-    ensures word { MatchOption result (words_from (chip.now ∷ []) next ≡ []) (λ word. words_from (chip.now ∷ []) next ≡ word ∷ words_from (chip.now ∷ []) (next + 1)) }
-    ensures small { IsSome result → next < 2 ^ 63 }
-{
-    if next == 0 {
-        return Some(path_of_name(chip));
-    }
-    None
-}
-
-/// The word of the place that comes next.
-#[tactic(auto, using(crate::proofs::ChipWords::words))]
-fn place_word(next: usize) -> Option<Path>
-    ensures word { MatchOption result (words_from [] next ≡ []) (λ word. words_from [] next ≡ word ∷ words_from [] (next + 1)) }
-    ensures small { IsSome result → next < 2 ^ 63 }
-{
-    if next < PLACES as usize {
-        return Some(path_of_number(next as u32));
-    }
-    None
 }
 
 /// The information that bytes tell; None where there are too few of them.
