@@ -1,20 +1,22 @@
 -- The lines that a request has: they are known of each world that calls lead to, and an edge keeps them.
-use Rattle.std.proofs.Common.{◌≡◌, ℕ, Bool, true, false, cond, List, [], ◌∷◌, map, Option, Some, None, refl, ap, ◌∙◌, subst}
+use Rattle.std.proofs.Common.{◌≡◌, ℕ, Bool, true, false, cond, ◌<◌, List, [], ◌∷◌, ◌++◌, map, Option, Some, None, refl, ap, ◌∙◌, subst}
 use Rattle.std.specs.Prelude.{nat_eq, ◌==◌, ◌&&◌}
 use Rattle.std.specs.List.{find, list_any}
 use Rattle.std.specs.Option.{option_map}
 use Rattle.gl_base.specs.Lines.{offsets_of}
-use Rattle.gl_base.specs.Rows.{change_first}
+use Rattle.gl_base.specs.Rows.{Each, change_first}
 use Rattle.gl_base.specs.declared.lines.Lines.{Lines}
 use Rattle.gl_base.proofs.Seen.{find-map}
 use Rattle.gl_desc.specs.declared.desc.Holder.{Holder}
 use Rattle.gl_desc.specs.declared.desc.Holder.TheVariants.{Free, Claimed, Held, Hog}
-use Rattle.gl_request.specs.Request.{is_monitored, is_number, noted, request_at, with_event}
+use Rattle.gl_request.specs.Request.{IsBelow, is_monitored, is_number, noted, request_at, with_event}
 use Rattle.gl_request.specs.declared.row.RequestRow.{RequestRow}
 use Rattle.gl_model.specs.declared.place.Place.{Place}
 use Rattle.gl_model.specs.Edges.{position_in, request_number}
 use Rattle.gl_model.specs.Holders.{HoldersAgree, has_line, has_line_at, holder_at, taken_by}
 use Rattle.gl_model.specs.World.{World, Request, has_number, request_at as request_in}
+use Rattle.gl_watch.specs.declared.file.ChipFile.{ChipFile}
+use Rattle.gl_core.specs.Claims.{NumbersAreBelow}
 use Rattle.gl_core.specs.HeldLines.{HoldersHaveLines, is_line_of, noted_at}
 use Rattle.gl_core.specs.Kept.{Kept, kept_request}
 use Rattle.gl_core.specs.Reached.{IsReached}
@@ -44,6 +46,19 @@ lines_in_world w agree = record {
 
 pub lines_known : (k : Kept) → IsReached k → HoldersHaveLines k.places k.requests
 lines_known k reached = subst (λ (k : Kept). HoldersHaveLines k.places k.requests) reached.stands.kept_so (lines_in_world reached.world reached.good.holders)
+
+-- and each request's number is below the next number of a file
+numbers_in : (next : ℕ) (requests : List Request) (others : List ℕ) → Each (λ fd. fd < next) (map (λ (request : Request). request.fd) requests ++ others)
+    → Each (IsBelow next) (map kept_request requests)
+numbers_in next [] others each = tt
+numbers_in next (request ∷ requests) others each = (each.0, numbers_in next requests others each.1)
+
+pub numbers_known : (k : Kept) → IsReached k → NumbersAreBelow k
+numbers_known k reached =
+    let w : World = reached.world in
+    let in_world : Each (IsBelow w.next) (map kept_request w.requests) =
+    numbers_in w.next w.requests (map (λ (file : ChipFile). file.fd) w.files) reached.good.holders.numbers_below in
+    subst NumbersAreBelow reached.stands.kept_so (record { each = in_world })
 
 -- after an edge
 

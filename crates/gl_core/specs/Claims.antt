@@ -3,9 +3,9 @@ use Rattle.std.specs.Prelude.{◌≡◌, ℕ, ◌+◌, ◌<◌, ◌^◌, false, 
 use Rattle.circular_buffer.specs.Buffer.{buffer}
 use Rattle.gl_base.specs.declared.limits.TheConstants.{FILES_MAX}
 use Rattle.gl_base.specs.Lines.{offsets_of}
-use Rattle.gl_base.specs.Rows.{change_first}
+use Rattle.gl_base.specs.Rows.{Each, change_first}
 use Rattle.gl_desc.specs.Desc.{claim_fault, settled}
-use Rattle.gl_request.specs.Request.{request_at as row_at}
+use Rattle.gl_request.specs.Request.{request_at as row_at, IsBelow}
 use Rattle.gl_request.specs.declared.row.RequestAt.{RequestAt}
 use Rattle.gl_request.specs.declared.row.RequestRow.{RequestRow}
 use Rattle.gl_uapi.specs.declared.commands.Command.{Command}
@@ -33,6 +33,10 @@ pub record MayClaim (k : Kept) (place : ℕ) (asked : AskedLines) : Type 0 where
   pub next : k.next < 2 ^ 31
   pub room : length k.files + length k.requests < FILES_MAX
   pub free : AreFree k place asked
+
+-- each request's number is below the next number of a file
+pub record NumbersAreBelow (k : Kept) : Type 0 where
+  pub each : Each (IsBelow k.next) k.requests
 
 -- what is left of a gift after a request of lines: one that was answered Go took the ring
 abbrev pub without_ring : Reply → Gift → Gift

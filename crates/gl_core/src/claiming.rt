@@ -14,7 +14,7 @@ ghost use Rattle.gl_request.specs.Request.{StandsAt, held, request_at as row_at}
 ghost use Rattle.gl_request.specs.declared.row.RequestRow.{RequestRow};
 ghost use Rattle.std.specs.Option.{option_map};
 ghost use Rattle.gl_uapi.specs.declared.layout.TheConstants.{LINE_REQUEST_SIZE};
-ghost use Rattle.gl_core.specs.Claims.{AreFree, MayClaim, row_found, settled_claim, without_ring};
+ghost use Rattle.gl_core.specs.Claims.{AreFree, MayClaim, row_found, settled_claim, without_ring, NumbersAreBelow};
 ghost use Rattle.gl_core.specs.Kept.{kept_request};
 ghost use Rattle.gl_core.specs.Reached.{IsReached};
 ghost use Rattle.gl_core.specs.Shape.{HasLine, HasLines, KeepsLines};
@@ -120,6 +120,7 @@ impl State {
     fn claim_lines(&mut self, place: u8, actor: u8, asked: &Asked, ring: EdgeRing)
         requires lines { IsLineCount asked.now.lines.count }
         requires may { MayClaim self.old place asked.now }
+        requires numbers { NumbersAreBelow self.old }
         requires ring { ring ≡ buffer [] asked.now.capacity }
         ensures { Follows (claim_lines place actor asked.now) self.old self.new }
     {
@@ -139,6 +140,7 @@ impl State {
     /// Claims what a request asks for, or refuses it. A claim takes the ring.
     fn claim(&mut self, place: u8, actor: u8, asked: &Asked, gift: &mut Gift) -> Reply
         requires lines { IsLineCount asked.now.lines.count }
+        requires numbers { NumbersAreBelow self.old }
         requires ring { gift.old.ring ≡ Some (buffer [] asked.now.capacity) }
         ensures steps { Steps (claim place actor asked.now) self.old self.new result }
         ensures gift { gift.new ≡ without_ring result gift.old }
@@ -165,6 +167,7 @@ impl State {
         bytes: &[u8; LINE_REQUEST_SIZE],
         gift: &mut Gift,
     ) -> Reply
+        requires reached { IsReached self.old }
         requires brings { request_fault (take LINE_REQUEST_SIZE bytes.now) ≡ None → gift.old.ring ≡ Some (buffer [] (capacity_asked (take LINE_REQUEST_SIZE bytes.now))) }
         ensures steps { Steps (get_line_ask place actor (take LINE_REQUEST_SIZE bytes.now)) self.old self.new result }
         ensures gift { gift.new ≡ without_ring result gift.old }

@@ -122,6 +122,7 @@ impl State {
         gift: &mut Gift,
         out: &mut [u8],
     ) -> Reply
+        requires reached { IsReached self.old }
         requires for_chips { is_for_chips command ≡ true }
         requires brings { BringsItsRing command bytes.now part.now gift.old }
         requires told { IsNotTold command part.now }
@@ -148,6 +149,7 @@ impl State {
         out: &mut [u8],
     ) -> Reply
         requires stands { StandsAt found self.old.files }
+        requires reached { IsReached self.old }
         requires for_chips { is_for_chips command ≡ true }
         requires ask { command ≡ GetLine → part.now ≡ Ask }
         requires brings { BringsItsRing command bytes.now part.now gift.old }

@@ -13,7 +13,8 @@ use Rattle.gl_base.proofs.FirstRows.{at_position, change_first-no_position, chan
 use Rattle.gl_base.specs.declared.settings.Resolved.{Resolved}
 use Rattle.gl_ring.specs.declared.ring.TheConstants.{RING_EVENTS_MAX}
 use Rattle.gl_request.specs.declared.row.RequestRow.{RequestRow}
-use Rattle.gl_request.specs.Request.{HasLines, HaveDifferentNumbers, configured, held, is_claim_of, is_monitored, is_number, noted, read_from, with_event}
+use Rattle.gl_request.specs.Request.{HasLines, HaveDifferentNumbers, configured, held, is_claim_of, is_monitored, is_number, noted, read_from, with_event, AreRising, IsBelow}
+use Rattle.gl_request.proofs.Halving.{rising_changed, rising_pushed, rising_without_first}
 
 -- the row that was read at the position of the first that passes
 pub change_first-read : (test : RequestRow → Bool) (f : RequestRow → RequestRow) (rows : List RequestRow) (i : ℕ) (row : RequestRow) → position test rows ≡ Some i → row ≡ get_or rows i row
@@ -47,7 +48,42 @@ lines_without test rows each = Each-without_first HasLines test rows each
 pub lines_more : (rows : List RequestRow) (row : RequestRow) → Each HasLines rows → IsLineCount row.lines.count → length row.lines.offsets ≡ LINES_PER_REQUEST → 1 ≤ row.ring.capacity → row.ring.capacity ≤ RING_EVENTS_MAX → Each HasLines (rows ++ row ∷ [])
 lines_more rows row each some slots room few = Each-push HasLines rows row each (some, slots, room, few)
 
-pub ruleset kept = (length-change_first, length-without_first-le, lines_held, lines_configured, lines_read, lines_noted, lines_without, lines_more)
+pub rising_held : (test : RequestRow → Bool) (rows : List RequestRow) → AreRising rows → AreRising (change_first test held rows)
+rising_held test rows rising = rising_changed test held rows (λ row. refl) rising
+
+pub rising_configured : (settings : Resolved) (test : RequestRow → Bool) (rows : List RequestRow) → AreRising rows → AreRising (change_first test (configured settings) rows)
+rising_configured settings test rows rising = rising_changed test (configured settings) rows (λ row. refl) rising
+
+pub rising_read : (max : ℕ) (test : RequestRow → Bool) (rows : List RequestRow) → AreRising rows → AreRising (change_first test (read_from max) rows)
+rising_read max test rows rising = rising_changed test (read_from max) rows (λ row. refl) rising
+
+pub rising_noted : (i : ℕ) (up : Bool) (time : ℕ) (test : RequestRow → Bool) (rows : List RequestRow) → AreRising rows → AreRising (change_first test (noted i up time) rows)
+rising_noted i up time test rows rising =
+    rising_changed test (noted i up time) rows
+    (λ row. elim (is_monitored i up row) as (λ b. (cond b (with_event i up time row) row).fd ≡ row.fd) [ true ↦ refl | false ↦ refl ]) rising
+
+pub rising_without : (test : RequestRow → Bool) (rows : List RequestRow) → AreRising rows → AreRising (without_first test rows)
+rising_without test rows rising = rising_without_first test rows rising
+
+pub rising_more : (rows : List RequestRow) (row : RequestRow) → AreRising rows → Each (IsBelow row.fd) rows → AreRising (rows ++ row ∷ [])
+rising_more rows row rising below = rising_pushed rows row rising below
+
+pub ruleset kept = (
+  length-change_first,
+  length-without_first-le,
+  lines_held,
+  lines_configured,
+  lines_read,
+  lines_noted,
+  lines_without,
+  lines_more,
+  rising_held,
+  rising_configured,
+  rising_read,
+  rising_noted,
+  rising_without,
+  rising_more,
+)
 
 -- a row that was found has 1 to 64 lines
 pub lines_found : (test : RequestRow → Bool) (rows : List RequestRow) (i : ℕ) (d : RequestRow) → position test rows ≡ Some i → Each HasLines rows → IsLineCount (get_or rows i d).lines.count

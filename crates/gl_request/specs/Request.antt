@@ -1,10 +1,11 @@
 -- The requests of lines, after the kernel's GPIO character device. A table has a row for each request, in the
--- order of their claims.
-use Rattle.std.specs.Prelude.{ℕ, ◌≡◌, ◌≤◌, Bool, false, true, ◌+◌, ◌%◌, ◌^◌, ◌&&◌, ◌==◌, not, nat_lt, if◌then◌else◌, List, length, map, nat_eq, Option, Some, None, find, position, replicate, slice_index, slice_index_or, slice_set}
+-- order of their claims. Numbers are given out in rising order, so this is the order of their numbers too.
+use Rattle.std.specs.Prelude.{ℕ, ◌≡◌, ◌≤◌, Bool, false, true, ◌+◌, ◌%◌, ◌^◌, ◌&&◌, ◌==◌, not, nat_lt, if◌then◌else◌, List, length, map, nat_eq, Option, Some, None, find, position, replicate, slice_index, slice_index_or, slice_set, ◌<◌, [], ◌∷◌}
 use Rattle.std.specs.List.{IsDistinct}
 use Rattle.circular_buffer.specs.Buffer.{Buffer}
 use Rattle.gl_base.specs.Bits.{has_bit}
 use Rattle.gl_base.specs.Lines.{IsLineCount}
+use Rattle.gl_base.specs.Rows.{Each}
 use Rattle.gl_base.specs.Settings.{no_settings}
 use Rattle.gl_base.specs.declared.limits.TheConstants.{LINES_PER_REQUEST}
 use Rattle.gl_base.specs.declared.settings.Resolved.{Resolved}
@@ -20,6 +21,15 @@ use Rattle.gl_request.specs.declared.row.RequestRow.{RequestRow}
 -- the request has this number
 abbrev pub is_number : ℕ → RequestRow → Bool
 is_number fd row = row.fd == fd
+
+-- the request's number is below this one
+abbrev pub IsBelow : ℕ → RequestRow → Type 0
+IsBelow fd row = row.fd < fd
+
+-- rows in the order of their numbers, each above those before
+abbrev pub AreRising : List RequestRow → Type 0
+AreRising [] = Unit {0}
+AreRising (row ∷ rows) = Each (λ other. row.fd < other.fd) rows × AreRising rows
 
 -- the request of a number
 abbrev pub request_at : List RequestRow → ℕ → Option RequestRow

@@ -7,7 +7,7 @@ ghost use Rattle.gl_base.specs.Lines.{IsLineCount};
 ghost use Rattle.gl_base.specs.Rows.{Each, change_first, without_first};
 ghost use Rattle.gl_uapi.specs.LineEvent.{event_bytes};
 ghost use Rattle.gl_ring.specs.Waiting.{taken, taken_count};
-ghost use Rattle.gl_request.specs.Request.{HasLines, HaveDifferentNumbers, StandsAt, claim_by, claim_of, configured, event_of, held, is_claim_of, is_number, is_open_at, noted, read_from, request_at, row_of, settings_at};
+ghost use Rattle.gl_request.specs.Request.{HasLines, HaveDifferentNumbers, StandsAt, claim_by, claim_of, configured, event_of, held, is_claim_of, is_number, is_open_at, noted, read_from, request_at, row_of, settings_at, AreRising, IsBelow};
 
 use crate::row::{Claim, RequestAt, RequestRow};
 use gl_base::{Errno, FILES_MAX, LINES_PER_REQUEST, Lines, Resolved, Settings, push_within};
@@ -17,8 +17,8 @@ use gl_uapi::layout::LINE_EVENT_SIZE;
 use std::alloc::Global;
 use std::marker::Model;
 
-/// The requests, in the order of their claims: where each claim has a higher number than those before, in
-/// the order of their numbers. Contracts see the list of them.
+/// The requests, in the order of their claims, which is that of their numbers, since each claim has a higher
+/// number than those before. So a request is found by halving. Contracts see the list of them.
 #[derive(Drop)]
 pub struct Requests {
     rows: Vec<RequestRow>,
@@ -32,11 +32,12 @@ impl Model for Requests {
 
     ghost Value = { List RequestRow };
 
-    ghost use Rattle.gl_request.specs.Request.{HasLines};
+    ghost use Rattle.gl_request.specs.Request.{AreRising, HasLines};
 
     ghost view = { λ r. r.rows.items };
 
-    ghost invariant = { λ r. (vec_capacity r.rows ≡ FILES_MAX) × (length r.rows.items ≤ FILES_MAX) × Each HasLines r.rows.items };
+    ghost invariant = { λ r. (vec_capacity r.rows ≡ FILES_MAX) × (length r.rows.items ≤ FILES_MAX) × Each HasLines r.rows.items
+        × AreRising r.rows.items };
 }
 
 impl Requests {
@@ -71,10 +72,11 @@ impl Requests {
         let _requests = self.rows.len();
     }
 
-    /// Adds a claim, behind the others. No event of it waits.
+    /// Adds a claim of a number that is above those of the others, behind them. No event of it waits.
     #[tactic(auto, using(crate::proofs::Found::kept))]
     pub fn claim(&mut self, claim: Claim, ring: EdgeRing)
         requires room { length self.old < FILES_MAX }
+        requires number { Each (IsBelow claim.fd) self.old }
         requires lines { IsLineCount claim.lines.count }
         ensures { self.new ≡ self.old ++ row_of claim ring ∷ [] }
     {
@@ -339,11 +341,15 @@ impl Requests {
     }
 }
 
-/// Where the request of a number stands.
+/// Where the request of a number stands, found by halving.
 fn position_of(rows: &[RequestRow], fd: u32) -> Option<usize>
+    requires { AreRising rows.now }
     ensures { result ≡ position (is_number fd) rows.now }
 {
-    rows.iter().position(|row| row.fd == fd)
+    match rows.binary_search_by_key(&fd, |row| row.fd) {
+        Ok(at) => Some(at),
+        Err(_) => None,
+    }
 }
 
 /// Where an actor's unfinished claim stands.
@@ -355,6 +361,7 @@ fn claim_position(rows: &[RequestRow], actor: u8) -> Option<usize>
 
 #[tactic(auto, using(crate::proofs::Found::found))]
 fn settle_row(rows: &mut Vec<RequestRow>, fd: u32)
+    requires { AreRising rows.old.items }
     ensures rows { rows.new.items ≡ change_first (is_number fd) held rows.old.items }
     ensures capacity { vec_capacity rows.new ≡ vec_capacity rows.old }
 {
@@ -375,6 +382,7 @@ fn settle_row_at(rows: &mut Vec<RequestRow>, found: RequestAt)
 
 #[tactic(auto, using(crate::proofs::Found::found))]
 fn take_row(rows: &mut Vec<RequestRow>, fd: u32) -> Option<EdgeRing>
+    requires { AreRising rows.old.items }
     ensures rows { rows.new.items ≡ without_first (is_number fd) rows.old.items }
     ensures ring { result ≡ option_map (λ row. row.ring) (request_at rows.old.items fd) }
     ensures capacity { vec_capacity rows.new ≡ vec_capacity rows.old }
@@ -400,6 +408,7 @@ fn take_row_at(rows: &mut Vec<RequestRow>, found: RequestAt) -> RequestRow
 
 #[tactic(auto, using(crate::proofs::Found::found))]
 fn configure_row(rows: &mut Vec<RequestRow>, fd: u32, settings: &Resolved)
+    requires { AreRising rows.old.items }
     ensures rows { rows.new.items ≡ change_first (is_number fd) (configured settings.now) rows.old.items }
     ensures capacity { vec_capacity rows.new ≡ vec_capacity rows.old }
 {
@@ -426,7 +435,8 @@ fn note_edge(
     rising: bool,
     timestamp: u64,
 ) -> Option<Event>
-    requires { i < LINES_PER_REQUEST }
+    requires position { i < LINES_PER_REQUEST }
+    requires rising { AreRising rows.old.items }
     ensures rows { rows.new.items ≡ change_first (is_number fd) (noted i rising timestamp) rows.old.items }
     ensures event { result ≡ option_and_then (event_of i rising timestamp) (request_at rows.old.items fd) }
     ensures capacity { vec_capacity rows.new ≡ vec_capacity rows.old }
@@ -456,7 +466,8 @@ fn note_edge_at(
 
 #[tactic(auto, using(crate::proofs::Found::found))]
 fn read_row(rows: &mut Vec<RequestRow>, fd: u32, max: u32, out: &mut [u8]) -> u32
-    requires { LINE_EVENT_SIZE * max ≤ length out.old }
+    requires room { LINE_EVENT_SIZE * max ≤ length out.old }
+    requires rising { AreRising rows.old.items }
     ensures count { result ≡ option_map_or (λ row. taken_count max row.ring) (request_at rows.old.items fd) 0 }
     ensures rows { rows.new.items ≡ change_first (is_number fd) (read_from max) rows.old.items }
     ensures out { out.new ≡ flat_map event_bytes (option_map_or (λ row. taken max row.ring) (request_at rows.old.items fd) [])

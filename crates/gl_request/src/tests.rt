@@ -13,7 +13,8 @@ use std::test::Fail;
 /// A claim of two lines, 3 and 5, whose edges are monitored: both of the first, the falling ones of the
 /// second.
 fn two_lines(fd: u32) -> Claim
-    ensures { result.lines.count ≡ 2 }
+    ensures number { result.fd ≡ fd }
+    ensures lines { result.lines.count ≡ 2 }
 {
     let mut offsets = [0; 64];
     offsets[0] = 3;

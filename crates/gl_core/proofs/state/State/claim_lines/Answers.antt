@@ -5,7 +5,7 @@ use Rattle.gl_desc.specs.Desc.{claimed}
 use Rattle.gl_model.specs.Asked.{AskedLines}
 use Rattle.gl_model.specs.Claiming.{claim_lines}
 use Rattle.gl_model.specs.declared.place.Place.{Place}
-use Rattle.gl_core.specs.Claims.{AreFree}
+use Rattle.gl_core.specs.Claims.{AreFree, NumbersAreBelow}
 use Rattle.gl_core.specs.Kept.{Kept, StandsFor}
 use Rattle.gl_core.specs.Shape.{IsShaped}
 use Rattle.gl_core.specs.View.{view_of}
@@ -19,6 +19,12 @@ invariant_of-self c = (
       (shape_with_descs c.self.inside.chips c.self.inside.origins.items c.self.inside.places c.args.place (offsets_of c.asked.inside.lines) (claimed c.self.inside.next c.asked.inside.consumer) c.self.invariant.0),
   c.self.invariant.1,
 )
+
+-- the numbers of requests are below the next one
+pub claim-requires-2-clause-number : goal.claim-requires-2-clause-number
+claim-requires-2-clause-number c =
+    let known : NumbersAreBelow (view_of c.self.inside) = subst NumbersAreBelow (sym c.self.view_is) c.requires.numbers in
+    known.each
 
 pub returns : goal.returns
 returns c w s =
