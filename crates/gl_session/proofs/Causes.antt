@@ -4,8 +4,9 @@ use Rattle.std.specs.Prelude.{if◌then◌else◌}
 use Rattle.std.specs.Option.{option_or}
 use Rattle.std.proofs.lemmas.List.{append-nil}
 use Rattle.gl_base.specs.Words.{lines_of}
+use Rattle.gl_driver.specs.Told.{Told}
 use Rattle.gl_script.specs.Section.{SaidSection}
-use Rattle.gl_script.specs.Sentence.{Sentence, nothing, fault_from, cost_fault, sections_said, first_fault}
+use Rattle.gl_script.specs.Sentence.{nothing, fault_from, cost_fault, sections_said}
 use Rattle.gl_script.specs.declared.refusal.Refusal.{Refusal}
 use Rattle.gl_script.specs.declared.refusal.RefusalKind.TheVariants.{TooLong}
 use Rattle.gl_session.specs.declared.status.Status.{Status}
@@ -13,6 +14,7 @@ use Rattle.gl_session.specs.declared.status.Status.TheVariants.{Ran, Usage, Refu
 use Rattle.gl_session.specs.LeftOut.{left_out}
 use Rattle.gl_session.specs.Streams.{ReadsThrough}
 use Rattle.gl_session.specs.Run.{Runs, refusal_of, IsOutput, IsRefusal}
+use Rattle.gl_session.proofs.FewStatements.{sentence_is_short}
 
 -- bytes whose sections are run are not refused
 not_refused : (bytes : List ℕ) (sections : List SaidSection) → Runs bytes sections → refusal_of bytes ≡ None
@@ -30,15 +32,9 @@ long_refusal bytes h =
     let test : nat_lt 1048576 (length bytes) ≡ true = grind (arith, h) in
     long_if (nat_lt 1048576 (length bytes)) (option_or (fault_from nothing 1 (lines_of bytes)) (cost_fault (sections_said bytes))) (left_out bytes) test
 
-short_if : (test : Bool) (rest : Option Refusal) → (if test then too_long else rest) ≡ None → test ≡ false
-short_if true rest e = cc
-short_if false rest e = refl
-
 -- a sentence isn't too long
 short : (bytes : List ℕ) (sections : List SaidSection) → Runs bytes sections → length bytes ≤ 1048576
-short bytes sections r =
-    let test = short_if (nat_lt 1048576 (length bytes)) (option_or (fault_from nothing 1 (lines_of bytes)) (cost_fault (sections_said bytes))) r.sentence.faultless in
-    grind (arith, test)
+short bytes sections r = sentence_is_short bytes sections r.sentence
 
 single : (bytes : List ℕ) (some others : List SaidSection) → Runs bytes some → Runs bytes others → some ≡ others
 single bytes some others r s = r.sentence.says ∙ sym s.sentence.says
@@ -69,9 +65,9 @@ module _ (input bytes rest : List ℕ) (whole : input ≡ bytes ++ rest) (ends :
   same_refusal : refusal_of input ≡ refusal_of bytes
   same_refusal = same_if (nat_lt 1048576 (length bytes)) refl
 
-  output_of_read : (text : List ℕ) → IsOutput bytes text → IsOutput input text
-  output_of_read text (inl session) = inl (session.0, runs_of_read session.0 session.1, session.2)
-  output_of_read text (inr refused) = inr (refused.0, same_refusal ∙ refused.1, refused.2)
+  output_of_read : (is_planned : Bool) (before left : Option Told) (text : List ℕ) → IsOutput is_planned before left bytes text → IsOutput is_planned before left input text
+  output_of_read is_planned before left text (inl session) = inl (session.0, runs_of_read session.0 session.1, session.2)
+  output_of_read is_planned before left text (inr refused) = inr (refused.0, same_refusal ∙ refused.1, refused.2)
 
 pub if_ran : (old new : Option (List ℕ)) (bytes : List ℕ) (Ends : Type 0) (Written : List SaidSection → Type 0) → ReadsThrough old new bytes → (length bytes ≤ 1048576 → Ends) →
     (sections : List SaidSection) × Runs bytes sections × Written sections →
@@ -97,13 +93,13 @@ if_refused None new bytes Written r out = tt
 if_refused (Some input) None bytes Written r out = absurd r.first
 if_refused (Some input) (Some rest) bytes Written r out = (out.0, same_refusal input bytes rest r.first r.end ∙ out.1, out.2)
 
-pub if_output : (old new : Option (List ℕ)) (bytes : List ℕ) (W : Type 0) (Written : List ℕ → Type 0) → ReadsThrough old new bytes →
-    (text : List ℕ) × IsOutput bytes text × Written text →
-    IfSome old (λ input. W → (text : List ℕ) × IsOutput input text × Written text)
-if_output None new bytes W Written r out = tt
-if_output (Some input) None bytes W Written r out = absurd r.first
-if_output (Some input) (Some rest) bytes W Written r out =
-    λ w. (out.0, output_of_read input bytes rest r.first r.end out.0 out.1, out.2)
+pub if_output : (is_planned : Bool) (before left : Option Told) (old new : Option (List ℕ)) (bytes : List ℕ) (W : Type 0) (Written : List ℕ → Type 0) → ReadsThrough old new bytes →
+    (text : List ℕ) × IsOutput is_planned before left bytes text × Written text →
+    IfSome old (λ input. W → (text : List ℕ) × IsOutput is_planned before left input text × Written text)
+if_output is_planned before left None new bytes W Written r out = tt
+if_output is_planned before left (Some input) None bytes W Written r out = absurd r.first
+if_output is_planned before left (Some input) (Some rest) bytes W Written r out =
+    λ w. (out.0, output_of_read input bytes rest r.first r.end is_planned before left out.0 out.1, out.2)
 
 -- a run over refused bytes doesn't run
 only_refusals : (status : Status) → (status ≡ Usage → ⊥) → (status ≡ Ran → ⊥) → IsRefusal status

@@ -1,5 +1,5 @@
 -- What comes of a command on an open file, as an operation of a talk.
-use Rattle.std.proofs.Common.{◌≡◌, ◌≢◌, ◌⊎◌, inl, inr, ⊎_elim, ℕ, Bool, true, false, List, [], ◌∷◌, ◌++◌, length, drop, Option, None, Some, Result, Ok, Err, refl, sym, ◌∙◌, ap, subst}
+use Rattle.std.proofs.Common.{◌≡◌, ◌≢◌, inl, inr, ⊎_elim, ℕ, Bool, true, false, List, [], ◌++◌, length, drop, Option, None, Some, Result, Ok, Err, refl, sym, ◌∙◌, ap, subst}
 use Rattle.std.specs.List.{position}
 use Rattle.std.specs.Prelude.{get_or, nat_eq, if◌then◌else◌}
 use Rattle.std.proofs.lemmas.Bool.{true≢false}
@@ -18,11 +18,10 @@ use Rattle.gl_driver.specs.declared.op.Op.{Op}
 use Rattle.gl_model.specs.declared.reply.Reply.{Reply}
 use Rattle.gl_model.specs.declared.reply.Reply.TheVariants.{Done, Number, Go, Found, Text, Ready, Refused}
 use Rattle.gl_model.specs.Entries.{begins}
-use Rattle.gl_model.specs.Parts.{CommandIn, Commanding, Makes, MakesAt, MakesCommand, MakesRest, guard_of, in_ask, in_tell, is_driver_asked}
-use Rattle.gl_chip.specs.Called.{ComesOut, HasCalled, IsMade}
-use Rattle.gl_chip.specs.Commanding.{CommandsOut, HasCommanded, IsCommanded, WasAsked, is_asked}
+use Rattle.gl_model.specs.Parts.{CommandIn, Commanding, Makes, MakesCommand, MakesRest, in_ask, in_tell, is_driver_asked}
+use Rattle.gl_chip.specs.Commanding.{CommandsOut, IsCommanded, is_asked}
 use Rattle.gl_chip.specs.Commanding.{PortAfter as PortOf}
-use Rattle.gl_chip.specs.Values.{ActorValue, OneEntry, OneView, core}
+use Rattle.gl_chip.specs.Values.{ActorValue, OneEntry, core}
 use Rattle.gl_session.specs.Answers.{came}
 use Rattle.gl_session.specs.Asking.{Calls, asking, buffer_of, files_behind, got_by, got_of, made_by, made_on, written_over}
 use Rattle.gl_session.specs.Making.{IsCommanding, kept_with, none_made, request_of}
@@ -34,7 +33,7 @@ use Rattle.gl_chip.specs.Results.{done_of}
 use Rattle.gl_chip.specs.Steps.{FoundNoRoom}
 use Rattle.gl_session.specs.Files.{OpenFile, file_in}
 use Rattle.gl_session.specs.Performed.{Performs, carried}
-use Rattle.gl_session.specs.Turns.{Carried, PortAfter, tells_in}
+use Rattle.gl_session.specs.Turns.{PortAfter, tells_in}
 use Rattle.gl_session.proofs.Performing.{err_or, found_file, full_outcome, is_ok, made_outcome, none_own, on_found, unless_wanted}
 
 module _ {P : Type 0} (told : P → Option Told) (faults : P → ℕ) (Own : P → ℕ → Op → List OneEntry → Type 0) (limit : ℕ) (is_planned : Bool) where

@@ -2,9 +2,13 @@ pub mod Alone
 pub mod AloneRuns
 pub mod Causes
 pub mod Commands
+pub mod FewStatements
 pub mod Known
 pub mod OneCalls
 pub mod OneHistories
 pub mod Performing
 pub mod Plays
+pub mod SaidHere
+pub mod Sections
+pub mod Whole
 pub mod Within

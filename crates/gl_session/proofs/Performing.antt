@@ -1,7 +1,7 @@
 -- What comes of a call of the device, as an operation of a talk.
 use Rattle.std.proofs.Common.{◌≡◌, ◌≢◌, ◌⊎◌, inl, inr, ⊎_elim, ℕ, ◌≤◌, ◌<◌, Bool, true, false, List, [], ◌∷◌, ◌++◌, length, take, drop, replicate, Option, None, Some, Result, Ok, Err, refl, sym, ◌∙◌, ap, subst, arith}
 use Rattle.std.specs.List.{position}
-use Rattle.std.specs.Prelude.{get_or, nat_le, nat_lt, ◌&&◌, if◌then◌else◌}
+use Rattle.std.specs.Prelude.{get_or, nat_lt, if◌then◌else◌}
 use Rattle.std.proofs.lemmas.Bool.{true≢false}
 use Rattle.std.proofs.lemmas.List.{append-nil, drop_all, take_all}
 use Rattle.gl_base.specs.declared.errno.Errno.{Errno}
@@ -22,7 +22,7 @@ use Rattle.gl_model.specs.declared.call.Call.TheVariants.{Probe, Unplug, MakeDir
 use Rattle.gl_model.specs.declared.reply.Reply.{Reply}
 use Rattle.gl_model.specs.declared.reply.Reply.TheVariants.{Done as DoneReply, Refused as RefusedReply}
 use Rattle.gl_model.specs.Entries.{begins}
-use Rattle.gl_model.specs.Parts.{DeviceCall, Makes, MakesAt, MakesInside, MakesRest, Once, Removing, RemovalOf, OfChip, OfDevice, first_call, guard_of, is_poll, is_single, last_reply}
+use Rattle.gl_model.specs.Parts.{DeviceCall, Makes, MakesAt, MakesRest, Once, Removing, RemovalOf, OfChip, OfDevice, first_call, guard_of, is_single}
 use Rattle.gl_model.specs.Entries.{last_call}
 use Rattle.gl_chip.specs.Called.{ComesOut, HasCalled, IsMade}
 use Rattle.gl_chip.specs.Files.{ChipFile}
@@ -30,15 +30,15 @@ use Rattle.gl_chip.specs.Opened.{opened_of}
 use Rattle.gl_chip.specs.Removing.{RemovesOut}
 use Rattle.gl_chip.specs.Results.{done_of, number_of}
 use Rattle.gl_chip.specs.Steps.{FoundNoRoom}
-use Rattle.gl_chip.specs.Values.{OneDeed, OneEntry, OneView, core}
+use Rattle.gl_chip.specs.Values.{OneEntry, OneView, core}
 use Rattle.gl_session.specs.Answers.{came, refused_got}
 use Rattle.gl_session.specs.Asking.{Asking, Calls, Plans, Refuses, asking, at_place, files_behind, got_by, got_of, has_lines, on_file, opened, probes, reads_from, written_over}
 use Rattle.gl_session.specs.declared.files.FileRow.{FileRow}
 use Rattle.gl_session.specs.Files.{OpenFile, file_in, is_in}
-use Rattle.gl_session.specs.Performed.{HasPerformed, IsCall, MetFull, Performs, PerformsAlone, carried}
+use Rattle.gl_session.specs.Performed.{HasPerformed, IsCall, Performs, PerformsAlone, carried}
 use Rattle.gl_session.specs.Rows.{files_of, is_row, row_file}
 use Rattle.gl_talk.proofs.NamedRows.{row_found, no_row_found}
-use Rattle.gl_session.specs.Turns.{Carried, Carries, DidNothing, Exchange, HasMade, IsDone, PortAfter, call_tells, tells_in}
+use Rattle.gl_session.specs.Turns.{Carried, IsDone, PortAfter, call_tells, tells_in}
 
 -- Calls that tell no answer of a driver
 

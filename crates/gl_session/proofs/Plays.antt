@@ -1,11 +1,11 @@
 -- Talks that are carried out turn by turn: turns one after another, and one program behind another.
-use Rattle.std.proofs.Common.{◌≡◌, ◌<◌, ◌+◌, ℕ, Bool, List, [], ◌∷◌, ◌++◌, length, map, drop, get_or, Option, None, Some, refl, sym, ◌∙◌, ap, subst}
+use Rattle.std.proofs.Common.{◌≡◌, ◌<◌, ◌+◌, ℕ, Bool, List, [], ◌∷◌, ◌++◌, length, map, drop, get_or, None, Some, refl, sym, ◌∙◌, ap, subst}
 use Rattle.std.proofs.lemmas.List.{append_assoc, append-nil, drop_more}
 use Rattle.gl_base.specs.declared.operation.Do.{Do}
 use Rattle.gl_base.specs.declared.operation.Got.{Got}
 use Rattle.gl_gate.specs.Grown.{Grew}
 use Rattle.gl_gate.proofs.Grown.{grows_on}
-use Rattle.gl_args.specs.Program.{Goes, Left, Program, done, given, goes_on, print, ask, then_by, waits}
+use Rattle.gl_args.specs.Program.{Goes, Left, Program, done, given, goes_on, ask, then_by, waits}
 use Rattle.gl_args.specs.declared.next.Next.TheVariants.{Call, Print}
 use Rattle.gl_chip.specs.Values.{OneDeed, OneView, core}
 use Rattle.gl_script.specs.declared.section.Statement.{Statement}
@@ -15,7 +15,7 @@ use Rattle.gl_talk.specs.Talk.{does, says, slot_behind}
 use Rattle.gl_session.specs.Asking.{got_of}
 use Rattle.gl_session.specs.Performed.{HasPerformed, MetFull, PlaysOn, StoppedFull}
 use Rattle.gl_session.proofs.Performing.{unmoved}
-use Rattle.gl_session.specs.Turns.{Carried, Carries, Exchange, Follows, Takes, Turn, Said, Did, did_by, said_by}
+use Rattle.gl_session.specs.Turns.{Carried, Follows, Takes, Turn, Said, Did, did_by, said_by}
 
 pub said_append : (first later : List Turn) → said_by (first ++ later) ≡ said_by first ++ said_by later
 said_append [] later = refl
@@ -49,7 +49,7 @@ module _ {A B : Type 0} (is_planned : Bool) (actor : ℕ) (f : A → Program B) 
   follows_then p s (turn ∷ turns) q r (next, at, takes, follows) = (then_by next f, at, takes_then p s turn next at takes, follows_then next at turns q r follows)
 
 module _ {A : Type 0} (is_planned : Bool) where
-  number_same : (p : Program A) (s : Carried) (turns : List Turn) (q : Program A) (r : Carried) (n m : ℕ) → m ≡ n → Follows is_planned m p s turns q r → Follows is_planned n p s turns q r
+  pub number_same : (p : Program A) (s : Carried) (turns : List Turn) (q : Program A) (r : Carried) (n m : ℕ) → m ≡ n → Follows is_planned m p s turns q r → Follows is_planned n p s turns q r
   number_same p s turns q r n m e follows = subst (λ (k : ℕ). Follows is_planned k p s turns q r) e follows
 
   -- a program was carried out so far, and then further

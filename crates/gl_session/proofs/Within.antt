@@ -46,7 +46,7 @@ use Rattle.gl_session.specs.One.{is_kind, said_in_kind}
 use Rattle.gl_session.specs.Turns.{Carried, Did, Exchange, Follows, IsDone, Said, Turn, did_by}
 use Rattle.gl_session.specs.Within.{CallsComeBelowCost, CallsHaveRoom, EntriesWithinCost, SessionsCostTheirParts, SessionsKeepWithinCost, Stop, cost_in_kind}
 
-length_entries : (did : List OneDeed) → length (entries_in did) ≡ length did
+pub length_entries : (did : List OneDeed) → length (entries_in did) ≡ length did
 length_entries [] = refl
 length_entries (d ∷ did) = ap suc (length_entries did)
 

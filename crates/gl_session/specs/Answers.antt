@@ -1,5 +1,5 @@
 -- What comes of a call's result for who carries a talk out: a result for the talk, or the end of the run. This project's choice.
-use Rattle.std.specs.Prelude.{ℕ, Result, Ok, Err}
+use Rattle.std.specs.Prelude.{Result, Ok, Err}
 use Rattle.gl_base.specs.declared.errno.Errno.{Errno}
 use Rattle.gl_base.specs.declared.errno.Errno.TheVariants.{NoMemory, Full}
 use Rattle.gl_base.specs.declared.operation.Got.{Got}

@@ -15,7 +15,7 @@ use Rattle.gl_model.specs.Parts.{DeviceCall, Once, Removing, Commanding, OfChip,
 use Rattle.gl_model.specs.declared.call.Call.{Call}
 use Rattle.gl_model.specs.declared.call.Call.TheVariants.{Probe, MakeDir, RemoveDir, Write, Read, Live, Tick, Pin, Irq, Pull, Level, OpenChip, Find, ReadEdges, ReadInfo, PollLine, PollChip, Close}
 use Rattle.gl_model.specs.declared.reply.Reply.{Reply}
-use Rattle.gl_model.specs.declared.reply.Reply.TheVariants.{Done, Number, Go, Found, Text, Ready, Refused}
+use Rattle.gl_model.specs.declared.reply.Reply.TheVariants.{Number}
 use Rattle.gl_chip.specs.Files.{ChipFile}
 use Rattle.gl_chip.specs.Handed.{command_in}
 use Rattle.gl_chip.specs.Opened.{opened_of}

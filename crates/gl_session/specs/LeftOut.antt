@@ -1,43 +1,30 @@
--- What is run of a session: the section `setup` alone, with `probe` and `gpiodetect`. All other sections and statements
--- are left out so far, and a session that has one is refused. This project's choice.
-use Rattle.std.specs.Prelude.{ℕ, ◌+◌, Bool, true, false, not, ◌&&◌, ◌||◌, if◌then◌else◌, List, [], ◌∷◌, Option, None, Some, codes}
+-- What is run of a session: fewer than two actors. A second one is left out so far, and a session that has it is refused at its place.
+-- This project's choice.
+use Rattle.std.specs.Prelude.{ℕ, ◌+◌, Bool, true, false, ◌||◌, if◌then◌else◌, is_some, List, [], ◌∷◌, Option, None, Some, codes}
 use Rattle.std.specs.Option.{option_or}
 use Rattle.std.specs.Str.{bytes_eq}
-use Rattle.gl_base.specs.Refusals.{when, first_of}
 use Rattle.gl_base.specs.Words.{Span, pieces}
 use Rattle.gl_script.specs.Columns.{columns}
-use Rattle.gl_script.specs.Faults.{spot}
-use Rattle.gl_script.specs.Sentence.{refusal_at}
-use Rattle.gl_script.specs.Table.{keyword_of}
-use Rattle.gl_script.specs.declared.refusal.RefusalKind.TheVariants.{Section, Statement}
+use Rattle.gl_script.specs.declared.refusal.RefusalKind.TheVariants.{Section}
 use Rattle.gl_script.specs.declared.refusal.Refusal.{Refusal}
-use Rattle.gl_script.specs.declared.refusal.Spot.{Spot}
-use Rattle.gl_script.specs.declared.table.Keyword.{Keyword}
 
--- a statement begins with a word that is run
-abbrev pub is_run : List ℕ → Bool
-is_run word = bytes_eq word (codes "probe") || bytes_eq word (codes "gpiodetect")
+-- the column of the word by which a line with these words begins an actor's section, if it begins one
+abbrev pub actor_at : List Span → Option ℕ
+actor_at [] = None
+actor_at (first ∷ words) = if bytes_eq first.text (codes "actor") then Some first.at else None
 
--- a section begins with a word that is left out
-abbrev pub is_section_left_out : List ℕ → Bool
-is_section_left_out word = bytes_eq word (codes "actor") || bytes_eq word (codes "after")
+-- an actor is left out where one stands before it
+abbrev pub second_actor : Bool → ℕ → Option ℕ → Option Refusal
+second_actor had number None = None
+second_actor false number (Some column) = None
+second_actor true number (Some column) = Some (record { line = number; column = column; kind = Section })
 
-abbrev pub is_statement : Option Keyword → Bool
-is_statement None = false
-is_statement (Some keyword) = true
+-- the first actor that is left out, of lines from the one of this number on
+abbrev pub left_out_from : Bool → ℕ → List (List ℕ) → Option Refusal
+left_out_from had number [] = None
+left_out_from had number (line ∷ lines) =
+    option_or (second_actor had number (actor_at (columns line))) (left_out_from (had || is_some (actor_at (columns line))) (number + 1) lines)
 
--- a line with these words is left out
-abbrev pub words_left_out : List Span → Option Spot
-words_left_out [] = None
-words_left_out (first ∷ words) =
-    first_of (when (is_section_left_out first.text) (spot first.at Section)
-    ∷ when (is_statement (keyword_of first.text) && not (is_run first.text)) (spot first.at Statement) ∷ [])
-
--- the first line that is left out, of lines from the one of this number on
-abbrev pub left_out_from : ℕ → List (List ℕ) → Option Refusal
-left_out_from number [] = None
-left_out_from number (line ∷ lines) = option_or (refusal_at number (words_left_out (columns line))) (left_out_from (number + 1) lines)
-
--- the first line of a text that is left out
+-- the first actor of a text that is left out
 abbrev pub left_out : List ℕ → Option Refusal
-left_out bytes = left_out_from 1 (pieces 10 bytes)
+left_out bytes = left_out_from false 1 (pieces 10 bytes)

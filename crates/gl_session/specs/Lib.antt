@@ -5,12 +5,13 @@ pub mod Files
 pub mod LeftOut
 pub mod Making
 pub mod One
+pub mod OneActor
 pub mod OneChip
 pub mod Performed
+pub mod Ports
 pub mod Rows
 pub mod Run
 pub mod Status
 pub mod Streams
-pub mod Text
 pub mod Turns
 pub mod Within

@@ -1,7 +1,7 @@
 -- One: what a session with fewer than two actors does, as a function of what it says and of the driver's answers. All of it is
 -- actor 0's, one call of the device after another, each answered by the machine's step in the world of those before it. This
 -- project's choice.
-use Rattle.std.specs.Prelude.{ℕ, ◌+◌, Bool, true, false, ◌&&◌, not, if◌then◌else◌, List, [], ◌∷◌, ◌++◌, length, map, flat_map, filter, Option, Some, None}
+use Rattle.std.specs.Prelude.{ℕ, Bool, true, false, ◌&&◌, not, if◌then◌else◌, List, [], ◌∷◌, ◌++◌, length, map, Option, Some, None}
 use Rattle.gl_base.specs.Count.{counted_up}
 use Rattle.gl_base.specs.Planned.{planned_answer, planned_call}
 use Rattle.gl_base.specs.Words.{Span}
@@ -18,7 +18,7 @@ use Rattle.gl_script.specs.declared.section.SectionKind.TheVariants.{Setup, Acto
 use Rattle.gl_model.specs.Chips.{phase_at}
 use Rattle.gl_model.specs.Entries.{begins, last_call}
 use Rattle.gl_model.specs.Outcome.{Outcome}
-use Rattle.gl_model.specs.Parts.{CommandIn, DeviceCall, Once, Removing, Commanding, first_call, guard_of, in_ask, in_tell, in_whole, is_driver_asked, is_poll}
+use Rattle.gl_model.specs.Parts.{DeviceCall, Once, Removing, Commanding, first_call, guard_of, in_ask, in_tell, in_whole, is_driver_asked, is_poll}
 use Rattle.gl_model.specs.Step.{step}
 use Rattle.gl_model.specs.World.{World, opening}
 use Rattle.gl_model.specs.declared.call.Call.{Call}

@@ -1,5 +1,5 @@
 -- One operation of a talk, carried out on the device; and a program in the midst of being carried out.
-use Rattle.std.specs.Prelude.{◌≡◌, ◌⊎◌, ℕ, Bool, List, [], ◌∷◌, ◌++◌, Option, Result, Ok, Err}
+use Rattle.std.specs.Prelude.{◌≡◌, ◌⊎◌, ℕ, Bool, List, ◌++◌, Option, Result, Ok, Err}
 use Rattle.gl_base.specs.declared.errno.Errno.{Errno}
 use Rattle.gl_base.specs.declared.errno.Errno.TheVariants.{Full, NoMemory}
 use Rattle.gl_base.specs.declared.operation.Do.{Do}
@@ -7,7 +7,6 @@ use Rattle.gl_base.specs.declared.operation.Got.{Got}
 use Rattle.gl_gate.specs.Grown.{Grew}
 use Rattle.gl_args.specs.Program.{Program, ask}
 use Rattle.gl_driver.specs.Told.{Told}
-use Rattle.gl_model.specs.Parts.{DeviceCall}
 use Rattle.gl_chip.specs.Steps.{FoundNoRoom}
 use Rattle.gl_chip.specs.Values.{OneView, core}
 use Rattle.gl_session.specs.Asking.{Asking, Calls, Plans, Refuses, asking, got_of}

@@ -1,6 +1,6 @@
 -- A talk as an actor carried it out on the device: what it printed and what it did, one turn after another. The history may have
 -- entries of other actors between any two of its own. This project's choice.
-use Rattle.std.specs.Prelude.{◌≡◌, ℕ, Bool, true, List, [], ◌∷◌, ◌++◌, Option, Some, None, IfSome}
+use Rattle.std.specs.Prelude.{◌≡◌, ℕ, Bool, true, List, [], ◌∷◌, ◌++◌, Option, Some, IfSome}
 use Rattle.gl_base.specs.Count.{counted_up}
 use Rattle.gl_base.specs.Planned.{planned_answer}
 use Rattle.gl_base.specs.declared.operation.Do.{Do}

@@ -8,13 +8,13 @@ mod left_out;
 mod on_board;
 mod on_commands;
 mod on_files;
+mod one_actor;
 pub mod perform;
 pub mod play;
+mod ports;
 mod session;
 mod status;
 mod streams;
-#[cfg(test)]
-mod tests;
 mod text;
 
 pub use session::run;

@@ -1,35 +1,48 @@
 //! The top call: from the bytes read to the bytes written and the status.
-ghost use Rattle.std.specs.Prelude.{◌≡◌, ◌≢◌, ◌<◌, ◌≤◌, ◌⊎◌, ◌++◌, ℕ, List, [], None, Some, length, IfSome, OnOk, IsOkUnless};
+ghost use Rattle.std.specs.Prelude.{◌≡◌, ◌≢◌, ◌<◌, ◌≤◌, ◌⊎◌, ◌++◌, ℕ, List, [], None, Some, drop, length, IfSome, OnOk, IsOkUnless};
 ghost use Rattle.std.specs.Io.KnownBytes.{Appends, IsAtEnd};
 ghost use Rattle.gl_base.specs.Count.{Rises};
 ghost use Rattle.gl_script.specs.declared.refusal.Refusal.{Refusal};
 ghost use Rattle.gl_script.specs.Section.{SaidSection};
+ghost use Rattle.gl_session.specs.Ports.{AreAllThere, first_told};
 ghost use Rattle.gl_session.specs.Streams.{ReadsThrough, LosesFront, AppendsFront};
-ghost use Rattle.gl_session.specs.Text.{session_text};
-ghost use Rattle.gl_session.specs.Run.{Runs, refusal_of, usage_line, refused_line, IsOutput, IsRefusal};
+ghost use Rattle.gl_session.specs.Run.{HasWritten, Runs, refusal_of, usage_line, refused_line, IsOutput, IsRefusal};
 
 use crate::left_out::left_out;
+use crate::ports::run_alone;
 use crate::status::Status;
 use crate::streams::{ReadError, read_through, write_all};
-use crate::text::{put_refusal, run_script};
+use crate::text::put_refusal;
+use gl_core::Core;
+use gl_driver::Driver;
 use gl_io::{Sink, Source};
 use gl_script::{Feed, Refusal, RefusalKind};
 use std::alloc::Global;
+use std::sync::Wait;
 
 /// Reads a session from the source, runs it, and writes its text to the sink.
 ///
 /// There are no words that it takes. It reads to the end of input, or one byte more than a session may
-/// have, and writes at the end: the text of the session, the line `refused LINE COLUMN KIND` for bytes that
-/// are none or say what isn't run so far, or the line `usage` for words. The first cause decides, in the order of [`Status`].
-pub fn run<S: Source, K: Sink>(
+/// have, carries the session out on a new device with this driver, and writes at the end: the text of the session, the line
+/// `refused LINE COLUMN KIND` for bytes that are none or say what isn't run so far, or the line `usage` for words. The first cause
+/// decides, in the order of [`Status`]. There are 17 ports: that of the number of an actor is the one through which it asks the driver.
+pub fn run<R: Wait, S: Source, K: Sink, D: Driver<Core>>(
+    rt: &R,
     alloc: Global,
     words: &[&str],
     source: &mut S,
     sink: &mut K,
+    driver: D,
+    ports: &mut [Option<D::Port>],
 ) -> Status
-    // A session that ran is read to its end, and its text is written.
-    ensures ran { result ≡ Status.Ran → IfSome (S.left source.old) (λ input. (sections : List SaidSection) → Runs input sections →
-        IsAtEnd (S.left source.new) × Appends (K.held sink.old) (K.held sink.new) (session_text sections)) }
+    requires none { D.ENTRIES ≡ 0 }
+    requires ports { AreAllThere ports.old }
+
+    // A session that ran is read to its end, and what is written is One of just the answers that its driver gave; a planned driver over
+    // a new port gave those of Planned, and a port that tells has told them.
+    ensures one_actor_output { result ≡ Status.Ran → IfSome (S.left source.old) (λ input. (sections : List SaidSection) → Runs input sections →
+        IsAtEnd (S.left source.new)
+        × HasWritten D.is_planned sections (first_told D.Port.told ports.old) (first_told D.Port.told ports.new) (K.held sink.old) (K.held sink.new)) }
     ensures ran_without_words { result ≡ Status.Ran → words.now ≡ [] }
     ensures ran_only_session { result ≡ Status.Ran → IfSome (S.left source.old) (λ input. (sections : List SaidSection) × Runs input sections) }
 
@@ -59,7 +72,8 @@ pub fn run<S: Source, K: Sink>(
     ensures write_fault { result ≡ Status.WriteFault → Rises (K.fault_count sink.old) (K.fault_count sink.new) }
     ensures write_fault_told { K.fault_count sink.old < K.fault_count sink.new → result ≡ Status.WriteFault }
     ensures write_fault_front { result ≡ Status.WriteFault → IfSome (S.left source.old) (λ input. words.now ≡ [] →
-        (text : List ℕ) × IsOutput input text × AppendsFront (K.held sink.old) (K.held sink.new) text) }
+        (text : List ℕ) × IsOutput D.is_planned (first_told D.Port.told ports.old) (first_told D.Port.told ports.new) input text
+        × AppendsFront (K.held sink.old) (K.held sink.new) text) }
     ensures usage_front { result ≡ Status.WriteFault → words.now ≢ [] → AppendsFront (K.held sink.old) (K.held sink.new) usage_line }
 
     // Want of memory may always be answered, and then nothing is written.
@@ -69,29 +83,50 @@ pub fn run<S: Source, K: Sink>(
     ensures complete { IfSome (S.left source.old) (λ input. words.now ≡ [] → (sections : List SaidSection) → Runs input sections →
         ¬ Rises (S.fault_count source.old) (S.fault_count source.new) → ¬ Rises (K.fault_count sink.old) (K.fault_count sink.new) →
         (result ≡ Status.Ran) ⊎ (result ≡ Status.NoMemory)) }
+
+    // All ports are there again but for want of memory; those of further actors are as they were, and so is the first where nothing ran.
+    ensures ports_there { result ≢ Status.NoMemory → AreAllThere ports.new }
+    ensures other_ports { drop 1 ports.new ≡ drop 1 ports.old }
+    ensures usage_ports { result ≡ Status.Usage → ports.new ≡ ports.old }
+    ensures read_fault_ports { result ≡ Status.ReadFault → ports.new ≡ ports.old }
+    ensures refused_ports { result ≡ Status.Refused → ports.new ≡ ports.old }
 {
     if !words.is_empty() {
         return finish(sink, b"usage\n", Status::Usage);
     }
     match read_through(alloc, source) {
-        Ok(feed) => answer(alloc, &feed, sink),
+        Ok(feed) => answer(rt, alloc, &feed, sink, driver, ports),
         Err(ReadError::Fault) => Status::ReadFault,
         Err(ReadError::NoMemory) => Status::NoMemory,
     }
 }
 
 /// Runs the session that the bytes say, and writes its text.
-fn answer<K: Sink>(alloc: Global, feed: &Feed, sink: &mut K) -> Status
+fn answer<R: Wait, K: Sink, D: Driver<Core>>(
+    rt: &R,
+    alloc: Global,
+    feed: &Feed,
+    sink: &mut K,
+    driver: D,
+    ports: &mut [Option<D::Port>],
+) -> Status
+    requires none { D.ENTRIES ≡ 0 }
+    requires ports { AreAllThere ports.old }
     ensures ran { result ≡ Status.Ran → (sections : List SaidSection) × Runs feed.now sections
-        × Appends (K.held sink.old) (K.held sink.new) (session_text sections) }
+        × HasWritten D.is_planned sections (first_told D.Port.told ports.old) (first_told D.Port.told ports.new) (K.held sink.old) (K.held sink.new) }
     ensures refused { result ≡ Status.Refused → (refusal : Refusal) × (refusal_of feed.now ≡ Some refusal)
         × Appends (K.held sink.old) (K.held sink.new) (refused_line refusal) }
     ensures write_fault { result ≡ Status.WriteFault → Rises (K.fault_count sink.old) (K.fault_count sink.new) }
     ensures write_fault_told { K.fault_count sink.old < K.fault_count sink.new → result ≡ Status.WriteFault }
-    ensures front { result ≡ Status.WriteFault → (text : List ℕ) × IsOutput feed.now text × AppendsFront (K.held sink.old) (K.held sink.new) text }
+    ensures front { result ≡ Status.WriteFault → (text : List ℕ)
+        × IsOutput D.is_planned (first_told D.Port.told ports.old) (first_told D.Port.told ports.new) feed.now text
+        × AppendsFront (K.held sink.old) (K.held sink.new) text }
     ensures no_memory { result ≡ Status.NoMemory → sink.new ≡ sink.old }
     ensures no_usage { result ≢ Status.Usage }
     ensures no_read_fault { result ≢ Status.ReadFault }
+    ensures ports_there { result ≢ Status.NoMemory → AreAllThere ports.new }
+    ensures other_ports { drop 1 ports.new ≡ drop 1 ports.old }
+    ensures refused_ports { result ≡ Status.Refused → ports.new ≡ ports.old }
 {
     let script = match feed.script(alloc) {
         Ok(script) => script,
@@ -101,7 +136,7 @@ fn answer<K: Sink>(alloc: Global, feed: &Feed, sink: &mut K) -> Status
     if let Some(refusal) = left_out(feed.as_slice()) {
         return refuse(alloc, &refusal, sink);
     }
-    match run_script(alloc, &script) {
+    match run_alone(rt, alloc, &script, driver, ports) {
         Ok(text) => finish(sink, &text, Status::Ran),
         Err(_) => Status::NoMemory,
     }

@@ -1,4 +1,4 @@
-use Rattle.std.proofs.Common.{rules, refl, [], None}
+use Rattle.std.proofs.Common.{refl, [], None}
 use Rattle.gl_base.specs.declared.operation.Do.TheVariants.{Find as Asked}
 use Rattle.gl_model.specs.declared.call.Call.TheVariants.{Find as Made}
 use Rattle.gl_chip.specs.Results.{found_of}

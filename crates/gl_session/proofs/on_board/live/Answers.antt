@@ -1,4 +1,3 @@
-use Rattle.std.proofs.Common.{rules}
 use Rattle.gl_session.proofs.Performing.{live_outcome}
 use Rattle.gl_session.proofs.on_board.live.Goals as goal
 

@@ -1,4 +1,3 @@
-use Rattle.std.proofs.Common.{rules, subst, sym}
 use Rattle.gl_session.proofs.Performing.{plan_outcome}
 use Rattle.gl_session.proofs.on_board.plan.Goals as goal
 

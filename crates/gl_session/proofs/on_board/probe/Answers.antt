@@ -1,4 +1,4 @@
-use Rattle.std.proofs.Common.{rules, refl, [], arith}
+use Rattle.std.proofs.Common.{rules, refl, []}
 use Rattle.gl_base.specs.declared.errno.Errno.TheVariants.{Inval}
 use Rattle.gl_base.specs.declared.kind.Kind.TheVariants.{Simulated}
 use Rattle.gl_base.specs.declared.operation.Do.TheVariants.{Probe as Asked}

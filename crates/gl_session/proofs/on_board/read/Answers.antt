@@ -1,4 +1,4 @@
-use Rattle.std.proofs.Common.{rules, refl, []}
+use Rattle.std.proofs.Common.{refl, []}
 use Rattle.gl_base.specs.declared.operation.Do.TheVariants.{Read as Asked}
 use Rattle.gl_base.specs.declared.operation.Got.TheVariants.{Text}
 use Rattle.gl_model.specs.declared.call.Call.TheVariants.{Read as Made}

@@ -1,14 +1,12 @@
-use Rattle.std.proofs.Common.{rules, refl, sym, subst, ◌≡◌, true, false, None, Some, ◌∙◌, ap, length}
+use Rattle.std.proofs.Common.{rules, refl, sym, ◌≡◌, true, false, None, Some, ◌∙◌, ap, length}
 use Rattle.std.specs.List.{position}
-use Rattle.std.specs.Prelude.{get_or, nat_eq}
+use Rattle.std.specs.Prelude.{nat_eq}
 use Rattle.gl_base.specs.declared.command.TheConstants.{GET_LINE}
 use Rattle.gl_base.specs.declared.operation.Do.TheVariants.{Ioctl as Asked}
 use Rattle.gl_model.specs.Parts.{Commanding}
 use Rattle.gl_chip.specs.Handed.{command_in}
 use Rattle.gl_session.specs.Asking.{Calls, buffer_of}
-use Rattle.gl_session.specs.Making.{IsCommanding}
 use Rattle.gl_session.specs.Rows.{files_of, is_row}
-use Rattle.gl_session.specs.declared.files.FileRow.{FileRow}
 use Rattle.gl_session.proofs.Commands.{ioctl_outcome, no_request_kept, none_kept, request_kept}
 use Rattle.gl_session.proofs.Performing.{no_file, no_slot_outcome, whole_again}
 use Rattle.gl_session.proofs.on_commands.ioctl.Goals as goal

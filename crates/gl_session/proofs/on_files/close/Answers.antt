@@ -1,4 +1,4 @@
-use Rattle.std.proofs.Common.{rules, refl, sym, [], ◌≡◌, None, Some}
+use Rattle.std.proofs.Common.{rules, refl, [], ◌≡◌, None, Some}
 use Rattle.std.specs.List.{position}
 use Rattle.gl_base.specs.declared.operation.Do.TheVariants.{Close as Asked}
 use Rattle.gl_base.specs.declared.operation.Got.TheVariants.{Done}

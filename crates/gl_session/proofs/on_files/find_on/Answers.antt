@@ -1,4 +1,4 @@
-use Rattle.std.proofs.Common.{rules, refl, sym, subst, [], ℕ, Some}
+use Rattle.std.proofs.Common.{refl, sym, subst, [], ℕ, Some}
 use Rattle.gl_base.specs.declared.operation.Do.TheVariants.{Find as Asked}
 use Rattle.gl_model.specs.Parts.{Once}
 use Rattle.gl_model.specs.declared.call.Call.TheVariants.{Find as Made}

@@ -1,4 +1,4 @@
-use Rattle.std.proofs.Common.{rules, refl, sym, subst, [], length, ◌∙◌, ap}
+use Rattle.std.proofs.Common.{rules, refl, sym, subst, length, ◌∙◌, ap}
 use Rattle.std.specs.Prelude.{get_or}
 use Rattle.gl_chip.specs.Called.{ComesOut}
 use Rattle.gl_chip.specs.Results.{number_of}

@@ -1,4 +1,4 @@
-use Rattle.std.proofs.Common.{rules, ◌≡◌, ◌<◌, ◌+◌, refl, inl, inr, ⊎_elim, ap, length, None, arith}
+use Rattle.std.proofs.Common.{inl, inr, ⊎_elim, ap, None, arith}
 use Rattle.gl_args.specs.Program.{given}
 use Rattle.gl_talk.specs.Talk.{names_in}
 use Rattle.gl_session.proofs.Plays.{plays_nothing, plays_on, statement_step, statement_stops, stops_on}

@@ -1,14 +1,15 @@
 use Rattle.std.proofs.Common.{◌≡◌, []}
 use Rattle.std.specs.Io.KnownBytes.{Appends, IsAtEnd}
-use Rattle.gl_session.specs.Run.{refused_line}
+use Rattle.gl_session.specs.Run.{HasWritten, refused_line}
 use Rattle.gl_session.specs.Streams.{AppendsFront}
-use Rattle.gl_session.specs.Text.{session_text}
+use Rattle.gl_session.specs.Ports.{first_told}
 use Rattle.gl_session.proofs.Causes.{if_ran, if_session, if_refused, if_output, if_refusal, if_complete}
 use Rattle.gl_session.proofs.session.run.Goals as goal
 
-pub returns-in-Ok-clause-ran : goal.returns-in-Ok-clause-ran
-returns-in-Ok-clause-ran g c = λ e.
-    if_ran _ _ _ (IsAtEnd (g.S.Source.left c.read_through.new.source)) (λ sections. Appends (g.K.Sink.held c.args.sink.now) (g.K.Sink.held c.answer.new.sink) (session_text sections))
+pub returns-in-Ok-clause-one_actor_output : goal.returns-in-Ok-clause-one_actor_output
+returns-in-Ok-clause-one_actor_output g c = λ e.
+    if_ran _ _ _ (IsAtEnd (g.S.Source.left c.read_through.new.source)) (λ sections. HasWritten g.D.Driver.is_planned sections (first_told g.D.Port.Port.told c.args.ports.now) (first_told g.D.Port.Port.told c.answer.new.ports)
+    (g.K.Sink.held c.args.sink.now) (g.K.Sink.held c.answer.new.sink))
     c.in-Ok.ensures.ok c.in-Ok.ensures.ok.end (c.answer.ensures.ran e)
 
 pub returns-in-Ok-clause-ran_only_session : goal.returns-in-Ok-clause-ran_only_session
@@ -24,7 +25,7 @@ returns-in-Ok-clause-refused_only g c = λ e.
 
 pub returns-in-Ok-clause-write_fault_front : goal.returns-in-Ok-clause-write_fault_front
 returns-in-Ok-clause-write_fault_front g c = λ e.
-    if_output _ _ _ (c.args.words.now ≡ []) (AppendsFront (g.K.Sink.held c.args.sink.now) (g.K.Sink.held c.answer.new.sink)) c.in-Ok.ensures.ok (c.answer.ensures.front e)
+    if_output _ _ _ _ _ _ (c.args.words.now ≡ []) (AppendsFront (g.K.Sink.held c.args.sink.now) (g.K.Sink.held c.answer.new.sink)) c.in-Ok.ensures.ok (c.answer.ensures.front e)
 
 pub returns-in-Ok-clause-complete : goal.returns-in-Ok-clause-complete
 returns-in-Ok-clause-complete g c =

@@ -1,0 +1,138 @@
+-- The three parts of a session make a whole, or stop with less than it costs.
+use Rattle.std.proofs.Common.{◌≡◌, ℕ, ◌≤◌, Bool, List, [], ◌++◌, length, Option, refl, sym, ap, ◌∙◌, subst, arith}
+use Rattle.std.proofs.lemmas.List.{append-nil}
+use Rattle.gl_world.specs.Deeds.{entries_in}
+use Rattle.gl_world.specs.History.{Legal, StartsWith, entries_of}
+use Rattle.gl_rule.specs.Turn.{NoStrangers}
+use Rattle.gl_rule.specs.Views.{newcomer}
+use Rattle.gl_gate.specs.Grown.{Grew}
+use Rattle.gl_gate.proofs.Grown.{grows_on}
+use Rattle.gl_args.specs.Program.{Program, ask, done}
+use Rattle.gl_driver.specs.Told.{Told}
+use Rattle.gl_driver.specs.declared.op.Op.{Op}
+use Rattle.gl_model.specs.Parts.{DeviceCall}
+use Rattle.gl_script.specs.Cost.{session_cost}
+use Rattle.gl_script.specs.Section.{SaidSection}
+use Rattle.gl_talk.specs.Open.{Names}
+use Rattle.gl_chip.specs.Values.{IsQuietDriver, MayOwn, OneDeed, OneEntry, OneView, core}
+use Rattle.gl_session.specs.Alone.{Part, PlayedSession, actor_of, after_of, setup_of}
+use Rattle.gl_session.specs.Asking.{Asking, Calls, Plans, Refuses, asking}
+use Rattle.gl_session.specs.Files.{OpenFile}
+use Rattle.gl_session.specs.OneActor.{CameToOne, HasPlayed, StoppedBelow}
+use Rattle.gl_session.specs.Performed.{IsCall, PlaysOn, StoppedFull, carried}
+use Rattle.gl_session.specs.Turns.{Carried, did_by, said_by, tells_in}
+use Rattle.gl_session.specs.Within.{Stop}
+use Rattle.gl_session.proofs.Alone.{first_actor_is_alone, first_actor_sees_itself}
+use Rattle.gl_session.proofs.AloneRuns.{answers_as_planned, port_tells, prints_one}
+use Rattle.gl_session.proofs.Plays.{number_same}
+use Rattle.gl_session.proofs.Within.{calls_have_room, length_entries}
+
+-- a driver that makes no entries owns none that could be about a removal
+pub quiet_driver : {P : Type 0} (Own : P → ℕ → Op → List OneEntry → Type 0) → ((port : P) (place : ℕ) (op : Op) (own : List OneEntry) → Own port place op own → own ≡ []) → IsQuietDriver Own
+quiet_driver Own none port place op own may = subst (λ (l : List OneEntry). MayOwn l) (sym (none port place op own may)) (record { quiet = tt; no_claims = tt })
+
+call_of : (a : Asking) → IsCall a → (call : DeviceCall) × (a ≡ Calls call)
+call_of (Calls call) is = (call, refl)
+call_of (Plans nth) is = absurd is
+call_of (Refuses errno) is = absurd is
+
+module _ (is_planned : Bool) where
+  abbrev as_part : (program : Program Names) (v w : OneView) (files : List OpenFile) (told : Option Told) (t0 t1 : List ℕ) (names : Names) (r : Carried) → v.number ≡ 0
+      → PlaysOn is_planned program v (carried files told) t0 (done names) w r t1 → Part is_planned program files told
+  as_part program v w files told t0 t1 names r zero p = record {
+    text = said_by p.turns;
+    did = did_by p.turns;
+    names = names;
+    behind = r;
+    played = record { turns = p.turns; follows = number_same is_planned program (carried files told) p.turns (done names) r 0 v.number zero p.follows; text_is = refl; did_is = refl };
+  }
+
+  abbrev as_stop : (program : Program Names) (v w : OneView) (files : List OpenFile) (told : Option Told) → v.number ≡ 0 → StoppedFull is_planned program v (carried files told) w → Stop is_planned program files told
+  as_stop program v w files told zero s = let call = call_of (asking s.then.files s.what) s.full.0 in record {
+    turns = s.turns;
+    what = s.what;
+    later = s.rest;
+    behind = s.then;
+    call = call.0;
+    follows = number_same is_planned program (carried files told) s.turns (ask s.what s.rest) s.then 0 v.number zero s.follows;
+    calls = call.1;
+  }
+
+module _ (is_planned : Bool) (sections : List SaidSection) (v w : OneView) (told : Option Told) (zero : v.number ≡ 0) where
+  pub stops_in_setup : StoppedFull is_planned (setup_of sections) v (carried [] told) w → StoppedBelow (session_cost sections) v w
+  stops_in_setup s = record {
+    did = did_by s.turns;
+    view = s.view;
+    grew = s.grew;
+    full = s.full.1;
+    few = calls_have_room.in_setup is_planned sections told (as_stop is_planned (setup_of sections) v w [] told zero s);
+  }
+
+module _ (is_planned : Bool) (sections : List SaidSection) (v w : OneView) (told : Option Told) (zero : v.number ≡ 0) (t0 t1 : List ℕ) (names : Names) (r : Carried) (setup : PlaysOn is_planned (setup_of sections) v (carried [] told) t0 (done names) w r t1) where
+  abbrev setup_part : Part is_planned (setup_of sections) [] told
+  setup_part = as_part is_planned (setup_of sections) v w [] told t0 t1 names r zero setup
+
+  zero_then : w.number ≡ 0
+  zero_then = setup.grew.number ∙ zero
+
+  pub stops_in_actor : (u : OneView) → StoppedFull is_planned (actor_of sections) w (carried [] r.told) u → StoppedBelow (session_cost sections) v u
+  stops_in_actor u s = record {
+    did = did_by setup.turns ++ did_by s.turns;
+    view = s.view;
+    grew = grows_on core v w s.view (did_by setup.turns) (did_by s.turns) setup.grew s.grew;
+    full = s.full.1;
+    few = calls_have_room.in_actor is_planned sections told setup_part (as_stop is_planned (actor_of sections) w u [] r.told zero_then s);
+  }
+
+  module _ (u : OneView) (t2 : List ℕ) (own_names : Names) (own : Carried) (actor : PlaysOn is_planned (actor_of sections) w (carried [] r.told) t1 (done own_names) u own t2) where
+    abbrev actor_part : Part is_planned (actor_of sections) [] r.told
+    actor_part = as_part is_planned (actor_of sections) w u [] r.told t1 t2 own_names own zero_then actor
+
+    zero_last : u.number ≡ 0
+    zero_last = actor.grew.number ∙ zero_then
+
+    pub stops_in_after : (x : OneView) → StoppedFull is_planned (after_of sections names) u (carried r.files own.told) x → StoppedBelow (session_cost sections) v x
+    stops_in_after x s = record {
+      did = did_by setup.turns ++ (did_by actor.turns ++ did_by s.turns);
+      view = s.view;
+      grew = grows_on core v w s.view (did_by setup.turns) (did_by actor.turns ++ did_by s.turns) setup.grew (grows_on core w u s.view (did_by actor.turns) (did_by s.turns) actor.grew s.grew);
+      full = s.full.1;
+      few = calls_have_room.in_after is_planned sections told setup_part actor_part (as_stop is_planned (after_of sections names) u x r.files own.told zero_last s);
+    }
+
+    pub has_played : (x : OneView) (t3 : List ℕ) (last_names : Names) (last : Carried) → t0 ≡ [] → PlaysOn is_planned (after_of sections names) u (carried r.files own.told) t2 (done last_names) x last t3
+        → HasPlayed is_planned sections told t3 last.told v x
+    has_played x t3 last_names last empty after = (
+      did_by setup.turns ++ (did_by actor.turns ++ did_by after.turns),
+      record {
+        setup = setup_part;
+        actor = actor_part;
+        last = as_part is_planned (after_of sections names) u x r.files own.told t2 t3 last_names last zero_last after;
+        text_is = after.text_is ∙ ap (λ l. l ++ said_by after.turns) (actor.text_is ∙ ap (λ l. l ++ said_by actor.turns) (setup.text_is ∙ ap (λ l. l ++ said_by setup.turns) empty));
+        did_is = refl;
+        left_is = refl;
+      },
+      grows_on core v w x (did_by setup.turns) (did_by actor.turns ++ did_by after.turns) setup.grew (grows_on core w u x (did_by actor.turns) (did_by after.turns) actor.grew after.grew),
+    )
+
+-- The first actor of a new device finds no full history before as many entries as the history takes.
+pub never_full : (limit : ℕ) (v w : OneView) → v ≡ newcomer 0 limit [] 1 [] [] → NoStrangers w w.seen → StoppedBelow limit v w → ⊥
+never_full limit v w new strangers s =
+    let grew : Grew core v (s.did ++ []) w = grows_on core v s.view w s.did [] s.grew s.full.grew in
+    let seen : w.seen ≡ entries_in (s.did ++ []) = first_actor_sees_itself limit v w (s.did ++ []) new grew strangers in
+    let room : s.view.room ≡ limit = s.grew.room ∙ ap (λ (x : OneView). x.room) new in
+    let count : length w.seen ≡ length s.did = ap (λ (l : List OneEntry). length l) seen ∙ length_entries (s.did ++ []) ∙ ap (λ (l : List OneDeed). length l) (append-nil s.did) in
+    let full = s.full.full in let few = s.few in omega arith
+
+pub came_to_one : (is_planned : Bool) (sections : List SaidSection) (before left : Option Told) (text : List ℕ) (room : ℕ) (v w : OneView) (history : List OneEntry) → v ≡ newcomer 0 room [] 1 [] []
+    → HasPlayed is_planned sections before text left v w → Legal core history → StartsWith history w.seen → entries_of 0 history ≡ w.mine → ((n : ℕ) → w.made ≤ n → entries_of n history ≡ [])
+    → CameToOne is_planned sections before text left
+came_to_one is_planned sections before left text room v w history new (did, played, grew) legal begins mine others =
+    let alone = first_actor_is_alone room v w did history new grew legal begins mine others in
+    let prints = prints_one is_planned sections before left text did history played alone in record {
+      answers = tells_in history;
+      prints = prints.0;
+      takes = prints.1;
+      as_planned = λ yes fresh. answers_as_planned sections left text did history (subst (λ (x : Bool × Option Told). PlayedSession x.0 sections x.1 text did left) (λ i. (yes i, fresh i)) played) alone;
+      tells = λ t is. port_tells is_planned sections t left text did history (subst (λ (o : Option Told). PlayedSession is_planned sections o text did left) is played) alone;
+    }

@@ -1,0 +1,55 @@
+-- What comes of a session that one actor carries out on a device of its own. This project's choice.
+use Rattle.std.specs.Prelude.{◌≡◌, ◌<◌, ◌≤◌, ℕ, ◌+◌, Bool, true, if◌then◌else◌, List, [], length, map, Option, Some, None, slice_get}
+use Rattle.gl_base.specs.Words.{Span}
+use Rattle.gl_base.specs.declared.limits.TheConstants.{COST_MAX}
+use Rattle.gl_gate.specs.Grown.{Grew}
+use Rattle.gl_driver.specs.Told.{Told, new_port}
+use Rattle.gl_script.specs.Columns.{columns}
+use Rattle.gl_script.specs.Cost.{session_cost}
+use Rattle.gl_script.specs.Section.{SaidSection}
+use Rattle.gl_script.specs.declared.section.SectionKind.{SectionKind}
+use Rattle.gl_script.specs.declared.section.SectionKind.TheVariants.{Setup, Actor, After}
+use Rattle.gl_chip.specs.Steps.{FoundNoRoom}
+use Rattle.gl_chip.specs.Values.{OneDeed, OneView, core}
+use Rattle.gl_session.specs.Alone.{PlayedSession, TellsAfter}
+use Rattle.gl_session.specs.One.{is_kind, one, planned, said_in_kind, taken}
+
+-- What the session came to, over a port that told this before and tells that now: its text is One of just the answers that One
+-- takes. A planned driver over a new port gave those of Planned. Where the port told, it tells as many driver calls more as there
+-- are answers, and as its last answer the last of them.
+pub record CameToOne (is_planned : Bool) (sections : List SaidSection) (before : Option Told) (text : List ℕ) (left : Option Told) : Type 0 where
+  pub answers : List (Option ℕ)
+  pub prints : text ≡ one sections answers
+  pub takes : taken sections answers ≡ answers
+  pub as_planned : is_planned ≡ true → before ≡ Some new_port → answers ≡ planned sections
+  pub tells : (t : Told) → before ≡ Some t → TellsAfter t answers left
+
+-- how many statements the sections of a kind have
+abbrev pub count_in_kind : SectionKind → List SaidSection → ℕ
+count_in_kind kind sections = length (said_in_kind kind sections)
+
+-- A talk has 1,048,576 statements at most, and a session costs 100,000 entries at most. Every sentence keeps within both.
+pub record IsSized (sections : List SaidSection) : Type 0 where
+  pub few : count_in_kind Setup sections + count_in_kind Actor sections + count_in_kind After sections ≤ 1048576
+  pub cheap : session_cost sections ≤ COST_MAX
+
+-- the words of a section's statements, if it is of this kind
+abbrev pub said_of : SectionKind → Option SaidSection → List (List Span)
+said_of kind None = []
+said_of kind (Some section) = if is_kind kind section.kind then map (λ line. columns line.text) section.statements else []
+
+-- the same of the section of a number, counted from 0
+abbrev pub said_at : SectionKind → ℕ → List SaidSection → List (List Span)
+said_at kind i sections = said_of kind (slice_get sections i)
+
+-- all parts were carried out, and these are the deeds of the actor
+abbrev pub HasPlayed : Bool → List SaidSection → Option Told → List ℕ → Option Told → OneView → OneView → Type 0
+HasPlayed is_planned sections before text left v w = (did : List OneDeed) × PlayedSession is_planned sections before text did left × Grew core v did w
+
+-- The history was full when a call was to be made, though the actor had made fewer entries than this many.
+pub record StoppedBelow (limit : ℕ) (v w : OneView) : Type 0 where
+  pub did : List OneDeed
+  pub view : OneView
+  pub grew : Grew core v did view
+  pub full : FoundNoRoom core view w
+  pub few : length did < limit
