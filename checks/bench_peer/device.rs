@@ -1,0 +1,292 @@
+//! The device that all actors share: the machine, its history and the guards of its places under one mutex.
+
+use crate::line::Irq;
+use crate::machine::*;
+use crate::wire::*;
+use std::sync::{Condvar, Mutex, MutexGuard};
+
+/// An actor's way to the driver, which fails at the call that was planned.
+#[derive(Default)]
+pub struct Port {
+    calls: u64,
+    planned: u64,
+}
+
+impl Port {
+    pub fn plan(&mut self, nth: u64) {
+        self.planned = self.calls + nth;
+    }
+
+    fn call(&mut self) -> Option<u64> {
+        self.calls += 1;
+        (self.calls != self.planned).then_some(0)
+    }
+}
+
+pub struct Entry {
+    actor: u8,
+    call: Call,
+    reply: Reply,
+}
+
+/// A chip's file, or a request.
+#[derive(Clone, Copy)]
+pub struct Handle {
+    pub chip: bool,
+    pub place: u8,
+    pub fd: u32,
+}
+
+struct State {
+    machine: Machine,
+    history: Vec<Entry>,
+    inside: [u32; 16],
+    closed: [bool; 16],
+}
+
+impl State {
+    fn act(&mut self, actor: u8, call: Call) -> Result<(Reply, Vec<u8>), Errno> {
+        let answer = self.machine.step(actor, &call);
+        let reply = match &answer {
+            Ok((reply, _)) => reply.clone(),
+            Err(errno) => Reply::Refused(*errno),
+        };
+        self.history.push(Entry { actor, call, reply });
+        answer
+    }
+}
+
+pub struct Device {
+    state: Mutex<State>,
+    left: Condvar,
+}
+
+type Answer = Result<(Reply, Vec<u8>), Errno>;
+
+impl Device {
+    pub fn new() -> Device {
+        let state = State { machine: Machine::new(), history: vec![], inside: [0; 16], closed: [false; 16] };
+        Device { state: Mutex::new(state), left: Condvar::new() }
+    }
+
+    fn lock(&self) -> MutexGuard<'_, State> {
+        self.state.lock().unwrap()
+    }
+
+    /// A call that needs no guard.
+    pub fn call(&self, actor: u8, call: Call) -> Answer {
+        self.lock().act(actor, call)
+    }
+
+    /// A call of one entry behind the guard of its place.
+    pub fn guarded(&self, actor: u8, place: u8, poll: bool, call: Call) -> Answer {
+        let mut state = self.lock();
+        let closed = state.closed[usize::from(place)];
+        state.act(actor, if closed { Call::Refused { place, poll } } else { call })
+    }
+
+    /// A removal: its first entry, the wait until nobody is inside its places, and its last entry.
+    pub fn removal(&self, actor: u8, first: Call, last: Call) -> Result<(), Errno> {
+        let mut state = self.lock();
+        let (_, removed) = state.act(actor, first)?;
+        let places = usize::from(removed[0])..usize::from(removed[0] + removed[1]);
+        places.clone().for_each(|place| state.closed[place] = true);
+        while places.clone().any(|place| state.inside[place] > 0) {
+            state = self.left.wait(state).unwrap();
+        }
+        state.act(actor, last).map(|_| ())
+    }
+
+    /// A command on a file: what it is answered, and what it wrote to the buffer's start.
+    pub fn ioctl(&self, actor: u8, port: &mut Port, handle: Handle, cmd: u32, buffer: &[u8]) -> Answer {
+        let Handle { chip, place, fd } = handle;
+        let guard = usize::from(place);
+        let long = size_of(chip, cmd).is_some_and(|size| buffer.len() >= size);
+        let asks = long && [GET_LINE, SET_CONFIG, GET_VALUES, SET_VALUES].contains(&cmd);
+        let call = |part: Part| Call::Ioctl { place, fd, cmd, bytes: buffer.into(), part };
+        if !asks {
+            return self.guarded(actor, place, false, call(Part::Whole));
+        }
+        let mut state = self.lock();
+        if state.closed[guard] {
+            return state.act(actor, Call::Refused { place, poll: false });
+        }
+        state.act(actor, call(Part::Ask))?;
+        state.inside[guard] += 1;
+        drop(state);
+        let answer = port.call();
+        let mut state = self.lock();
+        let told = state.act(actor, call(Part::Tell(answer)));
+        state.inside[guard] -= 1;
+        drop(state);
+        self.left.notify_all();
+        told
+    }
+
+    /// How many entries the history has.
+    pub fn entries(&self) -> usize {
+        self.lock().history.len()
+    }
+
+    /// The history's text.
+    pub fn history(&self) -> String {
+        let state = self.lock();
+        let entries = state.history.iter().enumerate();
+        entries.map(|(i, e)| format!("{i} {} {} -> {}\n", e.actor, call_text(&e.call), reply_text(&e.reply))).collect()
+    }
+}
+
+/// A text of an entry as it is, or spelled as pairs behind a backslash.
+fn word(text: &str) -> String {
+    let plain = !text.is_empty() && text != "-" && text.bytes().all(|b| (0x21..=0x7E).contains(&b) && b != b'\\');
+    let pairs = || text.bytes().map(|b| format!("{b:02x}")).collect::<String>();
+    if plain {
+        text.into()
+    } else {
+        format!("\\{}", pairs())
+    }
+}
+
+fn end(last: &bool) -> &'static str {
+    if *last {
+        "finish"
+    } else {
+        "begin"
+    }
+}
+
+fn call_text(call: &Call) -> String {
+    match call {
+        Call::Probe { label, lines } => format!("probe {} {lines} sim", word(label)),
+        Call::Unplug { place, last } => format!("unplug {place} {}", end(last)),
+        Call::MakeDir(path) => format!("mkdir {}", word(path)),
+        Call::RemoveDir(path) => format!("rmdir {}", word(path)),
+        Call::Write(path, value) => format!("write {} {}", word(path), word(value)),
+        Call::Read(path) => format!("read {}", word(path)),
+        Call::Live(device) => format!("live {}", word(device)),
+        Call::Remove { device, last } => format!("remove {} {}", word(device), end(last)),
+        Call::Tick(mono, real) => format!("tick {mono} {real}"),
+        Call::Pin(place, Pin::Range(offset, pin, count)) => format!("range {place} {offset} {pin} {count}"),
+        Call::Pin(place, Pin::Hold(pin)) => format!("hold {place} {pin}"),
+        Call::Pin(place, Pin::Drop(pin)) => format!("drop {place} {pin}"),
+        Call::Irq(place, offset, what) => {
+            let verb = match what {
+                Irq::Lock => "lock",
+                Irq::Unlock => "unlock",
+                Irq::Enable => "enable",
+                Irq::Disable => "disable",
+                Irq::Never => "none",
+            };
+            format!("{verb} {place} {offset}")
+        }
+        Call::Pull { place, offset, up } => format!("pull {place} {offset} {}", u8::from(*up)),
+        Call::Level { place, offset, pull: false } => format!("level {place} {offset}"),
+        Call::Level { place, offset, pull: true } => format!("pullof {place} {offset}"),
+        Call::OpenChip(path) => format!("open {}", word(path)),
+        Call::Find(Some(place), name) => format!("find {place} {}", word(name)),
+        Call::Find(None, name) => format!("find - {}", word(name)),
+        Call::Ioctl { place, fd, cmd, bytes, part } => {
+            let text = bytes_text(&bytes[..bytes.len().min(592)]);
+            let command = format!("{place} {fd} 0x{cmd:08x} {} {text}", bytes.len());
+            match part {
+                Part::Whole => format!("ioctl {command}"),
+                Part::Ask => format!("ask {command}"),
+                Part::Tell(None) => format!("tell {command} fault"),
+                Part::Tell(Some(bits)) => format!("tell {command} 0x{bits:016x}"),
+            }
+        }
+        Call::ReadEdges { place, fd, len } => format!("readline {place} {fd} {len}"),
+        Call::ReadInfo { place, fd, len } => format!("readchip {place} {fd} {len}"),
+        Call::PollLine(place, fd) => format!("pollline {place} {fd}"),
+        Call::PollChip(place, fd) => format!("pollchip {place} {fd}"),
+        Call::Close(fd) => format!("close {fd}"),
+        Call::Refused { place, poll: false } => format!("refused {place} call"),
+        Call::Refused { place, poll: true } => format!("refused {place} poll"),
+    }
+}
+
+pub fn ready_text(ready: u8) -> &'static str {
+    match ready {
+        0 => "-",
+        1 => "IN",
+        _ => "HUP ERR",
+    }
+}
+
+fn reply_text(reply: &Reply) -> String {
+    match reply {
+        Reply::Done => "ok".into(),
+        Reply::Number(n) => format!("ok {n}"),
+        Reply::Go(n) => format!("go {n}"),
+        Reply::Found(place, offset, count) => format!("ok {place} {offset} {count}"),
+        Reply::Text(text) => format!("ok {}", word(text)),
+        Reply::Ready(ready) => format!("poll {}", ready_text(*ready)),
+        Reply::Refused(errno) => errno.name().into(),
+    }
+}
+
+/// An actor: its number, and its way to the driver.
+pub struct Actor<'d> {
+    pub device: &'d Device,
+    pub number: u8,
+    pub port: Port,
+}
+
+impl Actor<'_> {
+    pub fn call(&self, call: Call) -> Answer {
+        self.device.call(self.number, call)
+    }
+
+    pub fn guarded(&self, place: u8, call: Call) -> Answer {
+        self.device.guarded(self.number, place, false, call)
+    }
+
+    pub fn open(&self, word: &str) -> Result<Handle, Errno> {
+        match self.call(Call::OpenChip(word.into()))?.0 {
+            Reply::Number(fd) => {
+                let place = chip_number(word, 15).unwrap() as u8;
+                Ok(Handle { chip: true, place, fd: fd as u32 })
+            }
+            _ => unreachable!(),
+        }
+    }
+
+    pub fn find(&self, place: Option<u8>, name: &str) -> Result<(u8, u32, u32), Errno> {
+        match self.call(Call::Find(place, name.into()))?.0 {
+            Reply::Found(place, offset, count) => Ok((place, offset, count)),
+            _ => unreachable!(),
+        }
+    }
+
+    pub fn ioctl(&mut self, handle: Handle, cmd: u32, buffer: &[u8]) -> Answer {
+        self.device.ioctl(self.number, &mut self.port, handle, cmd, buffer)
+    }
+
+    /// Requests lines of a chip.
+    pub fn request(&mut self, chip: Handle, buffer: &[u8]) -> Result<Handle, Errno> {
+        match self.ioctl(chip, GET_LINE, buffer)?.0 {
+            Reply::Number(fd) => Ok(Handle { chip: false, place: chip.place, fd: fd as u32 }),
+            _ => unreachable!(),
+        }
+    }
+
+    /// Reads events or changes.
+    pub fn read(&self, handle: Handle, len: u32) -> Result<Vec<u8>, Errno> {
+        let Handle { chip, place, fd } = handle;
+        let call = if chip { Call::ReadInfo { place, fd, len } } else { Call::ReadEdges { place, fd, len } };
+        self.guarded(place, call).map(|answer| answer.1)
+    }
+
+    pub fn poll(&self, handle: Handle) -> Result<u8, Errno> {
+        let Handle { chip, place, fd } = handle;
+        let call = if chip { Call::PollChip(place, fd) } else { Call::PollLine(place, fd) };
+        match self.device.guarded(self.number, place, true, call)?.0 {
+            Reply::Ready(ready) => Ok(ready),
+            _ => unreachable!(),
+        }
+    }
+
+    pub fn close(&self, handle: Handle) -> Result<(), Errno> {
+        self.call(Call::Close(handle.fd)).map(|_| ())
+    }
+}

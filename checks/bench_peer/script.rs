@@ -1,0 +1,297 @@
+//! The text of a session: its sections and statements, its first fault, its cost, and a generated one.
+
+use crate::wire::*;
+
+pub struct Refusal {
+    pub line: usize,
+    pub column: usize,
+    pub kind: &'static str,
+}
+
+#[derive(Clone, PartialEq)]
+pub enum Head {
+    Setup,
+    Actor(String),
+    After,
+}
+
+pub type Statement<'a> = Vec<&'a str>;
+
+pub struct Section<'a> {
+    pub head: Head,
+    pub statements: Vec<Statement<'a>>,
+}
+
+/// The form of a word of a statement.
+#[derive(Clone, Copy)]
+enum Form {
+    /// so many letters, digits, `_`, `-`, `.` at most
+    Text(usize),
+    Path,
+    /// a number from .. to ..
+    Number(u64, u64),
+    Chip,
+    Word,
+    OneOf(&'static [&'static str]),
+}
+
+const NAME: Form = Form::Text(15);
+const VALUE: Form = Form::Text(31);
+const U32: Form = Form::Number(0, u32::MAX as u64);
+const U64: Form = Form::Number(0, u64::MAX);
+const TOOLS: [&str; 4] = ["gpiodetect", "gpioinfo", "gpioget", "gpioset"];
+
+fn is_text(word: &str, most: usize, also: &[u8]) -> bool {
+    let good = |b: u8| b.is_ascii_alphanumeric() || b"_-.".contains(&b) || also.contains(&b);
+    (1..=most).contains(&word.len()) && word.bytes().all(good)
+}
+
+impl Form {
+    fn fits(self, word: &str) -> bool {
+        match self {
+            Form::Text(most) => is_text(word, most, b""),
+            Form::Path => is_text(word, 127, b"/"),
+            Form::Number(least, most) => decimal(word, most).is_some_and(|n| n >= least),
+            Form::Chip => chip_number(word, 63).is_some(),
+            Form::Word => word.len() <= 127,
+            Form::OneOf(words) => words.contains(&word),
+        }
+    }
+}
+
+/// The number of a command's word, or the number itself.
+pub fn command(word: &str) -> Option<u32> {
+    if let Some(row) = CHIP_COMMANDS.iter().chain(&LINE_COMMANDS).find(|row| row.0 == word) {
+        return Some(row.1);
+    }
+    let digits = word.strip_prefix("0x")?;
+    let good = digits.len() == 8 && digits.bytes().all(|b| b.is_ascii_hexdigit());
+    good.then(|| u32::from_str_radix(digits, 16).unwrap())
+}
+
+/// The forms behind a statement's first word, for those that have a fixed list of them.
+fn forms(words: &[&str]) -> Option<&'static [Form]> {
+    const PIN: Form = Form::OneOf(&["range", "hold", "drop"]);
+    Some(match words[0] {
+        "probe" => &[VALUE, Form::Number(1, 128)],
+        "unplug" => &[Form::Chip],
+        "mkdir" | "rmdir" | "read" => &[Form::Path],
+        "write" => &[Form::Path, VALUE],
+        "clock" => &[U64, U64],
+        "fault" => &[Form::Number(1, 1_000_000)],
+        "pin" if words.get(1) == Some(&"range") => &[PIN, Form::Chip, U32, U32, U32],
+        "pin" => &[PIN, Form::Chip, U32],
+        "irq" => &[Form::OneOf(&["lock", "unlock", "enable", "disable", "none"]), Form::Chip, U32],
+        "open" => &[NAME, Form::Word],
+        "events" => &[NAME, Form::Number(0, 49152)],
+        "changes" => &[NAME, Form::Number(0, 9216)],
+        "poll" | "close" | "stop" => &[NAME],
+        "step" => &[NAME, Form::Number(1, 1000)],
+        _ => return None,
+    })
+}
+
+/// A line's words with their columns.
+type Placed<'a> = Vec<(usize, &'a str)>;
+type Fault = (usize, &'static str);
+
+fn behind(words: &Placed) -> usize {
+    let (column, word) = words[words.len() - 1];
+    column + word.len()
+}
+
+/// The words from `first` on have these forms, and, unless `open`, there are no more.
+fn fit(words: &Placed, first: usize, forms: &[Form], open: bool) -> Result<(), Fault> {
+    for (i, (column, word)) in words.iter().enumerate().skip(first) {
+        match forms.get(i - first) {
+            Some(form) if !form.fits(word) => return Err((*column, "word")),
+            None if !open => return Err((*column, "words")),
+            _ => {}
+        }
+    }
+    if words.len() < first + forms.len() {
+        Err((behind(words), "words"))
+    } else {
+        Ok(())
+    }
+}
+
+fn fit_ioctl(words: &Placed) -> Result<(), Fault> {
+    fit(&words[..words.len().min(2)].to_vec(), 1, &[NAME], false)?;
+    let Some((column, word)) = words.get(2) else { return Err((behind(words), "words")) };
+    let gives = command(word).ok_or((*column, "word"))? == GET_LINE;
+    let mut total = 0;
+    let mut at = 3;
+    let alone = words.get(3).is_some_and(|w| w.1 == "-");
+    if alone {
+        at = 4;
+    }
+    while at < words.len() {
+        let (column, word) = words[at];
+        if gives && at > 3 && word == "as" {
+            return fit(words, at + 1, &[NAME], false);
+        }
+        if alone {
+            return Err((column, if gives { "word" } else { "words" }));
+        }
+        total += piece(word).ok_or((column, "word"))?.len();
+        if total > 1024 {
+            return Err((column, "limit"));
+        }
+        at += 1;
+    }
+    if gives || at == 3 {
+        Err((behind(words), "words"))
+    } else {
+        Ok(())
+    }
+}
+
+fn fit_statement(words: &Placed) -> Result<(), Fault> {
+    let plain: Vec<&str> = words.iter().map(|w| w.1).collect();
+    match plain[0] {
+        "ioctl" => fit_ioctl(words),
+        "start" => fit(words, 1, &[NAME, Form::OneOf(&["gpioset", "gpiomon", "gpionotify"])], true),
+        tool if TOOLS.contains(&tool) => Ok(()),
+        _ => match forms(&plain) {
+            Some(forms) => fit(words, 1, forms, false),
+            None => Err((words[0].0, "statement")),
+        },
+    }
+}
+
+fn begins_statement(word: &str) -> bool {
+    ["ioctl", "start"].contains(&word) || TOOLS.contains(&word) || forms(&[word]).is_some()
+}
+
+/// The words of a line, or the fault of a byte or of a limit.
+fn split(line: &[u8]) -> Result<Placed<'_>, Fault> {
+    if let Some(at) = line.iter().position(|b| !(0x20..=0x7E).contains(b)) {
+        return Err((at + 1, "byte"));
+    }
+    let text = std::str::from_utf8(line).unwrap();
+    let start = |word: &str| word.as_ptr() as usize - text.as_ptr() as usize + 1;
+    let words: Placed = text.split(' ').filter(|w| !w.is_empty()).map(|w| (start(w), w)).collect();
+    match words.iter().enumerate().find(|(i, w)| w.1.len() > 1300 || *i == 128) {
+        Some((_, w)) => Err((w.0, "limit")),
+        None => Ok(words),
+    }
+}
+
+fn rank(word: &str) -> Option<usize> {
+    ["setup", "actor", "after"].iter().position(|w| *w == word)
+}
+
+/// Takes a section's line into the list of sections.
+fn open_section<'a>(words: &Placed<'a>, sections: &mut Vec<Section<'a>>) -> Result<(), Fault> {
+    let (column, word) = words[0];
+    let new = rank(word).unwrap();
+    let last = sections.last().map(|s| match s.head {
+        Head::Setup => 0,
+        Head::Actor(_) => 1,
+        Head::After => 2,
+    });
+    if last.is_some_and(|last| new < last || (new == last && new != 1)) {
+        return Err((column, "section"));
+    }
+    let actors = sections.iter().filter(|s| matches!(s.head, Head::Actor(_))).count();
+    if new == 1 && actors == 16 {
+        return Err((column, "limit"));
+    }
+    if new != 1 {
+        fit(words, 1, &[], false)?;
+        sections.push(Section { head: if new == 0 { Head::Setup } else { Head::After }, statements: vec![] });
+        return Ok(());
+    }
+    fit(&words[..words.len().min(2)].to_vec(), 1, &[NAME], false)?;
+    let head = Head::Actor(words[1].1.into());
+    if sections.iter().any(|s| s.head == head) {
+        return Err((words[1].0, "name"));
+    }
+    fit(words, 1, &[NAME], false)?;
+    sections.push(Section { head, statements: vec![] });
+    Ok(())
+}
+
+fn take_line<'a>(line: &'a [u8], header: &mut bool, sections: &mut Vec<Section<'a>>) -> Result<(), Fault> {
+    let words = split(line)?;
+    if words.is_empty() || words[0].1.starts_with('#') {
+        return Ok(());
+    }
+    let (column, word) = words[0];
+    if !*header {
+        *header = words.len() == 2 && word == "session" && words[1].1 == "1";
+        return if *header { Ok(()) } else { Err((column, "header")) };
+    }
+    if rank(word).is_some() {
+        return open_section(&words, sections);
+    }
+    let Some(section) = sections.last_mut() else { return Err((column, "section")) };
+    if !begins_statement(word) {
+        return Err((column, "statement"));
+    }
+    fit_statement(&words)?;
+    section.statements.push(words.iter().map(|w| w.1).collect());
+    Ok(())
+}
+
+/// The sections of a session, or its first fault.
+pub fn parse(bytes: &[u8]) -> Result<Vec<Section<'_>>, Refusal> {
+    if bytes.len() > 1_048_576 {
+        return Err(Refusal { line: 0, column: 0, kind: "too-long" });
+    }
+    let mut sections = vec![];
+    let mut header = false;
+    for (i, line) in bytes.split(|&b| b == b'\n').enumerate() {
+        take_line(line, &mut header, &mut sections).map_err(|(column, kind)| Refusal { line: i + 1, column, kind })?;
+    }
+    if !header {
+        return Err(Refusal { line: 1, column: 1, kind: "header" });
+    }
+    if sections.iter().flat_map(|s| &s.statements).map(|s| cost(s)).sum::<u64>() > 100_000 {
+        return Err(Refusal { line: 0, column: 0, kind: "cost" });
+    }
+    Ok(sections)
+}
+
+/// How many entries a statement makes at most, the closing of what it opens among them.
+pub fn cost(words: &Statement) -> u64 {
+    let more = words.len() as u64 - 1;
+    match words[0] {
+        "fault" | "close" | "stop" => 0,
+        "write" | "unplug" | "open" => 2,
+        "ioctl" => 2 + u64::from(command(words[2]) == Some(GET_LINE)),
+        "gpiodetect" if more == 0 || words[1..] == ["--"] => 48,
+        "gpiodetect" => 3 * more,
+        "gpioinfo" if words[1..].iter().any(|w| *w == "-c" || w.starts_with("--chip")) => 131,
+        "gpioinfo" => 2096,
+        "gpioget" => more + 7,
+        "gpioset" => more + 5,
+        "start" if words[2] == "gpionotify" => 2 * (more - 2) + 2,
+        "start" => more - 2 + 5,
+        "step" => decimal(words[2], 1000).unwrap() + 1,
+        _ => 1,
+    }
+}
+
+/// A load of N rounds of a clock, a pull and a gpioget, over eight monitored lines.
+pub fn generate(n: u64) -> String {
+    let mut text = String::from("session 1\nsetup\nprobe gen 64\nopen A 0\n");
+    text += "ioctl A GET_LINE 00000000 01000000 02000000 03000000 04000000 05000000 06000000 07000000 \
+             00*256 34 00*271 08000000 00*28 as R\n";
+    let mut x = n;
+    for k in 1..=n {
+        x = (x * 1_103_515_245 + 12345) % (1 << 31);
+        let line = x / 65536 % 16;
+        let pull = if x / 4_194_304 % 2 == 1 { "pull-up" } else { "pull-down" };
+        text += &format!(
+            "clock {} 0\nwrite gpiochip0/sim_gpio{line}/pull {pull}\ngpioget -c 0 {}\n",
+            1000 * k,
+            8 + line % 8
+        );
+        if k % 16 == 0 {
+            text += "events R 6144\n";
+        }
+    }
+    text + "events R 6144\n"
+}
