@@ -1,0 +1,61 @@
+//! Plays sessions in memory, and tells how each of them ended and what it wrote.
+//!
+//! A line `session NAME` begins a session without bytes. A line `|TEXT` adds TEXT and the end of a line to it, a line `:TEXT` adds
+//! TEXT alone, and a line `*COUNT TEXT` adds TEXT and the end of a line so many times. A line `play PIECE ROOM READ WRITE` runs it: no call moves more than PIECE bytes, the sink has room for ROOM bytes,
+//! and the call READ of the source and the call WRITE of the sink fail, counted from 0, `-` none of them. A fifth word is a word of the program.
+//! What is told of a run is a line with its name and its status, and what the sink held in the end.
+#![tactic(auto)]
+
+mod plan;
+mod play;
+
+use gl_base::{Errno, read_decimal, split_first};
+use plan::Plan;
+use play::Session;
+use std::io::{self, BufRead, BufReader, Write};
+use std::sync::Wait;
+
+fn main(rt: HostRuntime) -> io::Result<()> {
+    play_all(&rt, &rt)
+}
+
+/// Plays what the lines of the standard input say.
+fn play_all<R: Wait>(rt: &R, host: &HostRuntime) -> io::Result<()> {
+    let mut out = host.stdout();
+    let mut session = Session::new(host.alloc());
+    for line in BufReader::new(host.alloc(), host.reader())?.lines(host.alloc()) {
+        let line = line?;
+        let mut text = Vec::new(host.alloc());
+        match told(rt, &mut session, line.as_str(), &mut text) {
+            Ok(()) => out.write_all(&text)?,
+            Err(errno) => out.write_all(errno.name().as_bytes())?,
+        }
+    }
+    Ok(())
+}
+
+/// Takes a line into the session, or plays the session as it says, and appends what is told of that.
+fn told<R: Wait>(
+    rt: &R,
+    session: &mut Session,
+    line: &str,
+    out: &mut Vec<u8>,
+) -> Result<(), Errno> {
+    let line = line.as_bytes();
+    if let Some(text) = line.strip_prefix(b"|") {
+        session.add(text)?;
+        session.add(b"\n")
+    } else if let Some(text) = line.strip_prefix(b":") {
+        session.add(text)
+    } else if let Some(many) = line.strip_prefix(b"*") {
+        let (count, text) = split_first(many, b' ');
+        session.add_lines(read_decimal(count), text)
+    } else if let Some(name) = line.strip_prefix(b"session ") {
+        session.begin(name)
+    } else if let Some(plan) = Plan::of(line) {
+        session.put_run(rt, &plan, out)
+    } else {
+        out.extend_from_slice(b"no such line\n")?;
+        Ok(())
+    }
+}

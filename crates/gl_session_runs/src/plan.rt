@@ -1,0 +1,50 @@
+//! How a run goes.
+ghost use Rattle.std.specs.Prelude.{◌<◌, IfSome};
+
+use gl_base::{read_decimal, split_first};
+
+/// How a run goes.
+#[derive(Clone, Copy, Debug)]
+pub struct Plan<'a> {
+    /// How many bytes a call moves at most.
+    pub piece: u32,
+    /// For how many bytes the sink has room.
+    pub room: u32,
+    /// The call of the source that fails, counted from 0.
+    pub read: Option<u64>,
+    /// The call of the sink that fails, counted from 0.
+    pub write: Option<u64>,
+    /// The program's word; empty where there is none.
+    pub word: &'a [u8],
+}
+
+impl<'a> Plan<'a> {
+    /// What a line `play PIECE ROOM READ WRITE` says, with a word of the program behind it or none.
+    pub fn of(line: &'a [u8]) -> Option<Plan<'a>>
+        ensures some { IfSome result (λ plan. 0 < plan.piece) }
+    {
+        let mut rest = line.strip_prefix(b"play ")?;
+        let piece = u32::try_from(read_decimal(word(&mut rest))?).ok()?;
+        let room = u32::try_from(read_decimal(word(&mut rest))?).ok()?;
+        if piece == 0 {
+            return None;
+        }
+        Some(Plan {
+            piece,
+            room,
+            read: read_decimal(word(&mut rest)),
+            write: read_decimal(word(&mut rest)),
+            word: word(&mut rest),
+        })
+    }
+}
+
+/// Takes the next word; the empty one behind the last.
+fn word<'a>(rest: &mut &'a [u8]) -> &'a [u8] {
+    let (word, behind) = split_first(*rest, b' ');
+    *rest = match behind {
+        Some(behind) => behind,
+        None => b"",
+    };
+    word
+}

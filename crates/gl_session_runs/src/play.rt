@@ -1,0 +1,99 @@
+//! A session that is played in memory.
+ghost use Rattle.std.specs.Prelude.{◌<◌};
+ghost use Rattle.gl_session.specs.Ports.{AreAllThere};
+
+use crate::plan::Plan;
+use gl_base::{Errno, put_decimal};
+use gl_driver::{SimDriver, SimPort};
+use gl_io::{MemSink, MemSource};
+use gl_session::run;
+use std::alloc::Global;
+use std::sync::Wait;
+use std::{array, str};
+
+/// A session's name and its bytes.
+#[derive(Drop)]
+pub struct Session {
+    name: Vec<u8>,
+    bytes: Vec<u8>,
+}
+
+impl Session {
+    /// A session without a name and without bytes.
+    pub fn new(alloc: Global) -> Session {
+        Session {
+            name: Vec::new(alloc),
+            bytes: Vec::new(alloc),
+        }
+    }
+
+    /// Begins another session.
+    pub fn begin(&mut self, name: &[u8]) -> Result<(), Errno> {
+        self.name.clear();
+        self.bytes.clear();
+        self.name.extend_from_slice(name)?;
+        Ok(())
+    }
+
+    /// Adds bytes to the session.
+    pub fn add(&mut self, text: &[u8]) -> Result<(), Errno> {
+        self.bytes.extend_from_slice(text)?;
+        Ok(())
+    }
+
+    /// Adds a line so many times, where both are told.
+    pub fn add_lines(&mut self, count: Option<u64>, text: Option<&[u8]>) -> Result<(), Errno> {
+        if let (Some(count), Some(text)) = (count, text) {
+            for _ in 0..count {
+                self.add(text)?;
+                self.add(b"\n")?;
+            }
+        }
+        Ok(())
+    }
+
+    /// Runs the session as planned, and appends its name, its status and what was written.
+    pub fn put_run<R: Wait>(&self, rt: &R, plan: &Plan<'_>, out: &mut Vec<u8>) -> Result<(), Errno>
+        requires { 0 < plan.now.piece }
+    {
+        let alloc = *out.allocator();
+        let mut bytes = Vec::new(alloc);
+        bytes.extend_from_slice(&self.bytes)?;
+        let mut source = MemSource::new(bytes, plan.piece, only(plan.read, alloc)?);
+        let mut sink = MemSink::new(alloc, plan.room, plan.piece, only(plan.write, alloc)?)?;
+        let (driver, mut ports) = (SimDriver::new(), new_ports());
+        let words = [str::from_utf8(plan.word).unwrap_or("?")];
+        let words = if plan.word.is_empty() {
+            &words[..0]
+        } else {
+            &words[..]
+        };
+        let status = run(rt, alloc, words, &mut source, &mut sink, driver, &mut ports);
+        out.extend_from_slice(b"== ")?;
+        out.extend_from_slice(&self.name)?;
+        out.extend_from_slice(b" ")?;
+        put_decimal(u64::from(status.number()), out)?;
+        out.extend_from_slice(b"\n")?;
+        out.extend_from_slice(sink.as_slice())?;
+        if !sink.as_slice().is_empty() && !sink.as_slice().ends_with(b"\n") {
+            out.extend_from_slice(b"\n")?;
+        }
+        Ok(())
+    }
+}
+
+/// 17 new ports.
+fn new_ports() -> [Option<SimPort>; 17]
+    ensures { AreAllThere result }
+{
+    array::from_fn(|_| Some(SimPort::new()))
+}
+
+/// The list of one number, or of none.
+fn only(number: Option<u64>, alloc: Global) -> Result<Vec<u64>, Errno> {
+    let mut list = Vec::new(alloc);
+    if let Some(number) = number {
+        list.push(number)?;
+    }
+    Ok(list)
+}
