@@ -4,12 +4,11 @@
 use gl_driver::{SimDriver, SimPort};
 use gl_io::{StdSink, StdSource};
 use gl_session::{Status, run};
-use std::array;
-use std::env;
 use std::env::Args;
 use std::io::ErrorKind;
 use std::process::ExitCode;
 use std::sync::Wait;
+use std::{array, env};
 
 /// What stands in the place of words that are no text. The program takes no words, so any word has the
 /// same answer, which is the usage.

@@ -1,0 +1,147 @@
+//! Runs over failing streams, and the words that a run doesn't take.
+ghost use Rattle.std.specs.Prelude.{◌<◌};
+ghost use Rattle.gl_session.specs.Ports.{AreAllThere};
+
+use gl_driver::{SimDriver, SimPort};
+use gl_io::{MemSink, MemSource};
+use gl_session::run;
+use std::alloc::Global;
+use std::array;
+use std::process::Abort;
+use std::sync::Wait;
+use std::test::Fail;
+
+const ONE_CHIP: &[u8] = b"session 1\nsetup\nprobe demo 4\ngpiodetect\n";
+
+const ONE_CHIP_TEXT: &[u8] = b"gpiochip0 [demo] (4 lines)\n";
+
+/// How a run goes: the bytes that a call moves at most, the calls that fail, and the sink's room.
+#[derive(Clone, Copy)]
+struct Plan {
+    piece: u32,
+    source_fails: Option<u64>,
+    sink_fails: Option<u64>,
+    room: u32,
+}
+
+const PLAIN: Plan = Plan {
+    piece: 64,
+    source_fails: None,
+    sink_fails: None,
+    room: 4096,
+};
+
+/// Three bytes a call.
+const SLOW: Plan = Plan { piece: 3, ..PLAIN };
+
+/// 17 new ports.
+fn new_ports() -> [Option<SimPort>; 17]
+    ensures { AreAllThere result }
+{
+    array::from_fn(|_| Some(SimPort::new()))
+}
+
+/// The status of a run over these bytes, and what the sink held in the end.
+fn run_in_memory<R: Wait>(
+    rt: &R,
+    alloc: Global,
+    words: &[&str],
+    text: &[u8],
+    plan: &Plan,
+) -> Result<(u8, Vec<u8>), Fail>
+    requires { 0 < plan.now.piece }
+{
+    let source_fails = plan.source_fails.into_iter().collect(alloc)?;
+    let sink_fails = plan.sink_fails.into_iter().collect(alloc)?;
+    let mut source = MemSource::new(text.to_vec(alloc)?, plan.piece, source_fails);
+    let mut sink = MemSink::new(alloc, plan.room, plan.piece, sink_fails)?;
+    let (driver, mut ports) = (SimDriver::new(), new_ports());
+    let status = run(rt, alloc, words, &mut source, &mut sink, driver, &mut ports);
+    Ok((status.number(), sink.as_slice().to_vec(alloc)?))
+}
+
+/// Runs, and compares the status and what the sink held with what is wanted.
+fn check<R: AllocGlobal + Abort + Wait>(
+    rt: &R,
+    words: &[&str],
+    text: &[u8],
+    plan: &Plan,
+    status: u8,
+    held: &[u8],
+) -> Result<(), Fail>
+    requires { 0 < plan.now.piece }
+{
+    let (number, bytes) = run_in_memory(rt, rt.alloc(), words, text, plan)?;
+    assert_eq!(rt; number, status, "the status of {text:?}");
+    assert_eq!(rt; bytes.as_slice(), held, "the text of {text:?}");
+    Ok(())
+}
+
+#[test]
+fn sessions_run_in_pieces_of_any_length(rt: HostRuntime) -> Result<(), Fail> {
+    for piece in [1, 3, 64] {
+        let plan = Plan { piece, ..PLAIN };
+        check(&rt, &[], ONE_CHIP, &plan, 0, ONE_CHIP_TEXT)?;
+        check(&rt, &[], b"session 1\n", &plan, 0, b"")?;
+    }
+    Ok(())
+}
+
+/// The session has 40 bytes, so there are 14 reads of three bytes at most, and one that finds the end.
+#[test]
+fn each_read_that_fails_ends_the_run_and_nothing_is_written(rt: HostRuntime) -> Result<(), Fail> {
+    for call in 0..15u64 {
+        let plan = Plan {
+            source_fails: Some(call),
+            ..SLOW
+        };
+        check(&rt, &[], ONE_CHIP, &plan, 4, b"")?;
+    }
+    Ok(())
+}
+
+/// The text has 27 bytes, so there are 9 writes.
+#[test]
+fn each_write_that_fails_leaves_what_was_written_before(rt: HostRuntime) -> Result<(), Fail> {
+    for call in 0..9u64 {
+        let plan = Plan {
+            sink_fails: Some(call),
+            ..SLOW
+        };
+        let front = &ONE_CHIP_TEXT[..3 * call as usize];
+        check(&rt, &[], ONE_CHIP, &plan, 5, front)?;
+    }
+    Ok(())
+}
+
+#[test]
+fn a_sink_without_room_for_the_text_holds_a_front_of_it(rt: HostRuntime) -> Result<(), Fail> {
+    for room in 0..27u32 {
+        let plan = Plan { room, ..SLOW };
+        let front = &ONE_CHIP_TEXT[..room as usize];
+        check(&rt, &[], ONE_CHIP, &plan, 5, front)?;
+    }
+    Ok(())
+}
+
+#[test]
+fn one_line_is_written_for_words_and_for_bytes_that_are_not_run(
+    rt: HostRuntime,
+) -> Result<(), Fail> {
+    check(&rt, &["--help"], ONE_CHIP, &PLAIN, 2, b"usage\n")?;
+    let refused = [
+        ("", "refused 1 1 header\n"),
+        ("session 1\nsetup\nprobe demo 129", "refused 3 12 word\n"),
+        ("# \x7f\nsession 1", "refused 1 3 byte\n"),
+        // What isn't run so far, behind every fault.
+        ("session 1\nactor a\n actor b", "refused 3 2 section\n"),
+        (
+            "session 1\nactor a\nactor b\nafter\nprob",
+            "refused 5 1 statement\n",
+        ),
+    ];
+    for (text, line) in refused {
+        check(&rt, &[], text.as_bytes(), &PLAIN, 3, line.as_bytes())?;
+    }
+    Ok(())
+}
