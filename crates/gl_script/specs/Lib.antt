@@ -3,6 +3,7 @@ pub mod Columns
 pub mod Cost
 pub mod Faults
 pub mod Forms
+pub mod Gen
 pub mod Meaning
 pub mod Reading
 pub mod Refusal

@@ -1,11 +1,12 @@
 //! What makes the definitions of a session trustworthy.
-ghost use Rattle.std.specs.Prelude.{◌≡◌, ℕ, List};
+ghost use Rattle.std.specs.Prelude.{◌≡◌, ◌≤◌, ℕ, List};
 ghost use Rattle.gl_script.specs.Blame.{FaultsAreOfTheText};
+ghost use Rattle.gl_script.specs.Gen.{IsSession, load_text};
 ghost use Rattle.gl_script.specs.Section.{SaidSection};
 ghost use Rattle.gl_script.specs.Sentence.{Sentence};
 ghost use Rattle.gl_script.specs.Spelled.{Spelled};
 
-use crate::limits::{ACTORS_MAX, PIECES_MAX, SESSION_MAX, WORD_MAX, WORDS_MAX};
+use crate::limits::{ACTORS_MAX, PIECES_MAX, SESSION_MAX, TURNS_MAX, WORD_MAX, WORDS_MAX};
 
 /// Bytes say one list of sections at most.
 pub fn sentence_is_single()
@@ -27,6 +28,11 @@ pub fn faults_are_of_the_text()
     ensures { FaultsAreOfTheText }
 {}
 
+/// Each load from 1 to 5000 is a session, and what it costs is within the limit.
+pub fn loads_are_sessions()
+    ensures { (n : ℕ) → 1 ≤ n → n ≤ TURNS_MAX → IsSession (load_text n) }
+{}
+
 /// The limits are these numbers.
 pub fn limits_by_value()
     ensures session { SESSION_MAX ≡ 1048576 }
@@ -34,4 +40,5 @@ pub fn limits_by_value()
     ensures words { WORDS_MAX ≡ 128 }
     ensures pieces { PIECES_MAX ≡ 1024 }
     ensures actors { ACTORS_MAX ≡ 16 }
+    ensures turns { TURNS_MAX ≡ 5000 }
 {}

@@ -8,6 +8,7 @@ mod forms;
 mod heads;
 mod laws;
 mod limits;
+mod load;
 mod reading;
 mod refusal;
 mod script;
@@ -20,10 +21,11 @@ pub use faults::text_at;
 pub use feed::Feed;
 pub use forms::number_within;
 pub use laws::{
-    faults_are_of_the_text, limits_by_value, sentence_is_single, sentences_are_spelled,
-    spelled_are_sentences,
+    faults_are_of_the_text, limits_by_value, loads_are_sessions, sentence_is_single,
+    sentences_are_spelled, spelled_are_sentences,
 };
 pub use limits::SESSION_MAX;
+pub use load::generate;
 pub use refusal::{Refusal, RefusalKind};
 pub use script::Script;
 pub use section::{Head, SectionKind, Statement};

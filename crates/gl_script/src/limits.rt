@@ -14,3 +14,6 @@ pub const WORDS_MAX: usize = 128;
 
 /// How many bytes the pieces of a statement have at most.
 pub const PIECES_MAX: u64 = 1024;
+
+/// The greatest number of turns of a load that is still a session.
+pub const TURNS_MAX: u32 = 5000;

@@ -1,13 +1,20 @@
 //! Texts, their first faults and their statements.
 ghost use Rattle.std.specs.Prelude.{◌<◌, ◌≤◌, length};
 
-use super::{Feed, Head, Script, sentence_is_single, sentences_are_spelled, spelled_are_sentences};
+use super::{
+    Feed, Head, Script, generate, loads_are_sessions, sentence_is_single, sentences_are_spelled,
+    spelled_are_sentences,
+};
 use std::alloc::Global;
 use std::test::Fail;
 
 /// A session with a device of gpio-sim, and three tools.
 const BOARD: &[u8] =
     b"session 1\nsetup\nmkdir board\nmkdir board/soc\nwrite board/soc/num_lines 8\nwrite board/soc/label soc-gpio\nmkdir board/soc/line3\nwrite board/soc/line3/name BUTTON\nmkdir board/exp\nmkdir board/aux\nwrite board/aux/num_lines 2\nwrite board/live 1\ngpiodetect\ngpioget BUTTON\ngpioinfo -c gpiochip2\n";
+
+/// The load of number 1, whose one turn has the number 1103527590: line 6 is pulled up, and line 14 is read.
+const ONE_TURN: &[u8] =
+    b"session 1\nsetup\nprobe gen 64\nopen A 0\nioctl A GET_LINE 00000000 01000000 02000000 03000000 04000000 05000000 06000000 07000000 00*256 34 00*271 08000000 00*28 as R\nclock 1000 0\nwrite gpiochip0/sim_gpio6/pull pull-up\ngpioget -c 0 14\nevents R 6144\n";
 
 /// The line, the column and the kind of the first fault; the cost and `ok` where there is none.
 fn first_fault(alloc: Global, text: &[u8]) -> (u64, u32, &'static str) {
@@ -258,5 +265,17 @@ fn pieces_of_any_length_give_the_same_statements(rt: HostRuntime) -> Result<(), 
             assert_eq!(rt; words, wanted, "pieces of {piece} bytes");
         }
     }
+    Ok(())
+}
+
+#[test]
+fn a_load_is_a_session_of_its_number(rt: HostRuntime) -> Result<(), Fail> {
+    let mut text = b"".to_vec(rt.alloc())?;
+    assert!(rt; generate(1, &mut text).is_ok());
+    assert!(rt; text.as_slice() == ONE_TURN);
+    text.clear();
+    assert!(rt; generate(5000, &mut text).is_ok());
+    assert_eq!(rt; first_fault(rt.alloc(), &text), (65_319, 0, "ok"));
+    loads_are_sessions();
     Ok(())
 }
