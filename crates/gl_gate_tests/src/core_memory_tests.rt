@@ -22,56 +22,57 @@ fn make(core: &mut Core, call: &Call, alloc: Global) -> Result<(Reply, Gift), Er
     Ok((reply, gift))
 }
 
-/// A simulated chip of four lines.
-fn chip() -> Call {
-    Call::Probe {
+/// Calls on a new core, and what they are answered: a simulated chip of four lines, the level of one of them, a directory,
+/// the chip's file, and a request of one of its lines.
+fn calls(device: Path, word: Path) -> [(Call, Reply); 5] {
+    let probe = Call::Probe {
         label: Name::empty(),
         lines: 4,
         kind: Kind::Simulated,
-    }
-}
-
-#[test]
-fn a_core_with_ample_memory_makes_a_chip_and_a_directory(rt: HostRuntime) -> Result<(), Fail> {
-    let mut core = Core::new(rt.alloc())?;
-    let path = Path::of(b"board").ok_or("a path")?;
+    };
     let level = Call::Level {
         place: 0,
         offset: 3,
         pull: false,
     };
-    let calls = [
-        (chip(), Reply::Number(0)),
-        (level, Reply::Number(0)),
-        (Call::MakeDir { path }, Reply::Done),
-    ];
-    for (call, expected) in calls {
-        let (reply, _) = make(&mut core, &call, rt.alloc())?;
-        assert!(rt; reply == expected);
-    }
-    Ok(())
-}
-
-#[test]
-fn an_open_takes_the_queue_and_a_request_of_a_line_the_ring(rt: HostRuntime) -> Result<(), Fail> {
-    let mut core = Core::new(rt.alloc())?;
-    let (reply, _) = make(&mut core, &chip(), rt.alloc())?;
-    assert!(rt; reply == Reply::Number(0));
-    let word = Path::of(b"gpiochip0").ok_or("a path")?;
-    let (reply, gift) = make(&mut core, &Call::OpenChip { word }, rt.alloc())?;
-    assert!(rt; reply == Reply::Number(3) && gift.queue.is_none());
-    let bytes = input_request(0);
-    let asked = Asked::of(&bytes).ok().ok_or("refused")?;
-    assert_eq!(rt; asked.capacity(), 16);
     let ask = Call::Ioctl {
         place: 0,
         fd: 3,
         cmd: GET_LINE,
         len: 592,
-        bytes,
+        bytes: input_request(0),
         part: Part::Ask,
     };
-    let (reply, gift) = make(&mut core, &ask, rt.alloc())?;
-    assert!(rt; reply == Reply::Go(4) && gift.ring.is_none());
+    [
+        (probe, Reply::Number(0)),
+        (level, Reply::Number(0)),
+        (Call::MakeDir { path: device }, Reply::Done),
+        (Call::OpenChip { word }, Reply::Number(3)),
+        (ask, Reply::Go(4)),
+    ]
+}
+
+/// Whether nothing is left of a gift.
+fn is_taken(gift: &Gift) -> bool {
+    gift.ring.is_none() && gift.queue.is_none()
+}
+
+#[test]
+fn a_core_with_ample_memory_takes_what_calls_bring(rt: HostRuntime) -> Result<(), Fail> {
+    let mut core = Core::new(rt.alloc())?;
+    let device = Path::of(b"board").ok_or("a path")?;
+    let word = Path::of(b"gpiochip0").ok_or("a path")?;
+    for (call, expected) in calls(device, word) {
+        let (reply, gift) = make(&mut core, &call, rt.alloc())?;
+        assert!(rt; reply == expected);
+        assert!(rt; is_taken(&gift));
+    }
+    Ok(())
+}
+
+#[test]
+fn a_request_of_one_line_asks_for_room_for_16_events(rt: HostRuntime) -> Result<(), Fail> {
+    let asked = Asked::of(&input_request(0)).ok().ok_or("refused")?;
+    assert_eq!(rt; asked.capacity(), 16);
     Ok(())
 }
