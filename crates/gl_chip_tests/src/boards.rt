@@ -3,6 +3,7 @@
 ghost use Rattle.std.specs.Prelude.{◌≡◌, ◌≤◌, ◌<◌};
 ghost use Rattle.gl_base.specs.declared.limits.TheConstants.{PLACES};
 ghost use Rattle.gl_chip.specs.Values.{IsActorOf};
+ghost use Rattle.gl_chip_tests.specs.Same.{IsSame};
 
 use gl_base::{Errno, Kind, Name, Path};
 use gl_chip::{Actor, Gpio};
@@ -34,7 +35,7 @@ pub enum Step {
 }
 
 /// What a step is answered.
-#[derive(Clone, Copy, PartialEq, Eq, Debug)]
+#[derive(Clone, Copy, PartialEq, Eq)]
 pub enum Answer {
     /// The call was done.
     Done,
@@ -84,6 +85,7 @@ pub fn take_step<D: Driver<Core>, R: Wait>(
 ) -> Answer
     requires actor { IsActorOf gpio.now actor.old }
     ensures actor { IsActorOf gpio.now actor.new }
+    ensures same { IsSame actor.old.pass.view actor.new.pass.view }
 {
     match step {
         Step::Probe => match gpio.probe(rt, actor, Name::empty(), 4, Kind::Simulated) {

@@ -1,14 +1,38 @@
 //! Devices with a few actors: what each call is answered, and what threads make of one device.
 #![tactic(auto)]
 
+#[cfg(test)]
 mod boards;
+#[cfg(test)]
 mod chip_files;
 mod devices;
+#[cfg(test)]
+mod file_rows;
+#[cfg(test)]
+mod file_tests;
+#[cfg(test)]
+mod files;
+#[cfg(test)]
+mod load_tests;
+#[cfg(test)]
 mod on_places;
+#[cfg(test)]
+mod on_requests;
+#[cfg(test)]
+mod refusal_tests;
+#[cfg(test)]
 mod rendezvous;
 #[cfg(test)]
 mod request_tests;
+#[cfg(test)]
 mod requesting;
 #[cfg(test)]
+mod taking_down;
+#[cfg(test)]
 mod tests;
+#[cfg(test)]
+mod under_load;
+#[cfg(test)]
 mod unplugging;
+#[cfg(test)]
+mod waiting;

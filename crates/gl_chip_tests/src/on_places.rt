@@ -11,7 +11,7 @@ use gl_driver::Driver;
 use std::sync::Wait;
 
 /// What each of these calls was answered, made once, in this order.
-#[derive(Clone, Copy, PartialEq, Eq, Debug)]
+#[derive(Clone, Copy, PartialEq, Eq)]
 pub struct OnPlace {
     pub set_pull: Result<(), Errno>,
     pub level: Result<bool, Errno>,
@@ -35,7 +35,7 @@ impl OnPlace {
     }
 }
 
-/// Pulls a line up, reads its level and its pull, tells of an interrupt, holds pin 7, and locks the line as an interrupt.
+/// Pulls a line up, reads its level and its pull, tells of an interrupt, makes two lines the pins 7 and 8, and locks the line as an interrupt.
 pub fn call_on_place<D: Driver<Core>, R: Wait>(
     rt: &R,
     gpio: &Gpio<D>,
@@ -51,7 +51,12 @@ pub fn call_on_place<D: Driver<Core>, R: Wait>(
     let level = gpio.level(rt, actor, place, offset);
     let pull = gpio.pull(rt, actor, place, offset);
     let interrupt = gpio.interrupt(rt, actor, place, offset, true);
-    let pin = gpio.pin(rt, actor, place, PinDo::Hold(7));
+    let range = PinDo::Range {
+        offset: 0,
+        pin: 7,
+        count: 2,
+    };
+    let pin = gpio.pin(rt, actor, place, range);
     let irq = gpio.irq(rt, actor, place, offset, IrqDo::Lock);
     OnPlace {
         set_pull,

@@ -2,6 +2,7 @@
 
 ghost use Rattle.std.specs.Prelude.{◌≤◌, length};
 ghost use Rattle.gl_chip.specs.Values.{IsActorOf};
+ghost use Rattle.gl_chip_tests.specs.Same.{IsSame};
 
 use gl_base::command::{GET_LINE, LINE_GET_VALUES, LINE_SET_VALUES};
 use gl_base::{Errno, Name};
@@ -26,6 +27,7 @@ pub fn request<D: Driver<Core>, R: Wait>(
     requires actor { IsActorOf gpio.now actor.old }
     requires few { length offsets.now ≤ 64 }
     ensures actor { IsActorOf gpio.now actor.new }
+    ensures same { IsSame actor.old.pass.view actor.new.pass.view }
 {
     let mut bytes = [0; LINE_REQUEST_SIZE];
     write_request(&mut bytes, offsets, &Name::empty(), flags, &[], 0);
@@ -46,6 +48,7 @@ pub fn get_values<D: Driver<Core>, R: Wait>(
 ) -> Result<u64, Errno>
     requires actor { IsActorOf gpio.now actor.old }
     ensures actor { IsActorOf gpio.now actor.new }
+    ensures same { IsSame actor.old.pass.view actor.new.pass.view }
 {
     let mut bytes = [0; LINE_VALUES_SIZE];
     write_values(&mut bytes, 0, mask);
@@ -74,6 +77,7 @@ pub fn set_values<D: Driver<Core>, R: Wait>(
 ) -> Result<(), Errno>
     requires actor { IsActorOf gpio.now actor.old }
     ensures actor { IsActorOf gpio.now actor.new }
+    ensures same { IsSame actor.old.pass.view actor.new.pass.view }
 {
     let mut bytes = [0; LINE_VALUES_SIZE];
     write_values(&mut bytes, bits, mask);

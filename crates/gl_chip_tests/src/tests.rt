@@ -1,9 +1,8 @@
 use crate::boards::{Answer, Step, take_step};
-use crate::chip_files::{OnChipFile, call_on_chip_file};
 use crate::devices::device;
 use crate::on_places::{OnPlace, call_on_place};
 use crate::unplugging::unplug_twice;
-use gl_base::{Errno, Kind, Name, Path};
+use gl_base::{Errno, Kind, Name};
 use gl_driver::{SimDriver, SimPort};
 use std::test::Fail;
 
@@ -27,7 +26,7 @@ fn calls_on_a_place_are_answered_by_the_kind_of_its_chip(rt: HostRuntime) -> Res
         level: Ok(true),
         pull: Ok(true),
         interrupt: Err(Errno::Inval),
-        pin: Err(Errno::Inval),
+        pin: Ok(()),
         irq: Ok(()),
     };
     assert!(rt; call_on_place(&rt, &gpio, &mut actor, 0, 1) == simulated);
@@ -75,32 +74,5 @@ fn a_board_is_made_found_and_removed(rt: HostRuntime) -> Result<(), Fail> {
     for (step, answer) in life_of_a_board() {
         assert!(rt; take_step(&rt, &gpio, &mut actor, step) == answer);
     }
-    Ok(())
-}
-
-#[test]
-fn a_chip_file_outlives_its_chip(rt: HostRuntime) -> Result<(), Fail> {
-    let (gpio, mut actor) = device(rt.alloc(), SimDriver::new(), SimPort::new(), 100)?;
-    let word = Path::of(b"/dev/gpiochip0").ok_or("a path")?;
-    assert!(rt; gpio.open_chip(&rt, rt.alloc(), &mut actor, &word).is_err());
-    assert!(rt; gpio.probe(&rt, &mut actor, Name::empty(), 4, Kind::Simulated) == Ok(0));
-    let Ok(file) = gpio.open_chip(&rt, rt.alloc(), &mut actor, &word) else {
-        panic!(rt; "no file")
-    };
-    assert!(rt; file.place() == 0 && file.number() == 3);
-    let quiet = OnChipFile {
-        poll: Ok(0),
-        read: Err(Errno::Again),
-        short_read: Err(Errno::Inval),
-    };
-    assert!(rt; call_on_chip_file(&rt, &gpio, &mut actor, &file) == quiet);
-    assert!(rt; gpio.unplug(&rt, &mut actor, 0) == Ok(()));
-    let gone = OnChipFile {
-        poll: Ok(6),
-        read: Err(Errno::NoDev),
-        short_read: Err(Errno::NoDev),
-    };
-    assert!(rt; call_on_chip_file(&rt, &gpio, &mut actor, &file) == gone);
-    assert!(rt; gpio.close_chip(&rt, &mut actor, file).is_ok());
     Ok(())
 }

@@ -4,10 +4,9 @@ ghost use Rattle.std.specs.Prelude.{◌≡◌};
 ghost use Rattle.gl_chip.specs.Values.{IsActorOf};
 ghost use Rattle.gl_chip_tests.specs.Same.{IsSame};
 
-use crate::devices::device;
+use crate::devices::{bad_entry, device};
 use gl_base::{Errno, Kind, Name, Phase};
 use gl_chip::{Actor, Gpio};
-use gl_core::laws::first_bad;
 use gl_driver::{SimDriver, SimPort};
 use gl_world::Machine;
 use std::alloc::Global;
@@ -18,7 +17,6 @@ use std::thread::{Threads, join};
 type Unplugged = (Actor<SimDriver>, Result<(), Errno>);
 
 /// Unplugs the chip of place 0, by an actor that comes back.
-#[tactic(auto, using(crate::proofs::SameActors::same_removed))]
 fn unplug_once<R: Wait>(rt: &R, gpio: &Gpio<SimDriver>, mut actor: Actor<SimDriver>) -> Unplugged
     requires actor { IsActorOf gpio.now actor }
     ensures actor { IsActorOf gpio.now result.0 }
@@ -58,7 +56,7 @@ fn unplug_in_two_threads<R: Threads + Wait + Sync>(
 }
 
 /// What came of two actors that unplugged one chip.
-#[derive(Clone, Copy, PartialEq, Eq, Debug)]
+#[derive(Clone, Copy, PartialEq, Eq)]
 pub struct Race {
     /// What the first actor was answered.
     pub first: Result<(), Errno>,
@@ -95,10 +93,7 @@ pub fn unplug_twice<R: Threads + Wait + Sync>(rt: &R, alloc: Global) -> Result<R
     let ((mut actor, first), (other, second)) = unplug_in_two_threads(rt, &gpio, actor, other);
     gpio.join(&mut actor, other);
     let (core, history, _port) = gpio.finish(actor);
-    if history.len() > 10 {
-        return Err(Errno::Full);
-    }
-    let bad = first_bad(history.as_slice(), alloc)?;
+    let bad = bad_entry(alloc, history.as_slice())?;
     Ok(Race {
         first,
         second,
