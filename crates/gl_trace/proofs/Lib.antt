@@ -8,6 +8,7 @@ pub mod Guessing
 pub mod Legal
 pub mod Numbers
 pub mod Pairs
+pub mod Printed
 pub mod Putting
 pub mod Replies
 pub mod Shapes

@@ -5,6 +5,7 @@ pub mod EntryRead
 pub mod EntryText
 pub mod Forms
 pub mod Fronts
+pub mod Printable
 pub mod ReplyRead
 pub mod ReplyText
 pub mod TextWord

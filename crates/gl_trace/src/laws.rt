@@ -2,6 +2,7 @@
 
 ghost use Rattle.gl_core.specs.Kept.{Kept};
 ghost use Rattle.gl_trace.specs.EntryText.{LegalEntriesHaveTexts};
+ghost use Rattle.gl_trace.specs.Printable.{EntriesArePrintable};
 ghost use Rattle.gl_trace.specs.Unique.{OneEntryALine};
 
 use gl_model::Image;
@@ -14,4 +15,9 @@ pub fn legal_entries_have_texts<K: Image>()
 /// Two entries never have one text: a line that is the text of both tells one index, actor, call and reply.
 pub fn one_entry_a_line()
     ensures { OneEntryALine Kept }
+{}
+
+/// The text of an entry stands in one line: it has no control byte.
+pub fn entries_are_printable()
+    ensures { EntriesArePrintable Kept }
 {}
