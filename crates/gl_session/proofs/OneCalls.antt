@@ -26,11 +26,11 @@ use Rattle.gl_session.specs.Turns.{call_tells, tells_in}
 use Rattle.gl_session.proofs.OneHistories.{FirstDeed, IsSteady, Rest, first_deed, one_deed, removal_steady, still_steady, two_deeds}
 
 -- a call that is whole by itself tells no answer of a driver, and begins no removal
-record IsPlain (call : Call) : Type 0 where
+pub record IsPlain (call : Call) : Type 0 where
   pub tells_nothing : call_tells call ≡ []
   pub begins_none : (reply : Reply) (bytes : List ℕ) → begun_places call reply bytes ≡ []
 
-single_is_plain : (call : Call) → is_single call ≡ true → IsPlain call
+pub single_is_plain : (call : Call) → is_single call ≡ true → IsPlain call
 single_is_plain (Unplug a b) s = absurd (true≢false (sym s))
 single_is_plain (Remove a b) s = absurd (true≢false (sym s))
 single_is_plain (Ioctl a b c d e f) s = absurd (true≢false (sym s))

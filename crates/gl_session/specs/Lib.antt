@@ -4,9 +4,11 @@ pub mod Asking
 pub mod Files
 pub mod LeftOut
 pub mod Making
+pub mod Many
 pub mod One
 pub mod OneActor
 pub mod OneChip
+pub mod Output
 pub mod Performed
 pub mod Ports
 pub mod Rows
@@ -15,3 +17,4 @@ pub mod Status
 pub mod Streams
 pub mod Turns
 pub mod Within
+pub mod Workers

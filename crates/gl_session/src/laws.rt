@@ -3,7 +3,9 @@
 
 ghost use Rattle.std.specs.Prelude.{◌≡◌, []};
 ghost use Rattle.gl_session.specs.Alone.{AnswersAsPlanned, FirstActorIsAlone, FirstActorSeesItself, PortTells, PrintsOne};
+ghost use Rattle.gl_session.specs.Many.{AllPlayedCameToMany};
 ghost use Rattle.gl_session.specs.OneChip.{output, plans, printed, takes};
+ghost use Rattle.gl_session.specs.Output.{OutputTellsHistory};
 ghost use Rattle.gl_session.specs.Within.{CallsComeBelowCost, CallsHaveRoom, EntriesWithinCost, SessionsCostTheirParts, SessionsKeepWithinCost};
 
 /// Where the first actor of a device made all of its calls, the history has its entries alone; and until another actor is made
@@ -50,4 +52,17 @@ pub fn sessions_keep_within_cost()
     ensures parts { SessionsCostTheirParts }
     ensures whole { SessionsKeepWithinCost }
     ensures before_a_call { CallsHaveRoom }
+{}
+
+/// What all actors of a session carried out, `setup` and `after` among them, comes to Many, whatever the driver and its ports are; over
+/// new ports of a planned driver its tells are as planned; each port tells in the end what the history tells of its actor; and the
+/// history has no more entries than the session costs.
+pub fn all_played_came_to_many()
+    ensures { AllPlayedCameToMany }
+{}
+
+/// The output of a session of several actors tells one history at most, whatever was printed in front of it: two outputs that are the
+/// same have the same history.
+pub fn output_tells_history()
+    ensures { OutputTellsHistory }
 {}

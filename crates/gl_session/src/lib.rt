@@ -3,12 +3,14 @@
 
 mod answers;
 pub mod files;
+pub mod fork;
 pub mod laws;
 mod left_out;
 mod on_board;
 mod on_commands;
 mod on_files;
 mod one_actor;
+pub mod output;
 pub mod perform;
 pub mod play;
 mod ports;
@@ -16,6 +18,7 @@ mod session;
 mod status;
 mod streams;
 mod text;
+pub mod worker;
 
 pub use session::run;
 pub use status::Status;

@@ -1,0 +1,35 @@
+-- Ports by the numbers of their actors, as they are taken out and put back.
+use Rattle.std.proofs.Common.{◌≡◌, ◌≢◌, ◌<◌, ℕ, zero, suc, true, List, [], ◌∷◌, length, set, Option, Some, None, refl, sym, ap, ◌∙◌, arith}
+use Rattle.std.specs.Prelude.{slice_get}
+use Rattle.gl_driver.specs.Told.{Told}
+use Rattle.gl_session.specs.Workers.{is_found, there_at, told_at, told_found}
+
+pub get_set : {X : Type 0} (xs : List X) (n : ℕ) (x : X) → n < length xs → slice_get (set xs n x) n ≡ Some x
+get_set [] n x lt = absurd (omega arith)
+get_set (y ∷ ys) zero x lt = refl
+get_set (y ∷ ys) (suc n) x lt = get_set ys n x (omega arith)
+
+pub get_other : {X : Type 0} (xs : List X) (n k : ℕ) (x : X) → k ≢ n → slice_get (set xs n x) k ≡ slice_get xs k
+get_other [] n k x other = refl
+get_other (y ∷ ys) zero zero x other = absurd (other refl)
+get_other (y ∷ ys) zero (suc k) x other = refl
+get_other (y ∷ ys) (suc n) zero x other = refl
+get_other (y ∷ ys) (suc n) (suc k) x other = get_other ys n k x (λ same. other (ap suc same))
+
+module _ {P : Type 0} where
+  -- a port that is there
+  pub told_got : (told : P → Option Told) (ports : List (Option P)) (n : ℕ) (port : P) → slice_get ports n ≡ Some (Some port) → told_at told ports n ≡ told port
+  told_got told ports n port is = ap (λ o. told_found told o) is
+
+  pub there_got : (ports : List (Option P)) (n : ℕ) (port : P) → slice_get ports n ≡ Some (Some port) → there_at ports n ≡ true
+  there_got ports n port is = ap (λ (o : Option (Option P)). is_found o) is
+
+  -- a port that isn't there
+  pub not_there : (ports : List (Option P)) (n : ℕ) → slice_get ports n ≡ Some None → there_at ports n ≡ true → ⊥
+  not_there ports n is there = let no : is_found {P = P} (Some None) ≡ true = ap (λ (o : Option (Option P)). is_found o) (sym is) ∙ there in cc
+
+  pub told_same : (told : P → Option Told) (ports others : List (Option P)) (n : ℕ) → slice_get ports n ≡ slice_get others n → told_at told ports n ≡ told_at told others n
+  told_same told ports others n is = ap (λ o. told_found told o) is
+
+  pub there_same : (ports others : List (Option P)) (n : ℕ) → slice_get ports n ≡ slice_get others n → there_at ports n ≡ there_at others n
+  there_same ports others n is = ap (λ (o : Option (Option P)). is_found o) is

@@ -1,0 +1,152 @@
+-- Actors that carry out their sections each by itself: before their work, after it, and once they were taken in. This project's choice.
+use Rattle.std.specs.Prelude.{◌≡◌, ℕ, ◌+◌, ◌<◌, ◌≤◌, Bool, true, false, is_some, List, [], ◌∷◌, length, slice_get, Option, None, Some, Result, IfOk}
+use mathlib.Core.Option.{some}
+use lib.ListN.{get_elem?}
+use Rattle.gl_base.specs.declared.errno.Errno.{Errno}
+use Rattle.gl_world.specs.Deeds.{deeds_of}
+use Rattle.gl_world.specs.History.{StartsWith, entries_of}
+use Rattle.gl_gate.specs.Calls.{HasItsOwn}
+use Rattle.gl_gate.specs.Values.{GateValue}
+use Rattle.gl_args.specs.Program.{Program, done}
+use Rattle.gl_driver.specs.Told.{Told}
+use Rattle.gl_script.specs.Section.{SaidHead, SaidSection}
+use Rattle.gl_script.specs.declared.section.SectionKind.TheVariants.{Actor}
+use Rattle.gl_talk.specs.Open.{Names}
+use Rattle.gl_chip.specs.Values.{ActorValue, IsActorOf, OneEntry, OneView, core}
+use Rattle.gl_session.specs.Alone.{after_of, setup_of}
+use Rattle.gl_session.specs.Files.{OpenFile}
+use Rattle.gl_session.specs.Many.{Texts, actor_sections, program_of}
+use Rattle.gl_session.specs.One.{is_kind}
+use Rattle.gl_session.specs.Performed.{PlaysOn, carried}
+use Rattle.gl_session.specs.Turns.{Carried, Played}
+
+-- the head of an actor's section
+abbrev pub is_actor_head : Option SaidHead → Bool
+is_actor_head None = false
+is_actor_head (Some head) = is_kind Actor head.kind
+
+-- A whole program was carried out by an actor without open files: its text, and what it left.
+pub record PlaysWhole (is_planned : Bool) (program : Program Names) (v : OneView) (before : Option Told) (text : List ℕ) (w : OneView) (left : Option Told) : Type 0 where
+  pub names : Names
+  pub files : List OpenFile
+  pub plays : PlaysOn is_planned program v (carried [] before) [] (done names) w (carried files left) text
+
+-- what the port of actor n tells, of ports by the numbers of their actors; nothing where there is none
+abbrev pub told_in : {P : Type 0} → (P → Option Told) → Option P → Option Told
+told_in told None = None
+told_in told (Some port) = told port
+
+abbrev pub told_found : {P : Type 0} → (P → Option Told) → Option (Option P) → Option Told
+told_found told None = None
+told_found told (Some port) = told_in told port
+
+abbrev pub told_at : {P : Type 0} → (P → Option Told) → List (Option P) → ℕ → Option Told
+told_at told ports n = told_found told (slice_get ports n)
+
+-- the port of actor n is there
+abbrev pub is_found : {P : Type 0} → Option (Option P) → Bool
+is_found None = false
+is_found (Some port) = is_some port
+
+abbrev pub there_at : {P : Type 0} → List (Option P) → ℕ → Bool
+there_at ports n = is_found (slice_get ports n)
+
+-- `told`: what a port tells. `start`: what the port of each actor tells at the beginning.
+module _ {P : Type 0} (told : P → Option Told) (start : ℕ → Option Told) (gate : GateValue) where
+  -- an actor that has done nothing, with this number
+  pub record IsFresh (seen : List OneEntry) (n : ℕ) (a : ActorValue P) : Type 0 where
+    pub of : IsActorOf gate a
+    pub number : a.pass.view.number ≡ n
+    pub seen_is : a.pass.view.seen ≡ seen
+    pub nothing : a.pass.view.mine ≡ []
+    pub none_joined : a.pass.view.joined ≡ []
+    pub own : HasItsOwn a.pass.view
+    pub tells : told a.port ≡ start n
+
+  -- actors with the numbers from n on
+  abbrev pub AreFresh : List OneEntry → ℕ → List (ActorValue P) → Type 0
+  AreFresh seen n [] = Unit {0}
+  AreFresh seen n (a ∷ actors) = IsFresh seen n a × AreFresh seen (n + 1) actors
+
+  module _ (is_planned : Bool) (programs : ℕ → Program Names) where
+    -- A worker's promise, of its program, its own entries and its port alone: it carried its program out to the end. It has seen all
+    -- that it had seen before, where it had no entry.
+    pub record HasPlayed (seen : List OneEntry) (n : ℕ) (a : ActorValue P) (text : List ℕ) : Type 0 where
+      pub of : IsActorOf gate a
+      pub number : a.pass.view.number ≡ n
+      pub own : HasItsOwn a.pass.view
+      pub none_joined : a.pass.view.joined ≡ []
+      pub nothing_before : entries_of n seen ≡ []
+      pub begins : StartsWith a.pass.view.seen seen
+      pub names : Names
+      pub files : List OpenFile
+      pub played : Played is_planned n (programs n) (carried [] (start n)) text (deeds_of core n a.pass.view.seen) names (carried files (told a.port))
+
+    -- what a worker gives back: its promise, unless it had to give up
+    abbrev pub WorkDone : List OneEntry → ℕ → ActorValue P × Result (List ℕ) Errno → Type 0
+    WorkDone seen n (a, text) = IfOk text (HasPlayed seen n a)
+
+    abbrev pub AreDone : List OneEntry → ℕ → List (ActorValue P × Result (List ℕ) Errno) → Type 0
+    AreDone seen n [] = Unit {0}
+    AreDone seen n (d ∷ done_ones) = WorkDone seen n d × AreDone seen (n + 1) done_ones
+
+module _ (is_planned : Bool) (programs : ℕ → Program Names) (start left : ℕ → Option Told) (seen : List OneEntry) where
+  -- the promise of an actor that was taken in by the first one
+  pub record IsKept (first : OneView) (n : ℕ) (text : List ℕ) : Type 0 where
+    pub saw : List OneEntry
+    pub place : ℕ
+    pub mine : List OneEntry
+    pub joined : get_elem? first.joined place ≡ some (record { number = n; mine = mine })
+    pub begins : StartsWith first.seen saw
+    pub own : entries_of n saw ≡ mine
+    pub nothing_before : entries_of n seen ≡ []
+    pub names : Names
+    pub files : List OpenFile
+    pub played : Played is_planned n (programs n) (carried [] (start n)) text (deeds_of core n saw) names (carried files (left n))
+
+  -- of the actors with the numbers from n on, with their texts
+  abbrev pub AreKept : OneView → ℕ → List (List ℕ) → Type 0
+  AreKept first n [] = Unit {0}
+  AreKept first n (text ∷ texts) = IsKept first n text × AreKept first (n + 1) texts
+
+-- the first actor made so many others
+pub record HasSplit (v : OneView) (count : ℕ) (w : OneView) : Type 0 where
+  pub number : w.number ≡ v.number
+  pub made : w.made ≡ v.made + count
+  pub joined : w.joined ≡ v.joined
+  pub seen : w.seen ≡ v.seen
+  pub mine : w.mine ≡ v.mine
+
+-- the first actor took so many others in
+pub record HasJoined (v : OneView) (count : ℕ) (w : OneView) : Type 0 where
+  pub number : w.number ≡ v.number
+  pub made : w.made ≡ v.made
+  pub joined : length w.joined ≡ length v.joined + count
+  pub seen : StartsWith w.seen v.seen
+  pub mine : w.mine ≡ v.mine
+
+-- The first actor made so many others, each with the port of its number, and took them in again: they carried their programs out, and the
+-- ports are in their places.
+pub record HasForked {P : Type 0} (told : P → Option Told) (is_planned : Bool) (programs : ℕ → Program Names) (count : ℕ) (v : OneView) (ports : List (Option P)) (w : OneView) (texts : List (List ℕ)) (ports_then : List (Option P)) : Type 0 where
+  pub between : OneView
+  pub split : HasSplit v count between
+  pub joined : HasJoined between count w
+  pub kept : AreKept is_planned programs (told_at told ports) (told_at told ports_then) v.seen w 1 texts
+  pub as_many : length texts ≡ count
+  pub ports_len : length ports_then ≡ length ports
+  pub others : (n : ℕ) → count < n → slice_get ports_then n ≡ slice_get ports n
+  pub there : (n : ℕ) → 1 ≤ n → n ≤ count → there_at ports_then n ≡ true
+
+-- The first actor carried `setup` out, had the actors carry out their sections, and carried `after` out, with this port of its own.
+pub record HasCarriedOut {P : Type 0} (told : P → Option Told) (is_planned : Bool) (sections : List SaidSection) (v : OneView) (before : Option Told) (ports : List (Option P)) (texts : Texts) (w : OneView) (left : Option Told) (ports_then : List (Option P)) : Type 0 where
+  pub names : Names
+  pub waiting : Carried
+  pub at_fork : OneView
+  pub setup : PlaysOn is_planned (setup_of sections) v (carried [] before) [] (done names) at_fork waiting texts.setup
+  pub behind_fork : OneView
+  pub forked : HasForked told is_planned (program_of sections) (length (actor_sections sections)) at_fork ports behind_fork texts.actors ports_then
+  pub own : HasItsOwn behind_fork
+  pub end : Names
+  pub behind : Carried
+  pub last : PlaysOn is_planned (after_of sections names) behind_fork waiting [] (done end) w behind texts.last
+  pub left_is : behind.told ≡ left

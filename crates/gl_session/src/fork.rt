@@ -1,0 +1,239 @@
+//! The actors of a session: made, each carrying its section out in a thread of its own, and taken in again.
+ghost use Rattle.std.specs.Prelude.{◌≡◌, ◌≢◌, ℕ, ◌+◌, ◌≤◌, ◌<◌, true, List, [], ◌∷◌, ◌++◌, length, Some, None, Ok, IfOk, OnOk, slice_get, slice_set, slice_index_or, vec_len};
+ghost use Rattle.gl_world.specs.History.{StartsWith};
+ghost use Rattle.gl_rule.specs.Views.{taking_in, with_one_more};
+ghost use Rattle.gl_chip.specs.Values.{IsActorOf};
+ghost use Rattle.gl_script.specs.Script.{sections_of};
+ghost use Rattle.gl_script.specs.declared.section.SectionKind.TheVariants.{Actor as ActorKind};
+ghost use Rattle.gl_session.specs.One.{said_in_kind};
+ghost use Rattle.gl_session.specs.Many.{actor_sections, program_of};
+ghost use Rattle.gl_session.specs.Workers.{AreDone, AreFresh, AreKept, HasJoined, HasSplit, IsFresh, WorkDone, there_at, told_at};
+
+use crate::worker::{actor_statements, play_section};
+use gl_base::{ByteList, Errno};
+use gl_chip::{Actor, Gpio};
+use gl_core::Core;
+use gl_driver::Driver;
+use gl_script::Script;
+use std::alloc::{AllocError, Global};
+use std::sync::Wait;
+use std::thread;
+use std::thread::Threads;
+
+/// An actor that has carried its section out, and what it printed.
+pub type Done<D> = (Actor<D>, Result<ByteList, Errno>);
+
+/// Takes the port of a number out.
+pub fn take_port<D: Driver<Core>>(ports: &mut [Option<D::Port>], n: usize) -> Option<D::Port>
+    requires { n < length ports.old }
+    ensures taken { slice_get ports.old n ≡ Some result }
+    ensures left { ports.new ≡ slice_set ports.old n None }
+{
+    ports[n].take()
+}
+
+/// Puts the port of a number in its place.
+pub fn give_port<D: Driver<Core>>(ports: &mut [Option<D::Port>], n: usize, port: D::Port)
+    requires { n < length ports.old }
+    ensures { ports.new ≡ slice_set ports.old n (Some port) }
+{
+    ports[n] = Some(port);
+}
+
+/// Puts an actor behind the others.
+fn put<D: Driver<Core>>(actors: &mut Vec<Actor<D>>, actor: Actor<D>) -> Result<(), Errno>
+    ensures { OnOk result (actors.new.items ≡ actors.old.items ++ actor ∷ []) }
+{
+    match actors.push(actor) {
+        Ok(()) => Ok(()),
+        Err(_) => Err(Errno::NoMemory),
+    }
+}
+
+/// One more actor, behind the others.
+fn split_one<D: Driver<Core>>(
+    device: &Gpio<D>,
+    first: &mut Actor<D>,
+    actors: &mut Vec<Actor<D>>,
+    port: D::Port,
+) -> Result<(), Errno>
+    requires actor { IsActorOf device.now first.old }
+    requires number { first.old.pass.view.number ≡ 0 }
+    requires few { first.old.pass.view.made < 256 }
+    ensures actor { IsActorOf device.now first.new }
+    ensures view { first.new.pass.view ≡ with_one_more first.old.pass.view }
+    ensures port { first.new.port ≡ first.old.port }
+    ensures more { OnOk result ((a : _) × (actors.new.items ≡ actors.old.items ++ a ∷ [])
+        × IsFresh D.Port.told (λ _. D.Port.told port) device.now first.old.pass.view.seen first.old.pass.view.made a) }
+{
+    let actor = device.split(first, port);
+    put(actors, actor)
+}
+
+/// So many actors more, from number 1 on, each with the port of its number.
+pub fn split_all<D: Driver<Core>>(
+    alloc: Global,
+    device: &Gpio<D>,
+    first: &mut Actor<D>,
+    ports: &mut [Option<D::Port>],
+    count: usize,
+) -> Result<Vec<Actor<D>>, Errno>
+    requires actor { IsActorOf device.now first.old }
+    requires alone { (first.old.pass.view.number ≡ 0) × (first.old.pass.view.made ≡ 1) }
+    requires few { count < 256 }
+    requires ports { count < length ports.old }
+    requires there { (n : ℕ) → 1 ≤ n → n < length ports.old → there_at ports.old n ≡ true }
+    ensures actor { IsActorOf device.now first.new }
+    ensures port { first.new.port ≡ first.old.port }
+    ensures split { OnOk result (HasSplit first.old.pass.view count first.new.pass.view) }
+    ensures len { IfOk result (λ v. vec_len v ≡ count) }
+    ensures fresh { IfOk result (λ v. AreFresh D.Port.told (told_at D.Port.told ports.old) device.now first.old.pass.view.seen 1 v.items) }
+    ensures ports_len { length ports.new ≡ length ports.old }
+    ensures others { OnOk result ((n : ℕ) → count < n → slice_get ports.new n ≡ slice_get ports.old n) }
+{
+    let mut actors = Vec::new(alloc);
+    for n in 0..count {
+        match take_port::<D>(ports, n + 1) {
+            Some(port) => match split_one(device, first, &mut actors, port) {
+                Ok(()) => {}
+                Err(errno) => return Err(errno),
+            },
+            None => unreachable!(),
+        }
+    }
+    Ok(actors)
+}
+
+/// One actor's work: the section of its number, to the end.
+fn work<R: Wait, D: Driver<Core>>(
+    rt: &R,
+    alloc: Global,
+    device: &Gpio<D>,
+    script: &Script<'_>,
+    mut actor: Actor<D>,
+) -> Done<D>
+    requires none { D.ENTRIES ≡ 0 }
+    requires fresh { IsFresh D.Port.told (λ _. D.Port.told actor.port) device.now actor.pass.view.seen actor.pass.view.number actor }
+    requires section { (1 ≤ actor.pass.view.number) × (actor.pass.view.number ≤ length (actor_sections (sections_of script.now))) }
+    requires few { length (said_in_kind ActorKind (sections_of script.now)) ≤ 1048576 }
+    ensures { WorkDone D.Port.told (λ _. D.Port.told actor.port) device.now D.is_planned (program_of (sections_of script.now)) actor.pass.view.seen actor.pass.view.number result }
+{
+    let number = actor.number();
+    let statements = actor_statements(script, number);
+    let text = play_section(rt, alloc, device, &mut actor, statements);
+    (actor, text)
+}
+
+/// All actors at work, each in a thread of its own where one can be made.
+fn map_all<R: Threads + Wait + Sync, D: Driver<Core>>(
+    rt: &R,
+    alloc: Global,
+    device: &Gpio<D>,
+    script: &Script<'_>,
+    actors: Vec<Actor<D>>,
+) -> Result<Vec<Done<D>>, AllocError>
+    requires none { D.ENTRIES ≡ 0 }
+    requires few { length (said_in_kind ActorKind (sections_of script.now)) ≤ 1048576 }
+    requires fresh { (i : ℕ) (a : _) → i < vec_len actors → a ≡ slice_index_or actors.items i a
+        → IsFresh D.Port.told (λ _. D.Port.told a.port) device.now a.pass.view.seen a.pass.view.number a
+        × (1 ≤ a.pass.view.number) × (a.pass.view.number ≤ length (actor_sections (sections_of script.now))) }
+    ensures len { IfOk result (λ v. vec_len v ≡ vec_len actors) }
+    ensures done { IfOk result (λ v. (i : ℕ) (a : _) (d : _) → i < vec_len actors → a ≡ slice_index_or actors.items i a
+        → WorkDone D.Port.told (λ _. D.Port.told a.port) device.now D.is_planned (program_of (sections_of script.now)) a.pass.view.seen a.pass.view.number (slice_index_or v.items i d)) }
+{
+    let job = |actor: Actor<D>| -> Done<D>
+        requires none { D.ENTRIES ≡ 0 }
+        requires few { length (said_in_kind ActorKind (sections_of script.now)) ≤ 1048576 }
+        requires fresh { IsFresh D.Port.told (λ _. D.Port.told actor.port) device.now actor.pass.view.seen actor.pass.view.number actor }
+        requires section { (1 ≤ actor.pass.view.number) × (actor.pass.view.number ≤ length (actor_sections (sections_of script.now))) }
+        ensures { WorkDone D.Port.told (λ _. D.Port.told actor.port) device.entry.now D.is_planned (program_of (sections_of script.entry.now)) actor.pass.view.seen actor.pass.view.number result }
+    { work(rt, alloc, device, script, actor) };
+    thread::map_vec(rt, actors, &job)
+}
+
+/// All actors at work, by their numbers.
+pub fn work_all<R: Threads + Wait + Sync, D: Driver<Core>>(
+    rt: &R,
+    alloc: Global,
+    device: &Gpio<D>,
+    script: &Script<'_>,
+    actors: Vec<Actor<D>>,
+) -> Result<Vec<Done<D>>, AllocError>
+    requires none { D.ENTRIES ≡ 0 }
+    requires few { length (said_in_kind ActorKind (sections_of script.now)) ≤ 1048576 }
+    requires fresh { (start : _) × (seen : _) × AreFresh D.Port.told start device.now seen 1 actors.items }
+    requires sections { vec_len actors ≤ length (actor_sections (sections_of script.now)) }
+    ensures len { IfOk result (λ v. vec_len v ≡ vec_len actors) }
+    ensures done { IfOk result (λ v. (start : _) (seen : _) → AreFresh D.Port.told start device.now seen 1 actors.items
+        → AreDone D.Port.told start device.now D.is_planned (program_of (sections_of script.now)) seen 1 v.items) }
+{
+    match map_all(rt, alloc, device, script, actors) {
+        Ok(done) => Ok(done),
+        Err(error) => Err(error),
+    }
+}
+
+/// Takes in one actor, and keeps its text before the others, and its port in its place.
+fn join_one<D: Driver<Core>>(
+    device: &Gpio<D>,
+    first: &mut Actor<D>,
+    ports: &mut [Option<D::Port>],
+    texts: &mut Vec<ByteList>,
+    done: Done<D>,
+    n: usize,
+) -> Result<(), Errno>
+    requires actor { IsActorOf device.now first.old }
+    requires port { n < length ports.old }
+    requires other { (t : List ℕ) → done.1 ≡ Ok t → IsActorOf device.now done.0 × (done.0.pass.view.number ≢ 0) }
+    ensures actor { IsActorOf device.now first.new }
+    ensures port { first.new.port ≡ first.old.port }
+    ensures ports { OnOk result (ports.new ≡ slice_set ports.old n (Some done.0.port)) }
+    ensures joined { OnOk result ((first.new.pass.view ≡ taking_in first.old.pass.view done.0.pass.view)
+        × StartsWith first.new.pass.view.seen first.old.pass.view.seen × StartsWith first.new.pass.view.seen done.0.pass.view.seen) }
+    ensures text { OnOk result ((t : List ℕ) × (done.1 ≡ Ok t) × (texts.new.items ≡ t ∷ texts.old.items)) }
+{
+    let (actor, text) = done;
+    match text {
+        Err(_) => Err(Errno::NoMemory),
+        Ok(text) => {
+            let port = device.join(first, actor);
+            give_port::<D>(ports, n, port);
+            match texts.insert(0, text) {
+                Ok(()) => Ok(()),
+                Err(_) => Err(Errno::NoMemory),
+            }
+        }
+    }
+}
+
+/// Takes in all actors, and gives their texts in the order of their numbers; the port of each is in its place again.
+pub fn join_all<D: Driver<Core>>(
+    alloc: Global,
+    device: &Gpio<D>,
+    first: &mut Actor<D>,
+    ports: &mut [Option<D::Port>],
+    mut all: Vec<Done<D>>,
+) -> Result<Vec<ByteList>, Errno>
+    requires actor { IsActorOf device.now first.old }
+    requires ports { vec_len all < length ports.old }
+    requires done { (start : _) × (programs : _) × (seen : _) × AreDone D.Port.told start device.now D.is_planned programs seen 1 all.items }
+    ensures actor { IsActorOf device.now first.new }
+    ensures port { first.new.port ≡ first.old.port }
+    ensures joined { OnOk result (HasJoined first.old.pass.view (vec_len all) first.new.pass.view) }
+    ensures len { IfOk result (λ texts. vec_len texts ≡ vec_len all) }
+    ensures kept { IfOk result (λ texts. (start : _) (programs : _) (seen : _) → AreDone D.Port.told start device.now D.is_planned programs seen 1 all.items
+        → AreKept D.is_planned programs start (told_at D.Port.told ports.new) seen first.new.pass.view 1 texts.items) }
+    ensures ports_len { length ports.new ≡ length ports.old }
+    ensures others { OnOk result ((n : ℕ) → vec_len all < n → slice_get ports.new n ≡ slice_get ports.old n) }
+    ensures there { OnOk result ((n : ℕ) → 1 ≤ n → n ≤ vec_len all → there_at ports.new n ≡ true) }
+{
+    let mut texts = Vec::new(alloc);
+    while let Some(done) = all.pop() {
+        let n = all.len() + 1;
+        match join_one(device, first, ports, &mut texts, done, n) {
+            Ok(()) => {}
+            Err(errno) => return Err(errno),
+        }
+    }
+    Ok(texts)
+}
