@@ -63,12 +63,8 @@ impl Session {
         let mut sink = MemSink::new(alloc, plan.room, plan.piece, only(plan.write, alloc)?)?;
         let (driver, mut ports) = (SimDriver::new(), new_ports());
         let words = [str::from_utf8(plan.word).unwrap_or("?")];
-        let words = if plan.word.is_empty() {
-            &words[..0]
-        } else {
-            &words[..]
-        };
-        let status = run(rt, alloc, words, &mut source, &mut sink, driver, &mut ports);
+        let count = if plan.word.is_empty() { 0 } else { 1 };
+        let status = run(rt, alloc, &words[..count], &mut source, &mut sink, driver, &mut ports);
         out.extend_from_slice(b"== ")?;
         out.extend_from_slice(&self.name)?;
         out.extend_from_slice(b" ")?;
