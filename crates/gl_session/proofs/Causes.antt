@@ -6,72 +6,71 @@ use Rattle.std.proofs.lemmas.List.{append-nil}
 use Rattle.gl_base.specs.Words.{lines_of}
 use Rattle.gl_driver.specs.Told.{Told}
 use Rattle.gl_script.specs.Section.{SaidSection}
-use Rattle.gl_script.specs.Sentence.{nothing, fault_from, cost_fault, sections_said}
+use Rattle.gl_script.specs.Sentence.{Sentence, cost_fault, fault_from, first_fault, nothing, sections_said}
 use Rattle.gl_script.specs.declared.refusal.Refusal.{Refusal}
 use Rattle.gl_script.specs.declared.refusal.RefusalKind.TheVariants.{TooLong}
 use Rattle.gl_session.specs.declared.status.Status.{Status}
 use Rattle.gl_session.specs.declared.status.Status.TheVariants.{Ran, Usage, Refused, ReadFault, WriteFault, NoMemory}
-use Rattle.gl_session.specs.LeftOut.{left_out}
 use Rattle.gl_session.specs.Streams.{ReadsThrough}
-use Rattle.gl_session.specs.Run.{Runs, refusal_of, IsOutput, IsRefusal}
+use Rattle.gl_session.specs.Run.{IsOutput, IsRefusal}
 use Rattle.gl_session.proofs.FewStatements.{sentence_is_short}
 
--- bytes whose sections are run are not refused
-not_refused : (bytes : List ℕ) (sections : List SaidSection) → Runs bytes sections → refusal_of bytes ≡ None
-not_refused bytes sections r = ap (λ fault. option_or fault (left_out bytes)) r.sentence.faultless ∙ r.whole
+-- a sentence is not refused
+not_refused : (bytes : List ℕ) (sections : List SaidSection) → Sentence bytes sections → first_fault bytes ≡ None
+not_refused bytes sections r = r.faultless
 
 abbrev too_long : Option Refusal
 too_long = Some (record { line = 0; column = 0; kind = TooLong })
 
-long_if : (test : Bool) (rest behind : Option Refusal) → test ≡ true → option_or (if test then too_long else rest) behind ≡ too_long
-long_if true rest behind e = refl
-long_if false rest behind e = cc
+long_if : (test : Bool) (rest : Option Refusal) → test ≡ true → (if test then too_long else rest) ≡ too_long
+long_if true rest e = refl
+long_if false rest e = cc
 
-long_refusal : (bytes : List ℕ) → 1048576 < length bytes → refusal_of bytes ≡ too_long
+long_refusal : (bytes : List ℕ) → 1048576 < length bytes → first_fault bytes ≡ too_long
 long_refusal bytes h =
     let test : nat_lt 1048576 (length bytes) ≡ true = grind (arith, h) in
-    long_if (nat_lt 1048576 (length bytes)) (option_or (fault_from nothing 1 (lines_of bytes)) (cost_fault (sections_said bytes))) (left_out bytes) test
+    long_if (nat_lt 1048576 (length bytes)) (option_or (fault_from nothing 1 (lines_of bytes)) (cost_fault (sections_said bytes))) test
 
 -- a sentence isn't too long
-short : (bytes : List ℕ) (sections : List SaidSection) → Runs bytes sections → length bytes ≤ 1048576
-short bytes sections r = sentence_is_short bytes sections r.sentence
+short : (bytes : List ℕ) (sections : List SaidSection) → Sentence bytes sections → length bytes ≤ 1048576
+short bytes sections r = sentence_is_short bytes sections r
 
-single : (bytes : List ℕ) (some others : List SaidSection) → Runs bytes some → Runs bytes others → some ≡ others
-single bytes some others r s = r.sentence.says ∙ sym s.sentence.says
+single : (bytes : List ℕ) (some others : List SaidSection) → Sentence bytes some → Sentence bytes others → some ≡ others
+single bytes some others r s = r.says ∙ sym s.says
 
 module _ (input bytes rest : List ℕ) (whole : input ≡ bytes ++ rest) (ends : length bytes ≤ 1048576 → rest ≡ []) where
   -- a session's bytes were read whole
   same_bytes : length bytes ≤ 1048576 → input ≡ bytes
   same_bytes small = whole ∙ ap (λ l. bytes ++ l) (ends small) ∙ append-nil bytes
 
-  runs_of_read : (sections : List SaidSection) → Runs bytes sections → Runs input sections
-  runs_of_read sections r = subst (λ l. Runs l sections) (sym (same_bytes (short bytes sections r))) r
+  runs_of_read : (sections : List SaidSection) → Sentence bytes sections → Sentence input sections
+  runs_of_read sections r = subst (λ l. Sentence l sections) (sym (same_bytes (short bytes sections r))) r
 
-  runs_of_input : (sections : List SaidSection) → Runs input sections → Runs bytes sections
+  runs_of_input : (sections : List SaidSection) → Sentence input sections → Sentence bytes sections
   runs_of_input sections r =
       let small : length bytes ≤ 1048576 = omega (arith, short input sections r, ap length whole, length-append bytes rest) in
-      subst (λ l. Runs l sections) (same_bytes small) r
+      subst (λ l. Sentence l sections) (same_bytes small) r
 
   -- longer bytes are too long, as what was read of them is
-  same_if : (test : Bool) → test ≡ nat_lt 1048576 (length bytes) → refusal_of input ≡ refusal_of bytes
+  same_if : (test : Bool) → test ≡ nat_lt 1048576 (length bytes) → first_fault input ≡ first_fault bytes
   same_if true e =
       let long : 1048576 < length bytes = grind (arith, e) in
       let longer : 1048576 < length input = omega (arith, long, ap length whole, length-append bytes rest) in
       long_refusal input longer ∙ sym (long_refusal bytes long)
   same_if false e =
       let small : length bytes ≤ 1048576 = grind (arith, e) in
-      ap refusal_of (same_bytes small)
+      ap first_fault (same_bytes small)
 
-  same_refusal : refusal_of input ≡ refusal_of bytes
+  same_refusal : first_fault input ≡ first_fault bytes
   same_refusal = same_if (nat_lt 1048576 (length bytes)) refl
 
-  output_of_read : (is_planned : Bool) (before left : Option Told) (text : List ℕ) → IsOutput is_planned before left bytes text → IsOutput is_planned before left input text
+  output_of_read : (is_planned : Bool) (before left : ℕ → Option Told) (text : List ℕ) → IsOutput is_planned before left bytes text → IsOutput is_planned before left input text
   output_of_read is_planned before left text (inl session) = inl (session.0, runs_of_read session.0 session.1, session.2)
   output_of_read is_planned before left text (inr refused) = inr (refused.0, same_refusal ∙ refused.1, refused.2)
 
 pub if_ran : (old new : Option (List ℕ)) (bytes : List ℕ) (Ends : Type 0) (Written : List SaidSection → Type 0) → ReadsThrough old new bytes → (length bytes ≤ 1048576 → Ends) →
-    (sections : List SaidSection) × Runs bytes sections × Written sections →
-    IfSome old (λ input. (sections : List SaidSection) → Runs input sections → Ends × Written sections)
+    (sections : List SaidSection) × Sentence bytes sections × Written sections →
+    IfSome old (λ input. (sections : List SaidSection) → Sentence input sections → Ends × Written sections)
 if_ran None new bytes Ends Written r ends out = tt
 if_ran (Some input) None bytes Ends Written r ends out = absurd r.first
 if_ran (Some input) (Some rest) bytes Ends Written r ends out =
@@ -80,20 +79,20 @@ if_ran (Some input) (Some rest) bytes Ends Written r ends out =
       subst Written (single bytes out.0 sections out.1 (runs_of_input input bytes rest r.first r.end sections s)) out.2,
     )
 
-pub if_session : (old new : Option (List ℕ)) (bytes : List ℕ) → ReadsThrough old new bytes → (sections : List SaidSection) → Runs bytes sections →
-    IfSome old (λ input. (sections : List SaidSection) × Runs input sections)
+pub if_session : (old new : Option (List ℕ)) (bytes : List ℕ) → ReadsThrough old new bytes → (sections : List SaidSection) → Sentence bytes sections →
+    IfSome old (λ input. (sections : List SaidSection) × Sentence input sections)
 if_session None new bytes r sections s = tt
 if_session (Some input) None bytes r sections s = absurd r.first
 if_session (Some input) (Some rest) bytes r sections s = (sections, runs_of_read input bytes rest r.first r.end sections s)
 
 pub if_refused : (old new : Option (List ℕ)) (bytes : List ℕ) (Written : Refusal → Type 0) → ReadsThrough old new bytes →
-    (refusal : Refusal) × (refusal_of bytes ≡ Some refusal) × Written refusal →
-    IfSome old (λ input. (refusal : Refusal) × (refusal_of input ≡ Some refusal) × Written refusal)
+    (refusal : Refusal) × (first_fault bytes ≡ Some refusal) × Written refusal →
+    IfSome old (λ input. (refusal : Refusal) × (first_fault input ≡ Some refusal) × Written refusal)
 if_refused None new bytes Written r out = tt
 if_refused (Some input) None bytes Written r out = absurd r.first
 if_refused (Some input) (Some rest) bytes Written r out = (out.0, same_refusal input bytes rest r.first r.end ∙ out.1, out.2)
 
-pub if_output : (is_planned : Bool) (before left : Option Told) (old new : Option (List ℕ)) (bytes : List ℕ) (W : Type 0) (Written : List ℕ → Type 0) → ReadsThrough old new bytes →
+pub if_output : (is_planned : Bool) (before left : ℕ → Option Told) (old new : Option (List ℕ)) (bytes : List ℕ) (W : Type 0) (Written : List ℕ → Type 0) → ReadsThrough old new bytes →
     (text : List ℕ) × IsOutput is_planned before left bytes text × Written text →
     IfSome old (λ input. W → (text : List ℕ) × IsOutput is_planned before left input text × Written text)
 if_output is_planned before left None new bytes W Written r out = tt
@@ -115,13 +114,13 @@ none_some None refusal e h = cc
 none_some (Some other) refusal e h = cc
 
 pub if_refusal : (status : Status) (old new : Option (List ℕ)) (bytes : List ℕ) (W : Type 0) → ReadsThrough old new bytes →
-    (status ≡ Usage → ⊥) → (status ≡ Ran → (sections : List SaidSection) × Runs bytes sections) →
-    IfSome old (λ input. W → (refusal : Refusal) → refusal_of input ≡ Some refusal → IsRefusal status)
+    (status ≡ Usage → ⊥) → (status ≡ Ran → (sections : List SaidSection) × Sentence bytes sections) →
+    IfSome old (λ input. W → (refusal : Refusal) → first_fault input ≡ Some refusal → IsRefusal status)
 if_refusal status None new bytes W r no_usage ran = tt
 if_refusal status (Some input) None bytes W r no_usage ran = absurd r.first
 if_refusal status (Some input) (Some rest) bytes W r no_usage ran =
     λ w refusal e. only_refusals status no_usage
-    (λ s. none_some (refusal_of bytes) refusal (not_refused bytes (ran s).0 (ran s).1) (sym (same_refusal input bytes rest r.first r.end) ∙ e))
+    (λ s. none_some (first_fault bytes) refusal (not_refused bytes (ran s).0 (ran s).1) (sym (same_refusal input bytes rest r.first r.end) ∙ e))
 
 -- every other answer than these two has a cause
 only_these : (status : Status) → (status ≡ Usage → ⊥) → (status ≡ ReadFault → ⊥) → (status ≡ Refused → ⊥) → (status ≡ WriteFault → ⊥) →
@@ -134,10 +133,17 @@ only_these WriteFault a b c d = absurd (d refl)
 only_these NoMemory a b c d = inr refl
 
 pub if_complete : (status : Status) (old new : Option (List ℕ)) (bytes : List ℕ) (W ReadRises WriteRises : Type 0) → ReadsThrough old new bytes →
-    (status ≡ Usage → ⊥) → (status ≡ ReadFault → ⊥) → (status ≡ Refused → (refusal : Refusal) × (refusal_of bytes ≡ Some refusal)) → (status ≡ WriteFault → WriteRises) →
-    IfSome old (λ input. W → (sections : List SaidSection) → Runs input sections → ¬ ReadRises → ¬ WriteRises → (status ≡ Ran) ⊎ (status ≡ NoMemory))
+    (status ≡ Usage → ⊥) → (status ≡ ReadFault → ⊥) → (status ≡ Refused → (refusal : Refusal) × (first_fault bytes ≡ Some refusal)) → (status ≡ WriteFault → WriteRises) →
+    IfSome old (λ input. W → (sections : List SaidSection) → Sentence input sections → ¬ ReadRises → ¬ WriteRises → (status ≡ Ran) ⊎ (status ≡ NoMemory))
 if_complete status None new bytes W ReadRises WriteRises r no_usage no_read refused write = tt
 if_complete status (Some input) None bytes W ReadRises WriteRises r no_usage no_read refused write = absurd r.first
 if_complete status (Some input) (Some rest) bytes W ReadRises WriteRises r no_usage no_read refused write =
     λ w sections s reads writes. only_these status no_usage no_read
-    (λ e. none_some (refusal_of bytes) (refused e).0 (not_refused bytes sections (runs_of_input input bytes rest r.first r.end sections s)) (refused e).1) (λ e. writes (write e))
+    (λ e. none_some (first_fault bytes) (refused e).0 (not_refused bytes sections (runs_of_input input bytes rest r.first r.end sections s)) (refused e).1) (λ e. writes (write e))
+
+-- what is said of the sections that were read is said of those of the source
+pub if_sections : (old new : Option (List ℕ)) (bytes : List ℕ) (Said : List SaidSection → Type 0) → ReadsThrough old new bytes → ((sections : List SaidSection) → Sentence bytes sections → Said sections) →
+    IfSome old (λ input. (sections : List SaidSection) → Sentence input sections → Said sections)
+if_sections None new bytes Said r h = tt
+if_sections (Some input) None bytes Said r h = absurd r.first
+if_sections (Some input) (Some rest) bytes Said r h = λ sections s. h sections (runs_of_input input bytes rest r.first r.end sections s)

@@ -1,9 +1,12 @@
+pub mod AllTogether
 pub mod Alone
 pub mod AloneRuns
+pub mod Came
 pub mod Causes
 pub mod Commands
 pub mod Counting
 pub mod Ends
+pub mod FewActors
 pub mod FewStatements
 pub mod Known
 pub mod ManyFollows

@@ -1,6 +1,8 @@
 -- Ports by the numbers of their actors, as they are taken out and put back.
 use Rattle.std.proofs.Common.{◌≡◌, ◌≢◌, ◌<◌, ℕ, zero, suc, true, List, [], ◌∷◌, length, set, Option, Some, None, refl, sym, ap, ◌∙◌, arith}
-use Rattle.std.specs.Prelude.{slice_get}
+use Rattle.std.specs.Prelude.{slice_get, is_some}
+use Rattle.std.specs.List.{AllPass}
+use Rattle.std.proofs.lemmas.Option.{slice_get-get_or}
 use Rattle.gl_driver.specs.Told.{Told}
 use Rattle.gl_session.specs.Workers.{is_found, there_at, told_at, told_found}
 
@@ -33,3 +35,10 @@ module _ {P : Type 0} where
 
   pub there_same : (ports others : List (Option P)) (n : ℕ) → slice_get ports n ≡ slice_get others n → there_at ports n ≡ there_at others n
   there_same ports others n is = ap (λ (o : Option (Option P)). is_found o) is
+
+-- all are there
+pub all_found : {P : Type 0} (ports : List (Option P)) → AllPass is_some ports → (n : ℕ) → n < length ports → there_at ports n ≡ true
+all_found {P} ports all n lt = ap (λ (o : Option (Option P)). is_found o) (slice_get-get_or ports n None lt) ∙ all n None lt
+
+pub found_all : {P : Type 0} (ports : List (Option P)) → ((n : ℕ) → n < length ports → there_at ports n ≡ true) → AllPass is_some ports
+found_all {P} ports h n d lt = sym (ap (λ (o : Option (Option P)). is_found o) (slice_get-get_or ports n d lt)) ∙ h n lt

@@ -31,7 +31,7 @@ use Rattle.gl_trace.proofs.Printed.{entries_are_printable}
 use Rattle.gl_chip.specs.Values.{OneEntry}
 use Rattle.gl_session.specs.Many.{Texts, actor_sections}
 use Rattle.gl_session.specs.Output.{AreTold, OutputTellsHistory, actors_text, entry_lines, history_text}
-use Rattle.gl_session.specs.Run.{text_line}
+use Rattle.gl_session.specs.Lines.{text_line}
 
 -- the three last bytes, behind three bytes that stand before
 abbrev Three : Type 0

@@ -2,7 +2,7 @@ pub mod Alone
 pub mod Answers
 pub mod Asking
 pub mod Files
-pub mod LeftOut
+pub mod Lines
 pub mod Making
 pub mod Many
 pub mod One
@@ -13,6 +13,7 @@ pub mod Performed
 pub mod Ports
 pub mod Rows
 pub mod Run
+pub mod Several
 pub mod Status
 pub mod Streams
 pub mod Turns

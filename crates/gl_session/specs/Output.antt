@@ -6,7 +6,7 @@ use Rattle.gl_trace.specs.EntryText.{HasText, entry_text}
 use Rattle.gl_trace.specs.Typed.{IsTyped}
 use Rattle.gl_chip.specs.Values.{OneEntry}
 use Rattle.gl_session.specs.Many.{Texts, actor_sections}
-use Rattle.gl_session.specs.Run.{text_line}
+use Rattle.gl_session.specs.Lines.{text_line}
 
 -- `== actor NAME` and the text, for each actor in order
 abbrev pub actors_text : List SaidSection → List (List ℕ) → List ℕ

@@ -1,7 +1,9 @@
 -- The ports of a run. This project's choice.
-use Rattle.std.specs.Prelude.{◌≡◌, is_some, List, [], ◌∷◌, length, Option, None, Some}
+use Rattle.std.specs.Prelude.{◌≡◌, ◌<◌, ℕ, nat_lt, if◌then◌else◌, is_some, List, [], ◌∷◌, length, slice_get, Option, None, Some}
 use Rattle.std.specs.List.{AllPass}
 use Rattle.gl_driver.specs.Told.{Told}
+use Rattle.gl_script.specs.Section.{SaidSection}
+use Rattle.gl_session.specs.Many.{actor_sections}
 
 -- 17 ports, and all of them are there: that of the first actor, and one for each of 16 further ones
 pub record AreAllThere {P : Type 0} (ports : List (Option P)) : Type 0 where
@@ -17,3 +19,11 @@ told_by told (Some port) = told port
 abbrev pub first_told : {P : Type 0} → (P → Option Told) → List (Option P) → Option Told
 first_told told [] = None
 first_told told (port ∷ ports) = told_by told port
+
+-- how many actors a session has besides the first one, which alone carries out the sections of fewer than two
+abbrev pub further_actors : List SaidSection → ℕ
+further_actors sections = if nat_lt (length (actor_sections sections)) 2 then 0 else length (actor_sections sections)
+
+-- ports of numbers that no actor of a session has are as they were
+abbrev pub OthersStay : {P : Type 0} → List SaidSection → List (Option P) → List (Option P) → Type 0
+OthersStay sections old new = (n : ℕ) → further_actors sections < n → slice_get new n ≡ slice_get old n

@@ -1,7 +1,6 @@
 -- What a run answers and writes. This project's choice.
-use Rattle.std.specs.Prelude.{◌≡◌, ◌⊎◌, ℕ, Bool, List, [], ◌∷◌, ◌++◌, Option, None, Some, codes}
+use Rattle.std.specs.Prelude.{◌≡◌, ◌⊎◌, ℕ, Bool, true, false, nat_lt, List, ◌++◌, length, Option, Some, codes}
 use Rattle.std.specs.Io.KnownBytes.{Appends}
-use Rattle.std.specs.Option.{option_or}
 use Rattle.gl_base.specs.Decimal.{decimal}
 use Rattle.gl_driver.specs.Told.{Told}
 use Rattle.gl_script.specs.Refusal.{kind_word}
@@ -10,21 +9,11 @@ use Rattle.gl_script.specs.Sentence.{Sentence, first_fault}
 use Rattle.gl_script.specs.declared.refusal.Refusal.{Refusal as RefusalOf}
 use Rattle.gl_session.specs.declared.status.Status.{Status}
 use Rattle.gl_session.specs.declared.status.Status.TheVariants.{Refused, ReadFault, WriteFault, NoMemory}
-use Rattle.gl_session.specs.LeftOut.{left_out}
+use Rattle.gl_chip.specs.Values.{OneEntry}
+use Rattle.gl_session.specs.Lines.{text_line}
+use Rattle.gl_session.specs.Many.{CameToMany, Texts, actor_sections}
 use Rattle.gl_session.specs.OneActor.{CameToOne}
-
--- the bytes say these sections, and all that they say is run
-pub record Runs (bytes : List ℕ) (sections : List SaidSection) : Type 0 where
-  pub sentence : Sentence bytes sections
-  pub whole : left_out bytes ≡ None
-
--- why bytes are refused, if they are: by their first fault, and behind all faults by the first line that isn't run
-abbrev pub refusal_of : List ℕ → Option RefusalOf
-refusal_of bytes = option_or (first_fault bytes) (left_out bytes)
-
--- every printed line ends with the byte 0x0A
-abbrev pub text_line : List ℕ → List ℕ
-text_line text = text ++ 10 ∷ []
+use Rattle.gl_session.specs.Output.{output}
 
 -- the line that a run writes for words that it doesn't take
 abbrev pub usage_line : List ℕ
@@ -34,16 +23,31 @@ usage_line = text_line (codes "usage")
 abbrev pub refused_line : RefusalOf → List ℕ
 refused_line refusal = text_line (codes "refused " ++ decimal refusal.line ++ codes " " ++ decimal refusal.column ++ codes " " ++ kind_word refusal.kind)
 
--- what the session came to was written
-abbrev pub HasWritten : Bool → List SaidSection → Option Told → Option Told → Option (List ℕ) → Option (List ℕ) → Type 0
-HasWritten is_planned sections before left old new = (text : List ℕ) × Appends old new text × CameToOne is_planned sections before text left
+-- What a session with two or more actors came to: Output of its texts and its history, which are those of Many.
+pub record CameToOutput (is_planned : Bool) (sections : List SaidSection) (before left : ℕ → Option Told) (text : List ℕ) : Type 0 where
+  pub history : List OneEntry
+  pub texts : Texts
+  pub came : CameToMany is_planned sections before left history texts
+  pub prints : text ≡ output sections texts history
 
--- What a run over these bytes is to write, where the first port told this before and tells that then: what the session came to, or the
--- one line.
-abbrev pub IsOutput : Bool → Option Told → Option Told → List ℕ → List ℕ → Type 0
+-- With fewer than two actors the first actor carries out all of them, through its own port.
+abbrev pub CameBy : Bool → Bool → List SaidSection → (ℕ → Option Told) → (ℕ → Option Told) → List ℕ → Type 0
+CameBy true is_planned sections before left text = CameToOne is_planned sections (before 0) text (left 0)
+CameBy false is_planned sections before left text = CameToOutput is_planned sections before left text
+
+-- What a session came to, over ports that told this before and tell that now.
+abbrev pub CameTo : Bool → List SaidSection → (ℕ → Option Told) → (ℕ → Option Told) → List ℕ → Type 0
+CameTo is_planned sections before left text = CameBy (nat_lt (length (actor_sections sections)) 2) is_planned sections before left text
+
+-- what the session came to was written
+abbrev pub HasWritten : Bool → List SaidSection → (ℕ → Option Told) → (ℕ → Option Told) → Option (List ℕ) → Option (List ℕ) → Type 0
+HasWritten is_planned sections before left old new = (text : List ℕ) × Appends old new text × CameTo is_planned sections before left text
+
+-- What a run over these bytes is to write, where the ports told this before and tell that then: what the session came to, or the one line.
+abbrev pub IsOutput : Bool → (ℕ → Option Told) → (ℕ → Option Told) → List ℕ → List ℕ → Type 0
 IsOutput is_planned before left input text =
-    ((sections : List SaidSection) × Runs input sections × CameToOne is_planned sections before text left)
-    ⊎ ((refusal : RefusalOf) × (refusal_of input ≡ Some refusal) × (text ≡ refused_line refusal))
+    ((sections : List SaidSection) × Sentence input sections × CameTo is_planned sections before left text)
+    ⊎ ((refusal : RefusalOf) × (first_fault input ≡ Some refusal) × (text ≡ refused_line refusal))
 
 -- what a run over bytes that are refused may answer
 abbrev pub IsRefusal : Status → Type 0

@@ -18,6 +18,7 @@ use Rattle.gl_session.specs.Files.{OpenFile}
 use Rattle.gl_session.specs.Many.{Texts, actor_sections, program_of}
 use Rattle.gl_session.specs.One.{is_kind}
 use Rattle.gl_session.specs.Performed.{PlaysOn, carried}
+use Rattle.gl_session.specs.Ports.{told_by}
 use Rattle.gl_session.specs.Turns.{Carried, Played}
 
 -- the head of an actor's section
@@ -32,13 +33,9 @@ pub record PlaysWhole (is_planned : Bool) (program : Program Names) (v : OneView
   pub plays : PlaysOn is_planned program v (carried [] before) [] (done names) w (carried files left) text
 
 -- what the port of actor n tells, of ports by the numbers of their actors; nothing where there is none
-abbrev pub told_in : {P : Type 0} → (P → Option Told) → Option P → Option Told
-told_in told None = None
-told_in told (Some port) = told port
-
 abbrev pub told_found : {P : Type 0} → (P → Option Told) → Option (Option P) → Option Told
 told_found told None = None
-told_found told (Some port) = told_in told port
+told_found told (Some port) = told_by told port
 
 abbrev pub told_at : {P : Type 0} → (P → Option Told) → List (Option P) → ℕ → Option Told
 told_at told ports n = told_found told (slice_get ports n)

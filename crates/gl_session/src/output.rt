@@ -8,7 +8,7 @@ ghost use Rattle.gl_trace.specs.EntryText.{HasText, entry_text};
 ghost use Rattle.gl_session.specs.Many.{actor_sections, no_section};
 ghost use Rattle.gl_session.specs.One.{is_kind};
 ghost use Rattle.gl_session.specs.Output.{actors_text, entry_lines, history_text, output};
-ghost use Rattle.gl_session.specs.Run.{text_line};
+ghost use Rattle.gl_session.specs.Lines.{text_line};
 
 use gl_base::{ByteList, Errno, put_decimal};
 use gl_core::Core;

@@ -1,21 +1,28 @@
 //! The ports of a run.
-ghost use Rattle.std.specs.Prelude.{◌≡◌, drop, IfOk, IsOkUnless};
+ghost use Rattle.std.specs.Prelude.{◌≡◌, ◌≤◌, drop, length, IfOk, OnOk, IsOkUnless};
 ghost use Rattle.gl_script.specs.Script.{sections_of};
+ghost use Rattle.gl_session.specs.Many.{actor_sections};
 ghost use Rattle.gl_session.specs.OneActor.{CameToOne, IsSized};
-ghost use Rattle.gl_session.specs.Ports.{AreAllThere, first_told};
+ghost use Rattle.gl_session.specs.Ports.{AreAllThere, OthersStay, first_told};
+ghost use Rattle.gl_session.specs.Run.{CameTo};
+ghost use Rattle.gl_session.specs.Workers.{told_at};
 
 use crate::one_actor::run_one;
+use crate::output::output_of;
+use crate::several::run_several;
+use crate::worker::count_actors;
 use gl_base::Errno;
 use gl_core::Core;
 use gl_driver::Driver;
 use gl_script::Script;
 use std::alloc::Global;
 use std::sync::Wait;
+use std::thread::Threads;
 
 /// Runs a session by one actor through the first port, which is put back behind it. Gives the text.
 ///
 /// `NoMemory` alone is refused, and then the first port may be missing.
-pub fn run_alone<R: Wait, D: Driver<Core>>(
+fn run_alone<R: Wait, D: Driver<Core>>(
     rt: &R,
     alloc: Global,
     script: &Script<'_>,
@@ -39,5 +46,42 @@ pub fn run_alone<R: Wait, D: Driver<Core>>(
             Err(errno) => Err(errno),
         },
         None => unreachable!(),
+    }
+}
+
+/// Runs a session: by the first actor alone where it has fewer than two actors, else by an actor for each of its actors' sections. Gives
+/// its output; the ports are back in their places.
+///
+/// `NoMemory` alone is refused, and then ports may be missing.
+pub fn carry_script<R: Threads + Wait + Sync, D: Driver<Core>>(
+    rt: &R,
+    alloc: Global,
+    script: &Script<'_>,
+    driver: D,
+    ports: &mut [Option<D::Port>],
+) -> Result<Vec<u8>, Errno>
+    requires none { D.ENTRIES ≡ 0 }
+    requires sized { IsSized (sections_of script.now) }
+    requires few { length (actor_sections (sections_of script.now)) ≤ 16 }
+    requires ports { AreAllThere ports.old }
+    ensures came { IfOk result (λ text. CameTo D.is_planned (sections_of script.now) (told_at D.Port.told ports.old) (told_at D.Port.told ports.new) text.items) }
+    ensures there { OnOk result (AreAllThere ports.new) }
+    ensures others { OnOk result (OthersStay (sections_of script.now) ports.old ports.new) }
+    ensures memory_alone { IsOkUnless result Errno.NoMemory }
+{
+    let count = count_actors(script);
+    if count < 2 {
+        return run_alone(rt, alloc, script, driver, ports);
+    }
+    match run_several(rt, alloc, driver, ports, script, count as usize) {
+        Ok((printed, history)) => output_of(
+            alloc,
+            script,
+            &printed.setup,
+            &printed.actors,
+            &printed.last,
+            &history,
+        ),
+        Err(errno) => Err(errno),
     }
 }

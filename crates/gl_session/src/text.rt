@@ -1,6 +1,7 @@
 //! The line that a refused session prints.
 ghost use Rattle.std.specs.Prelude.{◌≡◌, ◌++◌, OnOk, IsOkUnless};
-ghost use Rattle.gl_session.specs.Run.{refused_line, text_line};
+ghost use Rattle.gl_session.specs.Lines.{text_line};
+ghost use Rattle.gl_session.specs.Run.{refused_line};
 
 use gl_base::{Errno, put_decimal};
 use gl_script::Refusal;

@@ -10,10 +10,16 @@ use std::array;
 use std::process::Abort;
 use std::sync::Wait;
 use std::test::Fail;
+use std::thread::Threads;
 
 const ONE_CHIP: &[u8] = b"session 1\nsetup\nprobe demo 4\ngpiodetect\n";
 
 const ONE_CHIP_TEXT: &[u8] = b"gpiochip0 [demo] (4 lines)\n";
+
+/// Two actors, of which one alone asks the device while both are at work.
+const TWO_ACTORS: &[u8] = b"session 1\nsetup\nprobe demo 1\nactor a\ngpiodetect 0\nactor b\npoll nothing\nafter\ngpiodetect 0\n";
+
+const TWO_ACTORS_TEXT: &[u8] = b"== setup\n== actor a\ngpiochip0 [demo] (1 lines)\n== actor b\nEBADF\n== after\ngpiochip0 [demo] (1 lines)\n== history 7\n0 0 probe demo 1 sim -> ok 0\n1 1 open 0 -> ok 3\n2 1 ioctl 0 3 0x8044b401 68 00*68 -> ok\n3 1 close 3 -> ok\n4 0 open 0 -> ok 4\n5 0 ioctl 0 4 0x8044b401 68 00*68 -> ok\n6 0 close 4 -> ok\n";
 
 /// How a run goes: the bytes that a call moves at most, the calls that fail, and the sink's room.
 #[derive(Clone, Copy)]
@@ -42,7 +48,7 @@ fn new_ports() -> [Option<SimPort>; 17]
 }
 
 /// The status of a run over these bytes, and what the sink held in the end.
-fn run_in_memory<R: Wait>(
+fn run_in_memory<R: Threads + Wait + Sync>(
     rt: &R,
     alloc: Global,
     words: &[&str],
@@ -61,7 +67,7 @@ fn run_in_memory<R: Wait>(
 }
 
 /// Runs, and compares the status and what the sink held with what is wanted.
-fn check<R: AllocGlobal + Abort + Wait>(
+fn check<R: AllocGlobal + Abort + Threads + Wait + Sync>(
     rt: &R,
     words: &[&str],
     text: &[u8],
@@ -133,8 +139,7 @@ fn one_line_is_written_for_words_and_for_bytes_that_are_not_run(
         ("", "refused 1 1 header\n"),
         ("session 1\nsetup\nprobe demo 129", "refused 3 12 word\n"),
         ("# \x7f\nsession 1", "refused 1 3 byte\n"),
-        // What isn't run so far, behind every fault.
-        ("session 1\nactor a\n actor b", "refused 3 2 section\n"),
+        ("session 1\nactor a\n actor a", "refused 3 8 name\n"),
         (
             "session 1\nactor a\nactor b\nafter\nprob",
             "refused 5 1 statement\n",
@@ -144,4 +149,9 @@ fn one_line_is_written_for_words_and_for_bytes_that_are_not_run(
         check(&rt, &[], text.as_bytes(), &PLAIN, 3, line.as_bytes())?;
     }
     Ok(())
+}
+
+#[test]
+fn texts_of_two_actors_stand_before_their_history(rt: HostRuntime) -> Result<(), Fail> {
+    check(&rt, &[], TWO_ACTORS, &PLAIN, 0, TWO_ACTORS_TEXT)
 }

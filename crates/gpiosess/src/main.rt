@@ -8,6 +8,7 @@ use std::env::Args;
 use std::io::ErrorKind;
 use std::process::ExitCode;
 use std::sync::Wait;
+use std::thread::Threads;
 use std::{array, env};
 
 /// What stands in the place of words that are no text. The program takes no words, so any word has the
@@ -24,7 +25,7 @@ fn main(rt: HostRuntime) -> ExitCode {
 }
 
 /// Runs the session with the words behind the program's own name.
-fn run_words<R: Wait>(rt: &R, host: &HostRuntime, args: Args) -> Status {
+fn run_words<R: Threads + Wait + Sync>(rt: &R, host: &HostRuntime, args: Args) -> Status {
     let Ok(args) = args.skip(1).collect::<Vec<String>>(host.alloc()) else {
         return Status::NoMemory;
     };
@@ -39,7 +40,7 @@ fn run_words<R: Wait>(rt: &R, host: &HostRuntime, args: Args) -> Status {
 }
 
 /// Runs the session on the standard streams, over the simulated driver and a new port for each actor.
-fn run_session<R: Wait>(rt: &R, host: &HostRuntime, words: &[&str]) -> Status {
+fn run_session<R: Threads + Wait + Sync>(rt: &R, host: &HostRuntime, words: &[&str]) -> Status {
     let mut source = StdSource::new(host.stdin());
     let mut sink = StdSink::new(host.stdout());
     let mut ports: [Option<SimPort>; 17] = array::from_fn(|_| Some(SimPort::new()));

@@ -2,13 +2,14 @@ use Rattle.std.proofs.Common.{◌≡◌, []}
 use Rattle.std.specs.Io.KnownBytes.{Appends, IsAtEnd}
 use Rattle.gl_session.specs.Run.{HasWritten, refused_line}
 use Rattle.gl_session.specs.Streams.{AppendsFront}
-use Rattle.gl_session.specs.Ports.{first_told}
-use Rattle.gl_session.proofs.Causes.{if_ran, if_session, if_refused, if_output, if_refusal, if_complete}
+use Rattle.gl_session.specs.Ports.{OthersStay}
+use Rattle.gl_session.specs.Workers.{told_at}
+use Rattle.gl_session.proofs.Causes.{if_ran, if_session, if_refused, if_output, if_refusal, if_complete, if_sections}
 use Rattle.gl_session.proofs.session.run.Goals as goal
 
-pub returns-in-Ok-clause-one_actor_output : goal.returns-in-Ok-clause-one_actor_output
-returns-in-Ok-clause-one_actor_output g c = λ e.
-    if_ran _ _ _ (IsAtEnd (g.S.Source.left c.read_through.new.source)) (λ sections. HasWritten g.D.Driver.is_planned sections (first_told g.D.Port.Port.told c.args.ports.now) (first_told g.D.Port.Port.told c.answer.new.ports)
+pub returns-in-Ok-clause-output : goal.returns-in-Ok-clause-output
+returns-in-Ok-clause-output g c = λ e.
+    if_ran _ _ _ (IsAtEnd (g.S.Source.left c.read_through.new.source)) (λ sections. HasWritten g.D.Driver.is_planned sections (told_at g.D.Port.Port.told c.args.ports.now) (told_at g.D.Port.Port.told c.answer.new.ports)
     (g.K.Sink.held c.args.sink.now) (g.K.Sink.held c.answer.new.sink))
     c.in-Ok.ensures.ok c.in-Ok.ensures.ok.end (c.answer.ensures.ran e)
 
@@ -31,3 +32,6 @@ pub returns-in-Ok-clause-complete : goal.returns-in-Ok-clause-complete
 returns-in-Ok-clause-complete g c =
     if_complete c.answer.result _ _ _ (c.args.words.now ≡ []) _ _ c.in-Ok.ensures.ok c.answer.ensures.no_usage c.answer.ensures.no_read_fault
     (λ e. ((c.answer.ensures.refused e).0, (c.answer.ensures.refused e).1)) c.answer.ensures.write_fault
+
+pub returns-in-Ok-clause-other_ports : goal.returns-in-Ok-clause-other_ports
+returns-in-Ok-clause-other_ports g c = λ some. if_sections _ _ _ (λ sections. OthersStay sections c.args.ports.now c.answer.new.ports) c.in-Ok.ensures.ok (c.answer.ensures.other_ports some)

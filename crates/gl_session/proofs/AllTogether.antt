@@ -1,0 +1,124 @@
+-- A session of several actors from its beginning to its end.
+use Rattle.std.proofs.Common.{◌≡◌, ℕ, zero, suc, ◌+◌, ◌<◌, ◌≤◌, Bool, true, List, [], ◌∷◌, length, length-set, set, Option, Some, None, sym, ap, ◌∙◌, subst, arith}
+use Rattle.std.specs.Prelude.{slice_get}
+use mathlib.Core.Logic.{dite}
+use native.Mathlib.Decide.{dec_lt}
+use Rattle.gl_world.specs.Deeds.{deeds_of}
+use Rattle.gl_world.specs.History.{Legal, StartsWith, entries_of}
+use Rattle.gl_gate.specs.Calls.{HasAllOf}
+use Rattle.gl_rule.specs.Views.{newcomer}
+use Rattle.gl_args.specs.Program.{Program, done}
+use Rattle.gl_driver.specs.Told.{Told}
+use Rattle.gl_script.specs.Section.{SaidSection}
+use Rattle.gl_talk.specs.Open.{Names}
+use Rattle.gl_chip.specs.Values.{OneEntry, OneView, core}
+use Rattle.gl_session.specs.Alone.{setup_of}
+use Rattle.gl_session.specs.Many.{AllPlayed, CameToMany, Texts, actor_sections, program_of}
+use Rattle.gl_session.specs.Performed.{PlaysOn, carried}
+use Rattle.gl_session.specs.Ports.{AreAllThere}
+use Rattle.gl_session.specs.Turns.{Played}
+use Rattle.gl_session.specs.Workers.{AreKept, HasCarriedOut, there_at, told_at}
+use Rattle.gl_session.proofs.Ends.{all_played}
+use Rattle.gl_session.proofs.ManyFollows.{came_to_many}
+use Rattle.gl_session.proofs.PortPlaces.{all_found, found_all, get_other, get_set, not_there, there_got, there_same, told_got, told_same}
+
+-- promises are kept over ports that told the same and tell the same
+kept_as : (is_planned : Bool) (programs : ℕ → Program Names) (start other left later : ℕ → Option Told) (seen : List OneEntry) (first : OneView) (n : ℕ) (texts : List (List ℕ)) → ((k : ℕ) → n ≤ k → start k ≡ other k) → ((k : ℕ) → n ≤ k → left k ≡ later k)
+    → AreKept is_planned programs start left seen first n texts → AreKept is_planned programs other later seen first n texts
+kept_as is_planned programs start other left later seen first n [] same_start same_end h = tt
+kept_as is_planned programs start other left later seen first n (t ∷ ts) same_start same_end h = let k = h.0 in (
+  record {
+    saw = k.saw;
+    place = k.place;
+    mine = k.mine;
+    joined = k.joined;
+    begins = k.begins;
+    own = k.own;
+    nothing_before = k.nothing_before;
+    names = k.names;
+    files = k.files;
+    played = subst (λ (x : Option Told × Option Told). Played is_planned n (programs n) (carried [] x.0) t (deeds_of core n k.saw) k.names (carried k.files x.1)) (λ i. (same_start n (omega arith) i, same_end n (omega arith) i)) k.played;
+  },
+  kept_as is_planned programs start other left later seen first (n + 1) ts (λ j more. same_start j (omega arith)) (λ j more. same_end j (omega arith)) h.1,
+)
+
+-- the first port is there, and the others are once it is taken out
+pub first_there : {P : Type 0} (ports : List (Option P)) → AreAllThere ports → slice_get ports 0 ≡ Some None → ⊥
+first_there ports all none = not_there ports 0 none (all_found ports all.there 0 (let n = all.count in omega arith))
+
+pub taken_there : {P : Type 0} (ports taken : List (Option P)) → AreAllThere ports → taken ≡ set ports 0 None → (n : ℕ) → 1 ≤ n → n < length taken → there_at taken n ≡ true
+taken_there ports taken all left_is n far less =
+    let long : length taken ≡ length ports = ap (λ l. length l) left_is ∙ length-set ports 0 None in
+    there_same taken ports n (ap (λ l. slice_get l n) left_is ∙ get_other ports 0 n None (λ same. absurd (omega (arith, same)))) ∙ all_found ports all.there n (omega arith)
+
+pub new_first : (room : ℕ) (v : OneView) → v ≡ newcomer 0 room [] 1 [] [] → (v.number ≡ 0) × (v.made ≡ 1)
+new_first room v new = (ap (λ (x : OneView). x.number) new, ap (λ (x : OneView). x.made) new)
+
+module _ {P : Type 0} (told : P → Option Told) (is_planned : Bool) (sections : List SaidSection) where
+  -- all others were taken in
+  pub all_joined : (room : ℕ) (v w : OneView) (before left : Option Told) (ports ports_then : List (Option P)) (texts : Texts) → v ≡ newcomer 0 room [] 1 [] [] → HasCarriedOut told is_planned sections v before ports texts w left ports_then
+      → (w.number ≡ 0) × (length w.joined + 1 ≡ w.made)
+  all_joined room v w before left ports ports_then texts new out =
+      let one = out.setup.grew in let split = out.forked.split in let joined = out.forked.joined in let two = out.last.grew in
+      let number : w.number ≡ 0 = two.number ∙ joined.number ∙ split.number ∙ one.number ∙ ap (λ (x : OneView). x.number) new in
+      let nobody : length v.joined ≡ 0 = ap (λ (x : OneView). length x.joined) new in
+      let first : v.made ≡ 1 = ap (λ (x : OneView). x.made) new in
+      let a : length w.joined ≡ length out.behind_fork.joined = ap (λ l. length l) two.joined in
+      let b = joined.joined in
+      let c : length out.forked.between.joined ≡ length out.at_fork.joined = ap (λ l. length l) split.joined in
+      let d : length out.at_fork.joined ≡ length v.joined = ap (λ l. length l) one.joined in
+      let e = two.made in let f = joined.made in let g = split.made in let h = one.made in (number, omega arith)
+
+  module _ (ports taken ports_then given : List (Option P)) (port port_then : P) (some_port : 0 < length ports) (got : slice_get ports 0 ≡ Some (Some port)) (left_is : taken ≡ set ports 0 None)
+      (given_is : given ≡ set ports_then 0 (Some port_then)) where
+    same_before : (k : ℕ) → 1 ≤ k → told_at told taken k ≡ told_at told ports k
+    same_before k far = told_same told taken ports k (ap (λ l. slice_get l k) left_is ∙ get_other ports 0 k None (λ same. absurd (omega (arith, same))))
+
+    same_then : (k : ℕ) → 1 ≤ k → told_at told ports_then k ≡ told_at told given k
+    same_then k far = told_same told ports_then given k (sym (ap (λ l. slice_get l k) given_is ∙ get_other ports_then 0 k (Some port_then) (λ same. absurd (omega (arith, same)))))
+
+    -- what came of the whole
+    pub came : (room : ℕ) (v w : OneView) (before left : Option Told) (texts : Texts) (history : List OneEntry) → v ≡ newcomer 0 room [] 1 [] [] → before ≡ told port → left ≡ told port_then
+        → HasCarriedOut told is_planned sections v before taken texts w left ports_then → length taken ≡ length ports_then
+        → Legal core history → StartsWith history w.seen → entries_of 0 history ≡ w.mine → HasAllOf w.joined history → ((n : ℕ) → w.made ≤ n → entries_of n history ≡ [])
+        → CameToMany is_planned sections (told_at told ports) (told_at told given) history texts
+    came room v w before left texts history new first_is last_is out same_length legal begins mine all others =
+        let start : told_at told ports 0 ≡ told port = told_got told ports 0 port got in
+        let long : length taken ≡ length ports = ap (λ l. length l) left_is ∙ length-set ports 0 None in
+        let end : told_at told given 0 ≡ told port_then = ap (λ l. told_at told l 0) given_is ∙ told_got told (set ports_then 0 (Some port_then)) 0 port_then (get_set ports_then 0 (Some port_then) (omega arith)) in
+        let played : AllPlayed is_planned (told_at told ports) (told_at told given) sections history texts =
+        all_played is_planned (told_at told ports) (told_at told given) sections room (length (actor_sections sections)) (length (actor_sections sections)) v out.at_fork out.forked.between out.behind_fork w out.names out.end out.waiting out.behind texts.setup texts.last texts.actors history
+        new
+        (subst (λ t. PlaysOn is_planned (setup_of sections) v (carried [] t) [] (done out.names) out.at_fork out.waiting texts.setup) (first_is ∙ sym start) out.setup)
+        out.forked.split out.forked.joined
+        (kept_as is_planned (program_of sections) (told_at told taken) (told_at told ports) (told_at told ports_then) (told_at told given) out.at_fork.seen out.behind_fork 1 texts.actors same_before same_then out.forked.kept)
+        out.own out.last (out.left_is ∙ last_is ∙ sym end) legal begins mine all others (sym out.forked.as_many) out.forked.as_many
+        in came_to_many is_planned (told_at told ports) (told_at told given) sections history texts played
+
+    -- all ports are there again, and those of numbers that no actor has are as they were
+    pub all_there : (v w : OneView) (before left : Option Told) (texts : Texts) → HasCarriedOut told is_planned sections v before taken texts w left ports_then → AreAllThere ports
+        → AreAllThere given × ((n : ℕ) → length (actor_sections sections) < n → slice_get given n ≡ slice_get ports n)
+    all_there v w before left texts out were = (record { count = long ∙ were.count; there = found_all given at }, beyond) where
+      taken_long : length taken ≡ length ports
+      taken_long = ap (λ l. length l) left_is ∙ length-set ports 0 None
+
+      long : length given ≡ length ports
+      long = ap (λ l. length l) given_is ∙ length-set ports_then 0 (Some port_then) ∙ out.forked.ports_len ∙ taken_long
+
+      then_long : length ports_then ≡ length ports
+      then_long = out.forked.ports_len ∙ taken_long
+
+      behind_first : (n : ℕ) → 1 ≤ n → slice_get given n ≡ slice_get ports_then n
+      behind_first n far = ap (λ l. slice_get l n) given_is ∙ get_other ports_then 0 n (Some port_then) (λ same. absurd (omega (arith, same)))
+
+      untaken : (n : ℕ) → 1 ≤ n → slice_get taken n ≡ slice_get ports n
+      untaken n far = ap (λ l. slice_get l n) left_is ∙ get_other ports 0 n None (λ same. absurd (omega (arith, same)))
+
+      beyond : (n : ℕ) → length (actor_sections sections) < n → slice_get given n ≡ slice_get ports n
+      beyond n far = behind_first n (omega arith) ∙ out.forked.others n far ∙ untaken n (omega arith)
+
+      at : (n : ℕ) → n < length given → there_at given n ≡ true
+      at zero less = ap (λ l. there_at l 0) given_is ∙ there_got (set ports_then 0 (Some port_then)) 0 port_then (get_set ports_then 0 (Some port_then) (let e = then_long in let l = long in omega arith))
+      at (suc n) less = dite (dec_lt (length (actor_sections sections)) (suc n))
+          (λ far. there_same given ports (suc n) (beyond (suc n) far) ∙ all_found ports were.there (suc n) (let l = long in omega arith))
+          (λ near. there_same given ports_then (suc n) (behind_first (suc n) (omega arith)) ∙ out.forked.there (suc n) (omega arith) (omega arith))

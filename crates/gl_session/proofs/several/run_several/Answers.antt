@@ -1,0 +1,25 @@
+use Rattle.std.proofs.Common.{◌<◌, ◌∙◌, Some, ap, sym, arith, length}
+use Rattle.gl_script.specs.Script.{sections_of}
+use Rattle.gl_session.proofs.AllTogether.{all_there, came}
+use Rattle.gl_session.proofs.several.run_several.Goals as goal
+
+pub returns-in-Ok-carry_out-clause-came : goal.returns-in-Ok-carry_out-clause-came
+returns-in-Ok-carry_out-clause-came g c =
+    let t = g.D.Port.Port.told in
+    let f = c.finish-machine.ensures in
+    let some : 0 < length c.args.ports.now = (let n = c.requires.ports.count in omega arith) in
+    came t g.D.Driver.is_planned (sections_of c.args.script.now) c.args.ports.now c.take_port.new.ports c.carry_out.new.ports c.give_port.new.ports c.in-Some.port c.finish-machine.result.2 some
+    (c.take_port.ensures.taken ∙ ap Some c.in-Some.is) c.take_port.ensures.left c.give_port.ensures _ c.in-Ok.first.pass.view c.carry_out.new.first.pass.view _ _ _ _
+    c.in-Ok.ensures.first (ap t c.in-Ok.ensures.port) (ap t (sym f.port)) c.in-Ok-carry_out.ensures.out (sym c.in-Ok-carry_out.ensures.ports_len) f.legal f.seen f.mine f.joined f.others
+
+pub returns-in-Ok-carry_out-clause-there : goal.returns-in-Ok-carry_out-clause-there
+returns-in-Ok-carry_out-clause-there g c =
+    let some : 0 < length c.args.ports.now = (let n = c.requires.ports.count in omega arith) in
+    (all_there g.D.Port.Port.told g.D.Driver.is_planned (sections_of c.args.script.now) c.args.ports.now c.take_port.new.ports c.carry_out.new.ports c.give_port.new.ports c.in-Some.port c.finish-machine.result.2 some
+    (c.take_port.ensures.taken ∙ ap Some c.in-Some.is) c.take_port.ensures.left c.give_port.ensures _ _ _ _ _ c.in-Ok-carry_out.ensures.out c.requires.ports).0
+
+pub returns-in-Ok-carry_out-clause-others : goal.returns-in-Ok-carry_out-clause-others
+returns-in-Ok-carry_out-clause-others g c =
+    let some : 0 < length c.args.ports.now = (let n = c.requires.ports.count in omega arith) in
+    (all_there g.D.Port.Port.told g.D.Driver.is_planned (sections_of c.args.script.now) c.args.ports.now c.take_port.new.ports c.carry_out.new.ports c.give_port.new.ports c.in-Some.port c.finish-machine.result.2 some
+    (c.take_port.ensures.taken ∙ ap Some c.in-Some.is) c.take_port.ensures.left c.give_port.ensures _ _ _ _ _ c.in-Ok-carry_out.ensures.out c.requires.ports).1

@@ -1,0 +1,206 @@
+//! A session that several actors carry out on a device of their own: `setup`, then each actor's section in a thread of its own
+//! where one can be made, then `after`.
+ghost use Rattle.std.specs.Prelude.{◌≡◌, ℕ, ◌≤◌, ◌<◌, true, length, slice_get, IfOk, OnOk, IsOkUnless};
+ghost use Rattle.gl_chip.specs.Values.{IsActorOf};
+ghost use Rattle.gl_script.specs.Script.{sections_of};
+ghost use Rattle.gl_talk.specs.Open.{no_names};
+ghost use Rattle.gl_talk.specs.Talk.{names_in};
+ghost use Rattle.gl_session.specs.Many.{CameToMany, actor_sections, program_of};
+ghost use Rattle.gl_session.specs.OneActor.{IsSized};
+ghost use Rattle.gl_session.specs.Workers.{HasCarriedOut, HasForked, there_at, told_at};
+ghost use Rattle.gl_session.specs.Ports.{AreAllThere};
+ghost use Rattle.gl_session.specs.Several.{texts_of};
+
+use crate::fork::{give_port, join_all, split_all, take_port, work_all};
+use crate::one_actor::{play_kind, play_to_end};
+use gl_base::{ByteList, Errno};
+use gl_chip::{Actor, Gpio};
+use gl_core::Core;
+use gl_driver::Driver;
+use gl_script::{Script, SectionKind};
+use gl_talk::Talk;
+use gl_world::Entry;
+use std::alloc::Global;
+use std::sync::Wait;
+use std::thread::Threads;
+
+/// What the parts of a session printed.
+#[derive(Drop)]
+pub struct Printed {
+    /// What `setup` printed.
+    pub setup: Vec<u8>,
+    /// What each actor printed, in order.
+    pub actors: Vec<ByteList>,
+    /// What `after` printed.
+    pub last: Vec<u8>,
+}
+
+/// The sections of all actors, each carried out by an actor of its own with the port of its number, which is in its place again
+/// behind it. Gives what each printed.
+fn fork<R: Threads + Wait + Sync, D: Driver<Core>>(
+    rt: &R,
+    alloc: Global,
+    device: &Gpio<D>,
+    first: &mut Actor<D>,
+    ports: &mut [Option<D::Port>],
+    script: &Script<'_>,
+    count: usize,
+) -> Result<Vec<ByteList>, Errno>
+    requires none { D.ENTRIES ≡ 0 }
+    requires actor { IsActorOf device.now first.old }
+    requires alone { (first.old.pass.view.number ≡ 0) × (first.old.pass.view.made ≡ 1) }
+    requires sized { IsSized (sections_of script.now) }
+    requires count { (count ≡ length (actor_sections (sections_of script.now))) × (count < 256) × (count < length ports.old) }
+    requires there { (n : ℕ) → 1 ≤ n → n < length ports.old → there_at ports.old n ≡ true }
+    ensures actor { IsActorOf device.now first.new }
+    ensures port { first.new.port ≡ first.old.port }
+    ensures forked { IfOk result (λ texts. HasForked D.Port.told D.is_planned (program_of (sections_of script.now)) (length (actor_sections (sections_of script.now)))
+        first.old.pass.view ports.old first.new.pass.view texts.items ports.new) }
+    ensures ports_len { length ports.new ≡ length ports.old }
+{
+    let actors = match split_all(alloc, device, first, ports, count) {
+        Ok(actors) => actors,
+        Err(errno) => return Err(errno),
+    };
+    let all = match work_all(rt, alloc, device, script, actors) {
+        Ok(all) => all,
+        Err(_) => return Err(Errno::NoMemory),
+    };
+    match join_all(alloc, device, first, ports, all) {
+        Ok(texts) => Ok(texts),
+        Err(errno) => Err(errno),
+    }
+}
+
+/// Carries the parts of a session out. The talk of `setup` waits with its files and names while the actors are at work, and goes on
+/// with `after`.
+fn carry_parts<'a, R: Threads + Wait + Sync, D: Driver<Core>>(
+    rt: &R,
+    alloc: Global,
+    device: &Gpio<D>,
+    first: &mut Actor<D>,
+    talk: &mut Talk<'a>,
+    ports: &mut [Option<D::Port>],
+    script: &'a Script<'_>,
+    count: usize,
+) -> Result<Printed, Errno>
+    requires none { D.ENTRIES ≡ 0 }
+    requires actor { IsActorOf device.now first.old }
+    requires first { (first.old.pass.view.number ≡ 0) × (first.old.pass.view.made ≡ 1) }
+    requires sized { IsSized (sections_of script.now) }
+    requires talk { (names_in talk.old ≡ no_names) × (talk.old.begun ≡ 0) }
+    requires count { (count ≡ length (actor_sections (sections_of script.now))) × (count < 256) × (count < length ports.old) }
+    requires there { (n : ℕ) → 1 ≤ n → n < length ports.old → there_at ports.old n ≡ true }
+    ensures actor { IsActorOf device.now first.new }
+    ensures out { IfOk result (λ printed. HasCarriedOut D.Port.told D.is_planned (sections_of script.now) first.old.pass.view (D.Port.told first.old.port) ports.old
+        (texts_of printed) first.new.pass.view (D.Port.told first.new.port) ports.new) }
+    ensures ports_len { length ports.new ≡ length ports.old }
+{
+    let mut rows = Vec::new(alloc);
+    let mut setup = Vec::new(alloc);
+    let mut last = Vec::new(alloc);
+    match play_kind(
+        rt,
+        alloc,
+        device,
+        first,
+        talk,
+        &mut rows,
+        &mut setup,
+        script,
+        SectionKind::Setup,
+    ) {
+        Ok(()) => {}
+        Err(errno) => return Err(errno),
+    }
+    let actors = match fork(rt, alloc, device, first, ports, script, count) {
+        Ok(actors) => actors,
+        Err(errno) => return Err(errno),
+    };
+    let _number = first.number();
+    match play_to_end(
+        rt,
+        alloc,
+        device,
+        first,
+        talk,
+        &mut rows,
+        &mut last,
+        script,
+        SectionKind::After,
+    ) {
+        Ok(()) => Ok(Printed {
+            setup,
+            actors,
+            last,
+        }),
+        Err(errno) => Err(errno),
+    }
+}
+
+/// Carries a session out as the first actor of a device.
+fn carry_out<R: Threads + Wait + Sync, D: Driver<Core>>(
+    rt: &R,
+    alloc: Global,
+    device: &Gpio<D>,
+    first: &mut Actor<D>,
+    ports: &mut [Option<D::Port>],
+    script: &Script<'_>,
+    count: usize,
+) -> Result<Printed, Errno>
+    requires none { D.ENTRIES ≡ 0 }
+    requires actor { IsActorOf device.now first.old }
+    requires first { (first.old.pass.view.number ≡ 0) × (first.old.pass.view.made ≡ 1) }
+    requires sized { IsSized (sections_of script.now) }
+    requires count { (count ≡ length (actor_sections (sections_of script.now))) × (count < 256) × (count < length ports.old) }
+    requires there { (n : ℕ) → 1 ≤ n → n < length ports.old → there_at ports.old n ≡ true }
+    ensures actor { IsActorOf device.now first.new }
+    ensures out { IfOk result (λ printed. HasCarriedOut D.Port.told D.is_planned (sections_of script.now) first.old.pass.view (D.Port.told first.old.port) ports.old
+        (texts_of printed) first.new.pass.view (D.Port.told first.new.port) ports.new) }
+    ensures ports_len { length ports.new ≡ length ports.old }
+{
+    match Talk::new(alloc) {
+        Ok(mut talk) => carry_parts(rt, alloc, device, first, &mut talk, ports, script, count),
+        Err(errno) => Err(errno),
+    }
+}
+
+/// Runs a session by an actor for each of its actors' sections, on a new device with this driver, each actor with the port of its
+/// number. Gives what they printed, and the history.
+///
+/// `NoMemory` alone is refused, and then ports may be missing. It is also what a full history comes to here: no clause of the gate
+/// says that all passes together stay below its room.
+pub fn run_several<R: Threads + Wait + Sync, D: Driver<Core>>(
+    rt: &R,
+    alloc: Global,
+    driver: D,
+    ports: &mut [Option<D::Port>],
+    script: &Script<'_>,
+    count: usize,
+) -> Result<(Printed, Vec<Entry<Core>>), Errno>
+    requires none { D.ENTRIES ≡ 0 }
+    requires sized { IsSized (sections_of script.now) }
+    requires count { (count ≡ length (actor_sections (sections_of script.now))) × (count ≤ 16) }
+    requires ports { AreAllThere ports.old }
+    ensures came { IfOk result (λ ran. CameToMany D.is_planned (sections_of script.now) (told_at D.Port.told ports.old) (told_at D.Port.told ports.new) ran.1.items (texts_of ran.0)) }
+    ensures there { OnOk result (AreAllThere ports.new) }
+    ensures others { OnOk result ((n : ℕ) → length (actor_sections (sections_of script.now)) < n → slice_get ports.new n ≡ slice_get ports.old n) }
+    ensures memory_alone { IsOkUnless result Errno.NoMemory }
+{
+    match take_port::<D>(ports, 0) {
+        Some(port) => match Gpio::new(alloc, driver, port, script.cost() as u32) {
+            Ok((device, mut first)) => {
+                match carry_out(rt, alloc, &device, &mut first, ports, script, count) {
+                    Ok(printed) => {
+                        let (_machine, history, port) = device.finish(first);
+                        give_port::<D>(ports, 0, port);
+                        Ok((printed, history))
+                    }
+                    Err(_) => Err(Errno::NoMemory),
+                }
+            }
+            Err(_) => Err(Errno::NoMemory),
+        },
+        None => unreachable!(),
+    }
+}
