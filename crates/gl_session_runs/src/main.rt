@@ -14,13 +14,14 @@ use plan::Plan;
 use play::Session;
 use std::io::{self, BufRead, BufReader, Write};
 use std::sync::Wait;
+use std::thread::Threads;
 
 fn main(rt: HostRuntime) -> io::Result<()> {
     play_all(&rt, &rt)
 }
 
 /// Plays what the lines of the standard input say.
-fn play_all<R: Wait>(rt: &R, host: &HostRuntime) -> io::Result<()> {
+fn play_all<R: Threads + Wait + Sync>(rt: &R, host: &HostRuntime) -> io::Result<()> {
     let mut out = host.stdout();
     let mut session = Session::new(host.alloc());
     for line in BufReader::new(host.alloc(), host.reader())?.lines(host.alloc()) {
@@ -35,7 +36,7 @@ fn play_all<R: Wait>(rt: &R, host: &HostRuntime) -> io::Result<()> {
 }
 
 /// Takes a line into the session, or plays the session as it says, and appends what is told of that.
-fn told<R: Wait>(
+fn told<R: Threads + Wait + Sync>(
     rt: &R,
     session: &mut Session,
     line: &str,

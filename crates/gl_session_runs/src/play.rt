@@ -9,6 +9,7 @@ use gl_io::{MemSink, MemSource};
 use gl_session::run;
 use std::alloc::Global;
 use std::sync::Wait;
+use std::thread::Threads;
 use std::{array, str};
 
 /// A session's name and its bytes.
@@ -53,7 +54,12 @@ impl Session {
     }
 
     /// Runs the session as planned, and appends its name, its status and what was written.
-    pub fn put_run<R: Wait>(&self, rt: &R, plan: &Plan<'_>, out: &mut Vec<u8>) -> Result<(), Errno>
+    pub fn put_run<R: Threads + Wait + Sync>(
+        &self,
+        rt: &R,
+        plan: &Plan<'_>,
+        out: &mut Vec<u8>,
+    ) -> Result<(), Errno>
         requires { 0 < plan.now.piece }
     {
         let alloc = *out.allocator();
@@ -64,7 +70,15 @@ impl Session {
         let (driver, mut ports) = (SimDriver::new(), new_ports());
         let words = [str::from_utf8(plan.word).unwrap_or("?")];
         let count = if plan.word.is_empty() { 0 } else { 1 };
-        let status = run(rt, alloc, &words[..count], &mut source, &mut sink, driver, &mut ports);
+        let status = run(
+            rt,
+            alloc,
+            &words[..count],
+            &mut source,
+            &mut sink,
+            driver,
+            &mut ports,
+        );
         out.extend_from_slice(b"== ")?;
         out.extend_from_slice(&self.name)?;
         out.extend_from_slice(b" ")?;
