@@ -17,9 +17,11 @@ const ONE_CHIP: &[u8] = b"session 1\nsetup\nprobe demo 4\ngpiodetect\n";
 const ONE_CHIP_TEXT: &[u8] = b"gpiochip0 [demo] (4 lines)\n";
 
 /// Two actors, of which one alone asks the device while both are at work.
-const TWO_ACTORS: &[u8] = b"session 1\nsetup\nprobe demo 1\nactor a\ngpiodetect 0\nactor b\npoll nothing\nafter\ngpiodetect 0\n";
+const TWO_ACTORS: &[u8] =
+    b"session 1\nsetup\nprobe demo 1\nactor a\ngpiodetect 0\nactor b\npoll nothing\nafter\ngpiodetect 0\n";
 
-const TWO_ACTORS_TEXT: &[u8] = b"== setup\n== actor a\ngpiochip0 [demo] (1 lines)\n== actor b\nEBADF\n== after\ngpiochip0 [demo] (1 lines)\n== history 7\n0 0 probe demo 1 sim -> ok 0\n1 1 open 0 -> ok 3\n2 1 ioctl 0 3 0x8044b401 68 00*68 -> ok\n3 1 close 3 -> ok\n4 0 open 0 -> ok 4\n5 0 ioctl 0 4 0x8044b401 68 00*68 -> ok\n6 0 close 4 -> ok\n";
+const TWO_ACTORS_TEXT: &[u8] =
+    b"== setup\n== actor a\ngpiochip0 [demo] (1 lines)\n== actor b\nEBADF\n== after\ngpiochip0 [demo] (1 lines)\n== history 7\n0 0 probe demo 1 sim -> ok 0\n1 1 open 0 -> ok 3\n2 1 ioctl 0 3 0x8044b401 68 00*68 -> ok\n3 1 close 3 -> ok\n4 0 open 0 -> ok 4\n5 0 ioctl 0 4 0x8044b401 68 00*68 -> ok\n6 0 close 4 -> ok\n";
 
 /// How a run goes: the bytes that a call moves at most, the calls that fail, and the sink's room.
 #[derive(Clone, Copy)]
