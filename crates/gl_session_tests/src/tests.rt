@@ -1,16 +1,7 @@
 //! Runs over failing streams, and the words that a run doesn't take.
-ghost use Rattle.std.specs.Prelude.{◌<◌};
-ghost use Rattle.gl_session.specs.Ports.{AreAllThere};
 
-use gl_driver::{SimDriver, SimPort};
-use gl_io::{MemSink, MemSource};
-use gl_session::run;
-use std::alloc::Global;
-use std::array;
-use std::process::Abort;
-use std::sync::Wait;
+use crate::runs::{PLAIN, Plan, SLOW, check};
 use std::test::Fail;
-use std::thread::Threads;
 
 const ONE_CHIP: &[u8] = b"session 1\nsetup\nprobe demo 4\ngpiodetect\n";
 
@@ -22,68 +13,6 @@ const TWO_ACTORS: &[u8] =
 
 const TWO_ACTORS_TEXT: &[u8] =
     b"== setup\n== actor a\ngpiochip0 [demo] (1 lines)\n== actor b\nEBADF\n== after\ngpiochip0 [demo] (1 lines)\n== history 7\n0 0 probe demo 1 sim -> ok 0\n1 1 open 0 -> ok 3\n2 1 ioctl 0 3 0x8044b401 68 00*68 -> ok\n3 1 close 3 -> ok\n4 0 open 0 -> ok 4\n5 0 ioctl 0 4 0x8044b401 68 00*68 -> ok\n6 0 close 4 -> ok\n";
-
-/// How a run goes: the bytes that a call moves at most, the calls that fail, and the sink's room.
-#[derive(Clone, Copy)]
-struct Plan {
-    piece: u32,
-    source_fails: Option<u64>,
-    sink_fails: Option<u64>,
-    room: u32,
-}
-
-const PLAIN: Plan = Plan {
-    piece: 64,
-    source_fails: None,
-    sink_fails: None,
-    room: 4096,
-};
-
-/// Three bytes a call.
-const SLOW: Plan = Plan { piece: 3, ..PLAIN };
-
-/// 17 new ports.
-fn new_ports() -> [Option<SimPort>; 17]
-    ensures { AreAllThere result }
-{
-    array::from_fn(|_| Some(SimPort::new()))
-}
-
-/// The status of a run over these bytes, and what the sink held in the end.
-fn run_in_memory<R: Threads + Wait + Sync>(
-    rt: &R,
-    alloc: Global,
-    words: &[&str],
-    text: &[u8],
-    plan: &Plan,
-) -> Result<(u8, Vec<u8>), Fail>
-    requires { 0 < plan.now.piece }
-{
-    let source_fails = plan.source_fails.into_iter().collect(alloc)?;
-    let sink_fails = plan.sink_fails.into_iter().collect(alloc)?;
-    let mut source = MemSource::new(text.to_vec(alloc)?, plan.piece, source_fails);
-    let mut sink = MemSink::new(alloc, plan.room, plan.piece, sink_fails)?;
-    let (driver, mut ports) = (SimDriver::new(), new_ports());
-    let status = run(rt, alloc, words, &mut source, &mut sink, driver, &mut ports);
-    Ok((status.number(), sink.as_slice().to_vec(alloc)?))
-}
-
-/// Runs, and compares the status and what the sink held with what is wanted.
-fn check<R: AllocGlobal + Abort + Threads + Wait + Sync>(
-    rt: &R,
-    words: &[&str],
-    text: &[u8],
-    plan: &Plan,
-    status: u8,
-    held: &[u8],
-) -> Result<(), Fail>
-    requires { 0 < plan.now.piece }
-{
-    let (number, bytes) = run_in_memory(rt, rt.alloc(), words, text, plan)?;
-    assert_eq!(rt; number, status, "the status of {text:?}");
-    assert_eq!(rt; bytes.as_slice(), held, "the text of {text:?}");
-    Ok(())
-}
 
 #[test]
 fn sessions_run_in_pieces_of_any_length(rt: HostRuntime) -> Result<(), Fail> {
