@@ -24,7 +24,7 @@ pub use laws::{
     faults_are_of_the_text, limits_by_value, loads_are_sessions, sentence_is_single,
     sentences_are_spelled, spelled_are_sentences,
 };
-pub use limits::SESSION_MAX;
+pub use limits::{SESSION_MAX, TURNS_MAX};
 pub use load::generate;
 pub use refusal::{Refusal, RefusalKind};
 pub use script::Script;
