@@ -1,0 +1,10 @@
+//! What the program's words ask for.
+#![tactic(auto)]
+
+mod asked;
+mod laws;
+#[cfg(test)]
+mod tests;
+
+pub use asked::{Task, WordsFault, read_words};
+pub use laws::loads_are_within;
