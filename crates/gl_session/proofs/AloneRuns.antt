@@ -1,6 +1,6 @@
 -- A session that one actor alone carried out, from its turns: what it printed is what One prints over the answers of the driver,
 -- wherever One's answers come from.
-use Rattle.std.proofs.Common.{◌≡◌, ℕ, Bool, true, false, List, [], ◌∷◌, ◌++◌, length, Option, None, Some, IfSome, refl, sym, ap, ◌∙◌, subst, arith}
+use Rattle.std.proofs.Common.{◌≡◌, ℕ, ◌+◌, Bool, true, false, List, [], ◌∷◌, ◌++◌, length, length-append, Option, None, Some, IfSome, refl, sym, ap, ◌∙◌, subst, arith}
 use Rattle.std.specs.Prelude.{if◌then◌else◌}
 use Rattle.std.proofs.lemmas.Bool.{true≢false}
 use Rattle.std.proofs.lemmas.List.{append_assoc, append-nil}
@@ -27,10 +27,10 @@ use Rattle.gl_chip.specs.Values.{OneDeed, OneEntry, core}
 use Rattle.gl_session.specs.Alone.{AnswersAsPlanned, IsAlone, Part, PlayedSession, PortTells, PrintsOne, TellsAfter, answered_last, calls_after, last_or}
 use Rattle.gl_session.specs.Asking.{Asking, Calls, Plans, Refuses, asking, files_behind, got_of}
 use Rattle.gl_session.specs.Files.{OpenFile}
-use Rattle.gl_session.specs.One.{Answers, PlannedPort, Ran, Standing, came_to, comes_to, first_of_list, from_list, from_plan, is_asked, performs, performs_as, rest_of_list, run, run_actor, run_session, run_setup, said_in_kind, with_answer}
+use Rattle.gl_session.specs.One.{Answers, PlannedPort, Ran, Standing, came_to, comes_to, entry_count, first_of_list, from_list, from_plan, is_asked, performs, performs_as, rest_of_list, run, run_actor, run_session, run_setup, said_in_kind, with_answer, with_entries}
 use Rattle.gl_session.specs.Turns.{Carried, Carries, Did, DidNothing, Exchange, Follows, HasMade, IsDone, PortAfter, Said, Turn, call_tells, did_by, said_by, tells_in}
 use Rattle.gl_session.proofs.OneCalls.{Came, Comes, comes}
-use Rattle.gl_session.proofs.OneHistories.{IsSteady, Rest}
+use Rattle.gl_session.proofs.OneHistories.{IsSteady, Rest, length_entries}
 
 laws : Laws core
 laws = machine_laws StandsFor
@@ -68,12 +68,14 @@ module _ {X : Type 0} (answers : Answers X) (is_planned : Bool) (Fits : X → Op
     pub got : out.0 ≡ got_of e.what e.reply e.wrote
     pub at : At out.1 r ds rest
     pub took : out.1.took ≡ st.took ++ told_by e.did
+    pub entries : out.1.entries ≡ st.entries + length e.did
 
-  pub record RunsAs {A : Type 0} (text : List ℕ) (did : List OneDeed) (value : A) (r : Carried) (took : List (Option ℕ)) (ds : List OneDeed) (rest : List (Option ℕ)) (ran : Ran X A) : Type 0 where
+  pub record RunsAs {A : Type 0} (text : List ℕ) (did : List OneDeed) (value : A) (r : Carried) (st : Standing X) (ds : List OneDeed) (rest : List (Option ℕ)) (ran : Ran X A) : Type 0 where
     pub text_is : ran.text ≡ text
     pub value_is : ran.value ≡ value
     pub at : At ran.behind r ds rest
-    pub took_is : ran.behind.took ≡ took ++ told_by did
+    pub took_is : ran.behind.took ≡ st.took ++ told_by did
+    pub entries_are : ran.behind.entries ≡ st.entries + length did
 
   module _ (serves : Serves) where
     -- a call of the device
@@ -90,7 +92,8 @@ module _ {X : Type 0} (answers : Answers X) (is_planned : Bool) (Fits : X → Op
         bytes_same : Came e.did ds (comes_to st.world call (answers.next st.source)) → (comes_to st.world call (answers.next st.source)).bytes ≡ e.wrote
         bytes_same came = sym came.bytes ∙ made.bytes_are
 
-        by : (b : Bool) → is_asked st.world call ≡ b → Performed e r st ds rest (came_to answers e.what (comes_to st.world call (answers.next st.source)) (with_answer answers b st))
+        by : (b : Bool) → is_asked st.world call ≡ b → Performed e r st ds rest
+            (came_to answers e.what (comes_to st.world call (answers.next st.source)) (with_entries (entry_count st.world call) (with_answer answers b st)))
         by false unasked = let none : told_by e.did ≡ [] = c.tells ∙ ap (λ (b : Bool). if b then e.answer ∷ [] else []) unasked in
             let came = c.came (answers.next st.source) (λ is. absurd (true≢false (sym is ∙ unasked))) in
             let port : r.told ≡ s.told = subst (λ l. PortAfter is_planned l s.told r.told) none made.port in record {
@@ -102,6 +105,7 @@ module _ {X : Type 0} (answers : Answers X) (is_planned : Bool) (Fits : X → Op
                 fits = subst (λ t. Fits st.source t rest) (sym port) (subst (λ l. Fits st.source s.told (l ++ rest)) none at.fits);
               };
               took = sym (append-nil st.took) ∙ ap (λ l. st.took ++ l) (sym none);
+              entries = ap (λ n. st.entries + n) (sym c.count);
             }
         by true is = let one : told_by e.did ≡ e.answer ∷ [] = c.tells ∙ ap (λ (b : Bool). if b then e.answer ∷ [] else []) is in
             let g = serves.gives st.source s.told r.told e.answer rest (subst (λ l. Fits st.source s.told (l ++ rest)) one at.fits) (subst (λ l. PortAfter is_planned l s.told r.told) one made.port) in
@@ -114,13 +118,14 @@ module _ {X : Type 0} (answers : Answers X) (is_planned : Bool) (Fits : X → Op
                 fits = g.1;
               };
               took = ap (λ a. st.took ++ a ∷ []) g.0 ∙ ap (λ l. st.took ++ l) (sym one);
+              entries = ap (λ n. st.entries + n) (sym c.count);
             }
 
     -- an operation without a call of the device
     nothing : (e : Exchange) (reply : Reply) (s r : Carried) (st next : Standing X) (ds : List OneDeed) (rest : List (Option ℕ)) → DidNothing is_planned 0 e reply → r.files ≡ files_behind e.what e.reply s.files
-        → At st s (e.did ++ ds) (told_by e.did ++ rest) → next.world ≡ st.world → next.files ≡ files_behind e.what reply st.files → next.took ≡ st.took → (Fits st.source s.told rest → Fits next.source r.told rest)
+        → At st s (e.did ++ ds) (told_by e.did ++ rest) → next.world ≡ st.world → next.files ≡ files_behind e.what reply st.files → next.took ≡ st.took → next.entries ≡ st.entries → (Fits st.source s.told rest → Fits next.source r.told rest)
         → Performed e r st ds rest (got_of e.what reply [], next)
-    nothing e reply s r st next ds rest none files at same_world same_files same_took fits = record {
+    nothing e reply s r st next ds rest none files at same_world same_files same_took same_entries fits = record {
       got = λ i. got_of e.what (sym none.reply_is i) (sym none.bytes_are i);
       at = record {
         files = same_files ∙ (λ i. files_behind e.what (sym none.reply_is i) (at.files i)) ∙ sym files;
@@ -129,14 +134,15 @@ module _ {X : Type 0} (answers : Answers X) (is_planned : Bool) (Fits : X → Op
         fits = fits (subst (λ (l : List OneDeed). Fits st.source s.told (told_by l ++ rest)) none.did at.fits);
       };
       took = same_took ∙ sym (append-nil st.took) ∙ ap (λ (l : List OneDeed). st.took ++ told_by l) (sym none.did);
+      entries = let nobody : length e.did ≡ 0 = ap (λ (l : List OneDeed). length l) none.did in omega arith;
     }
 
     asked : (a : Asking) (e : Exchange) (s r : Carried) (st : Standing X) (ds : List OneDeed) (rest : List (Option ℕ)) → IsDone is_planned 0 a e s.told r.told
         → r.files ≡ files_behind e.what e.reply s.files → At st s (e.did ++ ds) (told_by e.did ++ rest) → Performed e r st ds rest (performs_as answers a e.what st)
     asked (Calls call) e s r st ds rest is files at = called call e s r st ds rest is files at
-    asked (Plans nth) e s r st ds rest is files at = nothing e DoneReply s r st (performs_as answers (Plans nth) e.what st).1 ds rest is.0 files at refl refl refl
+    asked (Plans nth) e s r st ds rest is files at = nothing e DoneReply s r st (performs_as answers (Plans nth) e.what st).1 ds rest is.0 files at refl refl refl refl
         (λ fits. subst (λ t. Fits (answers.planned nth st.source) t rest) (sym is.1) (serves.plans st.source s.told nth rest fits))
-    asked (Refuses errno) e s r st ds rest is files at = nothing e (RefusedReply errno) s r st (performs_as answers (Refuses errno) e.what st).1 ds rest is.0 files at refl refl refl
+    asked (Refuses errno) e s r st ds rest is files at = nothing e (RefusedReply errno) s r st (performs_as answers (Refuses errno) e.what st).1 ds rest is.0 files at refl refl refl refl
         (λ fits. subst (λ t. Fits st.source t rest) (sym is.1) fits)
 
     performed : (e : Exchange) (s r : Carried) (st : Standing X) (ds : List OneDeed) (rest : List (Option ℕ)) → Carries is_planned 0 s e r → At st s (e.did ++ ds) (told_by e.did ++ rest)
@@ -147,20 +153,22 @@ module _ {X : Type 0} (answers : Answers X) (is_planned : Bool) (Fits : X → Op
     -- turns one after another
     pub follows_run : {A : Type 0} (turns : List Turn) (p : Program A) (s r : Carried) (value : A) (st : Standing X) (ds : List OneDeed) (rest : List (Option ℕ))
         → Follows is_planned 0 p s turns (done value) r → At st s (did_by turns ++ ds) (told_by (did_by turns) ++ rest)
-        → RunsAs (said_by turns) (did_by turns) value r st.took ds rest (run answers p st)
-    follows_run {A} [] p s r value st ds rest (is, same) at = subst (λ (q : Program A). RunsAs [] [] value r st.took ds rest (run answers q st)) (sym is) (record {
+        → RunsAs (said_by turns) (did_by turns) value r st ds rest (run answers p st)
+    follows_run {A} [] p s r value st ds rest (is, same) at = subst (λ (q : Program A). RunsAs [] [] value r st ds rest (run answers q st)) (sym is) (record {
       text_is = refl;
       value_is = refl;
       at = subst (λ (c : Carried). At st c ds rest) same at;
       took_is = sym (append-nil st.took);
+      entries_are = omega arith;
     })
     follows_run {A} (Said text ∷ turns) p s r value st ds rest (q, mid, (is, same), follows) at =
         let on = follows_run turns q mid r value st ds rest follows (subst (λ (c : Carried). At st c (did_by turns ++ ds) (told_by (did_by turns) ++ rest)) (sym same) at) in
-        subst (λ (o : Program A). RunsAs (text ++ said_by turns) (did_by turns) value r st.took ds rest (run answers o st)) (sym is) (record {
+        subst (λ (o : Program A). RunsAs (text ++ said_by turns) (did_by turns) value r st ds rest (run answers o st)) (sym is) (record {
           text_is = ap (λ t. text ++ t) on.text_is;
           value_is = on.value_is;
           at = on.at;
           took_is = on.took_is;
+          entries_are = on.entries_are;
         })
     follows_run {A} (Did e ∷ turns) p s r value st ds rest (q, mid, (goes, is, next, carries), follows) at =
         let now : At st s (e.did ++ (did_by turns ++ ds)) (told_by e.did ++ (told_by (did_by turns) ++ rest)) = record {
@@ -171,31 +179,33 @@ module _ {X : Type 0} (answers : Answers X) (is_planned : Bool) (Fits : X → Op
         } in
         let o = performed e s mid st (did_by turns ++ ds) (told_by (did_by turns) ++ rest) carries now in
         let on = follows_run turns q mid r value (performs answers e.what st).1 ds rest follows o.at in
-        let here = subst (λ (x : Program A). RunsAs (said_by turns) (did_by turns) value r (performs answers e.what st).1.took ds rest (run answers x (performs answers e.what st).1)) (next ∙ ap goes (sym o.got)) on in
-        subst (λ (x : Program A). RunsAs (said_by turns) (e.did ++ did_by turns) value r st.took ds rest (run answers x st)) (sym is) (record {
+        let here = subst (λ (x : Program A). RunsAs (said_by turns) (did_by turns) value r (performs answers e.what st).1 ds rest (run answers x (performs answers e.what st).1)) (next ∙ ap goes (sym o.got)) on in
+        subst (λ (x : Program A). RunsAs (said_by turns) (e.did ++ did_by turns) value r st ds rest (run answers x st)) (sym is) (record {
           text_is = here.text_is;
           value_is = here.value_is;
           at = here.at;
           took_is = here.took_is ∙ ap (λ l. l ++ told_by (did_by turns)) o.took ∙ append_assoc st.took (told_by e.did) (told_by (did_by turns)) ∙ ap (λ l. st.took ++ l) (sym (told_append e.did (did_by turns)));
+          entries_are = let more = here.entries_are in let first_count = o.entries in let both = length-append e.did (did_by turns) in omega arith;
         })
 
     -- a whole program
     part_runs : (program : Program Names) (files : List OpenFile) (told : Option Told) (part : Part is_planned program files told) (st : Standing X) (ds : List OneDeed) (rest : List (Option ℕ))
-        → At st (record { files = files; told = told }) (part.did ++ ds) (told_by part.did ++ rest) → RunsAs part.text part.did part.names part.behind st.took ds rest (run answers program st)
+        → At st (record { files = files; told = told }) (part.did ++ ds) (told_by part.did ++ rest) → RunsAs part.text part.did part.names part.behind st ds rest (run answers program st)
     part_runs program files told part st ds rest at = let turns : List Turn = part.played.turns in
         let now = subst (λ (l : List OneDeed). At st (record { files = files; told = told }) (l ++ ds) (told_by l ++ rest)) part.played.did_is at in
         let on = follows_run turns program (record { files = files; told = told }) part.behind part.names st ds rest part.played.follows now in
-        subst (λ (x : List ℕ × List OneDeed). RunsAs x.0 x.1 part.names part.behind st.took ds rest (run answers program st)) (λ i. (sym part.played.text_is i, sym part.played.did_is i)) on
+        subst (λ (x : List ℕ × List OneDeed). RunsAs x.0 x.1 part.names part.behind st ds rest (run answers program st)) (λ i. (sym part.played.text_is i, sym part.played.did_is i)) on
 
     -- the three parts of a session
     pub session_runs : (sections : List SaidSection) (before left : Option Told) (text : List ℕ) (did : List OneDeed) (source : X) → PlayedSession is_planned sections before text did left
-        → Rest core opening did → IsSteady core opening → Fits source before (told_by did) → ((run_session answers sections source).text ≡ text) × ((run_session answers sections source).behind.took ≡ told_by did) × Fits (run_session answers sections source).behind.source left []
+        → Rest core opening did → IsSteady core opening → Fits source before (told_by did) → ((run_session answers sections source).text ≡ text) × ((run_session answers sections source).behind.took ≡ told_by did)
+        × ((run_session answers sections source).behind.entries ≡ length did) × Fits (run_session answers sections source).behind.source left []
     session_runs sections before left text did source p whole steady fits =
         let first : List OneDeed = p.setup.did in let middle : List OneDeed = p.actor.did in let last : List OneDeed = p.last.did in
         let told_is : told_by did ≡ told_by first ++ (told_by middle ++ (told_by last ++ [])) =
         ap (λ (l : List OneDeed). told_by l) p.did_is ∙ told_append first (middle ++ last) ∙ ap (λ l. told_by first ++ l) (told_append middle last ∙ ap (λ l. told_by middle ++ l) (sym (append-nil (told_by last)))) in
         let did_is : did ≡ first ++ (middle ++ (last ++ [])) = p.did_is ∙ ap (λ l. first ++ (middle ++ l)) (sym (append-nil last)) in
-        let start : Standing X = record { world = opening; files = []; source = source; took = [] } in
+        let start : Standing X = record { world = opening; files = []; source = source; took = []; entries = 0 } in
         let setup = part_runs (says 0 (said_in_kind Setup sections) done no_names) [] before p.setup start (middle ++ (last ++ [])) (told_by middle ++ (told_by last ++ [])) (record {
           files = refl;
           left = subst (λ (l : List OneDeed). Rest core opening l) did_is whole;
@@ -216,11 +226,13 @@ module _ {X : Type 0} (answers : Answers X) (is_planned : Bool) (Fits : X → Op
           steady = actor.at.steady;
           fits = actor.at.fits;
         }) in
-        let ends = subst (λ (names : Names). RunsAs p.last.text p.last.did p.last.names p.last.behind after_actor.behind.took [] []
+        let ends = subst (λ (names : Names). RunsAs p.last.text p.last.did p.last.names p.last.behind (record after_actor.behind { files = after_setup.behind.files }) [] []
         (run answers (says (length (said_in_kind Setup sections)) (said_in_kind After sections) quits names) (record after_actor.behind { files = after_setup.behind.files }))) (sym setup.value_is) end in (
           (λ i. (setup.text_is i ++ actor.text_is i) ++ ends.text_is i) ∙ sym p.text_is,
           ends.took_is ∙ ap (λ l. l ++ told_by last) (actor.took_is ∙ ap (λ l. l ++ told_by middle) setup.took_is) ∙ append_assoc (told_by first) (told_by middle) (told_by last)
               ∙ ap (λ l. told_by first ++ l) (sym (told_append middle last)) ∙ sym (told_append first (middle ++ last)) ∙ ap (λ (l : List OneDeed). told_by l) (sym p.did_is),
+          (let one = setup.entries_are in let two = actor.entries_are in let three = ends.entries_are in let all : length did ≡ length (first ++ (middle ++ last)) = ap (λ (l : List OneDeed). length l) p.did_is in
+              let front = length-append first (middle ++ last) in let back = length-append middle last in omega arith),
           subst (λ told. Fits (run_session answers sections source).behind.source told []) (sym p.left_is) ends.at.fits,
         )
 
@@ -247,7 +259,7 @@ pub prints_one : PrintsOne
 prints_one is_planned sections before left text did history p alone =
     let told : tells_in history ≡ told_by did = ap (λ (l : List OneEntry). tells_in l) alone.entries in
     let s = session_runs from_list is_planned (λ source told rest. source ≡ rest) (list_serves is_planned) sections before left text did (tells_in history) p (whole_rest history did alone) opens_steady told in
-    (sym s.0, s.1 ∙ sym told)
+    (sym s.0, s.1 ∙ sym told, s.2 ∙ sym (length_entries did) ∙ ap (λ (l : List OneEntry). length l) (sym alone.entries))
 
 -- answers as the plan of a port says
 abbrev PlannedFits : PlannedPort → Option Told → List (Option ℕ) → Type 0
@@ -293,4 +305,4 @@ pub port_tells : PortTells
 port_tells is_planned sections t left text did history p alone =
     let told : tells_in history ≡ told_by did = ap (λ (l : List OneEntry). tells_in l) alone.entries in let all : List (Option ℕ) = told_by did in
     let s = session_runs from_list is_planned (PortFits t all) (port_serves is_planned t all) sections (Some t) left text did all p (whole_rest history did alone) opens_steady (refl, t, refl, refl, refl) in
-    let u = s.2 in subst (λ l. TellsAfter t l left) (sym told) (record { told = u.1; left_is = u.2; calls = u.3; last = u.4 })
+    let u = s.3 in subst (λ l. TellsAfter t l left) (sym told) (record { told = u.1; left_is = u.2; calls = u.3; last = u.4 })

@@ -92,13 +92,13 @@ if_refused None new bytes Written r out = tt
 if_refused (Some input) None bytes Written r out = absurd r.first
 if_refused (Some input) (Some rest) bytes Written r out = (out.0, same_refusal input bytes rest r.first r.end ∙ out.1, out.2)
 
-pub if_output : (is_planned : Bool) (before left : ℕ → Option Told) (old new : Option (List ℕ)) (bytes : List ℕ) (W : Type 0) (Written : List ℕ → Type 0) → ReadsThrough old new bytes →
+pub if_output : (is_planned : Bool) (before left : ℕ → Option Told) (old new : Option (List ℕ)) (bytes : List ℕ) (Written : List ℕ → Type 0) → ReadsThrough old new bytes →
     (text : List ℕ) × IsOutput is_planned before left bytes text × Written text →
-    IfSome old (λ input. W → (text : List ℕ) × IsOutput is_planned before left input text × Written text)
-if_output is_planned before left None new bytes W Written r out = tt
-if_output is_planned before left (Some input) None bytes W Written r out = absurd r.first
-if_output is_planned before left (Some input) (Some rest) bytes W Written r out =
-    λ w. (out.0, output_of_read input bytes rest r.first r.end is_planned before left out.0 out.1, out.2)
+    IfSome old (λ input. (text : List ℕ) × IsOutput is_planned before left input text × Written text)
+if_output is_planned before left None new bytes Written r out = tt
+if_output is_planned before left (Some input) None bytes Written r out = absurd r.first
+if_output is_planned before left (Some input) (Some rest) bytes Written r out =
+    (out.0, output_of_read input bytes rest r.first r.end is_planned before left out.0 out.1, out.2)
 
 -- a run over refused bytes doesn't run
 only_refusals : (status : Status) → (status ≡ Usage → ⊥) → (status ≡ Ran → ⊥) → IsRefusal status
@@ -113,14 +113,25 @@ none_some : (a : Option Refusal) (refusal : Refusal) → a ≡ None → a ≡ So
 none_some None refusal e h = cc
 none_some (Some other) refusal e h = cc
 
-pub if_refusal : (status : Status) (old new : Option (List ℕ)) (bytes : List ℕ) (W : Type 0) → ReadsThrough old new bytes →
+-- a sentence has no first fault
+pub never_refused : (bytes : List ℕ) (sections : List SaidSection) (refusal : Refusal) → Sentence bytes sections → first_fault bytes ≡ Some refusal → ⊥
+never_refused bytes sections refusal s is = none_some (first_fault bytes) refusal (not_refused bytes sections s) is
+
+-- what is said of refused bytes that were read is said of those of the source
+pub if_faulty : (old new : Option (List ℕ)) (bytes : List ℕ) (Said : Type 0) → ReadsThrough old new bytes → ((refusal : Refusal) → first_fault bytes ≡ Some refusal → Said) →
+    IfSome old (λ input. (refusal : Refusal) → first_fault input ≡ Some refusal → Said)
+if_faulty None new bytes Said r h = tt
+if_faulty (Some input) None bytes Said r h = absurd r.first
+if_faulty (Some input) (Some rest) bytes Said r h = λ refusal is. h refusal (sym (same_refusal input bytes rest r.first r.end) ∙ is)
+
+pub if_refusal : (status : Status) (old new : Option (List ℕ)) (bytes : List ℕ) → ReadsThrough old new bytes →
     (status ≡ Usage → ⊥) → (status ≡ Ran → (sections : List SaidSection) × Sentence bytes sections) →
-    IfSome old (λ input. W → (refusal : Refusal) → first_fault input ≡ Some refusal → IsRefusal status)
-if_refusal status None new bytes W r no_usage ran = tt
-if_refusal status (Some input) None bytes W r no_usage ran = absurd r.first
-if_refusal status (Some input) (Some rest) bytes W r no_usage ran =
-    λ w refusal e. only_refusals status no_usage
-    (λ s. none_some (first_fault bytes) refusal (not_refused bytes (ran s).0 (ran s).1) (sym (same_refusal input bytes rest r.first r.end) ∙ e))
+    IfSome old (λ input. (refusal : Refusal) → first_fault input ≡ Some refusal → IsRefusal status)
+if_refusal status None new bytes r no_usage ran = tt
+if_refusal status (Some input) None bytes r no_usage ran = absurd r.first
+if_refusal status (Some input) (Some rest) bytes r no_usage ran =
+    λ refusal e. only_refusals status no_usage
+    (λ s. never_refused bytes (ran s).0 refusal (ran s).1 (sym (same_refusal input bytes rest r.first r.end) ∙ e))
 
 -- every other answer than these two has a cause
 only_these : (status : Status) → (status ≡ Usage → ⊥) → (status ≡ ReadFault → ⊥) → (status ≡ Refused → ⊥) → (status ≡ WriteFault → ⊥) →
@@ -132,14 +143,14 @@ only_these ReadFault a b c d = absurd (b refl)
 only_these WriteFault a b c d = absurd (d refl)
 only_these NoMemory a b c d = inr refl
 
-pub if_complete : (status : Status) (old new : Option (List ℕ)) (bytes : List ℕ) (W ReadRises WriteRises : Type 0) → ReadsThrough old new bytes →
+pub if_complete : (status : Status) (old new : Option (List ℕ)) (bytes : List ℕ) (ReadRises WriteRises : Type 0) → ReadsThrough old new bytes →
     (status ≡ Usage → ⊥) → (status ≡ ReadFault → ⊥) → (status ≡ Refused → (refusal : Refusal) × (first_fault bytes ≡ Some refusal)) → (status ≡ WriteFault → WriteRises) →
-    IfSome old (λ input. W → (sections : List SaidSection) → Sentence input sections → ¬ ReadRises → ¬ WriteRises → (status ≡ Ran) ⊎ (status ≡ NoMemory))
-if_complete status None new bytes W ReadRises WriteRises r no_usage no_read refused write = tt
-if_complete status (Some input) None bytes W ReadRises WriteRises r no_usage no_read refused write = absurd r.first
-if_complete status (Some input) (Some rest) bytes W ReadRises WriteRises r no_usage no_read refused write =
-    λ w sections s reads writes. only_these status no_usage no_read
-    (λ e. none_some (first_fault bytes) (refused e).0 (not_refused bytes sections (runs_of_input input bytes rest r.first r.end sections s)) (refused e).1) (λ e. writes (write e))
+    IfSome old (λ input. (sections : List SaidSection) → Sentence input sections → ¬ ReadRises → ¬ WriteRises → (status ≡ Ran) ⊎ (status ≡ NoMemory))
+if_complete status None new bytes ReadRises WriteRises r no_usage no_read refused write = tt
+if_complete status (Some input) None bytes ReadRises WriteRises r no_usage no_read refused write = absurd r.first
+if_complete status (Some input) (Some rest) bytes ReadRises WriteRises r no_usage no_read refused write =
+    λ sections s reads writes. only_these status no_usage no_read
+    (λ e. never_refused bytes sections (refused e).0 (runs_of_input input bytes rest r.first r.end sections s) (refused e).1) (λ e. writes (write e))
 
 -- what is said of the sections that were read is said of those of the source
 pub if_sections : (old new : Option (List ℕ)) (bytes : List ℕ) (Said : List SaidSection → Type 0) → ReadsThrough old new bytes → ((sections : List SaidSection) → Sentence bytes sections → Said sections) →

@@ -14,31 +14,27 @@ use Rattle.gl_script.specs.declared.refusal.Refusal.{Refusal}
 use Rattle.gl_script.specs.declared.refusal.RefusalKind.TheVariants.{Cost, TooLong}
 use Rattle.gl_script.specs.declared.section.SectionKind.{SectionKind}
 use Rattle.gl_script.specs.declared.section.SectionKind.TheVariants.{Setup, Actor, After}
+use Rattle.gl_session.specs.Figures.{statement_count}
 use Rattle.gl_session.specs.One.{is_kind, said_in_kind}
 use Rattle.gl_session.specs.OneActor.{IsSized, count_in_kind}
 
--- the statements of all sections
-abbrev total : List SaidSection → ℕ
-total [] = 0
-total (section ∷ sections) = length section.statements + total sections
-
-total_append : (xs ys : List SaidSection) → total (xs ++ ys) ≡ total xs + total ys
-total_append [] ys = omega arith
-total_append (x ∷ xs) ys = let e = total_append xs ys in omega arith
+count_append : (xs ys : List SaidSection) → statement_count (xs ++ ys) ≡ statement_count xs + statement_count ys
+count_append [] ys = omega arith
+count_append (x ∷ xs) ys = let e = count_append xs ys in omega arith
 
 -- those of the three kinds are all of them
 abbrev told_in : SaidSection → List SaidSection → SectionKind → SectionKind → List (List Span)
 told_in section sections kind k = if is_kind kind k then map (λ line. columns line.text) section.statements ++ said_in_kind kind sections else said_in_kind kind sections
 
-kinds_total : (sections : List SaidSection) → count_in_kind Setup sections + count_in_kind Actor sections + count_in_kind After sections ≡ total sections
+kinds_total : (sections : List SaidSection) → count_in_kind Setup sections + count_in_kind Actor sections + count_in_kind After sections ≡ statement_count sections
 kinds_total [] = refl
 kinds_total (section ∷ sections) = by section.kind (kinds_total sections)
   where
     more : (kind : SectionKind) → length (map (λ line. columns line.text) section.statements ++ said_in_kind kind sections) ≡ length section.statements + count_in_kind kind sections
     more kind = length-append (map (λ line. columns line.text) section.statements) (said_in_kind kind sections) ∙ ap (λ n. n + count_in_kind kind sections) (length-map section.statements (λ line. columns line.text))
 
-    by : (k : SectionKind) → count_in_kind Setup sections + count_in_kind Actor sections + count_in_kind After sections ≡ total sections
-        → length (told_in section sections Setup k) + length (told_in section sections Actor k) + length (told_in section sections After k) ≡ length section.statements + total sections
+    by : (k : SectionKind) → count_in_kind Setup sections + count_in_kind Actor sections + count_in_kind After sections ≡ statement_count sections
+        → length (told_in section sections Setup k) + length (told_in section sections Actor k) + length (told_in section sections After k) ≡ length section.statements + statement_count sections
     by Setup rest = let m = more Setup in omega arith
     by Actor rest = let m = more Actor in omega arith
     by After rest = let m = more After in omega arith
@@ -74,37 +70,37 @@ counted_has_text [] e = cc
 counted_has_text (byte ∷ text) e = omega arith
 
 -- a line adds one statement at most
-with_one : (line : Span) (current : Option SaidSection) → total (to_list (with_statement line current)) ≤ total (to_list current) + 1
+with_one : (line : Span) (current : Option SaidSection) → statement_count (to_list (with_statement line current)) ≤ statement_count (to_list current) + 1
 with_one line None = omega arith
 with_one line (Some section) = let e = length-append section.statements (line ∷ []) in omega arith
 
-head_adds : (kind : Option SectionKind) (before : Before) (line : Span) (words : List Span) → total (sections_in (behind_head kind before line words)) ≤ total (sections_in before) + 1
-head_adds (Some kind) before line words = let e = total_append (sections_in before) (to_list (behind_head (Some kind) before line words).current) in omega arith
+head_adds : (kind : Option SectionKind) (before : Before) (line : Span) (words : List Span) → statement_count (sections_in (behind_head kind before line words)) ≤ statement_count (sections_in before) + 1
+head_adds (Some kind) before line words = let e = count_append (sections_in before) (to_list (behind_head (Some kind) before line words).current) in omega arith
 head_adds None before line words =
-    let a = total_append before.complete (to_list (with_statement line before.current)) in
-    let b = total_append before.complete (to_list before.current) in
+    let a = count_append before.complete (to_list (with_statement line before.current)) in
+    let b = count_append before.complete (to_list before.current) in
     let c = with_one line before.current in omega arith
 
-counted_adds : (words : List Span) (before : Before) (line : Span) → total (sections_in (behind_counted before line words)) ≤ total (sections_in before) + 1
+counted_adds : (words : List Span) (before : Before) (line : Span) → statement_count (sections_in (behind_counted before line words)) ≤ statement_count (sections_in before) + 1
 counted_adds [] before line = omega arith
 counted_adds (first ∷ words) before line = by before.has_header
   where
-    by : (b : Bool) → total (sections_in (if b then behind_head (kind_of first.text) before line words else record { has_header = true; complete = before.complete; current = before.current })) ≤ total (sections_in before) + 1
+    by : (b : Bool) → statement_count (sections_in (if b then behind_head (kind_of first.text) before line words else record { has_header = true; complete = before.complete; current = before.current })) ≤ statement_count (sections_in before) + 1
     by true = head_adds (kind_of first.text) before line words
     by false = omega arith
 
-line_adds : (before : Before) (line : Span) → total (sections_in (behind before line)) ≤ total (sections_in before) + length line.text
+line_adds : (before : Before) (line : Span) → statement_count (sections_in (behind before line)) ≤ statement_count (sections_in before) + length line.text
 line_adds before line = by (is_counted (columns line.text)) refl
   where
-    by : (b : Bool) → is_counted (columns line.text) ≡ b → total (sections_in (if b then behind_counted before line (columns line.text) else before)) ≤ total (sections_in before) + length line.text
+    by : (b : Bool) → is_counted (columns line.text) ≡ b → statement_count (sections_in (if b then behind_counted before line (columns line.text) else before)) ≤ statement_count (sections_in before) + length line.text
     by true e = let c = counted_adds (columns line.text) before line in let t = counted_has_text line.text e in omega arith
     by false e = omega arith
 
-all_add : (lines : List Span) (before : Before) → total (sections_in (behind_all before lines)) ≤ total (sections_in before) + lines_length lines
+all_add : (lines : List Span) (before : Before) → statement_count (sections_in (behind_all before lines)) ≤ statement_count (sections_in before) + lines_length lines
 all_add [] before = omega arith
 all_add (line ∷ lines) before = let a = all_add lines (behind before line) in let b = line_adds before line in omega arith
 
-said_total : (bytes : List ℕ) → total (sections_said bytes) ≤ length bytes
+said_total : (bytes : List ℕ) → statement_count (sections_said bytes) ≤ length bytes
 said_total bytes =
     let a = all_add (lines_of bytes) nothing in let b = placed_length 0 (pieces 10 bytes) in let c = cut_length 10 bytes in omega arith
 
@@ -144,3 +140,8 @@ sentence_is_sized bytes sections s = subst (λ (l : List SaidSection). IsSized l
   few = let a = kinds_total (sections_said bytes) in let b = said_total bytes in let c = sentence_is_short bytes sections s in omega arith;
   cheap = cheap_said bytes sections s;
 })
+
+-- a sentence has no more statements than bytes
+pub statements_few : (bytes : List ℕ) (sections : List SaidSection) → Sentence bytes sections → statement_count sections ≤ 1048576
+statements_few bytes sections s = let a = said_total bytes in let b = sentence_is_short bytes sections s in
+    subst (λ (l : List SaidSection). statement_count l ≤ 1048576) (sym s.says) (omega arith)

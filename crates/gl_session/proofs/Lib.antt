@@ -8,6 +8,7 @@ pub mod Counting
 pub mod Ends
 pub mod FewActors
 pub mod FewStatements
+pub mod Figures
 pub mod Known
 pub mod ManyFollows
 pub mod OneCalls

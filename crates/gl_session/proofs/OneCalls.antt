@@ -1,5 +1,5 @@
 -- A call of the device by one actor alone: what its deeds tell is what One makes of the call in the world before it.
-use Rattle.std.proofs.Common.{◌≡◌, ℕ, ◌<◌, ◌≤◌, Bool, true, false, List, [], ◌∷◌, ◌++◌, Option, None, Some, refl, sym, ap, ◌∙◌, subst, arith}
+use Rattle.std.proofs.Common.{◌≡◌, ℕ, ◌<◌, ◌≤◌, Bool, true, false, List, [], ◌∷◌, ◌++◌, length, Option, None, Some, refl, sym, ap, ◌∙◌, subst, arith}
 use Rattle.std.specs.Prelude.{if◌then◌else◌, ◌&&◌, not}
 use Rattle.std.proofs.lemmas.Bool.{true≢false}
 use Rattle.gl_base.specs.declared.phase.Phase.{Phase}
@@ -21,9 +21,9 @@ use Rattle.gl_model.specs.Step.{guard_reply, step}
 use Rattle.gl_model.specs.World.{World}
 use Rattle.gl_chip.specs.Called.{last_bytes}
 use Rattle.gl_chip.specs.Values.{OneDeed, OneEntry, core}
-use Rattle.gl_session.specs.One.{at_guard, comes_to, inside, is_asked, is_gone, two}
+use Rattle.gl_session.specs.One.{at_guard, comes_to, count_inside, entry_count, inside, is_asked, is_closed, is_gone, one_or_two, two}
 use Rattle.gl_session.specs.Turns.{call_tells, tells_in}
-use Rattle.gl_session.proofs.OneHistories.{FirstDeed, IsSteady, Rest, first_deed, one_deed, removal_steady, still_steady, two_deeds}
+use Rattle.gl_session.proofs.OneHistories.{FirstDeed, IsSteady, Rest, first_deed, length_entries, one_deed, removal_steady, still_steady, two_deeds}
 
 -- a call that is whole by itself tells no answer of a driver, and begins no removal
 pub record IsPlain (call : Call) : Type 0 where
@@ -80,17 +80,38 @@ record Single (w : World) (call : Call) (did ds : List OneDeed) : Type 0 where
   pub came : Came did ds (step w 0 call)
   pub named : (p : ℕ) → guarded_place call ≡ Some p → rank (phase_at w p) < 3
   pub refused : (p : ℕ) → refused_place call ≡ Some p → 2 ≤ rank (phase_at w p)
+  pub count : length did ≡ 1
 
 -- two entries, or the first of them alone
 record Pair (w : World) (first second : Call) (did ds : List OneDeed) : Type 0 where
   pub came : Came did ds (two w first second)
   pub named : (p : ℕ) → guarded_place first ≡ Some p → rank (phase_at w p) < 3
   pub tells : tells_in (entries_in did) ≡ call_tells first ++ (if begins first (step w 0 first).reply then call_tells second ++ [] else [])
+  pub count : length did ≡ one_or_two w first
 
 -- a call of the device with this answer of the driver
 pub record Comes (w : World) (call : DeviceCall) (answer : Option ℕ) (did ds : List OneDeed) : Type 0 where
   pub tells : tells_in (entries_in did) ≡ (if is_asked w call then answer ∷ [] else [])
   pub came : (guess : Option ℕ) → (is_asked w call ≡ true → guess ≡ answer) → Came did ds (comes_to w call guess)
+  pub count : length did ≡ entry_count w call
+
+-- how many entries there are at a guard, at one that is open, and at one that is closed
+abbrev count_at : Option ℕ → World → ℕ → ℕ
+count_at guard w count = if is_closed guard w then 1 else count
+
+count_open : (w : World) (place n : ℕ) → rank (phase_at w place) < 3 → count_at (Some place) w n ≡ n
+count_open w place n low = ap (λ (b : Bool). if b then 1 else n) (open_if (phase_at w place) low)
+
+count_closed : (w : World) (place n : ℕ) → is_gone (phase_at w place) ≡ true → count_at (Some place) w n ≡ 1
+count_closed w place n gone = ap (λ (b : Bool). if b then 1 else n) gone
+
+count_by : (w : World) (c : CommandIn) (b : Bool) → is_driver_asked c.of_chip c.len (command_of c.cmd) ≡ b
+    → entry_count w (Commanding c) ≡ count_at (Some c.place) w (if b then one_or_two w (in_ask c) else 1)
+count_by w c b is = ap (λ (a : Bool). count_at (Some c.place) w (if a then one_or_two w (in_ask c) else 1)) is
+
+-- deeds with these entries are as many
+as_many : (did : List OneDeed) (entries : List OneEntry) → entries_in did ≡ entries → length did ≡ length entries
+as_many did entries is = sym (length_entries did) ∙ ap (λ (l : List OneEntry). length l) is
 
 -- the second call counts only where it is made
 two_as : (w : World) (first second other : Call) (b : Bool) → begins first (step w 0 first).reply ≡ b → (b ≡ true → second ≡ other) → two w first second ≡ two w first other
@@ -135,6 +156,7 @@ module _ (laws : Laws core) where
         };
         named = f.named;
         refused = f.refused;
+        count = as_many did _ is;
       }
 
   pair : (w : World) (first second : Call) (did ds : List OneDeed) → MakesTwo 0 first second [] (entries_in did) → Rest core w (did ++ ds)
@@ -157,6 +179,7 @@ module _ (laws : Laws core) where
             });
             named = f.named;
             tells = ap (λ (l : List OneEntry). tells_in l) es ∙ ap (λ (b : Bool). call_tells first ++ (if b then call_tells second ++ [] else [])) (sym unbegun);
+            count = as_many did _ es ∙ ap (λ (b : Bool). if b then 2 else 1) (sym unbegun);
           }
       by true e makes = let es = is ∙ ap (λ (l : List OneEntry). entry 0 first reply ∷ l) makes.1 in let o = two_deeds did (entry 0 first reply) (entry 0 second makes.0) es in
           let f : FirstDeed core w first o.0 (o.1 ∷ ds) = first_deed core laws w first reply o.0 (o.1 ∷ ds) o.3 (subst (λ (l : List OneDeed). Rest core w (l ++ ds)) o.2 rest) in
@@ -170,6 +193,7 @@ module _ (laws : Laws core) where
             });
             named = f.named;
             tells = ap (λ (l : List OneEntry). tells_in l) es ∙ ap (λ (b : Bool). call_tells first ++ (if b then call_tells second ++ [] else [])) (sym begun);
+            count = as_many did _ es ∙ ap (λ (b : Bool). if b then 2 else 1) (sym begun);
           }
 
   -- at the closed guard of a place
@@ -196,14 +220,17 @@ module _ (laws : Laws core) where
       by : (guard : Option ℕ) → guarded_place call ≡ guard → (closed : Bool) → MakesAt 0 guard closed (Once call) answer [] (entries_in did) → Comes w (Once call) answer did ds
       by None named closed makes = record {
         tells = silent makes.0;
+        count = as_many did _ makes.0.1 ∙ ap (λ (g : Option ℕ). count_at g w 1) (sym named);
         came = λ guess right. subst (λ (g : Option ℕ). Came did ds (at_guard g (is_poll (Once call)) w (step w 0 call))) (sym named) (single w call did ds makes.0 rest steady plain.begins_none).came;
       }
       by (Some place) named false makes = let s = single w call did ds makes.0 rest steady plain.begins_none in record {
         tells = silent makes.0;
+        count = s.count ∙ sym (count_open w place 1 (s.named place named)) ∙ ap (λ (g : Option ℕ). count_at g w 1) (sym named);
         came = λ guess right. subst (λ (g : Option ℕ). Came did ds (at_guard g (is_poll (Once call)) w (step w 0 call))) (sym named) (at_open w place (is_poll (Once call)) did ds (step w 0 call) (s.named place named) s.came);
       }
       by (Some place) named true makes = record {
         tells = ap (λ (l : List OneEntry). tells_in l) makes.0;
+        count = as_many did _ makes.0 ∙ sym (count_closed w place 1 (at_closed w place (is_poll (Once call)) did ds (step w 0 call) makes.0 rest steady).0) ∙ ap (λ (g : Option ℕ). count_at g w 1) (sym named);
         came = λ guess right. subst (λ (g : Option ℕ). Came did ds (at_guard g (is_poll (Once call)) w (step w 0 call))) (sym named) (at_closed w place (is_poll (Once call)) did ds (step w 0 call) makes.0 rest steady).1;
       }
 
@@ -214,6 +241,7 @@ module _ (laws : Laws core) where
       (λ fits unbegun. still_steady core laws w first rest.sound fits steady (unbegun_none removal (step w 0 first).reply (step w 0 first).bytes unbegun))
       (λ fits fits_last. removal_steady core laws w first last rest.sound fits fits_last steady refl (last_none removal (step (step w 0 first).world 0 last).reply (step (step w 0 first).world 0 last).bytes)) in record {
         tells = p.tells ∙ removal_tells removal (begins first (step w 0 first).reply);
+        count = p.count;
         came = λ guess right. p.came;
       }
 
@@ -222,6 +250,7 @@ module _ (laws : Laws core) where
       → Rest core w (did ++ ds) → IsSteady core w → Comes w (Commanding c) answer did ds
   command w c answer did ds false is makes rest steady = let s = single w (in_whole c) did ds makes.0 rest steady (λ reply bytes. refl) in record {
     tells = ap (λ (l : List OneEntry). tells_in l) makes.0.1 ∙ sym (ap (λ (a : Bool). if a && (not (is_gone (phase_at w c.place)) && begins (in_ask c) (step w 0 (in_ask c)).reply) then answer ∷ [] else []) is);
+    count = s.count ∙ sym (count_open w c.place 1 (s.named c.place refl)) ∙ sym (count_by w c false is);
     came = λ guess right. at_open w c.place false did ds (inside w (Commanding c) guess) (s.named c.place refl)
         (subst (λ (a : Bool). Came did ds (if a then two w (in_ask c) (in_tell guess c) else step w 0 (in_whole c))) (sym is) s.came);
   }
@@ -232,6 +261,7 @@ module _ (laws : Laws core) where
       let low = p.named c.place refl in let go : Bool = begins (in_ask c) (step w 0 (in_ask c)).reply in
       let asked : is_asked w (Commanding c) ≡ go = ap (λ (a : Bool). a && (not (is_gone (phase_at w c.place)) && go)) is ∙ ap (λ (g : Bool). not g && go) (open_if (phase_at w c.place) low) in record {
         tells = p.tells ∙ sym (ap (λ (b : Bool). if b then answer ∷ [] else []) asked);
+        count = p.count ∙ sym (count_open w c.place (one_or_two w (in_ask c)) low) ∙ sym (count_by w c true is);
         came = λ guess right. at_open w c.place false did ds (inside w (Commanding c) guess) low
             (subst (λ (a : Bool). Came did ds (if a then two w (in_ask c) (in_tell guess c) else step w 0 (in_whole c))) (sym is)
             (subst (λ (out : Outcome). Came did ds out) (two_as w (in_ask c) (in_tell answer c) (in_tell guess c) go refl (λ goes. ap (λ a. in_tell a c) (sym (right (asked ∙ goes))))) p.came));
@@ -245,6 +275,7 @@ module _ (laws : Laws core) where
       let gone = (at_closed w c.place false did ds (step w 0 (in_whole c)) makes.0 rest steady).0 in
       let asked : is_asked w (Commanding c) ≡ false = ap (λ (g : Bool). asks && (not g && go)) gone ∙ never_and asks in record {
         tells = ap (λ (l : List OneEntry). tells_in l) makes.0 ∙ sym (ap (λ (b : Bool). if b then answer ∷ [] else []) asked);
+        count = as_many did _ makes.0 ∙ sym (count_closed w c.place (count_inside w (Commanding c)) gone);
         came = λ guess right. (at_closed w c.place false did ds (inside w (Commanding c) guess) makes.0 rest steady).1;
       }
 

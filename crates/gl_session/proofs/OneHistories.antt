@@ -1,6 +1,6 @@
 -- One actor alone: its deeds are taken off the history one after another, and between its calls no place is Leaving. Over every
 -- machine.
-use Rattle.std.proofs.Common.{◌≡◌, ℕ, ◌<◌, ◌≤◌, List, [], ◌∷◌, length, sym, refl, ap, ◌∙◌, subst, arith, Some}
+use Rattle.std.proofs.Common.{◌≡◌, ℕ, suc, ◌<◌, ◌≤◌, List, [], ◌∷◌, length, sym, refl, ap, ◌∙◌, subst, arith, Some}
 use Rattle.std.specs.Prelude.{Contains}
 use mathlib.Core.Logic.{dite}
 use native.Mathlib.Decide.{dec_lt}
@@ -29,6 +29,11 @@ module _ {M C R G : Type 0} where
   abbrev other_entries : List (Entry M C R G) → List (Entry M C R G)
   other_entries [] = []
   other_entries (x ∷ xs) = xs
+
+  -- deeds have as many entries
+  pub length_entries : (did : List (Deed M C R G)) → length (entries_in did) ≡ length did
+  length_entries [] = refl
+  length_entries (d ∷ did) = ap suc (length_entries did)
 
   -- deeds of one entry, and of two
   pub one_deed : (did : List (Deed M C R G)) (e : Entry M C R G) → entries_in did ≡ e ∷ [] → (x : Deed M C R G) × (did ≡ x ∷ []) × (x.entry ≡ e)

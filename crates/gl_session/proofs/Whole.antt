@@ -18,14 +18,15 @@ use Rattle.gl_chip.specs.Values.{IsQuietDriver, MayOwn, OneDeed, OneEntry, OneVi
 use Rattle.gl_session.specs.Alone.{Part, PlayedSession, actor_of, after_of, setup_of}
 use Rattle.gl_session.specs.Asking.{Asking, Calls, Plans, Refuses, asking}
 use Rattle.gl_session.specs.Files.{OpenFile}
-use Rattle.gl_session.specs.OneActor.{CameToOne, HasPlayed, StoppedBelow}
+use Rattle.gl_session.specs.OneActor.{CameWithEntries, HasPlayed, StoppedBelow}
 use Rattle.gl_session.specs.Performed.{IsCall, PlaysOn, StoppedFull, carried}
 use Rattle.gl_session.specs.Turns.{Carried, did_by, said_by, tells_in}
 use Rattle.gl_session.specs.Within.{Stop}
 use Rattle.gl_session.proofs.Alone.{first_actor_is_alone, first_actor_sees_itself}
 use Rattle.gl_session.proofs.AloneRuns.{answers_as_planned, port_tells, prints_one}
 use Rattle.gl_session.proofs.Plays.{number_same}
-use Rattle.gl_session.proofs.Within.{calls_have_room, length_entries}
+use Rattle.gl_session.proofs.OneHistories.{length_entries}
+use Rattle.gl_session.proofs.Within.{calls_have_room}
 
 -- a driver that makes no entries owns none that could be about a removal
 pub quiet_driver : {P : Type 0} (Own : P → ℕ → Op → List OneEntry → Type 0) → ((port : P) (place : ℕ) (op : Op) (own : List OneEntry) → Own port place op own → own ≡ []) → IsQuietDriver Own
@@ -124,15 +125,18 @@ never_full limit v w new strangers s =
     let count : length w.seen ≡ length s.did = ap (λ (l : List OneEntry). length l) seen ∙ length_entries (s.did ++ []) ∙ ap (λ (l : List OneDeed). length l) (append-nil s.did) in
     let full = s.full.full in let few = s.few in omega arith
 
-pub came_to_one : (is_planned : Bool) (sections : List SaidSection) (before left : Option Told) (text : List ℕ) (room : ℕ) (v w : OneView) (history : List OneEntry) → v ≡ newcomer 0 room [] 1 [] []
+pub came_with_entries : (is_planned : Bool) (sections : List SaidSection) (before left : Option Told) (text : List ℕ) (room : ℕ) (v w : OneView) (history : List OneEntry) → v ≡ newcomer 0 room [] 1 [] []
     → HasPlayed is_planned sections before text left v w → Legal core history → StartsWith history w.seen → entries_of 0 history ≡ w.mine → ((n : ℕ) → w.made ≤ n → entries_of n history ≡ [])
-    → CameToOne is_planned sections before text left
-came_to_one is_planned sections before left text room v w history new (did, played, grew) legal begins mine others =
+    → CameWithEntries is_planned sections before text left (length history)
+came_with_entries is_planned sections before left text room v w history new (did, played, grew) legal begins mine others =
     let alone = first_actor_is_alone room v w did history new grew legal begins mine others in
     let prints = prints_one is_planned sections before left text did history played alone in record {
-      answers = tells_in history;
-      prints = prints.0;
-      takes = prints.1;
-      as_planned = λ yes fresh. answers_as_planned sections left text did history (subst (λ (x : Bool × Option Told). PlayedSession x.0 sections x.1 text did left) (λ i. (yes i, fresh i)) played) alone;
-      tells = λ t is. port_tells is_planned sections t left text did history (subst (λ (o : Option Told). PlayedSession is_planned sections o text did left) is played) alone;
+      came = record {
+        answers = tells_in history;
+        prints = prints.0;
+        takes = prints.1;
+        as_planned = λ yes fresh. answers_as_planned sections left text did history (subst (λ (x : Bool × Option Told). PlayedSession x.0 sections x.1 text did left) (λ i. (yes i, fresh i)) played) alone;
+        tells = λ t is. port_tells is_planned sections t left text did history (subst (λ (o : Option Told). PlayedSession is_planned sections o text did left) is played) alone;
+      };
+      makes = sym prints.2;
     }

@@ -1,5 +1,5 @@
 -- What is carried out on the device makes no more entries than it costs.
-use Rattle.std.proofs.Common.{◌≡◌, ℕ, suc, ◌+◌, ◌-◌, ◌<◌, ◌≤◌, Bool, true, false, List, [], ◌∷◌, ◌++◌, length, length-append, map, Option, None, Some, Result, Ok, Err, refl, sym, ap, ◌∙◌, subst, arith, true-eqb}
+use Rattle.std.proofs.Common.{◌≡◌, ℕ, ◌+◌, ◌-◌, ◌<◌, ◌≤◌, Bool, true, false, List, [], ◌∷◌, ◌++◌, length, length-append, map, Option, None, Some, Result, Ok, Err, refl, sym, ap, ◌∙◌, subst, arith, true-eqb}
 use Rattle.std.specs.Prelude.{cond, find, if◌then◌else◌, ◌==◌, nat_eq, nat_lt, sum_by}
 use Rattle.std.proofs.lemmas.Bool.{true≢false}
 use Rattle.std.proofs.lemmas.List.Sums.{sum_by-append, sum_by-cons}
@@ -45,10 +45,7 @@ use Rattle.gl_session.specs.Files.{OpenFile, chip_file, file_in, is_in, line_fil
 use Rattle.gl_session.specs.One.{is_kind, said_in_kind}
 use Rattle.gl_session.specs.Turns.{Carried, Did, Exchange, Follows, IsDone, Said, Turn, did_by}
 use Rattle.gl_session.specs.Within.{CallsComeBelowCost, CallsHaveRoom, EntriesWithinCost, SessionsCostTheirParts, SessionsKeepWithinCost, Stop, cost_in_kind}
-
-pub length_entries : (did : List OneDeed) → length (entries_in did) ≡ length did
-length_entries [] = refl
-length_entries (d ∷ did) = ap suc (length_entries did)
+use Rattle.gl_session.proofs.OneHistories.{length_entries}
 
 -- The entries of a call of the device
 

@@ -15,7 +15,7 @@ use Rattle.gl_script.specs.declared.section.SectionKind.TheVariants.{Setup, Acto
 use Rattle.gl_talk.specs.Open.{Names, no_names}
 use Rattle.gl_talk.specs.Talk.{quits, says, talks}
 use Rattle.gl_chip.specs.Values.{OneDeed, OneEntry, OneView, core}
-use Rattle.gl_session.specs.One.{one, planned, said_in_kind, taken}
+use Rattle.gl_session.specs.One.{entries_made, one, planned, said_in_kind, taken}
 use Rattle.gl_session.specs.Files.{OpenFile}
 use Rattle.gl_session.specs.Turns.{Carried, Played, tells_in}
 
@@ -65,11 +65,11 @@ FirstActorIsAlone = (room : ℕ) (v w : OneView) (did : List OneDeed) (history :
 abbrev pub FirstActorSeesItself : Type 0
 FirstActorSeesItself = (room : ℕ) (v w : OneView) (did : List OneDeed) → v ≡ newcomer 0 room [] 1 [] [] → Grew core v did w → NoStrangers w w.seen → w.seen ≡ entries_in did
 
--- What was printed is One of the answers that the driver's tells have in order, and One takes just these.
+-- What was printed is One of the answers that the driver's tells have in order, One takes just these, and makes as many entries.
 abbrev pub PrintsOne : Type 0
 PrintsOne = (is_planned : Bool) (sections : List SaidSection) (before left : Option Told) (text : List ℕ) (did : List OneDeed) (history : List OneEntry)
     → PlayedSession is_planned sections before text did left → IsAlone history did
-    → (text ≡ one sections (tells_in history)) × (taken sections (tells_in history) ≡ tells_in history)
+    → (text ≡ one sections (tells_in history)) × (taken sections (tells_in history) ≡ tells_in history) × (entries_made sections (tells_in history) ≡ length history)
 
 -- A planned driver over a new port answers as Planned says.
 abbrev pub AnswersAsPlanned : Type 0

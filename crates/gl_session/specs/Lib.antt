@@ -1,6 +1,7 @@
 pub mod Alone
 pub mod Answers
 pub mod Asking
+pub mod Figures
 pub mod Files
 pub mod Lines
 pub mod Making

@@ -1,7 +1,7 @@
 -- One: what a session with fewer than two actors does, as a function of what it says and of the driver's answers. All of it is
 -- actor 0's, one call of the device after another, each answered by the machine's step in the world of those before it. This
 -- project's choice.
-use Rattle.std.specs.Prelude.{ℕ, Bool, true, false, ◌&&◌, not, if◌then◌else◌, List, [], ◌∷◌, ◌++◌, length, map, Option, Some, None}
+use Rattle.std.specs.Prelude.{ℕ, ◌+◌, Bool, true, false, ◌&&◌, not, if◌then◌else◌, List, [], ◌∷◌, ◌++◌, length, map, Option, Some, None}
 use Rattle.gl_base.specs.Count.{counted_up}
 use Rattle.gl_base.specs.Planned.{planned_answer, planned_call}
 use Rattle.gl_base.specs.Words.{Span}
@@ -36,9 +36,13 @@ is_gone Up = false
 is_gone Leaving = false
 is_gone Gone = true
 
+-- the first entry of a call of the device begins the second
+abbrev pub goes_on : World → Call → Bool
+goes_on w first = begins first (step w 0 first).reply
+
 -- the two entries of a call of the device, the second where the first begins it
 abbrev pub two : World → Call → Call → Outcome
-two w first second = let out = step w 0 first in if begins first out.reply then step out.world 0 second else out
+two w first second = if goes_on w first then step (step w 0 first).world 0 second else step w 0 first
 
 -- what a call of the device comes to behind its guard, with this answer of the driver where it is asked
 abbrev pub inside : World → DeviceCall → Option ℕ → Outcome
@@ -61,12 +65,24 @@ abbrev pub is_closed : Option ℕ → World → Bool
 is_closed None w = false
 is_closed (Some place) w = is_gone (phase_at w place)
 
+-- how many entries a call of the device makes: one at a closed guard, and behind an open one one, or two where the first begins the second
+abbrev pub one_or_two : World → Call → ℕ
+one_or_two w first = if goes_on w first then 2 else 1
+
+abbrev pub count_inside : World → DeviceCall → ℕ
+count_inside w (Once call) = 1
+count_inside w (Removing removal) = one_or_two w (first_call removal)
+count_inside w (Commanding c) = if is_driver_asked c.of_chip c.len (command_of c.cmd) then one_or_two w (in_ask c) else 1
+
+abbrev pub entry_count : World → DeviceCall → ℕ
+entry_count w call = if is_closed (guard_of call) w then 1 else count_inside w call
+
 -- a call of the device asks the driver: a command of the handle's kind that is long enough, and that the machine answers with Go
 abbrev pub is_asked : World → DeviceCall → Bool
 is_asked w (Once call) = false
 is_asked w (Removing removal) = false
 is_asked w (Commanding c) = is_driver_asked c.of_chip c.len (command_of c.cmd)
-    && (not (is_gone (phase_at w c.place)) && begins (in_ask c) (step w 0 (in_ask c)).reply)
+    && (not (is_gone (phase_at w c.place)) && goes_on w (in_ask c))
 
 -- Where a driver's answers come from: what it answers next, what is left behind an answer, and behind a plan of its port.
 pub record Answers (X : Type 0) : Type 0 where
@@ -98,12 +114,18 @@ from_plan = record {
   planned = λ nth port. record { calls = port.calls; plan = planned_call port.calls nth };
 }
 
--- how a session stands: the world, the open files of the talk, where the next answers come from, and those that were taken
+-- how a session stands: the world, the open files of the talk, where the next answers come from, those that were taken, and how many
+-- entries were made
 pub record Standing (X : Type 0) : Type 0 where
   pub world : World
   pub files : List OpenFile
   pub source : X
   pub took : List (Option ℕ)
+  pub entries : ℕ
+
+-- so many entries more
+abbrev pub with_entries : {X : Type 0} → ℕ → Standing X → Standing X
+with_entries count s = record s { entries = s.entries + count }
 
 -- a program that was run: its text, the value that it gives, and how the session stands then
 pub record Ran (X A : Type 0) : Type 0 where
@@ -129,7 +151,8 @@ module _ {X : Type 0} (answers : Answers X) where
 
   -- an operation, and how the session stands behind it
   abbrev pub performs_as : Asking → Do → Standing X → Got × Standing X
-  performs_as (Calls call) what s = came_to what (comes_to s.world call (answers.next s.source)) (with_answer (is_asked s.world call) s)
+  performs_as (Calls call) what s =
+      came_to what (comes_to s.world call (answers.next s.source)) (with_entries (entry_count s.world call) (with_answer (is_asked s.world call) s))
   performs_as (Plans nth) what s = answered what DoneReply [] (record s { source = answers.planned nth s.source })
   performs_as (Refuses errno) what s = answered what (RefusedReply errno) [] s
 
@@ -158,7 +181,7 @@ module _ {X : Type 0} (answers : Answers X) where
   -- `setup`, then the actor, then `after`. The first and the last are one talk, which waits in between with its files and names;
   -- the actor's section is a talk of its own.
   abbrev pub run_setup : List SaidSection → X → Ran X Names
-  run_setup sections source = run answers (says 0 (said_in_kind Setup sections) done no_names) (record { world = opening; files = []; source = source; took = [] })
+  run_setup sections source = run answers (says 0 (said_in_kind Setup sections) done no_names) (record { world = opening; files = []; source = source; took = []; entries = 0 })
 
   abbrev pub run_actor : List SaidSection → Standing X → Ran X Names
   run_actor sections s = run answers (talks 0 (said_in_kind Actor sections) no_names) (record s { files = [] })
@@ -181,6 +204,10 @@ one sections answers = (run_session from_list sections answers).text
 -- the answers that a session takes; these are just the ones given where there are neither too many nor too few
 abbrev pub taken : List SaidSection → List (Option ℕ) → List (Option ℕ)
 taken sections answers = (run_session from_list sections answers).behind.took
+
+-- how many entries a session makes over answers of its driver
+abbrev pub entries_made : List SaidSection → List (Option ℕ) → ℕ
+entries_made sections answers = (run_session from_list sections answers).behind.entries
 
 -- Planned: the answers that a planned driver gives to a session through a new port
 abbrev pub planned : List SaidSection → List (Option ℕ)

@@ -12,7 +12,7 @@ use Rattle.gl_script.specs.declared.section.SectionKind.TheVariants.{Setup, Acto
 use Rattle.gl_chip.specs.Steps.{FoundNoRoom}
 use Rattle.gl_chip.specs.Values.{OneDeed, OneView, core}
 use Rattle.gl_session.specs.Alone.{PlayedSession, TellsAfter}
-use Rattle.gl_session.specs.One.{is_kind, one, planned, said_in_kind, taken}
+use Rattle.gl_session.specs.One.{entries_made, is_kind, one, planned, said_in_kind, taken}
 
 -- What the session came to, over a port that told this before and tells that now: its text is One of just the answers that One
 -- takes. A planned driver over a new port gave those of Planned. Where the port told, it tells as many driver calls more as there
@@ -23,6 +23,11 @@ pub record CameToOne (is_planned : Bool) (sections : List SaidSection) (before :
   pub takes : taken sections answers ≡ answers
   pub as_planned : is_planned ≡ true → before ≡ Some new_port → answers ≡ planned sections
   pub tells : (t : Told) → before ≡ Some t → TellsAfter t answers left
+
+-- The same, and as many entries were made as One makes over these answers.
+pub record CameWithEntries (is_planned : Bool) (sections : List SaidSection) (before : Option Told) (text : List ℕ) (left : Option Told) (entries : ℕ) : Type 0 where
+  pub came : CameToOne is_planned sections before text left
+  pub makes : entries ≡ entries_made sections came.answers
 
 -- how many statements the sections of a kind have
 abbrev pub count_in_kind : SectionKind → List SaidSection → ℕ

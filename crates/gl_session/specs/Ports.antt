@@ -1,5 +1,5 @@
 -- The ports of a run. This project's choice.
-use Rattle.std.specs.Prelude.{◌≡◌, ◌<◌, ℕ, nat_lt, if◌then◌else◌, is_some, List, [], ◌∷◌, length, slice_get, Option, None, Some}
+use Rattle.std.specs.Prelude.{◌≡◌, ◌<◌, ℕ, nat_lt, if◌then◌else◌, is_some, List, length, slice_get, Option, None, Some}
 use Rattle.std.specs.List.{AllPass}
 use Rattle.gl_driver.specs.Told.{Told}
 use Rattle.gl_script.specs.Section.{SaidSection}
@@ -14,11 +14,6 @@ pub record AreAllThere {P : Type 0} (ports : List (Option P)) : Type 0 where
 abbrev pub told_by : {P : Type 0} → (P → Option Told) → Option P → Option Told
 told_by told None = None
 told_by told (Some port) = told port
-
--- what the first port tells
-abbrev pub first_told : {P : Type 0} → (P → Option Told) → List (Option P) → Option Told
-first_told told [] = None
-first_told told (port ∷ ports) = told_by told port
 
 -- how many actors a session has besides the first one, which alone carries out the sections of fewer than two
 abbrev pub further_actors : List SaidSection → ℕ

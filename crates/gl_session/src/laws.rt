@@ -15,7 +15,8 @@ pub fn first_actor_is_alone()
     ensures seen { FirstActorSeesItself }
 {}
 
-/// What one actor alone prints is One of the answers that the driver's tells have in order, and One takes just these.
+/// What one actor alone prints is One of the answers that the driver's tells have in order; One takes just these, and makes as many
+/// entries as the history has.
 pub fn prints_one()
     ensures { PrintsOne }
 {}

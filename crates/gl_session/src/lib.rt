@@ -5,6 +5,7 @@ mod answers;
 pub mod files;
 pub mod fork;
 pub mod laws;
+mod load;
 mod on_board;
 mod on_commands;
 mod on_files;

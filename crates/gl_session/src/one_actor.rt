@@ -13,7 +13,7 @@ ghost use Rattle.gl_talk.specs.Talk.{names_in, quits, says};
 ghost use Rattle.gl_session.specs.Alone.{actor_of};
 ghost use Rattle.gl_session.specs.Files.{OpenFile};
 ghost use Rattle.gl_session.specs.One.{is_kind, said_in_kind};
-ghost use Rattle.gl_session.specs.OneActor.{CameToOne, HasPlayed, IsSized, StoppedBelow, count_in_kind, said_at};
+ghost use Rattle.gl_session.specs.OneActor.{CameWithEntries, HasPlayed, IsSized, StoppedBelow, count_in_kind, said_at};
 ghost use Rattle.gl_session.specs.Performed.{PlaysOn, StoppedFull, carried};
 ghost use Rattle.gl_session.specs.Rows.{files_of};
 
@@ -269,7 +269,8 @@ fn play_session<R: Wait, D: Driver<Core>>(
     }
 }
 
-/// Runs a session by one actor, on a new device with this driver. Gives its text, and the port through which the driver was asked.
+/// Runs a session by one actor, on a new device with this driver. Gives its text, how many entries its history has, and the port through
+/// which the driver was asked.
 ///
 /// The history takes just as many entries as the session costs, and is never full before a call. `NoMemory` alone is refused.
 pub fn run_one<R: Wait, D: Driver<Core>>(
@@ -278,17 +279,17 @@ pub fn run_one<R: Wait, D: Driver<Core>>(
     driver: D,
     port: D::Port,
     script: &Script<'_>,
-) -> Result<(Vec<u8>, D::Port), Errno>
+) -> Result<(Vec<u8>, u64, D::Port), Errno>
     requires none { D.ENTRIES ≡ 0 }
     requires sized { IsSized (sections_of script.now) }
-    ensures came { IfOk result (λ ran. CameToOne D.is_planned (sections_of script.now) (D.Port.told port) ran.0.items (D.Port.told ran.1)) }
+    ensures came { IfOk result (λ ran. CameWithEntries D.is_planned (sections_of script.now) (D.Port.told port) ran.0.items (D.Port.told ran.2) ran.1) }
     ensures memory_alone { IsOkUnless result Errno.NoMemory }
 {
     match Gpio::new(alloc, driver, port, script.cost() as u32) {
         Ok((device, mut actor)) => match play_session(rt, alloc, &device, &mut actor, script) {
             Ok(text) => {
-                let (_machine, _history, port) = device.finish(actor);
-                Ok((text, port))
+                let (_machine, history, port) = device.finish(actor);
+                Ok((text, history.len() as u64, port))
             }
             Err(errno) => Err(errno),
         },

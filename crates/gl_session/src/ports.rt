@@ -2,11 +2,12 @@
 ghost use Rattle.std.specs.Prelude.{◌≡◌, ◌≤◌, drop, length, IfOk, OnOk, IsOkUnless};
 ghost use Rattle.gl_script.specs.Script.{sections_of};
 ghost use Rattle.gl_session.specs.Many.{actor_sections};
-ghost use Rattle.gl_session.specs.OneActor.{CameToOne, IsSized};
-ghost use Rattle.gl_session.specs.Ports.{AreAllThere, OthersStay, first_told};
+ghost use Rattle.gl_session.specs.OneActor.{CameWithEntries, IsSized};
+ghost use Rattle.gl_session.specs.Ports.{AreAllThere, OthersStay};
 ghost use Rattle.gl_session.specs.Run.{CameTo};
 ghost use Rattle.gl_session.specs.Workers.{told_at};
 
+use crate::fork::{give_port, take_port};
 use crate::one_actor::run_one;
 use crate::output::output_of;
 use crate::several::run_several;
@@ -19,29 +20,29 @@ use std::alloc::Global;
 use std::sync::Wait;
 use std::thread::Threads;
 
-/// Runs a session by one actor through the first port, which is put back behind it. Gives the text.
+/// Runs a session by one actor through the first port, which is put back behind it. Gives the text, and how many entries were made.
 ///
 /// `NoMemory` alone is refused, and then the first port may be missing.
-fn run_alone<R: Wait, D: Driver<Core>>(
+pub fn run_alone<R: Wait, D: Driver<Core>>(
     rt: &R,
     alloc: Global,
     script: &Script<'_>,
     driver: D,
     ports: &mut [Option<D::Port>],
-) -> Result<Vec<u8>, Errno>
+) -> Result<(Vec<u8>, u64), Errno>
     requires none { D.ENTRIES ≡ 0 }
     requires sized { IsSized (sections_of script.now) }
     requires ports { AreAllThere ports.old }
-    ensures came { IfOk result (λ text. CameToOne D.is_planned (sections_of script.now) (first_told D.Port.told ports.old) text.items (first_told D.Port.told ports.new)) }
+    ensures came { IfOk result (λ ran. CameWithEntries D.is_planned (sections_of script.now) (told_at D.Port.told ports.old 0) ran.0.items (told_at D.Port.told ports.new 0) ran.1) }
     ensures there { IfOk result (λ _. AreAllThere ports.new) }
     ensures others { drop 1 ports.new ≡ drop 1 ports.old }
     ensures memory_alone { IsOkUnless result Errno.NoMemory }
 {
-    match ports[0].take() {
+    match take_port::<D>(ports, 0) {
         Some(port) => match run_one(rt, alloc, driver, port, script) {
-            Ok((text, port)) => {
-                ports[0] = Some(port);
-                Ok(text)
+            Ok((text, entries, port)) => {
+                give_port::<D>(ports, 0, port);
+                Ok((text, entries))
             }
             Err(errno) => Err(errno),
         },
@@ -71,7 +72,10 @@ pub fn carry_script<R: Threads + Wait + Sync, D: Driver<Core>>(
 {
     let count = count_actors(script);
     if count < 2 {
-        return run_alone(rt, alloc, script, driver, ports);
+        return match run_alone(rt, alloc, script, driver, ports) {
+            Ok((text, _entries)) => Ok(text),
+            Err(errno) => Err(errno),
+        };
     }
     match run_several(rt, alloc, driver, ports, script, count as usize) {
         Ok((printed, history)) => output_of(

@@ -1,15 +1,18 @@
 //! The top call: from the bytes read to the bytes written and the status.
-ghost use Rattle.std.specs.Prelude.{◌≡◌, ◌≢◌, ◌<◌, ◌≤◌, ◌⊎◌, ◌++◌, ℕ, List, [], None, Some, length, IfSome, OnOk, IsOkUnless};
+ghost use Rattle.std.specs.Prelude.{◌≡◌, ◌≢◌, ◌<◌, ◌≤◌, ◌⊎◌, ◌++◌, ℕ, List, [], None, Some, drop, length, IfSome, OnOk, IsOkUnless};
 ghost use Rattle.std.specs.Io.KnownBytes.{Appends, IsAtEnd};
 ghost use Rattle.gl_base.specs.Count.{Rises};
 ghost use Rattle.gl_script.specs.declared.refusal.Refusal.{Refusal};
 ghost use Rattle.gl_script.specs.Section.{SaidSection};
 ghost use Rattle.gl_script.specs.Sentence.{Sentence, first_fault};
+ghost use Rattle.gl_words.specs.Words.{asks, texts};
+ghost use Rattle.gl_session.specs.Figures.{CameToLoad, HasWrittenLoad};
 ghost use Rattle.gl_session.specs.Ports.{AreAllThere, OthersStay};
 ghost use Rattle.gl_session.specs.Workers.{told_at};
 ghost use Rattle.gl_session.specs.Streams.{ReadsThrough, LosesFront, AppendsFront};
 ghost use Rattle.gl_session.specs.Run.{HasWritten, usage_line, refused_line, IsOutput, IsRefusal};
 
+use crate::load::carry_load;
 use crate::ports::carry_script;
 use crate::status::Status;
 use crate::streams::{ReadError, read_through, write_all};
@@ -17,18 +20,25 @@ use crate::text::put_refusal;
 use gl_core::Core;
 use gl_driver::Driver;
 use gl_io::{Sink, Source};
-use gl_script::{Feed, Refusal, RefusalKind};
+use gl_script::{Feed, Refusal, RefusalKind, TURNS_MAX};
+use gl_words::{Task, WordsFault, loads_are_within, read_words};
 use std::alloc::Global;
 use std::sync::Wait;
 use std::thread::Threads;
 
-/// Reads a session from the source, runs it, and writes its text to the sink.
+/// Carries out what the words ask for, and writes what comes of it to the sink.
 ///
-/// There are no words that it takes. It reads to the end of input, or one byte more than a session may
-/// have, carries the session out on a new device with this driver, and writes at the end: the output of the session, the line
-/// `refused LINE COLUMN KIND` for bytes that are none, or the line `usage` for words. The first cause decides, in the order of
-/// [`Status`]. Two or more actors carry their sections out each in a thread of its own, where one can be made. There are 17 ports: that of
-/// the number of an actor is the one through which it asks the driver.
+/// Without words a session is read from the source, to the end of input or one byte more than a session may have, carried out on a new
+/// device with this driver, and its output is written at the end; for bytes that are none it is the line `refused LINE COLUMN KIND`. Two or
+/// more actors carry their sections out each in a thread of its own, where one can be made.
+///
+/// The words `--generate N` ask for the load of N turns. Nothing is read: it is carried out by one actor, and four lines tell how many
+/// statements it has, how many entries it makes, how many bytes it prints, and their sum modulo 2^32. All other words write the line
+/// `usage`.
+///
+/// The first cause decides: words that ask for nothing, a fault of reading, bytes that are no session, want of memory, a fault of
+/// writing. There are 17 ports: that of the number of an actor is the one through which it
+/// asks the driver.
 pub fn run<R: Threads + Wait + Sync, S: Source, K: Sink, D: Driver<Core>>(
     rt: &R,
     alloc: Global,
@@ -45,20 +55,26 @@ pub fn run<R: Threads + Wait + Sync, S: Source, K: Sink, D: Driver<Core>>(
     // its driver gave; a planned driver over a new port gave those of Planned, and a port that tells has told them. With two or more it is
     // Output of texts and a history with Many; over new ports of a planned driver its tells are as planned, and each port that tells has
     // told those of its actor.
-    ensures output { result ≡ Status.Ran → IfSome (S.left source.old) (λ input. (sections : List SaidSection) → Sentence input sections →
+    ensures output { result ≡ Status.Ran → words.now ≡ [] → IfSome (S.left source.old) (λ input. (sections : List SaidSection) → Sentence input sections →
         IsAtEnd (S.left source.new)
         × HasWritten D.is_planned sections (told_at D.Port.told ports.old) (told_at D.Port.told ports.new) (K.held sink.old) (K.held sink.new)) }
-    ensures ran_without_words { result ≡ Status.Ran → words.now ≡ [] }
-    ensures ran_only_session { result ≡ Status.Ran → IfSome (S.left source.old) (λ input. (sections : List SaidSection) × Sentence input sections) }
+    ensures ran_only_session { result ≡ Status.Ran → words.now ≡ [] → IfSome (S.left source.old) (λ input. (sections : List SaidSection) × Sentence input sections) }
 
-    // Words are answered first, and nothing is read.
-    ensures usage { words.now ≢ [] → (result ≡ Status.Usage) ⊎ (result ≡ Status.WriteFault) }
-    ensures usage_reads_nothing { words.now ≢ [] → source.new ≡ source.old }
-    ensures usage_only { result ≡ Status.Usage → words.now ≢ [] }
+    // A load that ran told its four numbers: how many statements it has, how many entries One makes of it over just the answers that its
+    // driver gave, how many bytes One prints then, and the sum of these. The answers are as above.
+    ensures load { result ≡ Status.Ran → (n : ℕ) → asks (texts words.now) ≡ Some (Task.Load n) →
+        HasWrittenLoad D.is_planned n (told_at D.Port.told ports.old 0) (told_at D.Port.told ports.new 0) (K.held sink.old) (K.held sink.new) }
+    ensures load_ends { (n : ℕ) → asks (texts words.now) ≡ Some (Task.Load n) → (result ≡ Status.Ran) ⊎ ((result ≡ Status.WriteFault) ⊎ (result ≡ Status.NoMemory)) }
+
+    // Words that ask for nothing are answered first, and where there are words nothing is read.
+    ensures usage { asks (texts words.now) ≡ None → (result ≡ Status.Usage) ⊎ (result ≡ Status.WriteFault) }
+    ensures usage_only { result ≡ Status.Usage → asks (texts words.now) ≡ None }
     ensures usage_written { result ≡ Status.Usage → Appends (K.held sink.old) (K.held sink.new) usage_line }
+    ensures words_read_nothing { words.now ≢ [] → source.new ≡ source.old }
 
     // A fault of reading comes only where the source counted one in this call, and nothing is written.
     ensures read_fault { result ≡ Status.ReadFault → Rises (S.fault_count source.old) (S.fault_count source.new) }
+    ensures read_fault_only { result ≡ Status.ReadFault → words.now ≡ [] }
     ensures read_fault_writes_nothing { result ≡ Status.ReadFault → sink.new ≡ sink.old }
 
     // Where the source counted one, that is the answer: nothing is tried again. The bytes that were taken are gone.
@@ -66,7 +82,7 @@ pub fn run<R: Threads + Wait + Sync, S: Source, K: Sink, D: Driver<Core>>(
     ensures read_front { LosesFront (S.left source.old) (S.left source.new) }
 
     // Bytes that are no session are refused by their first fault, once they are read through.
-    ensures refused { IfSome (S.left source.old) (λ input. words.now ≡ [] → (refusal : Refusal) → first_fault input ≡ Some refusal → IsRefusal result) }
+    ensures refused { words.now ≡ [] → IfSome (S.left source.old) (λ input. (refusal : Refusal) → first_fault input ≡ Some refusal → IsRefusal result) }
     ensures refused_without_words { result ≡ Status.Refused → words.now ≡ [] }
     ensures refused_only { result ≡ Status.Refused → IfSome (S.left source.old) (λ input. (refusal : Refusal) × (first_fault input ≡ Some refusal)
         × Appends (K.held sink.old) (K.held sink.new) (refused_line refusal)) }
@@ -76,33 +92,117 @@ pub fn run<R: Threads + Wait + Sync, S: Source, K: Sink, D: Driver<Core>>(
     // A fault of writing comes only where the sink counted one in this call, and leaves a front of the output.
     ensures write_fault { result ≡ Status.WriteFault → Rises (K.fault_count sink.old) (K.fault_count sink.new) }
     ensures write_fault_told { K.fault_count sink.old < K.fault_count sink.new → result ≡ Status.WriteFault }
-    ensures write_fault_front { result ≡ Status.WriteFault → IfSome (S.left source.old) (λ input. words.now ≡ [] →
+    ensures write_fault_front { result ≡ Status.WriteFault → words.now ≡ [] → IfSome (S.left source.old) (λ input.
         (text : List ℕ) × IsOutput D.is_planned (told_at D.Port.told ports.old) (told_at D.Port.told ports.new) input text
         × AppendsFront (K.held sink.old) (K.held sink.new) text) }
-    ensures usage_front { result ≡ Status.WriteFault → words.now ≢ [] → AppendsFront (K.held sink.old) (K.held sink.new) usage_line }
+    ensures load_front { result ≡ Status.WriteFault → (n : ℕ) → asks (texts words.now) ≡ Some (Task.Load n) → (text : List ℕ)
+        × CameToLoad D.is_planned n (told_at D.Port.told ports.old 0) (told_at D.Port.told ports.new 0) text
+        × AppendsFront (K.held sink.old) (K.held sink.new) text }
+    ensures usage_front { result ≡ Status.WriteFault → asks (texts words.now) ≡ None → AppendsFront (K.held sink.old) (K.held sink.new) usage_line }
 
     // Want of memory may always be answered, and then nothing is written.
     ensures no_memory_writes_nothing { result ≡ Status.NoMemory → sink.new ≡ sink.old }
 
-    // Where no fault was counted, a session runs.
-    ensures complete { IfSome (S.left source.old) (λ input. words.now ≡ [] → (sections : List SaidSection) → Sentence input sections →
+    // Where no fault was counted, a session runs, and so does a load.
+    ensures complete { words.now ≡ [] → IfSome (S.left source.old) (λ input. (sections : List SaidSection) → Sentence input sections →
         ¬ Rises (S.fault_count source.old) (S.fault_count source.new) → ¬ Rises (K.fault_count sink.old) (K.fault_count sink.new) →
         (result ≡ Status.Ran) ⊎ (result ≡ Status.NoMemory)) }
+    ensures load_complete { (n : ℕ) → asks (texts words.now) ≡ Some (Task.Load n) → ¬ Rises (K.fault_count sink.old) (K.fault_count sink.new) →
+        (result ≡ Status.Ran) ⊎ (result ≡ Status.NoMemory) }
 
     // All ports are there again but for want of memory; those of numbers that no actor has are as they were, and so are all where nothing ran.
     ensures ports_there { result ≢ Status.NoMemory → AreAllThere ports.new }
-    ensures other_ports { result ≢ Status.NoMemory → IfSome (S.left source.old) (λ input. (sections : List SaidSection) → Sentence input sections → OthersStay sections ports.old ports.new) }
-    ensures usage_ports { result ≡ Status.Usage → ports.new ≡ ports.old }
+    ensures other_ports { result ≢ Status.NoMemory → words.now ≡ [] → IfSome (S.left source.old) (λ input.
+        (sections : List SaidSection) → Sentence input sections → OthersStay sections ports.old ports.new) }
+    ensures load_ports { (n : ℕ) → asks (texts words.now) ≡ Some (Task.Load n) → drop 1 ports.new ≡ drop 1 ports.old }
+    ensures usage_ports { asks (texts words.now) ≡ None → ports.new ≡ ports.old }
     ensures read_fault_ports { result ≡ Status.ReadFault → ports.new ≡ ports.old }
     ensures refused_ports { result ≡ Status.Refused → ports.new ≡ ports.old }
+    ensures refused_bytes_ports { result ≢ Status.NoMemory → words.now ≡ [] → IfSome (S.left source.old) (λ input. (refusal : Refusal) → first_fault input ≡ Some refusal → ports.new ≡ ports.old) }
 {
-    if !words.is_empty() {
-        return finish(sink, b"usage\n", Status::Usage);
+    match read_words(alloc, words) {
+        Ok(Task::Session) => run_session(rt, alloc, source, sink, driver, ports),
+        Ok(Task::Load(turns)) => {
+            loads_are_within();
+            run_load(rt, alloc, turns, sink, driver, ports)
+        }
+        Err(WordsFault::Usage) => finish(sink, b"usage\n", Status::Usage),
+        Err(WordsFault::NoMemory) => Status::NoMemory,
     }
+}
+
+/// Reads a session from the source, runs it, and writes its output.
+fn run_session<R: Threads + Wait + Sync, S: Source, K: Sink, D: Driver<Core>>(
+    rt: &R,
+    alloc: Global,
+    source: &mut S,
+    sink: &mut K,
+    driver: D,
+    ports: &mut [Option<D::Port>],
+) -> Status
+    requires none { D.ENTRIES ≡ 0 }
+    requires ports { AreAllThere ports.old }
+    ensures output { result ≡ Status.Ran → IfSome (S.left source.old) (λ input. (sections : List SaidSection) → Sentence input sections →
+        IsAtEnd (S.left source.new)
+        × HasWritten D.is_planned sections (told_at D.Port.told ports.old) (told_at D.Port.told ports.new) (K.held sink.old) (K.held sink.new)) }
+    ensures ran_only_session { result ≡ Status.Ran → IfSome (S.left source.old) (λ input. (sections : List SaidSection) × Sentence input sections) }
+    ensures no_usage { result ≢ Status.Usage }
+    ensures read_fault { result ≡ Status.ReadFault → Rises (S.fault_count source.old) (S.fault_count source.new) }
+    ensures read_fault_writes_nothing { result ≡ Status.ReadFault → sink.new ≡ sink.old }
+    ensures read_fault_told { S.fault_count source.old < S.fault_count source.new → result ≡ Status.ReadFault }
+    ensures read_front { LosesFront (S.left source.old) (S.left source.new) }
+    ensures refused { IfSome (S.left source.old) (λ input. (refusal : Refusal) → first_fault input ≡ Some refusal → IsRefusal result) }
+    ensures refused_only { result ≡ Status.Refused → IfSome (S.left source.old) (λ input. (refusal : Refusal) × (first_fault input ≡ Some refusal)
+        × Appends (K.held sink.old) (K.held sink.new) (refused_line refusal)) }
+    ensures refused_read_through { result ≡ Status.Refused → (bytes : List ℕ) × ReadsThrough (S.left source.old) (S.left source.new) bytes }
+    ensures refused_written { result ≡ Status.Refused → (refusal : Refusal) × Appends (K.held sink.old) (K.held sink.new) (refused_line refusal) }
+    ensures write_fault { result ≡ Status.WriteFault → Rises (K.fault_count sink.old) (K.fault_count sink.new) }
+    ensures write_fault_told { K.fault_count sink.old < K.fault_count sink.new → result ≡ Status.WriteFault }
+    ensures write_fault_front { result ≡ Status.WriteFault → IfSome (S.left source.old) (λ input.
+        (text : List ℕ) × IsOutput D.is_planned (told_at D.Port.told ports.old) (told_at D.Port.told ports.new) input text
+        × AppendsFront (K.held sink.old) (K.held sink.new) text) }
+    ensures no_memory_writes_nothing { result ≡ Status.NoMemory → sink.new ≡ sink.old }
+    ensures complete { IfSome (S.left source.old) (λ input. (sections : List SaidSection) → Sentence input sections →
+        ¬ Rises (S.fault_count source.old) (S.fault_count source.new) → ¬ Rises (K.fault_count sink.old) (K.fault_count sink.new) →
+        (result ≡ Status.Ran) ⊎ (result ≡ Status.NoMemory)) }
+    ensures ports_there { result ≢ Status.NoMemory → AreAllThere ports.new }
+    ensures other_ports { result ≢ Status.NoMemory → IfSome (S.left source.old) (λ input. (sections : List SaidSection) → Sentence input sections → OthersStay sections ports.old ports.new) }
+    ensures read_fault_ports { result ≡ Status.ReadFault → ports.new ≡ ports.old }
+    ensures refused_ports { result ≡ Status.Refused → ports.new ≡ ports.old }
+    ensures refused_bytes_ports { result ≢ Status.NoMemory → IfSome (S.left source.old) (λ input. (refusal : Refusal) → first_fault input ≡ Some refusal → ports.new ≡ ports.old) }
+{
     match read_through(alloc, source) {
         Ok(feed) => answer(rt, alloc, &feed, sink, driver, ports),
         Err(ReadError::Fault) => Status::ReadFault,
         Err(ReadError::NoMemory) => Status::NoMemory,
+    }
+}
+
+/// Runs the load of a number, and writes the four lines on it.
+fn run_load<R: Wait, K: Sink, D: Driver<Core>>(
+    rt: &R,
+    alloc: Global,
+    turns: u32,
+    sink: &mut K,
+    driver: D,
+    ports: &mut [Option<D::Port>],
+) -> Status
+    requires none { D.ENTRIES ≡ 0 }
+    requires turns { (1 ≤ turns) × (turns ≤ TURNS_MAX) }
+    requires ports { AreAllThere ports.old }
+    ensures ends { (result ≡ Status.Ran) ⊎ ((result ≡ Status.WriteFault) ⊎ (result ≡ Status.NoMemory)) }
+    ensures ran { result ≡ Status.Ran → HasWrittenLoad D.is_planned turns (told_at D.Port.told ports.old 0) (told_at D.Port.told ports.new 0) (K.held sink.old) (K.held sink.new) }
+    ensures write_fault { result ≡ Status.WriteFault → Rises (K.fault_count sink.old) (K.fault_count sink.new) }
+    ensures write_fault_told { K.fault_count sink.old < K.fault_count sink.new → result ≡ Status.WriteFault }
+    ensures front { result ≡ Status.WriteFault → (text : List ℕ) × CameToLoad D.is_planned turns (told_at D.Port.told ports.old 0) (told_at D.Port.told ports.new 0) text
+        × AppendsFront (K.held sink.old) (K.held sink.new) text }
+    ensures no_memory { result ≡ Status.NoMemory → sink.new ≡ sink.old }
+    ensures ports_there { result ≢ Status.NoMemory → AreAllThere ports.new }
+    ensures other_ports { drop 1 ports.new ≡ drop 1 ports.old }
+{
+    match carry_load(rt, alloc, turns, driver, ports) {
+        Ok(text) => finish(sink, &text, Status::Ran),
+        Err(_) => Status::NoMemory,
     }
 }
 
@@ -131,7 +231,8 @@ fn answer<R: Threads + Wait + Sync, K: Sink, D: Driver<Core>>(
     ensures no_read_fault { result ≢ Status.ReadFault }
     ensures ports_there { result ≢ Status.NoMemory → AreAllThere ports.new }
     ensures other_ports { result ≢ Status.NoMemory → (sections : List SaidSection) → Sentence feed.now sections → OthersStay sections ports.old ports.new }
-    ensures refused_ports { result ≡ Status.Refused → ports.new ≡ ports.old }
+    ensures refused_ports { result ≢ Status.NoMemory → (refusal : Refusal) → first_fault feed.now ≡ Some refusal → ports.new ≡ ports.old }
+    ensures refused_only_ports { result ≡ Status.Refused → ports.new ≡ ports.old }
 {
     let script = match feed.script(alloc) {
         Ok(script) => script,

@@ -1,10 +1,10 @@
 //! How a run ends.
 ghost use Rattle.std.specs.Prelude.{◌≡◌};
 
-/// How a run ends. The causes stand in the order in which they are looked for, but for `Ran`.
+/// How a run ends.
 #[derive(Clone, Copy, Debug, PartialEq, Eq)]
 pub enum Status {
-    /// The session ran, and its text was written.
+    /// The session ran, or the load, and its output was written.
     Ran,
     /// The words are none that the program takes.
     Usage,

@@ -2,7 +2,7 @@
 //!
 //! A line `session NAME` begins a session without bytes. A line `|TEXT` adds TEXT and the end of a line to it, a line `:TEXT` adds
 //! TEXT alone, and a line `*COUNT TEXT` adds TEXT and the end of a line so many times. A line `play PIECE ROOM READ WRITE` runs it: no call moves more than PIECE bytes, the sink has room for ROOM bytes,
-//! and the call READ of the source and the call WRITE of the sink fail, counted from 0, `-` none of them. A fifth word is a word of the program.
+//! and the call READ of the source and the call WRITE of the sink fail, counted from 0, `-` none of them. Up to two further words are words of the program.
 //! What is told of a run is a line with its name and its status, and what the sink held in the end.
 #![tactic(auto)]
 

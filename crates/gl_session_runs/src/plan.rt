@@ -14,12 +14,12 @@ pub struct Plan<'a> {
     pub read: Option<u64>,
     /// The call of the sink that fails, counted from 0.
     pub write: Option<u64>,
-    /// The program's word; empty where there is none.
-    pub word: &'a [u8],
+    /// The program's words, at most two, each empty where there is none.
+    pub words: [&'a [u8]; 2],
 }
 
 impl<'a> Plan<'a> {
-    /// What a line `play PIECE ROOM READ WRITE` says, with a word of the program behind it or none.
+    /// What a line `play PIECE ROOM READ WRITE` says, with up to two words of the program behind it.
     pub fn of(line: &'a [u8]) -> Option<Plan<'a>>
         ensures some { IfSome result (λ plan. 0 < plan.piece) }
     {
@@ -34,7 +34,7 @@ impl<'a> Plan<'a> {
             room,
             read: read_decimal(word(&mut rest)),
             write: read_decimal(word(&mut rest)),
-            word: word(&mut rest),
+            words: [word(&mut rest), word(&mut rest)],
         })
     }
 }

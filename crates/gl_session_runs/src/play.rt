@@ -1,5 +1,5 @@
 //! A session that is played in memory.
-ghost use Rattle.std.specs.Prelude.{◌<◌};
+ghost use Rattle.std.specs.Prelude.{◌<◌, ◌≤◌};
 ghost use Rattle.gl_session.specs.Ports.{AreAllThere};
 
 use crate::plan::Plan;
@@ -68,8 +68,8 @@ impl Session {
         let mut source = MemSource::new(bytes, plan.piece, only(plan.read, alloc)?);
         let mut sink = MemSink::new(alloc, plan.room, plan.piece, only(plan.write, alloc)?)?;
         let (driver, mut ports) = (SimDriver::new(), new_ports());
-        let words = [str::from_utf8(plan.word).unwrap_or("?")];
-        let count = if plan.word.is_empty() { 0 } else { 1 };
+        let words = [text_of(plan.words[0]), text_of(plan.words[1])];
+        let count = count_words(&words);
         let status = run(
             rt,
             alloc,
@@ -89,6 +89,24 @@ impl Session {
             out.extend_from_slice(b"\n")?;
         }
         Ok(())
+    }
+}
+
+/// A word as text.
+fn text_of(word: &[u8]) -> &str {
+    str::from_utf8(word).unwrap_or("?")
+}
+
+/// How many words stand in front of the first empty one.
+fn count_words(words: &[&str; 2]) -> usize
+    ensures { result ≤ 2 }
+{
+    if words[0].is_empty() {
+        0
+    } else if words[1].is_empty() {
+        1
+    } else {
+        2
     }
 }
 

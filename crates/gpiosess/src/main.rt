@@ -11,8 +11,7 @@ use std::sync::Wait;
 use std::thread::Threads;
 use std::{array, env};
 
-/// What stands in the place of words that are no text. The program takes no words, so any word has the
-/// same answer, which is the usage.
+/// What stands in the place of words that are no text: a word that asks for nothing, whose answer is the usage.
 const NO_TEXT: &str = "?";
 
 fn main(rt: HostRuntime) -> ExitCode {

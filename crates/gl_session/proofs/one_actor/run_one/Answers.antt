@@ -1,13 +1,14 @@
-use Rattle.std.proofs.Common.{Option, ap, subst, sym}
+use Rattle.std.proofs.Common.{◌≡◌, ℕ, Option, ap, length, rules, subst, sym}
 use Rattle.gl_driver.specs.Told.{Told}
 use Rattle.gl_script.specs.Script.{sections_of}
-use Rattle.gl_session.specs.OneActor.{CameToOne}
-use Rattle.gl_session.proofs.Whole.{came_to_one}
+use Rattle.gl_session.specs.OneActor.{CameWithEntries}
+use Rattle.gl_session.proofs.Whole.{came_with_entries}
 use Rattle.gl_session.proofs.one_actor.run_one.Goals as goal
 
 pub returns-in-Ok-play_session-clause-came : goal.returns-in-Ok-play_session-clause-came
 returns-in-Ok-play_session-clause-came g c =
     let t = g.D.Port.Port.told in let f = c.finish-machine.ensures in
-    subst (λ (x : Option Told × Option Told). CameToOne g.D.Driver.is_planned (sections_of c.args.script.now) x.0 c.in-Ok-play_session.text.items x.1)
-    (λ i. (ap t c.in-Ok.ensures.port i, ap t (sym f.port) i))
-    (came_to_one g.D.Driver.is_planned (sections_of c.args.script.now) _ _ _ _ _ _ _ c.in-Ok.ensures.first c.in-Ok-play_session.ensures.played f.legal f.seen f.mine f.others)
+    let count : length c.finish-machine.result.1.items ≡ c.len.result = search rules in
+    subst (λ (x : Option Told × Option Told × ℕ). CameWithEntries g.D.Driver.is_planned (sections_of c.args.script.now) x.0 c.in-Ok-play_session.text.items x.1 x.2)
+    (λ i. (ap t c.in-Ok.ensures.port i, ap t (sym f.port) i, count i))
+    (came_with_entries g.D.Driver.is_planned (sections_of c.args.script.now) _ _ _ _ _ _ _ c.in-Ok.ensures.first c.in-Ok-play_session.ensures.played f.legal f.seen f.mine f.others)

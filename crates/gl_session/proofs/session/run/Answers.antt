@@ -1,37 +1,18 @@
-use Rattle.std.proofs.Common.{◌≡◌, []}
-use Rattle.std.specs.Io.KnownBytes.{Appends, IsAtEnd}
-use Rattle.gl_session.specs.Run.{HasWritten, refused_line}
+use Rattle.std.proofs.Common.{ℕ, List, Some, ap, subst, ◌∙◌}
+use Rattle.gl_session.specs.Figures.{CameToLoad, HasWrittenLoad}
 use Rattle.gl_session.specs.Streams.{AppendsFront}
-use Rattle.gl_session.specs.Ports.{OthersStay}
 use Rattle.gl_session.specs.Workers.{told_at}
-use Rattle.gl_session.proofs.Causes.{if_ran, if_session, if_refused, if_output, if_refusal, if_complete, if_sections}
+use Rattle.gl_session.proofs.Figures.{same_turns}
 use Rattle.gl_session.proofs.session.run.Goals as goal
 
-pub returns-in-Ok-clause-output : goal.returns-in-Ok-clause-output
-returns-in-Ok-clause-output g c = λ e.
-    if_ran _ _ _ (IsAtEnd (g.S.Source.left c.read_through.new.source)) (λ sections. HasWritten g.D.Driver.is_planned sections (told_at g.D.Port.Port.told c.args.ports.now) (told_at g.D.Port.Port.told c.answer.new.ports)
-    (g.K.Sink.held c.args.sink.now) (g.K.Sink.held c.answer.new.sink))
-    c.in-Ok.ensures.ok c.in-Ok.ensures.ok.end (c.answer.ensures.ran e)
+pub returns-in-Ok-Load-clause-load : goal.returns-in-Ok-Load-clause-load
+returns-in-Ok-Load-clause-load g c = λ ran n is.
+    let t = g.D.Port.Port.told in
+    subst (λ (k : ℕ). HasWrittenLoad g.D.Driver.is_planned k (told_at t c.args.ports.now 0) (told_at t c.run_load.new.ports 0) (g.K.Sink.held c.args.sink.now) (g.K.Sink.held c.run_load.new.sink))
+    (same_turns _ _ n (c.in-Ok-Load.ensures.ok ∙ ap Some c.in-Ok-Load.field-0-is) is) (c.run_load.ensures.ran ran)
 
-pub returns-in-Ok-clause-ran_only_session : goal.returns-in-Ok-clause-ran_only_session
-returns-in-Ok-clause-ran_only_session g c = λ e. if_session _ _ _ c.in-Ok.ensures.ok (c.answer.ensures.ran e).0 (c.answer.ensures.ran e).1
-
-pub returns-in-Ok-clause-refused : goal.returns-in-Ok-clause-refused
-returns-in-Ok-clause-refused g c =
-    if_refusal c.answer.result _ _ _ (c.args.words.now ≡ []) c.in-Ok.ensures.ok c.answer.ensures.no_usage (λ e. ((c.answer.ensures.ran e).0, (c.answer.ensures.ran e).1))
-
-pub returns-in-Ok-clause-refused_only : goal.returns-in-Ok-clause-refused_only
-returns-in-Ok-clause-refused_only g c = λ e.
-    if_refused _ _ _ (λ refusal. Appends (g.K.Sink.held c.args.sink.now) (g.K.Sink.held c.answer.new.sink) (refused_line refusal)) c.in-Ok.ensures.ok (c.answer.ensures.refused e)
-
-pub returns-in-Ok-clause-write_fault_front : goal.returns-in-Ok-clause-write_fault_front
-returns-in-Ok-clause-write_fault_front g c = λ e.
-    if_output _ _ _ _ _ _ (c.args.words.now ≡ []) (AppendsFront (g.K.Sink.held c.args.sink.now) (g.K.Sink.held c.answer.new.sink)) c.in-Ok.ensures.ok (c.answer.ensures.front e)
-
-pub returns-in-Ok-clause-complete : goal.returns-in-Ok-clause-complete
-returns-in-Ok-clause-complete g c =
-    if_complete c.answer.result _ _ _ (c.args.words.now ≡ []) _ _ c.in-Ok.ensures.ok c.answer.ensures.no_usage c.answer.ensures.no_read_fault
-    (λ e. ((c.answer.ensures.refused e).0, (c.answer.ensures.refused e).1)) c.answer.ensures.write_fault
-
-pub returns-in-Ok-clause-other_ports : goal.returns-in-Ok-clause-other_ports
-returns-in-Ok-clause-other_ports g c = λ some. if_sections _ _ _ (λ sections. OthersStay sections c.args.ports.now c.answer.new.ports) c.in-Ok.ensures.ok (c.answer.ensures.other_ports some)
+pub returns-in-Ok-Load-clause-load_front : goal.returns-in-Ok-Load-clause-load_front
+returns-in-Ok-Load-clause-load_front g c = λ fault n is.
+    let t = g.D.Port.Port.told in
+    subst (λ (k : ℕ). (text : List ℕ) × CameToLoad g.D.Driver.is_planned k (told_at t c.args.ports.now 0) (told_at t c.run_load.new.ports 0) text × AppendsFront (g.K.Sink.held c.args.sink.now) (g.K.Sink.held c.run_load.new.sink) text)
+    (same_turns _ _ n (c.in-Ok-Load.ensures.ok ∙ ap Some c.in-Ok-Load.field-0-is) is) (c.run_load.ensures.front fault)

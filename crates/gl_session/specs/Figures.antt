@@ -1,0 +1,44 @@
+-- What a generated load comes to, told by four numbers. This project's choice.
+use Rattle.std.specs.Prelude.{◌≡◌, ℕ, ◌+◌, ◌%◌, ◌^◌, Bool, List, [], ◌∷◌, ◌++◌, length, sum, Option, codes}
+use Rattle.std.specs.Io.KnownBytes.{Appends}
+use Rattle.gl_base.specs.Decimal.{decimal}
+use Rattle.gl_driver.specs.Told.{Told}
+use Rattle.gl_script.specs.Gen.{load_text}
+use Rattle.gl_script.specs.Section.{SaidSection}
+use Rattle.gl_script.specs.Sentence.{Sentence}
+use Rattle.gl_session.specs.Lines.{text_line}
+use Rattle.gl_session.specs.OneActor.{CameWithEntries}
+
+-- how many statements a session has
+abbrev pub statement_count : List SaidSection → ℕ
+statement_count [] = 0
+statement_count (section ∷ sections) = length section.statements + statement_count sections
+
+-- a name and a number
+abbrev pub figure_line : List ℕ → ℕ → List ℕ
+figure_line name number = text_line (name ++ (codes " " ++ decimal number))
+
+-- the four lines: the statements of a session, its entries, the bytes that it printed, and the sum of these
+abbrev pub figures : List SaidSection → ℕ → List ℕ → List ℕ
+figures sections entries text =
+    figure_line (codes "statements") (statement_count sections)
+    ++ (figure_line (codes "entries") entries
+    ++ (figure_line (codes "bytes") (length text)
+    ++ figure_line (codes "sum") (sum text % 2 ^ 32)))
+
+-- Bytes are a session that one actor carried out, over a port that told this before and tells that now, and these are the four lines on it.
+pub record CameToFigures (is_planned : Bool) (bytes : List ℕ) (before left : Option Told) (out : List ℕ) : Type 0 where
+  pub sections : List SaidSection
+  pub sentence : Sentence bytes sections
+  pub text : List ℕ
+  pub entries : ℕ
+  pub came : CameWithEntries is_planned sections before text left entries
+  pub is : out ≡ figures sections entries text
+
+-- the load of a number came to these four lines
+abbrev pub CameToLoad : Bool → ℕ → Option Told → Option Told → List ℕ → Type 0
+CameToLoad is_planned turns before left out = CameToFigures is_planned (load_text turns) before left out
+
+-- and they were written
+abbrev pub HasWrittenLoad : Bool → ℕ → Option Told → Option Told → Option (List ℕ) → Option (List ℕ) → Type 0
+HasWrittenLoad is_planned turns before left old new = (text : List ℕ) × Appends old new text × CameToLoad is_planned turns before left text
