@@ -9,7 +9,7 @@
 pub mod laws;
 mod resolving;
 
-pub use resolving::resolve;
+pub use resolving::{resolve, settings_of};
 
 #[cfg(test)]
 mod tests;

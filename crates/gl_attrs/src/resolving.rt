@@ -23,8 +23,8 @@ const NO_SETTINGS: Settings = Settings {
     debounce_us: 0,
 };
 
-/// The settings of the first `lines` lines, 1 to 64 of them, of a request with this configuration. Past
-/// them the array has no flags, the value false and no period.
+/// The settings of the first `lines` lines, 1 to 64 of them, of a request with this configuration, as
+/// [`settings_of`] gives them, where it has no fault for so many.
 ///
 /// The refusals, the first case that holds:
 ///
@@ -40,17 +40,28 @@ pub fn resolve(config: ConfigRef<'_>, lines: u32) -> Result<Resolved, Errno>
     if config.num_attrs() > ATTRIBUTES_MAX || !config.padding_is_zero() {
         return Err(Errno::Inval);
     }
-    let mut settings = lines_without_settings();
     for i in 0..lines {
-        match line_settings(&config, i) {
-            Ok(line) => settings[i as usize] = line,
-            Err(errno) => return Err(errno),
+        if let Some(errno) = line_fault(&config, i) {
+            return Err(errno);
         }
     }
-    Ok(Resolved {
+    Ok(settings_of(config, lines))
+}
+
+/// The settings that a configuration gives each of the first `lines` lines, 1 to 64 of them, of a request,
+/// also where they don't go together. Past them the array has no flags, the value false and no period.
+pub fn settings_of(config: ConfigRef<'_>, lines: u32) -> Resolved
+    requires { IsLineCount lines }
+    ensures { result ≡ resolved_for config.entry lines }
+{
+    let mut settings = lines_without_settings();
+    for i in 0..lines {
+        settings[i as usize] = line_settings(&config, i);
+    }
+    Resolved {
         count: lines,
         lines: settings,
-    })
+    }
 }
 
 /// Settings of no line.
@@ -61,37 +72,51 @@ fn lines_without_settings() -> [Settings; LINES_PER_REQUEST as usize]
     [NO_SETTINGS; LINES_PER_REQUEST as usize]
 }
 
-/// The settings of the line at position `i` of the request, or why it can't have them.
-fn line_settings(config: &ConfigRef<'_>, i: u32) -> Result<Settings, Errno>
+/// Why the line at position `i` of the request can't have its settings, if it can't.
+fn line_fault(config: &ConfigRef<'_>, i: u32) -> Option<Errno>
     requires { i < LINES_PER_REQUEST }
-    ensures set { IfOk result (λ settings. settings ≡ settings_for config.now i) }
-    ensures passed { IfOk result (λ _. line_fault config.now i ≡ None) }
-    ensures refused { IfErr result (λ errno. line_fault config.now i ≡ Some errno) }
+    ensures { result ≡ line_fault config.now i }
 {
-    let flags = match attribute_of(config, ATTRIBUTE_FLAGS, i) {
-        Some(attribute) => attribute.value(),
-        None => config.flags(),
-    };
+    match check(line_flags(config, i)) {
+        Err(errno) => Some(errno),
+        Ok(flags) => {
+            let debounced = attribute_of(config, ATTRIBUTE_DEBOUNCE, i).is_some();
+            if debounced && !flags.has(flag::INPUT) {
+                return Some(Errno::Inval);
+            }
+            None
+        }
+    }
+}
+
+/// The settings that the configuration gives the line at position `i` of the request.
+fn line_settings(config: &ConfigRef<'_>, i: u32) -> Settings
+    requires { i < LINES_PER_REQUEST }
+    ensures { result ≡ settings_for config.now i }
+{
     let value = match attribute_of(config, ATTRIBUTE_OUTPUT_VALUES, i) {
         Some(attribute) => has_bit(attribute.value(), i),
         None => false,
     };
-    let (debounced, debounce_us) = match attribute_of(config, ATTRIBUTE_DEBOUNCE, i) {
-        Some(attribute) => (true, attribute.period()),
-        None => (false, 0),
+    let debounce_us = match attribute_of(config, ATTRIBUTE_DEBOUNCE, i) {
+        Some(attribute) => attribute.period(),
+        None => 0,
     };
-    match check(flags) {
-        Err(errno) => Err(errno),
-        Ok(checked) => {
-            if debounced && !checked.has(flag::INPUT) {
-                return Err(Errno::Inval);
-            }
-            Ok(Settings {
-                flags,
-                value,
-                debounce_us,
-            })
-        }
+    Settings {
+        flags: line_flags(config, i),
+        value,
+        debounce_us,
+    }
+}
+
+/// The flags that the configuration gives the line at position `i` of the request.
+fn line_flags(config: &ConfigRef<'_>, i: u32) -> u64
+    requires { i < LINES_PER_REQUEST }
+    ensures { result ≡ flags_for config.now i }
+{
+    match attribute_of(config, ATTRIBUTE_FLAGS, i) {
+        Some(attribute) => attribute.value(),
+        None => config.flags(),
     }
 }
 

@@ -1,16 +1,11 @@
 -- What a command on an open file did that may ask the driver: its entries, and what went through the actor's port.
 use Rattle.std.specs.Prelude.{◌≡◌, ◌≢◌, ◌⊎◌, ◌<◌, ◌≤◌, ◌^◌, ℕ, Bool, true, false, List, [], ◌∷◌, ◌++◌, length, take, drop, Option, Some, None, IfSome, Result, Err}
-use Rattle.gl_attrs.specs.ConfigFault.{config_fault}
 use Rattle.gl_attrs.specs.Setting.{resolved_for}
 use Rattle.gl_base.specs.Count.{Rises, counted_up}
 use Rattle.gl_base.specs.Planned.{planned_answer}
-use Rattle.gl_base.specs.Positions.{table_from}
-use Rattle.gl_base.specs.Settings.{no_settings}
 use Rattle.gl_base.specs.declared.errno.Errno.{Errno}
 use Rattle.gl_base.specs.declared.errno.Errno.TheVariants.{Full, Io, NoMemory}
-use Rattle.gl_base.specs.declared.limits.TheConstants.{LINES_PER_REQUEST}
 use Rattle.gl_base.specs.declared.lines.Lines.{Lines}
-use Rattle.gl_base.specs.declared.settings.Resolved.{Resolved}
 use Rattle.gl_driver.specs.Calls.{FitsOp}
 use Rattle.gl_driver.specs.Told.{Told, faults_after, with_call}
 use Rattle.gl_driver.specs.declared.op.Op.{Op}
@@ -40,16 +35,6 @@ use Rattle.gl_chip.specs.Results.{value_of}
 use Rattle.gl_chip.specs.Steps.{FoundNoRoom}
 use Rattle.gl_chip.specs.Values.{ActorValue, MayOwn, OneDeed, OneEntry, OneView, core}
 
--- the settings of so many lines by a configuration with this fault: none, where it has one
-abbrev pub settings_unless : Option Errno → List ℕ → ℕ → Resolved
-settings_unless None config count = resolved_for config count
-settings_unless (Some errno) config count = record { count = count; lines = table_from (λ _. no_settings) 0 LINES_PER_REQUEST }
-
--- The settings that a configuration gives each of so many lines. One that has a fault for so many lines gives none: it goes to the
--- driver only for a file of another device, since the machine looks at its own request's lines. This is this project's choice.
-abbrev pub settings_given : List ℕ → ℕ → Resolved
-settings_given config count = settings_unless (config_fault config count) config count
-
 -- what the driver is asked for a request with these bytes, by what is wrong with the bytes alone: nothing where something is
 abbrev pub op_requested : Option Errno → List ℕ → Option Op
 op_requested None bytes = Some (Apply (lines_asked bytes) (asked_in bytes).settings)
@@ -61,7 +46,7 @@ op_requested (Some errno) bytes = None
 abbrev pub op_of : Lines → Option Command → List ℕ → Option Op
 op_of lines None bytes = None
 op_of lines (Some GetLine) bytes = op_requested (request_fault (take (size_of GetLine) bytes)) (take (size_of GetLine) bytes)
-op_of lines (Some SetConfig) bytes = Some (Apply lines (settings_given (take (size_of SetConfig) bytes) lines.count))
+op_of lines (Some SetConfig) bytes = Some (Apply lines (resolved_for (take (size_of SetConfig) bytes) lines.count))
 op_of lines (Some GetValues) bytes = Some (Get lines)
 op_of lines (Some SetValues) bytes = Some (Set lines (mask_in (take (size_of SetValues) bytes)) (bits_in (take (size_of SetValues) bytes)))
 op_of lines (Some command) bytes = None

@@ -1,51 +1,19 @@
 //! What the driver is asked for a command.
 
 ghost use Rattle.std.specs.Prelude.{◌≡◌, ◌≤◌, true, false, take, Some, None, IfSome, IfNone};
-ghost use Rattle.gl_attrs.specs.ConfigFault.{config_fault};
 ghost use Rattle.gl_base.specs.Lines.{IsLineCount};
-ghost use Rattle.gl_base.specs.Positions.{table_from};
-ghost use Rattle.gl_base.specs.Settings.{no_settings};
-ghost use Rattle.gl_base.specs.declared.limits.TheConstants.{LINES_PER_REQUEST};
 ghost use Rattle.gl_driver.specs.Calls.{FitsOp};
 ghost use Rattle.gl_uapi.specs.Command.{command_of, size_of};
-ghost use Rattle.gl_uapi.specs.declared.layout.TheConstants.{LINE_CONFIG_SIZE, LINE_REQUEST_SIZE};
+ghost use Rattle.gl_uapi.specs.declared.layout.TheConstants.{LINE_REQUEST_SIZE};
 ghost use Rattle.gl_model.specs.Asked.{lines_asked, request_fault};
 ghost use Rattle.gl_model.specs.Parts.{is_driver_asked};
-ghost use Rattle.gl_chip.specs.Commanding.{op_of, op_requested, settings_given};
+ghost use Rattle.gl_chip.specs.Commanding.{op_of, op_requested};
 
-use gl_attrs::resolve;
-use gl_base::{LINES_PER_REQUEST, Lines, Resolved, Settings};
+use gl_attrs::{resolve, settings_of};
+use gl_base::{LINES_PER_REQUEST, Lines};
 use gl_driver::Op;
 use gl_uapi::layout::LINE_REQUEST_SIZE;
 use gl_uapi::{Command, ConfigRef, RequestRef, ValuesRef};
-
-/// No settings for so many lines.
-#[tactic(auto, unfolding(gl_base::specs::Positions::table_from))]
-fn no_settings(count: u32) -> Resolved
-    ensures { result ≡ record { count = count; lines = table_from (λ _. no_settings) 0 LINES_PER_REQUEST } }
-{
-    let none = Settings {
-        flags: 0,
-        value: false,
-        debounce_us: 0,
-    };
-    Resolved {
-        count,
-        lines: [none; LINES_PER_REQUEST as usize],
-    }
-}
-
-/// The settings that a configuration gives each of so many lines, and none where it has a fault for so many.
-fn settings_given(bytes: &[u8; LINE_REQUEST_SIZE], count: u32) -> Resolved
-    requires { IsLineCount count }
-    ensures settings { result ≡ settings_given (take LINE_CONFIG_SIZE bytes.now) count }
-    ensures count { result.count ≡ count }
-{
-    match resolve(ConfigRef::of(bytes).unwrap(), count) {
-        Ok(settings) => settings,
-        Err(_) => no_settings(count),
-    }
-}
 
 /// Sets those of the lines that the mask names.
 fn op_of_values(lines: &Lines, bytes: &[u8; LINE_REQUEST_SIZE]) -> Op
@@ -79,7 +47,7 @@ fn op_on_lines(
     match command {
         Command::SetConfig => Some(Op::Apply {
             lines: *lines,
-            settings: settings_given(bytes, lines.count),
+            settings: settings_of(ConfigRef::of(bytes).unwrap(), lines.count),
         }),
         Command::GetValues => Some(Op::Get { lines: *lines }),
         Command::SetValues => Some(op_of_values(lines, bytes)),

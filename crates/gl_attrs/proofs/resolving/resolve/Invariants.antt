@@ -1,11 +1,8 @@
--- The lines so far have no fault and their settings, and the others have none.
+-- The lines so far have no fault.
 use Rattle.std.proofs.Common.{◌≡◌, ◌-◌}
-use Rattle.gl_base.specs.Positions.{first_fault, table_from}
+use Rattle.gl_base.specs.Positions.{first_fault}
 use Rattle.gl_attrs.specs.ConfigFault.{line_fault}
-use Rattle.gl_attrs.specs.Setting.{settings_or_none}
 use Rattle.gl_attrs.proofs.resolving.resolve.Given as goal
 
 abbrev pub invariant-loop-i : goal.invariant-loop-i
-invariant-loop-i l =
-    (first_fault (line_fault l.config) l.i (l.lines - l.i) ≡ first_fault (line_fault l.config) 0 l.lines)
-    × (l.settings ≡ table_from (settings_or_none l.config l.i) 0 64)
+invariant-loop-i l = first_fault (line_fault l.config) l.i (l.lines - l.i) ≡ first_fault (line_fault l.config) 0 l.lines
