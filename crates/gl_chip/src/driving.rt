@@ -42,6 +42,7 @@ pub(crate) fn ask<M: Machine, R: Wait>(
     ensures full { IfErr result (λ e. (e ≡ Full) × (out.new ≡ out.old) × (gift.new ≡ gift.old)
         × StoodFull M.Machine pass.old.view pass.new.view) }
 {
+    // What holds of every pass is known once it has told its number.
     let _number = pass.number();
     match gate.act(rt, pass, call, gift, out) {
         Ok(reply) => Ok(reply),
@@ -77,8 +78,10 @@ pub(crate) fn drive<M: Machine, D: Driver<M>, R: Wait>(
         → IfSome (D.Port.told port.old) (λ t. result ≡ planned_answer t.plan (counted_up t.calls)) }
 {
     quiet_entries_keep_removals::<M>();
+    // What holds of every pass is known once it has told its number.
     let _number = pass.number();
     let answer = driver.call(rt, gate, port, pass, place, op);
+    // What holds of every pass is known once it has told its number.
     let _number = pass.number();
     match answer {
         Ok(bits) => Some(bits),
@@ -104,6 +107,7 @@ pub(crate) fn tell<M: Machine, R: Wait>(
     ensures owes { Owes M.Machine pass.new.view 0 }
     ensures called { CalledOnce M.Machine pass.old.view call result out.old out.new pass.new.view }
 {
+    // What holds of every pass is known once it has told its number.
     let _number = pass.number();
     match gate.act(rt, pass, call, gift, out) {
         Ok(reply) => reply,

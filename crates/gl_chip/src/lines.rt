@@ -81,7 +81,7 @@ impl<D: Driver<Core>> Gpio<D> {
         self.read_level(rt, actor, place, offset, true)
     }
 
-    // The level of a line, or its pull.
+    /// The level of a line, or its pull.
     fn read_level<R: Wait>(
         &self,
         rt: &R,
@@ -130,8 +130,12 @@ impl<D: Driver<Core>> Gpio<D> {
         self.done_behind_guard(rt, actor, place, Call::Interrupt { place, offset, up })
     }
 
-    /// Does something with the pins of a chip. `NoDev` where a removal had closed the place; then its refusals are those of the
-    /// machine's call; `Full` where the history is full.
+    /// Maps lines of a chip to pins, or holds or drops a pin for another function.
+    ///
+    /// `NoDev` where the removal of its chip had closed the place; `NoEnt` where the place has no chip. A range: `Inval` where it is
+    /// empty, passes the chip's lines or pin 4095, or overlaps another of the chip; `NoSpc` where the chip has 16. Holding: `Inval`
+    /// where no range has the pin; `Busy` where it is held, or its line isn't free. Dropping: `Inval` where it isn't held. `Full`
+    /// where the history is full.
     pub fn pin<R: Wait>(
         &self,
         rt: &R,
@@ -149,8 +153,13 @@ impl<D: Driver<Core>> Gpio<D> {
         self.done_behind_guard(rt, actor, place, Call::Pin { place, what })
     }
 
-    /// Does something with the interrupt of a line. `NoDev` where a removal had closed the place; then its refusals are those of
-    /// the machine's call; `Full` where the history is full.
+    /// Locks the interrupt of a line, unlocks, enables or disables it, or takes it away.
+    ///
+    /// `NoDev` where the removal of its chip had closed the place; `NoEnt` where the place has no chip; `Inval` where the offset is
+    /// at or past the number of its lines. Locking: `Busy` where the line is claimed; `NxIo` where it has no interrupt; `Io` where it
+    /// is an output that isn't open-drain. Unlocking, enabling and disabling: `Inval` where it isn't locked; enabling also `Busy`
+    /// and `Io` as locking. Taking it away: `Busy` where it is locked, claimed, or held with an edge or a debounce period. `Full`
+    /// where the history is full.
     pub fn irq<R: Wait>(
         &self,
         rt: &R,

@@ -33,7 +33,7 @@ fn place_named(word: &Path) -> u8
     }
 }
 
-/// The file of a chip that was opened by this word, or why it wasn't.
+/// The file of a chip that was opened by this word, or why it wasn't. A reply of another form doesn't come.
 fn opened(word: &Path, reply: Reply) -> Result<ChipFd, Errno>
     requires number { number_answered reply < 2 ^ 32 }
     requires place { (fd : ℕ) → reply ≡ Number fd → place_named word.now < PLACES }

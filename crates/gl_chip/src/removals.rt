@@ -52,7 +52,9 @@ impl<D: Driver<Core>> Gpio<D> {
     /// From the answer Ok on nobody is inside, whatever happens: no driver call of these chips runs, and each later guarded call
     /// there is refused.
     ///
-    /// Its refusals are those of the machine's calls; `Full` where the history is full.
+    /// `Inval` where the name isn't of a device's form; `NoEnt` where the device isn't there; `Busy` where it is leaving; `Perm`
+    /// where it is live and is to be made, or isn't and is to be removed. Making its chips also `Inval` where it has no bank, and
+    /// `NoSpc` where fewer places are left than it has banks. `Full` where the history is full.
     pub fn live<R: Wait>(
         &self,
         rt: &R,

@@ -129,6 +129,7 @@ impl<D: Driver<Core>> Gpio<D> {
             → ((r ≡ Refused NoDev) ↔ LastFinds (is_gone_outside place) actor.new.pass.view.seen)) }
         ensures full { IfErr result (λ e. (e ≡ Full) × FoundNoRoom core actor.old.pass.view actor.new.pass.view) }
     {
+        // What holds of every pass is known once it has told its number.
         let _number = actor.pass.number();
         let mut places = [0u8; 2];
         let mut gift = nothing();

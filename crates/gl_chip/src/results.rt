@@ -1,4 +1,7 @@
 //! What a caller of the device gets of a reply of the machine.
+//!
+//! A reply of another form than the call's doesn't come (`has_form` of `gl_model`); each function answers it with nothing, zero
+//! or no bytes, so that it needs no condition.
 
 ghost use Rattle.std.specs.Prelude.{◌≡◌, ◌<◌, ◌^◌};
 ghost use Rattle.gl_model.specs.Written.{number_answered};

@@ -33,6 +33,7 @@ pub(crate) fn alone<M: Machine, R: Wait>(
     ensures full { IfErr result (λ e. (e ≡ Full) × (out.new ≡ out.old) × (gift.new ≡ gift.old)
         × StoodFull M.Machine pass.old.view pass.new.view) }
 {
+    // What holds of every pass is known once it has told its number.
     let _number = pass.number();
     match gate.act(rt, pass, call, gift, out) {
         Ok(reply) => Ok(reply),

@@ -17,7 +17,10 @@ use gl_driver::Driver;
 use std::sync::Wait;
 
 impl<D: Driver<Core>> Gpio<D> {
-    /// Makes a directory of the tree. Its refusals are those of the machine's call; `Full` where the history is full.
+    /// Makes a directory of the tree.
+    ///
+    /// `Inval` where the path isn't of a directory's form; `NoEnt` where its parent isn't there; `Busy` where its device is live
+    /// or leaving; `Exist` where it is there; `NoSpc` where there are 1024 directories; `Full` where the history is full.
     pub fn mkdir<R: Wait>(&self, rt: &R, actor: &mut Actor<D>, path: &Path) -> Result<(), Errno>
         requires actor { IsActorOf self.now actor.old }
         ensures actor { IsActorOf self.now actor.new }
@@ -28,7 +31,10 @@ impl<D: Driver<Core>> Gpio<D> {
         self.done_alone(rt, actor, Call::MakeDir { path: *path })
     }
 
-    /// Removes a directory of the tree. Its refusals are those of the machine's call; `Full` where the history is full.
+    /// Removes a directory of the tree.
+    ///
+    /// `Inval` where the path isn't of a directory's form; `NoEnt` where it isn't there; `Busy` where its device is live or
+    /// leaving, or a directory is inside; `Full` where the history is full.
     pub fn rmdir<R: Wait>(&self, rt: &R, actor: &mut Actor<D>, path: &Path) -> Result<(), Errno>
         requires actor { IsActorOf self.now actor.old }
         ensures actor { IsActorOf self.now actor.new }
@@ -39,7 +45,10 @@ impl<D: Driver<Core>> Gpio<D> {
         self.done_alone(rt, actor, Call::RemoveDir { path: *path })
     }
 
-    /// Writes a value to a file of the tree. Its refusals are those of the machine's call; `Full` where the history is full.
+    /// Writes a value to a file of the tree. `DEV/live` is none of them: see [`live`](Gpio::live).
+    ///
+    /// `Inval` where the path isn't of such a file's form; `NoEnt` where its directory isn't there; `Perm` for `chip_name`; `Busy`
+    /// where the device is live or leaving; `Inval` where the file doesn't take the value; `Full` where the history is full.
     pub fn write<R: Wait>(
         &self,
         rt: &R,
@@ -53,6 +62,7 @@ impl<D: Driver<Core>> Gpio<D> {
         ensures port { actor.new.port ≡ actor.old.port }
         ensures called { ComesOut done_of result actor.old.pass.view (Once (WriteCall path.now value.now)) [] actor.new.pass.view }
     {
+        // That a name has at most 31 bytes is known once it is read.
         let _name = value.as_bytes();
         self.done_alone(
             rt,
@@ -64,7 +74,9 @@ impl<D: Driver<Core>> Gpio<D> {
         )
     }
 
-    /// Reads a file of the tree. Its refusals are those of the machine's call; `Full` where the history is full.
+    /// Reads a file of the tree, `DEV/live` among them.
+    ///
+    /// `Inval` where the path isn't of a file's form; `NoEnt` where its directory isn't there; `Full` where the history is full.
     pub fn read<R: Wait>(&self, rt: &R, actor: &mut Actor<D>, path: &Path) -> Result<Name, Errno>
         requires actor { IsActorOf self.now actor.old }
         ensures actor { IsActorOf self.now actor.new }
