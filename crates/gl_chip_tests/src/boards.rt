@@ -1,14 +1,11 @@
 //! Calls without a guard, as steps of a table.
 
-ghost use Rattle.std.specs.Prelude.{◌≡◌, ◌≤◌, ◌<◌};
-ghost use Rattle.gl_base.specs.declared.limits.TheConstants.{PLACES};
-ghost use Rattle.gl_chip.specs.Values.{IsActorOf};
-ghost use Rattle.gl_chip_tests.specs.Same.{IsSame};
-
-use gl_base::{Errno, Kind, Name, Path};
-use gl_chip::{Actor, Gpio};
+use crate::devices::Device;
+use gl_base::{Errno, Kind, Name, PLACES};
+use gl_chip::ChipFd;
 use gl_core::Core;
 use gl_driver::Driver;
+use std::alloc::Global;
 use std::sync::Wait;
 
 /// A call that takes no guard.
@@ -16,6 +13,8 @@ use std::sync::Wait;
 pub enum Step {
     /// Makes a simulated chip of four lines.
     Probe,
+    /// Makes a remote chip of two lines.
+    ProbeRemote,
     /// Makes a directory of the tree.
     MakeDir(&'static [u8]),
     /// Removes a directory of the tree.
@@ -26,12 +25,16 @@ pub enum Step {
     Read(&'static [u8]),
     /// Makes the chips of a device, or removes them.
     Live(&'static [u8], bool),
-    /// Removes the chip of place 0.
-    Unplug,
+    /// Removes the chip of a place below 16.
+    Unplug(u8),
+    /// Opens the chip of a word.
+    Open(&'static [u8]),
     /// Sets the clocks.
     Tick(u64, u64),
     /// Looks for the lines of a name on all chips.
     Find(&'static [u8]),
+    /// Looks for the lines of a name on the chip of a place below 16.
+    FindAt(u8, &'static [u8]),
 }
 
 /// What a step is answered.
@@ -41,8 +44,10 @@ pub enum Answer {
     Done,
     /// A chip was made at this place.
     At(u8),
-    /// A value has so many bytes, and begins with this one.
-    Text(usize, u8),
+    /// A chip file was opened, of this number and place.
+    Opened(u32, u8),
+    /// A value was read.
+    Text(Name),
     /// The first line by place and offset, and how many there are.
     Found(u8, u32, u32),
     /// The call was refused.
@@ -50,7 +55,7 @@ pub enum Answer {
 }
 
 /// The name of these bytes.
-fn name_of(bytes: &[u8]) -> Name {
+pub fn name_of(bytes: &[u8]) -> Name {
     match Name::of(bytes) {
         Some(name) => name,
         None => Name::empty(),
@@ -65,13 +70,34 @@ fn done(made: Result<(), Errno>) -> Answer {
     }
 }
 
+/// The answer of a call that makes a chip.
+fn at(made: Result<u8, Errno>) -> Answer {
+    match made {
+        Ok(place) => Answer::At(place),
+        Err(errno) => Answer::Refused(errno),
+    }
+}
+
+/// The answer of a call that opens a chip.
+fn opened(made: Result<ChipFd, Errno>) -> Answer {
+    match made {
+        Ok(file) => Answer::Opened(file.number(), file.place()),
+        Err(errno) => Answer::Refused(errno),
+    }
+}
+
 /// The answer of a call that gives a text.
 fn text(read: Result<Name, Errno>) -> Answer {
     match read {
-        Ok(name) => match name.as_bytes().first() {
-            Some(first) => Answer::Text(name.as_bytes().len(), *first),
-            None => Answer::Text(0, 0),
-        },
+        Ok(name) => Answer::Text(name),
+        Err(errno) => Answer::Refused(errno),
+    }
+}
+
+/// The answer of a call that looks for lines.
+fn found(made: Result<(u8, u32, u32), Errno>) -> Answer {
+    match made {
+        Ok((place, offset, count)) => Answer::Found(place, offset, count),
         Err(errno) => Answer::Refused(errno),
     }
 }
@@ -79,41 +105,22 @@ fn text(read: Result<Name, Errno>) -> Answer {
 /// Makes one step.
 pub fn take_step<D: Driver<Core>, R: Wait>(
     rt: &R,
-    gpio: &Gpio<D>,
-    actor: &mut Actor<D>,
+    alloc: Global,
+    device: &mut Device<D>,
     step: Step,
-) -> Answer
-    requires actor { IsActorOf gpio.now actor.old }
-    ensures actor { IsActorOf gpio.now actor.new }
-    ensures same { IsSame actor.old.pass.view actor.new.pass.view }
-{
+) -> Answer {
     match step {
-        Step::Probe => match gpio.probe(rt, actor, Name::empty(), 4, Kind::Simulated) {
-            Ok(place) => Answer::At(place),
-            Err(errno) => Answer::Refused(errno),
-        },
-        Step::MakeDir(path) => match Path::of(path) {
-            Some(path) => done(gpio.mkdir(rt, actor, &path)),
-            None => Answer::Refused(Errno::Inval),
-        },
-        Step::RemoveDir(path) => match Path::of(path) {
-            Some(path) => done(gpio.rmdir(rt, actor, &path)),
-            None => Answer::Refused(Errno::Inval),
-        },
-        Step::Write(path, value) => match Path::of(path) {
-            Some(path) => done(gpio.write(rt, actor, &path, &name_of(value))),
-            None => Answer::Refused(Errno::Inval),
-        },
-        Step::Read(path) => match Path::of(path) {
-            Some(path) => text(gpio.read(rt, actor, &path)),
-            None => Answer::Refused(Errno::Inval),
-        },
-        Step::Live(device, up) => done(gpio.live(rt, actor, &name_of(device), up)),
-        Step::Unplug => done(gpio.unplug(rt, actor, 0)),
-        Step::Tick(mono, real) => done(gpio.tick(rt, actor, mono, real)),
-        Step::Find(name) => match gpio.find(rt, actor, None, &name_of(name)) {
-            Ok((place, offset, count)) => Answer::Found(place, offset, count),
-            Err(errno) => Answer::Refused(errno),
-        },
+        Step::Probe => at(device.probe(rt, name_of(b"demo"), 4, Kind::Simulated)),
+        Step::ProbeRemote => at(device.probe(rt, name_of(b"remote"), 2, Kind::Remote)),
+        Step::MakeDir(path) => done(device.mkdir(rt, path)),
+        Step::RemoveDir(path) => done(device.rmdir(rt, path)),
+        Step::Write(path, value) => done(device.write(rt, path, &name_of(value))),
+        Step::Read(path) => text(device.read(rt, path)),
+        Step::Live(name, up) => done(device.live(rt, &name_of(name), up)),
+        Step::Unplug(place) => done(device.unplug(rt, place % PLACES)),
+        Step::Open(word) => opened(device.open(rt, alloc, word)),
+        Step::Tick(mono, real) => done(device.tick(rt, mono, real)),
+        Step::Find(name) => found(device.find(rt, &name_of(name))),
+        Step::FindAt(place, name) => found(device.find_at(rt, place % PLACES, &name_of(name))),
     }
 }

@@ -1,16 +1,14 @@
 //! What the calls on a chip file are answered.
 
 ghost use Rattle.std.specs.Prelude.{◌≤◌};
-ghost use Rattle.gl_chip.specs.Values.{IsActorOf};
 
-use gl_base::Errno;
-use gl_base::command::{
-    GET_CHIPINFO, GET_LINE, GET_LINEINFO, GET_LINEINFO_UNWATCH, GET_LINEINFO_WATCH,
-};
-use gl_chip::{Actor, ChipFd, Gpio};
+use crate::devices::Device;
+use gl_base::command::{GET_CHIPINFO, GET_LINEINFO, GET_LINEINFO_UNWATCH, GET_LINEINFO_WATCH};
+use gl_base::{Errno, flag};
+use gl_chip::ChipFd;
 use gl_core::Core;
 use gl_driver::Driver;
-use gl_uapi::layout::{CHIP_INFO_SIZE, LINE_INFO_SIZE, LINE_REQUEST_SIZE, UNWATCH_SIZE};
+use gl_uapi::layout::{CHIP_INFO_SIZE, LINE_INFO_SIZE, UNWATCH_SIZE};
 use std::alloc::Global;
 use std::sync::Wait;
 
@@ -25,17 +23,32 @@ pub struct OnChipFile {
     pub watch: Result<(), Errno>,
     /// GET_LINEINFO_UNWATCH of line 0.
     pub unwatch: Result<(), Errno>,
-    /// GET_LINE of no lines.
-    pub get_line: Result<(), Errno>,
+    /// GET_LINE of line 1 as an input, which gives the number of the request.
+    pub get_line: Result<u32, Errno>,
     /// A poll.
     pub poll: Result<u8, Errno>,
     /// A read into a buffer that one change fits into.
     pub read: Result<u32, Errno>,
-    /// A read into a buffer that is one byte shorter.
+    /// A read into a buffer that is one byte shorter, which each open file answers alike, whatever its kind.
     pub short_read: Result<u32, Errno>,
 }
 
 impl OnChipFile {
+    /// The answers on a file of a chip that is there, where nothing happened to the line that it watches in between. The request
+    /// that it makes gets this number.
+    pub fn quiet(number: u32) -> OnChipFile {
+        OnChipFile {
+            chip_info: Ok(()),
+            line_info: Ok(()),
+            watch: Ok(()),
+            unwatch: Ok(()),
+            get_line: Ok(number),
+            poll: Ok(0),
+            read: Err(Errno::Again),
+            short_read: Err(Errno::Inval),
+        }
+    }
+
     /// All calls were refused for one reason, but that the poll was answered so.
     pub fn refused(errno: Errno, poll: Result<u8, Errno>) -> OnChipFile {
         OnChipFile {
@@ -55,68 +68,61 @@ impl OnChipFile {
 fn command<D: Driver<Core>, R: Wait>(
     rt: &R,
     alloc: Global,
-    gpio: &Gpio<D>,
-    actor: &mut Actor<D>,
-    fd: &ChipFd,
+    device: &mut Device<D>,
+    file: &ChipFd,
     cmd: u32,
     size: usize,
 ) -> Result<(), Errno>
-    requires actor { IsActorOf gpio.now actor.old }
-    requires size { size ≤ 592 }
-    ensures actor { IsActorOf gpio.now actor.new }
+    requires size { size ≤ 256 }
 {
-    let mut bytes = [0; LINE_REQUEST_SIZE];
-    match gpio.chip_ioctl(rt, alloc, actor, fd, cmd, &mut bytes[..size]) {
+    let mut bytes = [0; LINE_INFO_SIZE];
+    match device.chip_ioctl(rt, alloc, file, cmd, &mut bytes[..size]) {
         Ok(_) => Ok(()),
         Err(errno) => Err(errno),
     }
+}
+
+/// Requests line 1 as an input, and gives the number of the request, which stays open.
+fn request_number<D: Driver<Core>, R: Wait>(
+    rt: &R,
+    alloc: Global,
+    device: &mut Device<D>,
+    file: &ChipFd,
+) -> Result<u32, Errno> {
+    match device.request(rt, alloc, file, &[1], 1 << flag::INPUT) {
+        Ok(line) => Ok(line.number()),
+        Err(errno) => Err(errno),
+    }
+}
+
+/// Reads a chip file into a buffer of so many bytes.
+fn read<D: Driver<Core>, R: Wait>(
+    rt: &R,
+    device: &mut Device<D>,
+    file: &ChipFd,
+    size: usize,
+) -> Result<u32, Errno>
+    requires size { size ≤ 288 }
+{
+    let mut changes = [0; 288];
+    device.read_info(rt, file, &mut changes[..size])
 }
 
 /// Makes each command on a chip file, polls it, and reads it twice.
 pub fn call_on_chip_file<D: Driver<Core>, R: Wait>(
     rt: &R,
     alloc: Global,
-    gpio: &Gpio<D>,
-    actor: &mut Actor<D>,
-    fd: &ChipFd,
-) -> OnChipFile
-    requires actor { IsActorOf gpio.now actor.old }
-    ensures actor { IsActorOf gpio.now actor.new }
-{
-    let chip_info = command(rt, alloc, gpio, actor, fd, GET_CHIPINFO, CHIP_INFO_SIZE);
-    let line_info = command(rt, alloc, gpio, actor, fd, GET_LINEINFO, LINE_INFO_SIZE);
-    let watch = command(
-        rt,
-        alloc,
-        gpio,
-        actor,
-        fd,
-        GET_LINEINFO_WATCH,
-        LINE_INFO_SIZE,
-    );
-    let unwatch = command(
-        rt,
-        alloc,
-        gpio,
-        actor,
-        fd,
-        GET_LINEINFO_UNWATCH,
-        UNWATCH_SIZE,
-    );
-    let get_line = command(rt, alloc, gpio, actor, fd, GET_LINE, LINE_REQUEST_SIZE);
-    let poll = gpio.poll_chip(rt, actor, fd);
-    let mut changes = [0; 288];
-    let read = gpio.read_info(rt, actor, fd, &mut changes);
-    let mut short = [0; 287];
-    let short_read = gpio.read_info(rt, actor, fd, &mut short);
+    device: &mut Device<D>,
+    file: &ChipFd,
+) -> OnChipFile {
     OnChipFile {
-        chip_info,
-        line_info,
-        watch,
-        unwatch,
-        get_line,
-        poll,
-        read,
-        short_read,
+        chip_info: command(rt, alloc, device, file, GET_CHIPINFO, CHIP_INFO_SIZE),
+        line_info: command(rt, alloc, device, file, GET_LINEINFO, LINE_INFO_SIZE),
+        watch: command(rt, alloc, device, file, GET_LINEINFO_WATCH, LINE_INFO_SIZE),
+        unwatch: command(rt, alloc, device, file, GET_LINEINFO_UNWATCH, UNWATCH_SIZE),
+        get_line: request_number(rt, alloc, device, file),
+        poll: device.poll_chip(rt, file),
+        read: read(rt, device, file, 288),
+        short_read: read(rt, device, file, 287),
     }
 }

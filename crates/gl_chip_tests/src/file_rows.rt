@@ -144,3 +144,53 @@ pub fn rows_of_requests() -> [Row; 29] {
         row(get, b"00*8 01 00*7", FileAnswer::Done, b"00*8 01 00*7"),
     ]
 }
+
+/// A configuration of line 0 as an input, and of line 1 as an input and an output.
+const LINE_ONE_FAULTY: &[u8] =
+    b"04 00*7 01000000 00*20 0100000000000000 0c00000000000000 0200000000000000 00*216";
+
+/// A configuration of line 0 as an input and an output, and of line 1 as an input.
+const LINE_ZERO_FAULTY: &[u8] =
+    b"04 00*7 01000000 00*20 0100000000000000 0c00000000000000 0100000000000000 00*216";
+
+/// A request of two lines, whose number is 4, where line 1 counts.
+pub fn rows_of_two_lines() -> [Row; 2] {
+    [
+        row(
+            OnFile::ChipCommand(GET_LINE),
+            OUT_AND_IN,
+            FileAnswer::Made(4),
+            OUT_AND_IN_MADE,
+        ),
+        refused(
+            OnFile::RequestCommand(LINE_SET_CONFIG),
+            LINE_ONE_FAULTY,
+            Errno::Inval,
+        ),
+    ]
+}
+
+/// A request of line 0 alone, whose number is 4 too, and whose line is pulled up.
+pub fn rows_of_one_line() -> [Row; 2] {
+    [
+        row(
+            OnFile::ChipCommand(GET_LINE),
+            b"00*288 04 00*271 01000000 00*28",
+            FileAnswer::Made(4),
+            b"00*288 04 00*271 01000000 00*24 04000000",
+        ),
+        bare(OnFile::Pull(0, true), FileAnswer::Done),
+    ]
+}
+
+/// What the file of that request of two lines is answered where its number is that of the request of line 0: it is the latter,
+/// so line 1 doesn't count.
+pub fn rows_of_the_stranger() -> [Row; 3] {
+    let config = OnFile::RequestCommand(LINE_SET_CONFIG);
+    let get = OnFile::RequestCommand(LINE_GET_VALUES);
+    [
+        row(config, LINE_ONE_FAULTY, FileAnswer::Done, LINE_ONE_FAULTY),
+        row(get, b"00*8 01 00*7", FileAnswer::Done, b"01 00*7 01 00*7"),
+        refused(config, LINE_ZERO_FAULTY, Errno::Inval),
+    ]
+}

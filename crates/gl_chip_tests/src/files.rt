@@ -1,10 +1,10 @@
 //! Calls on the open files of a device, as rows of a table, with the bytes of their buffers.
 
 ghost use Rattle.std.specs.Prelude.{◌<◌, ◌^◌, length};
-ghost use Rattle.gl_chip.specs.Values.{IsActorOf};
 
+use crate::devices::Device;
 use gl_base::{Errno, put_piece};
-use gl_chip::{Actor, ChipFd, Gpio, LineFd};
+use gl_chip::{ChipFd, LineFd};
 use gl_core::Core;
 use gl_driver::Driver;
 use std::alloc::Global;
@@ -83,21 +83,9 @@ fn ready(polled: Result<u8, Errno>) -> FileAnswer {
     }
 }
 
-/// Makes a command on the chip file, and keeps the request that it made.
-fn command_chip<D: Driver<Core>, R: Wait>(
-    rt: &R,
-    alloc: Global,
-    gpio: &Gpio<D>,
-    actor: &mut Actor<D>,
-    files: &mut Files,
-    cmd: u32,
-    buffer: &mut [u8],
-) -> FileAnswer
-    requires actor { IsActorOf gpio.now actor.old }
-    requires buffer { length buffer.old < 2 ^ 32 }
-    ensures actor { IsActorOf gpio.now actor.new }
-{
-    match gpio.chip_ioctl(rt, alloc, actor, &files.chip, cmd, buffer) {
+/// The answer of a command on a chip file. The request that it made becomes that of these files.
+fn made(files: &mut Files, made: Result<Option<LineFd>, Errno>) -> FileAnswer {
+    match made {
         Ok(Some(line)) => {
             let number = line.number();
             files.request = Some(line);
@@ -111,20 +99,17 @@ fn command_chip<D: Driver<Core>, R: Wait>(
 /// Makes a call on the request.
 fn call_request<D: Driver<Core>, R: Wait>(
     rt: &R,
-    gpio: &Gpio<D>,
-    actor: &mut Actor<D>,
+    device: &mut Device<D>,
     line: &LineFd,
     what: OnFile,
     buffer: &mut [u8],
 ) -> FileAnswer
-    requires actor { IsActorOf gpio.now actor.old }
     requires buffer { length buffer.old < 2 ^ 32 }
-    ensures actor { IsActorOf gpio.now actor.new }
 {
     match what {
-        OnFile::RequestCommand(cmd) => done(gpio.line_ioctl(rt, actor, line, cmd, buffer)),
-        OnFile::ReadRequest => bytes(gpio.read_edges(rt, actor, line, buffer)),
-        OnFile::PollRequest => ready(gpio.poll_line(rt, actor, line)),
+        OnFile::RequestCommand(cmd) => done(device.line_ioctl(rt, line, cmd, buffer)),
+        OnFile::ReadRequest => bytes(device.read_edges(rt, line, buffer)),
+        OnFile::PollRequest => ready(device.poll_line(rt, line)),
         _ => FileAnswer::NoRequest,
     }
 }
@@ -132,56 +117,52 @@ fn call_request<D: Driver<Core>, R: Wait>(
 /// Closes the request, where there is one.
 fn close_request<D: Driver<Core>, R: Wait>(
     rt: &R,
-    gpio: &Gpio<D>,
-    actor: &mut Actor<D>,
+    device: &mut Device<D>,
     files: &mut Files,
-) -> FileAnswer
-    requires actor { IsActorOf gpio.now actor.old }
-    ensures actor { IsActorOf gpio.now actor.new }
-{
+) -> FileAnswer {
     match files.request.take() {
-        Some(line) => match gpio.close_line(rt, actor, line) {
+        Some(line) => match device.close_line(rt, line) {
             Ok(()) => FileAnswer::Done,
-            Err((_, errno)) => FileAnswer::Refused(errno),
+            Err(back) => FileAnswer::Refused(back.errno),
         },
         None => FileAnswer::NoRequest,
     }
 }
 
 /// Makes one call.
-pub fn call<D: Driver<Core>, R: Wait>(
+fn call<D: Driver<Core>, R: Wait>(
     rt: &R,
     alloc: Global,
-    gpio: &Gpio<D>,
-    actor: &mut Actor<D>,
+    device: &mut Device<D>,
     files: &mut Files,
     what: OnFile,
     buffer: &mut [u8],
 ) -> FileAnswer
-    requires actor { IsActorOf gpio.now actor.old }
     requires buffer { length buffer.old < 2 ^ 32 }
-    ensures actor { IsActorOf gpio.now actor.new }
 {
     match what {
-        OnFile::ChipCommand(cmd) => command_chip(rt, alloc, gpio, actor, files, cmd, buffer),
-        OnFile::ReadChip => bytes(gpio.read_info(rt, actor, &files.chip, buffer)),
-        OnFile::PollChip => ready(gpio.poll_chip(rt, actor, &files.chip)),
-        OnFile::CloseRequest => close_request(rt, gpio, actor, files),
-        OnFile::Pull(offset, up) => done(gpio.set_pull(rt, actor, 0, offset, up)),
-        OnFile::Tick(mono, real) => done(gpio.tick(rt, actor, mono, real)),
+        OnFile::ChipCommand(cmd) => {
+            let answer = device.chip_ioctl(rt, alloc, &files.chip, cmd, buffer);
+            made(files, answer)
+        }
+        OnFile::ReadChip => bytes(device.read_info(rt, &files.chip, buffer)),
+        OnFile::PollChip => ready(device.poll_chip(rt, &files.chip)),
+        OnFile::CloseRequest => close_request(rt, device, files),
+        OnFile::Pull(offset, up) => done(device.set_pull(rt, 0, offset, up)),
+        OnFile::Tick(mono, real) => done(device.tick(rt, mono, real)),
         OnFile::Plan(nth) => {
-            actor.plan(nth);
+            device.plan(nth);
             FileAnswer::Done
         }
         _ => match &files.request {
-            Some(line) => call_request(rt, gpio, actor, line, what, buffer),
+            Some(line) => call_request(rt, device, line, what, buffer),
             None => FileAnswer::NoRequest,
         },
     }
 }
 
 /// The bytes that a text says: pairs of hexadecimal digits, and `HH*N`, which is that byte N times, with blanks between.
-pub fn bytes_of(alloc: Global, text: &[u8]) -> Result<Vec<u8>, Errno> {
+fn bytes_of(alloc: Global, text: &[u8]) -> Result<Vec<u8>, Errno> {
     let mut bytes = Vec::new(alloc);
     for word in text.split(|byte| *byte == b' ') {
         put_piece(word, &mut bytes)?;
@@ -199,30 +180,34 @@ pub struct Row {
 }
 
 /// Whether a call with the buffer of a row is answered as the row says, and leaves the buffer so.
-pub fn is_so<D: Driver<Core>, R: Wait>(
+fn is_so<D: Driver<Core>, R: Wait>(
     rt: &R,
     alloc: Global,
-    gpio: &Gpio<D>,
-    actor: &mut Actor<D>,
+    device: &mut Device<D>,
     files: &mut Files,
     row: &Row,
-) -> Result<bool, Errno>
-    requires actor { IsActorOf gpio.now actor.old }
-    ensures actor { IsActorOf gpio.now actor.new }
-{
+) -> Result<bool, Errno> {
     let mut buffer = bytes_of(alloc, row.given)?;
     let left = bytes_of(alloc, row.left)?;
     if buffer.len() > 10_000 {
         return Err(Errno::Inval);
     }
-    let answer = call(
-        rt,
-        alloc,
-        gpio,
-        actor,
-        files,
-        row.what,
-        buffer.as_mut_slice(),
-    );
+    let answer = call(rt, alloc, device, files, row.what, buffer.as_mut_slice());
     Ok(answer == row.answer && buffer.as_slice() == left.as_slice())
+}
+
+/// Makes the calls of all rows. The first one that is answered otherwise, or leaves its buffer otherwise, if there is one.
+pub fn first_wrong<D: Driver<Core>, R: Wait>(
+    rt: &R,
+    alloc: Global,
+    device: &mut Device<D>,
+    files: &mut Files,
+    rows: &[Row],
+) -> Result<Option<usize>, Errno> {
+    for (i, row) in rows.iter().enumerate() {
+        if !is_so(rt, alloc, device, files, row)? {
+            return Ok(Some(i));
+        }
+    }
+    Ok(None)
 }

@@ -5,6 +5,7 @@
 mod boards;
 #[cfg(test)]
 mod chip_files;
+#[cfg(test)]
 mod devices;
 #[cfg(test)]
 mod file_rows;
@@ -12,6 +13,8 @@ mod file_rows;
 mod file_tests;
 #[cfg(test)]
 mod files;
+#[cfg(test)]
+mod joining;
 #[cfg(test)]
 mod load_tests;
 #[cfg(test)]

@@ -1,6 +1,6 @@
 use crate::on_requests::OnRequest;
 use crate::taking_down::take_down_under_load;
-use crate::under_load::{UnderLoad, unplug_under_load};
+use crate::under_load::{Seen, UnderLoad, unplug_under_load};
 use gl_base::Errno;
 use std::test::Fail;
 
@@ -8,7 +8,11 @@ use std::test::Fail;
 fn a_chip_is_unplugged_while_an_actor_is_held_in_its_driver(rt: HostRuntime) -> Result<(), Fail> {
     let wanted = UnderLoad {
         unplugged: Ok(()),
-        hung_up: true,
+        seen: Seen {
+            hung_up: true,
+            opened: Err(Errno::NoDev),
+            unplugged: Err(Errno::Busy),
+        },
         on_request: OnRequest::refused(Errno::NoDev, Ok(6)),
         closed: true,
         in_order: true,

@@ -2,10 +2,9 @@
 
 ghost use Rattle.std.specs.Prelude.{◌<◌};
 ghost use Rattle.gl_base.specs.declared.limits.TheConstants.{PLACES};
-ghost use Rattle.gl_chip.specs.Values.{IsActorOf};
 
+use crate::devices::Device;
 use gl_base::{Errno, IrqDo, PinDo};
-use gl_chip::{Actor, Gpio};
 use gl_core::Core;
 use gl_driver::Driver;
 use std::sync::Wait;
@@ -22,6 +21,30 @@ pub struct OnPlace {
 }
 
 impl OnPlace {
+    /// The answers on a line of a simulated chip that is high, and no interrupt of a driver.
+    pub fn simulated() -> OnPlace {
+        OnPlace {
+            set_pull: Ok(()),
+            level: Ok(true),
+            pull: Ok(true),
+            interrupt: Err(Errno::Inval),
+            pin: Ok(()),
+            irq: Ok(()),
+        }
+    }
+
+    /// The answers on a line of a remote chip: its driver alone tells of levels.
+    pub fn remote() -> OnPlace {
+        OnPlace {
+            set_pull: Err(Errno::Inval),
+            level: Err(Errno::Inval),
+            pull: Err(Errno::Inval),
+            interrupt: Ok(()),
+            pin: Ok(()),
+            irq: Ok(()),
+        }
+    }
+
     /// All calls were refused for one reason.
     pub fn refused(errno: Errno) -> OnPlace {
         OnPlace {
@@ -38,32 +61,23 @@ impl OnPlace {
 /// Pulls a line up, reads its level and its pull, tells of an interrupt, makes two lines the pins 7 and 8, and locks the line as an interrupt.
 pub fn call_on_place<D: Driver<Core>, R: Wait>(
     rt: &R,
-    gpio: &Gpio<D>,
-    actor: &mut Actor<D>,
+    device: &mut Device<D>,
     place: u8,
     offset: u32,
 ) -> OnPlace
-    requires actor { IsActorOf gpio.now actor.old }
     requires place { place < PLACES }
-    ensures actor { IsActorOf gpio.now actor.new }
 {
-    let set_pull = gpio.set_pull(rt, actor, place, offset, true);
-    let level = gpio.level(rt, actor, place, offset);
-    let pull = gpio.pull(rt, actor, place, offset);
-    let interrupt = gpio.interrupt(rt, actor, place, offset, true);
     let range = PinDo::Range {
         offset: 0,
         pin: 7,
         count: 2,
     };
-    let pin = gpio.pin(rt, actor, place, range);
-    let irq = gpio.irq(rt, actor, place, offset, IrqDo::Lock);
     OnPlace {
-        set_pull,
-        level,
-        pull,
-        interrupt,
-        pin,
-        irq,
+        set_pull: device.set_pull(rt, place, offset, true),
+        level: device.level(rt, place, offset),
+        pull: device.pull(rt, place, offset),
+        interrupt: device.interrupt(rt, place, offset, true),
+        pin: device.pin(rt, place, range),
+        irq: device.irq(rt, place, offset, IrqDo::Lock),
     }
 }

@@ -26,11 +26,23 @@ pub struct OnRequest {
     pub poll: Result<u8, Errno>,
     /// A read into a buffer that one event fits into.
     pub read: Result<u32, Errno>,
-    /// A read into a buffer that is one byte shorter.
+    /// A read into a buffer that is one byte shorter, which each open file answers alike, whatever its kind.
     pub short_read: Result<u32, Errno>,
 }
 
 impl OnRequest {
+    /// The answers on a request of an output without edges.
+    pub fn set() -> OnRequest {
+        OnRequest {
+            set_config: Ok(()),
+            set_values: Ok(()),
+            get_values: Ok(1),
+            poll: Ok(0),
+            read: Err(Errno::Again),
+            short_read: Err(Errno::Inval),
+        }
+    }
+
     /// All calls were refused for one reason, but that the poll was answered so.
     pub fn refused(errno: Errno, poll: Result<u8, Errno>) -> OnRequest {
         OnRequest {

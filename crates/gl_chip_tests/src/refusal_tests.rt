@@ -1,122 +1,161 @@
-use crate::boards::{Answer, Step, take_step};
+use crate::boards::{Answer, Step, name_of, take_step};
 use crate::chip_files::{OnChipFile, call_on_chip_file};
-use crate::devices::{device, open};
+use crate::devices::{Device, HandedBack};
 use crate::on_places::{OnPlace, call_on_place};
-use crate::on_requests::{OnRequest, call_on_request};
-use crate::requesting::request;
-use gl_base::{Errno, Kind, Name, flag};
+use crate::on_requests::OnRequest;
+use gl_base::{Errno, Kind, flag};
+use gl_chip::{ChipFd, LineFd};
 use gl_driver::{SimDriver, SimPort};
+use std::alloc::Global;
+use std::sync::Wait;
 use std::test::Fail;
+
+/// A device with simulated chips of four lines at the places 0 and 1.
+fn with_two_chips<R: Wait>(rt: &R, alloc: Global, room: u32) -> Result<Device<SimDriver>, Errno> {
+    let mut device = Device::new(alloc, SimDriver::new(), SimPort::new(), room)?;
+    device.probe(rt, name_of(b"first"), 4, Kind::Simulated)?;
+    device.probe(rt, name_of(b"second"), 4, Kind::Simulated)?;
+    Ok(device)
+}
+
+/// A file of the chip at place 1, whose number is 3, and a request of its line 3 as an output, whose number is 4.
+fn open_both<R: Wait>(
+    rt: &R,
+    alloc: Global,
+    device: &mut Device<SimDriver>,
+) -> Result<(ChipFd, LineFd), Errno> {
+    let file = device.open(rt, alloc, b"/dev/gpiochip1")?;
+    let line = device.request(rt, alloc, &file, &[3], 1 << flag::OUTPUT)?;
+    Ok((file, line))
+}
+
+/// What the calls on a chip file and on a request are answered.
+#[derive(Clone, Copy, PartialEq, Eq)]
+struct OnBoth {
+    on_chip_file: OnChipFile,
+    on_request: OnRequest,
+}
+
+impl OnBoth {
+    /// All calls were refused for one reason, but that the polls were answered so.
+    fn refused(errno: Errno, poll: Result<u8, Errno>) -> OnBoth {
+        OnBoth {
+            on_chip_file: OnChipFile::refused(errno, poll),
+            on_request: OnRequest::refused(errno, poll),
+        }
+    }
+}
+
+/// Makes all calls on a chip file and on a request.
+fn call_on_both<R: Wait>(
+    rt: &R,
+    alloc: Global,
+    device: &mut Device<SimDriver>,
+    file: &ChipFd,
+    line: &LineFd,
+) -> OnBoth {
+    OnBoth {
+        on_chip_file: call_on_chip_file(rt, alloc, device, file),
+        on_request: device.call_on_request(rt, line),
+    }
+}
+
+/// Closes the request and the chip file. Whether both were handed back, with their numbers and places, for this reason.
+fn are_handed_back<R: Wait>(
+    rt: &R,
+    device: &mut Device<SimDriver>,
+    file: ChipFd,
+    line: LineFd,
+    errno: Errno,
+) -> bool {
+    let place = 1;
+    let file_back = HandedBack {
+        number: 3,
+        place,
+        errno,
+    };
+    let line_back = HandedBack {
+        number: 4,
+        place,
+        errno,
+    };
+    device.close_line(rt, line) == Err(line_back) && device.close_chip(rt, file) == Err(file_back)
+}
 
 #[test]
 fn open_files_outlive_their_chip(rt: HostRuntime) -> Result<(), Fail> {
-    let (gpio, mut actor) = device(rt.alloc(), SimDriver::new(), SimPort::new(), 100)?;
-    gpio.probe(&rt, &mut actor, Name::empty(), 4, Kind::Simulated)?;
-    let file = open(&rt, rt.alloc(), &gpio, &mut actor, b"/dev/gpiochip0")?;
-    let flags = 1 << flag::OUTPUT;
-    let line = request(&rt, rt.alloc(), &gpio, &mut actor, &file, &[3], flags)?;
-    let quiet = OnChipFile {
-        chip_info: Ok(()),
-        line_info: Ok(()),
-        watch: Ok(()),
-        unwatch: Ok(()),
-        get_line: Err(Errno::Inval),
-        poll: Ok(0),
-        read: Err(Errno::Again),
-        short_read: Err(Errno::Inval),
+    let mut device = with_two_chips(&rt, rt.alloc(), 100)?;
+    let (file, line) = open_both(&rt, rt.alloc(), &mut device)?;
+    let there = OnBoth {
+        on_chip_file: OnChipFile::quiet(5),
+        on_request: OnRequest::set(),
     };
-    assert!(rt; call_on_chip_file(&rt, rt.alloc(), &gpio, &mut actor, &file) == quiet);
-    let held = OnRequest {
-        set_config: Ok(()),
-        set_values: Ok(()),
-        get_values: Ok(1),
-        poll: Ok(0),
-        read: Err(Errno::Again),
-        short_read: Err(Errno::Inval),
-    };
-    assert!(rt; call_on_request(&rt, &gpio, &mut actor, &line) == held);
-    gpio.unplug(&rt, &mut actor, 0)?;
-    let gone = OnChipFile::refused(Errno::NoDev, Ok(6));
-    assert!(rt; call_on_chip_file(&rt, rt.alloc(), &gpio, &mut actor, &file) == gone);
-    let gone = OnRequest::refused(Errno::NoDev, Ok(6));
-    assert!(rt; call_on_request(&rt, &gpio, &mut actor, &line) == gone);
-    assert!(rt; gpio.close_line(&rt, &mut actor, line).is_ok());
-    assert!(rt; gpio.close_chip(&rt, &mut actor, file).is_ok());
+    assert!(rt; call_on_both(&rt, rt.alloc(), &mut device, &file, &line) == there);
+    device.unplug(&rt, 1)?;
+    let gone = OnBoth::refused(Errno::NoDev, Ok(6));
+    assert!(rt; call_on_both(&rt, rt.alloc(), &mut device, &file, &line) == gone);
+    assert!(rt; device.close_line(&rt, line) == Ok(()) && device.close_chip(&rt, file) == Ok(()));
     Ok(())
 }
 
 #[test]
 fn a_file_of_another_kind_is_refused_and_so_is_a_closed_one(rt: HostRuntime) -> Result<(), Fail> {
-    let (gpio, mut actor) = device(rt.alloc(), SimDriver::new(), SimPort::new(), 100)?;
-    gpio.probe(&rt, &mut actor, Name::empty(), 4, Kind::Simulated)?;
-    let chip = open(&rt, rt.alloc(), &gpio, &mut actor, b"0")?;
-    let flags = 1 << flag::INPUT;
-    let line = request(&rt, rt.alloc(), &gpio, &mut actor, &chip, &[0], flags)?;
-    let (second, mut other) = device(rt.alloc(), SimDriver::new(), SimPort::new(), 100)?;
-    second.probe(&rt, &mut other, Name::empty(), 4, Kind::Simulated)?;
-    let third_file = open(&rt, rt.alloc(), &second, &mut other, b"0")?;
-    let fourth_file = open(&rt, rt.alloc(), &second, &mut other, b"0")?;
-    assert!(rt; third_file.number() == chip.number() && fourth_file.number() == line.number());
-    let unlike = OnChipFile::refused(Errno::Inval, Err(Errno::Inval));
-    assert!(rt; call_on_chip_file(&rt, rt.alloc(), &gpio, &mut actor, &fourth_file) == unlike);
-    let unlike = OnRequest::refused(Errno::Inval, Err(Errno::Inval));
-    assert!(rt; call_on_request(&rt, &second, &mut other, &line) == unlike);
-    assert!(rt; second.close_chip(&rt, &mut other, third_file).is_ok());
-    assert!(rt; second.close_chip(&rt, &mut other, fourth_file).is_ok());
-    let closed = OnChipFile::refused(Errno::BadF, Err(Errno::BadF));
-    assert!(rt; call_on_chip_file(&rt, rt.alloc(), &second, &mut other, &chip) == closed);
-    let closed = OnRequest::refused(Errno::BadF, Err(Errno::BadF));
-    assert!(rt; call_on_request(&rt, &second, &mut other, &line) == closed);
-    match second.close_line(&rt, &mut other, line) {
-        Ok(()) => panic!(rt; "closed twice"),
-        Err((line, errno)) => assert!(rt; line.number() == 4 && errno == Errno::BadF),
-    }
+    let mut device = with_two_chips(&rt, rt.alloc(), 100)?;
+    let (file, line) = open_both(&rt, rt.alloc(), &mut device)?;
+    let mut second = with_two_chips(&rt, rt.alloc(), 100)?;
+    let third_file = second.open(&rt, rt.alloc(), b"1")?;
+    let fourth_file = second.open(&rt, rt.alloc(), b"1")?;
+    assert!(rt; third_file.number() == file.number() && fourth_file.number() == line.number());
+    let unlike = OnBoth::refused(Errno::Inval, Err(Errno::Inval));
+    let told = OnBoth {
+        on_chip_file: call_on_chip_file(&rt, rt.alloc(), &mut device, &fourth_file),
+        on_request: second.call_on_request(&rt, &line),
+    };
+    assert!(rt; told == unlike);
+    assert!(rt; second.close_chip(&rt, third_file) == Ok(()));
+    assert!(rt; second.close_chip(&rt, fourth_file) == Ok(()));
+    let closed = OnBoth::refused(Errno::BadF, Err(Errno::BadF));
+    assert!(rt; call_on_both(&rt, rt.alloc(), &mut second, &file, &line) == closed);
+    assert!(rt; are_handed_back(&rt, &mut second, file, line, Errno::BadF));
     Ok(())
 }
 
 #[test]
 fn a_full_history_refuses_every_call(rt: HostRuntime) -> Result<(), Fail> {
-    let (gpio, mut actor) = device(rt.alloc(), SimDriver::new(), SimPort::new(), 3)?;
-    gpio.probe(&rt, &mut actor, Name::empty(), 4, Kind::Simulated)?;
-    let file = open(&rt, rt.alloc(), &gpio, &mut actor, b"0")?;
-    let flags = 1 << flag::INPUT;
-    let line = request(&rt, rt.alloc(), &gpio, &mut actor, &file, &[0], flags)?;
-    let full = OnPlace::refused(Errno::Full);
-    assert!(rt; call_on_place(&rt, &gpio, &mut actor, 0, 1) == full);
-    let full = OnChipFile::refused(Errno::Full, Err(Errno::Full));
-    assert!(rt; call_on_chip_file(&rt, rt.alloc(), &gpio, &mut actor, &file) == full);
-    let full = OnRequest::refused(Errno::Full, Err(Errno::Full));
-    assert!(rt; call_on_request(&rt, &gpio, &mut actor, &line) == full);
-    match gpio.close_line(&rt, &mut actor, line) {
-        Ok(()) => panic!(rt; "closed"),
-        Err((line, errno)) => assert!(rt; line.number() == 4 && errno == Errno::Full),
-    }
+    let mut device = with_two_chips(&rt, rt.alloc(), 4)?;
+    let (file, line) = open_both(&rt, rt.alloc(), &mut device)?;
+    assert!(rt; call_on_place(&rt, &mut device, 0, 1) == OnPlace::refused(Errno::Full));
+    let full = OnBoth::refused(Errno::Full, Err(Errno::Full));
+    assert!(rt; call_on_both(&rt, rt.alloc(), &mut device, &file, &line) == full);
+    assert!(rt; are_handed_back(&rt, &mut device, file, line, Errno::Full));
     Ok(())
 }
 
 #[test]
 fn a_device_without_room_refuses_the_first_call(rt: HostRuntime) -> Result<(), Fail> {
-    let (gpio, mut actor) = device(rt.alloc(), SimDriver::new(), SimPort::new(), 0)?;
+    let mut device = Device::new(rt.alloc(), SimDriver::new(), SimPort::new(), 0)?;
     for step in every_step() {
-        let answer = take_step(&rt, &gpio, &mut actor, step);
-        assert!(rt; answer == Answer::Refused(Errno::Full));
+        let told = take_step(&rt, rt.alloc(), &mut device, step);
+        assert!(rt; told == Answer::Refused(Errno::Full));
     }
-    assert!(rt; open(&rt, rt.alloc(), &gpio, &mut actor, b"0").is_err());
     Ok(())
 }
 
 /// A step of each kind.
-fn every_step() -> [Step; 10] {
+fn every_step() -> [Step; 13] {
     [
         Step::Probe,
+        Step::ProbeRemote,
         Step::MakeDir(b"d"),
         Step::RemoveDir(b"d"),
         Step::Write(b"d/b/label", b"x"),
         Step::Read(b"d/live"),
         Step::Live(b"d", true),
         Step::Live(b"d", false),
-        Step::Unplug,
+        Step::Unplug(0),
+        Step::Open(b"0"),
         Step::Tick(1, 1),
         Step::Find(b"LED"),
+        Step::FindAt(0, b"LED"),
     ]
 }

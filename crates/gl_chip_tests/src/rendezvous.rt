@@ -2,10 +2,11 @@
 
 ghost use Rattle.gl_chip.specs.Values.{IsActorOf};
 
+use crate::devices::Device;
 use crate::requesting::request;
-use gl_base::{Errno, flag};
+use gl_base::{Errno, Kind, Name, flag};
 use gl_chip::{Actor, ChipFd, Gpio};
-use gl_driver::HoldDriver;
+use gl_driver::{HoldDriver, SimPort};
 use std::alloc::Global;
 use std::sync::Wait;
 use std::thread::{Threads, join};
@@ -40,7 +41,7 @@ fn request_once<R: Wait>(
 }
 
 /// Two actors request lines 0 and 1 of one chip, in two threads.
-pub fn request_in_two_threads<R: Threads + Wait + Sync>(
+fn request_in_two_threads<R: Threads + Wait + Sync>(
     rt: &R,
     alloc: Global,
     gpio: &Gpio<HoldDriver>,
@@ -64,4 +65,19 @@ pub fn request_in_two_threads<R: Threads + Wait + Sync>(
             ensures { IsActorOf gpio.entry.now result.0 }
         { request_once(rt, alloc, gpio, second, file, 1) },
     )
+}
+
+/// On a new device two actors request a line each at once, over a driver that lets the first one go only once the second one has
+/// called it. The numbers of the requests.
+pub fn request_at_once<R: Threads + Wait + Sync>(rt: &R, alloc: Global) -> Result<[u32; 2], Errno> {
+    let mut device = Device::new(alloc, HoldDriver::new(2), SimPort::new(), 100)?;
+    device.probe(rt, Name::empty(), 2, Kind::Simulated)?;
+    let file = device.open(rt, alloc, b"gpiochip0")?;
+    let Device { gpio, mut actor } = device;
+    let first = gpio.split(&mut actor, SimPort::new());
+    let second = gpio.split(&mut actor, SimPort::new());
+    let ((_first, one), (_second, two)) = request_in_two_threads(
+        rt, alloc, &gpio, first, second, &file,
+    );
+    Ok([one?, two?])
 }

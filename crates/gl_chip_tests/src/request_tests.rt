@@ -1,50 +1,71 @@
-use crate::devices::device;
-use crate::rendezvous::request_in_two_threads;
-use crate::requesting::{get_values, request, set_values};
-use gl_base::{Errno, Kind, Name, Path, flag};
-use gl_driver::{FakeDriver, HoldDriver, SimPort};
+use crate::devices::Device;
+use crate::joining::{Joined, fail_and_join};
+use crate::rendezvous::request_at_once;
+use gl_base::{Errno, Kind, Name, flag};
+use gl_driver::{FakeDriver, SimPort};
+use std::alloc::Global;
+use std::sync::Wait;
 use std::test::Fail;
+
+/// What came of a request of both lines of a remote chip as inputs, whose driver tells that the first one is high.
+#[derive(Clone, Copy, PartialEq, Eq)]
+struct OnRemote {
+    number: u32,
+    place: u8,
+    has_both: bool,
+    values: Result<u64, Errno>,
+    set_values: Result<(), Errno>,
+}
+
+/// Makes a remote chip, requests its lines 0 and 1 as inputs, and gets and sets their values.
+fn call_on_remote<R: Wait>(
+    rt: &R,
+    alloc: Global,
+    device: &mut Device<FakeDriver>,
+) -> Result<OnRemote, Errno> {
+    device.probe(rt, Name::empty(), 2, Kind::Remote)?;
+    let file = device.open(rt, alloc, b"gpiochip0")?;
+    let line = device.request(rt, alloc, &file, &[0, 1], 1 << flag::INPUT)?;
+    Ok(OnRemote {
+        number: line.number(),
+        place: line.place(),
+        has_both: line.lines().offsets() == [0, 1].as_slice(),
+        values: device.get_values(rt, &line, 3),
+        set_values: device.set_values(rt, &line, 1, 1),
+    })
+}
 
 #[test]
 fn a_remote_chip_shows_what_its_driver_tells(rt: HostRuntime) -> Result<(), Fail> {
     let driver = FakeDriver::new(vec![in rt.alloc(); true, false]?);
-    let (gpio, mut actor) = device(rt.alloc(), driver, SimPort::new(), 100)?;
-    assert!(rt; gpio.probe(&rt, &mut actor, Name::empty(), 2, Kind::Remote) == Ok(0));
-    let word = Path::of(b"gpiochip0").ok_or("a path")?;
-    let Ok(file) = gpio.open_chip(&rt, rt.alloc(), &mut actor, &word) else {
-        panic!(rt; "no file")
+    let mut device = Device::new(rt.alloc(), driver, SimPort::new(), 100)?;
+    let wanted = OnRemote {
+        number: 4,
+        place: 0,
+        has_both: true,
+        values: Ok(1),
+        set_values: Err(Errno::Perm),
     };
-    let flags = 1 << flag::INPUT;
-    let Ok(line) = request(&rt, rt.alloc(), &gpio, &mut actor, &file, &[0, 1], flags) else {
-        panic!(rt; "no request")
-    };
-    assert!(rt; line.number() == 4 && line.place() == 0);
-    assert!(rt; line.lines().offsets() == [0, 1].as_slice());
-    assert!(rt; get_values(&rt, &gpio, &mut actor, &line, 3) == Ok(1));
-    assert!(rt; set_values(&rt, &gpio, &mut actor, &line, 1, 1) == Err(Errno::Perm));
-    assert!(rt; gpio.interrupt(&rt, &mut actor, 0, 1, true) == Ok(()));
-    assert!(rt; gpio.set_pull(&rt, &mut actor, 0, 1, true) == Err(Errno::Inval));
+    assert!(rt; call_on_remote(&rt, rt.alloc(), &mut device)? == wanted);
     Ok(())
 }
 
 #[test]
 fn two_requests_are_held_in_the_driver_at_the_same_time(rt: HostRuntime) -> Result<(), Fail> {
-    let (gpio, mut actor) = device(rt.alloc(), HoldDriver::new(2), SimPort::new(), 100)?;
-    let first = gpio.split(&mut actor, SimPort::new());
-    let second = gpio.split(&mut actor, SimPort::new());
-    assert!(rt; gpio.probe(&rt, &mut actor, Name::empty(), 2, Kind::Simulated) == Ok(0));
-    let word = Path::of(b"gpiochip0").ok_or("a path")?;
-    let Ok(file) = gpio.open_chip(&rt, rt.alloc(), &mut actor, &word) else {
-        panic!(rt; "no file")
+    let mut numbers = request_at_once(&rt, rt.alloc())?;
+    numbers.sort_unstable();
+    assert!(rt; numbers == [4, 5]);
+    Ok(())
+}
+
+#[test]
+fn an_actor_that_is_joined_gives_its_port_back(rt: HostRuntime) -> Result<(), Fail> {
+    let wanted = Joined {
+        numbers: [0, 1],
+        told: Err(Errno::Io),
+        faults: [0, 1],
+        bad: None,
     };
-    let ((_first, one), (_second, two)) = request_in_two_threads(
-        &rt,
-        rt.alloc(),
-        &gpio,
-        first,
-        second,
-        &file,
-    );
-    assert!(rt; one.is_ok() && two.is_ok() && one != two);
+    assert!(rt; fail_and_join(&rt, rt.alloc())? == wanted);
     Ok(())
 }

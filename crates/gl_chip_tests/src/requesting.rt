@@ -1,11 +1,11 @@
-//! Requests of lines, and values of requested lines.
+//! Opened chips, requests of lines, and values of requested lines.
 
 ghost use Rattle.std.specs.Prelude.{◌≤◌, length};
 ghost use Rattle.gl_chip.specs.Values.{IsActorOf};
 ghost use Rattle.gl_chip_tests.specs.Same.{IsSame};
 
 use gl_base::command::{GET_LINE, LINE_GET_VALUES, LINE_SET_VALUES};
-use gl_base::{Errno, Name};
+use gl_base::{Errno, Name, Path};
 use gl_chip::{Actor, ChipFd, Gpio, LineFd};
 use gl_core::Core;
 use gl_driver::Driver;
@@ -13,6 +13,24 @@ use gl_uapi::layout::{LINE_REQUEST_SIZE, LINE_VALUES_SIZE};
 use gl_uapi::{ValuesRef, write_request, write_values};
 use std::alloc::Global;
 use std::sync::Wait;
+
+/// Opens the chip that a word names.
+pub fn open<D: Driver<Core>, R: Wait>(
+    rt: &R,
+    alloc: Global,
+    gpio: &Gpio<D>,
+    actor: &mut Actor<D>,
+    word: &[u8],
+) -> Result<ChipFd, Errno>
+    requires actor { IsActorOf gpio.now actor.old }
+    ensures actor { IsActorOf gpio.now actor.new }
+    ensures same { IsSame actor.old.pass.view actor.new.pass.view }
+{
+    match Path::of(word) {
+        Some(path) => gpio.open_chip(rt, alloc, actor, &path),
+        None => Err(Errno::NoEnt),
+    }
+}
 
 /// Requests some lines of a chip with these flags.
 pub fn request<D: Driver<Core>, R: Wait>(

@@ -1,13 +1,11 @@
 //! A device of the tree is removed while three actors set and get values on its chips.
 
-ghost use Rattle.std.specs.Prelude.{◌≡◌, IfOk};
-ghost use Rattle.gl_base.specs.declared.limits.TheConstants.{PLACES};
 ghost use Rattle.gl_chip.specs.Values.{IsActorOf};
-ghost use Rattle.gl_chip_tests.specs.Same.{IsAlone, IsSame};
+ghost use Rattle.gl_chip_tests.specs.Same.{IsSame};
 
 use crate::boards::{Answer, Step, take_step};
-use crate::devices::{bad_entry, device, open};
-use crate::requesting::{get_values, request, set_values};
+use crate::devices::{Device, bad_entry};
+use crate::requesting::{get_values, set_values};
 use crate::waiting::wait_for;
 use gl_base::{Errno, Name, flag};
 use gl_chip::{Actor, Gpio, LineFd};
@@ -282,52 +280,49 @@ fn call_in_four_threads<R: Threads + Wait + Sync>(
     )
 }
 
-/// Makes a device of three banks, whose chips have the places 0, 1 and 2.
-fn set_up<R: Wait>(rt: &R, gpio: &Gpio<SimDriver>, actor: &mut Actor<SimDriver>) -> bool
-    requires actor { IsActorOf gpio.now actor.old }
-    ensures actor { IsActorOf gpio.now actor.new }
-    ensures same { IsSame actor.old.pass.view actor.new.pass.view }
-{
-    take_step(rt, gpio, actor, Step::MakeDir(b"d")) == Answer::Done
-        && take_step(rt, gpio, actor, Step::MakeDir(b"d/a")) == Answer::Done
-        && take_step(rt, gpio, actor, Step::MakeDir(b"d/b")) == Answer::Done
-        && take_step(rt, gpio, actor, Step::MakeDir(b"d/c")) == Answer::Done
-        && take_step(rt, gpio, actor, Step::Live(b"d", true)) == Answer::Done
+/// The steps that make a device of three banks, whose chips have the places 0, 1 and 2.
+fn steps_up() -> [Step; 5] {
+    [
+        Step::MakeDir(b"d"),
+        Step::MakeDir(b"d/a"),
+        Step::MakeDir(b"d/b"),
+        Step::MakeDir(b"d/c"),
+        Step::Live(b"d", true),
+    ]
+}
+
+/// Makes this device.
+fn set_up<R: Wait>(rt: &R, alloc: Global) -> Result<Device<SimDriver>, Errno> {
+    let mut device = Device::new(alloc, SimDriver::new(), SimPort::new(), ROOM)?;
+    for step in steps_up() {
+        if take_step(rt, alloc, &mut device, step) != Answer::Done {
+            return Err(Errno::Again);
+        }
+    }
+    Ok(device)
 }
 
 /// Opens a chip and requests its line 0 as an output.
 fn request_of<R: Wait>(
     rt: &R,
     alloc: Global,
-    gpio: &Gpio<SimDriver>,
-    actor: &mut Actor<SimDriver>,
+    device: &mut Device<SimDriver>,
     word: &[u8],
-) -> Result<LineFd, Errno>
-    requires actor { IsActorOf gpio.now actor.old }
-    ensures actor { IsActorOf gpio.now actor.new }
-    ensures same { IsSame actor.old.pass.view actor.new.pass.view }
-{
-    let file = open(rt, alloc, gpio, actor, word)?;
-    request(rt, alloc, gpio, actor, &file, &[0], 1 << flag::OUTPUT)
+) -> Result<LineFd, Errno> {
+    let file = device.open(rt, alloc, word)?;
+    device.request(rt, alloc, &file, &[0], 1 << flag::OUTPUT)
 }
 
-/// A device with its first actor, and requests of line 0 of the chips at the places 0, 1 and 2.
-type Used = (Gpio<SimDriver>, Actor<SimDriver>, [LineFd; 3]);
+/// A device, and requests of line 0 of the chips at the places 0, 1 and 2.
+type Used = (Device<SimDriver>, [LineFd; 3]);
 
 /// Makes a device of three banks, and requests a line of each.
-fn used_device<R: Wait>(rt: &R, alloc: Global) -> Result<Used, Errno>
-    ensures actor { IfOk result (λ made. IsActorOf made.0 made.1) }
-    ensures places { IfOk result (λ made. made.0.places ≡ PLACES) }
-    ensures first { IfOk result (λ made. IsAlone made.1.pass.view) }
-{
-    let (gpio, mut actor) = device(alloc, SimDriver::new(), SimPort::new(), ROOM)?;
-    if !set_up(rt, &gpio, &mut actor) {
-        return Err(Errno::Again);
-    }
-    let first = request_of(rt, alloc, &gpio, &mut actor, b"gpiochip0")?;
-    let second = request_of(rt, alloc, &gpio, &mut actor, b"gpiochip1")?;
-    let third = request_of(rt, alloc, &gpio, &mut actor, b"gpiochip2")?;
-    Ok((gpio, actor, [first, second, third]))
+fn used_device<R: Wait>(rt: &R, alloc: Global) -> Result<Used, Errno> {
+    let mut device = set_up(rt, alloc)?;
+    let first = request_of(rt, alloc, &mut device, b"gpiochip0")?;
+    let second = request_of(rt, alloc, &mut device, b"gpiochip1")?;
+    let third = request_of(rt, alloc, &mut device, b"gpiochip2")?;
+    Ok((device, [first, second, third]))
 }
 
 /// What the three actors were answered that used a line, and the fourth that removed the device; and the history.
@@ -336,13 +331,10 @@ type Ended = ([Answers; 3], Result<(), Errno>, Vec<Entry<Core>>);
 /// Removes the device while three actors use its lines, and ends the device.
 fn use_and_take_down<R: Threads + Wait + Sync>(
     rt: &R,
-    gpio: Gpio<SimDriver>,
-    mut actor: Actor<SimDriver>,
+    device: Device<SimDriver>,
     lines: &[LineFd; 3],
-) -> Ended
-    requires actor { IsActorOf gpio actor }
-    requires first { IsAlone actor.pass.view }
-{
+) -> Ended {
+    let Device { gpio, mut actor } = device;
     let actors = Actors {
         first: gpio.split(&mut actor, SimPort::new()),
         second: gpio.split(&mut actor, SimPort::new()),
@@ -376,8 +368,8 @@ pub fn take_down_under_load<R: Threads + Wait + Sync>(
     rt: &R,
     alloc: Global,
 ) -> Result<TakenDown, Errno> {
-    let (gpio, actor, lines) = used_device(rt, alloc)?;
-    let (users, removed, history) = use_and_take_down(rt, gpio, actor, &lines);
+    let (device, lines) = used_device(rt, alloc)?;
+    let (users, removed, history) = use_and_take_down(rt, device, &lines);
     let bad = bad_entry(alloc, history.as_slice())?;
     Ok(TakenDown {
         users,

@@ -2,13 +2,13 @@
 
 ghost use Rattle.std.specs.Prelude.{◌≡◌};
 ghost use Rattle.gl_chip.specs.Values.{IsActorOf};
-ghost use Rattle.gl_chip_tests.specs.Same.{IsAlone, IsSame};
+ghost use Rattle.gl_chip_tests.specs.Same.{IsSame};
 
-use crate::devices::{Opened, bad_entry, opened_device};
+use crate::devices::{Device, bad_entry};
 use crate::on_requests::{OnRequest, call_on_request};
-use crate::requesting::request;
+use crate::requesting::{open, request};
 use crate::waiting::{rest, wait_for};
-use gl_base::{Errno, flag};
+use gl_base::{Errno, Kind, Name, flag};
 use gl_chip::{Actor, ChipFd, Gpio, LineFd};
 use gl_core::{Call, Core, Part, Reply};
 use gl_driver::{Driver, Latch, LatchDriver, SimPort};
@@ -83,29 +83,67 @@ fn poll_until_hung_up<D: Driver<Core>, R: Wait>(
     false
 }
 
-/// Polls once an actor is held in the driver, until the file has hung up, and then lets the other one go.
+/// What an actor saw while another one was held in the driver and the chip was leaving.
+#[derive(Clone, Copy, PartialEq, Eq)]
+pub struct Seen {
+    /// Its file had hung up before the actor in the driver was let go.
+    pub hung_up: bool,
+    /// The chip was opened.
+    pub opened: Result<(), Errno>,
+    /// The chip was unplugged.
+    pub unplugged: Result<(), Errno>,
+}
+
+/// Opens and unplugs a chip.
+fn open_and_unplug<D: Driver<Core>, R: Wait>(
+    rt: &R,
+    alloc: Global,
+    gpio: &Gpio<D>,
+    actor: &mut Actor<D>,
+    hung_up: bool,
+) -> Seen
+    requires actor { IsActorOf gpio.now actor.old }
+    ensures actor { IsActorOf gpio.now actor.new }
+    ensures same { IsSame actor.old.pass.view actor.new.pass.view }
+{
+    let opened = match open(rt, alloc, gpio, actor, b"gpiochip0") {
+        Ok(_) => Ok(()),
+        Err(errno) => Err(errno),
+    };
+    let unplugged = gpio.unplug(rt, actor, 0);
+    Seen {
+        hung_up,
+        opened,
+        unplugged,
+    }
+}
+
+/// Once an actor is held in the driver, polls until the file has hung up, opens and unplugs the chip, and then lets the other one
+/// go.
 fn poll_meanwhile<D: Driver<Core>, R: Wait>(
     rt: &R,
+    alloc: Global,
     gpio: &Gpio<D>,
     mut actor: Actor<D>,
     file: &ChipFd,
     latch: &Latch,
-) -> Back<D, bool>
+) -> Back<D, Seen>
     requires actor { IsActorOf gpio.now actor }
     ensures actor { IsActorOf gpio.now result.0 }
     ensures same { IsSame actor.pass.view result.0.pass.view }
 {
     let entered = wait_for(&latch.entered);
     let hung_up = poll_until_hung_up(rt, gpio, &mut actor, file);
+    let seen = open_and_unplug(rt, alloc, gpio, &mut actor, entered && hung_up);
     latch.go.store(true, Ordering::SeqCst);
-    (actor, entered && hung_up)
+    (actor, seen)
 }
 
 /// What three actors were answered, each in a thread of its own: the first requests a line, the second unplugs the chip, the
 /// third polls a file of it.
 type Answered<D> = (
     Back<D, Result<LineFd, Errno>>,
-    (Back<D, Result<(), Errno>>, Back<D, bool>),
+    (Back<D, Result<(), Errno>>, Back<D, Seen>),
 );
 
 /// Lets three actors call the device, each in a thread of its own.
@@ -132,7 +170,7 @@ fn call_in_three_threads<D: Driver<Core>, R: Threads + Wait + Sync>(
             ensures actor { IsActorOf gpio.entry.now result.0 }
             ensures same { IsSame first.pass.view result.0.pass.view }
         { request_line(rt, alloc, gpio, first, file) },
-        || -> (Back<D, Result<(), Errno>>, Back<D, bool>)
+        || -> (Back<D, Result<(), Errno>>, Back<D, Seen>)
             requires second { IsActorOf gpio.now second }
             requires third { IsActorOf gpio.now third }
             ensures second { IsActorOf gpio.entry.now result.0.0 × IsSame second.pass.view result.0.0.pass.view }
@@ -145,11 +183,11 @@ fn call_in_three_threads<D: Driver<Core>, R: Threads + Wait + Sync>(
                     ensures actor { IsActorOf gpio.entry.now result.0 }
                     ensures same { IsSame second.pass.view result.0.pass.view }
                 { unplug_meanwhile(rt, gpio, second, latch) },
-                || -> Back<D, bool>
+                || -> Back<D, Seen>
                     requires { IsActorOf gpio.now third }
                     ensures actor { IsActorOf gpio.entry.now result.0 }
                     ensures same { IsSame third.pass.view result.0.pass.view }
-                { poll_meanwhile(rt, gpio, third, file, latch) },
+                { poll_meanwhile(rt, alloc, gpio, third, file, latch) },
             )
         },
     )
@@ -214,8 +252,8 @@ fn stand_in(history: &[Entry<Core>], marks: &[Mark]) -> bool {
 pub struct UnderLoad {
     /// What the second actor was answered.
     pub unplugged: Result<(), Errno>,
-    /// The third actor's file had hung up before the first one was let go.
-    pub hung_up: bool,
+    /// What the third actor saw before the first one was let go.
+    pub seen: Seen,
     /// The calls on the first actor's request afterwards.
     pub on_request: OnRequest,
     /// The request and the chip file were closed then.
@@ -226,33 +264,45 @@ pub struct UnderLoad {
     pub bad: Option<u32>,
 }
 
-/// Makes calls on the request and closes it and the chip file. The number of the request, and whether both were closed.
+/// What came of a request after the removal of its chip.
+#[derive(Clone, Copy, PartialEq, Eq)]
+struct Afterwards {
+    number: u32,
+    on_request: OnRequest,
+    closed: bool,
+}
+
+/// Makes calls on the request and closes it and the chip file, by an actor that hasn't heard of the removal. Why there is no
+/// request, where there is none.
 fn use_and_close<D: Driver<Core>, R: Wait>(
     rt: &R,
     gpio: &Gpio<D>,
     actor: &mut Actor<D>,
-    line: LineFd,
+    line: Result<LineFd, Errno>,
     file: ChipFd,
-) -> (u32, OnRequest, bool)
+) -> Result<Afterwards, Errno>
     requires actor { IsActorOf gpio.now actor.old }
     ensures actor { IsActorOf gpio.now actor.new }
     ensures same { IsSame actor.old.pass.view actor.new.pass.view }
 {
+    let line = line?;
     let number = line.number();
     let on_request = call_on_request(rt, gpio, actor, &line);
     let closed = gpio.close_line(rt, actor, line).is_ok()
         && gpio.close_chip(rt, actor, file).is_ok();
-    (number, on_request, closed)
+    Ok(Afterwards {
+        number,
+        on_request,
+        closed,
+    })
 }
 
 /// What the actors were answered, and the history.
 #[derive(Drop)]
 struct Ended {
-    number: u32,
     unplugged: Result<(), Errno>,
-    hung_up: bool,
-    on_request: OnRequest,
-    closed: bool,
+    seen: Seen,
+    afterwards: Result<Afterwards, Errno>,
     history: Vec<Entry<Core>>,
 }
 
@@ -260,40 +310,46 @@ struct Ended {
 fn call_and_end<D: Driver<Core>, R: Threads + Wait + Sync>(
     rt: &R,
     alloc: Global,
-    opened: Opened<D>,
+    device: Device<D>,
+    file: ChipFd,
     ports: (D::Port, D::Port, D::Port),
     latch: &Latch,
-) -> Result<Ended, Errno>
-    requires actor { IsActorOf opened.0 opened.1 }
-    requires first { IsAlone opened.1.pass.view }
-{
-    let (gpio, mut actor, file) = opened;
+) -> Ended {
+    let Device { gpio, mut actor } = device;
     let actors = (
         gpio.split(&mut actor, ports.0),
         gpio.split(&mut actor, ports.1),
         gpio.split(&mut actor, ports.2),
     );
-    let ((first, line), ((second, unplugged), (third, hung_up))) = call_in_three_threads(
+    let ((first, line), ((second, unplugged), (third, seen))) = call_in_three_threads(
         rt, alloc, &gpio, actors, &file, latch,
     );
+    let afterwards = use_and_close(rt, &gpio, &mut actor, line, file);
     gpio.join(&mut actor, first);
     gpio.join(&mut actor, second);
     gpio.join(&mut actor, third);
-    match line {
-        Err(errno) => Err(errno),
-        Ok(line) => {
-            let (number, on_request, closed) = use_and_close(rt, &gpio, &mut actor, line, file);
-            let (_core, history, _port) = gpio.finish(actor);
-            Ok(Ended {
-                number,
-                unplugged,
-                hung_up,
-                on_request,
-                closed,
-                history,
-            })
-        }
+    let (_core, history, _port) = gpio.finish(actor);
+    Ended {
+        unplugged,
+        seen,
+        afterwards,
+        history,
     }
+}
+
+/// A new device over this driver, with a chip of four lines, which is open.
+fn opened_over<D: Driver<Core>, R: Wait>(
+    rt: &R,
+    alloc: Global,
+    driver: D,
+    port: D::Port,
+) -> Result<(Device<D>, ChipFd), Errno>
+    requires none { D.ENTRIES ≡ 0 }
+{
+    let mut device = Device::new(alloc, driver, port, ROOM)?;
+    device.probe(rt, Name::empty(), 4, Kind::Simulated)?;
+    let file = device.open(rt, alloc, b"gpiochip0")?;
+    Ok((device, file))
 }
 
 /// On a new device over this driver, whose ports these are, an actor is held in the driver, a second one unplugs the chip, and a
@@ -308,9 +364,10 @@ fn unplug_over<D: Driver<Core>, R: Threads + Wait + Sync>(
 ) -> Result<UnderLoad, Errno>
     requires none { D.ENTRIES ≡ 0 }
 {
-    let opened = opened_device(rt, alloc, driver, port, ROOM)?;
-    let ended = call_and_end(rt, alloc, opened, ports, latch)?;
-    let told = Mark::Told(u64::from(ended.number));
+    let (device, file) = opened_over(rt, alloc, driver, port)?;
+    let ended = call_and_end(rt, alloc, device, file, ports, latch);
+    let afterwards = ended.afterwards?;
+    let told = Mark::Told(u64::from(afterwards.number));
     let in_order = stand_in(
         ended.history.as_slice(),
         &[Mark::Begun, Mark::HungUp, told, Mark::Ended],
@@ -318,9 +375,9 @@ fn unplug_over<D: Driver<Core>, R: Threads + Wait + Sync>(
     let bad = bad_entry(alloc, ended.history.as_slice())?;
     Ok(UnderLoad {
         unplugged: ended.unplugged,
-        hung_up: ended.hung_up,
-        on_request: ended.on_request,
-        closed: ended.closed,
+        seen: ended.seen,
+        on_request: afterwards.on_request,
+        closed: afterwards.closed,
         in_order,
         bad,
     })

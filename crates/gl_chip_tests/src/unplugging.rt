@@ -4,7 +4,7 @@ ghost use Rattle.std.specs.Prelude.{◌≡◌};
 ghost use Rattle.gl_chip.specs.Values.{IsActorOf};
 ghost use Rattle.gl_chip_tests.specs.Same.{IsSame};
 
-use crate::devices::{bad_entry, device};
+use crate::devices::{Device, bad_entry};
 use gl_base::{Errno, Kind, Name, Phase};
 use gl_chip::{Actor, Gpio};
 use gl_driver::{SimDriver, SimPort};
@@ -87,9 +87,10 @@ impl Race {
 
 /// On a new device two actors unplug one chip at once.
 pub fn unplug_twice<R: Threads + Wait + Sync>(rt: &R, alloc: Global) -> Result<Race, Errno> {
-    let (gpio, mut actor) = device(alloc, SimDriver::new(), SimPort::new(), 10)?;
+    let mut device = Device::new(alloc, SimDriver::new(), SimPort::new(), 10)?;
+    device.probe(rt, Name::empty(), 4, Kind::Simulated)?;
+    let Device { gpio, mut actor } = device;
     let other = gpio.split(&mut actor, SimPort::new());
-    gpio.probe(rt, &mut actor, Name::empty(), 4, Kind::Simulated)?;
     let ((mut actor, first), (other, second)) = unplug_in_two_threads(rt, &gpio, actor, other);
     gpio.join(&mut actor, other);
     let (core, history, _port) = gpio.finish(actor);
