@@ -15,9 +15,12 @@ struct OnRemote {
     has_both: bool,
     values: Result<u64, Errno>,
     set_values: Result<(), Errno>,
+    interrupt: Result<(), Errno>,
+    set_pull: Result<(), Errno>,
 }
 
-/// Makes a remote chip, requests its lines 0 and 1 as inputs, and gets and sets their values.
+/// Makes a remote chip, requests its lines 0 and 1 as inputs, gets and sets their values, and tells of an interrupt and pulls line 1
+/// up.
 fn call_on_remote<R: Wait>(
     rt: &R,
     alloc: Global,
@@ -32,6 +35,8 @@ fn call_on_remote<R: Wait>(
         has_both: line.lines().offsets() == [0, 1].as_slice(),
         values: device.get_values(rt, &line, 3),
         set_values: device.set_values(rt, &line, 1, 1),
+        interrupt: device.interrupt(rt, 0, 1, true),
+        set_pull: device.set_pull(rt, 0, 1, true),
     })
 }
 
@@ -45,6 +50,8 @@ fn a_remote_chip_shows_what_its_driver_tells(rt: HostRuntime) -> Result<(), Fail
         has_both: true,
         values: Ok(1),
         set_values: Err(Errno::Perm),
+        interrupt: Ok(()),
+        set_pull: Err(Errno::Inval),
     };
     assert!(rt; call_on_remote(&rt, rt.alloc(), &mut device)? == wanted);
     Ok(())
