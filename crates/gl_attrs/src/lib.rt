@@ -10,6 +10,3 @@ pub mod laws;
 mod resolving;
 
 pub use resolving::{resolve, settings_of};
-
-#[cfg(test)]
-mod tests;

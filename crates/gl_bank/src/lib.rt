@@ -3,8 +3,6 @@
 
 mod bank;
 mod levels;
-#[cfg(test)]
-mod tests;
 
 pub use bank::Bank;
 pub use levels::{Change, Levels, flip};

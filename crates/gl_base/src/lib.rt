@@ -25,8 +25,6 @@ mod pin;
 mod room;
 mod seconds;
 mod settings;
-#[cfg(test)]
-mod tests;
 mod words;
 
 pub use bits::has_bit;

@@ -15,6 +15,3 @@ mod timer;
 
 pub use table::Timers;
 pub use timer::{Fired, Timer};
-
-#[cfg(test)]
-mod tests;

@@ -4,8 +4,6 @@
 mod desc;
 mod descs;
 mod hog;
-#[cfg(test)]
-mod tests;
 
 pub use desc::{Desc, Holder, LineFault};
 pub use descs::Descs;

@@ -10,6 +10,3 @@ mod rules;
 
 pub use line_flags::LineFlags;
 pub use rules::check;
-
-#[cfg(test)]
-mod tests;

@@ -2,7 +2,5 @@
 #![tactic(auto)]
 
 mod hogs;
-#[cfg(test)]
-mod tests;
 
 pub use hogs::apply;

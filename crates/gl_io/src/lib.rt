@@ -6,8 +6,6 @@ mod adapters;
 mod memory_sink;
 mod memory_source;
 mod standard;
-#[cfg(test)]
-mod tests;
 mod traits;
 
 pub use adapters::{ReadSource, WriteSink};

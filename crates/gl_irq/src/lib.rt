@@ -3,8 +3,6 @@
 
 mod irq;
 mod irqs;
-#[cfg(test)]
-mod tests;
 
 pub use irq::{Irq, IrqLine};
 pub use irqs::Irqs;

@@ -4,8 +4,6 @@
 pub mod laws;
 mod pins;
 mod range;
-#[cfg(test)]
-mod tests;
 
 pub use pins::{PINS_MAX, Pins, RANGES_MAX};
 pub use range::PinRange;

@@ -12,6 +12,3 @@ mod table;
 
 pub use row::{Claim, RequestAt, RequestRow};
 pub use table::Requests;
-
-#[cfg(test)]
-mod tests;

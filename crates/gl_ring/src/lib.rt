@@ -9,6 +9,3 @@ pub mod laws;
 mod ring;
 
 pub use ring::{EdgeRing, RING_EVENTS_MAX};
-
-#[cfg(test)]
-mod tests;

@@ -14,8 +14,6 @@ mod refusal;
 mod script;
 mod section;
 mod table;
-#[cfg(test)]
-mod tests;
 
 pub use faults::text_at;
 pub use feed::Feed;

@@ -11,8 +11,6 @@ pub mod parse;
 mod plan;
 pub mod row;
 mod search;
-#[cfg(test)]
-mod tests;
 pub mod tree;
 mod value;
 

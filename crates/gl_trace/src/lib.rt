@@ -10,8 +10,6 @@ mod put;
 mod put_call;
 mod read;
 mod reply_read;
-#[cfg(test)]
-mod tests;
 mod verb;
 mod word_read;
 mod words;

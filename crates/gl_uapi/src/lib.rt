@@ -33,6 +33,3 @@ pub use new_requests::{
     AttributeValue, NewAttribute, write_attribute, write_config, write_request,
 };
 pub use unwatch::UnwatchRef;
-
-#[cfg(test)]
-mod tests;

@@ -8,8 +8,6 @@ mod file;
 pub mod laws;
 mod queue;
 mod table;
-#[cfg(test)]
-mod tests;
 mod watches;
 
 pub use file::{ChipFile, FileAt};

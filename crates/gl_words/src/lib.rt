@@ -3,8 +3,6 @@
 
 mod asked;
 mod laws;
-#[cfg(test)]
-mod tests;
 
 pub use asked::{Task, WordsFault, read_words};
 pub use laws::loads_are_within;

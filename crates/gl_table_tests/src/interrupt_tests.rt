@@ -1,7 +1,7 @@
 //! The table of interrupt locks.
 
-use crate::{IrqLine, Irqs};
 use gl_base::{Errno, IrqDo};
+use gl_irq::{IrqLine, Irqs};
 use std::test::Fail;
 
 /// A free input.

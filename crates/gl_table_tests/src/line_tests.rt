@@ -3,8 +3,8 @@
 ghost use Rattle.std.specs.Prelude.{length};
 ghost use Rattle.gl_base.specs.Lines.{IsLineCount};
 
-use crate::{Descs, Holder, LineFault};
 use gl_base::{Lines, Name};
+use gl_desc::{Descs, Holder, LineFault};
 use std::test::Fail;
 
 /// The lines of a request.

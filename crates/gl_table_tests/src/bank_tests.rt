@@ -1,6 +1,6 @@
 //! What lines show, by the rules for outputs, open drain, open source, active low and bias.
 
-use crate::{Bank, Change, flip};
+use gl_bank::{Bank, Change, flip};
 use gl_base::{Settings, flag};
 use std::test::Fail;
 

@@ -1,9 +1,9 @@
 //! Hogs of a board.
 
-use crate::apply;
 use gl_bank::Bank;
 use gl_base::Name;
 use gl_desc::{Descs, Hog, HogWay, Holder};
+use gl_hogs::apply;
 use std::test::Fail;
 
 #[test]

@@ -1,7 +1,7 @@
 //! Pin ranges and held pins, by their rules.
 
-use crate::Pins;
 use gl_base::Errno;
+use gl_pins::Pins;
 use std::test::Fail;
 
 #[test]

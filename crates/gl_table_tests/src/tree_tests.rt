@@ -1,10 +1,10 @@
 //! The tree with ample memory, against the forms, refusals and values of this project's documents.
 
-use crate::node::{Directory, File, Node};
-use crate::parse::node_at;
-use crate::{BankPlan, Tree};
 use gl_base::{Errno, Name, Path};
 use gl_desc::HogWay;
+use gl_simtree::node::{Directory, File, Node};
+use gl_simtree::parse::node_at;
+use gl_simtree::{BankPlan, Tree};
 use std::test::Fail;
 
 fn path(text: &str) -> Result<Path, Fail> {

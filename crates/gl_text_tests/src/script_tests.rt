@@ -1,7 +1,7 @@
 //! Texts, their first faults and their statements.
 ghost use Rattle.std.specs.Prelude.{◌<◌, ◌≤◌, length};
 
-use super::{
+use gl_script::{
     Feed, Head, Script, generate, loads_are_sessions, sentence_is_single, sentences_are_spelled,
     spelled_are_sentences,
 };

@@ -1,6 +1,6 @@
 //! What no clause says: that each call succeeds with ample memory, and the traits' methods at the
 //! concrete types, through their bounds.
-use super::{MemSink, MemSource, ReadSource, Sink, SinkFault, Source, SourceFault, WriteSink};
+use gl_io::{MemSink, MemSource, ReadSource, Sink, SinkFault, Source, SourceFault, WriteSink};
 use std::alloc::Global;
 use std::test::Fail;
 

@@ -1,6 +1,6 @@
 //! The calls with ample memory, against values of Linux's headers and of the documents.
 
-use crate::*;
+use gl_base::*;
 use std::alloc::AllocError;
 use std::test::Fail;
 

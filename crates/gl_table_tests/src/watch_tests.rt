@@ -2,9 +2,9 @@
 
 ghost use Rattle.std.specs.Prelude.{◌≡◌};
 
-use crate::{InfoQueue, Watches};
 use gl_base::{Errno, Name};
 use gl_uapi::{Changed, ChangedRef, Info};
+use gl_watch::{InfoQueue, Watches};
 use std::test::Fail;
 
 fn change(offset: u32, timestamp: u64) -> Changed

@@ -1,6 +1,6 @@
 //! What no clause says: that the calls succeed where there is memory, and that a run comes out as is meant.
 
-use crate::EdgeRing;
+use gl_ring::EdgeRing;
 use gl_uapi::{Event, EventsRef};
 use std::test::Fail;
 

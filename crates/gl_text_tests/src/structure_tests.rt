@@ -1,13 +1,13 @@
 //! What no clause says: that the commands are those of `linux/gpio.h`, and that a value goes through the
 //! writers and the views and stays the same.
 
-use crate::{
+use gl_base::Name;
+use gl_uapi::{
     AttributeValue, Changed, ChangedRef, ChipRef, Command, ConfigRef, Event, EventsRef, Info,
     InfoRef, NewAttribute, RequestRef, UnwatchRef, ValuesRef, write_attribute, write_chip_info,
     write_config, write_event, write_fd, write_info_changed, write_line_info, write_request,
     write_request_answer, write_values,
 };
-use gl_base::Name;
 use std::test::Fail;
 
 /// The commands' numbers as a C compiler gets them from `linux/gpio.h`, and their structures' lengths.

@@ -1,6 +1,6 @@
 //! What no clause says: that the settings of known configurations are those that are meant.
 
-use crate::resolve;
+use gl_attrs::resolve;
 use gl_base::Errno;
 use gl_uapi::ConfigRef;
 use std::test::Fail;

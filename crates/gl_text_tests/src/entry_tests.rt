@@ -1,8 +1,8 @@
 //! What no clause says: that memory is found where there is some, and that texts look as they do in the documents.
 
-use crate::{put_entry, read_entry};
 use gl_base::{Errno, Kind, Name, Path};
 use gl_core::{Call, Part, Reply};
+use gl_trace::{put_entry, read_entry};
 use gl_world::Entry;
 use std::test::Fail;
 

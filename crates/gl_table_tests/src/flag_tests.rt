@@ -1,7 +1,7 @@
 //! What no clause says: that the numbers of the flags and the cases of the check are those that are meant.
 
-use crate::{LineFlags, check};
 use gl_base::{Errno, flag};
+use gl_flags::{LineFlags, check};
 
 /// The flags' words as a C compiler gets them from `linux/gpio.h`.
 #[test]

@@ -1,4 +1,6 @@
-use crate::{Task, WordsFault, read_words};
+//! The words of a command line.
+
+use gl_words::{Task, WordsFault, read_words};
 
 const ROWS: [(&[&str], Result<Task, WordsFault>); 17] = [
     (&[], Ok(Task::Session)),

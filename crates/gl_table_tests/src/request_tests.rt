@@ -3,8 +3,8 @@
 
 ghost use Rattle.std.specs.Prelude.{◌≡◌};
 
-use crate::{Claim, Requests};
 use gl_base::{Lines, Resolved, Settings, flag};
+use gl_request::{Claim, Requests};
 use gl_ring::EdgeRing;
 use gl_uapi::{Event, EventsRef};
 use std::alloc::Global;

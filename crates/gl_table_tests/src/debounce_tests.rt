@@ -1,6 +1,6 @@
 //! What no clause says: that the maker succeeds where there is memory, and that lines fire as is meant.
 
-use crate::{Fired, Timers};
+use gl_debounce::{Fired, Timers};
 use std::test::Fail;
 
 #[test]

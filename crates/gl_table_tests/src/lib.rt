@@ -1,0 +1,29 @@
+//! The tables with ample memory: what is known of them from the documents and the headers.
+#![tactic(auto)]
+
+#[cfg(test)]
+mod attribute_tests;
+#[cfg(test)]
+mod bank_tests;
+#[cfg(test)]
+mod debounce_tests;
+#[cfg(test)]
+mod flag_tests;
+#[cfg(test)]
+mod hog_tests;
+#[cfg(test)]
+mod interrupt_tests;
+#[cfg(test)]
+mod line_tests;
+#[cfg(test)]
+mod pin_tests;
+#[cfg(test)]
+mod registry_tests;
+#[cfg(test)]
+mod request_tests;
+#[cfg(test)]
+mod ring_tests;
+#[cfg(test)]
+mod tree_tests;
+#[cfg(test)]
+mod watch_tests;
