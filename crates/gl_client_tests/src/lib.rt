@@ -11,6 +11,5 @@ mod tests_monitor;
 mod tests_rows;
 #[cfg(test)]
 mod tests_statements;
+#[cfg(test)]
 mod transcript;
-
-pub use transcript::{put_call, results_of};

@@ -1,15 +1,9 @@
-//! What is read and written: numbers, names, structures, sessions, the words of a command line, and entries, with ample memory.
+//! Sessions, loads, the words of a command line, and the entries of a history, with ample memory.
 #![tactic(auto)]
 
-#[cfg(test)]
-mod base_tests;
 #[cfg(test)]
 mod entry_tests;
 #[cfg(test)]
 mod script_tests;
-#[cfg(test)]
-mod stream_tests;
-#[cfg(test)]
-mod structure_tests;
 #[cfg(test)]
 mod words_tests;
