@@ -1,5 +1,5 @@
 -- What the calls of a gate need of a pass, and what they make of it.
-use Rattle.std.specs.Prelude.{◌≡◌, ℕ, ◌+◌, cond, ◌<◌, ◌≤◌, List, [], ◌∷◌, ◌++◌, Some, true, false, length, drop}
+use Rattle.std.specs.Prelude.{◌≡◌, ◌≢◌, ℕ, ◌+◌, cond, ◌<◌, ◌≤◌, List, [], ◌∷◌, ◌++◌, Some, true, false, length, drop}
 use mathlib.Core.Option.{some}
 use lib.ListN.{get_elem?}
 use Rattle.gl_world.specs.declared.machine.Machine.{Ghosts}
@@ -52,6 +52,16 @@ module _ {M C R G : Type 0} where
   pub record KnowsAsMuch (v w : View M C R G) : Type 0 where
     pub closed : (p : ℕ) → KnowsClosed v p → KnowsClosed w p
     pub drained : (p : ℕ) → KnowsDrained v p → KnowsDrained w p
+
+  -- it knows closed and drained just what it knew
+  pub record KnowsTheSame (v w : View M C R G) : Type 0 where
+    pub closed : w.closed ≡ v.closed
+    pub drained : w.drained ≡ v.drained
+
+  -- of every other place it knows nothing that it didn't know
+  pub record LearnsOnlyOf (place : ℕ) (v w : View M C R G) : Type 0 where
+    pub closed : (p : ℕ) → p ≢ place → KnowsClosed w p → KnowsClosed v p
+    pub drained : (p : ℕ) → p ≢ place → KnowsDrained w p → KnowsDrained v p
 
   -- a look at a guard changes what it counted there and what it knows drained
   abbrev pub after_look : View M C R G → View M C R G → View M C R G

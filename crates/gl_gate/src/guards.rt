@@ -3,10 +3,11 @@ ghost use Rattle.std.specs.Prelude.{◌≡◌, ℕ, ◌+◌, ◌<◌, ◌↔◌,
 ghost use Rattle.gl_world.specs.History.{fold};
 ghost use Rattle.gl_world.specs.Events.{DrainedStaysEmpty};
 ghost use Rattle.gl_world.specs.Removal.{Removes};
+ghost use Rattle.gl_rule.specs.Laws.{KnownDrainedStaysEmpty};
 ghost use Rattle.gl_rule.specs.Sums.{without};
 ghost use Rattle.gl_rule.specs.Views.{with_inside, without_inside, with_closed, with_drained};
 ghost use Rattle.gl_gate.specs.Values.{IsPassOf, knowing};
-ghost use Rattle.gl_gate.specs.Calls.{IsInside, IsOutside, KnowsClosed, KnowsDrained, KnowsAsMuch, after_look};
+ghost use Rattle.gl_gate.specs.Calls.{IsInside, IsOutside, KnowsClosed, KnowsDrained, KnowsAsMuch, LearnsOnlyOf, after_look};
 
 use crate::gate::Gate;
 use crate::pass::Pass;
@@ -34,6 +35,7 @@ impl<M: Machine> Gate<M> {
         ensures closed { result ≡ false → KnowsClosed pass.new.view place }
         ensures known { KnowsClosed pass.old.view place → result ≡ false }
         ensures knows { KnowsAsMuch pass.old.view pass.new.view }
+        ensures only { LearnsOnlyOf place pass.old.view pass.new.view }
     {
         let word = place as usize + FIRST_GUARD;
         let shared = &self.turnstile.table.shared;
@@ -66,6 +68,7 @@ impl<M: Machine> Gate<M> {
         ensures pass { pass.new ≡ knowing pass.old (with_closed pass.old.view place) }
         ensures closed { KnowsClosed pass.new.view place }
         ensures knows { KnowsAsMuch pass.old.view pass.new.view }
+        ensures only { LearnsOnlyOf place pass.old.view pass.new.view }
     {
         self.turnstile
             .table
@@ -74,7 +77,7 @@ impl<M: Machine> Gate<M> {
     }
 
     /// Looks once how many are inside a place or at its door. True where it counted nobody; a place that
-    /// the pass knew closed is drained then, and stays empty whatever happens.
+    /// the pass knew closed is drained then, and stays empty whatever happens: no pass is inside it, now or later.
     pub fn look(&self, pass: &mut Pass<M>, place: u8) -> bool
         requires gate { IsPassOf self.now pass.old }
         requires place { place < self.now.places }
@@ -85,7 +88,9 @@ impl<M: Machine> Gate<M> {
             → pass.new.view ≡ with_drained pass.old.view place }
         ensures drained { IsTrue result → KnowsClosed pass.old.view place → KnowsDrained pass.new.view place }
         ensures stays_empty { DrainedStaysEmpty M.Machine }
+        ensures nobody_inside { KnownDrainedStaysEmpty M.Machine }
         ensures knows { KnowsAsMuch pass.old.view pass.new.view }
+        ensures only { LearnsOnlyOf place pass.old.view pass.new.view }
     {
         let found = self
             .turnstile
@@ -96,7 +101,7 @@ impl<M: Machine> Gate<M> {
     }
 
     /// Waits until nobody is inside a place that the pass knows closed and isn't inside itself. From then on
-    /// nobody is inside.
+    /// no pass is inside, whatever happens.
     pub fn drain<R: Wait>(&self, rt: &R, pass: &mut Pass<M>, place: u8)
         requires gate { IsPassOf self.now pass.old }
         requires place { place < self.now.places }
@@ -104,7 +109,10 @@ impl<M: Machine> Gate<M> {
         requires outside { IsOutside pass.old.view place }
         ensures pass { pass.new ≡ knowing pass.old (with_drained pass.old.view place) }
         ensures drained { KnowsDrained pass.new.view place }
+        ensures stays_empty { DrainedStaysEmpty M.Machine }
+        ensures nobody_inside { KnownDrainedStaysEmpty M.Machine }
         ensures knows { KnowsAsMuch pass.old.view pass.new.view }
+        ensures only { LearnsOnlyOf place pass.old.view pass.new.view }
     {
         for _ in rt.forever() {
             if self.look(pass, place) {

@@ -15,6 +15,7 @@ use gl_base::Errno;
 use gl_rule::{Held, JoinPass, Learn, Plan, SplitPass};
 use gl_world::{Entry, Machine};
 use std::alloc::{AllocError, Global};
+use std::sync::Mutex;
 
 // So many words, all 0.
 fn zeros(alloc: Global, count: usize) -> Result<Vec<u64>, AllocError>
@@ -60,7 +61,10 @@ impl<M: Machine> Gate<M> {
         match Table::new(alloc, words.as_slice(), slots, &plan) {
             Ok((table, seat)) => Ok((
                 Gate {
-                    turnstile: Turnstile { table },
+                    turnstile: Turnstile {
+                        table,
+                        door: Mutex::new(()),
+                    },
                 },
                 Pass {
                     seat,
@@ -144,7 +148,7 @@ impl<M: Machine> Gate<M> {
             made: _,
         } = pass;
         let Gate {
-            turnstile: Turnstile { table },
+            turnstile: Turnstile { table, door: _ },
         } = self;
         let mut closed = table.close_with(seat);
         let Held {

@@ -6,7 +6,7 @@ use atomic_table::Table;
 use gl_rule::{Commit, FindTurn, GateRule, Held, PassOn, Plan, TakeTicket, View};
 use gl_world::Machine;
 use std::alloc::Global;
-use std::sync::Wait;
+use std::sync::{Mutex, Wait};
 use std::thread;
 
 /// The word from which tickets are drawn.
@@ -19,6 +19,9 @@ const SERVING: usize = 1;
 #[derive(Drop)]
 pub(crate) struct Turnstile<M: Machine> {
     pub(crate) table: Table<Held<M>, View<M>, Plan, GateRule<M>, Global>,
+    /// Who has it locked may draw a ticket, so that the ticket drawn is the one that is served next. The others
+    /// sleep at the door instead of looking again and again whether it is their turn.
+    pub(crate) door: Mutex<()>,
     pub ghost words: { table.shared.table_id.words ≡ table.shared.key.places + 2 },
     pub ghost slots: { table.shared.table_id.slots ≡ 1 },
 }
@@ -129,7 +132,7 @@ impl<M: Machine> Turnstile<M> {
         self.table.shared.fetch_add::<PassOn>(seat, SERVING, 1);
     }
 
-    // One call, from the ticket to the end of the turn. Nothing where the history is full.
+    // One call, from the door and the ticket to the end of the turn. Nothing where the history is full.
     pub(crate) fn serve<R: Wait>(
         &self,
         rt: &R,
@@ -153,6 +156,7 @@ impl<M: Machine> Turnstile<M> {
         ensures refuses { IfNone result (Refuses M.Machine seat.old.me.0 call seat.new.me.0) }
         ensures untouched { IfNone result ((gift.new ≡ gift.old) × (out.new ≡ out.old)) }
     {
+        let _inside = self.door.lock(rt);
         let ticket = self.draw(seat);
         self.wait(rt, seat, ticket);
         if self.refuses(seat, &call) {

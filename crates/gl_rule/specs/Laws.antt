@@ -10,6 +10,7 @@ use Rattle.gl_rule.specs.declared.held.Held.{Held}
 use Rattle.gl_rule.specs.declared.view.View.{View}
 use Rattle.gl_rule.specs.Sums.{times}
 use Rattle.gl_rule.specs.Rule.{Rule}
+use Rattle.gl_rule.specs.Steps.{ViewStep, ComesOf}
 use Rattle.gl_world.specs.Ranks.{IsClosing, IsNotGone}
 
 module _ {M C R G : Type 0} (m : Ghosts M C R G) where
@@ -17,6 +18,11 @@ module _ {M C R G : Type 0} (m : Ghosts M C R G) where
   abbrev pub DrainedIsEmpty : Type 0
   DrainedIsEmpty = (places : ℕ) (s : State (Held M C R G) (View M C R G)) → Rule m places s → (i j p : ℕ) (v w : View M C R G) → get_elem? s.views i ≡ maybe.some v → get_elem? s.views j ≡ maybe.some w
       → 0 < times p v.drained → 0 < times p w.inside → ⊥
+
+  -- from the moment on at which some pass knows a place drained, nobody is inside it: in no state that comes of one that meets the rule
+  abbrev pub KnownDrainedStaysEmpty : Type 0
+  KnownDrainedStaysEmpty = (places : ℕ) (s t : State (Held M C R G) (View M C R G)) (steps : List (ViewStep M C R G)) → Rule m places s → ComesOf m places s steps t
+      → (i j p : ℕ) (v w : View M C R G) → get_elem? s.views i ≡ maybe.some v → get_elem? t.views j ≡ maybe.some w → 0 < times p v.drained → times p w.inside ≡ 0
 
   -- a place that some pass knows closed is Leaving or Gone
   abbrev pub ClosedIsLeaving : Type 0

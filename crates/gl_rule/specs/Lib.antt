@@ -6,4 +6,5 @@ pub mod Guards
 pub mod Rule
 pub mod Plays
 pub mod Commit
+pub mod Steps
 pub mod Laws

@@ -1,6 +1,6 @@
 //! What the rule says of the history and of places. Each is a function with nothing to do: its contract is the law, and a
 //! caller gets it by the call.
-ghost use Rattle.gl_rule.specs.Laws.{DrainedIsEmpty, ClosedIsLeaving, InsideIsNotGone, OneHistory};
+ghost use Rattle.gl_rule.specs.Laws.{DrainedIsEmpty, KnownDrainedStaysEmpty, ClosedIsLeaving, InsideIsNotGone, OneHistory};
 
 use gl_world::Machine;
 
@@ -12,6 +12,11 @@ pub fn one_history<M: Machine>()
 /// Nobody is inside a place that some pass knows drained.
 pub fn drained_is_empty<M: Machine>()
     ensures { DrainedIsEmpty M.Machine }
+{}
+
+/// From the moment on at which some pass knows a place drained, nobody is inside it, whatever the passes do.
+pub fn known_drained_stays_empty<M: Machine>()
+    ensures { KnownDrainedStaysEmpty M.Machine }
 {}
 
 /// A place that some pass knows closed is Leaving or Gone in the world after the history.

@@ -9,7 +9,9 @@ mod rule;
 mod view;
 
 pub use held::Held;
-pub use laws::{closed_is_leaving, drained_is_empty, inside_is_not_gone, one_history};
+pub use laws::{
+    closed_is_leaving, drained_is_empty, inside_is_not_gone, known_drained_stays_empty, one_history,
+};
 pub use plays::{
     BackOut, Close, Commit, CountInside, Enter, FindTurn, JoinPass, Learn, Leave, PassOn,
     SplitPass, TakeTicket,

@@ -1,13 +1,16 @@
 -- What holds of each world that a legal history leads to.
-use Rattle.std.proofs.Common.{◌≡◌, ℕ, List, [], ◌∷◌, ap, ◌∙◌, arith, Some, inl, inr}
+use Rattle.std.proofs.Common.{◌≡◌, ℕ, List, [], ◌∷◌, refl, ap, ◌∙◌, arith, Some, inl, inr}
 use mathlib.Core.Logic.{dite}
 use native.Mathlib.Decide.{dec_lt}
 use Rattle.gl_world.specs.declared.machine.Machine.{Ghosts}
 use Rattle.gl_world.specs.declared.history.Entry.{Entry}
 use Rattle.gl_world.specs.History.{fold_from, fold, stage, AnsweredFrom}
 use Rattle.gl_world.specs.Laws.{Laws}
-use Rattle.gl_world.specs.Worlds.{WorldsAreSound, LeavingHasRemover, ClosedIsGoneOrAnothers, NothingBehindGone}
-use Rattle.gl_world.proofs.Phases.{most_three, fold_sound}
+use Rattle.gl_world.specs.Worlds.{WorldsAreSound, LeavingHasRemover, ClosedIsGoneOrAnothers, PhasesNeverFall, RefusedIsClosing, NothingBehindGone}
+use Rattle.std.specs.Prelude.{◌++◌}
+use Rattle.std.proofs.lemmas.List.{append_assoc}
+use Rattle.gl_world.proofs.Histories.{answered_prefix, placed_prefix, placed_rest}
+use Rattle.gl_world.proofs.Phases.{most_three, fold_sound, stage_since}
 use Rattle.gl_world.proofs.Happenings.{legal_named}
 
 module _ {M C R G : Type 0} (m : Ghosts M C R G) (laws : Laws m) where
@@ -36,3 +39,11 @@ module _ {M C R G : Type 0} (m : Ghosts M C R G) (laws : Laws m) where
 
   pub nothing_behind_gone : NothingBehindGone m
   nothing_behind_gone earlier between later e p legal gone named = legal_named m laws earlier between later e p legal gone named
+
+  pub phases_never_fall : PhasesNeverFall m
+  phases_never_fall earlier later p answered = stage_since m laws (earlier ++ later) earlier p answered (later, refl)
+
+  pub refused_is_closing : RefusedIsClosing m
+  refused_is_closing earlier later e p legal refused = let upto : List (Entry M C R G) = earlier ++ e ∷ [] in
+      let then = (placed_rest m m.opening earlier (e ∷ []) (placed_prefix m m.opening upto later legal.1)).1 p refused in
+      let since = stage_since m laws (upto ++ later) earlier p legal.0 (e ∷ later, append_assoc earlier (e ∷ []) later) in (then, omega arith)

@@ -4,7 +4,7 @@
 ghost use Rattle.gl_world.specs.Deeds.{DeedsStand, DeedsStay};
 ghost use Rattle.gl_world.specs.Events.{AlwaysLegal, PhasesGoForward, DrainedStaysEmpty, NothingAfterGone};
 ghost use Rattle.gl_world.specs.Removal.{OwnRemovals, StrangersRemoveNothing, QuietEntriesKeepRemovals};
-ghost use Rattle.gl_world.specs.Worlds.{WorldsAreSound, LeavingHasRemover, ClosedIsGoneOrAnothers, NothingBehindGone};
+ghost use Rattle.gl_world.specs.Worlds.{WorldsAreSound, LeavingHasRemover, ClosedIsGoneOrAnothers, PhasesNeverFall, RefusedIsClosing, NothingBehindGone};
 
 use crate::machine::Machine;
 
@@ -42,6 +42,16 @@ pub fn strangers_remove_nothing<M: Machine>()
 /// What an actor removes stays as it is while its own entries have nothing to do with removals.
 pub fn quiet_entries_keep_removals<M: Machine>()
     ensures { QuietEntriesKeepRemovals M.Machine }
+{}
+
+/// In a legal history a phase only goes forward.
+pub fn phases_never_fall<M: Machine>()
+    ensures { PhasesNeverFall M.Machine }
+{}
+
+/// In a legal history a place is Leaving or Gone from an entry on that was refused at its closed guard.
+pub fn refused_is_closing<M: Machine>()
+    ensures { RefusedIsClosing M.Machine }
 {}
 
 /// No guarded call of a legal history stands behind the entry that made its place Gone.

@@ -10,6 +10,7 @@ pub use history::Entry;
 pub use laws::{
     closed_is_gone_or_anothers, deeds_stand, deeds_stay, drained_stays_empty, every_run_is_legal,
     leaving_has_remover, legal_worlds_are_sound, nothing_after_gone, nothing_behind_gone,
-    phases_go_forward, quiet_entries_keep_removals, removals_go_on, strangers_remove_nothing,
+    phases_go_forward, phases_never_fall, quiet_entries_keep_removals, refused_is_closing,
+    removals_go_on, strangers_remove_nothing,
 };
 pub use machine::Machine;
