@@ -1,6 +1,6 @@
 -- The tools and their options, by libgpiod's manual pages. Which options are taken is this project's choice. One row an
 -- option: its names, whether it takes a value, and which tools have it.
-use Rattle.std.specs.Prelude.{ℕ, Bool, true, false, not, ◌&&◌, List, [], find, codes, Option}
+use Rattle.std.specs.Prelude.{◌≡◌, ℕ, Bool, true, false, not, ◌&&◌, List, [], find, codes, Option, Some}
 use Rattle.std.specs.Str.{bytes_eq}
 use Rattle.gl_args.specs.declared.names.ToolName.{ToolName}
 use Rattle.gl_args.specs.declared.names.ToolName.TheVariants.{Detect, Info, Get, Set, Watch, Notify}
@@ -119,6 +119,12 @@ short_name Count = codes "-n"
 short_name Format = codes "-F"
 short_name Consumer = codes "-C"
 
+abbrev pub has_short_name : OptionName → Bool
+has_short_name ByName = false
+has_short_name Unquoted = false
+has_short_name Numeric = false
+has_short_name _ = true
+
 abbrev pub takes_value : OptionName → Bool
 takes_value Chip = true
 takes_value ByName = false
@@ -148,3 +154,15 @@ long_option tool name = find (is_long tool name) OPTIONS
 -- and the one that has this short name
 abbrev pub short_option : ToolName → List ℕ → Option OptionName
 short_option tool name = find (is_short tool name) OPTIONS
+
+-- Each tool is the one that its name names: its row isn't missing.
+abbrev pub ToolsHaveTheirNames : Type 0
+ToolsHaveTheirNames = (tool : ToolName) → tool_named (tool_text tool) ≡ Some tool
+
+-- Each option of a tool is the one that its long name says, and its short name, where it has one: its row isn't missing, and no
+-- other option of the tool has its names.
+abbrev pub OptionsHaveLongNames : Type 0
+OptionsHaveLongNames = (tool : ToolName) (option : OptionName) → has_option tool option ≡ true → long_option tool (long_name option) ≡ Some option
+
+abbrev pub OptionsHaveShortNames : Type 0
+OptionsHaveShortNames = (tool : ToolName) (option : OptionName) → has_option tool option ≡ true → has_short_name option ≡ true → short_option tool (short_name option) ≡ Some option

@@ -1,5 +1,5 @@
 -- The statements: the word that each begins with, and the forms of its further words. This project's choice.
-use Rattle.std.specs.Prelude.{ℕ, Bool, if◌then◌else◌, List, [], ◌∷◌, Option, find, codes}
+use Rattle.std.specs.Prelude.{◌≡◌, ℕ, Bool, if◌then◌else◌, List, [], ◌∷◌, Option, Some, find, codes}
 use Rattle.std.specs.Str.{bytes_eq}
 use Rattle.gl_script.specs.declared.table.Form.{Form}
 use Rattle.gl_script.specs.declared.table.Form.TheVariants.{FileName, Label, Path, Number, Chip, Word, Command, PinWord, IrqWord, HeldTool}
@@ -42,6 +42,10 @@ is_keyword word keyword = bytes_eq (keyword_name keyword) word
 -- the statement that a word begins, if it begins one
 abbrev pub keyword_of : List ℕ → Option Keyword
 keyword_of word = find (is_keyword word) KEYWORDS
+
+-- each statement is the one that its word begins: its row isn't missing, and no row before it has its word
+abbrev pub StatementsHaveTheirWords : Type 0
+StatementsHaveTheirWords = (keyword : Keyword) → keyword_of (keyword_name keyword) ≡ Some keyword
 
 -- the forms of the further words, and what may stand behind them
 pub record Wanted : Type 0 where

@@ -5,6 +5,7 @@ ghost use Rattle.gl_script.specs.Gen.{IsSession, load_text};
 ghost use Rattle.gl_script.specs.Section.{SaidSection};
 ghost use Rattle.gl_script.specs.Sentence.{Sentence};
 ghost use Rattle.gl_script.specs.Spelled.{Spelled};
+ghost use Rattle.gl_script.specs.Table.{StatementsHaveTheirWords};
 
 use crate::limits::{ACTORS_MAX, PIECES_MAX, SESSION_MAX, TURNS_MAX, WORD_MAX, WORDS_MAX};
 
@@ -31,6 +32,11 @@ pub fn faults_are_of_the_text()
 /// Each load from 1 to 5000 is a session, and what it costs is within the limit.
 pub fn loads_are_sessions()
     ensures { (n : ℕ) → 1 ≤ n → n ≤ TURNS_MAX → IsSession (load_text n) }
+{}
+
+/// Each statement is the one that its word begins: the table of statements has a row for each.
+pub fn statements_have_their_words()
+    ensures { StatementsHaveTheirWords }
 {}
 
 /// The limits are these numbers.

@@ -20,7 +20,7 @@ pub use feed::Feed;
 pub use forms::number_within;
 pub use laws::{
     faults_are_of_the_text, limits_by_value, loads_are_sessions, sentence_is_single,
-    sentences_are_spelled, spelled_are_sentences,
+    sentences_are_spelled, spelled_are_sentences, statements_have_their_words,
 };
 pub use limits::{SESSION_MAX, TURNS_MAX};
 pub use load::generate;
