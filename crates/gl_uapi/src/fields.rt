@@ -1,4 +1,5 @@
-//! Reading and writing one field of a structure. Numbers are little-endian.
+//! Reading and writing one field of a structure, for this crate's views and writers and for those of other
+//! structures. Numbers are little-endian. Offsets and lengths are in bytes.
 
 ghost use Rattle.std.specs.Prelude.{◌≡◌, ◌+◌, ◌≤◌, length};
 ghost use Rattle.std.specs.Int.{cast_signed, cast_unsigned, w32};
@@ -11,7 +12,7 @@ use gl_base::Name;
 
 /// The 32-bit number at an offset.
 #[tactic(auto, unfolding(crate::specs::Fields::number_at))]
-pub(crate) fn u32_at(bytes: &[u8], offset: usize) -> u32
+pub fn u32_at(bytes: &[u8], offset: usize) -> u32
     requires { offset + 4 ≤ length bytes.now }
     ensures { result ≡ number_at 4 offset bytes.now }
 {
@@ -20,7 +21,7 @@ pub(crate) fn u32_at(bytes: &[u8], offset: usize) -> u32
 
 /// The 64-bit number at an offset.
 #[tactic(auto, unfolding(crate::specs::Fields::number_at))]
-pub(crate) fn u64_at(bytes: &[u8], offset: usize) -> u64
+pub fn u64_at(bytes: &[u8], offset: usize) -> u64
     requires { offset + 8 ≤ length bytes.now }
     ensures { result ≡ number_at 8 offset bytes.now }
 {
@@ -29,7 +30,7 @@ pub(crate) fn u64_at(bytes: &[u8], offset: usize) -> u64
 
 /// The signed 32-bit number at an offset.
 #[tactic(auto, unfolding(crate::specs::Fields::number_at))]
-pub(crate) fn i32_at(bytes: &[u8], offset: usize) -> i32
+pub fn i32_at(bytes: &[u8], offset: usize) -> i32
     requires { offset + 4 ≤ length bytes.now }
     ensures { result ≡ cast_signed w32 (number_at 4 offset bytes.now) }
 {
@@ -38,7 +39,7 @@ pub(crate) fn i32_at(bytes: &[u8], offset: usize) -> i32
 
 /// The `count` bytes from an offset on.
 #[tactic(auto, unfolding(crate::specs::Fields::stretch))]
-pub(crate) fn bytes_at(bytes: &[u8], offset: usize, count: usize) -> &[u8]
+pub fn bytes_at(bytes: &[u8], offset: usize, count: usize) -> &[u8]
     requires { offset + count ≤ length bytes.now }
     ensures stretch { result.now ≡ stretch offset count bytes.now }
     ensures long { length result.now ≡ count }
@@ -48,7 +49,7 @@ pub(crate) fn bytes_at(bytes: &[u8], offset: usize, count: usize) -> &[u8]
 
 /// The name field at an offset.
 #[tactic(auto, unfolding(crate::specs::Fields::stretch))]
-pub(crate) fn name_at(bytes: &[u8], offset: usize) -> &[u8; NAME_SIZE]
+pub fn name_at(bytes: &[u8], offset: usize) -> &[u8; NAME_SIZE]
     requires { offset + NAME_SIZE ≤ length bytes.now }
     ensures { result.now ≡ stretch offset NAME_SIZE bytes.now }
 {
@@ -57,7 +58,7 @@ pub(crate) fn name_at(bytes: &[u8], offset: usize) -> &[u8; NAME_SIZE]
 }
 
 /// Whether the `count` bytes from an offset on are zero.
-pub(crate) fn are_zero(bytes: &[u8], offset: usize, count: usize) -> bool
+pub fn are_zero(bytes: &[u8], offset: usize, count: usize) -> bool
     requires { offset + count ≤ length bytes.now }
     ensures { result ≡ is_zero_at offset count bytes.now }
 {
@@ -65,7 +66,7 @@ pub(crate) fn are_zero(bytes: &[u8], offset: usize, count: usize) -> bool
 }
 
 /// Writes a 32-bit number at an offset.
-pub(crate) fn put_u32(out: &mut [u8], offset: usize, number: u32)
+pub fn put_u32(out: &mut [u8], offset: usize, number: u32)
     requires { offset + 4 ≤ length out.old }
     ensures { out.new ≡ overwritten offset (number_bytes 4 number) out.old }
 {
@@ -73,7 +74,7 @@ pub(crate) fn put_u32(out: &mut [u8], offset: usize, number: u32)
 }
 
 /// Writes a signed 32-bit number at an offset.
-pub(crate) fn put_i32(out: &mut [u8], offset: usize, number: i32)
+pub fn put_i32(out: &mut [u8], offset: usize, number: i32)
     requires { offset + 4 ≤ length out.old }
     ensures { out.new ≡ overwritten offset (number_bytes 4 (cast_unsigned w32 number)) out.old }
 {
@@ -81,7 +82,7 @@ pub(crate) fn put_i32(out: &mut [u8], offset: usize, number: i32)
 }
 
 /// Writes a 64-bit number at an offset.
-pub(crate) fn put_u64(out: &mut [u8], offset: usize, number: u64)
+pub fn put_u64(out: &mut [u8], offset: usize, number: u64)
     requires { offset + 8 ≤ length out.old }
     ensures { out.new ≡ overwritten offset (number_bytes 8 number) out.old }
 {
@@ -89,7 +90,7 @@ pub(crate) fn put_u64(out: &mut [u8], offset: usize, number: u64)
 }
 
 /// Writes zeros over the `count` bytes from an offset on.
-pub(crate) fn put_zeros(out: &mut [u8], offset: usize, count: usize)
+pub fn put_zeros(out: &mut [u8], offset: usize, count: usize)
     requires { offset + count ≤ length out.old }
     ensures { out.new ≡ overwritten offset (zeros count) out.old }
 {
@@ -97,7 +98,7 @@ pub(crate) fn put_zeros(out: &mut [u8], offset: usize, count: usize)
 }
 
 /// Writes a name over the name field at an offset.
-pub(crate) fn put_name(out: &mut [u8], offset: usize, name: &Name)
+pub fn put_name(out: &mut [u8], offset: usize, name: &Name)
     requires { offset + NAME_SIZE ≤ length out.old }
     ensures field { out.new ≡ overwritten offset (field_of name.now) out.old }
     ensures long { length (field_of name.now) ≡ NAME_SIZE }
@@ -105,4 +106,12 @@ pub(crate) fn put_name(out: &mut [u8], offset: usize, name: &Name)
     let mut field = [0; NAME_SIZE];
     name.write_into(&mut field);
     out[offset..offset + NAME_SIZE].copy_from_slice(&field);
+}
+
+/// Writes a piece over the bytes from an offset on.
+pub fn put_bytes(out: &mut [u8], offset: usize, piece: &[u8])
+    requires { offset + length piece.now ≤ length out.old }
+    ensures { out.new ≡ overwritten offset piece.now out.old }
+{
+    out[offset..offset + piece.len()].copy_from_slice(piece);
 }

@@ -8,7 +8,7 @@
 
 mod chip_infos;
 pub mod commands;
-mod fields;
+pub mod fields;
 mod info_changes;
 pub mod laws;
 pub mod layout;
