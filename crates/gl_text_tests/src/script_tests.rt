@@ -24,9 +24,9 @@ fn first_fault(alloc: Global, text: &[u8]) -> (u64, u32, &'static str) {
     }
 }
 
-#[test]
-fn each_kind_of_fault_has_its_place(rt: HostRuntime) {
-    let texts = [
+/// Texts, and the line, column and kind of the first fault of each.
+fn faulty_texts() -> [(&'static str, (u64, u32, &'static str)); 23] {
+    [
         ("", (1, 1, "header")),
         ("# none\n\n", (1, 1, "header")),
         ("\x7f", (1, 1, "byte")),
@@ -53,8 +53,12 @@ fn each_kind_of_fault_has_its_place(rt: HostRuntime) {
             "session 1\nsetup\nstep m 1000\nprobe demo 4 # 4",
             (4, 14, "words"),
         ),
-    ];
-    for (text, fault) in texts {
+    ]
+}
+
+#[test]
+fn each_kind_of_fault_has_its_place(rt: HostRuntime) {
+    for (text, fault) in faulty_texts() {
         assert_eq!(rt; first_fault(rt.alloc(), text.as_bytes()), fault, "{text}");
     }
     sentence_is_single();
@@ -69,9 +73,9 @@ fn statement_fault(alloc: Global, statement: &str) -> Result<(u64, u32, &'static
     Ok(first_fault(alloc, &text))
 }
 
-#[test]
-fn each_statement_has_its_forms_and_its_cost(rt: HostRuntime) -> Result<(), Fail> {
-    let statements = [
+/// Statements, and the cost or the first fault of each.
+fn statements() -> [(&'static str, (u64, u32, &'static str)); 43] {
+    [
         ("probe demo 0128", (1, 0, "ok")),
         ("unplug gpiochip63", (2, 0, "ok")),
         ("unplug 64", (3, 8, "word")),
@@ -115,8 +119,12 @@ fn each_statement_has_its_forms_and_its_cost(rt: HostRuntime) -> Result<(), Fail
         ("step t 1001", (3, 8, "word")),
         ("stop t", (0, 0, "ok")),
         ("stop", (3, 5, "words")),
-    ];
-    for (statement, fault) in statements {
+    ]
+}
+
+#[test]
+fn each_statement_has_its_forms_and_its_cost(rt: HostRuntime) -> Result<(), Fail> {
+    for (statement, fault) in statements() {
         assert_eq!(rt;
             statement_fault(rt.alloc(), statement)?,
             fault,
@@ -126,9 +134,9 @@ fn each_statement_has_its_forms_and_its_cost(rt: HostRuntime) -> Result<(), Fail
     Ok(())
 }
 
-#[test]
-fn commands_have_pieces_and_a_name_for_what_they_make(rt: HostRuntime) -> Result<(), Fail> {
-    let statements = [
+/// Commands, and the cost or the first fault of each.
+fn commands() -> [(&'static str, (u64, u32, &'static str)); 20] {
+    [
         ("ioctl A GET_CHIPINFO 00*68", (2, 0, "ok")),
         ("ioctl A GET_CHIPINFO -", (2, 0, "ok")),
         ("ioctl A 0x8044b401 0102 00*66", (2, 0, "ok")),
@@ -149,8 +157,12 @@ fn commands_have_pieces_and_a_name_for_what_they_make(rt: HostRuntime) -> Result
         ("ioctl A GET_LINE - 00", (3, 20, "word")),
         ("ioctl A GET_LINE 00 as", (3, 23, "words")),
         ("ioctl A GET_LINE 00 as B C", (3, 26, "words")),
-    ];
-    for (statement, fault) in statements {
+    ]
+}
+
+#[test]
+fn commands_have_pieces_and_a_name_for_what_they_make(rt: HostRuntime) -> Result<(), Fail> {
+    for (statement, fault) in commands() {
         assert_eq!(rt;
             statement_fault(rt.alloc(), statement)?,
             fault,
