@@ -24,8 +24,11 @@ fn first_fault(alloc: Global, text: &[u8]) -> (u64, u32, &'static str) {
     }
 }
 
+/// A text, and the line, column and kind of its first fault; its cost and `ok` where there is none.
+type Row = (&'static str, (u64, u32, &'static str));
+
 /// Texts, and the line, column and kind of the first fault of each.
-fn faulty_texts() -> [(&'static str, (u64, u32, &'static str)); 23] {
+fn faulty_texts() -> [Row; 23] {
     [
         ("", (1, 1, "header")),
         ("# none\n\n", (1, 1, "header")),
@@ -73,8 +76,18 @@ fn statement_fault(alloc: Global, statement: &str) -> Result<(u64, u32, &'static
     Ok(first_fault(alloc, &text))
 }
 
+/// The first of these statements whose cost or first fault is another one.
+fn first_wrong(alloc: Global, rows: &[Row]) -> Result<Option<&'static str>, Fail> {
+    for (statement, fault) in rows {
+        if statement_fault(alloc, statement)? != *fault {
+            return Ok(Some(*statement));
+        }
+    }
+    Ok(None)
+}
+
 /// Statements, and the cost or the first fault of each.
-fn statements() -> [(&'static str, (u64, u32, &'static str)); 43] {
+fn statements() -> [Row; 43] {
     [
         ("probe demo 0128", (1, 0, "ok")),
         ("unplug gpiochip63", (2, 0, "ok")),
@@ -124,18 +137,12 @@ fn statements() -> [(&'static str, (u64, u32, &'static str)); 43] {
 
 #[test]
 fn each_statement_has_its_forms_and_its_cost(rt: HostRuntime) -> Result<(), Fail> {
-    for (statement, fault) in statements() {
-        assert_eq!(rt;
-            statement_fault(rt.alloc(), statement)?,
-            fault,
-            "{statement}"
-        );
-    }
+    assert_eq!(rt; first_wrong(rt.alloc(), &statements())?, None);
     Ok(())
 }
 
 /// Commands, and the cost or the first fault of each.
-fn commands() -> [(&'static str, (u64, u32, &'static str)); 20] {
+fn commands() -> [Row; 20] {
     [
         ("ioctl A GET_CHIPINFO 00*68", (2, 0, "ok")),
         ("ioctl A GET_CHIPINFO -", (2, 0, "ok")),
@@ -162,61 +169,38 @@ fn commands() -> [(&'static str, (u64, u32, &'static str)); 20] {
 
 #[test]
 fn commands_have_pieces_and_a_name_for_what_they_make(rt: HostRuntime) -> Result<(), Fail> {
-    for (statement, fault) in commands() {
-        assert_eq!(rt;
-            statement_fault(rt.alloc(), statement)?,
-            fault,
-            "{statement}"
-        );
-    }
+    assert_eq!(rt; first_wrong(rt.alloc(), &commands())?, None);
     Ok(())
 }
 
-/// A text, and then one byte so many times.
-fn repeated(alloc: Global, text: &[u8], byte: u8, count: usize) -> Result<Vec<u8>, Fail> {
-    let mut bytes = text.to_vec(alloc)?;
-    for _ in 0..count {
-        bytes.push(byte)?;
-    }
-    Ok(bytes)
+/// What a text begins with, what comes behind it and how often, and the first fault.
+fn limits() -> [(&'static str, &'static str, u32, (u64, u32, &'static str)); 8] {
+    [
+        ("session 1\n# ", "x", 1300, (0, 0, "ok")),
+        ("session 1\n# ", "x", 1301, (2, 3, "limit")),
+        ("session 1\n", "#", 1_048_566, (2, 1, "limit")),
+        ("session 1\n", "\n", 1_048_566, (0, 0, "ok")),
+        ("session 1\n", "\n", 1_048_567, (0, 0, "too-long")),
+        ("session 1\n", "# ", 127, (0, 0, "ok")),
+        ("session 1\n", "# ", 129, (2, 257, "limit")),
+        ("session 1\n", "setup\ngpioinfo\n", 1, (2096, 0, "ok")),
+    ]
 }
 
-/// `session 1`, and then one line so many times.
-fn lines(alloc: Global, line: &[u8], count: usize) -> Result<Vec<u8>, Fail> {
-    let mut bytes = b"session 1\n".to_vec(alloc)?;
+/// A text, and then another one so many times.
+fn repeated(alloc: Global, front: &str, piece: &str, count: u32) -> Result<Vec<u8>, Fail> {
+    let mut bytes = front.as_bytes().to_vec(alloc)?;
     for _ in 0..count {
-        bytes.extend_from_slice(line)?;
+        bytes.extend_from_slice(piece.as_bytes())?;
     }
     Ok(bytes)
 }
 
 #[test]
 fn limits_are_met_to_the_byte(rt: HostRuntime) -> Result<(), Fail> {
-    let alloc = rt.alloc();
-    let texts = [
-        (repeated(alloc, b"session 1\n# ", b'x', 1300)?, (0, 0, "ok")),
-        (
-            repeated(alloc, b"session 1\n# ", b'x', 1301)?,
-            (2, 3, "limit"),
-        ),
-        (
-            repeated(alloc, b"session 1\n", b'#', 1_048_566)?,
-            (2, 1, "limit"),
-        ),
-        (
-            repeated(alloc, b"session 1\n", b'\n', 1_048_566)?,
-            (0, 0, "ok"),
-        ),
-        (
-            repeated(alloc, b"session 1\n", b'\n', 1_048_567)?,
-            (0, 0, "too-long"),
-        ),
-        (lines(alloc, b"# ", 127)?, (0, 0, "ok")),
-        (lines(alloc, b"# ", 129)?, (2, 257, "limit")),
-        (lines(alloc, b"setup\ngpioinfo\n", 1)?, (2096, 0, "ok")),
-    ];
-    for (text, fault) in texts {
-        assert_eq!(rt; first_fault(alloc, &text), fault);
+    for (front, piece, count, fault) in limits() {
+        let text = repeated(rt.alloc(), front, piece, count)?;
+        assert_eq!(rt; first_fault(rt.alloc(), &text), fault, "{count}");
     }
     Ok(())
 }
