@@ -111,7 +111,7 @@ explain_refusal() {
     word=${word%% *}
     read -r first _ <<<"$line"
     say "line $row, column $column: $(meaning)"
-    show_line
+    [ -z "$line" ] || show_line
   else
     say "the session as a whole: $(meaning)"
   fi

@@ -110,10 +110,13 @@ begin() {
   link_below "$lane"
   [ -d "$kept/incremental" ] && rm -rf "$lane/crates/$name/out/incremental" && mv "$kept/incremental" "$lane/crates/$name/out/"
   rm -f "$lane/ended" "$kept/proved.sum"
+  # (a process group of its own, so that it can be ended as a whole)
+  set -m
   {
     (work_on "$lane" "$name" "$jobs") >"$lane/said" 2>&1 </dev/null
     echo "$?" >"$lane/status" && mv "$lane/status" "$lane/ended"
   } &
+  set +m
   lane_of[$name]=$lane
   jobs_of[$name]=$jobs
   pid_of[$lane]=$!
@@ -286,14 +289,12 @@ prove() {
   find_done
   take_folders
   [ "$begun" -eq 0 ] || say "$begun of the ${#crates[@]} crates were proved before"
-  set -m
   while [ "${state[gpiosess]}" != proved ]; do
     begin_ready $((at_once - used))
     sleep 0.5
     collect
     show_all
   done
-  set +m
   [ ! -t 2 ] || echo >&2
   note_build "$sources" || fail "the sources changed while the program was proved: call it again"
   end_lanes
