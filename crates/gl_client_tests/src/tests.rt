@@ -81,17 +81,6 @@ fn told(alloc: Global, words: &[u8], results: &[u8]) -> Result<Vec<u8>, Fail> {
 /// A tool's words, the results that it gets, and what it asks and prints.
 type Case = (&'static str, &'static str, &'static str);
 
-/// The words of the first case that asks or prints something else.
-fn first_wrong(alloc: Global, cases: &[Case]) -> Result<Option<&'static str>, Fail> {
-    for (words, results, text) in cases {
-        let out = told(alloc, words.as_bytes(), results.as_bytes())?;
-        if out.as_slice() != text.as_bytes() {
-            return Ok(Some(*words));
-        }
-    }
-    Ok(None)
-}
-
 /// Lines that gpioget finds and requests, and its options.
 fn get_cases() -> [Case; 5] {
     [
@@ -217,28 +206,40 @@ fn chip_cases() -> [Case; 5] {
 /// The operations and texts of gpioget: of the rows of a board and of options.
 #[test]
 fn gpioget_asks_and_prints(rt: HostRuntime) -> Result<(), Fail> {
-    assert_eq!(rt; first_wrong(rt.alloc(), &get_cases())?, None);
+    for (words, results, text) in get_cases() {
+        let out = told(rt.alloc(), words.as_bytes(), results.as_bytes())?;
+        assert_eq!(rt; out.as_slice(), text.as_bytes(), "{words}");
+    }
     Ok(())
 }
 
 /// gpioget that is refused prints the refusal, closes what it has open and ends, at each of its operations.
 #[test]
 fn a_refused_gpioget_closes_and_ends(rt: HostRuntime) -> Result<(), Fail> {
-    assert_eq!(rt; first_wrong(rt.alloc(), &refused_get_cases())?, None);
+    for (words, results, text) in refused_get_cases() {
+        let out = told(rt.alloc(), words.as_bytes(), results.as_bytes())?;
+        assert_eq!(rt; out.as_slice(), text.as_bytes(), "{words} over {results}");
+    }
     Ok(())
 }
 
 /// So do the other tools.
 #[test]
 fn a_refused_tool_closes_and_ends(rt: HostRuntime) -> Result<(), Fail> {
-    assert_eq!(rt; first_wrong(rt.alloc(), &refused_cases())?, None);
+    for (words, results, text) in refused_cases() {
+        let out = told(rt.alloc(), words.as_bytes(), results.as_bytes())?;
+        assert_eq!(rt; out.as_slice(), text.as_bytes(), "{words} over {results}");
+    }
     Ok(())
 }
 
 /// The operations and texts of gpiodetect, gpioinfo and gpioset: of the rows of a board, and of hogs and locks.
 #[test]
 fn chips_are_told(rt: HostRuntime) -> Result<(), Fail> {
-    assert_eq!(rt; first_wrong(rt.alloc(), &chip_cases())?, None);
+    for (words, results, text) in chip_cases() {
+        let out = told(rt.alloc(), words.as_bytes(), results.as_bytes())?;
+        assert_eq!(rt; out.as_slice(), text.as_bytes(), "{words}");
+    }
     Ok(())
 }
 
@@ -297,7 +298,10 @@ fn place_cases() -> [Case; 9] {
 /// ends them: what gpiodetect printed stays, and gpioinfo has printed whole chips alone.
 #[test]
 fn all_places_are_tried(rt: HostRuntime) -> Result<(), Fail> {
-    assert_eq!(rt; first_wrong(rt.alloc(), &place_cases())?, None);
+    for (words, results, text) in place_cases() {
+        let out = told(rt.alloc(), words.as_bytes(), results.as_bytes())?;
+        assert_eq!(rt; out.as_slice(), text.as_bytes(), "{words} over {results}");
+    }
     Ok(())
 }
 

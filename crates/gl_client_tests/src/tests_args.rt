@@ -16,20 +16,6 @@ fn is_tool(alloc: Global, text: &[u8]) -> Result<bool, Fail> {
     }
 }
 
-/// The first of these words that are those of a tool, or that aren't.
-fn first_that_is(
-    alloc: Global,
-    tool: bool,
-    texts: &[&'static str],
-) -> Result<Option<&'static str>, Fail> {
-    for text in texts {
-        if is_tool(alloc, text.as_bytes())? == tool {
-            return Ok(Some(*text));
-        }
-    }
-    Ok(None)
-}
-
 /// Words of tools.
 fn right() -> [&'static str; 24] {
     [
@@ -237,8 +223,12 @@ fn taken_twice() -> [&'static str; 18] {
 /// Each option of each tool, right and wrong.
 #[test]
 fn words_are_those_of_a_tool_or_its_usage(rt: HostRuntime) -> Result<(), Fail> {
-    assert_eq!(rt; first_that_is(rt.alloc(), false, &right())?, None);
-    assert_eq!(rt; first_that_is(rt.alloc(), true, &wrong())?, None);
+    for text in right() {
+        assert!(rt; is_tool(rt.alloc(), text.as_bytes())?, "{text}");
+    }
+    for text in wrong() {
+        assert!(rt; !is_tool(rt.alloc(), text.as_bytes())?, "{text}");
+    }
     Ok(())
 }
 
@@ -271,25 +261,33 @@ fn options_are_as_they_were_given(rt: HostRuntime) -> Result<(), Fail> {
 
 #[test]
 fn the_longest_words_are_taken(rt: HostRuntime) -> Result<(), Fail> {
-    assert_eq!(rt; first_that_is(rt.alloc(), false, &longest())?, None);
+    for text in longest() {
+        assert!(rt; is_tool(rt.alloc(), text.as_bytes())?, "{text}");
+    }
     Ok(())
 }
 
 #[test]
 fn wrong_values_are_refused(rt: HostRuntime) -> Result<(), Fail> {
-    assert_eq!(rt; first_that_is(rt.alloc(), true, &wrong_values())?, None);
+    for text in wrong_values() {
+        assert!(rt; !is_tool(rt.alloc(), text.as_bytes())?, "{text}");
+    }
     Ok(())
 }
 
 #[test]
 fn options_that_a_tool_lacks_are_refused(rt: HostRuntime) -> Result<(), Fail> {
-    assert_eq!(rt; first_that_is(rt.alloc(), true, &lacking())?, None);
+    for text in lacking() {
+        assert!(rt; !is_tool(rt.alloc(), text.as_bytes())?, "{text}");
+    }
     Ok(())
 }
 
 #[test]
 fn an_option_comes_at_most_once(rt: HostRuntime) -> Result<(), Fail> {
-    assert_eq!(rt; first_that_is(rt.alloc(), true, &taken_twice())?, None);
+    for text in taken_twice() {
+        assert!(rt; !is_tool(rt.alloc(), text.as_bytes())?, "{text}");
+    }
     Ok(())
 }
 

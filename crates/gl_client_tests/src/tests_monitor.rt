@@ -236,38 +236,39 @@ fn told(alloc: Global, case: &Case) -> Result<Vec<u8>, Fail> {
     Ok(out)
 }
 
-/// The words of the first case that asks or prints something else.
-fn first_wrong(alloc: Global, cases: &[Case]) -> Result<Option<&'static str>, Fail> {
-    for case in cases {
-        let out = told(alloc, case)?;
-        if out.as_slice() != case.3.as_bytes() {
-            return Ok(Some(case.0));
-        }
-    }
-    Ok(None)
-}
-
 #[test]
 fn events_are_counted(rt: HostRuntime) -> Result<(), Fail> {
-    assert_eq!(rt; first_wrong(rt.alloc(), &number_cases())?, None);
+    for case in number_cases() {
+        let out = told(rt.alloc(), &case)?;
+        assert_eq!(rt; out.as_slice(), case.3.as_bytes(), "{}", case.0);
+    }
     Ok(())
 }
 
 #[test]
 fn gpiomon_asks_and_prints(rt: HostRuntime) -> Result<(), Fail> {
-    assert_eq!(rt; first_wrong(rt.alloc(), &edge_cases())?, None);
+    for case in edge_cases() {
+        let out = told(rt.alloc(), &case)?;
+        assert_eq!(rt; out.as_slice(), case.3.as_bytes(), "{}", case.0);
+    }
     Ok(())
 }
 
 #[test]
 fn gpionotify_asks_and_prints(rt: HostRuntime) -> Result<(), Fail> {
-    assert_eq!(rt; first_wrong(rt.alloc(), &change_cases())?, None);
+    for case in change_cases() {
+        let out = told(rt.alloc(), &case)?;
+        assert_eq!(rt; out.as_slice(), case.3.as_bytes(), "{}", case.0);
+    }
     Ok(())
 }
 
 #[test]
 fn items_are_printed_by_their_format(rt: HostRuntime) -> Result<(), Fail> {
-    assert_eq!(rt; first_wrong(rt.alloc(), &item_cases())?, None);
+    for case in item_cases() {
+        let out = told(rt.alloc(), &case)?;
+        assert_eq!(rt; out.as_slice(), case.3.as_bytes(), "{}", case.0);
+    }
     Ok(())
 }
 

@@ -215,38 +215,39 @@ fn found_rows() -> [Row; 5] {
     ]
 }
 
-/// The statements of the first row that ask or print something else.
-fn first_wrong(alloc: Global, rows: &[Row]) -> Result<Option<&'static str>, Fail> {
-    for (statements, results, text) in rows {
-        let out = told(alloc, statements, results)?;
-        if out.as_slice() != text.as_bytes() {
-            return Ok(Some(*statements));
-        }
-    }
-    Ok(None)
+fn check(alloc: Global, row: &Row) -> Result<bool, Fail> {
+    let out = told(alloc, row.0, row.1)?;
+    Ok(out.as_slice() == row.2.as_bytes())
 }
 
 #[test]
 fn rows_ask_and_print(rt: HostRuntime) -> Result<(), Fail> {
-    assert_eq!(rt; first_wrong(rt.alloc(), &rows())?, None);
+    for row in rows() {
+        assert!(rt; check(rt.alloc(), &row)?, "{}", row.0);
+    }
     Ok(())
 }
 
 #[test]
 fn a_full_queue_keeps_the_first_changes(rt: HostRuntime) -> Result<(), Fail> {
-    assert_eq!(rt; first_wrong(rt.alloc(), &[queue_row()])?, None);
+    let row = queue_row();
+    assert!(rt; check(rt.alloc(), &row)?, "{}", row.0);
     Ok(())
 }
 
 #[test]
 fn a_refused_tool_closes_the_newest_first(rt: HostRuntime) -> Result<(), Fail> {
-    assert_eq!(rt; first_wrong(rt.alloc(), &refused_rows())?, None);
+    for row in refused_rows() {
+        assert!(rt; check(rt.alloc(), &row)?, "{}", row.0);
+    }
     Ok(())
 }
 
 #[test]
 fn a_refused_start_or_stop_leaves_nothing_open(rt: HostRuntime) -> Result<(), Fail> {
-    assert_eq!(rt; first_wrong(rt.alloc(), &found_rows())?, None);
+    for row in found_rows() {
+        assert!(rt; check(rt.alloc(), &row)?, "{}", row.0);
+    }
     Ok(())
 }
 
@@ -269,21 +270,19 @@ fn over(alloc: Global, statements: &str, results: &str) -> Result<Vec<u8>, Fail>
     Ok(out)
 }
 
-/// What a talk asks and prints to its end.
-const WHOLE: &str =
-    "open 2 0\npoll 2 \nopen 6 0\nrequest 6 592 as 7 3 flags 8 by gpioset attribute 2 1 1\nclose 6 \nclose 2 \nclose 7 \nIN\nEBADF\n";
-
-/// The same up to the first operation that has no result.
-const FRONT: &str =
-    "open 2 0\npoll 2 \nopen 6 0\nrequest 6 592 as 7 3 flags 8 by gpioset attribute 2 1 1\nIN\n";
-
 /// A talk over results goes on to its end, or to the first operation that has no result.
 #[test]
 fn a_talk_goes_as_far_as_its_results(rt: HostRuntime) -> Result<(), Fail> {
     let statements = "open A 0\npoll A\nstart s gpioset -c 0 3=1\npoll B\n";
     let whole = over(rt.alloc(), statements, "number:3 ready:1 ok ok ok ok ok")?;
+    assert_eq!(rt;
+        whole.as_slice(),
+        b"open 2 0\npoll 2 \nopen 6 0\nrequest 6 592 as 7 3 flags 8 by gpioset attribute 2 1 1\nclose 6 \nclose 2 \nclose 7 \nIN\nEBADF\n".as_slice()
+    );
     let front = over(rt.alloc(), statements, "number:3 ready:1 ok")?;
-    assert!(rt; whole.as_slice() == WHOLE.as_bytes());
-    assert!(rt; front.as_slice() == FRONT.as_bytes());
+    assert_eq!(rt;
+        front.as_slice(),
+        b"open 2 0\npoll 2 \nopen 6 0\nrequest 6 592 as 7 3 flags 8 by gpioset attribute 2 1 1\nIN\n".as_slice()
+    );
     Ok(())
 }

@@ -220,26 +220,21 @@ fn call_cases() -> [Case; 3] {
     ]
 }
 
-/// The statements of the first case that ask or print something else.
-fn first_wrong(alloc: Global, cases: &[Case]) -> Result<Option<&'static str>, Fail> {
-    for (statements, answers, wanted) in cases {
-        let printed = run_all(alloc, statements, answers)?;
-        if printed.as_slice() != wanted.as_bytes() {
-            return Ok(Some(*statements));
-        }
-    }
-    Ok(None)
-}
-
 #[test]
 fn names_ask_and_print(rt: HostRuntime) -> Result<(), Fail> {
-    assert_eq!(rt; first_wrong(rt.alloc(), &name_cases())?, None);
+    for (statements, answers, wanted) in name_cases() {
+        let printed = run_all(rt.alloc(), statements, answers)?;
+        assert_eq!(rt; printed.as_slice(), wanted.as_bytes(), "{statements}");
+    }
     Ok(())
 }
 
 #[test]
 fn calls_ask_and_print(rt: HostRuntime) -> Result<(), Fail> {
-    assert_eq!(rt; first_wrong(rt.alloc(), &call_cases())?, None);
+    for (statements, answers, wanted) in call_cases() {
+        let printed = run_all(rt.alloc(), statements, answers)?;
+        assert_eq!(rt; printed.as_slice(), wanted.as_bytes(), "{statements}");
+    }
     Ok(())
 }
 

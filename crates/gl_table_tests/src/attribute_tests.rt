@@ -64,20 +64,17 @@ fn masks_choose_the_lines(rt: HostRuntime) -> Result<(), Fail> {
     Ok(())
 }
 
-/// Where a byte of a configuration stands, which it is, and the refusal.
-fn faulty_bytes() -> [(usize, u8, Errno); 5] {
-    [
+#[test]
+fn faulty_configurations_are_refused(rt: HostRuntime) -> Result<(), Fail> {
+    // Where a byte stands, which it is, and the refusal.
+    let cases = [
         (8, 11, Errno::Inval),
         (12, 1, Errno::Inval),
         (31, 1, Errno::Inval),
         (0, 0x0C, Errno::Inval),
         (1, 0x10, Errno::OpNotSupp),
-    ]
-}
-
-#[test]
-fn faulty_configurations_are_refused(rt: HostRuntime) -> Result<(), Fail> {
-    for (place, byte, errno) in faulty_bytes() {
+    ];
+    for (place, byte, errno) in cases {
         let mut bytes = [0u8; 272];
         bytes[place] = byte;
         let answer = resolve(ConfigRef::of(&bytes).ok_or("config")?, 64);

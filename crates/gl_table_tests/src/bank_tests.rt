@@ -19,9 +19,10 @@ const UP: u64 = 1 << flag::BIAS_PULL_UP;
 
 const DOWN: u64 = 1 << flag::BIAS_PULL_DOWN;
 
-/// Flags, value and the pull before; the level and the logical value.
-fn shown() -> [(u64, bool, bool, bool, bool); 11] {
-    [
+#[test]
+fn a_line_shows_its_drive_or_its_pull(rt: HostRuntime) -> Result<(), Fail> {
+    // flags, value, pull before; level, logical value
+    let cases = [
         (OUT, true, false, true, true),
         (OUT | LOW, true, true, false, true),
         (OUT | DRAIN, true, false, false, false),
@@ -33,43 +34,22 @@ fn shown() -> [(u64, bool, bool, bool, bool); 11] {
         (IN | LOW, false, true, true, false),
         (IN | UP, false, false, true, true),
         (IN | DOWN, false, true, false, false),
-    ]
-}
-
-/// Settings of a line with these flags and this value.
-fn settings(flags: u64, value: bool, debounce_us: u32) -> Settings {
-    Settings {
-        flags,
-        value,
-        debounce_us,
-    }
-}
-
-#[test]
-fn a_line_shows_its_drive_or_its_pull(rt: HostRuntime) -> Result<(), Fail> {
-    for (flags, value, up, level, logical) in shown() {
+    ];
+    for (flags, value, up, level, logical) in cases {
         let mut bank = Bank::new(rt.alloc(), 4)?;
         bank.fit(3);
         let _ = bank.set_pull(2, up);
-        bank.apply(2, settings(flags, value, 0));
-        assert_eq!(rt;
-            (bank.level(2), bank.logical(2)),
-            (level, logical),
-            "flags {flags}"
+        bank.apply(
+            2,
+            Settings {
+                flags,
+                value,
+                debounce_us: 0,
+            },
         );
+        assert_eq!(rt; bank.level(2), level, "flags {flags}");
+        assert_eq!(rt; bank.logical(2), logical, "flags {flags}");
     }
-    Ok(())
-}
-
-#[test]
-fn a_pull_changes_a_free_line_and_no_output(rt: HostRuntime) -> Result<(), Fail> {
-    let mut bank = Bank::new(rt.alloc(), 1)?;
-    let free = [bank.set_pull(0, true), bank.set_pull(0, true)];
-    assert!(rt; free == [Some(Change { rose: true }), None]);
-    bank.apply(0, settings(OUT, false, 9));
-    assert!(rt; bank.line(0).debounce_us == 9 && bank.set_pull(0, false).is_none());
-    bank.drive(0, true);
-    assert!(rt; bank.level(0));
     Ok(())
 }
 
@@ -78,17 +58,33 @@ fn a_release_keeps_the_direction_and_a_kept_output_drives_its_pull(
     rt: HostRuntime,
 ) -> Result<(), Fail> {
     let mut bank = Bank::new(rt.alloc(), 1)?;
-    bank.apply(0, settings(OUT, true, 0));
+    assert_eq!(rt; bank.set_pull(0, true), Some(Change { rose: true }));
+    assert_eq!(rt; bank.set_pull(0, true), None);
+    bank.apply(
+        0,
+        Settings {
+            flags: OUT,
+            value: false,
+            debounce_us: 9,
+        },
+    );
+    assert_eq!(rt; bank.line(0).debounce_us, 9);
+    assert_eq!(rt; bank.set_pull(0, false), None);
+    bank.drive(0, true);
+    assert!(rt; bank.level(0));
     bank.release(0);
     assert!(rt; bank.is_output(0) && !bank.level(0));
     let _ = bank.set_pull(0, true);
-    bank.apply(0, settings(0, false, 0));
+    bank.apply(
+        0,
+        Settings {
+            flags: 0,
+            value: false,
+            debounce_us: 0,
+        },
+    );
     let _ = bank.set_pull(0, false);
     assert!(rt; bank.level(0) && !bank.pull(0));
-    Ok(())
-}
-
-#[test]
-fn a_low_active_line_is_flipped(rt: HostRuntime) {
     assert!(rt; flip(LOW, false) && !flip(IN, false));
+    Ok(())
 }

@@ -4,8 +4,9 @@ use gl_base::{Errno, flag};
 use gl_flags::{LineFlags, check};
 
 /// The flags' words as a C compiler gets them from `linux/gpio.h`.
-fn flags() -> [(u32, LineFlags, u64); 13] {
-    [
+#[test]
+fn flags_are_those_of_the_header(rt: HostRuntime) {
+    let flags = [
         // GPIO_V2_LINE_FLAG_USED
         (flag::USED, LineFlags::USED, 0x1),
         // GPIO_V2_LINE_FLAG_ACTIVE_LOW
@@ -36,20 +37,17 @@ fn flags() -> [(u32, LineFlags, u64); 13] {
         ),
         // GPIO_V2_LINE_FLAG_EVENT_CLOCK_HTE
         (flag::EVENT_CLOCK_HTE, LineFlags::EVENT_CLOCK_HTE, 0x1000),
-    ]
-}
-
-#[test]
-fn flags_are_those_of_the_header(rt: HostRuntime) {
-    for (number, flags, word) in flags() {
-        assert!(rt; flags.bits() == word && number < 64);
-        assert!(rt; flags.has(number));
+    ];
+    for (number, flags, word) in flags {
+        assert_eq!(rt; flags.bits(), word, "flag {number}");
+        assert!(rt; number < 64);
+        assert!(rt; flags.has(number), "flag {number}");
     }
 }
 
-/// Words of flags, and why they are refused.
-fn words() -> [(u64, Option<Errno>); 13] {
-    [
+#[test]
+fn flags_go_together_or_not(rt: HostRuntime) {
+    let cases = [
         (0x34, None),
         (0x2, None),
         (0, None),
@@ -63,16 +61,14 @@ fn words() -> [(u64, Option<Errno>); 13] {
         (0x100, Some(Errno::Inval)),
         (0x304, Some(Errno::Inval)),
         (0x8000_0000_0000_0004, Some(Errno::Inval)),
-    ]
-}
-
-#[test]
-fn flags_go_together_or_not(rt: HostRuntime) {
-    for (bits, fault) in words() {
-        let (told, refused) = match check(bits) {
-            Ok(flags) => (flags.bits(), None),
-            Err(errno) => (bits, Some(errno)),
-        };
-        assert!(rt; (told, refused) == (bits, fault));
+    ];
+    for (bits, fault) in cases {
+        match check(bits) {
+            Ok(flags) => {
+                assert_eq!(rt; fault, None, "flags {bits:#x}");
+                assert_eq!(rt; flags.bits(), bits);
+            }
+            Err(errno) => assert_eq!(rt; fault, Some(errno), "flags {bits:#x}"),
+        }
     }
 }

@@ -12,77 +12,70 @@ const FREE: IrqLine = IrqLine {
     watched: false,
 };
 
-const CLAIMED: IrqLine = IrqLine {
-    claimed: true,
-    ..FREE
-};
-
-const OUTPUT: IrqLine = IrqLine {
-    output: true,
-    ..FREE
-};
-
-const OPEN_DRAIN: IrqLine = IrqLine {
-    open_drain: true,
-    ..OUTPUT
-};
-
-const WATCHED: IrqLine = IrqLine {
-    watched: true,
-    ..FREE
-};
-
-/// Calls on lines of a chip of two, and what they are answered, one after the other.
-fn calls() -> [(u32, IrqDo, IrqLine, Result<(), Errno>); 17] {
-    [
-        (2, IrqDo::Lock, CLAIMED, Err(Errno::Inval)),
-        (0, IrqDo::Unlock, FREE, Err(Errno::Inval)),
-        (0, IrqDo::Enable, CLAIMED, Err(Errno::Inval)),
-        (0, IrqDo::Disable, FREE, Err(Errno::Inval)),
-        (0, IrqDo::Lock, CLAIMED, Err(Errno::Busy)),
-        (0, IrqDo::Lock, OUTPUT, Err(Errno::Io)),
-        (0, IrqDo::Lock, OPEN_DRAIN, Ok(())),
-        (0, IrqDo::Never, FREE, Err(Errno::Busy)),
-        (0, IrqDo::Disable, CLAIMED, Ok(())),
-        (0, IrqDo::Enable, CLAIMED, Err(Errno::Busy)),
-        (0, IrqDo::Enable, OUTPUT, Err(Errno::Io)),
-        (0, IrqDo::Lock, FREE, Ok(())),
-        (0, IrqDo::Unlock, CLAIMED, Ok(())),
-        (1, IrqDo::Never, WATCHED, Err(Errno::Busy)),
-        (1, IrqDo::Never, CLAIMED, Err(Errno::Busy)),
-        (1, IrqDo::Never, OUTPUT, Ok(())),
-        (1, IrqDo::Lock, OUTPUT, Err(Errno::NxIo)),
-    ]
-}
-
 #[test]
 fn locks_are_refused_by_the_table(rt: HostRuntime) -> Result<(), Fail> {
+    let claimed = IrqLine {
+        claimed: true,
+        ..FREE
+    };
+    let output = IrqLine {
+        output: true,
+        ..FREE
+    };
+    let open_drain = IrqLine {
+        open_drain: true,
+        ..output
+    };
+    let watched = IrqLine {
+        watched: true,
+        ..FREE
+    };
     let mut irqs = Irqs::new(rt.alloc(), 3)?;
     irqs.fit(2);
-    for (offset, what, line, answer) in calls() {
-        assert_eq!(rt; irqs.act(offset, what, line), answer, "{offset} {what:?}");
+    // offset, call, line; answer
+    let calls = [
+        (2, IrqDo::Lock, claimed, Err(Errno::Inval)),
+        (0, IrqDo::Unlock, FREE, Err(Errno::Inval)),
+        (0, IrqDo::Enable, claimed, Err(Errno::Inval)),
+        (0, IrqDo::Disable, FREE, Err(Errno::Inval)),
+        (0, IrqDo::Lock, claimed, Err(Errno::Busy)),
+        (0, IrqDo::Lock, output, Err(Errno::Io)),
+        (0, IrqDo::Lock, open_drain, Ok(())),
+        (0, IrqDo::Never, FREE, Err(Errno::Busy)),
+        (0, IrqDo::Disable, claimed, Ok(())),
+        (0, IrqDo::Enable, claimed, Err(Errno::Busy)),
+        (0, IrqDo::Enable, output, Err(Errno::Io)),
+        (0, IrqDo::Lock, FREE, Ok(())),
+        (0, IrqDo::Unlock, claimed, Ok(())),
+        (1, IrqDo::Never, watched, Err(Errno::Busy)),
+        (1, IrqDo::Never, claimed, Err(Errno::Busy)),
+        (1, IrqDo::Never, output, Ok(())),
+        (1, IrqDo::Lock, output, Err(Errno::NxIo)),
+    ];
+    for (offset, what, line, answer) in calls {
+        assert_eq!(rt;
+            irqs.act(offset, what, line),
+            answer,
+            "{offset} {what:?} {line:?}"
+        );
     }
     Ok(())
-}
-
-/// Calls on a free line, one after the other, and whether it is locked, enabled and able to interrupt then.
-fn steps() -> [(IrqDo, bool, bool, bool); 5] {
-    [
-        (IrqDo::Lock, true, true, true),
-        (IrqDo::Disable, true, false, true),
-        (IrqDo::Enable, true, true, true),
-        (IrqDo::Unlock, false, false, true),
-        (IrqDo::Never, false, false, false),
-    ]
 }
 
 #[test]
 fn a_lock_is_enabled_until_it_is_disabled(rt: HostRuntime) -> Result<(), Fail> {
     let mut irqs = Irqs::new(rt.alloc(), 1)?;
     assert!(rt; !irqs.line(0).locked);
-    for (what, locked, enabled, has) in steps() {
-        assert!(rt; irqs.act(0, what, FREE).is_ok());
-        assert!(rt; (irqs.locked(0), irqs.enabled(0), irqs.has(0)) == (locked, enabled, has));
-    }
+    assert!(rt; irqs.act(0, IrqDo::Lock, FREE).is_ok());
+    assert!(rt; irqs.locked(0) && irqs.enabled(0));
+    assert!(rt; irqs.act(0, IrqDo::Disable, FREE).is_ok());
+    assert!(rt; irqs.locked(0) && !irqs.enabled(0));
+    assert!(rt; irqs.act(0, IrqDo::Enable, FREE).is_ok());
+    assert!(rt; irqs.enabled(0));
+    assert!(rt; irqs.act(0, IrqDo::Unlock, FREE).is_ok());
+    assert!(rt; !irqs.locked(0) && !irqs.enabled(0));
+    assert!(rt; irqs.has(0));
+    assert!(rt; irqs.act(0, IrqDo::Never, FREE).is_ok());
+    assert!(rt; !irqs.has(0));
     Ok(())
 }

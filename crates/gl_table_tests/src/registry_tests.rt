@@ -2,12 +2,21 @@
 
 use gl_base::{Errno, Name, Phase};
 use gl_registry::Registry;
-use std::alloc::Global;
 use std::test::Fail;
 
-/// Words, and the places of the chips that they name, where two were made.
-fn chip_words() -> [(&'static str, Option<u8>); 7] {
-    [
+#[test]
+fn a_chip_is_named_by_three_words_until_it_is_gone(rt: HostRuntime) -> Result<(), Fail> {
+    let mut registry = Registry::new(rt.alloc())?;
+    let label = Name::of(b"demo").ok_or("a name")?;
+    assert_eq!(rt; registry.add(label, 4)?, 0);
+    assert_eq!(rt; registry.add(label, 8)?, 1);
+    assert_eq!(rt; registry.left(), 14);
+    assert_eq!(rt; registry.label(1), label);
+    assert_eq!(rt; registry.lines(1), 8);
+    assert_eq!(rt; registry.chip(1).lines, 8);
+    registry.go_on(0);
+    assert_eq!(rt; registry.phase(0), Phase::Leaving);
+    let words = [
         ("0", Some(0)),
         ("gpiochip1", Some(1)),
         ("/dev/gpiochip1", Some(1)),
@@ -15,36 +24,12 @@ fn chip_words() -> [(&'static str, Option<u8>); 7] {
         ("/dev/1", None),
         ("gpiochip", None),
         ("2", None),
-    ]
-}
-
-/// Chips of 4 and of 8 lines with one label.
-fn two_chips(alloc: Global) -> Result<Registry, Fail> {
-    let mut registry = Registry::new(alloc)?;
-    let label = Name::of(b"demo").ok_or("a name")?;
-    registry.add(label, 4)?;
-    registry.add(label, 8)?;
-    Ok(registry)
-}
-
-#[test]
-fn a_chip_has_its_label_and_its_lines(rt: HostRuntime) -> Result<(), Fail> {
-    let registry = two_chips(rt.alloc())?;
-    assert!(rt; (registry.left(), registry.lines(1), registry.chip(1).lines) == (14, 8, 8));
-    assert!(rt; registry.label(1).as_bytes() == b"demo".as_slice());
-    Ok(())
-}
-
-#[test]
-fn a_chip_is_named_by_three_words_until_it_is_gone(rt: HostRuntime) -> Result<(), Fail> {
-    let mut registry = two_chips(rt.alloc())?;
-    registry.go_on(0);
-    assert!(rt; registry.phase(0) == Phase::Leaving);
-    for (word, place) in chip_words() {
+    ];
+    for (word, place) in words {
         assert_eq!(rt; registry.by_word(word.as_bytes()), place, "{word}");
     }
     registry.go_on(0);
-    assert!(rt; registry.by_word(b"gpiochip0").is_none());
+    assert_eq!(rt; registry.by_word(b"gpiochip0"), None);
     Ok(())
 }
 

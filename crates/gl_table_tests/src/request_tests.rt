@@ -42,47 +42,33 @@ fn ring(alloc: Global) -> Result<EdgeRing, &'static str>
     EdgeRing::with_capacity(alloc, 2).ok().ok_or("memory")
 }
 
-/// Edges: the line's place in the request, the direction, and the numbers of the event, if it is one.
-fn edges() -> [(u32, bool, Option<(u32, u32, u32)>); 4] {
-    [
+#[test]
+fn edges_are_numbered_when_they_happen(rt: HostRuntime) -> Result<(), Fail> {
+    let mut requests = Requests::new(rt.alloc()).ok().ok_or("memory")?;
+    assert_eq!(rt; requests.len(), 0);
+    requests.claim(two_lines(4), ring(rt.alloc())?);
+    assert_eq!(rt; requests.len(), 1);
+    assert_eq!(rt; (requests.pending(1), requests.pending(0)), (Some(4), None));
+    requests.settle(4);
+    assert_eq!(rt; (requests.pending(1), requests.place(4)), (None, Some(2)));
+
+    // Place in the request, the direction, and the numbers of the event, if it is one.
+    let edges = [
         (0, true, Some((3, 1, 1))),
         (1, true, None),
         (1, false, Some((5, 2, 1))),
         (0, false, Some((3, 3, 2))),
-    ]
-}
-
-#[test]
-fn edges_are_numbered_when_they_happen(rt: HostRuntime) -> Result<(), Fail> {
-    let mut requests = Requests::new(rt.alloc()).ok().ok_or("memory")?;
-    requests.claim(two_lines(4), ring(rt.alloc())?);
-    requests.settle(4);
-    for (i, rising, numbers) in edges() {
+    ];
+    for (i, rising, numbers) in edges {
         let event = requests.edge(4, i, rising, 7);
         assert!(rt; event.map(|e: Event| (e.offset, e.seqno, e.line_seqno)) == numbers);
     }
-    let waiting = requests.waiting(4);
+    assert_eq!(rt; requests.waiting(4), 2);
     let mut out = [0u8; 96];
-    let count = requests.read(4, 2, &mut out);
-    let first = EventsRef::of(&out).get(0).seqno;
-    assert!(rt; (waiting, count, first, requests.waiting(4)) == (2, 2, 2, 0));
+    assert_eq!(rt; requests.read(4, 2, &mut out), 2);
+    assert_eq!(rt; EventsRef::of(&out).get(0).seqno, 2);
+    assert_eq!(rt; requests.waiting(4), 0);
     Ok(())
-}
-
-#[test]
-fn a_claim_is_pending_until_it_is_settled(rt: HostRuntime) -> Result<(), Fail> {
-    let mut requests = Requests::new(rt.alloc()).ok().ok_or("memory")?;
-    assert!(rt; requests.len() == 0);
-    requests.claim(two_lines(4), ring(rt.alloc())?);
-    assert!(rt; (requests.len(), requests.pending(1), requests.pending(0)) == (1, Some(4), None));
-    requests.settle(4);
-    assert!(rt; (requests.pending(1), requests.place(4)) == (None, Some(2)));
-    Ok(())
-}
-
-/// The flags of a request's line.
-fn flags_of(requests: &Requests, fd: u32, i: u32) -> Option<u64> {
-    requests.settings(fd, i).map(|s: Settings| s.flags)
 }
 
 #[test]
@@ -91,24 +77,26 @@ fn requests_are_found_by_number(rt: HostRuntime) -> Result<(), Fail> {
     requests.claim(two_lines(4), ring(rt.alloc())?);
     requests.claim(two_lines(9), ring(rt.alloc())?);
     let lines = requests.lines(9).ok_or("lines")?;
-    assert!(rt; (lines.count, lines.offsets[1]) == (2, 5));
+    assert_eq!(rt; (lines.count, lines.offsets[1]), (2, 5));
+    assert_eq!(rt;
+        requests.settings(9, 1).map(|s: Settings| s.flags),
+        Some(0x24)
+    );
+    assert!(rt; requests.settings(9, 2).is_none());
     let mut settings = two_lines(9).settings;
     settings.lines[1].flags = 0x14;
-    let before = (flags_of(&requests, 9, 1), flags_of(&requests, 9, 2));
     requests.configure(9, &settings);
-    let after = (flags_of(&requests, 9, 1), flags_of(&requests, 4, 1));
-    assert!(rt; (before, after) == ((Some(0x24), None), (Some(0x14), Some(0x24))));
-    Ok(())
-}
-
-#[test]
-fn a_request_is_released_once(rt: HostRuntime) -> Result<(), Fail> {
-    let mut requests = Requests::new(rt.alloc()).ok().ok_or("memory")?;
-    requests.claim(two_lines(4), ring(rt.alloc())?);
-    requests.claim(two_lines(9), ring(rt.alloc())?);
+    assert_eq!(rt;
+        requests.settings(9, 1).map(|s: Settings| s.flags),
+        Some(0x14)
+    );
+    assert_eq!(rt;
+        requests.settings(4, 1).map(|s: Settings| s.flags),
+        Some(0x24)
+    );
     assert!(rt; requests.claimed_as(9).is_some());
     assert!(rt; requests.release(4).is_some());
     assert!(rt; requests.release(4).is_none());
-    assert!(rt; (requests.place(4), requests.place(9)) == (None, Some(2)));
+    assert_eq!(rt; (requests.place(4), requests.place(9)), (None, Some(2)));
     Ok(())
 }

@@ -5,7 +5,6 @@ use gl_desc::HogWay;
 use gl_simtree::node::{Directory, File, Node};
 use gl_simtree::parse::node_at;
 use gl_simtree::{BankPlan, Tree};
-use std::alloc::Global;
 use std::test::Fail;
 
 fn path(text: &str) -> Result<Path, Fail> {
@@ -34,9 +33,9 @@ fn kind(text: &str) -> Result<&'static str, Fail> {
     })
 }
 
-/// Paths, and the kinds of what they name.
-fn paths() -> [(&'static str, &'static str); 32] {
-    [
+#[test]
+fn paths_have_these_forms_and_no_others(rt: HostRuntime) -> Result<(), Fail> {
+    let paths = [
         ("board", "device"),
         ("a.b-c_D9", "device"),
         ("123456789012345", "device"),
@@ -69,12 +68,8 @@ fn paths() -> [(&'static str, &'static str); 32] {
         ("board/soc/line3/label", "none"),
         ("board/soc/line3/hog/name/", "none"),
         ("board/soc/num_lines/0", "none"),
-    ]
-}
-
-#[test]
-fn paths_have_these_forms_and_no_others(rt: HostRuntime) -> Result<(), Fail> {
-    for (text, expected) in paths() {
+    ];
+    for (text, expected) in paths {
         assert_eq!(rt; kind(text)?, expected, "{text}");
     }
     Ok(())
@@ -118,9 +113,10 @@ fn made(tree: &mut Tree, call: Call, text: &str) -> Result<Result<(), Errno>, Fa
     })
 }
 
-/// Calls on a new tree, and what they are answered.
-fn refused_calls() -> [(Call, &'static str, Result<(), Errno>); 35] {
-    [
+#[test]
+fn the_first_refusal_decides(rt: HostRuntime) -> Result<(), Fail> {
+    let mut tree = Tree::new(rt.alloc()).map_err(|_| "memory")?;
+    let calls = [
         (Call::CheckLive(16), "gpiochip1", Err(Errno::Inval)),
         (Call::CheckLive(16), "d", Err(Errno::NoEnt)),
         (Call::Mkdir, "d/b", Err(Errno::NoEnt)),
@@ -156,21 +152,17 @@ fn refused_calls() -> [(Call, &'static str, Result<(), Errno>); 35] {
         (Call::SetOff, "d", Ok(())),
         (Call::Rmdir, "d/b", Ok(())),
         (Call::Write("main"), "d/b/label", Err(Errno::NoEnt)),
-    ]
-}
-
-#[test]
-fn the_first_refusal_decides(rt: HostRuntime) -> Result<(), Fail> {
-    let mut tree = Tree::new(rt.alloc()).map_err(|_| "memory")?;
-    for (call, text, expected) in refused_calls() {
+    ];
+    for (call, text, expected) in calls {
         assert_eq!(rt; made(&mut tree, call, text)?, expected, "{text}");
     }
     Ok(())
 }
 
-/// The calls that make a board of three banks, which goes live at place 4.
-fn board_calls() -> [(Call, &'static str); 13] {
-    [
+#[test]
+fn a_board_of_three_banks_becomes_three_chips(rt: HostRuntime) -> Result<(), Fail> {
+    let mut tree = Tree::new(rt.alloc()).map_err(|_| "memory")?;
+    let calls = [
         (Call::Mkdir, "board"),
         (Call::Mkdir, "board/soc"),
         (Call::Write("8"), "board/soc/num_lines"),
@@ -184,42 +176,10 @@ fn board_calls() -> [(Call, &'static str); 13] {
         (Call::Write("2"), "board/aux/num_lines"),
         (Call::Mkdir, "board/aux/line2"),
         (Call::SetLive(4), "board"),
-    ]
-}
-
-/// A tree with this board.
-fn with_board(alloc: Global) -> Result<Tree, Fail> {
-    let mut tree = Tree::new(alloc).map_err(|_| "memory")?;
-    for (call, text) in board_calls() {
-        made(&mut tree, call, text)?.map_err(|_| text)?;
+    ];
+    for (call, text) in calls {
+        assert_eq!(rt; made(&mut tree, call, text)?, Ok(()), "{text}");
     }
-    Ok(tree)
-}
-
-/// What a chip is planned to be: its label, how many lines, and how many of them have names and hogs.
-fn planned(plan: &BankPlan) -> (&[u8], u32, usize, usize) {
-    (
-        plan.label.as_bytes(),
-        plan.lines,
-        plan.names.len(),
-        plan.hogs.len(),
-    )
-}
-
-/// Whether each name and each hog of a plan is the board's: BUTTON, and an output that is high, both of line 3.
-fn has_line_three_alone(plan: &BankPlan) -> bool {
-    let names = plan.names.iter().all(|(offset, name)| *offset == 3
-        && name.as_bytes() == b"BUTTON".as_slice());
-    let hogs = plan
-        .hogs
-        .iter()
-        .all(|hog| hog.offset == 3 && hog.way == HogWay::High);
-    names && hogs
-}
-
-#[test]
-fn a_board_of_three_banks_becomes_three_chips(rt: HostRuntime) -> Result<(), Fail> {
-    let tree = with_board(rt.alloc())?;
     let board = name("board")?;
     let banks = [
         ("soc-gpio", 8, 1, 1),
@@ -229,27 +189,29 @@ fn a_board_of_three_banks_becomes_three_chips(rt: HostRuntime) -> Result<(), Fai
     for (bank, (label, lines, names, hogs)) in banks.into_iter().enumerate() {
         let mut plan = BankPlan::new(rt.alloc()).map_err(|_| "memory")?;
         tree.plan(&board, bank as u32, &mut plan);
-        assert!(rt; planned(&plan) == (label.as_bytes(), lines, names, hogs));
-        assert!(rt; has_line_three_alone(&plan));
+        assert_eq!(rt; plan.label.as_bytes(), label.as_bytes());
+        assert_eq!(rt;
+            (plan.lines, plan.names.len(), plan.hogs.len()),
+            (lines, names, hogs),
+            "{label}"
+        );
+        for (offset, name) in plan.names.iter() {
+            assert_eq!(rt; *offset, 3);
+            assert_eq!(rt; name.as_bytes(), b"BUTTON".as_slice());
+        }
+        for hog in plan.hogs.iter() {
+            assert_eq!(rt; hog.offset, 3);
+            assert!(rt; hog.way == HogWay::High);
+        }
     }
-    Ok(())
-}
-
-/// Files of the board, and what is read of them.
-fn board_files() -> [(&'static str, &'static str); 5] {
-    [
+    let files = [
         ("board/live", "1"),
         ("board/exp/chip_name", "gpiochip5"),
         ("board/exp/label", ""),
         ("board/soc/num_lines", "8"),
         ("board/soc/line3/hog/direction", "output-high"),
-    ]
-}
-
-#[test]
-fn files_of_a_board_are_read(rt: HostRuntime) -> Result<(), Fail> {
-    let tree = with_board(rt.alloc())?;
-    for (file, value) in board_files() {
+    ];
+    for (file, value) in files {
         assert_eq!(rt; tree.read(&path(file)?), Ok(name(value)?), "{file}");
     }
     Ok(())

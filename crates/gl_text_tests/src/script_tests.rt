@@ -24,12 +24,9 @@ fn first_fault(alloc: Global, text: &[u8]) -> (u64, u32, &'static str) {
     }
 }
 
-/// A text, and the line, column and kind of its first fault; its cost and `ok` where there is none.
-type Row = (&'static str, (u64, u32, &'static str));
-
-/// Texts, and the line, column and kind of the first fault of each.
-fn faulty_texts() -> [Row; 23] {
-    [
+#[test]
+fn each_kind_of_fault_has_its_place(rt: HostRuntime) {
+    let texts = [
         ("", (1, 1, "header")),
         ("# none\n\n", (1, 1, "header")),
         ("\x7f", (1, 1, "byte")),
@@ -56,12 +53,8 @@ fn faulty_texts() -> [Row; 23] {
             "session 1\nsetup\nstep m 1000\nprobe demo 4 # 4",
             (4, 14, "words"),
         ),
-    ]
-}
-
-#[test]
-fn each_kind_of_fault_has_its_place(rt: HostRuntime) {
-    for (text, fault) in faulty_texts() {
+    ];
+    for (text, fault) in texts {
         assert_eq!(rt; first_fault(rt.alloc(), text.as_bytes()), fault, "{text}");
     }
     sentence_is_single();
@@ -76,19 +69,9 @@ fn statement_fault(alloc: Global, statement: &str) -> Result<(u64, u32, &'static
     Ok(first_fault(alloc, &text))
 }
 
-/// The first of these statements whose cost or first fault is another one.
-fn first_wrong(alloc: Global, rows: &[Row]) -> Result<Option<&'static str>, Fail> {
-    for (statement, fault) in rows {
-        if statement_fault(alloc, statement)? != *fault {
-            return Ok(Some(*statement));
-        }
-    }
-    Ok(None)
-}
-
-/// Statements, and the cost or the first fault of each.
-fn statements() -> [Row; 43] {
-    [
+#[test]
+fn each_statement_has_its_forms_and_its_cost(rt: HostRuntime) -> Result<(), Fail> {
+    let statements = [
         ("probe demo 0128", (1, 0, "ok")),
         ("unplug gpiochip63", (2, 0, "ok")),
         ("unplug 64", (3, 8, "word")),
@@ -132,18 +115,20 @@ fn statements() -> [Row; 43] {
         ("step t 1001", (3, 8, "word")),
         ("stop t", (0, 0, "ok")),
         ("stop", (3, 5, "words")),
-    ]
-}
-
-#[test]
-fn each_statement_has_its_forms_and_its_cost(rt: HostRuntime) -> Result<(), Fail> {
-    assert_eq!(rt; first_wrong(rt.alloc(), &statements())?, None);
+    ];
+    for (statement, fault) in statements {
+        assert_eq!(rt;
+            statement_fault(rt.alloc(), statement)?,
+            fault,
+            "{statement}"
+        );
+    }
     Ok(())
 }
 
-/// Commands, and the cost or the first fault of each.
-fn commands() -> [Row; 20] {
-    [
+#[test]
+fn commands_have_pieces_and_a_name_for_what_they_make(rt: HostRuntime) -> Result<(), Fail> {
+    let statements = [
         ("ioctl A GET_CHIPINFO 00*68", (2, 0, "ok")),
         ("ioctl A GET_CHIPINFO -", (2, 0, "ok")),
         ("ioctl A 0x8044b401 0102 00*66", (2, 0, "ok")),
@@ -164,43 +149,62 @@ fn commands() -> [Row; 20] {
         ("ioctl A GET_LINE - 00", (3, 20, "word")),
         ("ioctl A GET_LINE 00 as", (3, 23, "words")),
         ("ioctl A GET_LINE 00 as B C", (3, 26, "words")),
-    ]
-}
-
-#[test]
-fn commands_have_pieces_and_a_name_for_what_they_make(rt: HostRuntime) -> Result<(), Fail> {
-    assert_eq!(rt; first_wrong(rt.alloc(), &commands())?, None);
+    ];
+    for (statement, fault) in statements {
+        assert_eq!(rt;
+            statement_fault(rt.alloc(), statement)?,
+            fault,
+            "{statement}"
+        );
+    }
     Ok(())
 }
 
-/// What a text begins with, what comes behind it and how often, and the first fault.
-fn limits() -> [(&'static str, &'static str, u32, (u64, u32, &'static str)); 8] {
-    [
-        ("session 1\n# ", "x", 1300, (0, 0, "ok")),
-        ("session 1\n# ", "x", 1301, (2, 3, "limit")),
-        ("session 1\n", "#", 1_048_566, (2, 1, "limit")),
-        ("session 1\n", "\n", 1_048_566, (0, 0, "ok")),
-        ("session 1\n", "\n", 1_048_567, (0, 0, "too-long")),
-        ("session 1\n", "# ", 127, (0, 0, "ok")),
-        ("session 1\n", "# ", 129, (2, 257, "limit")),
-        ("session 1\n", "setup\ngpioinfo\n", 1, (2096, 0, "ok")),
-    ]
+/// A text, and then one byte so many times.
+fn repeated(alloc: Global, text: &[u8], byte: u8, count: usize) -> Result<Vec<u8>, Fail> {
+    let mut bytes = text.to_vec(alloc)?;
+    for _ in 0..count {
+        bytes.push(byte)?;
+    }
+    Ok(bytes)
 }
 
-/// A text, and then another one so many times.
-fn repeated(alloc: Global, front: &str, piece: &str, count: u32) -> Result<Vec<u8>, Fail> {
-    let mut bytes = front.as_bytes().to_vec(alloc)?;
+/// `session 1`, and then one line so many times.
+fn lines(alloc: Global, line: &[u8], count: usize) -> Result<Vec<u8>, Fail> {
+    let mut bytes = b"session 1\n".to_vec(alloc)?;
     for _ in 0..count {
-        bytes.extend_from_slice(piece.as_bytes())?;
+        bytes.extend_from_slice(line)?;
     }
     Ok(bytes)
 }
 
 #[test]
 fn limits_are_met_to_the_byte(rt: HostRuntime) -> Result<(), Fail> {
-    for (front, piece, count, fault) in limits() {
-        let text = repeated(rt.alloc(), front, piece, count)?;
-        assert_eq!(rt; first_fault(rt.alloc(), &text), fault, "{count}");
+    let alloc = rt.alloc();
+    let texts = [
+        (repeated(alloc, b"session 1\n# ", b'x', 1300)?, (0, 0, "ok")),
+        (
+            repeated(alloc, b"session 1\n# ", b'x', 1301)?,
+            (2, 3, "limit"),
+        ),
+        (
+            repeated(alloc, b"session 1\n", b'#', 1_048_566)?,
+            (2, 1, "limit"),
+        ),
+        (
+            repeated(alloc, b"session 1\n", b'\n', 1_048_566)?,
+            (0, 0, "ok"),
+        ),
+        (
+            repeated(alloc, b"session 1\n", b'\n', 1_048_567)?,
+            (0, 0, "too-long"),
+        ),
+        (lines(alloc, b"# ", 127)?, (0, 0, "ok")),
+        (lines(alloc, b"# ", 129)?, (2, 257, "limit")),
+        (lines(alloc, b"setup\ngpioinfo\n", 1)?, (2096, 0, "ok")),
+    ];
+    for (text, fault) in texts {
+        assert_eq!(rt; first_fault(alloc, &text), fault);
     }
     Ok(())
 }
