@@ -32,7 +32,7 @@ use Rattle.gl_model.proofs.Bounds.{legal_worlds_have_bounds}
 use Rattle.gl_model.proofs.EndingRemovals.{last_calls_are_done}
 use Rattle.gl_model.proofs.Phases.{length-places_from, read_places, within_chips}
 use Rattle.gl_chip.specs.Called.{HasCalled}
-use Rattle.gl_chip.specs.Removing.{AllDrained, HasBegun, HasDrained, HasEnded, RemovesOut, is_first_call, removal_of}
+use Rattle.gl_chip.specs.Removing.{AllDrained, EndsAsBegun, HasBegun, HasDrained, HasEnded, RemovedBy, RemovesOut, is_first_call, removal_of}
 use Rattle.gl_chip.specs.Results.{done_of}
 use Rattle.gl_chip.specs.Steps.{FoundNoRoom, deed_of}
 use Rattle.gl_chip.specs.Values.{IsIdle, MayOwn, OneEntry, OneView, core}
@@ -446,3 +446,26 @@ ok_is_done reply result P is refused done = subst (λ r. IfOk r (λ _. P)) (sym 
     by : (b : Bool) → is_done reply ≡ b → IfOk (done_of reply) (λ _. P)
     by true e = subst (λ r. IfOk (done_of r) (λ _. P)) (sym (done_is reply e)) (done e)
     by false e = let r = refused e in subst (λ r. IfOk (done_of r) (λ _. P)) (sym r.1) tt
+
+-- the entries of a removal
+
+pub removed_at_first : (v w : OneView) (first : Call) (reply : Reply) (old new : List ℕ) → is_first_call first ≡ true → Acts core v first reply old new w → is_done reply ≡ false → RemovedBy (removal_of first) reply v w
+removed_at_first v w first reply old new is_first acts undone = let r = first_is_refused v w first reply old new is_first acts undone in
+    inl (r.0, r.1, acts.mine ∙ ap (λ (k : Call). v.mine ++ entry v.number k reply ∷ []) (first_is first is_first))
+
+pub removed_whole : (v w u : OneView) (first : Call) (first_reply reply : Reply) (old new : List ℕ) (from count : ℕ) → is_first_call first ≡ true → SamePass v w → Acts core v first first_reply old new w → is_done first_reply ≡ true → HasEnded from count first w reply u
+    → RemovedBy (removal_of first) reply v u
+removed_whole v w u first first_reply reply old new from count is_first same acts d ended =
+    let e : OneEntry = entry v.number first first_reply in let l : OneEntry = entry w.number (last_call first) reply in
+    let is = first_is first is_first in let done = done_is first_reply d in
+    inr (
+      ended.done,
+      ended.grew.mine ∙ (ap (λ x. x ++ l ∷ []) acts.mine ∙ (append_assoc v.mine (e ∷ []) (l ∷ []) ∙ (λ i. v.mine ++ entry v.number (is i) (done i) ∷ entry (same.number i) (last_call (is i)) reply ∷ []))),
+    )
+
+-- and what its caller gets
+pub ends_as_begun : (removal : RemovalOf) (result : Result (Unit {0}) Errno) (reply : Reply) (v w : OneView) → result ≡ done_of reply → RemovedBy removal reply v w → EndsAsBegun removal result v w
+ends_as_begun removal result reply v w is h = subst (λ r. EndsAsBegun removal r v w) (sym is) (
+    ⊎_elim (λ refused. subst (λ r. w.mine ≡ v.mine ++ entry v.number (first_call removal) r ∷ [] → EndsAsBegun removal (done_of r) v w) (sym refused.1) (λ mine. mine) refused.2)
+    (λ done. subst (λ r. w.mine ≡ v.mine ++ entry v.number (first_call removal) Done ∷ entry v.number (last_call (first_call removal)) r ∷ [] → EndsAsBegun removal (done_of r) v w) (sym done.0) (λ mine. mine) done.1) h
+    )

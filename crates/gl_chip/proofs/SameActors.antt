@@ -2,7 +2,7 @@
 use Rattle.std.proofs.Common.{List, Result, Ok, Err, IfOk, IfErr, refl}
 use Rattle.std.proofs.lemmas.List.{append-nil}
 use Rattle.std.proofs.Common.{[], sym}
-use Rattle.gl_gate.specs.Calls.{KnowsAsMuch}
+use Rattle.gl_gate.specs.Calls.{KnowsAsMuch, KnowsTheSame, SamePass}
 use Rattle.gl_gate.specs.Grown.{Grew}
 use Rattle.gl_chip.specs.Values.{IsSameActor, OneDeed, OneView, core}
 
@@ -17,3 +17,10 @@ same_actor v = record { number = refl; room = refl; made = refl; joined = refl; 
 pub either : {X E : Type 0} (r : Result X E) (P : X → Type 0) (Q : E → Type 0) (Y : Type 0) → IfOk r P → IfErr r Q → ((x : X) → P x → Y) → ((e : E) → Q e → Y) → Y
 either (Ok x) P Q Y ok err f g = f x ok
 either (Err e) P Q Y ok err f g = g e err
+
+-- who knows of places what it knew
+pub knows_still : (v w : OneView) → SamePass v w → KnowsTheSame v w
+knows_still v w same = record { closed = same.closed; drained = same.drained }
+
+pub knows_itself : (v : OneView) → KnowsTheSame v v
+knows_itself v = record { closed = refl; drained = refl }

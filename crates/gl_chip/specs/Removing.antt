@@ -1,5 +1,5 @@
 -- A removal, as a call of the device: its first entry, then each of its places closed and drained, then its last entry.
-use Rattle.std.specs.Prelude.{◌≡◌, ℕ, ◌+◌, ◌<◌, ◌≤◌, Bool, true, false, ◌&&◌, List, [], ◌∷◌, ◌++◌, ◌⊎◌, Contains, Result, Err}
+use Rattle.std.specs.Prelude.{◌≡◌, ℕ, ◌+◌, ◌<◌, ◌≤◌, Bool, true, false, ◌&&◌, List, [], ◌∷◌, ◌++◌, ◌⊎◌, Contains, Result, Ok, Err}
 use Rattle.gl_base.specs.Phases.{is_gone}
 use Rattle.gl_base.specs.declared.errno.Errno.{Errno}
 use Rattle.gl_base.specs.declared.errno.Errno.TheVariants.{Full}
@@ -13,10 +13,10 @@ use Rattle.gl_gate.specs.Grown.{Grew, Moved}
 use Rattle.gl_model.specs.declared.call.Call.{Call}
 use Rattle.gl_model.specs.declared.call.Call.TheVariants.{Remove, Unplug}
 use Rattle.gl_model.specs.declared.reply.Reply.{Reply}
-use Rattle.gl_model.specs.declared.reply.Reply.TheVariants.{Done}
+use Rattle.gl_model.specs.declared.reply.Reply.TheVariants.{Done, Refused}
 use Rattle.gl_model.specs.Chips.{phase_at}
 use Rattle.gl_model.specs.Entries.{awaited_call, begun_places, last_call}
-use Rattle.gl_model.specs.Parts.{DeviceCall, RemovalOf, OfChip, OfDevice}
+use Rattle.gl_model.specs.Parts.{DeviceCall, RemovalOf, OfChip, OfDevice, first_call}
 use Rattle.gl_model.specs.Removal.{is_outside_tree}
 use Rattle.gl_model.specs.World.{World}
 use Rattle.gl_chip.specs.Called.{IsMade}
@@ -80,3 +80,15 @@ module _ {M C R G : Type 0} (m : Ghosts M C R G) where
 -- the history was full, and then, and only then, the result says so.
 abbrev pub RemovesOut : Result (Unit {0}) Errno → OneView → DeviceCall → OneView → Type 0
 RemovesOut result v call w = ((bytes : List ℕ) × (made : IsMade done_of result v call bytes w) × AllDrained made.called.did w) ⊎ ((result ≡ Err Full) × FoundNoRoom core v w)
+
+-- The entries of a removal that was made. Its first one was refused, and that is its one entry and its answer; or it was done, and then so
+-- was its last one, which stands behind it, and the answer is Ok.
+abbrev pub EndsAsBegun : RemovalOf → Result (Unit {0}) Errno → OneView → OneView → Type 0
+EndsAsBegun removal (Err errno) v w = w.mine ≡ v.mine ++ entry v.number (first_call removal) (Refused errno) ∷ []
+EndsAsBegun removal (Ok done) v w = w.mine ≡ v.mine ++ entry v.number (first_call removal) Done ∷ entry v.number (last_call (first_call removal)) Done ∷ []
+
+-- the same, by the last entry's reply
+abbrev pub RemovedBy : RemovalOf → Reply → OneView → OneView → Type 0
+RemovedBy removal reply v w =
+    ((errno : Errno) × (reply ≡ Refused errno) × (w.mine ≡ v.mine ++ entry v.number (first_call removal) reply ∷ []))
+    ⊎ ((reply ≡ Done) × (w.mine ≡ v.mine ++ entry v.number (first_call removal) Done ∷ entry v.number (last_call (first_call removal)) reply ∷ []))

@@ -2,6 +2,7 @@
 
 ghost use Rattle.std.specs.Prelude.{◌≡◌, ◌<◌, ◌≤◌, [], Some};
 ghost use Rattle.gl_base.specs.declared.limits.TheConstants.{LINES_MAX, PLACES};
+ghost use Rattle.gl_gate.specs.Calls.{KnowsTheSame};
 ghost use Rattle.gl_model.specs.declared.call.Call.TheVariants.{Find as FindCall, Probe as ProbeCall, Tick as TickCall};
 ghost use Rattle.gl_model.specs.Fits.{IsSomePlace};
 ghost use Rattle.gl_model.specs.Parts.{Once};
@@ -36,6 +37,7 @@ impl<D: Driver<Core>> Gpio<D> {
         ensures actor { IsActorOf self.now actor.new }
         ensures same { IsSameActor actor.old.pass.view actor.new.pass.view }
         ensures port { actor.new.port ≡ actor.old.port }
+        ensures places { KnowsTheSame actor.old.pass.view actor.new.pass.view }
         ensures called { ComesOut number_of result actor.old.pass.view (Once (ProbeCall label lines kind)) [] actor.new.pass.view }
     {
         let mut gift = nothing();
@@ -59,6 +61,7 @@ impl<D: Driver<Core>> Gpio<D> {
         ensures actor { IsActorOf self.now actor.new }
         ensures same { IsSameActor actor.old.pass.view actor.new.pass.view }
         ensures port { actor.new.port ≡ actor.old.port }
+        ensures places { KnowsTheSame actor.old.pass.view actor.new.pass.view }
         ensures called { ComesOut done_of result actor.old.pass.view (Once (TickCall mono real)) [] actor.new.pass.view }
     {
         self.done_alone(rt, actor, Call::Tick { mono, real })
@@ -80,6 +83,7 @@ impl<D: Driver<Core>> Gpio<D> {
         ensures actor { IsActorOf self.now actor.new }
         ensures same { IsSameActor actor.old.pass.view actor.new.pass.view }
         ensures port { actor.new.port ≡ actor.old.port }
+        ensures places { KnowsTheSame actor.old.pass.view actor.new.pass.view }
         ensures called { ComesOut found_of result actor.old.pass.view (Once (FindCall place name.now)) [] actor.new.pass.view }
     {
         let mut gift = nothing();

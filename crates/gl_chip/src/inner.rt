@@ -3,6 +3,7 @@
 ghost use Rattle.std.specs.Prelude.{◌≡◌, ◌≢◌, ◌⊎◌, ◌<◌, ℕ, List, [], ◌++◌, true, false, Some, None, length, drop, IfOk, IfErr};
 ghost use Rattle.gl_base.specs.declared.errno.Errno.TheVariants.{Full};
 ghost use Rattle.gl_base.specs.declared.limits.TheConstants.{PLACES};
+ghost use Rattle.gl_gate.specs.Calls.{KnowsTheSame};
 ghost use Rattle.gl_model.specs.declared.reply.Reply.TheVariants.{Refused};
 ghost use Rattle.gl_model.specs.Entries.{guarded_place};
 ghost use Rattle.gl_model.specs.Fits.{Fits, Leaves};
@@ -49,6 +50,7 @@ impl<D: Driver<Core>> Gpio<D> {
         ensures actor { IsActorOf self.now actor.new }
         ensures same { IsSameActor actor.old.pass.view actor.new.pass.view }
         ensures port { actor.new.port ≡ actor.old.port }
+        ensures places { KnowsTheSame actor.old.pass.view actor.new.pass.view }
         ensures called { IfOk result (λ r. HasCalled 0 actor.old.pass.view (Once call) r [] actor.new.pass.view) }
         ensures form { IfOk result (λ r. has_form call r ≡ true) }
         ensures not_full { IfOk result (λ r. r ≢ Refused Full) }

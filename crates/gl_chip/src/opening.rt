@@ -4,6 +4,7 @@ ghost use Rattle.std.specs.Prelude.{◌≡◌, ◌≢◌, ◌↔◌, ◌<◌, �
 ghost use Rattle.gl_base.specs.ChipWord.{chip_number_of};
 ghost use Rattle.gl_base.specs.declared.errno.Errno.TheVariants.{Full, NoDev, NoMemory};
 ghost use Rattle.gl_base.specs.declared.limits.TheConstants.{PLACES};
+ghost use Rattle.gl_gate.specs.Calls.{KnowsTheSame};
 ghost use Rattle.gl_model.specs.declared.call.Call.TheVariants.{OpenChip};
 ghost use Rattle.gl_model.specs.declared.reply.Reply.TheVariants.{Number};
 ghost use Rattle.gl_model.specs.Parts.{Once};
@@ -66,6 +67,7 @@ impl<D: Driver<Core>> Gpio<D> {
         ensures actor { IsActorOf self.now actor.new }
         ensures same { IsSameActor actor.old.pass.view actor.new.pass.view }
         ensures port { actor.new.port ≡ actor.old.port }
+        ensures places { KnowsTheSame actor.old.pass.view actor.new.pass.view }
         ensures memory { result ≡ Err NoMemory → actor.new ≡ actor.old }
         ensures called { result ≢ Err NoMemory
             → ComesOut (opened_of word.now) result actor.old.pass.view (Once (OpenChip word.now)) [] actor.new.pass.view }

@@ -4,12 +4,13 @@ ghost use Rattle.std.specs.Prelude.{◌≡◌, ◌≢◌, ◌↔◌, ◌<◌, []
 ghost use Rattle.gl_base.specs.declared.errno.Errno.TheVariants.{Full, NoDev};
 ghost use Rattle.gl_base.specs.declared.limits.TheConstants.{PLACES};
 ghost use Rattle.gl_world.specs.Events.{DrainedStaysEmpty};
-ghost use Rattle.gl_gate.specs.Calls.{KnowsClosed, KnowsDrained};
+ghost use Rattle.gl_rule.specs.Laws.{KnownDrainedStaysEmpty};
+ghost use Rattle.gl_gate.specs.Calls.{KnowsClosed, KnowsDrained, KnowsTheSame};
 ghost use Rattle.gl_model.specs.declared.call.Call.TheVariants.{Live as LiveCall};
 ghost use Rattle.gl_model.specs.Parts.{Once, Removing, OfChip, OfDevice};
 ghost use Rattle.gl_chip.specs.Called.{ComesOut};
 ghost use Rattle.gl_chip.specs.Opened.{LastFinds};
-ghost use Rattle.gl_chip.specs.Removing.{RemovesOut, is_gone_outside};
+ghost use Rattle.gl_chip.specs.Removing.{EndsAsBegun, RemovesOut, is_gone_outside};
 ghost use Rattle.gl_chip.specs.Results.{done_of};
 ghost use Rattle.gl_chip.specs.Values.{IsActorOf, IsSameActor, core};
 
@@ -19,6 +20,7 @@ use crate::results;
 use gl_base::{Errno, Name};
 use gl_core::{Call, Core};
 use gl_driver::Driver;
+use gl_rule::known_drained_stays_empty;
 use gl_world::drained_stays_empty;
 use std::sync::Wait;
 
@@ -35,12 +37,15 @@ impl<D: Driver<Core>> Gpio<D> {
         ensures same { IsSameActor actor.old.pass.view actor.new.pass.view }
         ensures port { actor.new.port ≡ actor.old.port }
         ensures called { RemovesOut result actor.old.pass.view (Removing (OfChip place)) actor.new.pass.view }
+        ensures ended { result ≢ Err Full → EndsAsBegun (OfChip place) result actor.old.pass.view actor.new.pass.view }
         ensures closed { IfOk result (λ _. KnowsClosed actor.new.pass.view place) }
         ensures drained { IfOk result (λ _. KnowsDrained actor.new.pass.view place) }
         ensures stays_empty { DrainedStaysEmpty core }
+        ensures nobody_inside { KnownDrainedStaysEmpty core }
         ensures gone { result ≢ Err Full → ((result ≡ Err NoDev) ↔ LastFinds (is_gone_outside place) actor.new.pass.view.seen) }
     {
         drained_stays_empty::<Core>();
+        known_drained_stays_empty::<Core>();
         let first = Call::Unplug { place, last: false };
         match self.remove_by(rt, actor, &first) {
             Ok(reply) => results::done(reply),
@@ -66,11 +71,15 @@ impl<D: Driver<Core>> Gpio<D> {
         ensures actor { IsActorOf self.now actor.new }
         ensures same { IsSameActor actor.old.pass.view actor.new.pass.view }
         ensures port { actor.new.port ≡ actor.old.port }
+        ensures places { up ≡ true → KnowsTheSame actor.old.pass.view actor.new.pass.view }
         ensures made { up ≡ true → ComesOut done_of result actor.old.pass.view (Once (LiveCall device.now)) [] actor.new.pass.view }
         ensures removed { up ≡ false → RemovesOut result actor.old.pass.view (Removing (OfDevice device.now)) actor.new.pass.view }
+        ensures ended { up ≡ false → result ≢ Err Full → EndsAsBegun (OfDevice device.now) result actor.old.pass.view actor.new.pass.view }
         ensures stays_empty { DrainedStaysEmpty core }
+        ensures nobody_inside { KnownDrainedStaysEmpty core }
     {
         drained_stays_empty::<Core>();
+        known_drained_stays_empty::<Core>();
         if up {
             return self.done_alone(rt, actor, Call::Live { device: *device });
         }

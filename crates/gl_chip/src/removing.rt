@@ -15,7 +15,7 @@ ghost use Rattle.gl_model.specs.Fits.{FitsCall};
 ghost use Rattle.gl_model.specs.Parts.{Removing};
 ghost use Rattle.gl_chip.specs.Called.{HasCalled};
 ghost use Rattle.gl_chip.specs.Opened.{LastFinds};
-ghost use Rattle.gl_chip.specs.Removing.{AllDrained, HasBegun, HasDrained, HasEnded, is_first_call, is_gone_outside, removal_of};
+ghost use Rattle.gl_chip.specs.Removing.{AllDrained, HasBegun, HasDrained, HasEnded, RemovedBy, is_first_call, is_gone_outside, removal_of};
 ghost use Rattle.gl_chip.specs.Steps.{FoundNoRoom};
 ghost use Rattle.gl_chip.specs.Values.{IsActorOf, IsSameActor, core};
 
@@ -123,6 +123,7 @@ impl<D: Driver<Core>> Gpio<D> {
             × (called : HasCalled 0 actor.old.pass.view (Removing (removal_of first.now)) r bytes actor.new.pass.view)
             × AllDrained called.did actor.new.pass.view) }
         ensures refused { IfOk result (λ r. is_done r ≡ false → (errno : AnErrno) × (r ≡ Refused errno)) }
+        ensures ended { IfOk result (λ r. RemovedBy (removal_of first.now) r actor.old.pass.view actor.new.pass.view) }
         ensures drained { IfOk result (λ r. is_done r ≡ true → (place : ℕ) → first.now ≡ UnplugCall place false
             → KnowsClosed actor.new.pass.view place × KnowsDrained actor.new.pass.view place) }
         ensures gone { IfOk result (λ r. (place : ℕ) → first.now ≡ UnplugCall place false

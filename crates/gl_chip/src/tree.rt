@@ -1,6 +1,7 @@
 //! The configuration tree of simulated chips. These calls take no guard.
 
 ghost use Rattle.std.specs.Prelude.{◌≡◌, []};
+ghost use Rattle.gl_gate.specs.Calls.{KnowsTheSame};
 ghost use Rattle.gl_model.specs.declared.call.Call.TheVariants.{MakeDir, Read as ReadCall, RemoveDir, Write as WriteCall};
 ghost use Rattle.gl_model.specs.Parts.{Once};
 ghost use Rattle.gl_chip.specs.Called.{ComesOut};
@@ -26,6 +27,7 @@ impl<D: Driver<Core>> Gpio<D> {
         ensures actor { IsActorOf self.now actor.new }
         ensures same { IsSameActor actor.old.pass.view actor.new.pass.view }
         ensures port { actor.new.port ≡ actor.old.port }
+        ensures places { KnowsTheSame actor.old.pass.view actor.new.pass.view }
         ensures called { ComesOut done_of result actor.old.pass.view (Once (MakeDir path.now)) [] actor.new.pass.view }
     {
         self.done_alone(rt, actor, Call::MakeDir { path: *path })
@@ -40,6 +42,7 @@ impl<D: Driver<Core>> Gpio<D> {
         ensures actor { IsActorOf self.now actor.new }
         ensures same { IsSameActor actor.old.pass.view actor.new.pass.view }
         ensures port { actor.new.port ≡ actor.old.port }
+        ensures places { KnowsTheSame actor.old.pass.view actor.new.pass.view }
         ensures called { ComesOut done_of result actor.old.pass.view (Once (RemoveDir path.now)) [] actor.new.pass.view }
     {
         self.done_alone(rt, actor, Call::RemoveDir { path: *path })
@@ -60,6 +63,7 @@ impl<D: Driver<Core>> Gpio<D> {
         ensures actor { IsActorOf self.now actor.new }
         ensures same { IsSameActor actor.old.pass.view actor.new.pass.view }
         ensures port { actor.new.port ≡ actor.old.port }
+        ensures places { KnowsTheSame actor.old.pass.view actor.new.pass.view }
         ensures called { ComesOut done_of result actor.old.pass.view (Once (WriteCall path.now value.now)) [] actor.new.pass.view }
     {
         // That a name has at most 31 bytes is known once it is read.
@@ -82,6 +86,7 @@ impl<D: Driver<Core>> Gpio<D> {
         ensures actor { IsActorOf self.now actor.new }
         ensures same { IsSameActor actor.old.pass.view actor.new.pass.view }
         ensures port { actor.new.port ≡ actor.old.port }
+        ensures places { KnowsTheSame actor.old.pass.view actor.new.pass.view }
         ensures called { ComesOut text_of result actor.old.pass.view (Once (ReadCall path.now)) [] actor.new.pass.view }
     {
         let mut gift = nothing();

@@ -1,6 +1,6 @@
 use Rattle.std.proofs.Common.{[]}
 use Rattle.gl_chip.proofs.OpenedChips.{file_place, named_within, opened_in, opened_no_dev}
-use Rattle.gl_chip.proofs.SameActors.{same_actor}
+use Rattle.gl_chip.proofs.SameActors.{knows_itself, same_actor}
 use Rattle.gl_chip.proofs.gpio.Gpio.open_chip.Goals as goal
 
 pub opened-requires-clause-place : goal.opened-requires-clause-place
@@ -14,3 +14,6 @@ returns-in-Ok-unguarded-clause-leaving g c = λ not_memory not_full. opened_no_d
 
 pub returns-in-Err-clause-same : goal.returns-in-Err-clause-same
 returns-in-Err-clause-same g c = same_actor c.args.actor.now.pass.view
+
+pub returns-in-Err-clause-places : goal.returns-in-Err-clause-places
+returns-in-Err-clause-places g c = knows_itself c.args.actor.now.pass.view

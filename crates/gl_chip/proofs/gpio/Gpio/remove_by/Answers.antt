@@ -2,9 +2,9 @@ use Rattle.std.proofs.Common.{rules, ◌≡◌, ℕ, List, length, sym, ◌∙�
 use Rattle.std.proofs.lemmas.Bool.{true≢false}
 use Rattle.gl_model.specs.Parts.{Removing}
 use Rattle.gl_chip.specs.Called.{HasCalled}
-use Rattle.gl_chip.specs.Removing.{AllDrained, removal_of}
+use Rattle.gl_chip.specs.Removing.{AllDrained, RemovedBy, removal_of}
 use Rattle.gl_chip.proofs.GoneChips.{ended_not_gone, refused_as_gone}
-use Rattle.gl_chip.proofs.RemovalCalls.{done_not_undone, first_is_refused, full_removal, unplug_drains, has_begun, not_begun, refused_idle, refused_removal, two_are, whole_removal}
+use Rattle.gl_chip.proofs.RemovalCalls.{done_not_undone, first_is_refused, full_removal, unplug_drains, has_begun, not_begun, refused_idle, refused_removal, removed_at_first, removed_whole, two_are, whole_removal}
 use Rattle.gl_chip.proofs.WholeCalls.{idle_called, seen_from}
 use Rattle.gl_chip.specs.Steps.{FoundNoRoom}
 use Rattle.gl_chip.specs.Values.{core}
@@ -66,3 +66,11 @@ returns-then-not-is_done-clause-same g c = let called = (returns-then-not-is_don
 
 pub returns-clause-same : goal.returns-clause-same
 returns-clause-same g c = let called = (returns-clause-called g c).1 in same_grown c.args.actor.now.pass.view c.end_removal.new.pass.view _ called.grew called.knows_as_much
+
+pub returns-then-not-is_done-clause-ended : goal.returns-then-not-is_done-clause-ended
+returns-then-not-is_done-clause-ended g c = seen_from _ _ (λ v. RemovedBy (removal_of c.args.first.now) c.in-Ok.reply v c.act-begun.new.pass.view) c.actor.view_is
+    (removed_at_first c.actor.inside.pass.view c.act-begun.new.pass.view c.args.first.now c.in-Ok.reply _ _ c.requires.first c.in-Ok.ensures.acts (sym c.if-not-is_done.ensures))
+
+pub returns-clause-ended : goal.returns-clause-ended
+returns-clause-ended g c = seen_from _ _ (λ v. RemovedBy (removal_of c.args.first.now) c.end_removal.result v c.end_removal.new.pass.view) c.actor.view_is
+    (removed_whole c.actor.inside.pass.view c.act-begun.new.pass.view c.end_removal.new.pass.view c.args.first.now c.in-Ok.reply c.end_removal.result _ c.act-begun.new.out _ _ c.requires.first c.in-Ok.ensures.same c.in-Ok.ensures.acts (sym c.if-not-is_done.ensures) c.end_removal.ensures.ended)

@@ -1,10 +1,11 @@
 use Rattle.std.proofs.Common.{rules, ◌≡◌, [], length}
+use Rattle.gl_gate.specs.Calls.{KnowsTheSame}
 use Rattle.gl_model.specs.Parts.{Once}
 use Rattle.gl_chip.specs.Called.{HasCalled}
 use Rattle.gl_chip.proofs.GateSteps.{if_ok}
 use Rattle.gl_chip.proofs.WholeCalls.{alone_not_full, called_alone, form_alone, idle_alone, seen_from, single_is_whole}
 use Rattle.gl_chip.specs.Values.{IsSameActor}
-use Rattle.gl_chip.proofs.SameActors.{either, same_grown}
+use Rattle.gl_chip.proofs.SameActors.{either, knows_still, same_grown}
 use Rattle.gl_chip.proofs.GateSteps.{knows_same}
 use Rattle.gl_chip.proofs.gpio.Gpio.unguarded.Goals as goal
 
@@ -31,3 +32,8 @@ returns-clause-same g c = seen_from _ _ (λ v. IsSameActor v c.alone.new.pass.vi
     (either c.alone.result _ _ (IsSameActor c.actor.inside.pass.view c.alone.new.pass.view) c.alone.ensures.called c.alone.ensures.full
     (λ r step. same_grown c.actor.inside.pass.view c.alone.new.pass.view _ step.grew (knows_same c.actor.inside.pass.view c.alone.new.pass.view step.same.closed step.same.drained))
     (λ e full. same_grown c.actor.inside.pass.view c.alone.new.pass.view _ full.3.grew (knows_same c.actor.inside.pass.view c.alone.new.pass.view full.3.same.closed full.3.same.drained)))
+
+pub returns-clause-places : goal.returns-clause-places
+returns-clause-places g c = seen_from _ _ (λ v. KnowsTheSame v c.alone.new.pass.view) c.actor.view_is
+    (either c.alone.result _ _ (KnowsTheSame c.actor.inside.pass.view c.alone.new.pass.view) c.alone.ensures.called c.alone.ensures.full
+    (λ r step. knows_still c.actor.inside.pass.view c.alone.new.pass.view step.same) (λ e full. knows_still c.actor.inside.pass.view c.alone.new.pass.view full.3.same))

@@ -4,7 +4,7 @@ use Rattle.gl_gate.specs.Calls.{KnowsClosed, KnowsDrained}
 use Rattle.gl_chip.specs.Opened.{LastFinds}
 use Rattle.gl_chip.specs.Removing.{is_gone_outside}
 use Rattle.gl_chip.proofs.GoneChips.{gone_is_told}
-use Rattle.gl_chip.proofs.RemovalCalls.{ok_is_done, removes_out}
+use Rattle.gl_chip.proofs.RemovalCalls.{ends_as_begun, ok_is_done, removes_out}
 use Rattle.gl_chip.proofs.gpio.Gpio.unplug.Goals as goal
 
 pub returns-in-Ok-clause-called : goal.returns-in-Ok-clause-called
@@ -18,3 +18,6 @@ returns-in-Ok-clause-closed g c = ok_is_done c.in-Ok.reply c.done.result (KnowsC
 
 pub returns-in-Ok-clause-gone : goal.returns-in-Ok-clause-gone
 returns-in-Ok-clause-gone g c = λ not_full. gone_is_told c.in-Ok.reply c.done.result (LastFinds (is_gone_outside c.args.place) c.remove_by.new.actor.pass.view.seen) c.done.ensures (c.in-Ok.ensures.gone c.args.place refl)
+
+pub returns-in-Ok-clause-ended : goal.returns-in-Ok-clause-ended
+returns-in-Ok-clause-ended g c = λ _. ends_as_begun (OfChip c.args.place) c.done.result c.in-Ok.reply c.args.actor.now.pass.view c.remove_by.new.actor.pass.view c.done.ensures c.in-Ok.ensures.ended
