@@ -214,7 +214,7 @@ finish() {
 tell_failure() {
   local said=${lane_of[$1]}/said functions
   [ ! -t 2 ] || echo >&2
-  functions=$(sed -nE 's/^fn ([^ ]+): (not proved|no proof).*/\1/p' "$said" | sort -u | paste -sd ' ')
+  functions=$(sed -nE 's/^fn ([^ ]+): (not proved|no proof).*/\1/p' "$said" | sort -u | paste -sd , | sed 's/,/, /g')
   grep -aEv ': proved$|^(statements|library|logic|by-macro:|crate|checked|ahead) |^only=|^so far: |^rt: chose' "$said" | tail -n 30 >&2
   fail "crate $1 was not proved${functions:+: fn $functions}; the last lines of the prover stand above. The program was not built"
 }

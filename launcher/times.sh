@@ -35,14 +35,14 @@ proving_time() {
     { total += $2; longest[$1] = $2; for (i = 3; i <= NF; i++) if (longest[$i] + $2 > longest[$1]) longest[$1] = longest[$i] + $2
       if (longest[$1] > chain) chain = longest[$1] }
     END { took = total / lanes; if (took < chain) took = chain
-      printf "%d crates, %d at a time: %s here from nothing", NR, lanes, took < 90 ? "about a minute" : sprintf("about %d minutes", (took + 59) / 60) }'
+      printf "%d crates, %d at a time: %s from nothing", NR, lanes, took < 90 ? "about a minute" : sprintf("about %d minutes", (took + 59) / 60) }'
 }
 
 # Prints how long an unproved run takes, in words.
 unproved_time() {
   if [ "$(nproc)" -gt 1 ]; then
-    echo "about a minute here"
+    echo "about a minute where nothing else runs"
   else
-    echo "about two minutes here"
+    echo "about two minutes where nothing else runs"
   fi
 }
