@@ -1,5 +1,5 @@
 //! The actors of a session: made, each carrying its section out in a thread of its own, and taken in again.
-ghost use Rattle.std.specs.Prelude.{◌≡◌, ◌≢◌, ℕ, ◌+◌, ◌≤◌, ◌<◌, true, List, [], ◌∷◌, ◌++◌, length, Some, None, Ok, IfOk, OnOk, slice_get, slice_set, slice_index_or, vec_len};
+ghost use Rattle.std.specs.Prelude.{◌≡◌, ◌≢◌, ℕ, ◌+◌, ◌≤◌, ◌<◌, true, List, [], ◌∷◌, ◌++◌, length, Some, None, Ok, IfOk, OnOk, IsOkUnless, slice_get, slice_set, slice_index_or, vec_len};
 ghost use Rattle.gl_world.specs.History.{StartsWith};
 ghost use Rattle.gl_rule.specs.Views.{taking_in, with_one_more};
 ghost use Rattle.gl_chip.specs.Values.{IsActorOf};
@@ -9,7 +9,8 @@ ghost use Rattle.gl_session.specs.One.{said_in_kind};
 ghost use Rattle.gl_session.specs.Many.{actor_sections, program_of};
 ghost use Rattle.gl_session.specs.Workers.{AreDone, AreFresh, AreKept, HasJoined, HasSplit, IsFresh, WorkDone, there_at, told_at};
 
-use crate::worker::{actor_statements, play_section};
+use crate::rendezvous::Rendezvous;
+use crate::worker::{actor_statements, play_beside};
 use gl_base::{ByteList, Errno};
 use gl_chip::{Actor, Gpio};
 use gl_core::Core;
@@ -42,7 +43,8 @@ pub fn give_port<D: Driver<Core>>(ports: &mut [Option<D::Port>], n: usize, port:
 
 /// Puts an actor behind the others.
 fn put<D: Driver<Core>>(actors: &mut Vec<Actor<D>>, actor: Actor<D>) -> Result<(), Errno>
-    ensures { OnOk result (actors.new.items ≡ actors.old.items ++ actor ∷ []) }
+    ensures put { OnOk result (actors.new.items ≡ actors.old.items ++ actor ∷ []) }
+    ensures memory_alone { IsOkUnless result Errno.NoMemory }
 {
     match actors.push(actor) {
         Ok(()) => Ok(()),
@@ -65,6 +67,7 @@ fn split_one<D: Driver<Core>>(
     ensures port { first.new.port ≡ first.old.port }
     ensures more { OnOk result ((a : _) × (actors.new.items ≡ actors.old.items ++ a ∷ [])
         × IsFresh D.Port.told (λ _. D.Port.told port) device.now first.old.pass.view.seen first.old.pass.view.made a) }
+    ensures memory_alone { IsOkUnless result Errno.NoMemory }
 {
     let actor = device.split(first, port);
     put(actors, actor)
@@ -90,6 +93,7 @@ pub fn split_all<D: Driver<Core>>(
     ensures fresh { IfOk result (λ v. AreFresh D.Port.told (told_at D.Port.told ports.old) device.now first.old.pass.view.seen 1 v.items) }
     ensures ports_len { length ports.new ≡ length ports.old }
     ensures others { OnOk result ((n : ℕ) → count < n → slice_get ports.new n ≡ slice_get ports.old n) }
+    ensures memory_alone { IsOkUnless result Errno.NoMemory }
 {
     let mut actors = Vec::new(alloc);
     for n in 0..count {
@@ -104,12 +108,13 @@ pub fn split_all<D: Driver<Core>>(
     Ok(actors)
 }
 
-/// One actor's work: the section of its number, to the end.
+/// One actor's work: the section of its number, to the end. It begins when the others do.
 fn work<R: Wait, D: Driver<Core>>(
     rt: &R,
     alloc: Global,
     device: &Gpio<D>,
     script: &Script<'_>,
+    start: &Rendezvous,
     mut actor: Actor<D>,
 ) -> Done<D>
     requires none { D.ENTRIES ≡ 0 }
@@ -120,11 +125,11 @@ fn work<R: Wait, D: Driver<Core>>(
 {
     let number = actor.number();
     let statements = actor_statements(script, number);
-    let text = play_section(rt, alloc, device, &mut actor, statements);
+    let text = play_beside(rt, alloc, device, start, &mut actor, statements);
     (actor, text)
 }
 
-/// All actors at work, each in a thread of its own where one can be made.
+/// All actors at work, each in a thread of its own where one can be made. They begin together.
 fn map_all<R: Threads + Wait + Sync, D: Driver<Core>>(
     rt: &R,
     alloc: Global,
@@ -141,13 +146,15 @@ fn map_all<R: Threads + Wait + Sync, D: Driver<Core>>(
     ensures done { IfOk result (λ v. (i : ℕ) (a : _) (d : _) → i < vec_len actors → a ≡ slice_index_or actors.items i a
         → WorkDone D.Port.told (λ _. D.Port.told a.port) device.now D.is_planned (program_of (sections_of script.now)) a.pass.view.seen a.pass.view.number (slice_index_or v.items i d)) }
 {
+    let meeting = Rendezvous::of(actors.len());
+    let start = &meeting;
     let job = |actor: Actor<D>| -> Done<D>
         requires none { D.ENTRIES ≡ 0 }
         requires few { length (said_in_kind ActorKind (sections_of script.now)) ≤ 1048576 }
         requires fresh { IsFresh D.Port.told (λ _. D.Port.told actor.port) device.now actor.pass.view.seen actor.pass.view.number actor }
         requires section { (1 ≤ actor.pass.view.number) × (actor.pass.view.number ≤ length (actor_sections (sections_of script.now))) }
         ensures { WorkDone D.Port.told (λ _. D.Port.told actor.port) device.entry.now D.is_planned (program_of (sections_of script.entry.now)) actor.pass.view.seen actor.pass.view.number result }
-    { work(rt, alloc, device, script, actor) };
+    { work(rt, alloc, device, script, start, actor) };
     thread::map_vec(rt, actors, &job)
 }
 
@@ -191,6 +198,7 @@ fn join_one<D: Driver<Core>>(
     ensures joined { OnOk result ((first.new.pass.view ≡ taking_in first.old.pass.view done.0.pass.view)
         × StartsWith first.new.pass.view.seen first.old.pass.view.seen × StartsWith first.new.pass.view.seen done.0.pass.view.seen) }
     ensures text { OnOk result ((t : List ℕ) × (done.1 ≡ Ok t) × (texts.new.items ≡ t ∷ texts.old.items)) }
+    ensures memory_alone { IsOkUnless result Errno.NoMemory }
 {
     let (actor, text) = done;
     match text {
@@ -226,6 +234,7 @@ pub fn join_all<D: Driver<Core>>(
     ensures ports_len { length ports.new ≡ length ports.old }
     ensures others { OnOk result ((n : ℕ) → vec_len all < n → slice_get ports.new n ≡ slice_get ports.old n) }
     ensures there { OnOk result ((n : ℕ) → 1 ≤ n → n ≤ vec_len all → there_at ports.new n ≡ true) }
+    ensures memory_alone { IsOkUnless result Errno.NoMemory }
 {
     let mut texts = Vec::new(alloc);
     while let Some(done) = all.pop() {

@@ -14,6 +14,7 @@ pub mod output;
 pub mod perform;
 pub mod play;
 mod ports;
+pub mod rendezvous;
 mod session;
 pub mod several;
 mod status;

@@ -1,5 +1,6 @@
 //! One actor's section, from its first statement to the closing of its files.
-ghost use Rattle.std.specs.Prelude.{◌≡◌, ◌-◌, ◌≤◌, length, map, get_or, option_map, IfOk};
+ghost use Rattle.std.specs.Prelude.{◌≡◌, ◌⊎◌, ◌-◌, ◌≤◌, [], length, map, get_or, option_map, IfOk, IfErr};
+ghost use Rattle.gl_base.specs.declared.errno.Errno.TheVariants.{Full, NoMemory};
 ghost use Rattle.gl_chip.specs.Values.{IsActorOf};
 ghost use Rattle.gl_script.specs.Meaning.{head_in};
 ghost use Rattle.gl_script.specs.Script.{sections_of};
@@ -7,9 +8,11 @@ ghost use Rattle.gl_talk.specs.Open.{no_names};
 ghost use Rattle.gl_talk.specs.Over.{columns_in};
 ghost use Rattle.gl_talk.specs.Talk.{talks};
 ghost use Rattle.gl_session.specs.Many.{actor_sections, no_section, words_of};
+ghost use Rattle.gl_session.specs.Performed.{StoppedFull, carried};
 ghost use Rattle.gl_session.specs.Workers.{PlaysWhole, is_actor_head};
 
 use crate::play::{play, play_all};
+use crate::rendezvous::Rendezvous;
 use gl_base::{ByteList, Errno};
 use gl_chip::{Actor, Gpio};
 use gl_core::Core;
@@ -33,6 +36,8 @@ pub fn play_section<'a, R: Wait, D: Driver<Core>>(
     ensures actor { IsActorOf device.now actor.new }
     ensures played { IfOk result (λ text. PlaysWhole D.is_planned (talks 0 (map columns_in statements.now) no_names)
         actor.old.pass.view (D.Port.told actor.old.port) text actor.new.pass.view (D.Port.told actor.new.port)) }
+    ensures stopped { IfErr result (λ e. (e ≡ NoMemory) ⊎ ((e ≡ Full)
+        × StoppedFull D.is_planned (talks 0 (map columns_in statements.now) no_names) actor.old.pass.view (carried [] (D.Port.told actor.old.port)) actor.new.pass.view)) }
 {
     let mut talk = match Talk::new(alloc) {
         Ok(talk) => talk,
@@ -51,6 +56,28 @@ pub fn play_section<'a, R: Wait, D: Driver<Core>>(
         Ok(()) => Ok(ByteList::of(text)),
         Err(errno) => Err(errno),
     }
+}
+
+/// Waits for the other actors, and then carries the section out.
+pub fn play_beside<'a, R: Wait, D: Driver<Core>>(
+    rt: &R,
+    alloc: Global,
+    device: &Gpio<D>,
+    start: &Rendezvous,
+    actor: &mut Actor<D>,
+    statements: &[Statement<'a>],
+) -> Result<ByteList, Errno>
+    requires none { D.ENTRIES ≡ 0 }
+    requires actor { IsActorOf device.now actor.old }
+    requires few { length statements.now ≤ 1048576 }
+    ensures actor { IsActorOf device.now actor.new }
+    ensures played { IfOk result (λ text. PlaysWhole D.is_planned (talks 0 (map columns_in statements.now) no_names)
+        actor.old.pass.view (D.Port.told actor.old.port) text actor.new.pass.view (D.Port.told actor.new.port)) }
+    ensures stopped { IfErr result (λ e. (e ≡ NoMemory) ⊎ ((e ≡ Full)
+        × StoppedFull D.is_planned (talks 0 (map columns_in statements.now) no_names) actor.old.pass.view (carried [] (D.Port.told actor.old.port)) actor.new.pass.view)) }
+{
+    start.meet();
+    play_section(rt, alloc, device, actor, statements)
 }
 
 /// Whether the head is an actor's.

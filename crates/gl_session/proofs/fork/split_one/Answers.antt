@@ -8,4 +8,4 @@ returns-clause-more g c = on_ok c.put.result _ _
       e,
       split_fresh g.D.Port.Port.told c.args.device.now c.args.first.now.pass.view c.split-actor.result c.args.port c.split-actor.ensures.other c.split-actor.ensures.new c.split-actor.ensures.port c.split-actor.ensures.own.1,
     ))
-    c.put.ensures
+    c.put.ensures.put
