@@ -6,6 +6,7 @@ ghost use Rattle.gl_session.specs.Alone.{AnswersAsPlanned, FirstActorIsAlone, Fi
 ghost use Rattle.gl_session.specs.Many.{AllPlayedCameToMany};
 ghost use Rattle.gl_session.specs.OneChip.{output, plans, printed, takes};
 ghost use Rattle.gl_session.specs.Output.{OutputTellsHistory};
+ghost use Rattle.gl_session.specs.Run.{TextsTellHistory};
 ghost use Rattle.gl_session.specs.Within.{CallsComeBelowCost, CallsHaveRoom, EntriesWithinCost, SessionsCostTheirParts, SessionsKeepWithinCost};
 
 /// Where the first actor of a device made all of its calls, the history has its entries alone; and until another actor is made
@@ -63,7 +64,8 @@ pub fn all_played_came_to_many()
 {}
 
 /// The output of a session of several actors tells one history at most, whatever was printed in front of it: two outputs that are the
-/// same have the same history.
+/// same have the same history. So what `run` wrote tells the history that its session came to.
 pub fn output_tells_history()
-    ensures { OutputTellsHistory }
+    ensures of_entries { OutputTellsHistory }
+    ensures of_runs { TextsTellHistory }
 {}
