@@ -15,12 +15,13 @@ use Rattle.gl_session.specs.Alone.{PlayedSession, TellsAfter}
 use Rattle.gl_session.specs.One.{entries_made, is_kind, one, planned, said_in_kind, taken}
 
 -- What the session came to, over a port that told this before and tells that now: its text is One of just the answers that One
--- takes. A planned driver over a new port gave those of Planned. Where the port told, it tells as many driver calls more as there
--- are answers, and as its last answer the last of them.
+-- takes, and it makes no more entries than the session costs. A planned driver over a new port gave those of Planned. Where the port
+-- told, it tells as many driver calls more as there are answers, and as its last answer the last of them.
 pub record CameToOne (is_planned : Bool) (sections : List SaidSection) (before : Option Told) (text : List ℕ) (left : Option Told) : Type 0 where
   pub answers : List (Option ℕ)
   pub prints : text ≡ one sections answers
   pub takes : taken sections answers ≡ answers
+  pub within : entries_made sections answers ≤ session_cost sections
   pub as_planned : is_planned ≡ true → before ≡ Some new_port → answers ≡ planned sections
   pub tells : (t : Told) → before ≡ Some t → TellsAfter t answers left
 
