@@ -137,8 +137,9 @@ came_with_entries is_planned sections before left text room v w history new (did
         takes = prints.1;
         within = (let fits = sessions_keep_within_cost is_planned sections before left text did played in
             let count : length history ≡ length did = ap (λ (l : List OneEntry). length l) alone.entries ∙ length_entries did in let makes = prints.2 in omega arith);
-        as_planned = λ yes fresh. answers_as_planned sections left text did history (subst (λ (x : Bool × Option Told). PlayedSession x.0 sections x.1 text did left) (λ i. (yes i, fresh i)) played) alone;
-        tells = λ t is. port_tells is_planned sections t left text did history (subst (λ (o : Option Told). PlayedSession is_planned sections o text did left) is played) alone;
+        as_planned = λ yes t is. answers_as_planned sections t left text did history (subst (λ (x : Bool × Option Told). PlayedSession x.0 sections x.1 text did left) (λ i. (yes i, is i)) played) alone;
+        port = port_tells.whole is_planned sections before left text did history played alone;
+        tells = λ t is. port_tells.answers is_planned sections t left text did history (subst (λ (o : Option Told). PlayedSession is_planned sections o text did left) is played) alone;
       };
       makes = sym prints.2;
     }

@@ -22,13 +22,14 @@ pub fn prints_one()
     ensures { PrintsOne }
 {}
 
-/// Over a new port of a planned driver these answers are those of Planned.
+/// Over a port of a planned driver that tells, these answers are those that its plan and the statements say: of a new one those of Planned.
 pub fn answers_as_planned()
     ensures { AnswersAsPlanned }
 {}
 
-/// Where the actor's port told, it tells in the end as many driver calls more as there are such answers, and as its last answer
-/// the last of these.
+/// The actor's port tells in the end all that the statements and the calls make of what it told before: how many calls, the plan, and the
+/// operation and the answer of the last call. Where it told, these are as many calls more as there are such answers, and as its last
+/// answer the last of these.
 pub fn port_tells()
     ensures { PortTells }
 {}
