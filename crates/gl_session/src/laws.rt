@@ -7,6 +7,7 @@ ghost use Rattle.gl_session.specs.Many.{AllPlayedCameToMany};
 ghost use Rattle.gl_session.specs.OneChip.{output, plans, printed, takes};
 ghost use Rattle.gl_session.specs.Output.{OutputTellsHistory};
 ghost use Rattle.gl_session.specs.Run.{TextsTellHistory};
+ghost use Rattle.gl_session.specs.Together.{ActorsAtWorkHaveRoom};
 ghost use Rattle.gl_session.specs.Within.{CallsComeBelowCost, CallsHaveRoom, EntriesWithinCost, SessionsCostTheirParts, SessionsKeepWithinCost};
 
 /// Where the first actor of a device made all of its calls, the history has its entries alone; and until another actor is made
@@ -55,6 +56,12 @@ pub fn sessions_keep_within_cost()
     ensures parts { SessionsCostTheirParts }
     ensures whole { SessionsKeepWithinCost }
     ensures before_a_call { CallsHaveRoom }
+{}
+
+/// While one of several actors at work has a call of the device before it, their history has fewer entries than the session costs. So with
+/// room for these it is not full then, whatever the others did meanwhile.
+pub fn actors_at_work_have_room()
+    ensures { ActorsAtWorkHaveRoom }
 {}
 
 /// What all actors of a session carried out, `setup` and `after` among them, comes to Many, whatever the driver and its ports are; over
