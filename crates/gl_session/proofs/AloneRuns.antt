@@ -13,7 +13,8 @@ use Rattle.gl_world.specs.Laws.{Laws}
 use Rattle.gl_world.proofs.Deeds.{entries_in_append}
 use Rattle.gl_args.specs.Program.{Program, done}
 use Rattle.gl_core.specs.Kept.{StandsFor}
-use Rattle.gl_driver.specs.Told.{Told, new_port, with_call, with_plan}
+use Rattle.gl_driver.specs.Told.{Told, with_call, with_plan}
+use Rattle.gl_driver.specs.declared.op.Op.{Op}
 use Rattle.gl_model.specs.declared.reply.Reply.{Reply}
 use Rattle.gl_model.specs.declared.reply.Reply.TheVariants.{Done as DoneReply, Refused as RefusedReply}
 use Rattle.gl_model.specs.Parts.{DeviceCall}
@@ -25,9 +26,9 @@ use Rattle.gl_talk.specs.Open.{Names, no_names}
 use Rattle.gl_talk.specs.Talk.{quits, says, talks}
 use Rattle.gl_chip.specs.Values.{OneDeed, OneEntry, core}
 use Rattle.gl_session.specs.Alone.{AnswersAsPlanned, IsAlone, Part, PlayedSession, PortTells, PrintsOne, TellsAfter, answered_last, calls_after, last_or}
-use Rattle.gl_session.specs.Asking.{Asking, Calls, Plans, Refuses, asking, files_behind, got_of}
+use Rattle.gl_session.specs.Asking.{Asking, Calls, Plans, Refuses, asking, files_behind, got_of, op_asked}
 use Rattle.gl_session.specs.Files.{OpenFile}
-use Rattle.gl_session.specs.One.{Answers, PlannedPort, Ran, Standing, came_to, comes_to, entry_count, first_of_list, from_list, from_plan, is_asked, performs, performs_as, rest_of_list, run, run_actor, run_session, run_setup, said_in_kind, with_answer, with_entries}
+use Rattle.gl_session.specs.One.{Answers, PlannedPort, Ran, Standing, TellingPort, came_to, comes_to, entry_count, first_of_list, from_list, from_plan, from_port, is_asked, performs, performs_as, rest_of_list, run, run_actor, run_session, run_setup, said_in_kind, told_behind, told_of, with_answer, with_entries}
 use Rattle.gl_session.specs.Turns.{Carried, Carries, Did, DidNothing, Exchange, Follows, HasMade, IsDone, PortAfter, Said, Turn, call_tells, did_by, said_by, tells_in}
 use Rattle.gl_session.proofs.OneCalls.{Came, Comes, comes}
 use Rattle.gl_session.proofs.OneHistories.{IsSteady, Rest, length_entries}
@@ -53,8 +54,8 @@ reply_or d None = d
 module _ {X : Type 0} (answers : Answers X) (is_planned : Bool) (Fits : X → Option Told → List (Option ℕ) → Type 0) where
   -- A source fits a port that tells this, and the answers that are left: it gives the answer that the port comes to.
   pub record Serves : Type 0 where
-    pub gives : (x : X) (before after : Option Told) (answer : Option ℕ) (rest : List (Option ℕ)) → Fits x before (answer ∷ rest) → PortAfter is_planned (answer ∷ []) before after
-        → (answers.next x ≡ answer) × Fits (answers.behind x) after rest
+    pub gives : (x : X) (before after : Option Told) (op : Option Op) (answer : Option ℕ) (rest : List (Option ℕ)) → Fits x before (answer ∷ rest) → PortAfter is_planned op (answer ∷ []) before after
+        → (answers.next x ≡ answer) × Fits (answers.behind op x) after rest
     pub plans : (x : X) (before : Option Told) (nth : ℕ) (rest : List (Option ℕ)) → Fits x before rest → Fits (answers.planned nth x) (with_plan nth before) rest
 
   -- a session stands where who carried it out stands, with these deeds and answers left
@@ -79,9 +80,9 @@ module _ {X : Type 0} (answers : Answers X) (is_planned : Bool) (Fits : X → Op
 
   module _ (serves : Serves) where
     -- a call of the device
-    called : (call : DeviceCall) (e : Exchange) (s r : Carried) (st : Standing X) (ds : List OneDeed) (rest : List (Option ℕ)) → HasMade is_planned 0 call e s.told r.told
-        → r.files ≡ files_behind e.what e.reply s.files → At st s (e.did ++ ds) (told_by e.did ++ rest) → Performed e r st ds rest (performs_as answers (Calls call) e.what st)
-    called call e s r st ds rest made files at = by (is_asked st.world call) refl
+    called : (call : DeviceCall) (op : Option Op) (e : Exchange) (s r : Carried) (st : Standing X) (ds : List OneDeed) (rest : List (Option ℕ)) → HasMade is_planned 0 call op e s.told r.told
+        → r.files ≡ files_behind e.what e.reply s.files → At st s (e.did ++ ds) (told_by e.did ++ rest) → Performed e r st ds rest (performs_as answers (Calls call) op e.what st)
+    called call op e s r st ds rest made files at = by (is_asked st.world call) refl
       where
         c : Comes st.world call e.answer e.did ds
         c = comes laws st.world call e.closed e.answer e.did ds made.makes at.left at.steady
@@ -93,10 +94,10 @@ module _ {X : Type 0} (answers : Answers X) (is_planned : Bool) (Fits : X → Op
         bytes_same came = sym came.bytes ∙ made.bytes_are
 
         by : (b : Bool) → is_asked st.world call ≡ b → Performed e r st ds rest
-            (came_to answers e.what (comes_to st.world call (answers.next st.source)) (with_entries (entry_count st.world call) (with_answer answers b st)))
+            (came_to answers e.what (comes_to st.world call (answers.next st.source)) (with_entries (entry_count st.world call) (with_answer answers op b st)))
         by false unasked = let none : told_by e.did ≡ [] = c.tells ∙ ap (λ (b : Bool). if b then e.answer ∷ [] else []) unasked in
             let came = c.came (answers.next st.source) (λ is. absurd (true≢false (sym is ∙ unasked))) in
-            let port : r.told ≡ s.told = subst (λ l. PortAfter is_planned l s.told r.told) none made.port in record {
+            let port : r.told ≡ s.told = subst (λ l. PortAfter is_planned op l s.told r.told) none made.port in record {
               got = λ i. got_of e.what (reply_same came i) (bytes_same came i);
               at = record {
                 files = (λ i. files_behind e.what (reply_same came i) (at.files i)) ∙ sym files;
@@ -108,7 +109,7 @@ module _ {X : Type 0} (answers : Answers X) (is_planned : Bool) (Fits : X → Op
               entries = ap (λ n. st.entries + n) (sym c.count);
             }
         by true is = let one : told_by e.did ≡ e.answer ∷ [] = c.tells ∙ ap (λ (b : Bool). if b then e.answer ∷ [] else []) is in
-            let g = serves.gives st.source s.told r.told e.answer rest (subst (λ l. Fits st.source s.told (l ++ rest)) one at.fits) (subst (λ l. PortAfter is_planned l s.told r.told) one made.port) in
+            let g = serves.gives st.source s.told r.told op e.answer rest (subst (λ l. Fits st.source s.told (l ++ rest)) one at.fits) (subst (λ l. PortAfter is_planned op l s.told r.told) one made.port) in
             let came = c.came (answers.next st.source) (λ _. g.0) in record {
               got = λ i. got_of e.what (reply_same came i) (bytes_same came i);
               at = record {
@@ -137,18 +138,18 @@ module _ {X : Type 0} (answers : Answers X) (is_planned : Bool) (Fits : X → Op
       entries = let nobody : length e.did ≡ 0 = ap (λ (l : List OneDeed). length l) none.did in omega arith;
     }
 
-    asked : (a : Asking) (e : Exchange) (s r : Carried) (st : Standing X) (ds : List OneDeed) (rest : List (Option ℕ)) → IsDone is_planned 0 a e s.told r.told
-        → r.files ≡ files_behind e.what e.reply s.files → At st s (e.did ++ ds) (told_by e.did ++ rest) → Performed e r st ds rest (performs_as answers a e.what st)
-    asked (Calls call) e s r st ds rest is files at = called call e s r st ds rest is files at
-    asked (Plans nth) e s r st ds rest is files at = nothing e DoneReply s r st (performs_as answers (Plans nth) e.what st).1 ds rest is.0 files at refl refl refl refl
+    asked : (a : Asking) (op : Option Op) (e : Exchange) (s r : Carried) (st : Standing X) (ds : List OneDeed) (rest : List (Option ℕ)) → IsDone is_planned 0 a op e s.told r.told
+        → r.files ≡ files_behind e.what e.reply s.files → At st s (e.did ++ ds) (told_by e.did ++ rest) → Performed e r st ds rest (performs_as answers a op e.what st)
+    asked (Calls call) op e s r st ds rest is files at = called call op e s r st ds rest is files at
+    asked (Plans nth) op e s r st ds rest is files at = nothing e DoneReply s r st (performs_as answers (Plans nth) op e.what st).1 ds rest is.0 files at refl refl refl refl
         (λ fits. subst (λ t. Fits (answers.planned nth st.source) t rest) (sym is.1) (serves.plans st.source s.told nth rest fits))
-    asked (Refuses errno) e s r st ds rest is files at = nothing e (RefusedReply errno) s r st (performs_as answers (Refuses errno) e.what st).1 ds rest is.0 files at refl refl refl refl
+    asked (Refuses errno) op e s r st ds rest is files at = nothing e (RefusedReply errno) s r st (performs_as answers (Refuses errno) op e.what st).1 ds rest is.0 files at refl refl refl refl
         (λ fits. subst (λ t. Fits st.source t rest) (sym is.1) fits)
 
     performed : (e : Exchange) (s r : Carried) (st : Standing X) (ds : List OneDeed) (rest : List (Option ℕ)) → Carries is_planned 0 s e r → At st s (e.did ++ ds) (told_by e.did ++ rest)
         → Performed e r st ds rest (performs answers e.what st)
-    performed e s r st ds rest carries at = subst (λ (files : List OpenFile). Performed e r st ds rest (performs_as answers (asking files e.what) e.what st)) (sym at.files)
-        (asked (asking s.files e.what) e s r st ds rest carries.is_done carries.files at)
+    performed e s r st ds rest carries at = subst (λ (files : List OpenFile). Performed e r st ds rest (performs_as answers (asking files e.what) (op_asked files e.what) e.what st)) (sym at.files)
+        (asked (asking s.files e.what) (op_asked s.files e.what) e s r st ds rest carries.is_done carries.files at)
 
     -- turns one after another
     pub follows_run : {A : Type 0} (turns : List Turn) (p : Program A) (s r : Carried) (value : A) (st : Standing X) (ds : List OneDeed) (rest : List (Option ℕ))
@@ -251,7 +252,7 @@ opens_steady p two = let low = laws.opens_places p in absurd (omega arith)
 -- answers in the order of a list
 list_serves : (is_planned : Bool) → Serves from_list is_planned (λ source told rest. source ≡ rest)
 list_serves is_planned = record {
-  gives = λ x before after answer rest is port. (ap (λ l. first_of_list l) is, ap (λ l. rest_of_list l) is);
+  gives = λ x before after op answer rest is port. (ap (λ l. first_of_list l) is, ap (λ l. rest_of_list l) is);
   plans = λ x before nth rest is. is;
 }
 
@@ -265,11 +266,11 @@ prints_one is_planned sections before left text did history p alone =
 abbrev PlannedFits : PlannedPort → Option Told → List (Option ℕ) → Type 0
 PlannedFits port told rest = (t : Told) × (told ≡ Some t) × (port ≡ record { calls = t.calls; plan = t.plan })
 
-plan_gives : (x : PlannedPort) (before after : Option Told) (answer : Option ℕ) (rest : List (Option ℕ)) → PlannedFits x before (answer ∷ rest) → PortAfter true (answer ∷ []) before after
-    → (from_plan.next x ≡ answer) × PlannedFits (from_plan.behind x) after rest
-plan_gives x before after answer rest (t, is, same) (op, becomes, as_planned) = (
+plan_gives : (x : PlannedPort) (before after : Option Told) (op : Option Op) (answer : Option ℕ) (rest : List (Option ℕ)) → PlannedFits x before (answer ∷ rest) → PortAfter true op (answer ∷ []) before after
+    → (from_plan.next x ≡ answer) × PlannedFits (from_plan.behind op x) after rest
+plan_gives x before after op answer rest (t, is, same) (was, was_is, becomes, as_planned) = (
   ap (λ (port : PlannedPort). planned_answer port.plan (counted_up port.calls)) same ∙ sym (subst (λ (o : Option Told). IfSome o (λ told. answer ≡ planned_answer told.plan (counted_up told.calls))) is (as_planned refl)),
-  (record { calls = counted_up t.calls; plan = t.plan; last = Some (record { op = op; answer = answer }) }, becomes ∙ ap (λ (o : Option Told). with_call op answer o) is, ap (λ (port : PlannedPort). from_plan.behind port) same),
+  (record { calls = counted_up t.calls; plan = t.plan; last = Some (record { op = was; answer = answer }) }, becomes ∙ ap (λ (o : Option Told). with_call was answer o) is, ap (λ (port : PlannedPort). from_plan.behind op port) same),
 )
 
 plan_plans : (x : PlannedPort) (before : Option Told) (nth : ℕ) (rest : List (Option ℕ)) → PlannedFits x before rest → PlannedFits (from_plan.planned nth x) (with_plan nth before) rest
@@ -279,20 +280,20 @@ plan_serves : Serves from_plan true PlannedFits
 plan_serves = record { gives = plan_gives; plans = plan_plans }
 
 pub answers_as_planned : AnswersAsPlanned
-answers_as_planned sections left text did history p alone =
+answers_as_planned sections t left text did history p alone =
     let told : tells_in history ≡ told_by did = ap (λ (l : List OneEntry). tells_in l) alone.entries in
-    let s = session_runs from_plan true PlannedFits plan_serves sections (Some new_port) left text did (record { calls = 0; plan = None }) p (whole_rest history did alone) opens_steady (new_port, refl, refl) in
+    let s = session_runs from_plan true PlannedFits plan_serves sections (Some t) left text did (record { calls = t.calls; plan = t.plan }) p (whole_rest history did alone) opens_steady (t, refl, refl) in
     told ∙ sym s.1
 
 -- answers in the order of a list, of which a port tells how many there were so far, and the last
 abbrev PortFits : Told → List (Option ℕ) → List (Option ℕ) → Option Told → List (Option ℕ) → Type 0
 PortFits t all source told rest = (source ≡ rest) × (u : Told) × (told ≡ Some u) × (calls_after u.calls rest ≡ calls_after t.calls all) × (last_or (answered_last u.last) rest ≡ last_or (answered_last t.last) all)
 
-port_gives : (is_planned : Bool) (t : Told) (all : List (Option ℕ)) (x : List (Option ℕ)) (before after : Option Told) (answer : Option ℕ) (rest : List (Option ℕ)) → PortFits t all x before (answer ∷ rest)
-    → PortAfter is_planned (answer ∷ []) before after → (from_list.next x ≡ answer) × PortFits t all (from_list.behind x) after rest
-port_gives is_planned t all x before after answer rest (is, u, told, count, last) (op, becomes, as_planned) = (
+port_gives : (is_planned : Bool) (t : Told) (all : List (Option ℕ)) (x : List (Option ℕ)) (before after : Option Told) (op : Option Op) (answer : Option ℕ) (rest : List (Option ℕ)) → PortFits t all x before (answer ∷ rest)
+    → PortAfter is_planned op (answer ∷ []) before after → (from_list.next x ≡ answer) × PortFits t all (from_list.behind op x) after rest
+port_gives is_planned t all x before after op answer rest (is, u, told, count, last) (was, was_is, becomes, as_planned) = (
   ap (λ l. first_of_list l) is,
-  (ap (λ l. rest_of_list l) is, record { calls = counted_up u.calls; plan = u.plan; last = Some (record { op = op; answer = answer }) }, becomes ∙ ap (λ (o : Option Told). with_call op answer o) told, count, last),
+  (ap (λ l. rest_of_list l) is, record { calls = counted_up u.calls; plan = u.plan; last = Some (record { op = was; answer = answer }) }, becomes ∙ ap (λ (o : Option Told). with_call was answer o) told, count, last),
 )
 
 port_plans : (t : Told) (all : List (Option ℕ)) (x : List (Option ℕ)) (before : Option Told) (nth : ℕ) (rest : List (Option ℕ)) → PortFits t all x before rest → PortFits t all x (with_plan nth before) rest
@@ -301,8 +302,39 @@ port_plans t all x before nth rest (is, u, told, count, last) = (is, record u { 
 port_serves : (is_planned : Bool) (t : Told) (all : List (Option ℕ)) → Serves from_list is_planned (PortFits t all)
 port_serves is_planned t all = record { gives = port_gives is_planned t all; plans = port_plans t all }
 
-pub port_tells : PortTells
-port_tells is_planned sections t left text did history p alone =
+port_answers : (is_planned : Bool) (sections : List SaidSection) (t : Told) (left : Option Told) (text : List ℕ) (did : List OneDeed) (history : List OneEntry)
+    → PlayedSession is_planned sections (Some t) text did left → IsAlone history did → TellsAfter t (tells_in history) left
+port_answers is_planned sections t left text did history p alone =
     let told : tells_in history ≡ told_by did = ap (λ (l : List OneEntry). tells_in l) alone.entries in let all : List (Option ℕ) = told_by did in
     let s = session_runs from_list is_planned (PortFits t all) (port_serves is_planned t all) sections (Some t) left text did all p (whole_rest history did alone) opens_steady (refl, t, refl, refl, refl) in
     let u = s.3 in subst (λ l. TellsAfter t l left) (sym told) (record { told = u.1; left_is = u.2; calls = u.3; last = u.4 })
+
+-- answers in the order of a list, through a port that tells just what this one does
+abbrev SamePort : TellingPort → Option Told → List (Option ℕ) → Type 0
+SamePort x told rest = (x.left ≡ rest) × (x.told ≡ told)
+
+telling_gives : (is_planned : Bool) (x : TellingPort) (before after : Option Told) (op : Option Op) (answer : Option ℕ) (rest : List (Option ℕ)) → SamePort x before (answer ∷ rest)
+    → PortAfter is_planned op (answer ∷ []) before after → (from_port.next x ≡ answer) × SamePort (from_port.behind op x) after rest
+telling_gives is_planned x before after op answer rest (left_is, told_is) (was, was_is, becomes, as_planned) = (
+  ap (λ l. first_of_list l) left_is,
+  (
+    ap (λ l. rest_of_list l) left_is,
+    (λ i. told_of (was_is i) (first_of_list (left_is i)) (told_is i)) ∙ sym becomes,
+  ),
+)
+
+telling_serves : (is_planned : Bool) → Serves from_port is_planned SamePort
+telling_serves is_planned = record {
+  gives = telling_gives is_planned;
+  plans = λ x before nth rest is. (is.0, ap (λ (o : Option Told). with_plan nth o) is.1);
+}
+
+port_whole : (is_planned : Bool) (sections : List SaidSection) (before left : Option Told) (text : List ℕ) (did : List OneDeed) (history : List OneEntry)
+    → PlayedSession is_planned sections before text did left → IsAlone history did → left ≡ told_behind sections (tells_in history) before
+port_whole is_planned sections before left text did history p alone =
+    let told : tells_in history ≡ told_by did = ap (λ (l : List OneEntry). tells_in l) alone.entries in
+    let s = session_runs from_port is_planned SamePort (telling_serves is_planned) sections before left text did (record { left = tells_in history; told = before }) p (whole_rest history did alone) opens_steady (told, refl) in
+    sym s.3.1
+
+pub port_tells : PortTells
+port_tells = record { whole = port_whole; answers = port_answers }

@@ -29,7 +29,7 @@ use Rattle.gl_session.proofs.Silence.{actor_at}
 use Rattle.gl_session.proofs.Within.{entries_within_cost, sessions_cost_their_parts}
 
 -- how many entries so many actors have, from this number on
-abbrev count : ℕ → ℕ → List OneEntry → ℕ
+abbrev pub count : ℕ → ℕ → List OneEntry → ℕ
 count zero n history = 0
 count (suc k) n history = length (entries_of n history) + count k (suc n) history
 
@@ -51,7 +51,7 @@ module _ (e : OneEntry) (es : List OneEntry) where
       (λ other. let ne : e.actor ≢ n = other in let here = anothers n ne in let later = counted_once k (suc n) (omega arith) (omega arith) in omega arith)
 
 -- where nobody else has an entry these are all
-count_all : (k : ℕ) (history : List OneEntry) → ((n : ℕ) → k ≤ n → entries_of n history ≡ []) → length history ≡ count k 0 history
+pub count_all : (k : ℕ) (history : List OneEntry) → ((n : ℕ) → k ≤ n → entries_of n history ≡ []) → length history ≡ count k 0 history
 count_all k [] none = sym (nothing k 0)
   where
     nothing : (k n : ℕ) → count k n [] ≡ 0
@@ -66,7 +66,7 @@ count_all k (e ∷ es) none =
     lower n not_far = omega arith
 
 -- so many actors have no more entries than sections cost, where each has no more than its section
-count_costs : (cost : SaidSection → ℕ) (history : List OneEntry) (n : ℕ) (sections : List SaidSection) → ((i : ℕ) → i < length sections → length (entries_of (n + i) history) ≤ cost (get_or sections i no_section))
+pub count_costs : (cost : SaidSection → ℕ) (history : List OneEntry) (n : ℕ) (sections : List SaidSection) → ((i : ℕ) → i < length sections → length (entries_of (n + i) history) ≤ cost (get_or sections i no_section))
     → count (length sections) n history ≤ sum_by cost sections
 count_costs cost history n [] h = omega arith
 count_costs cost history n (section ∷ sections) h =
@@ -74,10 +74,10 @@ count_costs cost history n (section ∷ sections) h =
     let later = count_costs cost history (suc n) sections (λ i less. let s : n + suc i ≡ suc n + i = omega arith in subst (λ k. length (entries_of k history) ≤ cost (get_or sections i no_section)) s (h (suc i) (omega arith))) in
     let whole = sum_by-cons cost section sections in omega arith
 
-abbrev section_costs : SaidSection → ℕ
+abbrev pub section_costs : SaidSection → ℕ
 section_costs section = sum_by words_cost (words_of section)
 
-actors_cost : (sections : List SaidSection) → sum_by section_costs (actor_sections sections) ≡ cost_in_kind Actor sections
+pub actors_cost : (sections : List SaidSection) → sum_by section_costs (actor_sections sections) ≡ cost_in_kind Actor sections
 actors_cost [] = refl
 actors_cost (section ∷ sections) = by (is_kind Actor section.kind) (actors_cost sections)
   where
@@ -88,12 +88,12 @@ actors_cost (section ∷ sections) = by (is_kind Actor section.kind) (actors_cos
     by true h = sum_by-cons section_costs section (actor_sections sections) ∙ ap (λ n. section_costs section + n) h ∙ sym (sum_by-append words_cost said (said_in_kind Actor sections))
     by false h = h
 
-entries_length : (did : List OneDeed) → length (entries_in did) ≡ length did
+pub entries_length : (did : List OneDeed) → length (entries_in did) ≡ length did
 entries_length [] = refl
 entries_length (d ∷ did) = ap suc (entries_length did)
 
 -- a program that was carried out made no more entries than it costs
-played_within : (is_planned : Bool) (n limit : ℕ) (program : Program Names) (s r : Carried) (text : List ℕ) (did : List OneDeed) (names : Names) (es : List OneEntry) → CostsAtMost limit program
+pub played_within : (is_planned : Bool) (n limit : ℕ) (program : Program Names) (s r : Carried) (text : List ℕ) (did : List OneDeed) (names : Names) (es : List OneEntry) → CostsAtMost limit program
     → Played is_planned n program s text did names r → entries_in did ≡ es → length es + length r.files ≤ limit + length s.files
 played_within is_planned n limit program s r text did names es costs h entries =
     let w = entries_within_cost is_planned n limit program s h.turns (done names) r costs h.follows in

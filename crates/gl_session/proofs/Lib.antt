@@ -21,6 +21,8 @@ pub mod Sections
 pub mod Silence
 pub mod Telling
 pub mod Threads
+pub mod Together
+pub mod Told
 pub mod Whole
 pub mod WholeSections
 pub mod Within

@@ -5,6 +5,7 @@ use Rattle.gl_session.proofs.Silence.{many_played, planned_played, ports_told}
 
 pub came_to_many : AllPlayedCameToMany
 came_to_many is_planned before left sections history texts played = record {
+  ports = played;
   many = many_played is_planned before left sections history texts played;
   as_planned = λ is news. planned_played is_planned before left sections history texts is news played;
   tells = ports_told is_planned before left sections history texts played;

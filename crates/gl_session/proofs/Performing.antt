@@ -32,7 +32,7 @@ use Rattle.gl_chip.specs.Results.{done_of, number_of}
 use Rattle.gl_chip.specs.Steps.{FoundNoRoom}
 use Rattle.gl_chip.specs.Values.{OneEntry, OneView, core}
 use Rattle.gl_session.specs.Answers.{came, refused_got}
-use Rattle.gl_session.specs.Asking.{Asking, Calls, Plans, Refuses, asking, at_place, files_behind, got_by, got_of, has_lines, on_file, opened, probes, reads_from, written_over}
+use Rattle.gl_session.specs.Asking.{Asking, Calls, Plans, Refuses, asking, at_place, files_behind, got_by, got_of, has_lines, on_file, op_asked, opened, probes, reads_from, written_over}
 use Rattle.gl_session.specs.declared.files.FileRow.{FileRow}
 use Rattle.gl_session.specs.Files.{OpenFile, file_in, is_in}
 use Rattle.gl_session.specs.Performed.{HasPerformed, IsCall, Performs, PerformsAlone, carried}
@@ -122,14 +122,14 @@ refusal_case Full = inr (inl refl)
 module _ {X : Type 0} (is_planned : Bool) (what : Do) (call : DeviceCall) (value : X → Got) (answer : Reply → Result X Errno) (v w : OneView) (bytes : List ℕ) (s r : Carried) where
   -- the call was made by a device whose driver makes no entries of its own
   pub made_exchange : (reply : Reply) (got : Got) → asking s.files what ≡ Calls call → got ≡ got_of what reply bytes → r.files ≡ files_behind what reply s.files
-      → (called : HasCalled 0 v call reply bytes w) → PortAfter is_planned (tells_in (entries_in called.did)) s.told r.told
+      → (called : HasCalled 0 v call reply bytes w) → PortAfter is_planned (op_asked s.files what) (tells_in (entries_in called.did)) s.told r.told
       → HasPerformed is_planned what v s got w r
   made_exchange reply got asks gets files called port = record {
     exchange = record { what = what; closed = called.closed; answer = called.answer; did = called.did; reply = reply; wrote = bytes };
     what_is = refl;
     got_is = gets;
     carries = record {
-      is_done = subst (λ (a : Asking). IsDone is_planned v.number a (record { what = what; closed = called.closed; answer = called.answer; did = called.did; reply = reply; wrote = bytes }) s.told r.told) (sym asks) (record {
+      is_done = subst (λ (a : Asking). IsDone is_planned v.number a (op_asked s.files what) (record { what = what; closed = called.closed; answer = called.answer; did = called.did; reply = reply; wrote = bytes }) s.told r.told) (sym asks) (record {
         makes = subst (λ own. Makes v.number called.closed call called.answer own (entries_in called.did)) (none_own called.own called.few_own) called.makes;
         reply_is = called.reply_is;
         bytes_are = called.bytes_are;
@@ -144,7 +144,7 @@ module _ {X : Type 0} (is_planned : Bool) (what : Do) (call : DeviceCall) (value
   IsOutcome result = Performs is_planned what result v s w r
 
   pub made_outcome : (result : Result X Errno) → asking s.files what ≡ Calls call → ((reply : Reply) → got_of what reply bytes ≡ got_by value (answer reply)) → ((reply : Reply) → result ≡ answer reply → r.files ≡ files_behind what reply s.files)
-      → (made : IsMade answer result v call bytes w) → PortAfter is_planned (tells_in (entries_in made.called.did)) s.told r.told → IsOutcome (came value result)
+      → (made : IsMade answer result v call bytes w) → PortAfter is_planned (op_asked s.files what) (tells_in (entries_in made.called.did)) s.told r.told → IsOutcome (came value result)
   made_outcome (Ok x) asks gets files made port =
       made_exchange made.reply (value x) asks (ap (got_by value) made.result_is ∙ sym (gets made.reply)) (files made.reply made.result_is) made.called port
   made_outcome (Err errno) asks gets files made port = ⊎_elim wanted (⊎_elim full refused) (refusal_case errno) where
@@ -166,7 +166,7 @@ module _ {X : Type 0} (is_planned : Bool) (what : Do) (call : DeviceCall) (value
       → ComesOut answer result v call bytes w → IsOutcome (came value result)
   call_outcome result asks gets files told silent (inl made) =
       made_outcome result asks gets files made
-      (subst (λ tells. PortAfter is_planned tells s.told r.told) (sym (silent made.called.closed made.called.answer made.called.own (entries_in made.called.did) made.called.makes)) told)
+      (subst (λ tells. PortAfter is_planned (op_asked s.files what) tells s.told r.told) (sym (silent made.called.closed made.called.answer made.called.own (entries_in made.called.did) made.called.makes)) told)
   call_outcome result asks gets files told silent (inr full) = full_outcome result asks full.0 full.1
 
 -- one call of the machine, which leaves the open files as they are
@@ -206,14 +206,14 @@ unmoved v = record {
 
 module _ (is_planned : Bool) (what : Do) (v : OneView) (s r : Carried) where
   pub nothing_done : (asks : Asking) (reply : Reply) (got : Got) → asking s.files what ≡ asks → r.files ≡ files_behind what reply s.files → got ≡ got_of what reply []
-      → IsDone is_planned v.number asks (record { what = what; closed = false; answer = None; did = []; reply = reply; wrote = [] }) s.told r.told
+      → IsDone is_planned v.number asks (op_asked s.files what) (record { what = what; closed = false; answer = None; did = []; reply = reply; wrote = [] }) s.told r.told
       → HasPerformed is_planned what v s got v r
   nothing_done asks reply got is files gets done = record {
     exchange = record { what = what; closed = false; answer = None; did = []; reply = reply; wrote = [] };
     what_is = refl;
     got_is = gets;
     carries = record {
-      is_done = subst (λ (a : Asking). IsDone is_planned v.number a (record { what = what; closed = false; answer = None; did = []; reply = reply; wrote = [] }) s.told r.told) (sym is) done;
+      is_done = subst (λ (a : Asking). IsDone is_planned v.number a (op_asked s.files what) (record { what = what; closed = false; answer = None; did = []; reply = reply; wrote = [] }) s.told r.told) (sym is) done;
       files = files;
     };
     grew = unmoved v;

@@ -13,6 +13,7 @@ use Rattle.gl_world.proofs.Deeds.{deeds_entries, entries_in_append}
 use Rattle.gl_world.proofs.Histories.{entries_append}
 use Rattle.gl_args.specs.Program.{Program, done}
 use Rattle.gl_driver.specs.Told.{Told, new_port, with_call, with_plan}
+use Rattle.gl_driver.specs.declared.op.Op.{Op}
 use Rattle.gl_model.specs.Entries.{begins}
 use Rattle.gl_model.specs.Parts.{DeviceCall, Commanding, Makes, MakesAt, MakesCommand, MakesInside, MakesOne, MakesRest, MakesTwo, OfChip, OfDevice, Once, Removing, device_has, guard_of, in_ask, in_tell, in_whole, is_driver_asked}
 use Rattle.gl_model.specs.declared.call.Call.{Call}
@@ -21,7 +22,7 @@ use Rattle.gl_script.specs.Section.{SaidSection}
 use Rattle.gl_talk.specs.Open.{Names}
 use Rattle.gl_chip.specs.Values.{OneDeed, OneEntry, core}
 use Rattle.gl_session.specs.Alone.{TellsAfter, after_of, answered_last, calls_after, last_or, setup_of}
-use Rattle.gl_session.specs.Asking.{Asking, Calls, Plans, Refuses, asking}
+use Rattle.gl_session.specs.Asking.{Asking, Calls, Plans, Refuses, asking, op_asked}
 use Rattle.gl_session.specs.Many.{ActorPlayed, ActorsPlayed, AllPlayed, Many, PlannedTells, PortsTell, Texts, actor_sections, all_new, program_of, silent}
 use Rattle.gl_session.specs.Performed.{carried}
 use Rattle.gl_session.specs.Turns.{Carried, Did, Exchange, Follows, IsDone, Played, PortAfter, Said, Takes, Turn, call_tells, did_by, tells_in}
@@ -32,19 +33,19 @@ abbrev silenced : Carried → Carried
 silenced s = carried s.files None
 
 module _ (is_planned : Bool) (n : ℕ) where
-  port_silenced : (answers : List (Option ℕ)) (before after : Option Told) → PortAfter is_planned answers before after → PortAfter false answers None None
-  port_silenced [] before after h = refl
-  port_silenced (answer ∷ answers) before after h = (h.0, refl, λ e. absurd (false≢true e))
+  port_silenced : (op : Option Op) (answers : List (Option ℕ)) (before after : Option Told) → PortAfter is_planned op answers before after → PortAfter false op answers None None
+  port_silenced op [] before after h = refl
+  port_silenced op (answer ∷ answers) before after h = (h.0, h.1, refl, λ e. absurd (false≢true e))
 
-  done_silenced : (a : Asking) (e : Exchange) (before after : Option Told) → IsDone is_planned n a e before after → IsDone false n a e None None
-  done_silenced (Calls call) e before after h = record { makes = h.makes; reply_is = h.reply_is; bytes_are = h.bytes_are; port = port_silenced (tells_in (entries_in e.did)) before after h.port }
-  done_silenced (Plans nth) e before after h = (record { did = h.0.did; reply_is = h.0.reply_is; bytes_are = h.0.bytes_are }, refl)
-  done_silenced (Refuses errno) e before after h = (record { did = h.0.did; reply_is = h.0.reply_is; bytes_are = h.0.bytes_are }, refl)
+  done_silenced : (a : Asking) (op : Option Op) (e : Exchange) (before after : Option Told) → IsDone is_planned n a op e before after → IsDone false n a op e None None
+  done_silenced (Calls call) op e before after h = record { makes = h.makes; reply_is = h.reply_is; bytes_are = h.bytes_are; port = port_silenced op (tells_in (entries_in e.did)) before after h.port }
+  done_silenced (Plans nth) op e before after h = (record { did = h.0.did; reply_is = h.0.reply_is; bytes_are = h.0.bytes_are }, refl)
+  done_silenced (Refuses errno) op e before after h = (record { did = h.0.did; reply_is = h.0.reply_is; bytes_are = h.0.bytes_are }, refl)
 
   module _ {A : Type 0} where
     takes_silenced : (p : Program A) (s : Carried) (turn : Turn) (q : Program A) (r : Carried) → Takes is_planned n p s turn q r → Takes false n p (silenced s) turn q (silenced r)
     takes_silenced p s (Said text) q r h = (h.0, ap silenced h.1)
-    takes_silenced p s (Did e) q r h = (h.0, h.1, h.2, record { is_done = done_silenced (asking s.files e.what) e s.told r.told h.3.is_done; files = h.3.files })
+    takes_silenced p s (Did e) q r h = (h.0, h.1, h.2, record { is_done = done_silenced (asking s.files e.what) (op_asked s.files e.what) e s.told r.told h.3.is_done; files = h.3.files })
 
     follows_silenced : (p : Program A) (s : Carried) (turns : List Turn) (q : Program A) (r : Carried) → Follows is_planned n p s turns q r → Follows false n p (silenced s) turns q (silenced r)
     follows_silenced p s [] q r h = (h.0, ap silenced h.1)
@@ -59,13 +60,13 @@ module _ (is_planned : Bool) (n : ℕ) where
   nothing_told t left is = record { told = t; left_is = is; calls = refl; last = refl }
 
   -- one call of the device, and what comes behind it
-  port_on : (answers : List (Option ℕ)) (t : Told) (before between left : Option Told) (rest : List (Option ℕ)) → before ≡ Some t → (few : length answers ≤ 1) → PortAfter is_planned answers before between
+  port_on : (op : Option Op) (answers : List (Option ℕ)) (t : Told) (before between left : Option Told) (rest : List (Option ℕ)) → before ≡ Some t → (few : length answers ≤ 1) → PortAfter is_planned op answers before between
       → ((u : Told) → between ≡ Some u → TellsAfter u rest left) → TellsAfter t (answers ++ rest) left
-  port_on [] t before between left rest is few h later = later t (h ∙ is)
-  port_on (answer ∷ []) t before between left rest is few h later =
-      let r = later (record { calls = counted_up t.calls; plan = t.plan; last = Some (record { op = h.0; answer = answer }) }) (h.1 ∙ ap (with_call h.0 answer) is) in
+  port_on op [] t before between left rest is few h later = later t (h ∙ is)
+  port_on op (answer ∷ []) t before between left rest is few h later =
+      let r = later (record { calls = counted_up t.calls; plan = t.plan; last = Some (record { op = h.0; answer = answer }) }) (h.2 ∙ ap (with_call h.0 answer) is) in
       record { told = r.told; left_is = r.left_is; calls = r.calls; last = r.last }
-  port_on (answer ∷ other ∷ answers) t before between left rest is few h later = absurd (omega arith)
+  port_on op (answer ∷ other ∷ answers) t before between left rest is few h later = absurd (omega arith)
 
   later_told : (xs ys : List (Option ℕ)) (t : Told) (between left : Option Told) → TellsAfter t xs between → ((u : Told) → between ≡ Some u → TellsAfter u ys left) → TellsAfter t (xs ++ ys) left
   later_told xs ys t between left first later = let on = later first.told first.left_is in record {
@@ -131,8 +132,8 @@ module _ {A : Type 0} (is_planned : Bool) (n : ℕ) where
       rest : List (Option ℕ)
       rest = tells_in (entries_in (did_by turns))
 
-      by : (a : Asking) → IsDone is_planned n a e s.told h.1.told → ((u : Told) → h.1.told ≡ Some u → TellsAfter u rest r.told) → TellsAfter t (tells_in (entries_in e.did) ++ rest) r.told
-      by (Calls call) d on = port_on is_planned n (tells_in (entries_in e.did)) t s.told h.1.told r.told rest is (makes_few n e.answer (entries_in e.did) e.closed call d.makes) d.port on
+      by : (a : Asking) → IsDone is_planned n a (op_asked s.files e.what) e s.told h.1.told → ((u : Told) → h.1.told ≡ Some u → TellsAfter u rest r.told) → TellsAfter t (tells_in (entries_in e.did) ++ rest) r.told
+      by (Calls call) d on = port_on is_planned n (op_asked s.files e.what) (tells_in (entries_in e.did)) t s.told h.1.told r.told rest is (makes_few n e.answer (entries_in e.did) e.closed call d.makes) d.port on
       by (Plans nth) d on = subst (λ (l : List OneDeed). TellsAfter t (tells_in (entries_in l) ++ rest) r.told) (sym d.0.did)
           (let o = on (record { calls = t.calls; plan = planned_call t.calls nth; last = t.last }) (d.1 ∙ ap (with_plan nth) is) in record { told = o.told; left_is = o.left_is; calls = o.calls; last = o.last })
       by (Refuses errno) d on = subst (λ (l : List OneDeed). TellsAfter t (tells_in (entries_in l) ++ rest) r.told) (sym d.0.did) (on t (d.1 ∙ is))

@@ -26,7 +26,7 @@ use Rattle.gl_session.proofs.Alone.{first_actor_is_alone, first_actor_sees_itsel
 use Rattle.gl_session.proofs.AloneRuns.{answers_as_planned, port_tells, prints_one}
 use Rattle.gl_session.proofs.Plays.{number_same}
 use Rattle.gl_session.proofs.OneHistories.{length_entries}
-use Rattle.gl_session.proofs.Within.{calls_have_room}
+use Rattle.gl_session.proofs.Within.{calls_have_room, sessions_keep_within_cost}
 
 -- a driver that makes no entries owns none that could be about a removal
 pub quiet_driver : {P : Type 0} (Own : P → ℕ → Op → List OneEntry → Type 0) → ((port : P) (place : ℕ) (op : Op) (own : List OneEntry) → Own port place op own → own ≡ []) → IsQuietDriver Own
@@ -135,8 +135,11 @@ came_with_entries is_planned sections before left text room v w history new (did
         answers = tells_in history;
         prints = prints.0;
         takes = prints.1;
-        as_planned = λ yes fresh. answers_as_planned sections left text did history (subst (λ (x : Bool × Option Told). PlayedSession x.0 sections x.1 text did left) (λ i. (yes i, fresh i)) played) alone;
-        tells = λ t is. port_tells is_planned sections t left text did history (subst (λ (o : Option Told). PlayedSession is_planned sections o text did left) is played) alone;
+        within = (let fits = sessions_keep_within_cost is_planned sections before left text did played in
+            let count : length history ≡ length did = ap (λ (l : List OneEntry). length l) alone.entries ∙ length_entries did in let makes = prints.2 in omega arith);
+        as_planned = λ yes t is. answers_as_planned sections t left text did history (subst (λ (x : Bool × Option Told). PlayedSession x.0 sections x.1 text did left) (λ i. (yes i, is i)) played) alone;
+        port = port_tells.whole is_planned sections before left text did history played alone;
+        tells = λ t is. port_tells.answers is_planned sections t left text did history (subst (λ (o : Option Told). PlayedSession is_planned sections o text did left) is played) alone;
       };
       makes = sym prints.2;
     }

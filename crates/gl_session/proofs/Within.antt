@@ -21,7 +21,9 @@ use Rattle.gl_world.specs.History.{entry}
 use Rattle.gl_args.specs.Costs.{CostsAtMost, entries_of}
 use Rattle.gl_args.specs.Entries.{command_made, entries_made}
 use Rattle.gl_args.specs.Program.{Program, done, ask}
+use Rattle.gl_base.specs.declared.lines.Lines.{Lines}
 use Rattle.gl_driver.specs.Told.{Told}
+use Rattle.gl_driver.specs.declared.op.Op.{Op}
 use Rattle.gl_model.specs.declared.call.Call.{Call}
 use Rattle.gl_model.specs.declared.call.Call.TheVariants.{Close}
 use Rattle.gl_model.specs.declared.reply.Reply.{Reply}
@@ -40,7 +42,7 @@ use Rattle.gl_chip.specs.Files.{ChipFile}
 use Rattle.gl_chip.specs.Opened.{opened_of}
 use Rattle.gl_chip.specs.Values.{OneDeed, OneEntry}
 use Rattle.gl_session.specs.Alone.{Part, actor_of, after_of, setup_of}
-use Rattle.gl_session.specs.Asking.{Asking, Calls, Plans, Refuses, asking, at_place, files_behind, has_lines, made_by, made_on, on_file, once, opened, with_request}
+use Rattle.gl_session.specs.Asking.{Asking, Calls, Plans, Refuses, asking, at_place, buffer_of, files_behind, has_lines, lines_named, made_by, made_on, on_file, once, op_asked, opened, with_request}
 use Rattle.gl_session.specs.Files.{OpenFile, chip_file, file_in, is_in, line_file, without_file}
 use Rattle.gl_session.specs.One.{is_kind, said_in_kind}
 use Rattle.gl_session.specs.Turns.{Carried, Did, Exchange, Follows, IsDone, Said, Turn, did_by}
@@ -190,21 +192,21 @@ opened_most : (slot : ℕ) (result : Result ChipFile Errno) (files : List OpenFi
 opened_most slot (Ok file) files = one_more (chip_file slot file.place file.fd) files
 opened_most slot (Err errno) files = omega arith
 
-requested_most : (slot place : ℕ) (reply : Reply) (files : List OpenFile) → length (with_request slot place reply files) ≤ length files + 1
-requested_most slot place (Number fd) files = one_more (line_file slot place fd) files
-requested_most slot place Done files = omega arith
-requested_most slot place (Go fd) files = omega arith
-requested_most slot place (Found a b c) files = omega arith
-requested_most slot place (Text a) files = omega arith
-requested_most slot place (Ready a) files = omega arith
-requested_most slot place (Refused a) files = omega arith
+requested_most : (slot place : ℕ) (lines : Lines) (reply : Reply) (files : List OpenFile) → length (with_request slot place lines reply files) ≤ length files + 1
+requested_most slot place lines (Number fd) files = one_more (line_file slot place fd lines) files
+requested_most slot place lines Done files = omega arith
+requested_most slot place lines (Go fd) files = omega arith
+requested_most slot place lines (Found a b c) files = omega arith
+requested_most slot place lines (Text a) files = omega arith
+requested_most slot place lines (Ready a) files = omega arith
+requested_most slot place lines (Refused a) files = omega arith
 
-made_most : (slot : ℕ) (file : Option OpenFile) (reply : Reply) (files : List OpenFile) → length (made_on slot file reply files) ≤ length files + 1
-made_most slot None reply files = omega arith
-made_most slot (Some file) reply files = by file.of_chip
+made_most : (slot : ℕ) (file : Option OpenFile) (lines : Lines) (reply : Reply) (files : List OpenFile) → length (made_on slot file lines reply files) ≤ length files + 1
+made_most slot None lines reply files = omega arith
+made_most slot (Some file) lines reply files = by file.of_chip
   where
-    by : (b : Bool) → length (made_by b slot file.place reply files) ≤ length files + 1
-    by true = requested_most slot file.place reply files
+    by : (b : Bool) → length (made_by b slot file.place lines reply files) ≤ length files + 1
+    by true = requested_most slot file.place lines reply files
     by false = omega arith
 
 closes_one : (test : OpenFile → Bool) (xs : List OpenFile) (x : OpenFile) → find test xs ≡ Some x → length (without_first test xs) + 1 ≤ length xs
@@ -216,20 +218,20 @@ closes_one test (y ∷ ys) x is = by (test y) is (λ found. closes_one test ys x
     by false found later = let rest = later found in omega arith
 
 module _ (is_planned : Bool) (actor : ℕ) where
-  asked_most : (a : Asking) (k : ℕ) (e : Exchange) (before after : Option Told) → MostOf k a → IsDone is_planned actor a e before after → length e.did ≤ k
-  asked_most (Calls call) k e before after most is = let made = call_entered actor (guard_of call) e.closed call e.answer (entries_in e.did) is.makes.1 in let same = length_entries e.did in omega arith
-  asked_most (Plans nth) k e before after most is = no_deeds e.did k is.0.did
-  asked_most (Refuses errno) k e before after most is = no_deeds e.did k is.0.did
+  asked_most : (a : Asking) (op : Option Op) (k : ℕ) (e : Exchange) (before after : Option Told) → MostOf k a → IsDone is_planned actor a op e before after → length e.did ≤ k
+  asked_most (Calls call) op k e before after most is = let made = call_entered actor (guard_of call) e.closed call e.answer (entries_in e.did) is.makes.1 in let same = length_entries e.did in omega arith
+  asked_most (Plans nth) op k e before after most is = no_deeds e.did k is.0.did
+  asked_most (Refuses errno) op k e before after most is = no_deeds e.did k is.0.did
 
   -- the entries of an operation and the files behind it come to what it costs and the files before it
-  op_within : (files : List OpenFile) (what : Do) (e : Exchange) (before after : Option Told) → IsDone is_planned actor (asking files what) e before after
+  op_within : (files : List OpenFile) (what : Do) (e : Exchange) (before after : Option Told) → IsDone is_planned actor (asking files what) (op_asked files what) e before after
       → length e.did + length (files_behind what e.reply files) ≤ entries_of what + length files
-  op_within files what e before after is = by what (asked_most (asking files what) (entries_made what) e before after (op_most files what) is) is
+  op_within files what e before after is = by what (asked_most (asking files what) (op_asked files what) (entries_made what) e before after (op_most files what) is) is
     where
       did : ℕ
       did = length e.did
 
-      by : (what : Do) → length e.did ≤ entries_made what → IsDone is_planned actor (asking files what) e before after → length e.did + length (files_behind what e.reply files) ≤ entries_of what + length files
+      by : (what : Do) → length e.did ≤ entries_made what → IsDone is_planned actor (asking files what) (op_asked files what) e before after → length e.did + length (files_behind what e.reply files) ≤ entries_of what + length files
       by (DoProbe label lines) most is = omega arith
       by (DoUnplug place) most is = omega arith
       by (DoMakeDir path) most is = omega arith
@@ -244,17 +246,17 @@ module _ (is_planned : Bool) (actor : ℕ) where
       by (DoLevel place offset pull) most is = omega arith
       by (DoOpenChip slot word) most is = let more = opened_most slot (opened_of word e.reply) files in omega arith
       by (DoFind slot name) most is = omega arith
-      by (DoIoctl slot cmd len bytes made) most is = let more = made_most made (file_in slot files) e.reply files in
+      by (DoIoctl slot cmd len bytes made) most is = let more = made_most made (file_in slot files) (lines_named (buffer_of len bytes)) e.reply files in
           let rest : ℕ = if nat_eq cmd LINE_SET_CONFIG then 2 else if nat_eq cmd LINE_GET_VALUES then 2 else if nat_eq cmd LINE_SET_VALUES then 2 else 1 in
-          (elim (nat_eq cmd GET_LINE) as (λ b. (d : ℕ) → d ≤ (if b then 2 else rest) → d + length (if b then made_on made (file_in slot files) e.reply files else files) ≤ (if b then 3 else rest) + length files)
+          (elim (nat_eq cmd GET_LINE) as (λ b. (d : ℕ) → d ≤ (if b then 2 else rest) → d + length (if b then made_on made (file_in slot files) (lines_named (buffer_of len bytes)) e.reply files else files) ≤ (if b then 3 else rest) + length files)
           [ true ↦ λ d le. omega arith | false ↦ λ d le. omega arith ]) (length e.did) most
       by (ReadFile slot len) most is = omega arith
       by (Poll slot) most is = omega arith
       by (DoClose slot) most is = closes (file_in slot files) refl is
         where
-          closes : (file : Option OpenFile) → file_in slot files ≡ file → IsDone is_planned actor (asking files (DoClose slot)) e before after → length e.did + length (without_file slot files) ≤ 0 + length files
+          closes : (file : Option OpenFile) → file_in slot files ≡ file → IsDone is_planned actor (asking files (DoClose slot)) None e before after → length e.did + length (without_file slot files) ≤ 0 + length files
           closes None none is = let fewer = length-without_first-le (is_in slot) files in
-              let no_deed = no_deeds e.did 0 (subst (λ (f : Option OpenFile). IsDone is_planned actor (on_file f (λ file. once (Close file.fd))) e before after) none is).0.did in omega arith
+              let no_deed = no_deeds e.did 0 (subst (λ (f : Option OpenFile). IsDone is_planned actor (on_file f (λ file. once (Close file.fd))) None e before after) none is).0.did in omega arith
           closes (Some file) found is = let fewer = closes_one (is_in slot) files file found in omega arith
       by (Plan nth) most is = omega arith
 

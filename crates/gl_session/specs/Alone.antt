@@ -8,14 +8,14 @@ use Rattle.gl_rule.specs.Turn.{NoStrangers}
 use Rattle.gl_rule.specs.Views.{newcomer}
 use Rattle.gl_gate.specs.Grown.{Grew}
 use Rattle.gl_args.specs.Program.{Program, done}
-use Rattle.gl_driver.specs.Told.{Told, new_port}
+use Rattle.gl_driver.specs.Told.{Told}
 use Rattle.gl_driver.specs.declared.op.Asked.{Asked}
 use Rattle.gl_script.specs.Section.{SaidSection}
 use Rattle.gl_script.specs.declared.section.SectionKind.TheVariants.{Setup, Actor, After}
 use Rattle.gl_talk.specs.Open.{Names, no_names}
 use Rattle.gl_talk.specs.Talk.{quits, says, talks}
 use Rattle.gl_chip.specs.Values.{OneDeed, OneEntry, OneView, core}
-use Rattle.gl_session.specs.One.{entries_made, one, planned, said_in_kind, taken}
+use Rattle.gl_session.specs.One.{entries_made, one, planned_over, said_in_kind, taken, told_behind}
 use Rattle.gl_session.specs.Files.{OpenFile}
 use Rattle.gl_session.specs.Turns.{Carried, Played, tells_in}
 
@@ -71,10 +71,10 @@ PrintsOne = (is_planned : Bool) (sections : List SaidSection) (before left : Opt
     → PlayedSession is_planned sections before text did left → IsAlone history did
     → (text ≡ one sections (tells_in history)) × (taken sections (tells_in history) ≡ tells_in history) × (entries_made sections (tells_in history) ≡ length history)
 
--- A planned driver over a new port answers as Planned says.
+-- A planned driver over a port that tells answers as the port's plan and its statements say.
 abbrev pub AnswersAsPlanned : Type 0
-AnswersAsPlanned = (sections : List SaidSection) (left : Option Told) (text : List ℕ) (did : List OneDeed) (history : List OneEntry)
-    → PlayedSession true sections (Some new_port) text did left → IsAlone history did → tells_in history ≡ planned sections
+AnswersAsPlanned = (sections : List SaidSection) (t : Told) (left : Option Told) (text : List ℕ) (did : List OneDeed) (history : List OneEntry)
+    → PlayedSession true sections (Some t) text did left → IsAlone history did → tells_in history ≡ planned_over t sections
 
 -- how many calls went through a port after so many answers more
 abbrev pub calls_after : ℕ → List (Option ℕ) → ℕ
@@ -98,7 +98,10 @@ pub record TellsAfter (t : Told) (answers : List (Option ℕ)) (left : Option To
   pub calls : told.calls ≡ calls_after t.calls answers
   pub last : answered_last told.last ≡ last_or (answered_last t.last) answers
 
--- Every driver is asked through the port: where the port told, it tells just the answers of the history's tells.
-abbrev pub PortTells : Type 0
-PortTells = (is_planned : Bool) (sections : List SaidSection) (t : Told) (left : Option Told) (text : List ℕ) (did : List OneDeed) (history : List OneEntry)
-    → PlayedSession is_planned sections (Some t) text did left → IsAlone history did → TellsAfter t (tells_in history) left
+-- Every driver is asked through the port: it tells in the end all that the statements and the calls make of it over the answers of the
+-- history's tells. So where it told, it tells just these answers.
+pub record PortTells : Type 0 where
+  pub whole : (is_planned : Bool) (sections : List SaidSection) (before left : Option Told) (text : List ℕ) (did : List OneDeed) (history : List OneEntry)
+      → PlayedSession is_planned sections before text did left → IsAlone history did → left ≡ told_behind sections (tells_in history) before
+  pub answers : (is_planned : Bool) (sections : List SaidSection) (t : Told) (left : Option Told) (text : List ℕ) (did : List OneDeed) (history : List OneEntry)
+      → PlayedSession is_planned sections (Some t) text did left → IsAlone history did → TellsAfter t (tells_in history) left

@@ -6,18 +6,23 @@ use Rattle.gl_base.specs.declared.command.TheConstants.{GET_LINE}
 use Rattle.gl_base.specs.declared.errno.Errno.{Errno}
 use Rattle.gl_base.specs.declared.errno.Errno.TheVariants.{BadF, Inval, NoEnt}
 use Rattle.gl_base.specs.declared.kind.Kind.TheVariants.{Simulated}
+use Rattle.gl_base.specs.declared.lines.Lines.{Lines}
 use Rattle.gl_base.specs.declared.limits.TheConstants.{LINES_MAX, PLACES}
 use Rattle.gl_base.specs.declared.operation.Do.{Do}
 use Rattle.gl_base.specs.declared.operation.Do.TheVariants.{Probe as DoProbe, Unplug as DoUnplug, MakeDir as DoMakeDir, RemoveDir as DoRemoveDir, Write as DoWrite, Read as DoRead, Live as DoLive, Tick as DoTick, Pin as DoPin, Irq as DoIrq, Pull as DoPull, Level as DoLevel, OpenChip as DoOpenChip, Find as DoFind, Ioctl as DoIoctl, ReadFile, Poll, Close as DoClose, Plan}
 use Rattle.gl_base.specs.declared.operation.Got.{Got}
 use Rattle.gl_base.specs.declared.operation.Got.TheVariants.{Done as GotDone, Number as GotNumber, Found as GotFound, Text as GotText, Bytes, Ready as GotReady, Refused as GotRefused}
+use Rattle.gl_uapi.specs.declared.layout.TheConstants.{LINE_REQUEST_SIZE}
+use Rattle.gl_driver.specs.declared.op.Op.{Op}
+use Rattle.gl_model.specs.Asked.{lines_asked}
 use Rattle.gl_model.specs.Parts.{DeviceCall, Once, Removing, Commanding, OfChip, OfDevice}
 use Rattle.gl_model.specs.declared.call.Call.{Call}
 use Rattle.gl_model.specs.declared.call.Call.TheVariants.{Probe, MakeDir, RemoveDir, Write, Read, Live, Tick, Pin, Irq, Pull, Level, OpenChip, Find, ReadEdges, ReadInfo, PollLine, PollChip, Close}
 use Rattle.gl_model.specs.declared.reply.Reply.{Reply}
 use Rattle.gl_model.specs.declared.reply.Reply.TheVariants.{Number}
+use Rattle.gl_chip.specs.Commanding.{op_for}
 use Rattle.gl_chip.specs.Files.{ChipFile}
-use Rattle.gl_chip.specs.Handed.{command_in}
+use Rattle.gl_chip.specs.Handed.{command_in, handed_in}
 use Rattle.gl_chip.specs.Opened.{opened_of}
 use Rattle.gl_chip.specs.Results.{done_of, found_of, level_of, number_of, ready_of, text_of}
 use Rattle.gl_session.specs.Files.{OpenFile, chip_file, file_in, line_file, with_file, without_file}
@@ -91,6 +96,25 @@ asking files (Poll slot) = on_file (file_in slot files) (λ file. once (polls fi
 asking files (DoClose slot) = on_file (file_in slot files) (λ file. once (Close file.fd))
 asking files (Plan nth) = Plans nth
 
+-- the lines that the structure in a buffer names
+abbrev pub lines_named : List ℕ → Lines
+lines_named buffer = lines_asked (take LINE_REQUEST_SIZE (handed_in buffer))
+
+-- the lines that a command is on: on a chip those that its structure names, on a request the request's
+abbrev pub lines_by : Bool → Lines → List ℕ → Lines
+lines_by true lines buffer = lines_named buffer
+lines_by false lines buffer = lines
+
+-- what the driver is asked for a command with this buffer on a file, where it is asked
+abbrev pub op_on : Option OpenFile → ℕ → List ℕ → Option Op
+op_on None cmd buffer = None
+op_on (Some file) cmd buffer = op_for (lines_by file.of_chip file.lines buffer) (command_in file.place file.fd file.of_chip cmd buffer)
+
+-- the same for an operation
+abbrev pub op_asked : List OpenFile → Do → Option Op
+op_asked files (DoIoctl slot cmd len bytes made) = op_on (file_in slot files) cmd (buffer_of len bytes)
+op_asked files _ = None
+
 -- what a talk gets of a call's result: what its value comes to, or that it was refused
 abbrev pub got_by : {X : Type 0} → (X → Got) → Result X Errno → Got
 got_by value (Ok x) = value x
@@ -107,15 +131,15 @@ found_got (place, offset, count) = GotFound place offset count
 abbrev pub written_over : List ℕ → List ℕ → List ℕ
 written_over wrote buffer = wrote ++ drop (length wrote) buffer
 
--- What a talk gets of an operation, by the machine's reply and what was written: of a command its whole buffer, of a read as many
--- bytes as were read.
+-- What a talk gets of an operation, by the machine's reply and what was written: of a command the first bytes of its buffer, at most as
+-- many as the longest structure has, and of a read as many bytes as were read.
 abbrev pub got_of : Do → Reply → List ℕ → Got
 got_of (DoProbe label lines) reply wrote = got_by GotNumber (number_of reply)
 got_of (DoRead path) reply wrote = got_by GotText (text_of reply)
 got_of (DoLevel place offset pull) reply wrote = got_by level_got (level_of reply)
 got_of (DoOpenChip slot word) reply wrote = got_by (λ file. GotNumber file.fd) (opened_of word reply)
 got_of (DoFind slot name) reply wrote = got_by found_got (found_of reply)
-got_of (DoIoctl slot cmd len bytes made) reply wrote = got_by (λ _. Bytes (written_over wrote (buffer_of len bytes))) (done_of reply)
+got_of (DoIoctl slot cmd len bytes made) reply wrote = got_by (λ _. Bytes (take LINE_REQUEST_SIZE (written_over wrote (buffer_of len bytes)))) (done_of reply)
 got_of (ReadFile slot len) reply wrote = got_by (λ count. Bytes (take count (written_over wrote (replicate len 0)))) (number_of reply)
 got_of (Poll slot) reply wrote = got_by GotReady (ready_of reply)
 got_of _ reply wrote = got_by (λ _. GotDone) (done_of reply)
@@ -125,23 +149,23 @@ abbrev pub opened : ℕ → Result ChipFile Errno → List OpenFile → List Ope
 opened slot (Ok file) files = with_file (chip_file slot file.place file.fd) files
 opened slot (Err errno) files = files
 
--- the files with a request that was made at this place, by the reply
-abbrev pub with_request : ℕ → ℕ → Reply → List OpenFile → List OpenFile
-with_request slot place (Number fd) files = with_file (line_file slot place fd) files
-with_request slot place _ files = files
+-- the files with a request of these lines that was made at this place, by the reply
+abbrev pub with_request : ℕ → ℕ → Lines → Reply → List OpenFile → List OpenFile
+with_request slot place lines (Number fd) files = with_file (line_file slot place fd lines) files
+with_request slot place lines _ files = files
 
 -- a request is made on a chip's file alone
-abbrev pub made_by : Bool → ℕ → ℕ → Reply → List OpenFile → List OpenFile
-made_by true slot place reply files = with_request slot place reply files
-made_by false slot place reply files = files
+abbrev pub made_by : Bool → ℕ → ℕ → Lines → Reply → List OpenFile → List OpenFile
+made_by true slot place lines reply files = with_request slot place lines reply files
+made_by false slot place lines reply files = files
 
-abbrev pub made_on : ℕ → Option OpenFile → Reply → List OpenFile → List OpenFile
-made_on slot None reply files = files
-made_on slot (Some file) reply files = made_by file.of_chip slot file.place reply files
+abbrev pub made_on : ℕ → Option OpenFile → Lines → Reply → List OpenFile → List OpenFile
+made_on slot None lines reply files = files
+made_on slot (Some file) lines reply files = made_by file.of_chip slot file.place lines reply files
 
 -- The files behind an operation with this reply. A file that was to be closed is gone, whatever the answer.
 abbrev pub files_behind : Do → Reply → List OpenFile → List OpenFile
 files_behind (DoOpenChip slot word) reply files = opened slot (opened_of word reply) files
-files_behind (DoIoctl slot cmd len bytes made) reply files = if nat_eq cmd GET_LINE then made_on made (file_in slot files) reply files else files
+files_behind (DoIoctl slot cmd len bytes made) reply files = if nat_eq cmd GET_LINE then made_on made (file_in slot files) (lines_named (buffer_of len bytes)) reply files else files
 files_behind (DoClose slot) reply files = without_file slot files
 files_behind _ reply files = files

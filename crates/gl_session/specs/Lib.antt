@@ -17,6 +17,7 @@ pub mod Run
 pub mod Several
 pub mod Status
 pub mod Streams
+pub mod Together
 pub mod Turns
 pub mod Within
 pub mod Workers

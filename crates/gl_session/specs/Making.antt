@@ -5,12 +5,13 @@ use Rattle.gl_base.specs.declared.lines.Lines.{Lines}
 use Rattle.gl_model.specs.declared.reply.Reply.{Reply}
 use Rattle.gl_driver.specs.Told.{Told}
 use Rattle.gl_driver.specs.declared.op.Op.{Op}
-use Rattle.gl_chip.specs.Commanding.{CommandsOut, requested_of}
+use Rattle.gl_chip.specs.Commanding.{CommandsOut, op_for, requested_of}
 use Rattle.gl_chip.specs.Files.{LineFile}
 use Rattle.gl_chip.specs.Handed.{command_in}
 use Rattle.gl_chip.specs.Results.{value_of}
 use Rattle.gl_chip.specs.Values.{ActorValue, OneEntry}
-use Rattle.gl_session.specs.Rows.{fd_of, is_chip, place_of}
+use Rattle.gl_session.specs.Asking.{lines_by}
+use Rattle.gl_session.specs.Rows.{fd_of, is_chip, lines_of, place_of}
 use Rattle.gl_session.specs.declared.files.OpenFd.{OpenFd}
 use Rattle.gl_session.specs.Files.{OpenFile, line_file, with_file}
 
@@ -19,12 +20,14 @@ abbrev pub request_of : Bool → ℕ → Lines → Reply → Result (Option Line
 request_of true place lines reply = requested_of place lines reply
 request_of false place lines reply = value_of (λ _. None) reply
 
--- A command of this number on a file came out: what it wrote at the start of its buffer, and what the driver was asked, if it was. Its
--- request, where it makes one, has just the lines of which the driver was told.
+-- A command of this number on a file came out: what it wrote at the start of its buffer. The driver, where it was asked, was asked what the
+-- command says of its lines: those of the request, or on a chip those that its structure names, which a request that it makes then has.
 abbrev pub IsCommanding : {P : Type 0} → (P → Option Told) → (P → ℕ) → (P → ℕ → Op → List OneEntry → Type 0) → ℕ → Bool → OpenFd → ℕ → List ℕ → List ℕ → Result (Option LineFile) Errno → ActorValue P → ActorValue P → Type 0
 IsCommanding told faults Own limit is_planned file cmd handed filled request a b =
-    (wrote : List ℕ) × (filled ≡ wrote ++ drop (length wrote) handed) × (lines : Lines) × (op : Option Op)
-    × CommandsOut told faults Own limit is_planned (request_of (is_chip file) (place_of file) lines) request op a (command_in (place_of file) (fd_of file) (is_chip file) cmd handed) wrote b
+    (wrote : List ℕ) × (filled ≡ wrote ++ drop (length wrote) handed)
+    × CommandsOut told faults Own limit is_planned (request_of (is_chip file) (place_of file) (lines_by (is_chip file) (lines_of file) handed)) request
+    (op_for (lines_by (is_chip file) (lines_of file) handed) (command_in (place_of file) (fd_of file) (is_chip file) cmd handed)) a
+    (command_in (place_of file) (fd_of file) (is_chip file) cmd handed) wrote b
 
 -- a command that makes no request, as one that might
 abbrev pub none_made : Result (Unit {0}) Errno → Result (Option LineFile) Errno
@@ -34,7 +37,7 @@ none_made (Err errno) = Err errno
 -- the files with a request, if there is one
 abbrev pub with_made : ℕ → Option LineFile → List OpenFile → List OpenFile
 with_made slot None files = files
-with_made slot (Some file) files = with_file (line_file slot file.place file.fd) files
+with_made slot (Some file) files = with_file (line_file slot file.place file.fd file.lines) files
 
 abbrev pub kept_with : ℕ → Result (Option LineFile) Errno → List OpenFile → List OpenFile
 kept_with slot (Ok file) files = with_made slot file files

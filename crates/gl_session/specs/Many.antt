@@ -104,10 +104,13 @@ PortsTell before left sections history =
     (n : ℕ) (t : Told) → n ≤ length (actor_sections sections) → before n ≡ Some t → TellsAfter t (tells_in (entries_of n history)) (left n)
 
 -- What a session with two or more actors came to, over ports that told this before and tell that now: its history and its texts are those
--- of Many, and no longer than the session costs. Where the driver is planned and all ports were new, its tells are as planned; and the
--- ports tell in the end what the history tells.
+-- of Many, and no longer than the session costs. Each actor's port tells all that its statements and its calls make of what it told
+-- before: how many calls, the plan, and the operation and the answer of the last call; and a planned driver answered each call as the port
+-- then planned (`ports`). So where the driver is planned and all ports were new, its tells are as planned; and the ports tell in the end
+-- what the history tells.
 pub record CameToMany (is_planned : Bool) (sections : List SaidSection) (before left : ℕ → Option Told) (history : List OneEntry) (texts : Texts) : Type 0 where
   pub many : Many sections history texts
+  pub ports : AllPlayed is_planned before left sections history texts
   pub as_planned : is_planned ≡ true → ((n : ℕ) → n ≤ length (actor_sections sections) → before n ≡ Some new_port) → PlannedTells sections history texts
   pub tells : PortsTell before left sections history
   pub within : length history ≤ session_cost sections

@@ -11,6 +11,8 @@ use Rattle.gl_base.specs.declared.phase.Phase.{Phase}
 use Rattle.gl_base.specs.declared.phase.Phase.TheVariants.{Absent, Up, Leaving, Gone}
 use Rattle.gl_uapi.specs.Command.{command_of}
 use Rattle.gl_args.specs.Program.{Program, done, print, ask}
+use Rattle.gl_driver.specs.Told.{Told, new_port, with_call, with_plan}
+use Rattle.gl_driver.specs.declared.op.Op.{Op}
 use Rattle.gl_script.specs.Columns.{columns}
 use Rattle.gl_script.specs.Section.{SaidSection}
 use Rattle.gl_script.specs.declared.section.SectionKind.{SectionKind}
@@ -27,7 +29,7 @@ use Rattle.gl_model.specs.declared.reply.Reply.{Reply}
 use Rattle.gl_model.specs.declared.reply.Reply.TheVariants.{Done as DoneReply, Refused as RefusedReply}
 use Rattle.gl_talk.specs.Open.{Names, no_names}
 use Rattle.gl_talk.specs.Talk.{quits, says, talks}
-use Rattle.gl_session.specs.Asking.{Asking, Calls, Plans, Refuses, asking, files_behind, got_of}
+use Rattle.gl_session.specs.Asking.{Asking, Calls, Plans, Refuses, asking, files_behind, got_of, op_asked}
 use Rattle.gl_session.specs.Files.{OpenFile}
 
 abbrev pub is_gone : Phase → Bool
@@ -84,10 +86,11 @@ is_asked w (Removing removal) = false
 is_asked w (Commanding c) = is_driver_asked c.of_chip c.len (command_of c.cmd)
     && (not (is_gone (phase_at w c.place)) && goes_on w (in_ask c))
 
--- Where a driver's answers come from: what it answers next, what is left behind an answer, and behind a plan of its port.
+-- Where a driver's answers come from: what it answers next, what is left behind an answer to what it was asked, and behind a plan of its
+-- port.
 pub record Answers (X : Type 0) : Type 0 where
   pub next : X → Option ℕ
-  pub behind : X → X
+  pub behind : Option Op → X → X
   pub planned : ℕ → X → X
 
 -- answers in the order of a list; none that is left is a failure
@@ -100,7 +103,23 @@ rest_of_list [] = []
 rest_of_list (answer ∷ answers) = answers
 
 abbrev pub from_list : Answers (List (Option ℕ))
-from_list = record { next = first_of_list; behind = rest_of_list; planned = λ nth answers. answers }
+from_list = record { next = first_of_list; behind = λ op answers. rest_of_list answers; planned = λ nth answers. answers }
+
+-- answers in the order of a list, through a port that may tell
+pub record TellingPort : Type 0 where
+  pub left : List (Option ℕ)
+  pub told : Option Told
+
+abbrev pub told_of : Option Op → Option ℕ → Option Told → Option Told
+told_of None answer told = told
+told_of (Some op) answer told = with_call op answer told
+
+abbrev pub from_port : Answers TellingPort
+from_port = record {
+  next = λ port. first_of_list port.left;
+  behind = λ op port. record { left = rest_of_list port.left; told = told_of op (first_of_list port.left) port.told };
+  planned = λ nth port. record { left = port.left; told = with_plan nth port.told };
+}
 
 -- answers of a planned driver, by how many calls went through its port, and by the call that the port's plan names
 pub record PlannedPort : Type 0 where
@@ -110,7 +129,7 @@ pub record PlannedPort : Type 0 where
 abbrev pub from_plan : Answers PlannedPort
 from_plan = record {
   next = λ port. planned_answer port.plan (counted_up port.calls);
-  behind = λ port. record { calls = counted_up port.calls; plan = port.plan };
+  behind = λ op port. record { calls = counted_up port.calls; plan = port.plan };
   planned = λ nth port. record { calls = port.calls; plan = planned_call port.calls nth };
 }
 
@@ -137,10 +156,10 @@ abbrev pub behind_text : {X A : Type 0} → List ℕ → Ran X A → Ran X A
 behind_text text ran = record ran { text = text ++ ran.text }
 
 module _ {X : Type 0} (answers : Answers X) where
-  -- an answer is taken, or none
-  abbrev pub with_answer : Bool → Standing X → Standing X
-  with_answer false s = s
-  with_answer true s = record s { source = answers.behind s.source; took = s.took ++ answers.next s.source ∷ [] }
+  -- an answer to this is taken, or none
+  abbrev pub with_answer : Option Op → Bool → Standing X → Standing X
+  with_answer op false s = s
+  with_answer op true s = record s { source = answers.behind op s.source; took = s.took ++ answers.next s.source ∷ [] }
 
   -- an operation with this reply and these bytes
   abbrev pub answered : Do → Reply → List ℕ → Standing X → Got × Standing X
@@ -150,14 +169,14 @@ module _ {X : Type 0} (answers : Answers X) where
   came_to what out s = answered what out.reply out.bytes (record s { world = out.world })
 
   -- an operation, and how the session stands behind it
-  abbrev pub performs_as : Asking → Do → Standing X → Got × Standing X
-  performs_as (Calls call) what s =
-      came_to what (comes_to s.world call (answers.next s.source)) (with_entries (entry_count s.world call) (with_answer (is_asked s.world call) s))
-  performs_as (Plans nth) what s = answered what DoneReply [] (record s { source = answers.planned nth s.source })
-  performs_as (Refuses errno) what s = answered what (RefusedReply errno) [] s
+  abbrev pub performs_as : Asking → Option Op → Do → Standing X → Got × Standing X
+  performs_as (Calls call) op what s =
+      came_to what (comes_to s.world call (answers.next s.source)) (with_entries (entry_count s.world call) (with_answer op (is_asked s.world call) s))
+  performs_as (Plans nth) op what s = answered what DoneReply [] (record s { source = answers.planned nth s.source })
+  performs_as (Refuses errno) op what s = answered what (RefusedReply errno) [] s
 
   abbrev pub performs : Do → Standing X → Got × Standing X
-  performs what s = performs_as (asking s.files what) what s
+  performs what s = performs_as (asking s.files what) (op_asked s.files what) what s
 
   -- a program, each of its operations answered by the device as it then stands
   abbrev pub run : {A : Type 0} → Program A → Standing X → Ran X A
@@ -209,6 +228,14 @@ taken sections answers = (run_session from_list sections answers).behind.took
 abbrev pub entries_made : List SaidSection → List (Option ℕ) → ℕ
 entries_made sections answers = (run_session from_list sections answers).behind.entries
 
--- Planned: the answers that a planned driver gives to a session through a new port
+-- what a port tells behind a session over answers of its driver, by what it told before: all that statements and calls make of it
+abbrev pub told_behind : List SaidSection → List (Option ℕ) → Option Told → Option Told
+told_behind sections answers before = (run_session from_port sections (record { left = answers; told = before })).behind.source.told
+
+-- the answers that a planned driver gives to a session through a port that told this
+abbrev pub planned_over : Told → List SaidSection → List (Option ℕ)
+planned_over t sections = (run_session from_plan sections (record { calls = t.calls; plan = t.plan })).behind.took
+
+-- Planned: those that it gives through a new port
 abbrev pub planned : List SaidSection → List (Option ℕ)
-planned sections = (run_session from_plan sections (record { calls = 0; plan = None })).behind.took
+planned sections = planned_over new_port sections

@@ -3,7 +3,7 @@ use Rattle.std.specs.Prelude.{◌≡◌, ◌<◌, ◌≤◌, ℕ, ◌+◌, Bool,
 use Rattle.gl_base.specs.Words.{Span}
 use Rattle.gl_base.specs.declared.limits.TheConstants.{COST_MAX}
 use Rattle.gl_gate.specs.Grown.{Grew}
-use Rattle.gl_driver.specs.Told.{Told, new_port}
+use Rattle.gl_driver.specs.Told.{Told}
 use Rattle.gl_script.specs.Columns.{columns}
 use Rattle.gl_script.specs.Cost.{session_cost}
 use Rattle.gl_script.specs.Section.{SaidSection}
@@ -12,16 +12,20 @@ use Rattle.gl_script.specs.declared.section.SectionKind.TheVariants.{Setup, Acto
 use Rattle.gl_chip.specs.Steps.{FoundNoRoom}
 use Rattle.gl_chip.specs.Values.{OneDeed, OneView, core}
 use Rattle.gl_session.specs.Alone.{PlayedSession, TellsAfter}
-use Rattle.gl_session.specs.One.{entries_made, is_kind, one, planned, said_in_kind, taken}
+use Rattle.gl_session.specs.One.{entries_made, is_kind, one, planned_over, said_in_kind, taken, told_behind}
 
 -- What the session came to, over a port that told this before and tells that now: its text is One of just the answers that One
--- takes. A planned driver over a new port gave those of Planned. Where the port told, it tells as many driver calls more as there
--- are answers, and as its last answer the last of them.
+-- takes, and it makes no more entries than the session costs. A planned driver gave those that the port's plan before and the statements
+-- say; over a new port they are Planned. The port tells all that the statements and the calls make of what it told: how many calls, the
+-- plan, and the operation and the answer of the last call. So where it told, it tells as many driver calls more as there are answers, and
+-- as its last answer the last of them.
 pub record CameToOne (is_planned : Bool) (sections : List SaidSection) (before : Option Told) (text : List ℕ) (left : Option Told) : Type 0 where
   pub answers : List (Option ℕ)
   pub prints : text ≡ one sections answers
   pub takes : taken sections answers ≡ answers
-  pub as_planned : is_planned ≡ true → before ≡ Some new_port → answers ≡ planned sections
+  pub within : entries_made sections answers ≤ session_cost sections
+  pub as_planned : is_planned ≡ true → (t : Told) → before ≡ Some t → answers ≡ planned_over t sections
+  pub port : left ≡ told_behind sections answers before
   pub tells : (t : Told) → before ≡ Some t → TellsAfter t answers left
 
 -- The same, and as many entries were made as One makes over these answers.

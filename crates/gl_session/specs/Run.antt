@@ -13,7 +13,7 @@ use Rattle.gl_chip.specs.Values.{OneEntry}
 use Rattle.gl_session.specs.Lines.{text_line}
 use Rattle.gl_session.specs.Many.{CameToMany, Texts, actor_sections}
 use Rattle.gl_session.specs.OneActor.{CameToOne}
-use Rattle.gl_session.specs.Output.{output}
+use Rattle.gl_session.specs.Output.{AreTold, output}
 
 -- the line that a run writes for words that it doesn't take
 abbrev pub usage_line : List ℕ
@@ -23,12 +23,19 @@ usage_line = text_line (codes "usage")
 abbrev pub refused_line : RefusalOf → List ℕ
 refused_line refusal = text_line (codes "refused " ++ decimal refusal.line ++ codes " " ++ decimal refusal.column ++ codes " " ++ kind_word refusal.kind)
 
--- What a session with two or more actors came to: Output of its texts and its history, which are those of Many.
+-- What a session with two or more actors came to: Output of its texts and its history, which are those of Many. The entries are told, so
+-- no other history has this output.
 pub record CameToOutput (is_planned : Bool) (sections : List SaidSection) (before left : ℕ → Option Told) (text : List ℕ) : Type 0 where
   pub history : List OneEntry
   pub texts : Texts
   pub came : CameToMany is_planned sections before left history texts
   pub prints : text ≡ output sections texts history
+  pub told : AreTold 0 history
+
+-- Two sessions of several actors, over whatever drivers and ports, that came to the same text came to the same history.
+abbrev pub TextsTellHistory : Type 0
+TextsTellHistory = (is_planned other_planned : Bool) (sections others : List SaidSection) (before left other_before other_left : ℕ → Option Told) (text : List ℕ)
+    (a : CameToOutput is_planned sections before left text) (b : CameToOutput other_planned others other_before other_left text) → a.history ≡ b.history
 
 -- With fewer than two actors the first actor carries out all of them, through its own port.
 abbrev pub CameBy : Bool → Bool → List SaidSection → (ℕ → Option Told) → (ℕ → Option Told) → List ℕ → Type 0

@@ -18,7 +18,7 @@ use Rattle.gl_model.specs.declared.reply.Reply.{Reply}
 use Rattle.gl_model.specs.declared.reply.Reply.TheVariants.{Done, Refused}
 use Rattle.gl_chip.specs.Called.{last_bytes}
 use Rattle.gl_chip.specs.Values.{OneDeed, OneEntry}
-use Rattle.gl_session.specs.Asking.{Asking, Calls, Plans, Refuses, asking, files_behind, got_of}
+use Rattle.gl_session.specs.Asking.{Asking, Calls, Plans, Refuses, asking, files_behind, got_of, op_asked}
 use Rattle.gl_session.specs.Files.{OpenFile}
 
 -- the answer of the driver that a call tells, if it tells one
@@ -51,20 +51,21 @@ pub record Carried : Type 0 where
   pub files : List OpenFile
   pub told : Option Told
 
--- What becomes of a port by the answers that a call told: none, or one. A planned driver answers as the port plans.
-abbrev pub PortAfter : Bool → List (Option ℕ) → Option Told → Option Told → Type 0
-PortAfter is_planned [] before after = after ≡ before
-PortAfter is_planned (answer ∷ answers) before after =
-    (op : Op) × (after ≡ with_call op answer before)
+-- What becomes of a port by the answers that a call told: none, or one, to just what the driver is asked for the call. A planned driver
+-- answers as the port plans.
+abbrev pub PortAfter : Bool → Option Op → List (Option ℕ) → Option Told → Option Told → Type 0
+PortAfter is_planned op [] before after = after ≡ before
+PortAfter is_planned op (answer ∷ answers) before after =
+    (asked : Op) × (op ≡ Some asked) × (after ≡ with_call asked answer before)
     × (is_planned ≡ true → IfSome before (λ told. answer ≡ planned_answer told.plan (counted_up told.calls)))
 
 module _ (is_planned : Bool) (actor : ℕ) where
-  -- a call of the device was made: its deeds are parts of the call, and reply and bytes are the last one's
-  pub record HasMade (call : DeviceCall) (e : Exchange) (before after : Option Told) : Type 0 where
+  -- a call of the device was made, for which the driver is asked this: its deeds are parts of the call, and reply and bytes are the last one's
+  pub record HasMade (call : DeviceCall) (op : Option Op) (e : Exchange) (before after : Option Told) : Type 0 where
     pub makes : Makes actor e.closed call e.answer [] (entries_in e.did)
     pub reply_is : last_reply (entries_in e.did) ≡ Some e.reply
     pub bytes_are : last_bytes e.did ≡ e.wrote
-    pub port : PortAfter is_planned (tells_in (entries_in e.did)) before after
+    pub port : PortAfter is_planned op (tells_in (entries_in e.did)) before after
 
   -- nothing was done
   pub record DidNothing (e : Exchange) (reply : Reply) : Type 0 where
@@ -72,14 +73,14 @@ module _ (is_planned : Bool) (actor : ℕ) where
     pub reply_is : e.reply ≡ reply
     pub bytes_are : e.wrote ≡ []
 
-  abbrev pub IsDone : Asking → Exchange → Option Told → Option Told → Type 0
-  IsDone (Calls call) e before after = HasMade call e before after
-  IsDone (Plans nth) e before after = DidNothing e Done × (after ≡ with_plan nth before)
-  IsDone (Refuses errno) e before after = DidNothing e (Refused errno) × (after ≡ before)
+  abbrev pub IsDone : Asking → Option Op → Exchange → Option Told → Option Told → Type 0
+  IsDone (Calls call) op e before after = HasMade call op e before after
+  IsDone (Plans nth) op e before after = DidNothing e Done × (after ≡ with_plan nth before)
+  IsDone (Refuses errno) op e before after = DidNothing e (Refused errno) × (after ≡ before)
 
   -- an operation was carried out
   pub record Carries (s : Carried) (e : Exchange) (r : Carried) : Type 0 where
-    pub is_done : IsDone (asking s.files e.what) e s.told r.told
+    pub is_done : IsDone (asking s.files e.what) (op_asked s.files e.what) e s.told r.told
     pub files : r.files ≡ files_behind e.what e.reply s.files
 
 -- a turn: a text is printed, or an operation is carried out

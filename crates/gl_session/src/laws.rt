@@ -6,6 +6,8 @@ ghost use Rattle.gl_session.specs.Alone.{AnswersAsPlanned, FirstActorIsAlone, Fi
 ghost use Rattle.gl_session.specs.Many.{AllPlayedCameToMany};
 ghost use Rattle.gl_session.specs.OneChip.{output, plans, printed, takes};
 ghost use Rattle.gl_session.specs.Output.{OutputTellsHistory};
+ghost use Rattle.gl_session.specs.Run.{TextsTellHistory};
+ghost use Rattle.gl_session.specs.Together.{ActorsAtWorkHaveRoom};
 ghost use Rattle.gl_session.specs.Within.{CallsComeBelowCost, CallsHaveRoom, EntriesWithinCost, SessionsCostTheirParts, SessionsKeepWithinCost};
 
 /// Where the first actor of a device made all of its calls, the history has its entries alone; and until another actor is made
@@ -21,13 +23,14 @@ pub fn prints_one()
     ensures { PrintsOne }
 {}
 
-/// Over a new port of a planned driver these answers are those of Planned.
+/// Over a port of a planned driver that tells, these answers are those that its plan and the statements say: of a new one those of Planned.
 pub fn answers_as_planned()
     ensures { AnswersAsPlanned }
 {}
 
-/// Where the actor's port told, it tells in the end as many driver calls more as there are such answers, and as its last answer
-/// the last of these.
+/// The actor's port tells in the end all that the statements and the calls make of what it told before: how many calls, the plan, and the
+/// operation and the answer of the last call. Where it told, these are as many calls more as there are such answers, and as its last
+/// answer the last of these.
 pub fn port_tells()
     ensures { PortTells }
 {}
@@ -55,6 +58,12 @@ pub fn sessions_keep_within_cost()
     ensures before_a_call { CallsHaveRoom }
 {}
 
+/// While one of several actors at work has a call of the device before it, their history has fewer entries than the session costs. So with
+/// room for these it is not full then, whatever the others did meanwhile.
+pub fn actors_at_work_have_room()
+    ensures { ActorsAtWorkHaveRoom }
+{}
+
 /// What all actors of a session carried out, `setup` and `after` among them, comes to Many, whatever the driver and its ports are; over
 /// new ports of a planned driver its tells are as planned; each port tells in the end what the history tells of its actor; and the
 /// history has no more entries than the session costs.
@@ -63,7 +72,8 @@ pub fn all_played_came_to_many()
 {}
 
 /// The output of a session of several actors tells one history at most, whatever was printed in front of it: two outputs that are the
-/// same have the same history.
+/// same have the same history. So what `run` wrote tells the history that its session came to.
 pub fn output_tells_history()
-    ensures { OutputTellsHistory }
+    ensures of_entries { OutputTellsHistory }
+    ensures of_runs { TextsTellHistory }
 {}

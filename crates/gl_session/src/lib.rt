@@ -20,6 +20,7 @@ pub mod several;
 mod status;
 mod streams;
 mod text;
+mod typed;
 pub mod worker;
 
 pub use session::run;

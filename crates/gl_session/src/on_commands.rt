@@ -1,8 +1,9 @@
 //! Commands of a talk, carried out on the device.
-ghost use Rattle.std.specs.Prelude.{◌≡◌, ◌≢◌, Err, IfOk, IsOkUnless};
+ghost use Rattle.std.specs.Prelude.{◌≡◌, ◌≢◌, Err, take, IfOk, IsOkUnless};
 ghost use Rattle.gl_base.specs.declared.errno.Errno.TheVariants.{NoMemory};
 ghost use Rattle.gl_base.specs.declared.operation.Do.TheVariants.{Ioctl};
 ghost use Rattle.gl_base.specs.declared.operation.Got.TheVariants.{Bytes};
+ghost use Rattle.gl_uapi.specs.declared.layout.TheConstants.{LINE_REQUEST_SIZE};
 ghost use Rattle.gl_chip.specs.Values.{IsActorOf};
 ghost use Rattle.gl_session.specs.Answers.{came};
 ghost use Rattle.gl_session.specs.Asking.{buffer_of};
@@ -17,6 +18,7 @@ use gl_base::{ByteList, Errno, Got};
 use gl_chip::{Actor, Gpio, LineFd};
 use gl_core::Core;
 use gl_driver::Driver;
+use gl_uapi::layout::LINE_REQUEST_SIZE;
 use std::alloc::Global;
 use std::sync::Wait;
 
@@ -67,24 +69,33 @@ fn buffer_for(alloc: Global, len: u32, bytes: &[u8]) -> Result<Vec<u8>, Errno>
     Ok(buffer)
 }
 
-/// What a talk gets of a command that makes no request: its buffer.
+/// The first bytes of a buffer, at most as many as the longest structure has.
+fn front_of(buffer: Vec<u8>) -> ByteList
+    ensures { result ≡ take LINE_REQUEST_SIZE buffer.items }
+{
+    let mut buffer = buffer;
+    buffer.truncate(LINE_REQUEST_SIZE);
+    ByteList::of(buffer)
+}
+
+/// What a talk gets of a command that makes no request: the first bytes of its buffer.
 fn filled(request: Result<Option<LineFd>, Errno>, buffer: Vec<u8>) -> Result<Got, Errno>
-    ensures { result ≡ came (λ _. Bytes buffer.items) request }
+    ensures { result ≡ came (λ _. Bytes (take LINE_REQUEST_SIZE buffer.items)) request }
 {
     match request {
-        Ok(_) => Ok(Got::Bytes(ByteList::of(buffer))),
+        Ok(_) => Ok(Got::Bytes(front_of(buffer))),
         Err(errno) => answers::refused(errno),
     }
 }
 
-/// What a talk gets of GET_LINE, with its buffer. The request that it made is kept in this slot.
+/// What a talk gets of GET_LINE, with the first bytes of its buffer. The request that it made is kept in this slot.
 fn keep(
     rows: &mut Vec<FileRow>,
     slot: u32,
     request: Result<Option<LineFd>, Errno>,
     buffer: Vec<u8>,
 ) -> Result<Got, Errno>
-    ensures got { result ≢ Err NoMemory → result ≡ came (λ _. Bytes buffer.items) request }
+    ensures got { result ≢ Err NoMemory → result ≡ came (λ _. Bytes (take LINE_REQUEST_SIZE buffer.items)) request }
     ensures rows { result ≢ Err NoMemory → files_of rows.new.items ≡ kept_with slot request (files_of rows.old.items) }
 {
     match request {
@@ -93,9 +104,9 @@ fn keep(
                 slot,
                 file: OpenFd::Request(file),
             })?;
-            Ok(Got::Bytes(ByteList::of(buffer)))
+            Ok(Got::Bytes(front_of(buffer)))
         }
-        Ok(None) => Ok(Got::Bytes(ByteList::of(buffer))),
+        Ok(None) => Ok(Got::Bytes(front_of(buffer))),
         Err(errno) => answers::refused(errno),
     }
 }

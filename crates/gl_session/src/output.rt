@@ -5,11 +5,13 @@ ghost use Rattle.gl_base.specs.Rows.{Each};
 ghost use Rattle.gl_script.specs.Script.{sections_of};
 ghost use Rattle.gl_script.specs.declared.section.SectionKind.TheVariants.{Actor as ActorKind};
 ghost use Rattle.gl_trace.specs.EntryText.{HasText, entry_text};
+ghost use Rattle.gl_trace.specs.Typed.{IsTyped};
 ghost use Rattle.gl_session.specs.Many.{actor_sections, no_section};
 ghost use Rattle.gl_session.specs.One.{is_kind};
-ghost use Rattle.gl_session.specs.Output.{actors_text, entry_lines, history_text, output};
+ghost use Rattle.gl_session.specs.Output.{AreTold, actors_text, entry_lines, history_text, output};
 ghost use Rattle.gl_session.specs.Lines.{text_line};
 
+use crate::typed;
 use gl_base::{ByteList, Errno, put_decimal};
 use gl_core::Core;
 use gl_script::{Head, Script};
@@ -83,8 +85,10 @@ fn put_actors(script: &Script<'_>, texts: &[ByteList], out: &mut Vec<u8>) -> Res
 fn put_entry_line(index: u32, entry: &Entry<Core>, out: &mut Vec<u8>) -> Result<(), Errno>
     requires { HasText entry.now }
     ensures ok { OnOk result (out.new.items ≡ out.old.items ++ text_line (entry_text index entry.now)) }
+    ensures typed { IsTyped index entry.now }
     ensures memory_alone { IsOkUnless result Errno.NoMemory }
 {
+    typed::fits_entry(index, entry);
     put_entry(index, entry, out)?;
     out.push(b'\n')?;
     Ok(())
@@ -95,6 +99,7 @@ fn put_entries(history: &[Entry<Core>], out: &mut Vec<u8>) -> Result<(), Errno>
     requires few { length history.now < 2 ^ 32 }
     requires texts { Each HasText history.now }
     ensures ok { OnOk result (out.new.items ≡ out.old.items ++ entry_lines 0 history.now) }
+    ensures told { OnOk result (AreTold 0 history.now) }
     ensures memory_alone { IsOkUnless result Errno.NoMemory }
 {
     for i in 0..history.len() {
@@ -108,6 +113,7 @@ fn put_history(history: &[Entry<Core>], out: &mut Vec<u8>) -> Result<(), Errno>
     requires few { length history.now < 2 ^ 32 }
     requires texts { Each HasText history.now }
     ensures ok { OnOk result (out.new.items ≡ out.old.items ++ history_text history.now) }
+    ensures told { OnOk result (AreTold 0 history.now) }
     ensures memory_alone { IsOkUnless result Errno.NoMemory }
 {
     out.extend_from_slice(b"== history ")?;
@@ -130,6 +136,7 @@ pub fn output_of(
     requires few { length history.now < 2 ^ 32 }
     requires texts { Each HasText history.now }
     ensures ok { IfOk result (λ text. text.items ≡ output (sections_of script.now) (record { setup = setup.now; actors = actors.now; last = last.now }) history.now) }
+    ensures told { OnOk result (AreTold 0 history.now) }
     ensures memory_alone { IsOkUnless result Errno.NoMemory }
 {
     let mut out = Vec::new(alloc);

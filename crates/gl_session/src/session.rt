@@ -89,9 +89,11 @@ pub fn run<R: Threads + Wait + Sync, S: Source, K: Sink, D: Driver<Core>>(
     ensures refused_read_through { result ≡ Status.Refused → (bytes : List ℕ) × ReadsThrough (S.left source.old) (S.left source.new) bytes }
     ensures refused_written { result ≡ Status.Refused → (refusal : Refusal) × Appends (K.held sink.old) (K.held sink.new) (refused_line refusal) }
 
-    // A fault of writing comes only where the sink counted one in this call, and leaves a front of the output.
+    // A fault of writing comes only where the sink counted one in this call, once a session was read through, and leaves a front of the
+    // output.
     ensures write_fault { result ≡ Status.WriteFault → Rises (K.fault_count sink.old) (K.fault_count sink.new) }
     ensures write_fault_told { K.fault_count sink.old < K.fault_count sink.new → result ≡ Status.WriteFault }
+    ensures write_fault_read_through { result ≡ Status.WriteFault → words.now ≡ [] → (bytes : List ℕ) × ReadsThrough (S.left source.old) (S.left source.new) bytes }
     ensures write_fault_front { result ≡ Status.WriteFault → words.now ≡ [] → IfSome (S.left source.old) (λ input.
         (text : List ℕ) × IsOutput D.is_planned (told_at D.Port.told ports.old) (told_at D.Port.told ports.new) input text
         × AppendsFront (K.held sink.old) (K.held sink.new) text) }
@@ -158,6 +160,7 @@ fn run_session<R: Threads + Wait + Sync, S: Source, K: Sink, D: Driver<Core>>(
     ensures refused_written { result ≡ Status.Refused → (refusal : Refusal) × Appends (K.held sink.old) (K.held sink.new) (refused_line refusal) }
     ensures write_fault { result ≡ Status.WriteFault → Rises (K.fault_count sink.old) (K.fault_count sink.new) }
     ensures write_fault_told { K.fault_count sink.old < K.fault_count sink.new → result ≡ Status.WriteFault }
+    ensures write_fault_read_through { result ≡ Status.WriteFault → (bytes : List ℕ) × ReadsThrough (S.left source.old) (S.left source.new) bytes }
     ensures write_fault_front { result ≡ Status.WriteFault → IfSome (S.left source.old) (λ input.
         (text : List ℕ) × IsOutput D.is_planned (told_at D.Port.told ports.old) (told_at D.Port.told ports.new) input text
         × AppendsFront (K.held sink.old) (K.held sink.new) text) }

@@ -14,6 +14,10 @@ const TWO_ACTORS: &[u8] =
 const TWO_ACTORS_TEXT: &[u8] =
     b"== setup\n== actor a\ngpiochip0 [demo] (1 lines)\n== actor b\nEBADF\n== after\ngpiochip0 [demo] (1 lines)\n== history 7\n0 0 probe demo 1 sim -> ok 0\n1 1 open 0 -> ok 3\n2 1 ioctl 0 3 0x8044b401 68 00*68 -> ok\n3 1 close 3 -> ok\n4 0 open 0 -> ok 4\n5 0 ioctl 0 4 0x8044b401 68 00*68 -> ok\n6 0 close 4 -> ok\n";
 
+/// The same with a statement that costs nothing in place of the poll: it costs seven, as many as the entries that it makes.
+const COSTS_ALL: &[u8] =
+    b"session 1\nsetup\nprobe demo 1\nactor a\ngpiodetect 0\nactor b\nclose nothing\nafter\ngpiodetect 0\n";
+
 #[test]
 fn sessions_run_in_pieces_of_any_length(rt: HostRuntime) -> Result<(), Fail> {
     for piece in [1, 3, 64] {
@@ -85,4 +89,9 @@ fn one_line_is_written_for_words_and_for_bytes_that_are_not_run(
 #[test]
 fn texts_of_two_actors_stand_before_their_history(rt: HostRuntime) -> Result<(), Fail> {
     check(&rt, &[], TWO_ACTORS, &PLAIN, 0, TWO_ACTORS_TEXT)
+}
+
+#[test]
+fn several_actors_make_as_many_entries_as_their_session_costs(rt: HostRuntime) -> Result<(), Fail> {
+    check(&rt, &[], COSTS_ALL, &PLAIN, 0, TWO_ACTORS_TEXT)
 }

@@ -1,0 +1,30 @@
+-- What the program writes for a session: over the simulated driver, whose answers are planned, and a new port for each actor.
+use Rattle.std.specs.Prelude.{◌≡◌, ◌≤◌, ◌×◌, ℕ, Bool, true, false, nat_lt, List, length, Option, Some}
+use Rattle.std.specs.Io.KnownBytes.{Appends}
+use Rattle.gl_driver.specs.Told.{Told, new_port}
+use Rattle.gl_script.specs.Section.{SaidSection}
+use Rattle.gl_chip.specs.Values.{OneEntry}
+use Rattle.gl_session.specs.Many.{Many, PlannedTells, Texts, actor_sections}
+use Rattle.gl_session.specs.One.{one, planned}
+use Rattle.gl_session.specs.Output.{AreTold, output}
+
+-- Output of a session of several actors: of texts and a history with Many, whose tells are as planned, and no other history has it.
+pub record PrintsMany (sections : List SaidSection) (text : List ℕ) : Type 0 where
+  pub history : List OneEntry
+  pub texts : Texts
+  pub many : Many sections history texts
+  pub as_planned : PlannedTells sections history texts
+  pub told : AreTold 0 history
+  pub prints : text ≡ output sections texts history
+
+-- With fewer than two actors it is One over the answers of Planned, which is one text.
+abbrev pub PrintsBy : Bool → List SaidSection → List ℕ → Type 0
+PrintsBy true sections text = text ≡ one sections (planned sections)
+PrintsBy false sections text = PrintsMany sections text
+
+abbrev pub Prints : List SaidSection → List ℕ → Type 0
+Prints sections text = PrintsBy (nat_lt (length (actor_sections sections)) 2) sections text
+
+-- the text of a session was written
+abbrev pub HasPrinted : List SaidSection → Option (List ℕ) → Option (List ℕ) → Type 0
+HasPrinted sections old new = (text : List ℕ) × Appends old new text × Prints sections text
