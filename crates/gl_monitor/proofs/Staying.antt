@@ -23,22 +23,22 @@ module _ (old new : Finder) (stays : Stays old new) (next : ℕ) (missing : Opti
   pub begin_stays : (stage : MonitorStage) → stage ≡ Begin → MonitorStays stage
   begin_stays stage e = (
     ap (λ s. monitor_left (monitor_with s new)) e
-    ∙ ap (λ tool. goes_on (begins tool new.base new.made (options_in new.opts))) stays.tool
-    ∙ ap (λ base. goes_on (begins old.tool base new.made (options_in new.opts))) stays.base
-    ∙ ap (λ made. goes_on (begins old.tool old.base made (options_in new.opts))) stays.made
-    ∙ ap (λ opts. goes_on (begins old.tool old.base old.made (options_in opts))) stays.opts
-    ∙ ap (λ s. monitor_left (monitor_with s old)) (sym e),
+        ∙ ap (λ tool. goes_on (begins tool new.base new.made (options_in new.opts))) stays.tool
+        ∙ ap (λ base. goes_on (begins old.tool base new.made (options_in new.opts))) stays.base
+        ∙ ap (λ made. goes_on (begins old.tool old.base made (options_in new.opts))) stays.made
+        ∙ ap (λ opts. goes_on (begins old.tool old.base old.made (options_in opts))) stays.opts
+        ∙ ap (λ s. monitor_left (monitor_with s old)) (sym e),
     ap (λ s. watched_by (monitor_with s new)) e ∙ ap (λ s. watched_by (monitor_with s old)) (sym e),
   )
 
   pub finding_stays : (stage : MonitorStage) → stage ≡ Finding → left new ≡ left old → MonitorStays stage
   finding_stays stage e kept = (
     ap (λ s. monitor_left (monitor_with s new)) e
-    ∙ ap (λ l. then_left l (started new.tool new.base new.made (options_in new.opts))) kept
-    ∙ ap (λ tool. then_left (left old) (started tool new.base new.made (options_in new.opts))) stays.tool
-    ∙ ap (λ base. then_left (left old) (started old.tool base new.made (options_in new.opts))) stays.base
-    ∙ ap (λ made. then_left (left old) (started old.tool old.base made (options_in new.opts))) stays.made
-    ∙ ap (λ opts. then_left (left old) (started old.tool old.base old.made (options_in opts))) stays.opts
-    ∙ ap (λ s. monitor_left (monitor_with s old)) (sym e),
+        ∙ ap (λ l. then_left l (started new.tool new.base new.made (options_in new.opts))) kept
+        ∙ ap (λ tool. then_left (left old) (started tool new.base new.made (options_in new.opts))) stays.tool
+        ∙ ap (λ base. then_left (left old) (started old.tool base new.made (options_in new.opts))) stays.base
+        ∙ ap (λ made. then_left (left old) (started old.tool old.base made (options_in new.opts))) stays.made
+        ∙ ap (λ opts. then_left (left old) (started old.tool old.base old.made (options_in opts))) stays.opts
+        ∙ ap (λ s. monitor_left (monitor_with s old)) (sym e),
     ap (λ s. watched_by (monitor_with s new)) e ∙ ap (λ s. watched_by (monitor_with s old)) (sym e),
   )

@@ -39,19 +39,19 @@ module _ (old new : Finder) (stays : Stays old new) where
   pub finding_stays : (hold : Hold) (stage : SetStage) → stage ≡ SetFinding → left new ≡ left old → SetStays hold stage
   finding_stays hold stage e kept = (
     ap (λ s. set_left (set_with hold s new)) e
-    ∙ ap (λ l. then_left l (behind hold new.made)) kept
-    ∙ ap (λ made. then_left (left old) (behind hold made)) stays.made
-    ∙ ap (λ s. set_left (set_with hold s old)) (sym e),
+        ∙ ap (λ l. then_left l (behind hold new.made)) kept
+        ∙ ap (λ made. then_left (left old) (behind hold made)) stays.made
+        ∙ ap (λ s. set_left (set_with hold s old)) (sym e),
     ap (λ made. held_at made stage) stays.made,
   )
 
   pub begin_stays : (hold : Hold) (stage : SetStage) → stage ≡ SetBegin → SetStays hold stage
   begin_stays hold stage e = (
     ap (λ s. set_left (set_with hold s new)) e
-    ∙ ap (λ tool. goes_on (then_by (finds tool new.base new.made (options_in new.opts)) (behind hold new.made))) stays.tool
-    ∙ ap (λ base. goes_on (then_by (finds old.tool base new.made (options_in new.opts)) (behind hold new.made))) stays.base
-    ∙ ap (λ made. goes_on (then_by (finds old.tool old.base made (options_in new.opts)) (behind hold made))) stays.made
-    ∙ ap (λ opts. goes_on (then_by (finds old.tool old.base old.made (options_in opts)) (behind hold old.made))) stays.opts
-    ∙ ap (λ s. set_left (set_with hold s old)) (sym e),
+        ∙ ap (λ tool. goes_on (then_by (finds tool new.base new.made (options_in new.opts)) (behind hold new.made))) stays.tool
+        ∙ ap (λ base. goes_on (then_by (finds old.tool base new.made (options_in new.opts)) (behind hold new.made))) stays.base
+        ∙ ap (λ made. goes_on (then_by (finds old.tool old.base made (options_in new.opts)) (behind hold made))) stays.made
+        ∙ ap (λ opts. goes_on (then_by (finds old.tool old.base old.made (options_in opts)) (behind hold old.made))) stays.opts
+        ∙ ap (λ s. set_left (set_with hold s old)) (sym e),
     ap (λ made. held_at made stage) stays.made,
   )
