@@ -29,7 +29,7 @@ say_without_answer() {
   if [ -n "$why" ]; then
     say "there is no answer without a proof: ${why//the program/the session}"
     say "this session wants the proved program: ./gpiosess --prove, and then this again"
-    status=7
+    status=8
     return
   fi
   grep -v '^interpreter: no-answer' "$room/said" | tail -n 30 >&2
