@@ -128,7 +128,7 @@ last_entry_snoc (x ∷ y ∷ zs) e = last_entry_snoc (y ∷ zs) e
 pub last_entry_on : (x : OneEntry) (xs : List OneEntry) (e : OneEntry) → last_entry (x ∷ (xs ++ e ∷ [])) ≡ Some e
 last_entry_on x xs e = last_entry_snoc (x ∷ xs) e
 
-last_reply_snoc : (xs : List OneEntry) (e : OneEntry) → last_reply (xs ++ e ∷ []) ≡ Some e.reply
+pub last_reply_snoc : (xs : List OneEntry) (e : OneEntry) → last_reply (xs ++ e ∷ []) ≡ Some e.reply
 last_reply_snoc [] e = refl
 last_reply_snoc (x ∷ []) e = refl
 last_reply_snoc (x ∷ y ∷ zs) e = last_reply_snoc (y ∷ zs) e
@@ -149,7 +149,7 @@ owns_nothing : MayOwn []
 owns_nothing = record { quiet = tt; no_claims = tt }
 
 -- the number in a reply that says Go
-go_is : (reply : Reply) → is_go reply ≡ true → (n : ℕ) × (reply ≡ Go n)
+pub go_is : (reply : Reply) → is_go reply ≡ true → (n : ℕ) × (reply ≡ Go n)
 go_is Done e = absurd (true≢false (sym e))
 go_is (Number n) e = absurd (true≢false (sym e))
 go_is (Go n) e = (n, refl)

@@ -11,3 +11,5 @@ pub mod RequestedFiles
 pub mod RequestedLines
 pub mod CommandCalls
 pub mod CommandResults
+pub mod FaultyLines
+pub mod Answering

@@ -60,7 +60,7 @@ done_no_number (Text t) d = refl
 done_no_number (Ready b) d = refl
 done_no_number (Refused errno) d = refl
 
-below_is_go : (k : ℕ) (reply : Reply) → is_go_below k reply ≡ true → is_go reply ≡ true
+pub below_is_go : (k : ℕ) (reply : Reply) → is_go_below k reply ≡ true → is_go reply ≡ true
 below_is_go k Done d = absurd (true≢false (sym d))
 below_is_go k (Number n) d = absurd (true≢false (sym d))
 below_is_go k (Go n) d = refl

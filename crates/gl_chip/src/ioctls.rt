@@ -1,11 +1,15 @@
 //! Commands on open files, by their numbers.
 
-ghost use Rattle.std.specs.Prelude.{◌≡◌, ◌≢◌, ◌<◌, ◌^◌, ◌++◌, ℕ, List, false, true, Err, length, take, drop, is_some, IfOk};
+ghost use Rattle.std.specs.Prelude.{◌≡◌, ◌≢◌, ◌<◌, ◌^◌, ◌++◌, ℕ, List, false, true, Some, Err, length, take, drop, is_some, IfOk};
+ghost use Rattle.gl_base.specs.Count.{Rises};
 ghost use Rattle.gl_base.specs.declared.errno.Errno.TheVariants.{NoMemory};
 ghost use Rattle.gl_uapi.specs.Command.{command_of};
+ghost use Rattle.gl_uapi.specs.declared.commands.Command.TheVariants.{SetConfig};
 ghost use Rattle.gl_uapi.specs.declared.layout.TheConstants.{LINE_REQUEST_SIZE};
 ghost use Rattle.gl_model.specs.Asked.{lines_asked};
 ghost use Rattle.gl_model.specs.Entries.{is_get_line};
+ghost use Rattle.gl_model.specs.Parts.{is_driver_asked};
+ghost use Rattle.gl_chip.specs.Answering.{AnswersInOrder, ConfiguresInOrder, RequestsInOrder, WasLetIn};
 ghost use Rattle.gl_chip.specs.Commanding.{CommandsOut, TakesMemory, op_for, requested_of};
 ghost use Rattle.gl_chip.specs.Handed.{command_in};
 ghost use Rattle.gl_chip.specs.Results.{done_of};
@@ -34,9 +38,12 @@ impl<D: Driver<Core>> Gpio<D> {
     ///
     /// `NoDev` where the removal of the chip had closed the place; `BadF` where no open file has this number at this place;
     /// `Inval` where the command isn't one of the file that has this number here (a chip's, where the file is of this device);
-    /// `Fault` where the buffer is shorter than the command's structure; then the command's own refusals; of GET_LINE `Io`
-    /// where the driver failed, which its port has counted, or where a line is to be an output and is locked as an enabled
-    /// interrupt, and `NoMemory`; `Full` where the history is full.
+    /// `Fault` where the buffer is shorter than the command's structure; then the command's own refusals; `Full` where the
+    /// history is full. GET_LINE is refused for its bytes alone, with `MFile` where no more file can be open, and then for
+    /// its first faulty line: `Inval` where the chip has no such line, `Busy` where somebody has it, it stands earlier in the
+    /// request or its pin is held, `NxIo` where it is to tell of edges and has no interrupt, `Io` where it is to be an output
+    /// and is locked as an enabled interrupt. `Io` also comes where the driver failed, which its port has counted, and
+    /// `NoMemory` where the ring found none.
     pub fn chip_ioctl<R: Wait>(
         &self,
         rt: &R,
@@ -57,6 +64,10 @@ impl<D: Driver<Core>> Gpio<D> {
             × CommandsOut D.Port.told D.Port.faults D.OwnEntries D.ENTRIES D.is_planned
             (requested_of fd.now.place lines) result (op_for lines c) actor.old c bytes actor.new }
         ensures file { IfOk result (λ file. is_some file ≡ is_get_line (command_of cmd)) }
+        ensures told { is_driver_asked true (length buf.old) (command_of cmd) ≡ true → WasLetIn result → let c = command_in fd.now.place fd.now.fd true cmd buf.old in
+            AnswersInOrder (requested_of fd.now.place (lines_asked (take LINE_REQUEST_SIZE c.bytes))) result actor.old.pass.view actor.new.pass.view c }
+        ensures first_faulty { is_driver_asked true (length buf.old) (command_of cmd) ≡ true → WasLetIn result → let c = command_in fd.now.place fd.now.fd true cmd buf.old in
+            RequestsInOrder (Rises (D.Port.faults actor.old.port) (D.Port.faults actor.new.port)) result actor.old.pass.view actor.new.pass.view c }
     {
         let (place, fd) = (fd.place, fd.fd);
         if is_driver_asked(true, buf.len() as u32, cmd) {
@@ -81,8 +92,10 @@ impl<D: Driver<Core>> Gpio<D> {
     /// `NoDev` where the removal of the chip had closed the place; `BadF` where no open file has this number at this place;
     /// `Inval` where the command isn't one of the file that has this number here (a request, where the file is of this
     /// device); `Fault` where the buffer is shorter than the command's structure; then the command's own refusals; `Io` where
-    /// the driver failed, which its port has counted, and of SET_CONFIG also where a line is to be an output and is locked as an
-    /// enabled interrupt; `Full` where the history is full.
+    /// the driver failed, which its port has counted; `Full` where the history is full. SET_CONFIG is refused for its bytes
+    /// alone, and then, before the driver is asked and again after it, for the first faulty line among those to which it
+    /// gives a direction: `NxIo` where it is to tell of edges and has no interrupt, `Io` where it is to be an output and is
+    /// locked as an enabled interrupt.
     pub fn line_ioctl<R: Wait>(
         &self,
         rt: &R,
@@ -99,6 +112,11 @@ impl<D: Driver<Core>> Gpio<D> {
             (bytes : List ℕ) × (buf.new ≡ bytes ++ drop (length bytes) buf.old)
             × CommandsOut D.Port.told D.Port.faults D.OwnEntries D.ENTRIES D.is_planned
             done_of result (op_for fd.now.lines c) actor.old c bytes actor.new }
+        ensures told { is_driver_asked false (length buf.old) (command_of cmd) ≡ true → WasLetIn result → let c = command_in fd.now.place fd.now.fd false cmd buf.old in
+            AnswersInOrder done_of result actor.old.pass.view actor.new.pass.view c }
+        ensures first_faulty { command_of cmd ≡ Some SetConfig → is_driver_asked false (length buf.old) (command_of cmd) ≡ true → WasLetIn result
+            → let c = command_in fd.now.place fd.now.fd false cmd buf.old in
+            ConfiguresInOrder (Rises (D.Port.faults actor.old.port) (D.Port.faults actor.new.port)) result actor.new.pass.view c }
     {
         let file = OpenFile {
             place: fd.place,

@@ -1,6 +1,7 @@
 //! GET_LINE: a request of lines on an open chip.
 
 ghost use Rattle.std.specs.Prelude.{◌≡◌, ◌≢◌, ◌<◌, ◌^◌, ◌++◌, ℕ, List, true, None, Err, length, take, drop, is_some, IfOk, IfErr};
+ghost use Rattle.gl_base.specs.Count.{Rises};
 ghost use Rattle.gl_base.specs.Lines.{IsLineCount};
 ghost use Rattle.gl_base.specs.declared.errno.Errno.TheVariants.{NoMemory};
 ghost use Rattle.gl_base.specs.declared.limits.TheConstants.{PLACES};
@@ -13,6 +14,7 @@ ghost use Rattle.gl_model.specs.Entries.{is_get_line};
 ghost use Rattle.gl_model.specs.Fits.{FitsGift};
 ghost use Rattle.gl_model.specs.Parts.{is_driver_asked};
 ghost use Rattle.gl_model.specs.Written.{number_answered};
+ghost use Rattle.gl_chip.specs.Answering.{AnswersInOrder, RequestsInOrder, WasLetIn};
 ghost use Rattle.gl_chip.specs.Commanding.{CommandsOut, TakesMemory, op_for, requested_of};
 ghost use Rattle.gl_chip.specs.Handed.{command_in};
 ghost use Rattle.gl_chip.specs.Values.{IsActorOf, IsSameActor};
@@ -86,6 +88,10 @@ impl<D: Driver<Core>> Gpio<D> {
             × CommandsOut D.Port.told D.Port.faults D.OwnEntries D.ENTRIES D.is_planned
             (requested_of place lines) result (op_for lines c) actor.old c bytes actor.new }
         ensures file { IfOk result (λ file. is_some file ≡ is_get_line (command_of cmd)) }
+        ensures told { WasLetIn result → let c = command_in place fd true cmd buf.old in
+            AnswersInOrder (requested_of place (lines_asked (take LINE_REQUEST_SIZE c.bytes))) result actor.old.pass.view actor.new.pass.view c }
+        ensures first_faulty { WasLetIn result → let c = command_in place fd true cmd buf.old in
+            RequestsInOrder (Rises (D.Port.faults actor.old.port) (D.Port.faults actor.new.port)) result actor.old.pass.view actor.new.pass.view c }
     {
         let bytes = handed_in(buf);
         let op = request_op(&bytes);
@@ -105,8 +111,13 @@ impl<D: Driver<Core>> Gpio<D> {
                     fd,
                     of_chip: true,
                 };
+                // What holds of every actor is known once it has told its number.
+                let _before = actor.number();
                 match self.driven_command(rt, actor, file, cmd, &op, &mut gift, buf) {
-                    Ok(reply) => requested(place, &lines_named(&bytes), reply),
+                    Ok(reply) => {
+                        let _after = actor.number();
+                        requested(place, &lines_named(&bytes), reply)
+                    }
                     Err(errno) => Err(errno),
                 }
             }

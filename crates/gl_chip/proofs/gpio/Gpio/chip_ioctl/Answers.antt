@@ -2,6 +2,7 @@ use Rattle.std.proofs.Common.{◌≡◌, ℕ, List, [], ◌++◌, length, take, 
 use Rattle.gl_base.specs.declared.lines.Lines.{Lines}
 use Rattle.gl_uapi.specs.declared.layout.TheConstants.{LINE_REQUEST_SIZE}
 use Rattle.gl_model.specs.Asked.{lines_asked}
+use Rattle.gl_chip.specs.Answering.{AnswersInOrder}
 use Rattle.gl_chip.specs.Commanding.{CommandsOut, op_for, request_in, requested_of}
 use Rattle.gl_chip.specs.Files.{ChipFile, LineFile}
 use Rattle.gl_chip.specs.Handed.{command_in, handed_in}
@@ -37,3 +38,8 @@ returns-in-Err-clause-called g c = let full = c.in-Err.ensures.full in
 pub returns-in-Ok-clause-file : goal.returns-in-Ok-clause-file
 returns-in-Ok-clause-file g c = let h = c.in-Ok.ensures.called in
     file_where_requested 0 c.args.actor.now.pass.view c.whole_command.new.actor.pass.view (command_in c.fd.inside.place c.fd.inside.fd true c.args.cmd c.args.buf.now) c.in-Ok.reply h.0 c.fd.inside.place c.lines_named-lines.result c.requested.result c.requested.ensures h.2
+
+pub returns-then-is_driver_asked-clause-told : goal.returns-then-is_driver_asked-clause-told
+returns-then-is_driver_asked-clause-told g c = λ _ let_in.
+    subst (λ (f : ChipFile). AnswersInOrder (requested_of f.place (lines_asked (take LINE_REQUEST_SIZE (handed_in c.args.buf.now)))) c.get_line.result c.args.actor.now.pass.view c.get_line.new.actor.pass.view (command_in f.place f.fd true c.args.cmd c.args.buf.now))
+    c.fd.view_is (c.get_line.ensures.told let_in)

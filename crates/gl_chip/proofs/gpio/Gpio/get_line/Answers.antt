@@ -9,6 +9,7 @@ use Rattle.gl_model.specs.Parts.{Commanding}
 use Rattle.gl_chip.specs.Commanding.{HasCommanded, IsOp, op_for, request_in, requested_of}
 use Rattle.gl_chip.specs.Files.{LineFile}
 use Rattle.gl_chip.specs.Handed.{command_in, handed_in}
+use Rattle.gl_chip.proofs.Answering.{answers_in_order, requests_in_order}
 use Rattle.gl_chip.proofs.CommandResults.{command_is_full, command_is_made}
 use Rattle.gl_chip.proofs.RequestedFiles.{file_where_requested}
 use Rattle.gl_chip.proofs.RequestedLines.{lines_are_some, number_below, only_get_line, op_goes, op_is_for, takes_memory}
@@ -63,3 +64,21 @@ returns-in-Ok-driven_command-clause-file g c = let h = c.in-Ok-driven_command.en
 
 pub returns-in-Err-clause-same : goal.returns-in-Err-clause-same
 returns-in-Err-clause-same g c = same_actor c.args.actor.now.pass.view
+
+pub returns-in-Ok-driven_command-clause-told : goal.returns-in-Ok-driven_command-clause-told
+returns-in-Ok-driven_command-clause-told g c = let h = c.in-Ok-driven_command.ensures.commanded in
+    let command = only_get_line (length c.args.buf.now) (command_of c.args.cmd) c.requires.asked in
+    let named : Lines = lines_asked (take LINE_REQUEST_SIZE (handed_in c.args.buf.now)) in
+    λ let_in. answers_in_order g.D.Port.Port.told g.D.Port.Port.faults g.D.Driver.OwnEntries g.D.Driver.ENTRIES g.D.Driver.is_planned {X = Option LineFile} (request_in c.args.place named) c.requested.result c.request_op-op.result c.args.actor.now c.driven_command.new.actor
+    (command_in c.args.place c.args.fd true c.args.cmd c.args.buf.now) c.in-Ok-driven_command.reply h.0 h.2
+    (subst (λ (l : Lines). c.requested.result ≡ requested_of c.args.place l c.in-Ok-driven_command.reply) (c.lines_named.ensures ∙ ap (λ (b : List ℕ). lines_asked (take LINE_REQUEST_SIZE b)) c.handed_in-bytes.ensures) c.requested.ensures)
+    c.requires.asked let_in.2 (λ _. (command, c.number-after.ensures.idle, c.number-after.ensures.own))
+
+pub returns-in-Ok-driven_command-clause-first_faulty : goal.returns-in-Ok-driven_command-clause-first_faulty
+returns-in-Ok-driven_command-clause-first_faulty g c = let h = c.in-Ok-driven_command.ensures.commanded in
+    let command = only_get_line (length c.args.buf.now) (command_of c.args.cmd) c.requires.asked in
+    let named : Lines = lines_asked (take LINE_REQUEST_SIZE (handed_in c.args.buf.now)) in
+    λ let_in. requests_in_order g.D.Port.Port.told g.D.Port.Port.faults g.D.Driver.OwnEntries g.D.Driver.ENTRIES g.D.Driver.is_planned {X = Option LineFile} (request_in c.args.place named) c.requested.result c.request_op-op.result c.args.actor.now c.driven_command.new.actor
+    (command_in c.args.place c.args.fd true c.args.cmd c.args.buf.now) c.in-Ok-driven_command.reply h.0 h.2
+    (subst (λ (l : Lines). c.requested.result ≡ requested_of c.args.place l c.in-Ok-driven_command.reply) (c.lines_named.ensures ∙ ap (λ (b : List ℕ). lines_asked (take LINE_REQUEST_SIZE b)) c.handed_in-bytes.ensures) c.requested.ensures)
+    c.requires.asked let_in.2 command refl c.number-before.ensures.idle c.number-after.ensures.idle c.number-after.ensures.own

@@ -1,10 +1,14 @@
-use Rattle.std.proofs.Common.{◌≡◌, ℕ, List, [], ◌++◌, length, drop, false, Option, Some, sym, subst}
+use Rattle.std.proofs.Common.{◌≡◌, ℕ, List, [], ◌++◌, length, drop, false, Option, Some, sym, refl, subst, true, ◌∙◌}
+use Rattle.std.proofs.lemmas.Bool.{true≢false}
 use Rattle.gl_driver.specs.declared.op.Op.{Op}
 use Rattle.gl_uapi.specs.Command.{command_of}
+use Rattle.gl_base.specs.Count.{Rises}
+use Rattle.gl_chip.specs.Answering.{AnswersInOrder, ConfiguresInOrder}
 use Rattle.gl_chip.specs.Commanding.{CommandsOut, HasCommanded, op_for, op_of}
 use Rattle.gl_chip.specs.Files.{LineFile}
 use Rattle.gl_chip.specs.Handed.{command_in}
 use Rattle.gl_chip.specs.Results.{done_of}
+use Rattle.gl_chip.proofs.Answering.{answers_in_order, configures_in_order, no_get_line}
 use Rattle.gl_chip.proofs.CommandResults.{command_is_full, command_is_made, whole_comes_out}
 use Rattle.gl_chip.proofs.gpio.Gpio.line_ioctl.Goals as goal
 
@@ -39,3 +43,17 @@ returns-clause-called g c = let full = c.in-Err.ensures.full in (
   command_is_full g.D.Port.Port.told g.D.Port.Port.faults g.D.Driver.OwnEntries g.D.Driver.ENTRIES g.D.Driver.is_planned {X = Unit {0}} (λ _. tt) c.in-Err.errno (op_for c.args.fd.now.lines (command_in c.args.fd.now.place c.args.fd.now.fd false c.args.cmd c.args.buf.now))
       c.args.actor.now c.driven_command.new.actor (command_in c.args.fd.now.place c.args.fd.now.fd false c.args.cmd c.args.buf.now) full.0 full.3 full.2,
 )
+
+pub returns-in-Ok-clause-told : goal.returns-in-Ok-clause-told
+returns-in-Ok-clause-told g c = let h = c.in-Ok.ensures.commanded in
+    λ asks let_in. subst (λ (f : LineFile). AnswersInOrder done_of c.done.result c.args.actor.now.pass.view c.driven_command.new.actor.pass.view (command_in f.place f.fd false c.args.cmd c.args.buf.now)) c.fd.view_is
+    (answers_in_order g.D.Port.Port.told g.D.Port.Port.faults g.D.Driver.OwnEntries g.D.Driver.ENTRIES g.D.Driver.is_planned {X = Unit {0}} (λ _. tt) c.done.result (Some c.in-Some.op) c.args.actor.now c.driven_command.new.actor
+    (command_in c.fd.inside.place c.fd.inside.fd false c.args.cmd c.args.buf.now) c.in-Ok.reply h.0 h.2 c.done.ensures asks let_in.2
+    (λ of_get_line. absurd (true≢false (sym of_get_line ∙ no_get_line (length c.args.buf.now) (command_of c.args.cmd) asks))))
+
+pub returns-in-Ok-clause-first_faulty : goal.returns-in-Ok-clause-first_faulty
+returns-in-Ok-clause-first_faulty g c = let h = c.in-Ok.ensures.commanded in
+    λ command asks let_in. subst (λ (f : LineFile). ConfiguresInOrder (Rises (g.D.Port.Port.faults c.args.actor.now.port) (g.D.Port.Port.faults c.driven_command.new.actor.port)) c.done.result c.driven_command.new.actor.pass.view
+    (command_in f.place f.fd false c.args.cmd c.args.buf.now)) c.fd.view_is
+    (configures_in_order g.D.Port.Port.told g.D.Port.Port.faults g.D.Driver.OwnEntries g.D.Driver.ENTRIES g.D.Driver.is_planned {X = Unit {0}} (λ _. tt) c.done.result (Some c.in-Some.op) c.args.actor.now c.driven_command.new.actor
+    (command_in c.fd.inside.place c.fd.inside.fd false c.args.cmd c.args.buf.now) c.in-Ok.reply h.0 h.2 c.done.ensures asks let_in.2 command refl)
