@@ -1,0 +1,6 @@
+pub mod Back
+pub mod Commands
+pub mod Flags
+pub mod Structures
+pub mod To
+pub mod Values
