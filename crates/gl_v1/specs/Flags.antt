@@ -1,6 +1,6 @@
 -- A word of flags of the first uAPI and one of v2: a flag has the same name in both, and another bit. One table of
 -- pairs is read both ways.
-use Rattle.std.specs.Prelude.{ℕ, ◌^◌, nat_lt, if◌then◌else◌, List, [], ◌∷◌, bit_or, length}
+use Rattle.std.specs.Prelude.{ℕ, ◌^◌, nat_lt, if◌then◌else◌, List, [], ◌∷◌, bit_or, length, map}
 use Rattle.gl_base.specs.Bits.{has_bit}
 use Rattle.gl_base.specs.declared.flag.TheConstants.{INPUT}
 use Rattle.gl_v1.specs.declared.flags.FlagPair.{FlagPair}
@@ -34,3 +34,11 @@ older_word table word = older table word 0
 abbrev pub event_word : List FlagPair → List FlagPair → ℕ → ℕ → ℕ
 event_word handle_table event_table handle_flags event_flags =
     bit_or (bit_or (newer_word handle_table handle_flags) (newer_word event_table event_flags)) (2 ^ INPUT)
+
+-- the bits of a table's flags in the first uAPI
+abbrev pub old_bits : List FlagPair → List ℕ
+old_bits table = map (λ pair. pair.old) table
+
+-- those in v2
+abbrev pub new_bits : List FlagPair → List ℕ
+new_bits table = map (λ pair. pair.new) table

@@ -9,6 +9,7 @@ mod commands;
 pub mod flags;
 pub mod laws;
 pub mod layout;
+pub mod numbers;
 mod receiving;
 mod sending;
 pub mod values;
