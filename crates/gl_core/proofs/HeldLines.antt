@@ -1,6 +1,7 @@
 -- The lines that a request has: they are known of each world that calls lead to, and an edge keeps them.
-use Rattle.std.proofs.Common.{◌≡◌, ℕ, Bool, true, false, cond, ◌<◌, List, [], ◌∷◌, ◌++◌, map, Option, Some, None, refl, ap, ◌∙◌, subst}
+use Rattle.std.proofs.Common.{◌≡◌, ℕ, Bool, true, false, cond, ◌<◌, List, [], ◌∷◌, ◌++◌, map, Option, Some, None, refl, ap, ◌∙◌, subst, arith}
 use Rattle.std.specs.Prelude.{nat_eq, ◌==◌, ◌&&◌}
+use Rattle.std.proofs.lemmas.Bool.Decides.{nat_tests}
 use Rattle.std.specs.List.{find, list_any}
 use Rattle.std.specs.Option.{option_map}
 use Rattle.gl_base.specs.Lines.{offsets_of}
@@ -15,6 +16,7 @@ use Rattle.gl_model.specs.declared.place.Place.{Place}
 use Rattle.gl_model.specs.Edges.{position_in, request_number}
 use Rattle.gl_model.specs.Holders.{HoldersAgree, has_line, has_line_at, holder_at, taken_by}
 use Rattle.gl_model.specs.World.{World, Request, has_number, request_at as request_in}
+use Rattle.gl_watch.specs.Files.{file_at}
 use Rattle.gl_watch.specs.declared.file.ChipFile.{ChipFile}
 use Rattle.gl_core.specs.Claims.{NumbersAreBelow}
 use Rattle.gl_core.specs.HeldLines.{HoldersHaveLines, is_line_of, noted_at}
@@ -59,6 +61,21 @@ numbers_known k reached =
     let in_world : Each (IsBelow w.next) (map kept_request w.requests) =
     numbers_in w.next w.requests (map (λ (file : ChipFile). file.fd) w.files) reached.good.holders.numbers_below in
     subst NumbersAreBelow reached.stands.kept_so (record { each = in_world })
+
+-- and so is each file's, so the next number is a new one
+none_has : (next : ℕ) (numbers : List ℕ) (files : List ChipFile) → Each (λ fd. fd < next) (numbers ++ map (λ (file : ChipFile). file.fd) files) → file_at next files ≡ None
+none_has next [] [] each = refl
+none_has next [] (file ∷ files) each =
+    let below : file.fd < next = each.0 in
+    let other : (file.fd == next) ≡ false = grind (arith, nat_tests) in
+    ap (λ b. cond b (Some file) (file_at next files)) other ∙ none_has next [] files each.1
+none_has next (n ∷ numbers) files each = none_has next numbers files each.1
+
+pub next_is_new : (k : Kept) → IsReached k → file_at k.next k.files ≡ None
+next_is_new k reached =
+    let w : World = reached.world in
+    subst (λ (k : Kept). file_at k.next k.files ≡ None) reached.stands.kept_so
+    (none_has w.next (map (λ (request : Request). request.fd) w.requests) w.files reached.good.holders.numbers_below)
 
 -- after an edge
 

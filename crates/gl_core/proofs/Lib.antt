@@ -7,6 +7,7 @@ pub mod FindingLines
 pub mod KeptRequests
 pub mod LineByLine
 pub mod Notified
+pub mod OneHolder
 pub mod RequestLines
 pub mod OpenRequests
 pub mod Parts

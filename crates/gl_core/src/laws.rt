@@ -1,9 +1,8 @@
 //! The laws of the core: what is true of it at every moment, and what its calls are known to keep. Each is a function with nothing
-//! to do: its contract is the law, and a caller gets it by the call. Those of the machine, over worlds, stand in `gl_model`.
+//! to do: its contract is the law, and a caller gets it by the call. Those of the machine, over worlds, stand in `gl_model`, and those of
+//! its steps over whole histories at [`Core`]'s `step`.
 
 ghost use Rattle.gl_model.specs.Refusing.{RefusalsLeaveAll};
-ghost use Rattle.gl_model.specs.Rings.{ReadsSpellEvents, RingsKeepOrder};
-ghost use Rattle.gl_core.specs.Kept.{StandsFor};
 ghost use Rattle.gl_core.specs.KeptEdges.{KeptRequestsKeepEdges};
 ghost use Rattle.gl_core.specs.Refusing.{RefusalsLeaveTheCore};
 ghost use Rattle.gl_core.specs.WellKept.{IsWellKept};
@@ -35,14 +34,4 @@ pub fn refusals_leave_all()
     ensures core { RefusalsLeaveTheCore }
 {
     answers::refusals_leave_all();
-}
-
-/// Behind every legal history of the core, and whatever happens: what all reads of a request gave, joined in order, are some of the
-/// events that came to it, in order; and while the request is there, an event is missing exactly where the one that as many numbers
-/// later came as the ring has places was there before it was read. What a read gave is what it wrote.
-pub fn rings_keep_order()
-    ensures order { RingsKeepOrder StandsFor }
-    ensures spelled { ReadsSpellEvents }
-{
-    answers::rings_keep_order::<Core>();
 }

@@ -1,10 +1,12 @@
 //! The core as a machine.
 
-ghost use Rattle.std.specs.Prelude.{◌≡◌, IfOk, IsOkUnless};
+ghost use Rattle.std.specs.Prelude.{◌≡◌, ◌++◌, IfOk, IsOkUnless, drop, length};
 ghost use Rattle.gl_model.specs.Chips.{phase_at};
 ghost use Rattle.gl_model.specs.Entries.{awaited_call, begins, begun_places, ends, guarded_place, is_last_removal, last_call, refused_place};
 ghost use Rattle.gl_model.specs.Fits.{Fits, FitsCall, Leaves};
+ghost use Rattle.gl_model.specs.Holds.{HasOneHolder, OneHolder};
 ghost use Rattle.gl_model.specs.Machine.{bytes_of, remover_of, reply_of, world_after};
+ghost use Rattle.gl_model.specs.Rings.{GapsAreOldest, ReadsInOrder, ReadsSpellEvents};
 ghost use Rattle.gl_model.specs.Sound.{IsSound};
 ghost use Rattle.gl_model.specs.World.{World, opening};
 ghost use Rattle.gl_model.proofs.MachineLaws.{machine_laws};
@@ -89,7 +91,24 @@ impl Machine for Core {
 
     ghost awaited_call = { awaited_call };
 
-    fn step(&mut self, actor: u8, call: &Call, gift: &mut Gift, out: &mut [u8]) -> Reply {
+    /// Makes a call for an actor, as the machine does. The other clauses are the laws of its steps, over every legal history and
+    /// every list of events. No two holds have the same place and offset, neither in the worlds that the core stands for nor in any
+    /// that a legal history leads to. What all reads of a request gave, joined in order, are some of its events in order, and each
+    /// read wrote the events that it gave. While a request is there, an event is neither read nor waiting exactly where the event as
+    /// many numbers later as its ring has places came before it was read.
+    fn step(&mut self, actor: u8, call: &Call, gift: &mut Gift, out: &mut [u8]) -> Reply
+        requires { Fits call.now gift.old out.old }
+        ensures world { (w : World) → StandsFor self.old w → StandsFor self.new (world_after w actor call.now) }
+        ensures reply { (w : World) → StandsFor self.old w → result ≡ reply_of w actor call.now }
+        ensures bytes { (w : World) → StandsFor self.old w
+            → let bytes = bytes_of w actor call.now in out.new ≡ bytes ++ drop (length bytes) out.old }
+        ensures gift { Leaves call.now result gift.old gift.new }
+        ensures one_holder { (w : World) → StandsFor self.new w → HasOneHolder w }
+        ensures always_one_holder { OneHolder StandsFor }
+        ensures reads_in_order { ReadsInOrder StandsFor }
+        ensures reads_spell_events { ReadsSpellEvents }
+        ensures gaps_are_oldest { GapsAreOldest StandsFor }
+    {
         self.state.step(actor, call, gift, out)
     }
 

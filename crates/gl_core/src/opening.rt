@@ -6,6 +6,7 @@ ghost use Rattle.gl_base.specs.Rows.{Each};
 ghost use Rattle.gl_base.specs.declared.limits.TheConstants.{FILES_MAX};
 ghost use Rattle.gl_request.specs.Request.{StandsAt, request_at as row_at};
 ghost use Rattle.gl_request.specs.declared.row.RequestRow.{RequestRow};
+ghost use Rattle.gl_watch.specs.Files.{file_at};
 ghost use Rattle.gl_model.specs.declared.call.Call.TheVariants.{OpenChip};
 ghost use Rattle.gl_model.specs.Fits.{FitsGift, Leaves};
 ghost use Rattle.gl_model.specs.Opening.{close, close_request, open_chip, open_refusal, with_file, without_deadlines_at};
@@ -27,6 +28,7 @@ impl State {
     /// that is up or leaving has the word; then the refusals of [`State::open_refusal`].
     pub(crate) fn open_chip(&mut self, word: &Path, gift: &mut Gift) -> Reply
         requires brings { FitsGift (OpenChip word.now) gift.old }
+        requires reached { IsReached self.old }
         ensures steps { Steps (open_chip word.now) self.old self.new result }
         ensures leaves { Leaves (OpenChip word.now) result gift.old gift.new }
     {
@@ -61,6 +63,7 @@ impl State {
         requires empty { queue ≡ [] }
         requires room { length self.old.files < FILES_MAX }
         requires next { self.old.next < 2 ^ 31 }
+        requires number { file_at self.old.next self.old.files ≡ None }
         ensures { Follows (with_file place) self.old self.new }
     {
         self.files.add(self.next, place, queue);

@@ -15,12 +15,16 @@ use gl_rule::{BackOut, Close, CountInside, Enter, Leave};
 use gl_world::Machine;
 use std::sync::Wait;
 use std::thread;
+use std::time::Duration;
 
 /// The bit of a guard word that says that its place is closed. Below it is the count of those inside.
 const CLOSED: u64 = 1 << 63;
 
 /// The word of the guard of place 0. Those of the other places follow it.
 const FIRST_GUARD: usize = 2;
+
+/// How many microseconds who waits for a place to drain sleeps between two looks.
+const NAP: u64 = 100;
 
 impl<M: Machine> Gate<M> {
     /// Enters a place. False where the place was closed, which the pass then knows.
@@ -114,11 +118,15 @@ impl<M: Machine> Gate<M> {
         ensures knows { KnowsAsMuch pass.old.view pass.new.view }
         ensures only { LearnsOnlyOf place pass.old.view pass.new.view }
     {
+        let word = place as usize + FIRST_GUARD;
+        let nap = Duration::from_micros(NAP);
         for _ in rt.forever() {
             if self.look(pass, place) {
                 return;
             }
             thread::yield_now();
+            // It sleeps where one pass is left there, and looks again at once where there are more.
+            self.turnstile.table.shared.park_timeout(rt, word, 1, nap);
         }
         unreachable!()
     }

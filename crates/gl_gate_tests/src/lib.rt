@@ -2,18 +2,24 @@
 #![tactic(auto)]
 
 mod adder;
+#[cfg(test)]
 mod adding;
+#[cfg(test)]
 mod asking;
+#[cfg(test)]
 mod core_calls;
 #[cfg(test)]
 mod core_memory_tests;
+#[cfg(test)]
 mod core_passes;
 #[cfg(test)]
 mod core_tests;
 mod errand;
 mod house;
 mod kind;
+#[cfg(test)]
 mod noting;
+#[cfg(test)]
 mod removal;
 #[cfg(test)]
 mod tests;

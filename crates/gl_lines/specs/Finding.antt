@@ -153,3 +153,9 @@ pub record Stays (old new : Finder) : Type 0 where
   pub base : new.base ≡ old.base
   pub made : new.made ≡ old.made
   pub opts : new.opts ≡ old.opts
+
+-- where it stands, and what it has found so far
+pub record StaysThere (old new : Finder) : Type 0 where
+  pub stage : new.stage ≡ old.stage
+  pub next : new.next ≡ old.next
+  pub found : new.found.items ≡ old.found.items

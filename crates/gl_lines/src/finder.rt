@@ -1,9 +1,9 @@
 //! How a tool finds its lines, and requests them where it does.
-ghost use Rattle.std.specs.Prelude.{◌≡◌, ℕ, ◌<◌, ◌≤◌, ◌&&◌, not, [], length, drop, None, IfOk, IsOkUnless, MatchOption, is_some, option_copied};
+ghost use Rattle.std.specs.Prelude.{◌≡◌, ℕ, ◌<◌, ◌≤◌, ◌&&◌, not, false, [], ◌∷◌, ◌++◌, length, drop, take, None, IfOk, OnErr, IsOkUnless, MatchOption, is_some, option_copied};
 ghost use Rattle.gl_args.specs.declared.names.ToolName.{ToolName};
 ghost use Rattle.gl_args.specs.Options.{options_in};
-ghost use Rattle.gl_args.specs.Program.{Goes, given};
-ghost use Rattle.gl_lines.specs.Finding.{offset_said, below_32_bits, word_at, fails, fails_at, fails_looking, leaves, chip_closed, requested, known, opened, all_found, looked, looks, chip_slot, named_opened, finds, has_found, left, Stays};
+ghost use Rattle.gl_args.specs.Program.{Goes, given, goes_on, done};
+ghost use Rattle.gl_lines.specs.Finding.{offset_said, below_32_bits, word_at, fails, fails_at, fails_looking, leaves, chip_closed, requested, known, opened, all_found, looked, looks, chip_slot, named_opened, finds, has_found, left, Stays, StaysThere};
 
 use crate::bytes::request_sent;
 use crate::found_line::{FoundLine, are_apart, offsets_of, place_of};
@@ -59,12 +59,14 @@ pub struct Finder {
 }
 
 impl Finder {
-    /// It hasn't begun.
+    /// It hasn't begun, and has found nothing.
     pub fn new(alloc: Global, tool: ToolName, base: u32, made: u32, opts: Opts) -> Finder
         ensures tool { result.tool ≡ tool }
         ensures base { result.base ≡ base }
         ensures made { result.made ≡ made }
         ensures opts { result.opts ≡ opts }
+        ensures nothing_found { (has_found result.stage ≡ false) × (result.found.items ≡ []) }
+        ensures nothing_left { left result ≡ goes_on (done None) }
     {
         Finder {
             tool,
@@ -77,10 +79,11 @@ impl Finder {
         }
     }
 
-    /// What it does next.
+    /// What it does next. Where memory is wanted, what is left is what was left: it may be called again with the same result.
     pub fn next(&mut self, alloc: Global, got: Option<&Got>) -> Result<Next, Errno>
         ensures goes { IfOk result (λ next. Goes (given (left self.old) (option_copied got.entry)) next (left self.new)) }
         ensures stays { Stays self.old self.new }
+        ensures kept { OnErr result (left self.new ≡ left self.old) }
         ensures memory_alone { IsOkUnless result Errno.NoMemory }
     {
         let none = Got::Done;
@@ -122,10 +125,11 @@ impl Finder {
         }
     }
 
-    /// Begins: the first thing that it does.
+    /// Begins: the first thing that it does. Where memory is wanted it may begin again.
     pub fn begin(&mut self, alloc: Global) -> Result<Next, Errno>
         ensures goes { IfOk result (λ next. Goes (finds self.old.tool self.old.base self.old.made (options_in self.old.opts)) next (left self.new)) }
         ensures stays { Stays self.old self.new }
+        ensures kept { OnErr result (self.new.stage ≡ self.old.stage) }
         ensures memory_alone { IsOkUnless result Errno.NoMemory }
     {
         match &self.opts.chip {
@@ -144,6 +148,7 @@ impl Finder {
     fn named_opened(&mut self, alloc: Global, refusal: Option<Errno>) -> Result<Next, Errno>
         ensures goes { IfOk result (λ next. Goes (named_opened self.old.tool self.old.base self.old.made (options_in self.old.opts) refusal) next (left self.new)) }
         ensures stays { Stays self.old self.new }
+        ensures kept { OnErr result (self.new.stage ≡ self.old.stage) }
         ensures memory_alone { IsOkUnless result Errno.NoMemory }
     {
         match refusal {
@@ -156,6 +161,7 @@ impl Finder {
     fn look_first(&mut self, alloc: Global) -> Result<Next, Errno>
         ensures goes { IfOk result (λ next. Goes (looks self.old.tool self.old.base self.old.made (options_in self.old.opts) self.old.opts.lines.items []) next (left self.new)) }
         ensures stays { Stays self.old self.new }
+        ensures kept { OnErr result (self.new.stage ≡ self.old.stage) }
         ensures memory_alone { IsOkUnless result Errno.NoMemory }
     {
         self.next = 0;
@@ -167,6 +173,27 @@ impl Finder {
     fn look(&mut self, alloc: Global) -> Result<Next, Errno>
         ensures goes { IfOk result (λ next. Goes (looks self.old.tool self.old.base self.old.made (options_in self.old.opts) (drop self.old.next self.old.opts.lines.items) self.old.found.items) next (left self.new)) }
         ensures stays { Stays self.old self.new }
+        ensures kept { OnErr result (StaysThere self.old self.new) }
+        ensures memory_alone { IsOkUnless result Errno.NoMemory }
+    {
+        let next = self.next;
+        let count = self.found.len();
+        match self.look_on(alloc) {
+            Ok(step) => Ok(step),
+            Err(errno) => {
+                self.next = next;
+                self.found.truncate(count);
+                Err(errno)
+            }
+        }
+    }
+
+    /// The same; where memory is wanted there may be more lines behind those that were found.
+    fn look_on(&mut self, alloc: Global) -> Result<Next, Errno>
+        ensures goes { IfOk result (λ next. Goes (looks self.old.tool self.old.base self.old.made (options_in self.old.opts) (drop self.old.next self.old.opts.lines.items) self.old.found.items) next (left self.new)) }
+        ensures stays { Stays self.old self.new }
+        ensures stage { OnErr result (self.new.stage ≡ self.old.stage) }
+        ensures front { OnErr result (take (length self.old.found.items) self.new.found.items ≡ self.old.found.items) }
         ensures memory_alone { IsOkUnless result Errno.NoMemory }
     {
         let at = take_offsets(&self.opts, self.next, &mut self.found)?;
@@ -197,6 +224,7 @@ impl Finder {
     fn looked(&mut self, alloc: Global, word: &Name, got: &Got) -> Result<Next, Errno>
         ensures goes { IfOk result (λ next. Goes (looked self.old.tool self.old.base self.old.made (options_in self.old.opts) (looks self.old.tool self.old.base self.old.made (options_in self.old.opts) (drop self.old.next self.old.opts.lines.items)) self.old.found.items word.now got.now) next (left self.new)) }
         ensures stays { Stays self.old self.new }
+        ensures kept { OnErr result (StaysThere self.old self.new) }
         ensures memory_alone { IsOkUnless result Errno.NoMemory }
     {
         match got {
@@ -208,16 +236,35 @@ impl Finder {
                 if self.opts.strict && *count > 1 {
                     return self.fail_looking(alloc, Errno::Inval);
                 }
-                self.found.push(FoundLine {
-                    place: *place,
-                    offset: *offset,
-                    name: Some(*word),
-                })?;
-                self.look(alloc)
+                self.look_behind(
+                    alloc,
+                    FoundLine {
+                        place: *place,
+                        offset: *offset,
+                        name: Some(*word),
+                    },
+                )
             }
             Got::Refused(errno) => self.fail_looking(alloc, *errno),
             Got::Done | Got::Number(_) | Got::Text(_) | Got::Bytes(_) | Got::Ready(_) => {
                 self.look(alloc)
+            }
+        }
+    }
+
+    /// Looks for the further lines behind one that was found.
+    fn look_behind(&mut self, alloc: Global, line: FoundLine) -> Result<Next, Errno>
+        ensures goes { IfOk result (λ next. Goes (looks self.old.tool self.old.base self.old.made (options_in self.old.opts) (drop self.old.next self.old.opts.lines.items) (self.old.found.items ++ line ∷ [])) next (left self.new)) }
+        ensures stays { Stays self.old self.new }
+        ensures kept { OnErr result (StaysThere self.old self.new) }
+        ensures memory_alone { IsOkUnless result Errno.NoMemory }
+    {
+        self.found.push(line)?;
+        match self.look(alloc) {
+            Ok(step) => Ok(step),
+            Err(errno) => {
+                let _ = self.found.pop();
+                Err(errno)
             }
         }
     }
@@ -227,6 +274,7 @@ impl Finder {
     fn all_found(&mut self, alloc: Global) -> Result<Next, Errno>
         ensures goes { IfOk result (λ next. Goes (all_found self.old.tool self.old.base self.old.made (options_in self.old.opts) self.old.found.items) next (left self.new)) }
         ensures stays { Stays self.old self.new }
+        ensures kept { OnErr result (self.new ≡ self.old) }
         ensures memory_alone { IsOkUnless result Errno.NoMemory }
     {
         if self.opts.chip.is_some() {
@@ -246,6 +294,7 @@ impl Finder {
     fn opened(&mut self, alloc: Global, refusal: Option<Errno>) -> Result<Next, Errno>
         ensures goes { IfOk result (λ next. Goes (opened self.old.tool self.old.base self.old.made (options_in self.old.opts) self.old.found.items refusal) next (left self.new)) }
         ensures stays { Stays self.old self.new }
+        ensures kept { OnErr result (self.new ≡ self.old) }
         ensures memory_alone { IsOkUnless result Errno.NoMemory }
     {
         match refusal {
@@ -259,6 +308,7 @@ impl Finder {
     fn known(&mut self, alloc: Global) -> Result<Next, Errno>
         ensures goes { IfOk result (λ next. Goes (known self.old.tool self.old.base self.old.made (options_in self.old.opts) self.old.found.items) next (left self.new)) }
         ensures stays { Stays self.old self.new }
+        ensures kept { OnErr result (self.new ≡ self.old) }
         ensures memory_alone { IsOkUnless result Errno.NoMemory }
     {
         if !self.tool.requests_lines() {
@@ -280,6 +330,7 @@ impl Finder {
     fn requested(&mut self, alloc: Global, refusal: Option<Errno>) -> Result<Next, Errno>
         ensures goes { IfOk result (λ next. Goes (requested self.old.tool self.old.base self.old.made (options_in self.old.opts) self.old.found.items refusal) next (left self.new)) }
         ensures stays { Stays self.old self.new }
+        ensures kept { OnErr result (self.new ≡ self.old) }
         ensures memory_alone { IsOkUnless result Errno.NoMemory }
     {
         match refusal {
@@ -294,6 +345,7 @@ impl Finder {
     fn chip_closed(&mut self, alloc: Global, refusal: Option<Errno>) -> Result<Next, Errno>
         ensures goes { IfOk result (λ next. Goes (chip_closed self.old.tool self.old.base self.old.made (options_in self.old.opts) self.old.found.items refusal) next (left self.new)) }
         ensures stays { Stays self.old self.new }
+        ensures kept { OnErr result (self.new ≡ self.old) }
         ensures memory_alone { IsOkUnless result Errno.NoMemory }
     {
         match refusal {
@@ -313,6 +365,7 @@ impl Finder {
     fn fail(&mut self, alloc: Global, errno: Errno) -> Result<Next, Errno>
         ensures goes { IfOk result (λ next. Goes (fails self.old.tool self.old.base self.old.made (options_in self.old.opts) errno) next (left self.new)) }
         ensures stays { Stays self.old self.new }
+        ensures kept { OnErr result (self.new ≡ self.old) }
         ensures memory_alone { IsOkUnless result Errno.NoMemory }
     {
         let text = failed_line(alloc, self.tool, errno)?;
@@ -324,6 +377,7 @@ impl Finder {
     fn fail_open(&mut self, alloc: Global, errno: Errno) -> Result<Next, Errno>
         ensures goes { IfOk result (λ next. Goes (fails_at self.old.tool self.old.base self.old.made (options_in self.old.opts) self.old.base errno) next (left self.new)) }
         ensures stays { Stays self.old self.new }
+        ensures kept { OnErr result (self.new ≡ self.old) }
         ensures memory_alone { IsOkUnless result Errno.NoMemory }
     {
         let text = failed_line(alloc, self.tool, errno)?;
@@ -336,6 +390,7 @@ impl Finder {
     fn fail_looking(&mut self, alloc: Global, errno: Errno) -> Result<Next, Errno>
         ensures goes { IfOk result (λ next. Goes (fails_looking self.old.tool self.old.base self.old.made (options_in self.old.opts) errno) next (left self.new)) }
         ensures stays { Stays self.old self.new }
+        ensures kept { OnErr result (self.new ≡ self.old) }
         ensures memory_alone { IsOkUnless result Errno.NoMemory }
     {
         if self.opts.chip.is_some() {
@@ -354,11 +409,13 @@ impl Finder {
     }
 }
 
-/// Takes the offsets of the lines from `next` on, up to the first that is a name, and answers where that is.
+/// Takes the offsets of the lines from `next` on, up to the first that is a name, and answers where that is. The lines that were
+/// found before stay in front.
 fn take_offsets(opts: &Opts, next: usize, found: &mut Vec<FoundLine>) -> Result<usize, Errno>
     ensures looks { IfOk result (λ at. (tool : ToolName) (base made : ℕ) →
         looks tool base made (options_in opts.now) (drop at opts.now.lines.items) found.new.items ≡ looks tool base made (options_in opts.now) (drop next opts.now.lines.items) found.old.items) }
     ensures name { IfOk result (λ at. at < length opts.now.lines.items → offset_said (options_in opts.now) (word_at (options_in opts.now) at) ≡ None) }
+    ensures front { take (length found.old.items) found.new.items ≡ found.old.items }
     ensures memory_alone { IsOkUnless result Errno.NoMemory }
 {
     for i in next..opts.lines.len() {

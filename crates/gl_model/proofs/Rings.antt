@@ -37,7 +37,7 @@ use Rattle.gl_model.specs.declared.reply.Reply.{Reply}
 use Rattle.gl_model.specs.Holders.{HoldersAgree}
 use Rattle.gl_model.specs.OpenFiles.{is_chip_file, is_request_file, request_file_refusal}
 use Rattle.gl_model.specs.Outcome.{Outcome, refused, refused_or}
-use Rattle.gl_model.specs.Rings.{edges_at, events_between, events_read, given_in, reads_in, turns_from, turns_in, HasItsEvents, IsRingOf, ReadsSpellEvents, RingsKeepOrder}
+use Rattle.gl_model.specs.Rings.{edges_at, events_between, events_read, given_in, reads_in, turns_from, turns_in, GapsAreOldest, IsRingOf, ReadsInOrder, ReadsSpellEvents}
 use Rattle.gl_model.proofs.Bounds.{next_rises}
 use Rattle.gl_model.proofs.HoldersLaw.{holders_stay_agreed, opens}
 use Rattle.gl_model.proofs.Phases.{nothing_first, same_number}
@@ -476,17 +476,20 @@ module _ {K : Type 0} (stands_for : K → World → Type 0) where
   behind_is w [] = refl
   behind_is w (e ∷ history) = behind_is (step w e.actor e.call).world history
 
-  events_kept : (history : List (Entry K Call Reply Gift)) → (fd : ℕ) → HasItsEvents fd (world_behind opening history) history
-  events_kept history fd =
-      let v : World = world_behind opening history in
-      let h : Holds fd v (request_at v.requests fd) (turns_from fd opening history) (events_read fd opening history) =
-      all_hold fd opening history [] [] opens requests_stay_sound.opens ((1, refl), λ _. refl) in
-      record {
-        in_order = ordered fd v (request_at v.requests fd) (turns_from fd opening history) (events_read fd opening history) h;
-        while_there = λ request is. ring_of fd v request (turns_from fd opening history) (events_read fd opening history)
-            (subst (λ o. Holds fd v o (turns_from fd opening history) (events_read fd opening history)) is h);
-      }
+  ring_holds : (history : List (Entry K Call Reply Gift)) (fd : ℕ) → let v = world_of stands_for history in
+      Holds fd v (request_at v.requests fd) (turns_from fd opening history) (events_read fd opening history)
+  ring_holds history fd = subst (λ (v : World). Holds fd v (request_at v.requests fd) (turns_from fd opening history) (events_read fd opening history)) (behind_is opening history)
+      (all_hold fd opening history [] [] opens requests_stay_sound.opens ((1, refl), λ _. refl))
 
-  pub rings_keep_order : RingsKeepOrder stands_for
-  rings_keep_order = always stands_for (λ history. (fd : ℕ) → HasItsEvents fd (world_of stands_for history) history)
-      (λ history legal fd. subst (λ w. HasItsEvents fd w history) (behind_is opening history) (events_kept history fd))
+  pub reads_in_order : ReadsInOrder stands_for
+  reads_in_order = always stands_for (λ history. (fd : ℕ) → IsSubsequence (events_read fd opening history) (came (turns_from fd opening history)))
+      (λ history legal fd. let v : World = world_of stands_for history in
+      ordered fd v (request_at v.requests fd) (turns_from fd opening history) (events_read fd opening history) (ring_holds history fd))
+
+  pub gaps_are_oldest : GapsAreOldest stands_for
+  gaps_are_oldest = always stands_for
+      (λ history. (fd : ℕ) (request : Request) → request_at (world_of stands_for history).requests fd ≡ Some request
+      → IsRingOf request (turns_from fd opening history) (events_read fd opening history))
+      (λ history legal fd request is. let v : World = world_of stands_for history in
+      ring_of fd v request (turns_from fd opening history) (events_read fd opening history)
+      (subst (λ o. Holds fd v o (turns_from fd opening history) (events_read fd opening history)) is (ring_holds history fd)))

@@ -62,17 +62,19 @@ pub record IsRingOf (request : Request) (turns : List (Turn Event)) (read : List
   pub gave : given (buffer [] request.capacity) turns ≡ read
   pub gaps : (k : ℕ) → 1 ≤ k → k ≤ length request.past.all → IsMissing request.capacity turns k ↔ WasOvertaken request.capacity turns k
 
--- Of the request of a number: what all its reads gave, joined in order, are some of the events that came to it, in order, be it
--- there still or closed since.
-pub record HasItsEvents {K : Type 0} (fd : ℕ) (w : World) (history : List (Entry K Call Reply Gift)) : Type 0 where
-  pub in_order : IsSubsequence (events_read fd opening history) (came (turns_from fd opening history))
-  pub while_there : (request : Request) → request_at w.requests fd ≡ Some request → IsRingOf request (turns_from fd opening history) (events_read fd opening history)
-
 -- the events that a read gave are those that it wrote
 abbrev pub ReadsSpellEvents : Type 0
 ReadsSpellEvents = (w : World) (actor place fd len : ℕ)
     → let out = step w actor (ReadEdges place fd len) in out.bytes ≡ flat_map event_bytes (given_in fd w (ReadEdges place fd len) out.reply)
 
--- so it is behind every legal history, of each number
-abbrev pub RingsKeepOrder : {K : Type 0} → (K → World → Type 0) → Type 0
-RingsKeepOrder stands_for = Always stands_for (λ history. (fd : ℕ) → HasItsEvents fd (world_of stands_for history) history)
+module _ {K : Type 0} (stands_for : K → World → Type 0) where
+  -- Behind every legal history, whatever happens: what all reads of the request of a number gave, joined in order, are some of the
+  -- events that came to it, in order, be it there still or closed since.
+  abbrev pub ReadsInOrder : Type 0
+  ReadsInOrder = Always stands_for (λ history. (fd : ℕ) → IsSubsequence (events_read fd opening history) (came (turns_from fd opening history)))
+
+  -- Behind every legal history, whatever happens: while the request of a number is there, what is missing of its edges is what a
+  -- full ring dropped.
+  abbrev pub GapsAreOldest : Type 0
+  GapsAreOldest = Always stands_for (λ history. (fd : ℕ) (request : Request) → request_at (world_of stands_for history).requests fd ≡ Some request
+      → IsRingOf request (turns_from fd opening history) (events_read fd opening history))

@@ -3,7 +3,7 @@
 
 ghost use Rattle.gl_model.specs.Refusing.{RefusalsLeaveAll};
 ghost use Rattle.gl_model.specs.Replies.{EntriesHaveForm, IoHasCause, RepliesHaveForm};
-ghost use Rattle.gl_model.specs.Rings.{ReadsSpellEvents, RingsKeepOrder};
+ghost use Rattle.gl_model.specs.Rings.{GapsAreOldest, ReadsInOrder, ReadsSpellEvents};
 ghost use Rattle.gl_model.specs.Taking.{ReadsTakeChanges, ReadsTakeEvents};
 ghost use Rattle.gl_model.specs.Written.{ChangesKeepNames, LegalRepliesTellLengths, RepliesTellLengths};
 
@@ -63,6 +63,7 @@ pub fn io_has_cause()
 /// those of all its edges, and an edge is neither read nor waiting exactly where the edge as many numbers later as the
 /// request's capacity came before it was read. All this is so behind every legal history, whatever happens.
 pub fn rings_keep_order<K: Image>()
-    ensures order { RingsKeepOrder K.Image.stands_for }
+    ensures order { ReadsInOrder K.Image.stands_for }
+    ensures gaps { GapsAreOldest K.Image.stands_for }
     ensures spelled { ReadsSpellEvents }
 {}

@@ -32,10 +32,10 @@ pub fn every_run_is_legal<K: Image>()
     ensures { AlwaysLegal (machine K.Image.stands_for) }
 {}
 
-/// No two holds have the same place and offset: a line has one holder at most. This is so whatever the calls, since
-/// a line has one row in the table of its chip.
-pub fn one_holder()
-    ensures { OneHolder }
+/// No two holds have the same place and offset, be they of one request, of two, or hogs: a line has one holder at most. This
+/// is so in each world that a legal history leads to, whatever happens.
+pub fn one_holder<K: Image>()
+    ensures { OneHolder K.Image.stands_for }
 {}
 
 /// Requests and lines agree on who has what, in each world that a legal history leads to, and each call keeps it so:

@@ -1,4 +1,5 @@
 pub mod MonitorCosts
 pub mod MonitorNames
 pub mod MonitorSlots
+pub mod Staying
 pub mod Turns

@@ -1,5 +1,5 @@
 //! gpiomon and gpionotify.
-ghost use Rattle.std.specs.Prelude.{◌≡◌, ◌+◌, ◌<◌, ◌^◌, ◌≤◌, [], ◌∷◌, true, false, not, is_some, None, drop, IfOk, IsSome, IsOkUnless, MatchOption, option_copied};
+ghost use Rattle.std.specs.Prelude.{◌≡◌, ◌+◌, ◌<◌, ◌^◌, ◌≤◌, [], ◌∷◌, true, false, not, is_some, None, drop, IfOk, IsSome, OnErr, IsOkUnless, MatchOption, option_copied};
 ghost use Rattle.gl_args.specs.Options.{options_in, tool_in};
 ghost use Rattle.gl_args.specs.Program.{Goes, given, goes_on, done, then_by, MatchNext};
 ghost use Rattle.gl_lines.specs.declared.found_line.FoundLine.{FoundLine};
@@ -91,10 +91,13 @@ impl Monitor {
     /// What it does next. `got` is the result of the operation that it asked for last, if it asked for one. End means
     /// that the start, the step or the stop is done: then what is left is said by what it watches, and it has ended
     /// exactly where it watches nothing. Behind a Call or a Print it hasn't ended.
+    /// Where memory is wanted, what is left is what was left, and it watches what it watched: it may be called again with the
+    /// same result.
     pub fn next(&mut self, alloc: Global, got: Option<&Got>) -> Result<Next, Errno>
         ensures goes { IfOk result (λ next. Goes (given (monitor_left self.old) (option_copied got.entry)) next (monitor_left self.new)) }
         ensures rests { IfOk result (λ next. MatchNext next (Unit {0}) (monitor_left self.new ≡ goes_on (done (watched_by self.new)))) }
         ensures ended { IfOk result (λ next. MatchNext next (has_ended self.new.stage ≡ false) (has_ended self.new.stage ≡ not (is_some (watched_by self.new)))) }
+        ensures kept { OnErr result ((monitor_left self.new ≡ monitor_left self.old) × (watched_by self.new ≡ watched_by self.old)) }
         ensures memory_alone { IsOkUnless result Errno.NoMemory }
     {
         let none = Got::Done;
@@ -294,6 +297,7 @@ impl Monitor {
         ensures goes { IfOk result (λ next. Goes (watched (watching_in self.old) (watches (watching_in self.old) (drop self.old.next self.old.finder.found.items)) refusal) next (monitor_left self.new)) }
         ensures rests { IfOk result (λ next. MatchNext next (Unit {0}) (monitor_left self.new ≡ goes_on (done (watched_by self.new)))) }
         ensures ended { IfOk result (λ next. MatchNext next (has_ended self.new.stage ≡ false) (has_ended self.new.stage ≡ not (is_some (watched_by self.new)))) }
+        ensures kept { OnErr result (self.new ≡ self.old) }
         ensures memory_alone { IsOkUnless result Errno.NoMemory }
     {
         match refusal {
@@ -307,6 +311,7 @@ impl Monitor {
     fn turn(&mut self, alloc: Global) -> Result<Next, Errno>
         ensures goes { IfOk result (λ next. Goes (steps (watching_in self.old) self.old.turns) next (monitor_left self.new)) }
         ensures goes_on { IfOk result (λ next. MatchNext next (has_ended self.new.stage ≡ false) ⊥) }
+        ensures kept { OnErr result (self.new ≡ self.old) }
         ensures memory_alone { IsOkUnless result Errno.NoMemory }
     {
         if self.turns == 0 {
@@ -323,6 +328,7 @@ impl Monitor {
     fn polled(&mut self, alloc: Global, refusal: Option<Errno>, bits: u8) -> Result<Next, Errno>
         ensures goes { IfOk result (λ next. Goes (polled (watching_in self.old) (steps (watching_in self.old) self.old.turns) refusal bits) next (monitor_left self.new)) }
         ensures goes_on { IfOk result (λ next. MatchNext next (has_ended self.new.stage ≡ false) ⊥) }
+        ensures kept { OnErr result (self.new ≡ self.old) }
         ensures memory_alone { IsOkUnless result Errno.NoMemory }
     {
         match refusal {
@@ -335,6 +341,7 @@ impl Monitor {
     fn ready(&mut self, alloc: Global, bits: u8) -> Result<Next, Errno>
         ensures goes { IfOk result (λ next. Goes (ready (watching_in self.old) (steps (watching_in self.old) self.old.turns) bits) next (monitor_left self.new)) }
         ensures goes_on { IfOk result (λ next. MatchNext next (has_ended self.new.stage ≡ false) ⊥) }
+        ensures kept { OnErr result (self.new ≡ self.old) }
         ensures memory_alone { IsOkUnless result Errno.NoMemory }
     {
         if bits == 0 {
@@ -359,6 +366,7 @@ impl Monitor {
         ensures goes { IfOk result (λ next. Goes (was_read (watching_in self.old) refusal bytes.now) next (monitor_left self.new)) }
         ensures rests { IfOk result (λ next. MatchNext next (Unit {0}) (monitor_left self.new ≡ goes_on (done (watched_by self.new)))) }
         ensures ended { IfOk result (λ next. MatchNext next (has_ended self.new.stage ≡ false) (has_ended self.new.stage ≡ not (is_some (watched_by self.new)))) }
+        ensures kept { OnErr result (self.new ≡ self.old) }
         ensures memory_alone { IsOkUnless result Errno.NoMemory }
     {
         match refusal {
@@ -423,6 +431,7 @@ impl Monitor {
     fn fail(&mut self, alloc: Global, errno: Errno) -> Result<Next, Errno>
         ensures goes { IfOk result (λ next. Goes (fails (watching_in self.old) errno) next (monitor_left self.new)) }
         ensures goes_on { IfOk result (λ next. MatchNext next (has_ended self.new.stage ≡ false) ⊥) }
+        ensures kept { OnErr result (self.new ≡ self.old) }
         ensures memory_alone { IsOkUnless result Errno.NoMemory }
     {
         let text = failed_line(alloc, self.finder.tool, errno)?;
@@ -451,6 +460,7 @@ impl Monitor {
     fn closed(&mut self, alloc: Global, refusal: Option<Errno>) -> Result<Next, Errno>
         ensures goes { IfOk result (λ next. Goes (closed (watching_in self.old) refusal) next (monitor_left self.new)) }
         ensures ended { IfOk result (λ next. MatchNext next (has_ended self.new.stage ≡ false) (self.new.stage ≡ MonitorStage.Ended)) }
+        ensures kept { OnErr result (self.new ≡ self.old) }
         ensures memory_alone { IsOkUnless result Errno.NoMemory }
     {
         match refusal {

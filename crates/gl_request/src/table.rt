@@ -72,12 +72,13 @@ impl Requests {
         let _requests = self.rows.len();
     }
 
-    /// Adds a claim of a number that is above those of the others, behind them. No event of it waits.
+    /// Adds a claim of a number that is above those of the others, behind them. Its ring is empty: no event of it waits.
     #[tactic(auto, using(crate::proofs::Found::kept))]
     pub fn claim(&mut self, claim: Claim, ring: EdgeRing)
         requires room { length self.old < FILES_MAX }
         requires number { Each (IsBelow claim.fd) self.old }
         requires lines { IsLineCount claim.lines.count }
+        requires empty { ring.items ≡ [] }
         ensures { self.new ≡ self.old ++ row_of claim ring ∷ [] }
     {
         push_within(&mut self.rows, RequestRow::begin(claim, ring));

@@ -1,21 +1,23 @@
 -- What the rule says of the history and of places.
-use Rattle.std.proofs.Common.{◌≡◌, ℕ, suc, ◌<◌, ◌≤◌, List, [], ◌∷◌, set, sym, refl, arith, subst}
+use Rattle.std.proofs.Common.{◌≡◌, ℕ, suc, ◌<◌, ◌≤◌, List, [], ◌∷◌, set, sym, refl, ap, arith, subst, inl, inr}
 use mathlib.Core.Logic.{dite}
-use native.Mathlib.Decide.{dec_lt}
+use native.Mathlib.Decide.{dec_lt, ℕ_discrete}
 use mathlib.Core.Option.{some}
 use lib.ListN.{get_elem?}
 use Rattle.atomic_table.specs.Table.{State}
 use Rattle.atomic_table.proofs.Lists.{set_else}
 use Rattle.gl_rule.specs.declared.held.Held.{Held}
 use Rattle.gl_rule.specs.declared.view.View.{View}
-use Rattle.gl_rule.specs.Sums.{times, total}
+use Rattle.gl_rule.specs.Sums.{times, total, number_or_zero}
+use Rattle.gl_rule.specs.Words.{closed_bit, word_values}
+use Rattle.gl_rule.specs.Turn.{Seated}
 use Rattle.gl_rule.specs.Views.{newcomer, joined_into_another, with_one_more, taking_in}
 use Rattle.gl_rule.specs.Rule.{Rule}
 use Rattle.gl_rule.specs.Steps.{Move, TakeTicket, FindTurn, Commit, PassOn, Enter, Knock, BackOut, Leave, Close, Count, Drain, ViewStep, Moves, Splits, Joins, moved, IsStep, ComesOf}
 use Rattle.gl_world.specs.declared.machine.Machine.{Ghosts}
-use Rattle.std.specs.Prelude.{cond, ◌==◌}
+use Rattle.std.specs.Prelude.{cond, ◌==◌, ◌%◌, ◌-◌}
 use Rattle.gl_rule.specs.Guards.{times_inside}
-use Rattle.gl_rule.specs.Laws.{DrainedIsEmpty, KnownDrainedStaysEmpty, ClosedIsLeaving, InsideIsNotGone, OneHistory}
+use Rattle.gl_rule.specs.Laws.{DrainedIsEmpty, PlaysAreMoves, KnownDrainedStaysEmpty, ClosedIsLeaving, InsideIsNotGone, OneHistory}
 use Rattle.gl_rule.proofs.Sums.{total_set, total_snoc, total_at, total_append}
 
 -- where a sum over a list isn't 0, one of the list adds to it
@@ -61,6 +63,24 @@ module _ {M C R G : Type 0} (m : Ghosts M C R G) where
 
   pub drained_is_empty : DrainedIsEmpty m
   drained_is_empty places s rule i j p v w at there knows inside = let d = rule.1.knows_drained i v p at knows in let none = d.1 in let one = total_at (times_inside p) s.views j w there in absurd (omega arith)
+
+  abbrev knows_of : Seated M C R G → View M C R G
+  knows_of a = a.0
+
+  pub plays_are_moves : PlaysAreMoves m
+  plays_are_moves = record {
+    takes_ticket = λ st a b found told. inr (TakeTicket told.0, ap knows_of told.2);
+    finds_turn = λ st a b found told. dite (ℕ_discrete found (number_or_zero a.0.ticket % word_values))
+        (λ mine. let finds = told.0 mine in inr (FindTurn finds.0, ap knows_of finds.2)) (λ not_yet. inl (ap knows_of (told.1 not_yet)));
+    commits = λ st a b found h e slot last told. inr (Commit e, ap knows_of (told h e slot last));
+    passes_on = λ st a b found told. inr (PassOn, ap knows_of told);
+    learns = λ st a b found told. inl (ap knows_of told.0);
+    enters = λ st a b found told. dite (dec_lt found closed_bit) (λ less. inr (Enter (st.word - 2), ap knows_of (told.0 less))) (λ more. inr (Knock (st.word - 2), ap knows_of (told.1 (omega arith))));
+    backs_out = λ st a b found told. inr (BackOut (st.word - 2), ap knows_of told);
+    leaves = λ st a b found told. inr (Leave (st.word - 2), ap knows_of told);
+    closes = λ st a b found told. inr (Close (st.word - 2), ap knows_of told);
+    counts = λ st a b found told. dite (ℕ_discrete found closed_bit) (λ drained. inr (Drain (st.word - 2), ap knows_of (told.0 drained))) (λ not. inr (Count (found % closed_bit), ap knows_of (told.1 not)));
+  }
 
   -- in each state that comes of one that meets the rule, a place that was known drained still is, and the rule holds
   still_drained : (places p : ℕ) (s t : State (Held M C R G) (View M C R G)) (steps : List (ViewStep M C R G)) → Rule m places s → ComesOf m places s steps t → 0 < total (times_drained p) s.views

@@ -1,5 +1,5 @@
 -- How what all passes know changes, one atomic step after another. A step that changes nothing of it isn't listed.
-use Rattle.std.specs.Prelude.{◌≡◌, ◌≢◌, ℕ, List, [], ◌∷◌, ◌++◌, slice_set}
+use Rattle.std.specs.Prelude.{◌≡◌, ◌≢◌, ℕ, List, [], ◌∷◌, ◌++◌, slice_set, ◌⊎◌}
 use mathlib.Core.Option as maybe
 use lib.ListN.{get_elem?}
 use Rattle.atomic_table.specs.Table.{State}
@@ -43,6 +43,10 @@ module _ {M C R G : Type 0} where
   moved v (Close place) = with_closed v place
   moved v (Count found) = with_count v found
   moved v (Drain place) = with_drained v place
+
+  -- the view moved, or stayed as it was
+  abbrev pub IsMove : View M C R G → View M C R G → Type 0
+  IsMove v w = (w ≡ v) ⊎ ((move : Move M C R G) × (w ≡ moved v move))
 
   -- the views before and after a step
   abbrev pub IsStep : List (View M C R G) → ViewStep M C R G → List (View M C R G) → Type 0

@@ -10,7 +10,8 @@ mod view;
 
 pub use held::Held;
 pub use laws::{
-    closed_is_leaving, drained_is_empty, inside_is_not_gone, known_drained_stays_empty, one_history,
+    closed_is_leaving, drained_is_empty, inside_is_not_gone, known_drained_stays_empty,
+    one_history, plays_are_moves,
 };
 pub use plays::{
     BackOut, Close, Commit, CountInside, Enter, FindTurn, JoinPass, Learn, Leave, PassOn,

@@ -3,17 +3,16 @@
 
 use gl_base::Name;
 use gl_uapi::{
-    AttributeValue, Changed, ChangedRef, ChipRef, Command, ConfigRef, Event, EventsRef, Info,
-    InfoRef, NewAttribute, RequestRef, UnwatchRef, ValuesRef, write_attribute, write_chip_info,
-    write_config, write_event, write_fd, write_info_changed, write_line_info, write_request,
-    write_request_answer, write_values,
+    AttrRef, AttributeValue, Changed, ChangedRef, ChipRef, Command, ConfigRef, Event, EventsRef,
+    Info, InfoRef, NewAttribute, RequestRef, UnwatchRef, ValuesRef, write_attribute,
+    write_chip_info, write_config, write_event, write_fd, write_info_changed, write_line_info,
+    write_request, write_request_answer, write_values,
 };
 use std::test::Fail;
 
 /// The commands' numbers as a C compiler gets them from `linux/gpio.h`, and their structures' lengths.
-#[test]
-fn commands_are_those_of_the_header(rt: HostRuntime) {
-    let commands = [
+fn commands() -> [(Command, u32, u32); 8] {
+    [
         // GPIO_GET_CHIPINFO_IOCTL
         (Command::ChipInfo, 0x8044_B401, 68),
         // GPIO_V2_GET_LINEINFO_IOCTL
@@ -30,12 +29,27 @@ fn commands_are_those_of_the_header(rt: HostRuntime) {
         (Command::GetValues, 0xC010_B40E, 16),
         // GPIO_V2_LINE_SET_VALUES_IOCTL
         (Command::SetValues, 0xC010_B40F, 16),
-    ];
-    for (command, number, size) in commands {
-        assert_eq!(rt; Command::of(number), Some(command));
-        assert_eq!(rt; command.size(), size);
+    ]
+}
+
+#[test]
+fn commands_are_those_of_the_header(rt: HostRuntime) {
+    for (command, number, size) in commands() {
+        assert!(rt; (Command::of(number), command.size()) == (Some(command), size));
     }
-    assert_eq!(rt; Command::of(0), None);
+    assert!(rt; Command::of(0).is_none());
+}
+
+/// Which views there are of some bytes.
+fn views(bytes: &[u8]) -> [bool; 6] {
+    [
+        RequestRef::of(bytes).is_some(),
+        ChangedRef::of(bytes).is_some(),
+        ConfigRef::of(bytes).is_some(),
+        InfoRef::of(bytes).is_some(),
+        ChipRef::of(bytes).is_some(),
+        ValuesRef::of(bytes).is_some(),
+    ]
 }
 
 /// A view is made from its structure's length on, and not below.
@@ -43,68 +57,98 @@ fn commands_are_those_of_the_header(rt: HostRuntime) {
 fn views_need_their_length(rt: HostRuntime) {
     let buffer = [0u8; 600];
     for len in 0..=600usize {
-        let bytes = &buffer[..len];
-        assert_eq!(rt; RequestRef::of(bytes).is_some(), len >= 592);
-        assert_eq!(rt; InfoRef::of(bytes).is_some(), len >= 256);
-        assert_eq!(rt; ChangedRef::of(bytes).is_some(), len >= 288);
-        assert_eq!(rt; ConfigRef::of(bytes).is_some(), len >= 272);
-        assert_eq!(rt; ChipRef::of(bytes).is_some(), len >= 68);
-        assert_eq!(rt; ValuesRef::of(bytes).is_some(), len >= 16);
-        assert_eq!(rt; EventsRef::of(bytes).count() as usize, len / 48);
+        let wanted = [592, 288, 272, 256, 68, 16].map(|size: usize| len >= size);
+        assert!(rt; views(&buffer[..len]) == wanted);
+        assert!(rt; EventsRef::of(&buffer[..len]).count() as usize == len / 48);
     }
 }
 
 #[test]
-fn chips_and_values_are_read_as_written(rt: HostRuntime) -> Result<(), Fail> {
+fn chips_are_read_as_written(rt: HostRuntime) -> Result<(), Fail> {
     let name = Name::of(b"gpiochip0").ok_or("name")?;
     let label = Name::of(b"demo").ok_or("label")?;
     let mut out = [0xFFu8; 70];
     write_chip_info(&mut out, &name, &label, 4);
     let chip = ChipRef::of(&out).ok_or("chip")?;
-    assert!(rt; Name::read(chip.name()) == name);
-    assert!(rt; Name::read(chip.label()) == label);
-    assert_eq!(rt; chip.lines(), 4);
-    assert_eq!(rt; out[68], 0xFF);
-
-    write_values(&mut out, 0x8000_0000_0000_0001, 3);
-    let values = ValuesRef::of(&out).ok_or("values")?;
-    assert_eq!(rt; values.bits(), 0x8000_0000_0000_0001);
-    assert_eq!(rt; values.mask(), 3);
-    assert_eq!(rt; (out[0], out[7], out[8]), (1, 0x80, 3));
+    let told = (
+        Name::read(chip.name()),
+        Name::read(chip.label()),
+        chip.lines(),
+    );
+    assert!(rt; told == (name, label, 4));
+    assert!(rt; out[68] == 0xFF);
     Ok(())
 }
 
 #[test]
-fn lines_are_read_as_written(rt: HostRuntime) -> Result<(), Fail> {
-    let info = Info {
+fn values_are_read_as_written(rt: HostRuntime) -> Result<(), Fail> {
+    let mut out = [0xFFu8; 17];
+    write_values(&mut out, 0x8000_0000_0000_0001, 3);
+    let values = ValuesRef::of(&out).ok_or("values")?;
+    assert!(rt; (values.bits(), values.mask()) == (0x8000_0000_0000_0001, 3));
+    assert!(rt; (out[0], out[7], out[8], out[16]) == (1, 0x80, 3, 0xFF));
+    Ok(())
+}
+
+/// A debounced input with a name and a consumer.
+fn button() -> Result<Info, Fail> {
+    Ok(Info {
         name: Name::of(b"BUTTON").ok_or("name")?,
         consumer: Name::of(b"?").ok_or("consumer")?,
         offset: 3,
         flags: 0x105,
         period: 1000,
-    };
+    })
+}
+
+/// What a view of a line's information tells.
+fn info_told(line: &InfoRef<'_>) -> (Name, Name, u32, u64, u32) {
+    (
+        Name::read(line.name()),
+        Name::read(line.consumer()),
+        line.offset(),
+        line.flags(),
+        line.period(),
+    )
+}
+
+/// What it is to tell.
+fn told_of(info: &Info) -> (Name, Name, u32, u64, u32) {
+    (
+        info.name,
+        info.consumer,
+        info.offset,
+        info.flags,
+        info.period,
+    )
+}
+
+#[test]
+fn changes_are_read_as_written(rt: HostRuntime) -> Result<(), Fail> {
     let changed = Changed {
-        info,
+        info: button()?,
         timestamp: 1_500_000_000,
         kind: 2,
     };
     let mut out = [0xFFu8; 288];
     write_info_changed(&mut out, &changed);
     let read = ChangedRef::of(&out).ok_or("changed")?;
-    assert_eq!(rt; (read.timestamp(), read.kind()), (1_500_000_000, 2));
-    let line = read.info();
-    assert!(rt; Name::read(line.name()) == info.name);
-    assert!(rt; Name::read(line.consumer()) == info.consumer);
-    assert_eq!(rt;
-        (line.offset(), line.flags(), line.period()),
-        (3, 0x105, 1000)
-    );
-    assert!(rt; line.padding_is_zero());
+    assert!(rt; (read.timestamp(), read.kind()) == (1_500_000_000, 2));
+    assert!(rt; info_told(&read.info()) == told_of(&changed.info));
+    assert!(rt; read.info().padding_is_zero());
+    Ok(())
+}
 
-    let still = Info { period: 0, ..info };
+#[test]
+fn lines_are_read_as_written(rt: HostRuntime) -> Result<(), Fail> {
+    let still = Info {
+        period: 0,
+        ..button()?
+    };
+    let mut out = [0xFFu8; 256];
     write_line_info(&mut out, &still);
     let line = InfoRef::of(&out).ok_or("info")?;
-    assert_eq!(rt; line.period(), 0);
+    assert!(rt; info_told(&line) == told_of(&still));
     Ok(())
 }
 
@@ -120,13 +164,47 @@ fn events_are_read_as_written(rt: HostRuntime) {
     let mut out = [0xFFu8; 100];
     write_event(&mut out[48..], &event);
     let events = EventsRef::of(&out);
-    assert_eq!(rt; events.count(), 2);
+    assert!(rt; events.count() == 2);
     assert!(rt; events.get(1) == event);
 }
 
+/// The numbers of a request, as its view reads them: three offsets, how many lines it has, the room that it asks for, and
+/// its file.
+fn numbers_told(request: &RequestRef<'_>) -> ([u32; 3], u32, u32, i32) {
+    (
+        [request.offset(0), request.offset(1), request.offset(2)],
+        request.num_lines(),
+        request.event_buffer_size(),
+        request.fd(),
+    )
+}
+
+/// An attribute, as its view reads it: kind, value, period and mask.
+fn attribute_told(attribute: &AttrRef<'_>) -> (u32, u64, u32, u64) {
+    (
+        attribute.id(),
+        attribute.value(),
+        attribute.period(),
+        attribute.mask(),
+    )
+}
+
+/// A configuration, as its view reads it: flags, how many attributes, and the first of them.
+fn config_told(config: &ConfigRef<'_>) -> (u64, u32, (u32, u64, u32, u64)) {
+    (
+        config.flags(),
+        config.num_attrs(),
+        attribute_told(&config.attr(0)),
+    )
+}
+
+/// Whether the padding of a request and of its configuration is zero.
+fn is_padded(request: &RequestRef<'_>) -> bool {
+    request.padding_is_zero() && request.config().padding_is_zero()
+}
+
 /// A request of two lines: each field as `linux/gpio.h` lays it out.
-#[test]
-fn requests_are_read(rt: HostRuntime) -> Result<(), Fail> {
+fn two_lines() -> [u8; 592] {
     let mut bytes = [0u8; 592];
     bytes[4] = 7;
     bytes[256] = b'x';
@@ -139,17 +217,17 @@ fn requests_are_read(rt: HostRuntime) -> Result<(), Fail> {
     bytes[560] = 2;
     bytes[564] = 16;
     write_fd(&mut bytes, -1);
+    bytes
+}
+
+#[test]
+fn requests_are_read(rt: HostRuntime) -> Result<(), Fail> {
+    let bytes = two_lines();
     let request = RequestRef::of(&bytes).ok_or("request")?;
-    assert_eq!(rt; (request.offset(1), request.num_lines()), (7, 2));
-    assert_eq!(rt; Name::read(request.consumer()).as_bytes(), b"x".as_slice());
-    assert_eq!(rt; (request.event_buffer_size(), request.fd()), (16, -1));
-    assert!(rt; request.padding_is_zero());
-    let config = request.config();
-    assert_eq!(rt; (config.flags(), config.num_attrs()), (0x34, 1));
-    assert!(rt; config.padding_is_zero());
-    let attribute = config.attr(0);
-    assert_eq!(rt; (attribute.id(), attribute.value()), (3, 1000));
-    assert_eq!(rt; (attribute.period(), attribute.mask()), (1000, 2));
+    assert!(rt; numbers_told(&request) == ([0, 7, 0], 2, 16, -1));
+    assert!(rt; config_told(&request.config()) == (0x34, 1, (3, 1000, 1000, 2)));
+    assert!(rt; Name::read(request.consumer()).as_bytes() == b"x".as_slice());
+    assert!(rt; is_padded(&request));
     Ok(())
 }
 
@@ -164,48 +242,44 @@ fn requests_are_read_as_written(rt: HostRuntime) -> Result<(), Fail> {
     let mut bytes = [0xFFu8; 592];
     write_request(&mut bytes, &[5, 7], &consumer, 8, &[values], 0);
     let request = RequestRef::of(&bytes).ok_or("request")?;
-    assert_eq!(rt;
-        (request.offset(0), request.offset(1), request.offset(2)),
-        (5, 7, 0)
-    );
+    assert!(rt; numbers_told(&request) == ([5, 7, 0], 2, 0, 0));
+    assert!(rt; config_told(&request.config()) == (8, 1, (2, 2, 2, 3)));
     assert!(rt; Name::read(request.consumer()) == consumer);
-    assert_eq!(rt; (request.num_lines(), request.event_buffer_size()), (2, 0));
-    let config = request.config();
-    assert_eq!(rt; (config.flags(), config.num_attrs()), (8, 1));
-    let attribute = config.attr(0);
-    assert_eq!(rt; (attribute.id(), attribute.value()), (2, 2));
-    assert_eq!(rt; attribute.mask(), 3);
-    assert!(rt; config.padding_is_zero() && request.padding_is_zero());
-    let mut config = [0xFFu8; 272];
-    let period = NewAttribute {
-        value: AttributeValue::Debounce(1000),
-        mask: 1,
-    };
-    write_config(&mut config, 0x34, &[period]);
-    assert!(rt; config[32] == 3 && config[40] == 0xe8 && config[41] == 3 && config[48] == 1);
-    let mut attribute = [0xFFu8; 24];
-    write_attribute(&mut attribute, &period);
-    assert_eq!(rt; attribute[..], config[32..56]);
+    assert!(rt; is_padded(&request));
     Ok(())
+}
+
+/// A period of 1000 microseconds for the first line.
+const PERIOD: NewAttribute = NewAttribute {
+    value: AttributeValue::Debounce(1000),
+    mask: 1,
+};
+
+#[test]
+fn a_configuration_has_its_attributes_as_they_are_written_alone(rt: HostRuntime) {
+    let mut config = [0xFFu8; 272];
+    write_config(&mut config, 0x34, &[PERIOD]);
+    assert!(rt; (config[32], config[40], config[41], config[48]) == (3, 0xe8, 3, 1));
+    let mut attribute = [0xFFu8; 24];
+    write_attribute(&mut attribute, &PERIOD);
+    assert!(rt; attribute[..] == config[32..56]);
 }
 
 #[test]
 fn a_request_is_answered_as_far_as_the_buffer_goes(rt: HostRuntime) -> Result<(), Fail> {
     let mut whole = [7; 592];
     write_request_answer(&mut whole, &[0; 592], 5);
-    assert_eq!(rt; RequestRef::of(&whole).ok_or("592 bytes")?.fd(), 5);
+    assert!(rt; RequestRef::of(&whole).ok_or("592 bytes")?.fd() == 5);
     let mut short = [7; 590];
     write_request_answer(&mut short, &[0; 592], 0x0102_0304);
-    assert_eq!(rt; &short[587..], [0, 4, 3].as_slice());
+    assert!(rt; short[587..] == [0, 4, 3]);
     Ok(())
 }
 
 #[test]
 fn a_line_to_be_watched_no_more_is_its_offset(rt: HostRuntime) -> Result<(), Fail> {
-    assert_eq!(rt;
-        UnwatchRef::of(&[9, 0, 0, 0, 1]).ok_or("5 bytes")?.offset(),
-        9
-    );
+    let unwatch = UnwatchRef::of(&[9, 0, 0, 0, 1]).ok_or("5 bytes")?;
+    assert!(rt; unwatch.offset() == 9);
     assert!(rt; UnwatchRef::of(&[9, 0, 0]).is_none());
     Ok(())
 }

@@ -1,7 +1,7 @@
 //! What no clause says: that the makers succeed where there is memory, and that a request comes out as is
 //! meant.
 
-ghost use Rattle.std.specs.Prelude.{◌≡◌};
+ghost use Rattle.std.specs.Prelude.{◌≡◌, [], IfOk};
 
 use gl_base::{Lines, Resolved, Settings, flag};
 use gl_request::{Claim, Requests};
@@ -36,7 +36,9 @@ fn two_lines(fd: u32) -> Claim
     }
 }
 
-fn ring(alloc: Global) -> Result<EdgeRing, &'static str> {
+fn ring(alloc: Global) -> Result<EdgeRing, &'static str>
+    ensures { IfOk result (λ ring. ring.items ≡ []) }
+{
     EdgeRing::with_capacity(alloc, 2).ok().ok_or("memory")
 }
 

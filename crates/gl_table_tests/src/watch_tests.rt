@@ -30,8 +30,8 @@ fn files_keep_their_first_32_changes(rt: HostRuntime) -> Result<(), Fail> {
     let mut watches = Watches::new(rt.alloc()).map_err(|_| "memory")?;
     for (fd, place) in [(3, 2), (4, 2), (7, 3)] {
         let queue = InfoQueue::new(rt.alloc()).map_err(|_| "memory")?;
-        if watches.is_full() {
-            return Err("full".into());
+        if watches.is_full() || watches.place(fd).is_some() {
+            return Err("full, or the number is taken".into());
         }
         watches.add(fd, place, queue);
     }

@@ -1,12 +1,14 @@
 pub mod Continuing
+pub mod FileNumbers
 pub mod Front
 pub mod InARow
 pub mod NamedRows
+pub mod OpenedSlots
 pub mod OwnSlots
 pub mod Parts
 pub mod SlotOrder
 pub mod StatementCosts
-pub mod TablesWhole
+pub mod Staying
 pub mod TalkFiles
 pub mod TalkNames
 pub mod TalkedSteps

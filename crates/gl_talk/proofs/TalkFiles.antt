@@ -75,7 +75,7 @@ module _ (begun : ℕ) (names : Names) (slots : List ℕ) (known : AreOpen begun
     below = λ s e. below_next s (omega (arith, le s, times_there s now e));
   }
 
-  statement_names : (words : List Span) → NamesOpenSlots (AreOpen (begun + 1)) slots (does names (slot_behind begun) words)
+  pub statement_names : (words : List Span) → NamesOpenSlots (AreOpen (begun + 1)) slots (does names (slot_behind begun) words)
   statement_names words =
       names_open bound open_times (AreOpen (begun + 1)) (does names (slot_behind begun) words) slots bound_apart (λ s. omega arith)
       (λ s.

@@ -53,7 +53,7 @@ times_are s names =
 
 module _ (s : ℕ) where
   -- a file more, and one less
-  one_more : (files : List File) (f : File) → file_times s (files ++ f ∷ []) ≡ file_times s files + one_if (nat_eq s f.slot)
+  pub one_more : (files : List File) (f : File) → file_times s (files ++ f ∷ []) ≡ file_times s files + one_if (nat_eq s f.slot)
   one_more [] f = omega arith
   one_more (x ∷ files) f = omega (arith, one_more files f)
 
@@ -67,7 +67,7 @@ module _ (s : ℕ) where
   one_less name (x ∷ xs) f e = less_if (is_file name x) x f (file_of name xs) xs (without_first (is_file name) xs) e (one_less name xs f)
 
   -- a tool more, and one less
-  set_more : (tools : List SetTool) (tool : SetTool) → times s (set_slots (tools ++ tool ∷ [])) ≡ times s (set_slots tools) + counts s tool.held
+  pub set_more : (tools : List SetTool) (tool : SetTool) → times s (set_slots (tools ++ tool ∷ [])) ≡ times s (set_slots tools) + counts s tool.held
   set_more [] tool = omega (arith, counts_with s tool.held [])
   set_more (first ∷ tools) tool = omega (arith, counts_with s first.held (set_slots (tools ++ tool ∷ [])), counts_with s first.held (set_slots tools), set_more tools tool)
 
@@ -84,7 +84,7 @@ module _ (s : ℕ) where
   set_less name [] held e = cc
   set_less name (x ∷ xs) held e = set_less_if (is_set name x) x held (find (is_set name) xs) xs (without_first (is_set name) xs) e (set_less name xs held)
 
-  monitor_more : (tools : List MonitorTool) (tool : MonitorTool) → times s (monitor_slots (tools ++ tool ∷ [])) ≡ times s (monitor_slots tools) + counts s (watched_slot tool.watched)
+  pub monitor_more : (tools : List MonitorTool) (tool : MonitorTool) → times s (monitor_slots (tools ++ tool ∷ [])) ≡ times s (monitor_slots tools) + counts s (watched_slot tool.watched)
   monitor_more [] tool = omega (arith, counts_with s (watched_slot tool.watched) [])
   monitor_more (first ∷ tools) tool =
       omega (arith, counts_with s (watched_slot first.watched) (monitor_slots (tools ++ tool ∷ [])), counts_with s (watched_slot first.watched) (monitor_slots tools), monitor_more tools tool)
@@ -120,23 +120,23 @@ module _ (s k : ℕ) where
 
   -- what a plan's operation does to files is what its reply tells of
   module _ (names : Names) (slot : ℕ) (words : List Span) where
-    abbrev FileTaken : ℕ → Type 0
+    abbrev pub FileTaken : ℕ → Type 0
     FileTaken chip = file_times s (without_first (is_file (text_at 1 words)) names.files) + one_if (nat_eq s chip) ≡ file_times s names.files
 
     -- it opens nothing, and closes nothing
-    abbrev LeavesAll : Do → Type 0
+    abbrev pub LeavesAll : Do → Type 0
     LeavesAll what = Fits s k (open_times s names) what × ((got : Got) → behind s k (open_times s names) what got ≡ open_times s names)
 
-    abbrev Makes : Do → ℕ → ℕ → ℕ → List ℕ → Type 0
+    abbrev pub Makes : Do → ℕ → ℕ → ℕ → List ℕ → Type 0
     Makes what chip command len bytes = (what ≡ DoIoctl chip command len bytes slot) × ((command == GET_LINE) ≡ true) × (one_if (nat_eq s chip) ≤ open_times s names)
 
-    abbrev AskFits : Reply → Do → Type 0
+    abbrev pub AskFits : Reply → Do → Type 0
     AskFits Opened what = (word : List ℕ) × (what ≡ OpenChip slot word)
     AskFits Closed what = (chip : ℕ) × (what ≡ DoClose chip) × FileTaken chip
     AskFits Made what = (chip : ℕ) × (command : ℕ) × (len : ℕ) × (bytes : List ℕ) × Makes what chip command len bytes
     AskFits _ what = LeavesAll what
 
-    abbrev PlanFits : Plan → Type 0
+    abbrev pub PlanFits : Plan → Type 0
     PlanFits Nothing = Unit {0}
     PlanFits (Refuse errno) = Unit {0}
     PlanFits (Ask what reply) = AskFits reply what
@@ -303,7 +303,7 @@ module _ (s k : ℕ) where
     closes_at None e = tt
     closes_at (Some found) e = (found.slot, refl, one_less s (text_at 1 words) names.files found e)
 
-    planned_at : (keyword : Option Keyword) → Plans (planned keyword names.files slot words)
+    pub planned_at : (keyword : Option Keyword) → Plans (planned keyword names.files slot words)
     planned_at None = tt
     planned_at (Some Probe) = (tt, λ got. refl)
     planned_at (Some Unplug) = unplugs_at (place_word (text_at 1 words))

@@ -1,6 +1,7 @@
 pub mod Costs
 pub mod Files
 pub mod InParts
+pub mod Numbers
 pub mod Open
 pub mod Over
 pub mod Paths

@@ -1,6 +1,6 @@
 -- What each statement does: which operations it asks for, by their results so far, and what it prints; and what a whole talk
 -- does, a statement at a time. A statement is a program that gives the names behind it. This project's choice.
-use Rattle.std.specs.Prelude.{ℕ, ◌+◌, ◌*◌, Bool, true, false, List, [], ◌∷◌, ◌++◌, map, Option, Some, None}
+use Rattle.std.specs.Prelude.{◌≡◌, ℕ, ◌+◌, ◌*◌, Bool, true, false, List, [], ◌∷◌, ◌++◌, map, Option, Some, None}
 use Rattle.gl_base.specs.Errno.{errno_name}
 use Rattle.gl_base.specs.Operation.{refusal, bytes_of, ready_of}
 use Rattle.gl_base.specs.Words.{Span, text_at}
@@ -14,7 +14,7 @@ use Rattle.gl_args.specs.Program.{Program, done, print, ask, then_by, Left, goes
 use Rattle.gl_args.specs.Tools.{tool_said}
 use Rattle.gl_lines.specs.Texts.{line}
 use Rattle.gl_monitor.specs.declared.monitor.Monitor.{Monitor}
-use Rattle.gl_monitor.specs.Monitor.{Watched, monitor_left, monitor_program, steps_held}
+use Rattle.gl_monitor.specs.Monitor.{Watched, monitor_left, monitor_program, steps_held, watched_by}
 use Rattle.gl_monitor.specs.Monitor.{stops as stops_watching}
 use Rattle.gl_script.specs.Columns.{columns}
 use Rattle.gl_script.specs.Table.{keyword_of}
@@ -183,6 +183,11 @@ abbrev pub some_left : Option Monitor → Left Watched
 some_left None = goes_on (done None)
 some_left (Some monitor) = monitor_left monitor
 
+-- what the monitor of a statement watches
+abbrev pub some_watched : Option Monitor → Watched
+some_watched None = None
+some_watched (Some monitor) = watched_by monitor
+
 -- what is left; one line a stage
 abbrev pub left_at : Talk → Names → ℕ → List Span → Stage → Left Names
 left_at t names slot words Idle = goes_on (done names)
@@ -209,3 +214,20 @@ left t = left_at t (names_in t) (slot_in t) (words_in t) t.stage
 -- what is left of a whole talk, with these statements behind the one that is under way
 abbrev pub talk_left : Talk → List (List Span) → Left Names
 talk_left t statements = then_left (left t) (talks t.begun statements)
+
+-- where a talk stands: all of which what is left is made
+pub record StaysLeft (old new : Talk) : Type 0 where
+  pub stage : new.stage ≡ old.stage
+  pub begun : new.begun ≡ old.begun
+  pub line : new.line.now ≡ old.line.now
+  pub names : names_in new ≡ names_in old
+  pub client : client_left new.client ≡ client_left old.client
+  pub monitor : some_left new.monitor ≡ some_left old.monitor
+  pub closing : new.closing.items ≡ old.closing.items
+
+-- the same of a statement that hasn't made its first step, which has no tool yet
+pub record StaysBegun (old new : Talk) : Type 0 where
+  pub stage : new.stage ≡ old.stage
+  pub begun : new.begun ≡ old.begun
+  pub line : new.line.now ≡ old.line.now
+  pub names : names_in new ≡ names_in old

@@ -1,5 +1,5 @@
 //! The statements that start a tool, let it make a step, and stop it.
-ghost use Rattle.std.specs.Prelude.{◌≡◌, ◌+◌, ◌*◌, ◌<◌, ◌≤◌, None, IfOk, OnOk, IsOkUnless, option_copied};
+ghost use Rattle.std.specs.Prelude.{vec_len, vec_capacity, ◌≡◌, ◌+◌, ◌*◌, ◌<◌, ◌≤◌, None, IfOk, OnOk, OnErr, IsOkUnless, option_copied};
 ghost use Rattle.gl_base.specs.Words.{text_at};
 ghost use Rattle.gl_args.specs.Options.{tool_in};
 ghost use Rattle.gl_args.specs.Program.{Goes, MatchNext, given, goes_on, done, then_left};
@@ -7,7 +7,7 @@ ghost use Rattle.gl_args.specs.Tools.{tool_said};
 ghost use Rattle.gl_monitor.specs.Monitor.{watched_by};
 ghost use Rattle.gl_values.specs.Client.{client_left, held_by};
 ghost use Rattle.gl_talk.specs.Open.{has_tool, held_of_name, watched_of_name};
-ghost use Rattle.gl_talk.specs.Talk.{keeps_monitor, keeps_set, left, names_in, slot_in, some_left, starts, starts_said, starts_tool, steps, stops, words_in};
+ghost use Rattle.gl_talk.specs.Talk.{StaysBegun, StaysLeft, keeps_monitor, keeps_set, left, names_in, slot_in, some_left, some_watched, starts, starts_said, starts_tool, steps, stops, words_in};
 ghost use Rattle.gl_talk.specs.ToolWords.{word_texts};
 ghost use Rattle.gl_talk.specs.Words.{behind_two};
 
@@ -29,6 +29,7 @@ impl<'a> Talk<'a> {
         ensures goes { IfOk result (λ next. Goes (starts (has_tool (text_at 1 (words_in self.old)) (names_in self.old)) (names_in self.old) (slot_in self.old) (words_in self.old)) next (left self.new)) }
         ensures rests { IfOk result (λ next. MatchNext next (Unit {0}) (left self.new ≡ goes_on (done (names_in self.new)))) }
         ensures counted { OnOk result (self.new.begun ≡ self.old.begun) }
+        ensures kept { OnErr result (StaysBegun self.old self.new) }
         ensures memory_alone { IsOkUnless result Errno.NoMemory }
     {
         if self.has_tool() {
@@ -51,6 +52,7 @@ impl<'a> Talk<'a> {
         ensures goes { IfOk result (λ next. Goes (starts_said (tool_said (word_texts (behind_two (words_in self.old)))) (names_in self.old) (slot_in self.old) (words_in self.old)) next (left self.new)) }
         ensures rests { IfOk result (λ next. MatchNext next (Unit {0}) (left self.new ≡ goes_on (done (names_in self.new)))) }
         ensures counted { OnOk result (self.new.begun ≡ self.old.begun) }
+        ensures kept { OnErr result (StaysBegun self.old self.new) }
         ensures memory_alone { IsOkUnless result Errno.NoMemory }
     {
         let words = started_words(alloc, self.line)?;
@@ -70,6 +72,7 @@ impl<'a> Talk<'a> {
         ensures goes { IfOk result (λ next. Goes (starts_tool (tool_in tool) (names_in self.old) (slot_in self.old) (text_at 1 (words_in self.old))) next (left self.new)) }
         ensures rests { IfOk result (λ next. MatchNext next (Unit {0}) (left self.new ≡ goes_on (done (names_in self.new)))) }
         ensures counted { OnOk result (self.new.begun ≡ self.old.begun) }
+        ensures kept { OnErr result (StaysBegun self.old self.new) }
         ensures memory_alone { IsOkUnless result Errno.NoMemory }
     {
         let base = 2 * self.begun;
@@ -95,6 +98,7 @@ impl<'a> Talk<'a> {
         ensures goes { IfOk result (λ next. Goes (steps (watched_of_name (text_at 1 (words_in self.old)) (names_in self.old).monitors) (held_of_name (text_at 1 (words_in self.old)) (names_in self.old).sets) (names_in self.old) (words_in self.old)) next (left self.new)) }
         ensures rests { IfOk result (λ next. MatchNext next (Unit {0}) (left self.new ≡ goes_on (done (names_in self.new)))) }
         ensures counted { OnOk result (self.new.begun ≡ self.old.begun) }
+        ensures kept { left self.old ≡ goes_on (steps (watched_of_name (text_at 1 (words_in self.old)) (names_in self.old).monitors) (held_of_name (text_at 1 (words_in self.old)) (names_in self.old).sets) (names_in self.old) (words_in self.old)) → OnErr result ((left self.new ≡ left self.old) × (self.new.begun ≡ self.old.begun)) }
         ensures memory_alone { IsOkUnless result Errno.NoMemory }
     {
         let name = word(1, self.line);
@@ -103,6 +107,7 @@ impl<'a> Talk<'a> {
                 let mut monitor = monitor;
                 monitor.step(turns_word(word(2, self.line)));
                 self.monitor = Some(monitor);
+                self.stage = Stage::Watching;
                 self.watch(alloc, None)
             }
             None => {
@@ -119,6 +124,7 @@ impl<'a> Talk<'a> {
         ensures goes { IfOk result (λ next. Goes (stops (watched_of_name (text_at 1 (words_in self.old)) (names_in self.old).monitors) (held_of_name (text_at 1 (words_in self.old)) (names_in self.old).sets) (names_in self.old) (words_in self.old)) next (left self.new)) }
         ensures rests { IfOk result (λ next. MatchNext next (Unit {0}) (left self.new ≡ goes_on (done (names_in self.new)))) }
         ensures counted { OnOk result (self.new.begun ≡ self.old.begun) }
+        ensures kept { left self.old ≡ goes_on (stops (watched_of_name (text_at 1 (words_in self.old)) (names_in self.old).monitors) (held_of_name (text_at 1 (words_in self.old)) (names_in self.old).sets) (names_in self.old) (words_in self.old)) → OnErr result ((left self.new ≡ left self.old) × (self.new.begun ≡ self.old.begun)) }
         ensures memory_alone { IsOkUnless result Errno.NoMemory }
     {
         match take_monitor(&mut self.monitors, word(1, self.line)) {
@@ -126,6 +132,7 @@ impl<'a> Talk<'a> {
                 let mut monitor = monitor;
                 monitor.stop();
                 self.monitor = Some(monitor);
+                self.stage = Stage::Watching;
                 self.watch(alloc, None)
             }
             None => self.stop_set(alloc),
@@ -137,6 +144,7 @@ impl<'a> Talk<'a> {
         ensures goes { IfOk result (λ next. Goes (stops None (held_of_name (text_at 1 (words_in self.old)) (names_in self.old).sets) (names_in self.old) (words_in self.old)) next (left self.new)) }
         ensures rests { IfOk result (λ next. MatchNext next (Unit {0}) (left self.new ≡ goes_on (done (names_in self.new)))) }
         ensures counted { OnOk result (self.new.begun ≡ self.old.begun) }
+        ensures kept { left self.old ≡ goes_on (stops None (held_of_name (text_at 1 (words_in self.old)) (names_in self.old).sets) (names_in self.old) (words_in self.old)) → OnErr result ((left self.new ≡ left self.old) × (self.new.begun ≡ self.old.begun)) }
         ensures memory_alone { IsOkUnless result Errno.NoMemory }
     {
         match take_set(&mut self.sets, word(1, self.line)) {
@@ -144,6 +152,7 @@ impl<'a> Talk<'a> {
                 let mut client = client;
                 client.stop();
                 self.client = client;
+                self.stage = Stage::Holding;
                 self.hold(alloc, None)
             }
             None => self.refuse(alloc, Errno::BadF),
@@ -155,8 +164,10 @@ impl<'a> Talk<'a> {
         ensures goes { IfOk result (λ next. Goes (given (then_left (client_left self.old.client) (keeps_set (text_at 1 (words_in self.old)) (names_in self.old))) (option_copied got.entry)) next (left self.new)) }
         ensures rests { IfOk result (λ next. MatchNext next (Unit {0}) (left self.new ≡ goes_on (done (names_in self.new)))) }
         ensures counted { OnOk result (self.new.begun ≡ self.old.begun) }
+        ensures kept { OnErr result (StaysLeft self.old self.new) }
         ensures memory_alone { IsOkUnless result Errno.NoMemory }
     {
+        self.sets.reserve(1)?;
         match self.client.next(alloc, got)? {
             Next::Call(what) => {
                 self.stage = Stage::Holding;
@@ -166,27 +177,30 @@ impl<'a> Talk<'a> {
                 self.stage = Stage::Holding;
                 Ok(Next::Print(text))
             }
-            Next::End => self.keep_set(),
+            Next::End => Ok(self.keep_set()),
         }
     }
 
     /// The gpioset has its name from now on, where it holds its request.
-    fn keep_set(&mut self) -> Result<Next, Errno>
-        ensures goes { IfOk result (λ next. Goes (keeps_set (text_at 1 (words_in self.old)) (names_in self.old) (held_by self.old.client)) next (left self.new)) }
-        ensures rests { IfOk result (λ next. MatchNext next (Unit {0}) (left self.new ≡ goes_on (done (names_in self.new)))) }
-        ensures counted { OnOk result (self.new.begun ≡ self.old.begun) }
-        ensures memory_alone { IsOkUnless result Errno.NoMemory }
+    fn keep_set(&mut self) -> Next
+        requires room { vec_len self.old.sets + 1 ≤ vec_capacity self.old.sets }
+        ensures goes { Goes (keeps_set (text_at 1 (words_in self.old)) (names_in self.old) (held_by self.old.client)) result (left self.new) }
+        ensures rests { MatchNext result (Unit {0}) (left self.new ≡ goes_on (done (names_in self.new))) }
+        ensures counted { self.new.begun ≡ self.old.begun }
     {
         let client = mem::replace(&mut self.client, Client::Nothing);
         match client.held_slot() {
             Some(_) => {
-                self.sets.push(SetRow {
+                let row = SetRow {
                     name: word(1, self.line),
                     client,
-                })?;
-                Ok(self.end())
+                };
+                match self.sets.push(row) {
+                    Ok(()) => self.end(),
+                    Err(_) => unreachable!(),
+                }
             }
-            None => Ok(self.end()),
+            None => self.end(),
         }
     }
 
@@ -195,23 +209,26 @@ impl<'a> Talk<'a> {
         ensures goes { IfOk result (λ next. Goes (given (then_left (some_left self.old.monitor) (keeps_monitor (text_at 1 (words_in self.old)) (names_in self.old))) (option_copied got.entry)) next (left self.new)) }
         ensures rests { IfOk result (λ next. MatchNext next (Unit {0}) (left self.new ≡ goes_on (done (names_in self.new)))) }
         ensures counted { OnOk result (self.new.begun ≡ self.old.begun) }
+        ensures kept { OnErr result (StaysLeft self.old self.new) }
         ensures memory_alone { IsOkUnless result Errno.NoMemory }
     {
+        self.monitors.reserve(1)?;
         match self.monitor.take() {
             Some(monitor) => {
                 let mut monitor = monitor;
-                match monitor.next(alloc, got)? {
-                    Next::Call(what) => {
-                        self.monitor = Some(monitor);
+                let step = monitor.next(alloc, got);
+                self.monitor = Some(monitor);
+                match step {
+                    Ok(Next::Call(what)) => {
                         self.stage = Stage::Watching;
                         Ok(Next::Call(what))
                     }
-                    Next::Print(text) => {
-                        self.monitor = Some(monitor);
+                    Ok(Next::Print(text)) => {
                         self.stage = Stage::Watching;
                         Ok(Next::Print(text))
                     }
-                    Next::End => self.keep_monitor(monitor),
+                    Ok(Next::End) => Ok(self.keep_monitor()),
+                    Err(errno) => Err(errno),
                 }
             }
             None => Ok(self.end()),
@@ -219,21 +236,36 @@ impl<'a> Talk<'a> {
     }
 
     /// The monitor has its name from now on, where it watches its lines.
-    fn keep_monitor(&mut self, monitor: Monitor) -> Result<Next, Errno>
-        ensures goes { IfOk result (λ next. Goes (keeps_monitor (text_at 1 (words_in self.old)) (names_in self.old) (watched_by monitor)) next (left self.new)) }
-        ensures rests { IfOk result (λ next. MatchNext next (Unit {0}) (left self.new ≡ goes_on (done (names_in self.new)))) }
-        ensures counted { OnOk result (self.new.begun ≡ self.old.begun) }
-        ensures memory_alone { IsOkUnless result Errno.NoMemory }
+    fn keep_monitor(&mut self) -> Next
+        requires room { vec_len self.old.monitors + 1 ≤ vec_capacity self.old.monitors }
+        ensures goes { Goes (keeps_monitor (text_at 1 (words_in self.old)) (names_in self.old) (some_watched self.old.monitor)) result (left self.new) }
+        ensures rests { MatchNext result (Unit {0}) (left self.new ≡ goes_on (done (names_in self.new))) }
+        ensures counted { self.new.begun ≡ self.old.begun }
+    {
+        match self.monitor.take() {
+            Some(monitor) => self.keep_watching(monitor),
+            None => self.end(),
+        }
+    }
+
+    fn keep_watching(&mut self, monitor: Monitor) -> Next
+        requires room { vec_len self.old.monitors + 1 ≤ vec_capacity self.old.monitors }
+        ensures goes { Goes (keeps_monitor (text_at 1 (words_in self.old)) (names_in self.old) (watched_by monitor)) result (left self.new) }
+        ensures rests { MatchNext result (Unit {0}) (left self.new ≡ goes_on (done (names_in self.new))) }
+        ensures counted { self.new.begun ≡ self.old.begun }
     {
         match monitor.watched_slot() {
             Some(_) => {
-                self.monitors.push(MonitorRow {
+                let row = MonitorRow {
                     name: word(1, self.line),
                     monitor,
-                })?;
-                Ok(self.end())
+                };
+                match self.monitors.push(row) {
+                    Ok(()) => self.end(),
+                    Err(_) => unreachable!(),
+                }
             }
-            None => Ok(self.end()),
+            None => self.end(),
         }
     }
 }

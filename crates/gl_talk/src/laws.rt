@@ -1,17 +1,9 @@
-//! What statements cost, whatever they are answered, that the tables of words are whole, and that words are read as they are. Each law stands as the
-//! contract of a function that does nothing.
-ghost use Rattle.std.specs.Prelude.{◌≡◌, true, Some};
-ghost use Rattle.std.specs.List.{list_any};
-ghost use Rattle.gl_args.specs.LookUps.{same_option};
-ghost use Rattle.gl_args.specs.Names.{tool_named, tool_text};
-ghost use Rattle.gl_args.specs.declared.names.OptionName.{OptionName};
-ghost use Rattle.gl_args.specs.declared.names.TheConstants.{OPTIONS};
-ghost use Rattle.gl_args.specs.declared.names.ToolName.{ToolName};
-ghost use Rattle.gl_script.specs.Table.{keyword_name, keyword_of};
-ghost use Rattle.gl_script.specs.declared.table.Keyword.{Keyword};
+//! What statements cost, whatever they are answered, which files they name, and that words are read as they are. Each law
+//! stands as the contract of a function that does nothing.
 ghost use Rattle.gl_talk.specs.Costs.{StatementsKeepWithinCost, TalksKeepWithinCost, TalksMakeAtMost};
 ghost use Rattle.gl_talk.specs.Slots.{SlotsAreOwn};
 ghost use Rattle.gl_talk.specs.Files.{EndClosesAll, EndMakesAtMost, NoneIsOpenBefore, StatementsFindTheirFiles, StatementsLeaveEntries, TalksFindTheirFiles};
+ghost use Rattle.gl_talk.specs.Numbers.{FilesCloseByNumber};
 ghost use Rattle.gl_talk.specs.InParts.{StatementsComeInParts, TalksAreStatementsAndTheEnd};
 ghost use Rattle.gl_talk.specs.Readings.{CommandsAreRead, HeldToolsAreRead, IrqsAreRead, LabelsAreRead, NumbersAreRead, PathsAreRead, PinsAreRead, WordsAreRead};
 
@@ -58,19 +50,17 @@ pub fn slots_are_own()
     ensures { SlotsAreOwn }
 {}
 
+/// Whatever a talk is answered, but that no closing is refused, its end closes the files that are open in the order of their
+/// numbers: whatever number each was given where it was opened, above those of the files that were open then.
+pub fn files_close_by_number()
+    ensures { FilesCloseByNumber }
+{}
+
 /// Statements in a row are those of a first list and then those of a second one, so a talk may wait between the two; and what
 /// comes behind them comes behind the names that they give. A whole talk is its statements, and then the end.
 pub fn talks_are_statements_and_the_end()
     ensures parts { StatementsComeInParts }
     ensures end { TalksAreStatementsAndTheEnd }
-{}
-
-/// Each statement is the one that its word begins, each tool is the one that its name names, and each option of a tool is
-/// in the list of options: no row of these tables is missing.
-pub fn tables_are_whole()
-    ensures statements { (k : Keyword) → keyword_of (keyword_name k) ≡ Some k }
-    ensures tools { (t : ToolName) → tool_named (tool_text t) ≡ Some t }
-    ensures options { (o : OptionName) → list_any (same_option o) OPTIONS ≡ true }
 {}
 
 /// A word that is of its form is read as what it is: no statement of a session is read with a default in a word's place.

@@ -16,7 +16,7 @@ mod tools;
 mod words;
 
 pub use laws::{
-    slots_are_own, statements_keep_within_cost, statements_leave_entries, tables_are_whole,
+    files_close_by_number, slots_are_own, statements_keep_within_cost, statements_leave_entries,
     talks_are_statements_and_the_end, talks_find_their_files, talks_keep_within_cost,
     talks_make_at_most, words_are_read_as_they_are,
 };

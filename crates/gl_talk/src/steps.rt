@@ -1,5 +1,5 @@
 //! The steps of a talk.
-ghost use Rattle.std.specs.Prelude.{◌≡◌, ◌+◌, ◌*◌, ◌<◌, ◌≤◌, ◌++◌, ◌∷◌, [], true, false, IfOk, OnOk, IsOkUnless, option_copied};
+ghost use Rattle.std.specs.Prelude.{◌≡◌, ◌+◌, ◌*◌, ◌<◌, ◌≤◌, ◌++◌, ◌∷◌, [], true, false, IfOk, OnOk, OnErr, IsOkUnless, option_copied};
 ghost use Rattle.gl_base.specs.Operation.{refusal, bytes_of};
 ghost use Rattle.gl_base.specs.Words.{text_at};
 ghost use Rattle.gl_args.specs.Program.{Goes, MatchNext, given, goes_on, waits, done, ask, then_left};
@@ -8,7 +8,7 @@ ghost use Rattle.gl_script.specs.Table.{keyword_of};
 ghost use Rattle.gl_values.specs.Client.{client_left};
 ghost use Rattle.gl_talk.specs.Open.{with_file};
 ghost use Rattle.gl_talk.specs.Plans.{planned};
-ghost use Rattle.gl_talk.specs.Talk.{acts, closes_all, does, file, left, names_in, quits, refused, replied, runs, shows, slot_in, told, words_in};
+ghost use Rattle.gl_talk.specs.Talk.{StaysBegun, StaysLeft, acts, closes_all, does, file, left, names_in, quits, refused, replied, runs, shows, slot_in, told, words_in};
 ghost use Rattle.gl_talk.specs.ToolWords.{word_texts};
 
 use crate::closing::slots_in_order;
@@ -53,6 +53,7 @@ impl<'a> Talk<'a> {
         ensures goes { IfOk result (λ next. Goes (refused errno (names_in self.old)) next (left self.new)) }
         ensures rests { IfOk result (λ next. MatchNext next (Unit {0}) (left self.new ≡ goes_on (done (names_in self.new)))) }
         ensures counted { OnOk result (self.new.begun ≡ self.old.begun) }
+        ensures kept { OnErr result (self.new ≡ self.old) }
         ensures memory_alone { IsOkUnless result Errno.NoMemory }
     {
         let text = line_of(alloc, errno.name().as_bytes())?;
@@ -60,11 +61,14 @@ impl<'a> Talk<'a> {
     }
 
     /// The first step of the statement that was begun.
+    #[tactic(auto, using(crate::proofs::Staying::begun_stays))]
     pub(crate) fn start(&mut self, alloc: Global) -> Result<Next, Errno>
-        requires { self.old.begun ≤ 1048576 }
+        requires begun { self.old.begun ≤ 1048576 }
+        requires stage { self.old.stage ≡ Stage.Begun }
         ensures goes { IfOk result (λ next. Goes (does (names_in self.old) (slot_in self.old) (words_in self.old)) next (left self.new)) }
         ensures rests { IfOk result (λ next. MatchNext next (Unit {0}) (left self.new ≡ goes_on (done (names_in self.new)))) }
         ensures counted { OnOk result (self.new.begun ≡ self.old.begun) }
+        ensures kept { OnErr result ((left self.new ≡ left self.old) × (self.new.begun ≡ self.old.begun)) }
         ensures memory_alone { IsOkUnless result Errno.NoMemory }
     {
         let keyword = keyword_of(word(0, self.line));
@@ -85,6 +89,7 @@ impl<'a> Talk<'a> {
         ensures goes { IfOk result (λ next. Goes (acts plan.now (names_in self.old) (slot_in self.old) (words_in self.old)) next (left self.new)) }
         ensures rests { IfOk result (λ next. MatchNext next (Unit {0}) (left self.new ≡ goes_on (done (names_in self.new)))) }
         ensures counted { OnOk result (self.new.begun ≡ self.old.begun) }
+        ensures kept { OnErr result (self.new ≡ self.old) }
         ensures memory_alone { IsOkUnless result Errno.NoMemory }
     {
         match plan {
@@ -103,6 +108,7 @@ impl<'a> Talk<'a> {
         ensures goes { IfOk result (λ next. Goes (runs (tool_said (word_texts (words_in self.old))) (names_in self.old) (slot_in self.old) (words_in self.old)) next (left self.new)) }
         ensures rests { IfOk result (λ next. MatchNext next (Unit {0}) (left self.new ≡ goes_on (done (names_in self.new)))) }
         ensures counted { OnOk result (self.new.begun ≡ self.old.begun) }
+        ensures kept { OnErr result (StaysBegun self.old self.new) }
         ensures memory_alone { IsOkUnless result Errno.NoMemory }
     {
         let words = words_of(alloc, self.line)?;
@@ -124,6 +130,7 @@ impl<'a> Talk<'a> {
         ensures goes { IfOk result (λ next. Goes (given (then_left (client_left self.old.client) (λ _. done (names_in self.old))) (option_copied got.entry)) next (left self.new)) }
         ensures rests { IfOk result (λ next. MatchNext next (Unit {0}) (left self.new ≡ goes_on (done (names_in self.new)))) }
         ensures counted { OnOk result (self.new.begun ≡ self.old.begun) }
+        ensures kept { OnErr result (StaysLeft self.old self.new) }
         ensures memory_alone { IsOkUnless result Errno.NoMemory }
     {
         match self.client.next(alloc, got)? {
@@ -150,6 +157,7 @@ impl<'a> Talk<'a> {
         ensures goes { IfOk result (λ next. Goes (given (waits (λ got. replied reply (names_in self.old) (slot_in self.old) (words_in self.old) got)) (option_copied got.entry)) next (left self.new)) }
         ensures rests { IfOk result (λ next. MatchNext next (Unit {0}) (left self.new ≡ goes_on (done (names_in self.new)))) }
         ensures counted { OnOk result (self.new.begun ≡ self.old.begun) }
+        ensures kept { OnErr result (StaysLeft self.old self.new) }
         ensures memory_alone { IsOkUnless result Errno.NoMemory }
     {
         let none = Got::Done;
@@ -169,6 +177,7 @@ impl<'a> Talk<'a> {
         ensures goes { IfOk result (λ next. Goes (told reply (names_in self.old) (slot_in self.old) (words_in self.old) got.now) next (left self.new)) }
         ensures rests { IfOk result (λ next. MatchNext next (Unit {0}) (left self.new ≡ goes_on (done (names_in self.new)))) }
         ensures counted { OnOk result (self.new.begun ≡ self.old.begun) }
+        ensures kept { OnErr result (StaysLeft self.old self.new) }
         ensures memory_alone { IsOkUnless result Errno.NoMemory }
     {
         let text = match reply {
@@ -195,6 +204,7 @@ impl<'a> Talk<'a> {
         ensures goes { IfOk result (λ next. Goes (done (with_file (file (text_at 1 (words_in self.old)) (slot_in self.old) false) (names_in self.old))) next (left self.new)) }
         ensures rests { IfOk result (λ next. MatchNext next (Unit {0}) (left self.new ≡ goes_on (done (names_in self.new)))) }
         ensures counted { OnOk result (self.new.begun ≡ self.old.begun) }
+        ensures kept { OnErr result (StaysLeft self.old self.new) }
         ensures memory_alone { IsOkUnless result Errno.NoMemory }
     {
         self.files.push(FileRow {
@@ -211,6 +221,7 @@ impl<'a> Talk<'a> {
         ensures goes { IfOk result (λ next. Goes (told Reply.Made (names_in self.old) (slot_in self.old) (words_in self.old) (Got.Bytes bytes.now)) next (left self.new)) }
         ensures rests { IfOk result (λ next. MatchNext next (Unit {0}) (left self.new ≡ goes_on (done (names_in self.new)))) }
         ensures counted { OnOk result (self.new.begun ≡ self.old.begun) }
+        ensures kept { OnErr result (StaysLeft self.old self.new) }
         ensures memory_alone { IsOkUnless result Errno.NoMemory }
     {
         let text = fd_text(alloc, bytes)?;
@@ -227,6 +238,7 @@ impl<'a> Talk<'a> {
         ensures goes { IfOk result (λ next. Goes (quits (names_in self.old)) next (left self.new)) }
         ensures rests { IfOk result (λ next. MatchNext next (Unit {0}) (left self.new ≡ goes_on (done (names_in self.new)))) }
         ensures counted { OnOk result (self.new.begun ≡ self.old.begun) }
+        ensures kept { OnErr result (self.new ≡ self.old) }
         ensures memory_alone { IsOkUnless result Errno.NoMemory }
     {
         self.closing = slots_in_order(alloc, &self.files, &self.sets, &self.monitors)?;

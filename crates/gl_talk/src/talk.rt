@@ -1,5 +1,5 @@
 //! Statements one after the other.
-ghost use Rattle.std.specs.Prelude.{◌≡◌, ◌+◌, ◌*◌, ◌<◌, ◌≤◌, [], ◌∷◌, List, IfOk, OnOk, IsOkUnless, option_copied};
+ghost use Rattle.std.specs.Prelude.{◌≡◌, ◌+◌, ◌*◌, ◌<◌, ◌≤◌, [], ◌∷◌, List, IfOk, OnOk, OnErr, IsOkUnless, option_copied};
 ghost use Rattle.gl_args.specs.Program.{Goes, MatchNext, given, goes_on, done, then_left};
 ghost use Rattle.gl_base.specs.Words.{Span};
 ghost use Rattle.gl_script.specs.Columns.{columns};
@@ -105,6 +105,8 @@ impl<'a> Talk<'a> {
     /// What it does next. `got` is the result of the operation that it asked for last, if it asked for one. End means
     /// that the statement is done, or that all files are closed; the names that are there then are said by what is
     /// left. With anything that may come behind it, it is what the whole does next; so with the talk's further statements.
+    /// Where memory is wanted, what is left is what was left: no tool and no file is lost, and it may be called again with the same
+    /// result. (`quit` gives up a statement that is under way: let it come to its end before.)
     pub fn next(&mut self, alloc: Global, got: Option<&Got>) -> Result<Next, Errno>
         requires { self.old.begun ≤ 1048576 }
         ensures goes { IfOk result (λ next. Goes (given (left self.old) (option_copied got.entry)) next (left self.new)) }
@@ -116,17 +118,20 @@ impl<'a> Talk<'a> {
             (Goes (given (talk_left self.old statements) (option_copied got.entry)) next (talk_left self.new statements))
             (given (talk_left self.old statements) (option_copied got.entry) ≡ talks self.new.begun statements (names_in self.new))) }
         ensures counted { OnOk result (self.new.begun ≡ self.old.begun) }
+        ensures kept { OnErr result ((left self.new ≡ left self.old) × (self.new.begun ≡ self.old.begun)) }
         ensures memory_alone { IsOkUnless result Errno.NoMemory }
     {
         self.advance(alloc, got)
     }
 
     /// What the statement or the end does next.
+    #[tactic(auto, using(crate::proofs::Staying::left_stays))]
     fn advance(&mut self, alloc: Global, got: Option<&Got>) -> Result<Next, Errno>
         requires { self.old.begun ≤ 1048576 }
         ensures goes { IfOk result (λ next. Goes (given (left self.old) (option_copied got.entry)) next (left self.new)) }
         ensures rests { IfOk result (λ next. MatchNext next (Unit {0}) (left self.new ≡ goes_on (done (names_in self.new)))) }
         ensures counted { OnOk result (self.new.begun ≡ self.old.begun) }
+        ensures kept { OnErr result ((left self.new ≡ left self.old) × (self.new.begun ≡ self.old.begun)) }
         ensures memory_alone { IsOkUnless result Errno.NoMemory }
     {
         let stage = self.stage;

@@ -1,5 +1,5 @@
 //! The four tools as one client.
-ghost use Rattle.std.specs.Prelude.{◌≡◌, ◌+◌, ◌<◌, ◌^◌, true, false, not, is_some, None, IfOk, IsOkUnless, option_copied};
+ghost use Rattle.std.specs.Prelude.{◌≡◌, ◌+◌, ◌<◌, ◌^◌, true, false, not, is_some, None, IfOk, OnErr, IsOkUnless, option_copied};
 ghost use Rattle.gl_args.specs.Options.{tool_in};
 ghost use Rattle.gl_args.specs.Program.{Program, Left, Goes, given, goes_on, done, MatchNext};
 ghost use Rattle.gl_values.specs.Set.{stops};
@@ -64,10 +64,13 @@ impl Client {
     /// What it does next. `got` is the result of the operation that it asked for last, if it asked for one. End means
     /// that the statement, the start or the stop is done: then what is left is said by what it holds, and it has
     /// ended exactly where it holds nothing. Behind a Call or a Print it hasn't ended.
+    /// Where memory is wanted, what is left is what was left, and it holds what it held: it may be called again with the same
+    /// result.
     pub fn next(&mut self, alloc: Global, got: Option<&Got>) -> Result<Next, Errno>
         ensures goes { IfOk result (λ next. Goes (given (client_left self.old) (option_copied got.entry)) next (client_left self.new)) }
         ensures rests { IfOk result (λ next. MatchNext next (Unit {0}) (client_left self.new ≡ goes_on (done (held_by self.new)))) }
         ensures ended { IfOk result (λ next. MatchNext next (has_ended self.new ≡ false) (has_ended self.new ≡ not (is_some (held_by self.new)))) }
+        ensures kept { OnErr result ((client_left self.new ≡ client_left self.old) × (held_by self.new ≡ held_by self.old)) }
         ensures memory_alone { IsOkUnless result Errno.NoMemory }
     {
         match self {

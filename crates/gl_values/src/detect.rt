@@ -1,5 +1,5 @@
 //! gpiodetect.
-ghost use Rattle.std.specs.Prelude.{◌≡◌, ◌+◌, ◌<◌, ◌^◌, [], ◌∷◌, IfOk, IsSome, IsOkUnless, MatchOption, option_copied};
+ghost use Rattle.std.specs.Prelude.{◌≡◌, ◌+◌, ◌<◌, ◌^◌, [], ◌∷◌, IfOk, IsSome, OnErr, IsOkUnless, MatchOption, option_copied};
 ghost use Rattle.gl_args.specs.Program.{print, Goes, given, goes_on};
 ghost use Rattle.gl_lines.specs.Texts.{failed_line};
 ghost use Rattle.gl_values.specs.Chips.{ends, is_named_by, leaves, passes_over, words_from};
@@ -56,9 +56,10 @@ impl Detect {
         }
     }
 
-    /// What it does next.
+    /// What it does next. Where memory is wanted it is as it was, and may be called again with the same result.
     pub fn next(&mut self, alloc: Global, got: Option<&Got>) -> Result<Next, Errno>
         ensures goes { IfOk result (λ next. Goes (given (left self.old) (option_copied got.entry)) next (left self.new)) }
+        ensures kept { OnErr result (self.new ≡ self.old) }
         ensures memory_alone { IsOkUnless result Errno.NoMemory }
     {
         let none = Got::Done;
@@ -118,6 +119,7 @@ impl Detect {
 
     fn opened(&mut self, alloc: Global, refusal: Option<Errno>) -> Result<Next, Errno>
         ensures goes { IfOk result (λ next. Goes (opened self.old.base (chips_from self.old.words.items self.old.next self.old.base) (is_named_by self.old.words.items) refusal) next (left self.new)) }
+        ensures kept { OnErr result (self.new ≡ self.old) }
         ensures memory_alone { IsOkUnless result Errno.NoMemory }
     {
         match refusal {
@@ -143,6 +145,7 @@ impl Detect {
 
     fn asked(&mut self, alloc: Global, refusal: Option<Errno>, bytes: &[u8]) -> Result<Next, Errno>
         ensures goes { IfOk result (λ next. Goes (asked self.old.base (chips_from self.old.words.items self.old.next self.old.base) refusal bytes.now) next (left self.new)) }
+        ensures kept { OnErr result (self.new ≡ self.old) }
         ensures memory_alone { IsOkUnless result Errno.NoMemory }
     {
         match refusal {
@@ -159,6 +162,7 @@ impl Detect {
 
     fn closed(&mut self, alloc: Global, chip: &Chip, refusal: Option<Errno>) -> Result<Next, Errno>
         ensures goes { IfOk result (λ next. Goes (closed chip.now (chips_from self.old.words.items self.old.next self.old.base) refusal) next (left self.new)) }
+        ensures kept { OnErr result (self.new ≡ self.old) }
         ensures memory_alone { IsOkUnless result Errno.NoMemory }
     {
         match refusal {
@@ -174,6 +178,7 @@ impl Detect {
     /// Prints a refusal, with nothing open.
     fn fail(&mut self, alloc: Global, errno: Errno) -> Result<Next, Errno>
         ensures goes { IfOk result (λ next. Goes (print (failed_line tool errno) ends) next (left self.new)) }
+        ensures kept { OnErr result (self.new ≡ self.old) }
         ensures memory_alone { IsOkUnless result Errno.NoMemory }
     {
         let text = failed_line(alloc, ToolName::Detect, errno)?;
@@ -184,6 +189,7 @@ impl Detect {
     /// Prints a refusal, with the chip open.
     fn fail_open(&mut self, alloc: Global, errno: Errno) -> Result<Next, Errno>
         ensures goes { IfOk result (λ next. Goes (print (failed_line tool errno) (leaves self.old.base)) next (left self.new)) }
+        ensures kept { OnErr result (self.new ≡ self.old) }
         ensures memory_alone { IsOkUnless result Errno.NoMemory }
     {
         let text = failed_line(alloc, ToolName::Detect, errno)?;

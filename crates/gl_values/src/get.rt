@@ -1,5 +1,5 @@
 //! gpioget.
-ghost use Rattle.std.specs.Prelude.{◌≡◌, List, Some, IfOk, IsOkUnless, option_copied};
+ghost use Rattle.std.specs.Prelude.{◌≡◌, List, Some, IfOk, OnErr, IsOkUnless, option_copied};
 ghost use Rattle.gl_args.specs.Options.{options_in};
 ghost use Rattle.gl_args.specs.Program.{Goes, given, goes_on, print, then_by};
 ghost use Rattle.gl_lines.specs.declared.found_line.FoundLine.{FoundLine};
@@ -54,9 +54,10 @@ impl Get {
         }
     }
 
-    /// What it does next.
+    /// What it does next. Where memory is wanted, what is left is what was left.
     pub fn next(&mut self, alloc: Global, got: Option<&Got>) -> Result<Next, Errno>
         ensures goes { IfOk result (λ next. Goes (given (get_left self.old) (option_copied got.entry)) next (get_left self.new)) }
+        ensures kept { OnErr result (get_left self.new ≡ get_left self.old) }
         ensures memory_alone { IsOkUnless result Errno.NoMemory }
     {
         let none = Got::Done;
@@ -123,6 +124,7 @@ impl Get {
 
     fn asked(&mut self, alloc: Global, refusal: Option<Errno>, bytes: &[u8]) -> Result<Next, Errno>
         ensures goes { IfOk result (λ next. Goes (asked self.old.finder.made (options_in self.old.finder.opts) refusal bytes.now) next (get_left self.new)) }
+        ensures kept { OnErr result (self.new ≡ self.old) }
         ensures memory_alone { IsOkUnless result Errno.NoMemory }
     {
         match refusal {
@@ -138,6 +140,7 @@ impl Get {
 
     fn closed(&mut self, alloc: Global, bits: u64, refusal: Option<Errno>) -> Result<Next, Errno>
         ensures goes { IfOk result (λ next. Goes (closed (options_in self.old.finder.opts) bits refusal) next (get_left self.new)) }
+        ensures kept { OnErr result (self.new ≡ self.old) }
         ensures memory_alone { IsOkUnless result Errno.NoMemory }
     {
         let text = match refusal {
@@ -151,6 +154,7 @@ impl Get {
     /// Prints a refusal, with the request open.
     fn fail_open(&mut self, alloc: Global, errno: Errno) -> Result<Next, Errno>
         ensures goes { IfOk result (λ next. Goes (print (failed_line tool errno) (leaves self.old.finder.made)) next (get_left self.new)) }
+        ensures kept { OnErr result (self.new ≡ self.old) }
         ensures memory_alone { IsOkUnless result Errno.NoMemory }
     {
         let text = failed_line(alloc, ToolName::Get, errno)?;

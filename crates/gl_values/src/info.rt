@@ -1,5 +1,5 @@
 //! gpioinfo.
-ghost use Rattle.std.specs.Prelude.{◌≡◌, ◌+◌, ◌<◌, ◌^◌, [], ◌∷◌, IfOk, IsSome, IsOkUnless, MatchOption, option_copied, is_some};
+ghost use Rattle.std.specs.Prelude.{◌≡◌, ◌+◌, ◌<◌, ◌^◌, [], ◌∷◌, IfOk, IsSome, OnErr, IsOkUnless, MatchOption, option_copied, is_some};
 ghost use Rattle.gl_args.specs.Options.{options_in};
 ghost use Rattle.gl_args.specs.Program.{print, Goes, given, goes_on};
 ghost use Rattle.gl_lines.specs.Texts.{failed_line};
@@ -71,9 +71,10 @@ impl InfoTool {
         }
     }
 
-    /// What it does next.
+    /// What it does next. Where memory is wanted it is as it was, and may be called again with the same result.
     pub fn next(&mut self, alloc: Global, got: Option<&Got>) -> Result<Next, Errno>
         ensures goes { IfOk result (λ next. Goes (given (info_left self.old) (option_copied got.entry)) next (info_left self.new)) }
+        ensures kept { OnErr result (self.new ≡ self.old) }
         ensures memory_alone { IsOkUnless result Errno.NoMemory }
     {
         let none = Got::Done;
@@ -130,6 +131,7 @@ impl InfoTool {
 
     fn opened(&mut self, alloc: Global, refusal: Option<Errno>) -> Result<Next, Errno>
         ensures goes { IfOk result (λ next. Goes (opened self.old.base (options_in self.old.opts) (chips_from self.old.base (options_in self.old.opts) self.old.next) refusal) next (info_left self.new)) }
+        ensures kept { OnErr result (self.new ≡ self.old) }
         ensures memory_alone { IsOkUnless result Errno.NoMemory }
     {
         match refusal {
@@ -155,6 +157,7 @@ impl InfoTool {
 
     fn asked(&mut self, alloc: Global, refusal: Option<Errno>, bytes: &[u8]) -> Result<Next, Errno>
         ensures goes { IfOk result (λ next. Goes (asked self.old.base (options_in self.old.opts) (chips_from self.old.base (options_in self.old.opts) self.old.next) refusal bytes.now) next (info_left self.new)) }
+        ensures kept { OnErr result (self.new ≡ self.old) }
         ensures memory_alone { IsOkUnless result Errno.NoMemory }
     {
         match refusal {
@@ -169,6 +172,7 @@ impl InfoTool {
     /// The chip told of itself: its lines are asked.
     fn told(&mut self, alloc: Global, chip: &Chip) -> Result<Next, Errno>
         ensures goes { IfOk result (λ next. Goes (told self.old.base (options_in self.old.opts) (chips_from self.old.base (options_in self.old.opts) self.old.next) chip.now) next (info_left self.new)) }
+        ensures kept { OnErr result (self.new ≡ self.old) }
         ensures memory_alone { IsOkUnless result Errno.NoMemory }
     {
         self.text = chip_head(alloc, chip)?;
@@ -205,6 +209,7 @@ impl InfoTool {
         bytes: &[u8],
     ) -> Result<Next, Errno>
         ensures goes { IfOk result (λ next. Goes (line_told self.old.base (options_in self.old.opts) (lines_from self.old.base (options_in self.old.opts) (chips_from self.old.base (options_in self.old.opts) self.old.next) self.old.total self.old.left) self.old.total self.old.left self.old.text refusal bytes.now) next (info_left self.new)) }
+        ensures kept { OnErr result (self.new ≡ self.old) }
         ensures memory_alone { IsOkUnless result Errno.NoMemory }
     {
         match refusal {
@@ -222,6 +227,7 @@ impl InfoTool {
 
     fn closed(&mut self, alloc: Global, refusal: Option<Errno>) -> Result<Next, Errno>
         ensures goes { IfOk result (λ next. Goes (closed (chips_from self.old.base (options_in self.old.opts) self.old.next) self.old.text refusal) next (info_left self.new)) }
+        ensures kept { OnErr result (self.new ≡ self.old) }
         ensures memory_alone { IsOkUnless result Errno.NoMemory }
     {
         match refusal {
@@ -238,6 +244,7 @@ impl InfoTool {
     /// Prints a refusal, with nothing open.
     fn fail(&mut self, alloc: Global, errno: Errno) -> Result<Next, Errno>
         ensures goes { IfOk result (λ next. Goes (print (failed_line tool errno) ends) next (info_left self.new)) }
+        ensures kept { OnErr result (self.new ≡ self.old) }
         ensures memory_alone { IsOkUnless result Errno.NoMemory }
     {
         let text = failed_line(alloc, ToolName::Info, errno)?;
@@ -248,6 +255,7 @@ impl InfoTool {
     /// Prints a refusal, with the chip open.
     fn fail_open(&mut self, alloc: Global, errno: Errno) -> Result<Next, Errno>
         ensures goes { IfOk result (λ next. Goes (print (failed_line tool errno) (leaves self.old.base)) next (info_left self.new)) }
+        ensures kept { OnErr result (self.new ≡ self.old) }
         ensures memory_alone { IsOkUnless result Errno.NoMemory }
     {
         let text = failed_line(alloc, ToolName::Info, errno)?;

@@ -1,5 +1,5 @@
 //! The line that gpioinfo prints for a line.
-ghost use Rattle.std.specs.Prelude.{◌≡◌, ◌++◌, OnOk, IsOkUnless};
+ghost use Rattle.std.specs.Prelude.{◌≡◌, ◌++◌, OnOk, OnErr, IsOkUnless};
 ghost use Rattle.gl_values.specs.InfoText.{direction_text, active_low_text, drive_text, bias_text, edges_text, clock_text, period_text, some_period_text, microseconds_text, user_text, name_text, words_text, line_text, is_both, offset_text, left_justified, consumer_text};
 
 use gl_base::{ByteList, Errno, flag, has_bit, put_decimal, put_repeated, put_right_justified};
@@ -13,8 +13,25 @@ const OFFSET_COLUMNS: usize = 3;
 /// How many columns a name has.
 const NAME_COLUMNS: usize = 16;
 
-/// Appends what is printed for a line: its offset, its name, and words on how it is used.
+/// Appends what is printed for a line: its offset, its name, and words on how it is used. Where memory is wanted the text is as
+/// it was.
 pub(crate) fn put_line(
+    alloc: Global,
+    unquoted: bool,
+    offset: u32,
+    info: &Info,
+    text: &mut ByteList,
+) -> Result<(), Errno>
+    ensures ok { OnOk result (text.new ≡ text.old ++ line_text unquoted offset info.now) }
+    ensures kept { OnErr result (text.new ≡ text.old) }
+    ensures memory_alone { IsOkUnless result Errno.NoMemory }
+{
+    let mut line = ByteList::new(alloc);
+    put_parts(alloc, unquoted, offset, info, &mut line)?;
+    text.push_all(line.as_slice())
+}
+
+fn put_parts(
     alloc: Global,
     unquoted: bool,
     offset: u32,

@@ -1,5 +1,5 @@
 //! gpioset.
-ghost use Rattle.std.specs.Prelude.{◌≡◌, true, false, not, is_some, None, IfOk, IsOkUnless, option_copied};
+ghost use Rattle.std.specs.Prelude.{◌≡◌, true, false, not, is_some, None, IfOk, OnErr, IsOkUnless, option_copied};
 ghost use Rattle.gl_args.specs.Options.{options_in};
 ghost use Rattle.gl_args.specs.Program.{Goes, given, goes_on, done, then_by, MatchNext};
 ghost use Rattle.gl_lines.specs.Finding.{Finding, left};
@@ -61,11 +61,12 @@ impl Set {
         }
     }
 
-    /// What it does next.
+    /// What it does next. Where memory is wanted, what is left is what was left, and it holds what it held.
     pub fn next(&mut self, alloc: Global, got: Option<&Got>) -> Result<Next, Errno>
         ensures goes { IfOk result (λ next. Goes (given (set_left self.old) (option_copied got.entry)) next (set_left self.new)) }
         ensures rests { IfOk result (λ next. MatchNext next (Unit {0}) (set_left self.new ≡ goes_on (done (held_of self.new)))) }
         ensures ended { IfOk result (λ next. MatchNext next (has_ended self.new.stage ≡ false) (has_ended self.new.stage ≡ not (is_some (held_of self.new)))) }
+        ensures kept { OnErr result ((set_left self.new ≡ set_left self.old) × (held_of self.new ≡ held_of self.old)) }
         ensures memory_alone { IsOkUnless result Errno.NoMemory }
     {
         let none = Got::Done;
@@ -183,6 +184,7 @@ impl Set {
     fn closed(&mut self, alloc: Global, refusal: Option<Errno>) -> Result<Next, Errno>
         ensures goes { IfOk result (λ next. Goes (closed refusal) next (set_left self.new)) }
         ensures ended { IfOk result (λ next. MatchNext next (has_ended self.new.stage ≡ false) (self.new.stage ≡ SetStage.Ended)) }
+        ensures kept { OnErr result (self.new ≡ self.old) }
         ensures memory_alone { IsOkUnless result Errno.NoMemory }
     {
         match refusal {

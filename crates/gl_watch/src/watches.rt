@@ -1,6 +1,6 @@
 //! The open chip files, in order of their opening.
 
-ghost use Rattle.std.specs.Prelude.{◌≡◌, ◌*◌, ◌<◌, ◌≤◌, [], ◌∷◌, ◌++◌, length, map, min, take, drop, nat_le, true, false, is_some, IfOk, IfSome, IsOkUnless};
+ghost use Rattle.std.specs.Prelude.{◌≡◌, ◌*◌, ◌<◌, ◌≤◌, [], ◌∷◌, ◌++◌, length, map, min, take, drop, nat_le, true, false, is_some, None, IfOk, IfSome, IsOkUnless};
 ghost use Rattle.std.specs.List.{flat_map};
 ghost use Rattle.gl_base.specs.Refusals.{answer, unless};
 ghost use Rattle.gl_base.specs.Rows.{change_first, without_first};
@@ -50,10 +50,12 @@ impl Watches {
         }
     }
 
-    /// Opens a file on the chip of a place, with a queue for its changes. It watches no line.
+    /// Opens a file of a new number on the chip of a place, with an empty queue for its changes. It watches no line.
     #[tactic(auto, unfolding(crate::specs::Files::no_lines))]
     pub fn add(&mut self, fd: u32, place: u8, queue: InfoQueue)
-        requires { length self.old < FILES_MAX }
+        requires room { length self.old < FILES_MAX }
+        requires number { file_at fd self.old ≡ None }
+        requires empty { queue ≡ [] }
         ensures { self.new ≡ self.old ++ new_file fd place queue ∷ [] }
     {
         let file = ChipFile {

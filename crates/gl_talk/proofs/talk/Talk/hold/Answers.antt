@@ -1,15 +1,32 @@
+use Rattle.std.proofs.Common.{List, map, sym, ap, subst}
 use Rattle.std.specs.Option.{option_copied}
 use Rattle.gl_args.specs.declared.next.Next.TheVariants.{Call, Print}
+use Rattle.gl_args.specs.Program.{Goes, given, then_left}
 use Rattle.gl_base.specs.Words.{text_at}
 use Rattle.gl_values.specs.Client.{client_left}
+use Rattle.gl_talk.specs.Open.{SetTool, set_in}
 use Rattle.gl_talk.specs.Talk.{keeps_set, names_in, words_in}
 use Rattle.gl_talk.proofs.Continuing.{part_step}
 use Rattle.gl_talk.proofs.talk.Talk.hold.Goals as goal
 
 pub returns-in-Call-clause-goes : goal.returns-in-Call-clause-goes
 returns-in-Call-clause-goes c =
-    part_step (client_left c.args.self.now.client) (client_left c.next.new.self) (keeps_set (text_at 1 (words_in c.args.self.now)) (names_in c.args.self.now)) (option_copied c.args.got) (Call c.in-Call.what) (rw c.in-Call.is at c.in_ok-what.ensures.goes)
+    let t = c.args.self.now in
+    let name = text_at 1 (words_in t) in
+    let before = client_left t.client in
+    let after = client_left c.next.new.self in
+    subst
+    (λ (sets : List SetTool). Goes (given (then_left before (keeps_set name (names_in t))) (option_copied c.args.got)) (Call c.in-Call.what) (then_left after (keeps_set name (record (names_in t) { sets = sets }))))
+    (ap (map set_in) (sym c.reserve.ensures.items))
+    (part_step before after (keeps_set name (names_in t)) (option_copied c.args.got) (Call c.in-Call.what) (rw c.in-Call.is at c.in_ok-what.ensures.goes))
 
 pub returns-in-Print-clause-goes : goal.returns-in-Print-clause-goes
 returns-in-Print-clause-goes c =
-    part_step (client_left c.args.self.now.client) (client_left c.next.new.self) (keeps_set (text_at 1 (words_in c.args.self.now)) (names_in c.args.self.now)) (option_copied c.args.got) (Print c.in-Print.text) (rw c.in-Print.is at c.in_ok-what.ensures.goes)
+    let t = c.args.self.now in
+    let name = text_at 1 (words_in t) in
+    let before = client_left t.client in
+    let after = client_left c.next.new.self in
+    subst
+    (λ (sets : List SetTool). Goes (given (then_left before (keeps_set name (names_in t))) (option_copied c.args.got)) (Print c.in-Print.text) (then_left after (keeps_set name (record (names_in t) { sets = sets }))))
+    (ap (map set_in) (sym c.reserve.ensures.items))
+    (part_step before after (keeps_set name (names_in t)) (option_copied c.args.got) (Print c.in-Print.text) (rw c.in-Print.is at c.in_ok-what.ensures.goes))
