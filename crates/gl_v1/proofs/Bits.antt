@@ -24,7 +24,7 @@ bits_from_below i (byte ∷ bytes) =
     omega arith
 
 -- the bits of at most 64 bytes are a word
-bits_word : (bytes : List ℕ) → length bytes ≤ 64 → bits_from 0 bytes < 18446744073709551616
+pub bits_word : (bytes : List ℕ) → length bytes ≤ 64 → bits_from 0 bytes < 18446744073709551616
 bits_word bytes short =
     let all : bits_from 0 bytes + 2 ^ 0 ≤ 2 ^ (0 + length bytes) = bits_from_below 0 bytes in
     let within : 0 + length bytes ≤ 64 = omega arith in

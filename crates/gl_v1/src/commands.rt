@@ -5,8 +5,8 @@ ghost use Rattle.std.specs.Option.{option_map};
 ghost use Rattle.gl_v1.specs.Commands.{chip_commands, command_for, event_commands, handle_commands, lines_of, numbered, sent_as, size_of};
 
 use crate::layout::{
-    V1_CHIP_INFO_SIZE, V1_EVENT_REQUEST_SIZE, V1_HANDLE_CONFIG_SIZE, V1_HANDLE_DATA_SIZE, V1_HANDLE_REQUEST_SIZE,
-    V1_LINE_INFO_SIZE,
+    V1_CHIP_INFO_SIZE, V1_EVENT_REQUEST_SIZE, V1_HANDLE_CONFIG_SIZE, V1_HANDLE_DATA_SIZE,
+    V1_HANDLE_REQUEST_SIZE, V1_LINE_INFO_SIZE,
 };
 use gl_base::command::{
     GET_CHIPINFO, GET_LINE, GET_LINEINFO, LINE_GET_VALUES, LINE_SET_CONFIG, LINE_SET_VALUES,

@@ -25,31 +25,79 @@ pub struct FlagPair {
 /// The flags that are asked for of the lines of a handle (`GPIOHANDLE_REQUEST_..`).
 pub const HANDLE_TABLE: [FlagPair; 8] = [
     FlagPair { old: 0, new: INPUT },
-    FlagPair { old: 1, new: OUTPUT },
-    FlagPair { old: 2, new: ACTIVE_LOW },
-    FlagPair { old: 3, new: OPEN_DRAIN },
-    FlagPair { old: 4, new: OPEN_SOURCE },
-    FlagPair { old: 5, new: BIAS_PULL_UP },
-    FlagPair { old: 6, new: BIAS_PULL_DOWN },
-    FlagPair { old: 7, new: BIAS_DISABLED },
+    FlagPair {
+        old: 1,
+        new: OUTPUT,
+    },
+    FlagPair {
+        old: 2,
+        new: ACTIVE_LOW,
+    },
+    FlagPair {
+        old: 3,
+        new: OPEN_DRAIN,
+    },
+    FlagPair {
+        old: 4,
+        new: OPEN_SOURCE,
+    },
+    FlagPair {
+        old: 5,
+        new: BIAS_PULL_UP,
+    },
+    FlagPair {
+        old: 6,
+        new: BIAS_PULL_DOWN,
+    },
+    FlagPair {
+        old: 7,
+        new: BIAS_DISABLED,
+    },
 ];
 
 /// The edges that are events (`GPIOEVENT_REQUEST_..`).
 pub const EVENT_TABLE: [FlagPair; 2] = [
-    FlagPair { old: 0, new: EDGE_RISING },
-    FlagPair { old: 1, new: EDGE_FALLING },
+    FlagPair {
+        old: 0,
+        new: EDGE_RISING,
+    },
+    FlagPair {
+        old: 1,
+        new: EDGE_FALLING,
+    },
 ];
 
 /// The flags that the information on a line shows (`GPIOLINE_FLAG_..`): in use, an output, and then those of a handle.
 pub const INFO_TABLE: [FlagPair; 8] = [
     FlagPair { old: 0, new: USED },
-    FlagPair { old: 1, new: OUTPUT },
-    FlagPair { old: 2, new: ACTIVE_LOW },
-    FlagPair { old: 3, new: OPEN_DRAIN },
-    FlagPair { old: 4, new: OPEN_SOURCE },
-    FlagPair { old: 5, new: BIAS_PULL_UP },
-    FlagPair { old: 6, new: BIAS_PULL_DOWN },
-    FlagPair { old: 7, new: BIAS_DISABLED },
+    FlagPair {
+        old: 1,
+        new: OUTPUT,
+    },
+    FlagPair {
+        old: 2,
+        new: ACTIVE_LOW,
+    },
+    FlagPair {
+        old: 3,
+        new: OPEN_DRAIN,
+    },
+    FlagPair {
+        old: 4,
+        new: OPEN_SOURCE,
+    },
+    FlagPair {
+        old: 5,
+        new: BIAS_PULL_UP,
+    },
+    FlagPair {
+        old: 6,
+        new: BIAS_PULL_DOWN,
+    },
+    FlagPair {
+        old: 7,
+        new: BIAS_DISABLED,
+    },
 ];
 
 /// A word with the bit `there` too, where `word` has the bit `here`.

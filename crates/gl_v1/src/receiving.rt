@@ -51,9 +51,17 @@ fn put_info(got: &[u8; 592], buf: &mut [u8])
     requires { length buf.old ≡ V1_LINE_INFO_SIZE }
     ensures { buf.new ≡ info_back got.now buf.old }
 {
-    put_u32(buf, V1_INFO_FLAGS, older_word(&INFO_TABLE, u64_at(got, INFO_FLAGS)));
+    put_u32(
+        buf,
+        V1_INFO_FLAGS,
+        older_word(&INFO_TABLE, u64_at(got, INFO_FLAGS)),
+    );
     put_bytes(buf, V1_INFO_NAME, bytes_at(got, INFO_NAME, NAME_SIZE));
-    put_bytes(buf, V1_INFO_CONSUMER, bytes_at(got, INFO_CONSUMER, NAME_SIZE));
+    put_bytes(
+        buf,
+        V1_INFO_CONSUMER,
+        bytes_at(got, INFO_CONSUMER, NAME_SIZE),
+    );
 }
 
 /// The whole events of v2 as events of the first uAPI, from the front on: the time and the edge of each. Every other
@@ -79,6 +87,10 @@ fn put_event(i: usize, got: &[u8], out: &mut [u8])
 {
     let from = LINE_EVENT_SIZE * i;
     let to = V1_EVENT_DATA_SIZE * i;
-    put_bytes(out, to + V1_DATA_TIMESTAMP, bytes_at(got, from + EVENT_TIMESTAMP, 8));
+    put_bytes(
+        out,
+        to + V1_DATA_TIMESTAMP,
+        bytes_at(got, from + EVENT_TIMESTAMP, 8),
+    );
     put_bytes(out, to + V1_DATA_ID, bytes_at(got, from + EVENT_ID, 4));
 }

@@ -11,13 +11,20 @@ ghost use Rattle.gl_v1.specs.To.{blank, event_request, handle_request, in_front,
 
 use crate::commands::{CommandV1, KindV1};
 use crate::flags::{EVENT_TABLE, HANDLE_TABLE, newer_word};
-use crate::layout::{V1_CHIP_INFO_SIZE, V1_CONFIG_FLAGS, V1_CONFIG_VALUES, V1_EVENT_CONSUMER, V1_EVENT_FLAGS, V1_EVENT_HANDLE_FLAGS, V1_EVENT_OFFSET, V1_EVENT_REQUEST_SIZE, V1_HANDLE_CONFIG_SIZE, V1_HANDLE_CONSUMER, V1_HANDLE_FLAGS, V1_HANDLE_LINES, V1_HANDLE_OFFSETS, V1_HANDLE_OFFSETS_SIZE, V1_HANDLE_REQUEST_SIZE, V1_HANDLE_VALUES, V1_INFO_OFFSET, V1_VALUES_SIZE};
+use crate::layout::{
+    V1_CHIP_INFO_SIZE, V1_CONFIG_FLAGS, V1_CONFIG_VALUES, V1_EVENT_CONSUMER, V1_EVENT_FLAGS,
+    V1_EVENT_HANDLE_FLAGS, V1_EVENT_OFFSET, V1_EVENT_REQUEST_SIZE, V1_HANDLE_CONFIG_SIZE,
+    V1_HANDLE_CONSUMER, V1_HANDLE_FLAGS, V1_HANDLE_LINES, V1_HANDLE_OFFSETS,
+    V1_HANDLE_OFFSETS_SIZE, V1_HANDLE_REQUEST_SIZE, V1_HANDLE_VALUES, V1_INFO_OFFSET,
+    V1_VALUES_SIZE,
+};
 use crate::values::{bits_below, bits_of};
 use gl_base::flag::INPUT;
 use gl_uapi::fields::{bytes_at, put_bytes, put_u32, u32_at};
 use gl_uapi::layout::{
-    CHIP_INFO_SIZE, INFO_OFFSET, LINE_CONFIG_SIZE, LINE_INFO_SIZE, LINE_REQUEST_SIZE, LINE_VALUES_SIZE, NAME_SIZE,
-    REQUEST_CONFIG, REQUEST_CONSUMER, REQUEST_NUM_LINES, REQUEST_OFFSET_SIZE, REQUEST_OFFSETS,
+    CHIP_INFO_SIZE, INFO_OFFSET, LINE_CONFIG_SIZE, LINE_INFO_SIZE, LINE_REQUEST_SIZE,
+    LINE_VALUES_SIZE, NAME_SIZE, REQUEST_CONFIG, REQUEST_CONSUMER, REQUEST_NUM_LINES,
+    REQUEST_OFFSET_SIZE, REQUEST_OFFSETS,
 };
 use gl_uapi::{AttributeValue, NewAttribute, write_config, write_values};
 
@@ -105,7 +112,10 @@ fn structure_of(command: CommandV1, lines: u32, buf: &[u8]) -> [u8; LINE_REQUEST
         CommandV1::LineHandle => handle_request(buf),
         CommandV1::LineEvent => event_request(buf),
         CommandV1::GetValues => values(0, bits_below(lines)),
-        CommandV1::SetValues => values(bits_of(bytes_at(buf, 0, V1_VALUES_SIZE)), bits_below(lines)),
+        CommandV1::SetValues => values(
+            bits_of(bytes_at(buf, 0, V1_VALUES_SIZE)),
+            bits_below(lines),
+        ),
         CommandV1::SetConfig => new_config(buf, lines),
     }
 }
