@@ -5,3 +5,4 @@ pub mod Flags
 pub mod Structures
 pub mod To
 pub mod Values
+pub mod Words

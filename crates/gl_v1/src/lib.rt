@@ -13,7 +13,9 @@ pub mod numbers;
 mod receiving;
 mod sending;
 pub mod values;
+mod words;
 
-pub use commands::{CommandV1, KindV1, size_of};
+pub use commands::{CommandV1, KindV1, LINE_EVENT, size_of};
 pub use receiving::{events, receive};
 pub use sending::{Sent, send};
+pub use words::{command_number, makes_file};
