@@ -1,0 +1,7 @@
+mod Asking
+mod BackLaws
+mod Bits
+mod EventSteps
+mod FlagWords
+mod HandleLaws
+mod Places
