@@ -4,7 +4,8 @@ ghost use Rattle.std.specs.Prelude.{◌≡◌};
 ghost use Rattle.gl_v1.specs.Words.{hex_number_of, makes, makes_file, old_number_of};
 
 use crate::commands::{
-    CommandV1, HANDLE_GET_VALUES, HANDLE_SET_CONFIG, HANDLE_SET_VALUES, KindV1, LINE_EVENT, LINE_HANDLE, LINE_INFO,
+    CommandV1, HANDLE_GET_VALUES, HANDLE_SET_CONFIG, HANDLE_SET_VALUES, KindV1, LINE_EVENT,
+    LINE_HANDLE, LINE_INFO,
 };
 use gl_base::command::GET_CHIPINFO;
 
