@@ -1,6 +1,5 @@
 -- What a session came to over new ports of a planned driver is what the program prints.
 use Rattle.std.proofs.Common.{◌≡◌, ◌<◌, ◌≤◌, ℕ, Bool, true, false, List, length, nat_lt, Option, None, Some, IfSome, refl, ◌∙◌, ap, arith}
-use Rattle.std.specs.Io.KnownBytes.{Appends}
 use Rattle.gl_driver.specs.Told.{Told, new_port}
 use Rattle.gl_script.specs.Section.{SaidSection}
 use Rattle.gl_script.specs.Sentence.{Sentence}
@@ -8,7 +7,7 @@ use Rattle.gl_session.specs.Many.{actor_sections}
 use Rattle.gl_session.specs.One.{one}
 use Rattle.gl_session.specs.Run.{CameBy, HasWritten}
 use Rattle.gl_session.proofs.FewActors.{few_actors}
-use Rattle.gpiosess.specs.Program.{HasPrinted, Prints, PrintsBy}
+use Rattle.gpiosess.specs.Program.{HasPrinted, PrintsBy}
 
 module _ (before left : ℕ → Option Told) (new : (n : ℕ) → n < 17 → before n ≡ Some new_port) where
   prints_by : (alone : Bool) (sections : List SaidSection) (text : List ℕ) → length (actor_sections sections) ≤ 16 → CameBy alone true sections before left text → PrintsBy alone sections text
@@ -22,9 +21,11 @@ module _ (before left : ℕ → Option Told) (new : (n : ℕ) → n < 17 → bef
     prints = came.prints;
   }
 
+  has_printed : (sections : List SaidSection) → length (actor_sections sections) ≤ 16 → (old then : Option (List ℕ)) → HasWritten true sections before left old then → HasPrinted sections old then
+  has_printed sections few old then w = (w.0, w.1, prints_by (nat_lt (length (actor_sections sections)) 2) sections w.0 few w.2)
+
   -- of a source that tells its bytes
   pub printed : (input : Option (List ℕ)) (Ends : Type 0) (old then : Option (List ℕ)) → IfSome input (λ bytes. (sections : List SaidSection) → Sentence bytes sections → Ends × HasWritten true sections before left old then)
       → IfSome input (λ bytes. (sections : List SaidSection) → Sentence bytes sections → Ends × HasPrinted sections old then)
   printed None Ends old then h = tt
-  printed (Some bytes) Ends old then h = λ sections said. let r = h sections said in
-      (r.0, r.1, r.2, prints_by (nat_lt (length (actor_sections sections)) 2) sections r.1 (few_actors bytes sections said) r.3)
+  printed (Some bytes) Ends old then h = λ sections said. ((h sections said).0, has_printed sections (few_actors bytes sections said) old then (h sections said).1)

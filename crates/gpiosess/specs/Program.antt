@@ -1,7 +1,6 @@
 -- What the program writes for a session: over the simulated driver, whose answers are planned, and a new port for each actor.
-use Rattle.std.specs.Prelude.{◌≡◌, ◌≤◌, ◌×◌, ℕ, Bool, true, false, nat_lt, List, length, Option, Some}
+use Rattle.std.specs.Prelude.{◌≡◌, ℕ, Bool, true, false, nat_lt, List, length, Option}
 use Rattle.std.specs.Io.KnownBytes.{Appends}
-use Rattle.gl_driver.specs.Told.{Told, new_port}
 use Rattle.gl_script.specs.Section.{SaidSection}
 use Rattle.gl_chip.specs.Values.{OneEntry}
 use Rattle.gl_session.specs.Many.{Many, PlannedTells, Texts, actor_sections}

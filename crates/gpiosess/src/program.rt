@@ -12,7 +12,7 @@ ghost use Rattle.gl_session.specs.Run.{IsRefusal, refused_line, usage_line};
 ghost use Rattle.gl_session.specs.Workers.{told_at};
 ghost use Rattle.gpiosess.specs.Program.{HasPrinted};
 
-use gl_driver::{SimDriver, SimPort};
+use gl_driver::{Port, SimDriver, SimPort};
 use gl_io::{Sink, Source};
 use gl_session::{Status, run};
 use std::alloc::Global;
