@@ -3,6 +3,7 @@
 use crate::line::Irq;
 use crate::machine::*;
 use crate::wire::*;
+use std::fmt::{self, Display, Formatter};
 use std::sync::{Condvar, Mutex, MutexGuard};
 
 /// An actor's way to the driver, which fails at the call that was planned.
@@ -128,80 +129,100 @@ impl Device {
         self.lock().history.len()
     }
 
-    /// The history's text.
-    pub fn history(&self) -> String {
-        let state = self.lock();
-        let entries = state.history.iter().enumerate();
-        entries.map(|(i, e)| format!("{i} {} {} -> {}\n", e.actor, call_text(&e.call), reply_text(&e.reply))).collect()
+    /// Adds the history's text.
+    pub fn print_history(&self, out: &mut Vec<u8>) {
+        for (i, Entry { actor, call, reply }) in self.lock().history.iter().enumerate() {
+            print(out, format_args!("{i} {actor} "));
+            print_call(out, call);
+            out.extend_from_slice(b" -> ");
+            print_reply(out, reply);
+            out.push(b'\n');
+        }
     }
 }
 
 /// A text of an entry as it is, or spelled as pairs behind a backslash.
-fn word(text: &str) -> String {
-    let plain = !text.is_empty() && text != "-" && text.bytes().all(|b| (0x21..=0x7E).contains(&b) && b != b'\\');
-    let pairs = || text.bytes().map(|b| format!("{b:02x}")).collect::<String>();
-    if plain {
-        text.into()
-    } else {
-        format!("\\{}", pairs())
+struct Word<'a>(&'a str);
+
+impl Display for Word<'_> {
+    fn fmt(&self, f: &mut Formatter) -> fmt::Result {
+        let text = self.0;
+        if !text.is_empty() && text != "-" && text.bytes().all(|b| (0x21..=0x7E).contains(&b) && b != b'\\') {
+            return f.write_str(text);
+        }
+        f.write_str("\\")?;
+        text.bytes().try_for_each(|b| write!(f, "{b:02x}"))
     }
 }
 
-fn end(last: &bool) -> &'static str {
-    if *last {
+fn end(last: bool) -> &'static str {
+    if last {
         "finish"
     } else {
         "begin"
     }
 }
 
-fn call_text(call: &Call) -> String {
+fn print_call(out: &mut Vec<u8>, call: &Call) {
     match call {
-        Call::Probe { label, lines } => format!("probe {} {lines} sim", word(label)),
-        Call::Unplug { place, last } => format!("unplug {place} {}", end(last)),
-        Call::MakeDir(path) => format!("mkdir {}", word(path)),
-        Call::RemoveDir(path) => format!("rmdir {}", word(path)),
-        Call::Write(path, value) => format!("write {} {}", word(path), word(value)),
-        Call::Read(path) => format!("read {}", word(path)),
-        Call::Live(device) => format!("live {}", word(device)),
-        Call::Remove { device, last } => format!("remove {} {}", word(device), end(last)),
-        Call::Tick(mono, real) => format!("tick {mono} {real}"),
-        Call::Pin(place, Pin::Range(offset, pin, count)) => format!("range {place} {offset} {pin} {count}"),
-        Call::Pin(place, Pin::Hold(pin)) => format!("hold {place} {pin}"),
-        Call::Pin(place, Pin::Drop(pin)) => format!("drop {place} {pin}"),
-        Call::Irq(place, offset, what) => {
-            let verb = match what {
-                Irq::Lock => "lock",
-                Irq::Unlock => "unlock",
-                Irq::Enable => "enable",
-                Irq::Disable => "disable",
-                Irq::Never => "none",
-            };
-            format!("{verb} {place} {offset}")
-        }
-        Call::Pull { place, offset, up } => format!("pull {place} {offset} {}", u8::from(*up)),
-        Call::Level { place, offset, pull: false } => format!("level {place} {offset}"),
-        Call::Level { place, offset, pull: true } => format!("pullof {place} {offset}"),
-        Call::OpenChip(path) => format!("open {}", word(path)),
-        Call::Find(Some(place), name) => format!("find {place} {}", word(name)),
-        Call::Find(None, name) => format!("find - {}", word(name)),
-        Call::Ioctl { place, fd, cmd, bytes, part } => {
-            let text = bytes_text(&bytes[..bytes.len().min(592)]);
-            let command = format!("{place} {fd} 0x{cmd:08x} {} {text}", bytes.len());
-            match part {
-                Part::Whole => format!("ioctl {command}"),
-                Part::Ask => format!("ask {command}"),
-                Part::Tell(None) => format!("tell {command} fault"),
-                Part::Tell(Some(bits)) => format!("tell {command} 0x{bits:016x}"),
-            }
-        }
-        Call::ReadEdges { place, fd, len } => format!("readline {place} {fd} {len}"),
-        Call::ReadInfo { place, fd, len } => format!("readchip {place} {fd} {len}"),
-        Call::PollLine(place, fd) => format!("pollline {place} {fd}"),
-        Call::PollChip(place, fd) => format!("pollchip {place} {fd}"),
-        Call::Close(fd) => format!("close {fd}"),
-        Call::Refused { place, poll: false } => format!("refused {place} call"),
-        Call::Refused { place, poll: true } => format!("refused {place} poll"),
+        Call::Probe { label, lines } => print(out, format_args!("probe {} {lines} sim", Word(label))),
+        Call::Unplug { place, last } => print(out, format_args!("unplug {place} {}", end(*last))),
+        Call::MakeDir(path) => print(out, format_args!("mkdir {}", Word(path))),
+        Call::RemoveDir(path) => print(out, format_args!("rmdir {}", Word(path))),
+        Call::Write(path, value) => print(out, format_args!("write {} {}", Word(path), Word(value))),
+        Call::Read(path) => print(out, format_args!("read {}", Word(path))),
+        Call::Live(device) => print(out, format_args!("live {}", Word(device))),
+        Call::Remove { device, last } => print(out, format_args!("remove {} {}", Word(device), end(*last))),
+        Call::Tick(mono, real) => print(out, format_args!("tick {mono} {real}")),
+        Call::Pin(place, pin) => print_pin(out, *place, *pin),
+        Call::Irq(place, offset, what) => print(out, format_args!("{} {place} {offset}", irq_verb(*what))),
+        Call::Pull { place, offset, up } => print(out, format_args!("pull {place} {offset} {}", u8::from(*up))),
+        Call::Level { place, offset, pull: false } => print(out, format_args!("level {place} {offset}")),
+        Call::Level { place, offset, pull: true } => print(out, format_args!("pullof {place} {offset}")),
+        Call::OpenChip(path) => print(out, format_args!("open {}", Word(path))),
+        Call::Find(Some(place), name) => print(out, format_args!("find {place} {}", Word(name))),
+        Call::Find(None, name) => print(out, format_args!("find - {}", Word(name))),
+        Call::Ioctl { place, fd, cmd, bytes, part } => print_ioctl(out, (*place, *fd, *cmd), bytes, *part),
+        Call::ReadEdges { place, fd, len } => print(out, format_args!("readline {place} {fd} {len}")),
+        Call::ReadInfo { place, fd, len } => print(out, format_args!("readchip {place} {fd} {len}")),
+        Call::PollLine(place, fd) => print(out, format_args!("pollline {place} {fd}")),
+        Call::PollChip(place, fd) => print(out, format_args!("pollchip {place} {fd}")),
+        Call::Close(fd) => print(out, format_args!("close {fd}")),
+        Call::Refused { place, poll: false } => print(out, format_args!("refused {place} call")),
+        Call::Refused { place, poll: true } => print(out, format_args!("refused {place} poll")),
+    }
+}
+
+fn print_pin(out: &mut Vec<u8>, place: u8, pin: Pin) {
+    match pin {
+        Pin::Range(offset, pin, count) => print(out, format_args!("range {place} {offset} {pin} {count}")),
+        Pin::Hold(pin) => print(out, format_args!("hold {place} {pin}")),
+        Pin::Drop(pin) => print(out, format_args!("drop {place} {pin}")),
+    }
+}
+
+fn irq_verb(what: Irq) -> &'static str {
+    match what {
+        Irq::Lock => "lock",
+        Irq::Unlock => "unlock",
+        Irq::Enable => "enable",
+        Irq::Disable => "disable",
+        Irq::Never => "none",
+    }
+}
+
+fn print_ioctl(out: &mut Vec<u8>, (place, fd, cmd): (u8, u32, u32), bytes: &[u8], part: Part) {
+    let verb = match part {
+        Part::Whole => "ioctl",
+        Part::Ask => "ask",
+        Part::Tell(_) => "tell",
+    };
+    print(out, format_args!("{verb} {place} {fd} 0x{cmd:08x} {} ", bytes.len()));
+    print_bytes(out, &bytes[..bytes.len().min(592)]);
+    match part {
+        Part::Tell(None) => out.extend_from_slice(b" fault"),
+        Part::Tell(Some(bits)) => print(out, format_args!(" 0x{bits:016x}")),
+        Part::Whole | Part::Ask => {}
     }
 }
 
@@ -213,15 +234,15 @@ pub fn ready_text(ready: u8) -> &'static str {
     }
 }
 
-fn reply_text(reply: &Reply) -> String {
+fn print_reply(out: &mut Vec<u8>, reply: &Reply) {
     match reply {
-        Reply::Done => "ok".into(),
-        Reply::Number(n) => format!("ok {n}"),
-        Reply::Go(n) => format!("go {n}"),
-        Reply::Found(place, offset, count) => format!("ok {place} {offset} {count}"),
-        Reply::Text(text) => format!("ok {}", word(text)),
-        Reply::Ready(ready) => format!("poll {}", ready_text(*ready)),
-        Reply::Refused(errno) => errno.name().into(),
+        Reply::Done => out.extend_from_slice(b"ok"),
+        Reply::Number(n) => print(out, format_args!("ok {n}")),
+        Reply::Go(n) => print(out, format_args!("go {n}")),
+        Reply::Found(place, offset, count) => print(out, format_args!("ok {place} {offset} {count}")),
+        Reply::Text(text) => print(out, format_args!("ok {}", Word(text))),
+        Reply::Ready(ready) => print(out, format_args!("poll {}", ready_text(*ready))),
+        Reply::Refused(errno) => out.extend_from_slice(errno.name().as_bytes()),
     }
 }
 

@@ -15,6 +15,7 @@ use script::{Head, Section};
 use std::io::{Read, Write};
 use std::process::ExitCode;
 use talk::Talk;
+use wire::print;
 
 /// Runs one section's statements in a talk.
 fn say(talk: &mut Talk, actor: &mut Actor, section: &Section) {
@@ -63,15 +64,16 @@ fn run_many(device: &Device, sections: &[Section]) -> Vec<u8> {
     });
     for (section, text) in actors.zip(texts) {
         if let Head::Actor(name) = &section.head {
-            out.extend(format!("== actor {name}\n").bytes());
+            print(&mut out, format_args!("== actor {name}\n"));
         }
-        out.extend(text);
+        out.extend_from_slice(&text);
     }
     of(Head::After).into_iter().for_each(|section| say(&mut shared, &mut first, section));
-    out.extend(b"== after\n");
+    out.extend_from_slice(b"== after\n");
     out.append(&mut shared.out);
     shared.end(&first);
-    out.extend(format!("== history {}\n{}", device.entries(), device.history()).bytes());
+    print(&mut out, format_args!("== history {}\n", device.entries()));
+    device.print_history(&mut out);
     out
 }
 

@@ -70,16 +70,16 @@ pub fn command(word: &str) -> Option<u32> {
 }
 
 /// The forms behind a statement's first word, for those that have a fixed list of them.
-fn forms(words: &[&str]) -> Option<&'static [Form]> {
+fn forms(word: &str, second: Option<&str>) -> Option<&'static [Form]> {
     const PIN: Form = Form::OneOf(&["range", "hold", "drop"]);
-    Some(match words[0] {
+    Some(match word {
         "probe" => &[VALUE, Form::Number(1, 128)],
         "unplug" => &[Form::Chip],
         "mkdir" | "rmdir" | "read" => &[Form::Path],
         "write" => &[Form::Path, VALUE],
         "clock" => &[U64, U64],
         "fault" => &[Form::Number(1, 1_000_000)],
-        "pin" if words.get(1) == Some(&"range") => &[PIN, Form::Chip, U32, U32, U32],
+        "pin" if second == Some("range") => &[PIN, Form::Chip, U32, U32, U32],
         "pin" => &[PIN, Form::Chip, U32],
         "irq" => &[Form::OneOf(&["lock", "unlock", "enable", "disable", "none"]), Form::Chip, U32],
         "open" => &[NAME, Form::Word],
@@ -91,17 +91,17 @@ fn forms(words: &[&str]) -> Option<&'static [Form]> {
     })
 }
 
-/// A line's words with their columns.
-type Placed<'a> = Vec<(usize, &'a str)>;
+/// A word of a line, with its column.
+type Placed<'a> = (usize, &'a str);
 type Fault = (usize, &'static str);
 
-fn behind(words: &Placed) -> usize {
+fn behind(words: &[Placed]) -> usize {
     let (column, word) = words[words.len() - 1];
     column + word.len()
 }
 
 /// The words from `first` on have these forms, and, unless `open`, there are no more.
-fn fit(words: &Placed, first: usize, forms: &[Form], open: bool) -> Result<(), Fault> {
+fn fit(words: &[Placed], first: usize, forms: &[Form], open: bool) -> Result<(), Fault> {
     for (i, (column, word)) in words.iter().enumerate().skip(first) {
         match forms.get(i - first) {
             Some(form) if !form.fits(word) => return Err((*column, "word")),
@@ -116,8 +116,8 @@ fn fit(words: &Placed, first: usize, forms: &[Form], open: bool) -> Result<(), F
     }
 }
 
-fn fit_ioctl(words: &Placed) -> Result<(), Fault> {
-    fit(&words[..words.len().min(2)].to_vec(), 1, &[NAME], false)?;
+fn fit_ioctl(words: &[Placed]) -> Result<(), Fault> {
+    fit(&words[..words.len().min(2)], 1, &[NAME], false)?;
     let Some((column, word)) = words.get(2) else { return Err((behind(words), "words")) };
     let gives = command(word).ok_or((*column, "word"))? == GET_LINE;
     let mut total = 0;
@@ -134,7 +134,7 @@ fn fit_ioctl(words: &Placed) -> Result<(), Fault> {
         if alone {
             return Err((column, if gives { "word" } else { "words" }));
         }
-        total += piece(word).ok_or((column, "word"))?.len();
+        total += piece_len(word).ok_or((column, "word"))?;
         if total > 1024 {
             return Err((column, "limit"));
         }
@@ -147,13 +147,12 @@ fn fit_ioctl(words: &Placed) -> Result<(), Fault> {
     }
 }
 
-fn fit_statement(words: &Placed) -> Result<(), Fault> {
-    let plain: Vec<&str> = words.iter().map(|w| w.1).collect();
-    match plain[0] {
+fn fit_statement(words: &[Placed]) -> Result<(), Fault> {
+    match words[0].1 {
         "ioctl" => fit_ioctl(words),
         "start" => fit(words, 1, &[NAME, Form::OneOf(&["gpioset", "gpiomon", "gpionotify"])], true),
         tool if TOOLS.contains(&tool) => Ok(()),
-        _ => match forms(&plain) {
+        word => match forms(word, words.get(1).map(|w| w.1)) {
             Some(forms) => fit(words, 1, forms, false),
             None => Err((words[0].0, "statement")),
         },
@@ -161,17 +160,17 @@ fn fit_statement(words: &Placed) -> Result<(), Fault> {
 }
 
 fn begins_statement(word: &str) -> bool {
-    ["ioctl", "start"].contains(&word) || TOOLS.contains(&word) || forms(&[word]).is_some()
+    ["ioctl", "start"].contains(&word) || TOOLS.contains(&word) || forms(word, None).is_some()
 }
 
 /// The words of a line, or the fault of a byte or of a limit.
-fn split(line: &[u8]) -> Result<Placed<'_>, Fault> {
+fn split(line: &[u8]) -> Result<Vec<Placed<'_>>, Fault> {
     if let Some(at) = line.iter().position(|b| !(0x20..=0x7E).contains(b)) {
         return Err((at + 1, "byte"));
     }
     let text = std::str::from_utf8(line).unwrap();
     let start = |word: &str| word.as_ptr() as usize - text.as_ptr() as usize + 1;
-    let words: Placed = text.split(' ').filter(|w| !w.is_empty()).map(|w| (start(w), w)).collect();
+    let words: Vec<Placed> = text.split(' ').filter(|w| !w.is_empty()).map(|w| (start(w), w)).collect();
     match words.iter().enumerate().find(|(i, w)| w.1.len() > 1300 || *i == 128) {
         Some((_, w)) => Err((w.0, "limit")),
         None => Ok(words),
@@ -183,7 +182,7 @@ fn rank(word: &str) -> Option<usize> {
 }
 
 /// Takes a section's line into the list of sections.
-fn open_section<'a>(words: &Placed<'a>, sections: &mut Vec<Section<'a>>) -> Result<(), Fault> {
+fn open_section<'a>(words: &[Placed<'a>], sections: &mut Vec<Section<'a>>) -> Result<(), Fault> {
     let (column, word) = words[0];
     let new = rank(word).unwrap();
     let last = sections.last().map(|s| match s.head {
@@ -203,7 +202,7 @@ fn open_section<'a>(words: &Placed<'a>, sections: &mut Vec<Section<'a>>) -> Resu
         sections.push(Section { head: if new == 0 { Head::Setup } else { Head::After }, statements: vec![] });
         return Ok(());
     }
-    fit(&words[..words.len().min(2)].to_vec(), 1, &[NAME], false)?;
+    fit(&words[..words.len().min(2)], 1, &[NAME], false)?;
     let head = Head::Actor(words[1].1.into());
     if sections.iter().any(|s| s.head == head) {
         return Err((words[1].0, "name"));

@@ -20,11 +20,11 @@ pub struct Talk {
 
 /// A line's file of a chip: the number of the chip, the offset, and the file's name.
 fn line_file(path: &str) -> Option<(u64, u32, &str)> {
-    let parts: Vec<&str> = path.split('/').collect();
-    let [chip, line, file @ ("pull" | "value")] = parts[..] else { return None };
-    let chip = plain_decimal(chip.strip_prefix("gpiochip")?, 63)?;
-    let offset = plain_decimal(line.strip_prefix("sim_gpio")?, 9999)?;
-    Some((chip, offset as u32, file))
+    let (chip, rest) = path.strip_prefix("gpiochip")?.split_once('/')?;
+    let (line, file) = rest.strip_prefix("sim_gpio")?.split_once('/')?;
+    let is_file = file == "pull" || file == "value";
+    let (chip, offset) = (plain_decimal(chip, 63)?, plain_decimal(line, 9999)?);
+    is_file.then_some((chip, offset as u32, file))
 }
 
 fn place_of(chip: u64) -> Result<u8, Errno> {
@@ -43,17 +43,17 @@ fn small(word: &str) -> u32 {
     number(word) as u32
 }
 
-type Printed = Result<String, Errno>;
-
-fn nothing(_: (Reply, Vec<u8>)) -> String {
-    String::new()
-}
+/// Nothing, or the error that is printed.
+type Said = Result<(), Errno>;
 
 impl Talk {
     /// Runs a statement.
     pub fn say(&mut self, actor: &mut Actor, words: &Statement) {
-        let printed = match words[0] {
-            "gpiodetect" | "gpioinfo" | "gpioget" | "gpioset" => return self.tool(actor, words),
+        let said = match words[0] {
+            "gpiodetect" | "gpioinfo" | "gpioget" | "gpioset" => {
+                self.tool(actor, words);
+                Ok(())
+            }
             "start" => self.start(actor, words),
             "step" => self.step(actor, words),
             "stop" => self.stop(actor, words[1]),
@@ -61,18 +61,19 @@ impl Talk {
             "ioctl" => self.ioctl(actor, words),
             "events" => self.events(actor, words),
             "changes" => self.changes(actor, words),
-            "poll" => self.file(words[1]).and_then(|f| actor.poll(f)).map(|ready| format!("{}\n", ready_text(ready))),
-            "close" => self.file(words[1]).and_then(|f| actor.close(f)).map(|()| {
-                self.files.remove(words[1]);
-                String::new()
-            }),
+            "poll" => self.poll(actor, words[1]),
+            "close" => self.close(actor, words[1]),
+            "read" => self.read(actor, words[1]),
             _ => plain(actor, words),
         };
-        self.print(printed);
+        if let Err(errno) = said {
+            print(&mut self.out, format_args!("{}\n", errno.name()));
+        }
     }
 
-    fn print(&mut self, printed: Printed) {
-        self.out.extend(printed.unwrap_or_else(|errno| format!("{}\n", errno.name())).bytes());
+    /// The usage of a tool, or the error that ended it.
+    fn end_of(&mut self, tool: Tool, why: &str) {
+        print(&mut self.out, format_args!("{}: {why}\n", tool.name()));
     }
 
     fn file(&self, name: &str) -> Result<Handle, Errno> {
@@ -93,83 +94,98 @@ impl Talk {
     fn tool(&mut self, actor: &mut Actor, words: &Statement) {
         let tool = Tool::of(words[0]);
         let Some(opts) = options::read(tool, &words[1..]) else {
-            return self.print(Ok(format!("{}: usage\n", tool.name())));
+            return self.end_of(tool, "usage");
         };
         if let Err(errno) = tools::run(actor, tool, &opts, &mut self.out) {
-            self.print(Ok(format!("{}: {}\n", tool.name(), errno.name())));
+            self.end_of(tool, errno.name());
         }
     }
 
-    fn start(&mut self, actor: &mut Actor, words: &Statement) -> Printed {
+    fn start(&mut self, actor: &mut Actor, words: &Statement) -> Said {
         if self.tools.contains_key(words[1]) {
             return Err(Errno::Exist);
         }
         let tool = Tool::of(words[2]);
         let Some(opts) = options::read(tool, &words[3..]) else {
-            return Ok(format!("{}: usage\n", tool.name()));
+            self.end_of(tool, "usage");
+            return Ok(());
         };
         match tools::start(actor, tool, opts) {
-            Ok(running) => {
-                self.tools.insert(words[1].into(), running);
-                Ok(String::new())
-            }
-            Err(errno) => Ok(format!("{}: {}\n", tool.name(), errno.name())),
+            Ok(running) => drop(self.tools.insert(words[1].into(), running)),
+            Err(errno) => self.end_of(tool, errno.name()),
         }
+        Ok(())
     }
 
-    fn step(&mut self, actor: &Actor, words: &Statement) -> Printed {
+    fn step(&mut self, actor: &Actor, words: &Statement) -> Said {
         let running = self.tools.get_mut(words[1]).ok_or(Errno::BadF)?;
         if running.tool == Tool::Set {
             return Err(Errno::Inval);
         }
         match running.step(actor, number(words[2]), &mut self.out) {
-            Ok(true) => Ok(String::new()),
-            Ok(false) => {
-                self.tools.remove(words[1]);
-                Ok(String::new())
-            }
+            Ok(true) => {}
+            Ok(false) => drop(self.tools.remove(words[1])),
             Err(errno) => {
                 let ended = self.tools.remove(words[1]).unwrap();
                 let _ = actor.close(ended.handle);
-                Ok(format!("{}: {}\n", ended.tool.name(), errno.name()))
+                self.end_of(ended.tool, errno.name());
             }
         }
+        Ok(())
     }
 
-    fn stop(&mut self, actor: &Actor, name: &str) -> Printed {
+    fn stop(&mut self, actor: &Actor, name: &str) -> Said {
         let ended = self.tools.remove(name).ok_or(Errno::BadF)?;
-        let tool = ended.tool.name();
-        Ok(actor.close(ended.handle).map_or_else(|e| format!("{tool}: {}\n", e.name()), |()| String::new()))
+        if let Err(errno) = actor.close(ended.handle) {
+            self.end_of(ended.tool, errno.name());
+        }
+        Ok(())
     }
 
-    fn open(&mut self, actor: &Actor, words: &Statement) -> Printed {
+    fn open(&mut self, actor: &Actor, words: &Statement) -> Said {
         if self.files.contains_key(words[1]) {
             return Err(Errno::Exist);
         }
         let handle = actor.open(words[2])?;
         self.files.insert(words[1].into(), handle);
-        Ok(String::new())
+        Ok(())
     }
 
-    fn ioctl(&mut self, actor: &mut Actor, words: &Statement) -> Printed {
+    fn poll(&mut self, actor: &Actor, name: &str) -> Said {
+        let ready = actor.poll(self.file(name)?)?;
+        print(&mut self.out, format_args!("{}\n", ready_text(ready)));
+        Ok(())
+    }
+
+    fn close(&mut self, actor: &Actor, name: &str) -> Said {
+        actor.close(self.file(name)?)?;
+        self.files.remove(name);
+        Ok(())
+    }
+
+    fn ioctl(&mut self, actor: &mut Actor, words: &Statement) -> Said {
         let handle = self.file(words[1])?;
         let cmd = command(words[2]).unwrap();
         let end = if cmd == GET_LINE { words.len() - 2 } else { words.len() };
-        let pieces = words[3..end].iter().filter(|word| **word != "-");
-        let buffer: Vec<u8> = pieces.flat_map(|word| piece(word).unwrap()).collect();
+        let mut buffer = vec![];
+        words[3..end].iter().filter(|word| **word != "-").for_each(|word| read_piece(word, &mut buffer));
         let name = words[words.len() - 1];
         if cmd == GET_LINE && self.files.contains_key(name) {
             return Err(Errno::Exist);
         }
         let (reply, written) = actor.ioctl(handle, cmd, &buffer)?;
-        Ok(match (cmd, reply) {
+        match (cmd, reply) {
             (GET_LINE, Reply::Number(fd)) => {
                 self.files.insert(name.into(), Handle { chip: false, place: handle.place, fd: fd as u32 });
-                format!("fd {fd}\n")
+                print(&mut self.out, format_args!("fd {fd}\n"));
             }
-            (GET_CHIPINFO | GET_LINEINFO | WATCH | GET_VALUES, _) => format!("{}\n", bytes_text(&written)),
-            _ => String::new(),
-        })
+            (GET_CHIPINFO | GET_LINEINFO | WATCH | GET_VALUES, _) => {
+                print_bytes(&mut self.out, &written);
+                self.out.push(b'\n');
+            }
+            _ => {}
+        }
+        Ok(())
     }
 
     fn items(&self, actor: &Actor, words: &Statement, chip: bool) -> Result<Vec<u8>, Errno> {
@@ -180,42 +196,67 @@ impl Talk {
         actor.read(handle, small(words[2]))
     }
 
-    fn events(&self, actor: &Actor, words: &Statement) -> Printed {
-        let text = |item: &[u8]| {
+    fn events(&mut self, actor: &Actor, words: &Statement) -> Said {
+        for item in self.items(actor, words, false)?.chunks(48) {
             let edge = if u32_at(item, 8) == 1 { "rising" } else { "falling" };
-            format!("{} {edge} {} {} {}\n", u64_at(item, 0), u32_at(item, 12), u32_at(item, 16), u32_at(item, 20))
-        };
-        Ok(self.items(actor, words, false)?.chunks(48).map(text).collect())
+            let (time, offset) = (u64_at(item, 0), u32_at(item, 12));
+            let (seqno, line_seqno) = (u32_at(item, 16), u32_at(item, 20));
+            print(&mut self.out, format_args!("{time} {edge} {offset} {seqno} {line_seqno}\n"));
+        }
+        Ok(())
     }
 
-    fn changes(&self, actor: &Actor, words: &Statement) -> Printed {
-        let text = |item: &[u8]| {
+    fn changes(&mut self, actor: &Actor, words: &Statement) -> Said {
+        for item in self.items(actor, words, true)?.chunks(288) {
             let kind = ["requested", "released", "config"][u32_at(item, 264) as usize - 1];
-            format!("{} {kind} {} 0x{:x}\n", u64_at(item, 256), u32_at(item, 64), u64_at(item, 72))
+            let (time, offset, flags) = (u64_at(item, 256), u32_at(item, 64), u64_at(item, 72));
+            print(&mut self.out, format_args!("{time} {kind} {offset} 0x{flags:x}\n"));
+        }
+        Ok(())
+    }
+
+    /// Reads a file of the simulator: of a line, or of the configuration tree.
+    fn read(&mut self, actor: &Actor, path: &str) -> Said {
+        let Some((chip, offset, file)) = line_file(path) else {
+            return match actor.call(Call::Read(path.into()))?.0 {
+                Reply::Text(text) => {
+                    print(&mut self.out, format_args!("{text}\n"));
+                    Ok(())
+                }
+                _ => unreachable!(),
+            };
         };
-        Ok(self.items(actor, words, true)?.chunks(288).map(text).collect())
+        let place = place_of(chip)?;
+        let pull = file == "pull";
+        let Reply::Number(level) = actor.guarded(place, Call::Level { place, offset, pull })?.0 else { unreachable!() };
+        self.out.extend_from_slice(match (pull, level) {
+            (false, 0) => b"0\n",
+            (false, _) => b"1\n",
+            (true, 0) => b"pull-down\n",
+            (true, _) => b"pull-up\n",
+        });
+        Ok(())
     }
 }
 
 /// A statement that neither opens nor uses a file.
-fn plain(actor: &mut Actor, words: &Statement) -> Printed {
+fn plain(actor: &mut Actor, words: &Statement) -> Said {
     let word = |i: usize| words[i].to_string();
     let chip = |i: usize| place_of(chip_number(words[i], 63).unwrap());
     match words[0] {
-        "probe" => actor.call(Call::Probe { label: word(1), lines: small(words[2]) }).map(nothing),
+        "probe" => actor.call(Call::Probe { label: word(1), lines: small(words[2]) }).map(|_| ()),
         "unplug" => {
             let place = chip(1)?;
             let call = |last| Call::Unplug { place, last };
-            actor.device.removal(actor.number, call(false), call(true)).map(|()| String::new())
+            actor.device.removal(actor.number, call(false), call(true))
         }
-        "mkdir" => actor.call(Call::MakeDir(word(1))).map(nothing),
-        "rmdir" => actor.call(Call::RemoveDir(word(1))).map(nothing),
+        "mkdir" => actor.call(Call::MakeDir(word(1))).map(|_| ()),
+        "rmdir" => actor.call(Call::RemoveDir(word(1))).map(|_| ()),
         "write" => write(actor, words[1], words[2]),
-        "read" => read(actor, words[1]),
-        "clock" => actor.call(Call::Tick(number(words[1]), number(words[2]))).map(nothing),
+        "clock" => actor.call(Call::Tick(number(words[1]), number(words[2]))).map(|_| ()),
         "fault" => {
             actor.port.plan(number(words[1]));
-            Ok(String::new())
+            Ok(())
         }
         "pin" => {
             let place = chip(2)?;
@@ -224,7 +265,7 @@ fn plain(actor: &mut Actor, words: &Statement) -> Printed {
                 "hold" => Pin::Hold(small(words[3])),
                 _ => Pin::Drop(small(words[3])),
             };
-            actor.guarded(place, Call::Pin(place, what)).map(nothing)
+            actor.guarded(place, Call::Pin(place, what)).map(|_| ())
         }
         _ => {
             let place = chip(2)?;
@@ -235,12 +276,12 @@ fn plain(actor: &mut Actor, words: &Statement) -> Printed {
                 "disable" => Irq::Disable,
                 _ => Irq::Never,
             };
-            actor.guarded(place, Call::Irq(place, small(words[3]), what)).map(nothing)
+            actor.guarded(place, Call::Irq(place, small(words[3]), what)).map(|_| ())
         }
     }
 }
 
-fn write(actor: &Actor, path: &str, value: &str) -> Printed {
+fn write(actor: &Actor, path: &str, value: &str) -> Said {
     if let Some((chip, offset, file)) = line_file(path) {
         let place = place_of(chip)?;
         if file == "value" {
@@ -249,33 +290,17 @@ fn write(actor: &Actor, path: &str, value: &str) -> Printed {
         if value != "pull-up" && value != "pull-down" {
             return Err(Errno::Inval);
         }
-        return actor.guarded(place, Call::Pull { place, offset, up: value == "pull-up" }).map(nothing);
+        return actor.guarded(place, Call::Pull { place, offset, up: value == "pull-up" }).map(|_| ());
     }
     let Some(device) = live_device(path).map(String::from) else {
-        return actor.call(Call::Write(path.into(), value.into())).map(nothing);
+        return actor.call(Call::Write(path.into(), value.into())).map(|_| ());
     };
     match value {
-        "1" => actor.call(Call::Live(device)).map(nothing),
+        "1" => actor.call(Call::Live(device)).map(|_| ()),
         "0" => {
             let call = |last| Call::Remove { device: device.clone(), last };
-            actor.device.removal(actor.number, call(false), call(true)).map(|()| String::new())
+            actor.device.removal(actor.number, call(false), call(true))
         }
         _ => Err(Errno::Inval),
-    }
-}
-
-fn read(actor: &Actor, path: &str) -> Printed {
-    let Some((chip, offset, file)) = line_file(path) else {
-        return match actor.call(Call::Read(path.into()))?.0 {
-            Reply::Text(text) => Ok(format!("{text}\n")),
-            _ => unreachable!(),
-        };
-    };
-    let place = place_of(chip)?;
-    let pull = file == "pull";
-    match (actor.guarded(place, Call::Level { place, offset, pull })?.0, pull) {
-        (Reply::Number(level), false) => Ok(format!("{level}\n")),
-        (Reply::Number(level), true) => Ok(if level == 1 { "pull-up\n" } else { "pull-down\n" }.into()),
-        _ => unreachable!(),
     }
 }

@@ -115,7 +115,7 @@ fn each_chip(
         };
         let text = look(actor, chip).map_err(|errno| give_up(actor, &[chip], errno))?;
         actor.close(chip)?;
-        out.extend(text);
+        out.extend_from_slice(&text);
     }
     Ok(())
 }
@@ -142,51 +142,72 @@ fn info(actor: &mut Actor, opts: &Opts, out: &mut Vec<u8>) -> Result<(), Errno> 
             let mut asked = [0; 256];
             put(&mut asked, 64, &offset.to_le_bytes());
             let told = actor.ioctl(chip, GET_LINEINFO, &asked)?.1;
-            out.extend(info_line(&told, opts.unquoted));
+            print_line(&mut out, &told, opts.unquoted);
         }
         Ok(out)
     };
     each_chip(actor, opts.chip.iter().cloned().collect(), look, out)
 }
 
-fn quoted(name: &[u8], unquoted: bool) -> Vec<u8> {
-    if unquoted {
-        name.to_vec()
+/// Adds a name as it is, or in quotes.
+fn print_name(out: &mut Vec<u8>, name: &[u8], unquoted: bool) {
+    let quote: &[u8] = if unquoted { b"" } else { b"\"" };
+    out.extend_from_slice(quote);
+    out.extend_from_slice(name);
+    out.extend_from_slice(quote);
+}
+
+/// Adds gpioinfo's line of a line.
+fn print_line(out: &mut Vec<u8>, info: &[u8], unquoted: bool) {
+    let (name, flags) = (name_at(info, 0), u64_at(info, 72));
+    print(out, format_args!("\tline {:>3}:\t", u32_at(info, 64)));
+    let column = out.len();
+    if name.is_empty() {
+        out.extend_from_slice(b"unnamed");
     } else {
-        [b"\"", name, b"\""].concat()
+        print_name(out, &name, unquoted);
+    }
+    out.resize(out.len().max(column + 16), b' ');
+    out.extend_from_slice(if flags & OUTPUT != 0 { b"\toutput" } else { b"\tinput" });
+    print_flags(out, flags);
+    if u32_at(info, 68) > 0 && u32_at(info, 80) == 3 {
+        print(out, format_args!(" debounce-period={}us", u32_at(info, 88)));
+    }
+    if flags & USED != 0 {
+        print_consumer(out, &name_at(info, 32), unquoted);
+    }
+    out.push(b'\n');
+}
+
+/// Adds the words of the flags that are set but for the direction.
+fn print_flags(out: &mut Vec<u8>, flags: u64) {
+    const EDGES: u64 = RISING | FALLING;
+    let words = [
+        (ACTIVE_LOW, ACTIVE_LOW, " active-low"),
+        (OPEN_DRAIN, OPEN_DRAIN, " drive=open-drain"),
+        (OPEN_SOURCE, OPEN_SOURCE, " drive=open-source"),
+        (PULL_UP, PULL_UP, " bias=pull-up"),
+        (PULL_DOWN, PULL_DOWN, " bias=pull-down"),
+        (NO_BIAS, NO_BIAS, " bias=disabled"),
+        (EDGES, EDGES, " edges=both"),
+        (EDGES, RISING, " edges=rising"),
+        (EDGES, FALLING, " edges=falling"),
+        (REALTIME, REALTIME, " event-clock=realtime"),
+    ];
+    for (mask, bits, word) in words {
+        if flags & mask == bits {
+            out.extend_from_slice(word.as_bytes());
+        }
     }
 }
 
-fn info_line(info: &[u8], unquoted: bool) -> Vec<u8> {
-    let (name, consumer, flags) = (name_at(info, 0), name_at(info, 32), u64_at(info, 72));
-    let mut column = if name.is_empty() { b"unnamed".to_vec() } else { quoted(&name, unquoted) };
-    column.resize(column.len().max(16), b' ');
-    let has = |bits: u64| flags & bits == bits;
-    let table = [
-        (has(ACTIVE_LOW), "active-low"),
-        (has(OPEN_DRAIN), "drive=open-drain"),
-        (has(OPEN_SOURCE), "drive=open-source"),
-        (has(PULL_UP), "bias=pull-up"),
-        (has(PULL_DOWN), "bias=pull-down"),
-        (has(NO_BIAS), "bias=disabled"),
-        (has(RISING | FALLING), "edges=both"),
-        (has(RISING) && !has(FALLING), "edges=rising"),
-        (has(FALLING) && !has(RISING), "edges=falling"),
-        (has(REALTIME), "event-clock=realtime"),
-    ];
-    let mut words = vec![if has(OUTPUT) { b"output".to_vec() } else { b"input".to_vec() }];
-    words.extend(table.iter().filter(|row| row.0).map(|row| row.1.into()));
-    if u32_at(info, 68) > 0 && u32_at(info, 80) == 3 {
-        words.push(format!("debounce-period={}us", u32_at(info, 88)).into_bytes());
+fn print_consumer(out: &mut Vec<u8>, consumer: &[u8], unquoted: bool) {
+    if consumer.is_empty() {
+        out.extend_from_slice(b" used");
+    } else {
+        out.extend_from_slice(b" consumer=");
+        print_name(out, consumer, unquoted);
     }
-    if has(USED) {
-        words.push(match consumer.is_empty() {
-            true => b"used".to_vec(),
-            false => [b"consumer=".to_vec(), quoted(&consumer, unquoted)].concat(),
-        });
-    }
-    let front = format!("\tline {:>3}:\t", u32_at(info, 64)).into_bytes();
-    [front, column, b"\t".to_vec(), words.join(&b' '), b"\n".to_vec()].concat()
 }
 
 fn get(actor: &mut Actor, opts: &Opts, out: &mut Vec<u8>) -> Result<(), Errno> {
@@ -195,16 +216,19 @@ fn get(actor: &mut Actor, opts: &Opts, out: &mut Vec<u8>) -> Result<(), Errno> {
     put(&mut asked, 8, &(u64::MAX >> (64 - lines.len())).to_le_bytes());
     let told = actor.ioctl(held, GET_VALUES, &asked).map_err(|errno| give_up(actor, &[held], errno))?.1;
     actor.close(held)?;
-    let value = |(i, line): (usize, &Found)| {
+    for (i, line) in lines.iter().enumerate() {
         let on = u64_at(&told, 0) >> i & 1 == 1;
-        let word = if opts.unquoted { line.word.clone() } else { format!("\"{}\"", line.word) };
-        match opts.numeric {
-            true => u8::from(on).to_string(),
-            false => format!("{word}={}", if on { "active" } else { "inactive" }),
+        if i > 0 {
+            out.push(b' ');
         }
-    };
-    let words: Vec<String> = lines.iter().enumerate().map(value).collect();
-    out.extend(words.join(" ").bytes().chain([b'\n']));
+        if opts.numeric {
+            out.push(if on { b'1' } else { b'0' });
+        } else {
+            print_name(out, line.word.as_bytes(), opts.unquoted);
+            out.extend_from_slice(if on { b"=active" } else { b"=inactive" });
+        }
+    }
+    out.push(b'\n');
     Ok(())
 }
 
@@ -234,7 +258,7 @@ impl Running {
                 _ => return Err(Errno::NoDev),
             }
         }
-        out.extend(b"idle\n");
+        out.extend_from_slice(b"idle\n");
         Ok(true)
     }
 
@@ -249,7 +273,8 @@ impl Running {
             if self.opts.kind != 0 && kind != self.opts.kind {
                 continue;
             }
-            out.extend(self.item(time, kind, offset).bytes().chain([b'\n']));
+            out.extend_from_slice(self.item(time, kind, offset).as_bytes());
+            out.push(b'\n');
             self.left = self.left.map(|left| left - 1);
         }
         if self.left == Some(0) {

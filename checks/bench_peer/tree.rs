@@ -1,6 +1,7 @@
-//! The configuration tree of gpio-sim: directories in order of their making, each with its values.
+//! The configuration tree of gpio-sim: its directories by their paths, each with its values.
 
 use crate::wire::*;
+use std::collections::BTreeMap;
 
 #[derive(Clone, Copy, PartialEq)]
 pub enum Device {
@@ -17,8 +18,9 @@ enum Kind {
 }
 
 struct Dir {
-    path: String,
     kind: Kind,
+    /// how many were made before it
+    made: u64,
 }
 
 /// A hog of a line: its name, and the level that it drives, if it drives one.
@@ -35,7 +37,8 @@ pub struct Plan {
 
 #[derive(Default)]
 pub struct Tree {
-    dirs: Vec<Dir>,
+    dirs: BTreeMap<String, Dir>,
+    made: u64,
 }
 
 fn is_part(part: &str) -> bool {
@@ -88,16 +91,23 @@ fn file_of(path: &str) -> Option<(&str, &str)> {
 }
 
 impl Tree {
-    fn find(&self, path: &str) -> Option<&Dir> {
-        self.dirs.iter().find(|dir| dir.path == path)
+    fn kind(&self, path: &str) -> Option<&Kind> {
+        self.dirs.get(path).map(|dir| &dir.kind)
     }
 
     fn device(&self, path: &str) -> Option<Device> {
         let device = path.split('/').next().unwrap();
-        match self.find(device)?.kind {
-            Kind::Device(state) => Some(state),
+        match self.kind(device)? {
+            Kind::Device(state) => Some(*state),
             _ => None,
         }
+    }
+
+    /// The directories below one, by their paths.
+    fn below(&self, path: &str) -> impl Iterator<Item = (&str, &Dir)> {
+        let front = format!("{path}/");
+        let behind = self.dirs.range(front.clone()..).map(|(path, dir)| (path.as_str(), dir));
+        behind.take_while(move |(path, _)| path.starts_with(&front))
     }
 
     fn is_busy(&self, path: &str) -> bool {
@@ -106,35 +116,36 @@ impl Tree {
 
     pub fn mkdir(&mut self, path: &str) -> Result<(), Errno> {
         let kind = kind_of(path).ok_or(Errno::Inval)?;
-        if parent_of(path).is_some_and(|parent| self.find(parent).is_none()) {
+        if parent_of(path).is_some_and(|parent| !self.dirs.contains_key(parent)) {
             return Err(Errno::NoEnt);
         }
         if self.is_busy(path) {
             return Err(Errno::Busy);
         }
-        if self.find(path).is_some() {
+        if self.dirs.contains_key(path) {
             return Err(Errno::Exist);
         }
         if self.dirs.len() == 1024 {
             return Err(Errno::NoSpc);
         }
-        self.dirs.push(Dir { path: path.into(), kind });
+        self.dirs.insert(path.into(), Dir { kind, made: self.made });
+        self.made += 1;
         Ok(())
     }
 
     pub fn rmdir(&mut self, path: &str) -> Result<(), Errno> {
         kind_of(path).ok_or(Errno::Inval)?;
-        self.find(path).ok_or(Errno::NoEnt)?;
-        if self.is_busy(path) || self.dirs.iter().any(|dir| parent_of(&dir.path) == Some(path)) {
+        self.kind(path).ok_or(Errno::NoEnt)?;
+        if self.is_busy(path) || self.below(path).next().is_some() {
             return Err(Errno::Busy);
         }
-        self.dirs.retain(|dir| dir.path != path);
+        self.dirs.remove(path);
         Ok(())
     }
 
     pub fn write(&mut self, path: &str, value: &str) -> Result<(), Errno> {
         let (dir, file) = file_of(path).filter(|(_, file)| *file != "live").ok_or(Errno::Inval)?;
-        self.find(dir).ok_or(Errno::NoEnt)?;
+        self.kind(dir).ok_or(Errno::NoEnt)?;
         if file == "chip_name" {
             return Err(Errno::Perm);
         }
@@ -150,8 +161,7 @@ impl Tree {
         if !good {
             return Err(Errno::Inval);
         }
-        let found = self.dirs.iter_mut().find(|row| row.path == dir).unwrap();
-        let place = match (&mut found.kind, file) {
+        let place = match (&mut self.dirs.get_mut(dir).unwrap().kind, file) {
             (Kind::Bank { lines, .. }, "num_lines") => lines,
             (Kind::Bank { label, .. }, _) => label,
             (Kind::Hog { direction, .. }, "direction") => direction,
@@ -164,7 +174,7 @@ impl Tree {
 
     pub fn read(&self, path: &str) -> Result<String, Errno> {
         let (dir, file) = file_of(path).ok_or(Errno::Inval)?;
-        Ok(match (&self.find(dir).ok_or(Errno::NoEnt)?.kind, file) {
+        Ok(match (self.kind(dir).ok_or(Errno::NoEnt)?, file) {
             (Kind::Device(state), _) => if *state == Device::Off { "0" } else { "1" }.into(),
             (Kind::Bank { .. }, "chip_name") => self.chip_name(dir),
             (Kind::Bank { lines, .. }, "num_lines") => lines.clone(),
@@ -176,8 +186,9 @@ impl Tree {
 
     /// The paths of a device's banks, in order of their making.
     fn banks(&self, device: &str) -> Vec<&str> {
-        let is_bank = |dir: &&Dir| matches!(dir.kind, Kind::Bank { .. }) && parent_of(&dir.path) == Some(device);
-        self.dirs.iter().filter(is_bank).map(|dir| dir.path.as_str()).collect()
+        let mut banks: Vec<_> = self.below(device).filter(|(_, dir)| matches!(dir.kind, Kind::Bank { .. })).collect();
+        banks.sort_by_key(|(_, dir)| dir.made);
+        banks.into_iter().map(|(path, _)| path).collect()
     }
 
     fn chip_name(&self, bank: &str) -> String {
@@ -224,21 +235,21 @@ impl Tree {
     }
 
     pub fn set(&mut self, device: &str, state: Device) {
-        for dir in self.dirs.iter_mut().filter(|dir| dir.path == device) {
+        if let Some(dir) = self.dirs.get_mut(device) {
             dir.kind = Kind::Device(state);
         }
     }
 
     fn plan(&self, bank: &str) -> Plan {
-        let Some(Dir { kind: Kind::Bank { lines, label }, .. }) = self.find(bank) else { unreachable!() };
+        let Some(Kind::Bank { lines, label }) = self.kind(bank) else { unreachable!() };
         let line = |offset: usize| {
             let path = format!("{bank}/line{offset}");
-            let name = match self.find(&path) {
-                Some(Dir { kind: Kind::Line { name }, .. }) => name.clone(),
+            let name = match self.kind(&path) {
+                Some(Kind::Line { name }) => name.clone(),
                 _ => String::new(),
             };
-            let hog = match self.find(&format!("{path}/hog")) {
-                Some(Dir { kind: Kind::Hog { name, direction }, .. }) => {
+            let hog = match self.kind(&format!("{path}/hog")) {
+                Some(Kind::Hog { name, direction }) => {
                     let drives = (direction != "input").then(|| direction == "output-high");
                     Some(Hog { name: name.clone(), drives })
                 }

@@ -1,5 +1,8 @@
 //! Linux's errors, the numbers and lengths of `linux/gpio.h`, bytes as text, and decimal numbers.
 
+use std::fmt;
+use std::io::Write;
+
 #[derive(Clone, Copy, PartialEq, Eq)]
 pub enum Errno {
     Perm,
@@ -101,64 +104,82 @@ pub fn is_zero(bytes: &[u8]) -> bool {
     bytes.iter().all(|&b| b == 0)
 }
 
-/// Bytes as they are printed: runs of at least eight zeros as `00*N`, the others in words of pairs.
-pub fn bytes_text(bytes: &[u8]) -> String {
-    let mut words: Vec<String> = vec![];
-    let mut plain = String::new();
-    let mut at = 0;
-    while at < bytes.len() {
-        let zeros = bytes[at..].iter().take_while(|&&b| b == 0).count();
-        if zeros >= 8 {
-            if !plain.is_empty() {
-                words.push(std::mem::take(&mut plain));
-            }
-            words.push(format!("00*{zeros}"));
-            at += zeros;
-        } else {
-            for b in &bytes[at..at + zeros.max(1)] {
-                plain.push_str(&format!("{b:02x}"));
-            }
-            at += zeros.max(1);
+/// Adds formatted text to an output.
+pub fn print(out: &mut Vec<u8>, text: fmt::Arguments) {
+    out.write_fmt(text).expect("a vector takes all that is written");
+}
+
+/// Adds bytes as they are printed: runs of at least eight zeros as `00*N`, the others in words of pairs.
+pub fn print_bytes(out: &mut Vec<u8>, bytes: &[u8]) {
+    if bytes.is_empty() {
+        out.push(b'-');
+    }
+    let mut rest = bytes;
+    let mut in_word = true;
+    while !rest.is_empty() {
+        let zeros = rest.iter().take_while(|&&b| b == 0).count();
+        let is_run = zeros >= 8;
+        if rest.len() < bytes.len() && (is_run || !in_word) {
+            out.push(b' ');
         }
-    }
-    if !plain.is_empty() {
-        words.push(plain);
-    }
-    if words.is_empty() {
-        "-".into()
-    } else {
-        words.join(" ")
+        let (front, behind) = rest.split_at(zeros.max(1));
+        if is_run {
+            print(out, format_args!("00*{zeros}"));
+        } else {
+            print_pairs(out, front);
+        }
+        in_word = !is_run;
+        rest = behind;
     }
 }
 
-/// A piece of bytes: hexadecimal pairs, or one pair, a star and a count from 1 to 1024.
-pub fn piece(word: &str) -> Option<Vec<u8>> {
+/// Adds bytes as pairs of hexadecimal digits.
+pub fn print_pairs(out: &mut Vec<u8>, bytes: &[u8]) {
+    const DIGITS: &[u8; 16] = b"0123456789abcdef";
+    for &byte in bytes {
+        out.push(DIGITS[usize::from(byte >> 4)]);
+        out.push(DIGITS[usize::from(byte & 15)]);
+    }
+}
+
+/// How many bytes a piece has: hexadecimal pairs, or one pair, a star and a count from 1 to 1024.
+pub fn piece_len(word: &str) -> Option<usize> {
+    let (pairs, count) = match word.split_once('*') {
+        Some((pair, count)) if pair.len() == 2 => (pair, plain_decimal(count, 1024).filter(|&n| n > 0)? as usize),
+        Some(_) => return None,
+        None => (word, 1),
+    };
+    let good = !pairs.is_empty() && pairs.len() % 2 == 0 && pairs.bytes().all(|b| b.is_ascii_hexdigit());
+    good.then_some(pairs.len() / 2 * count)
+}
+
+/// Adds the bytes of a piece that has the form of one.
+pub fn read_piece(word: &str, buffer: &mut Vec<u8>) {
     if let Some((pair, count)) = word.split_once('*') {
-        let byte = if pair.len() == 2 { pairs(pair)?[0] } else { return None };
-        let count = plain_decimal(count, 1024).filter(|&n| n > 0)?;
-        return Some(vec![byte; count as usize]);
+        let count: usize = count.parse().unwrap();
+        buffer.resize(buffer.len() + count, byte_of(pair.as_bytes()));
+    } else {
+        buffer.extend(word.as_bytes().chunks_exact(2).map(byte_of));
     }
-    pairs(word)
 }
 
-fn pairs(word: &str) -> Option<Vec<u8>> {
-    if word.is_empty() || word.len() % 2 != 0 || !word.bytes().all(|b| b.is_ascii_hexdigit()) {
-        return None;
-    }
-    Some((0..word.len()).step_by(2).map(|i| u8::from_str_radix(&word[i..i + 2], 16).unwrap()).collect())
+/// The byte that a pair of hexadecimal digits spells.
+fn byte_of(pair: &[u8]) -> u8 {
+    let digit = |b: u8| if b <= b'9' { b - b'0' } else { (b | 0x20) - b'a' + 10 };
+    digit(pair[0]) << 4 | digit(pair[1])
 }
 
 /// A decimal of 1 to 20 digits, leading zeros allowed, that is at most `most`.
 pub fn decimal(word: &str, most: u64) -> Option<u64> {
-    if word.is_empty() || word.len() > 20 || !word.bytes().all(|b| b.is_ascii_digit()) {
+    if word.len() > 20 || !word.bytes().all(|b| b.is_ascii_digit()) {
         return None;
     }
-    word.parse::<u128>().ok().filter(|&n| n <= u128::from(most)).map(|n| n as u64)
+    word.parse().ok().filter(|&n| n <= most)
 }
 
 /// A decimal without leading zeros that is at most `most`.
 pub fn plain_decimal(word: &str, most: u64) -> Option<u64> {
-    decimal(word, most).filter(|n| n.to_string() == word)
+    decimal(word, most).filter(|_| word == "0" || !word.starts_with('0'))
 }
 
 /// The number of a chip that is named by its number, its name or its path below /dev/.
