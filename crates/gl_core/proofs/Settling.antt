@@ -1,5 +1,5 @@
 -- Lines settle one by one: what is left to settle, of the world in which the first has settled, is all the others.
-use Rattle.std.proofs.Common.{◌≡◌, ◌<◌, ℕ, Bool, true, false, cond, List, [], ◌∷◌, length, drop, Option, Some, None, refl, sym, ap, ◌∙◌, subst, arith}
+use Rattle.std.proofs.Common.{◌≡◌, ◌<◌, ◌*◌, ℕ, Bool, true, false, cond, List, [], ◌∷◌, length, drop, Option, Some, None, refl, sym, ap, ◌∙◌, subst, arith}
 use Rattle.std.specs.Prelude.{slice_get}
 use Rattle.gl_bank.specs.Level.{levels_at}
 use Rattle.gl_bank.specs.declared.levels.Levels.{Levels}
@@ -13,6 +13,7 @@ use Rattle.gl_model.specs.Edges.{edge, edge_for, input_holder}
 use Rattle.gl_model.specs.Places.{place_at}
 use Rattle.gl_model.specs.World.{World}
 use Rattle.gl_core.specs.Kept.{Kept, StandsFor}
+use Rattle.gl_base.specs.declared.limits.TheConstants.{LINES_MAX, PLACES}
 
 -- what settles at the clock of a world
 abbrev firing : World → List Fired
@@ -34,7 +35,7 @@ settle-firing line w =
       | false ↦ refl
     ]
 
-pub fires_on : (now : ℕ) (timers : List (Option Timer)) (line : Fired) → length timers ≡ 2048 → Some line ≡ slice_get (fires now timers) 0
+pub fires_on : (now : ℕ) (timers : List (Option Timer)) (line : Fired) → length timers ≡ PLACES * LINES_MAX → Some line ≡ slice_get (fires now timers) 0
     → fires now (after_first (Some line) timers) ≡ drop 1 (fires now timers)
 fires_on now timers line whole first = ap (λ (o : Option Fired). fires now (after_first o timers)) first ∙ goes_on now timers whole
 
@@ -42,7 +43,7 @@ first_settles : (lines : List Fired) (line : Fired) (w : World) → Some line �
 first_settles [] line w first = cc
 first_settles (other ∷ lines) line w first = let same : line ≡ other = cc in ap (λ (x : Fired). settle_each lines (settle x w)) same
 
-pub fire_more : (w : World) (line : Fired) → length w.timers ≡ 2048 → Some line ≡ slice_get (fires w.mono w.timers) 0 → fire (settle line w) ≡ fire w
+pub fire_more : (w : World) (line : Fired) → length w.timers ≡ PLACES * LINES_MAX → Some line ≡ slice_get (fires w.mono w.timers) 0 → fire (settle line w) ≡ fire w
 fire_more w line whole first =
     ap (λ (lines : List Fired). settle_each lines (settle line w)) (settle-firing line w ∙ fires_on w.mono w.timers line whole first)
     ∙ first_settles (firing w) line w first
@@ -58,7 +59,7 @@ shorter : (lines : List Fired) (line : Fired) → Some line ≡ slice_get lines 
 shorter [] line first = cc
 shorter (other ∷ lines) line first = omega arith
 
-pub fewer : (now : ℕ) (timers : List (Option Timer)) (line : Fired) → length timers ≡ 2048 → Some line ≡ slice_get (fires now timers) 0
+pub fewer : (now : ℕ) (timers : List (Option Timer)) (line : Fired) → length timers ≡ PLACES * LINES_MAX → Some line ≡ slice_get (fires now timers) 0
     → length (fires now (after_first (Some line) timers)) < length (fires now timers)
 fewer now timers line whole first = subst (λ (lines : List Fired). length lines < length (fires now timers)) (sym (fires_on now timers line whole first)) (shorter (fires now timers) line first)
 

@@ -21,7 +21,7 @@ use gl_uapi::layout::LINE_REQUEST_SIZE;
 use gl_watch::InfoQueue;
 use std::alloc::Global;
 
-/// Whether the arguments of a call are in range: a place is below `PLACES`, a chip has 1 to 128 lines, and the bytes of a
+/// Whether the arguments of a call are in range: a place is below `PLACES`, a chip has 1 to `LINES_MAX` lines, and the bytes of a
 /// command are 0 from the buffer's length on. A name is one by its type.
 pub fn fits_call(call: &Call) -> bool
     ensures { Decides result (FitsCall call.now) }

@@ -3,7 +3,9 @@ use Rattle.std.proofs.Common.{ℕ, suc, Bool, true, false, cond, leb, ◌≡◌,
 use Rattle.std.specs.List.{slice_get}
 use Rattle.std.proofs.lemmas.Bool.{cases_eq, cases_lt, le-leb, leb-true, ltb-true}
 use Rattle.std.proofs.lemmas.List.{get_or-append_right, get_or_append_left, get_or_at, get_or-map, length-append, length-map}
+use Rattle.gl_base.specs.declared.limits.TheConstants.{LINES_MAX}
 use Rattle.gl_base.specs.Rows.{Each}
+use Rattle.gl_debounce.specs.declared.timer.TheConstants.{TABLE_SIZE}
 use Rattle.gl_debounce.specs.declared.due.Due.{Due}
 use Rattle.gl_debounce.specs.declared.timer.Fired.{Fired}
 use Rattle.gl_debounce.specs.declared.timer.Timer.{Timer}
@@ -60,13 +62,13 @@ fires_at now n (Some timer) deadline is come =
     (fired n deadline timer, ap (when_due now n timer) is ∙ ap (λ b. cond b (Some (fired n deadline timer)) None) (le-leb deadline now come), refl)
 
 -- of two lines the one with the lower moment and number has the lower key
-key_le : (a b : Fired) (deadline n k : ℕ) → a.place * 128 + a.offset ≡ n → b.place * 128 + b.offset ≡ k → a.deadline ≡ deadline
-    → deadline * 2048 + n ≤ b.deadline * 2048 + k → key a ≤ key b
+key_le : (a b : Fired) (deadline n k : ℕ) → a.place * LINES_MAX + a.offset ≡ n → b.place * LINES_MAX + b.offset ≡ k → a.deadline ≡ deadline
+    → deadline * TABLE_SIZE + n ≤ b.deadline * TABLE_SIZE + k → key a ≤ key b
 unfolding key
 key_le a b deadline n k an bk same le = omega arith
 
 -- none fires where no line has a deadline
-pub none_fires : (now : ℕ) (lines : List (Option Timer)) (ds : List (Option ℕ)) → length lines ≡ 2048 → ds ≡ map deadline_of lines → AreNone ds → slice_get (fires now lines) 0 ≡ None
+pub none_fires : (now : ℕ) (lines : List (Option Timer)) (ds : List (Option ℕ)) → length lines ≡ TABLE_SIZE → ds ≡ map deadline_of lines → AreNone ds → slice_get (fires now lines) 0 ≡ None
 none_fires now lines ds whole is none = by_first (slice_get (fires now lines) 0) refl
   where
     by_first : (o : Option Fired) → slice_get (fires now lines) 0 ≡ o → o ≡ None
@@ -81,7 +83,7 @@ none_fires now lines ds whole is none = by_first (slice_get (fires now lines) 0)
         cc
 
 -- the line with the first of all deadlines fires first, if that has come
-pub first_fires : (now : ℕ) (lines : List (Option Timer)) (ds : List (Option ℕ)) (d : Due) → length lines ≡ 2048 → ds ≡ map deadline_of lines → IsFirst ds d
+pub first_fires : (now : ℕ) (lines : List (Option Timer)) (ds : List (Option ℕ)) (d : Due) → length lines ≡ TABLE_SIZE → ds ≡ map deadline_of lines → IsFirst ds d
     → slice_get (fires now lines) 0 ≡ fired_at now d.line (get_or lines d.line None)
 first_fires now lines ds d whole is first = by_first (slice_get (fires now lines) 0) refl
   where
@@ -109,19 +111,19 @@ first_fires now lines ds d whole is first = by_first (slice_get (fires now lines
         let long : length lines ≡ m + suc (length f.behind) = ap length f.split ∙ length-append f.before (Some f.timer ∷ f.behind) in
         let at : get_or lines m None ≡ Some f.timer = ap (λ ls. get_or ls m None) f.split ∙ get_or_at f.before (Some f.timer) f.behind None m refl in
         let come : (deadline_of (Some f.timer) ≡ Some x.deadline) × (x.deadline ≤ now) = moment now (0 + m) (Some f.timer) x f.is in
-        let less : d.deadline * 2048 + d.line ≤ x.deadline * 2048 + m = first.first m x.deadline (deadline_at m (omega arith) ∙ ap deadline_of at ∙ come.0) in
+        let less : d.deadline * TABLE_SIZE + d.line ≤ x.deadline * TABLE_SIZE + m = first.first m x.deadline (deadline_at m (omega arith) ∙ ap deadline_of at ∙ come.0) in
         let here : (y : Fired) × (fired_at now d.line (get_or lines d.line None) ≡ Some y) × (y.deadline ≡ d.deadline) = fires_at now d.line (get_or lines d.line None) d.deadline there (omega (arith, come.1)) in
         by_place x f here less long at
       where
         by_place : (z : Fired) (f : First now 0 lines z) (here : (y : Fired) × (fired_at now d.line (get_or lines d.line None) ≡ Some y) × (y.deadline ≡ d.deadline))
-            → d.deadline * 2048 + d.line ≤ z.deadline * 2048 + length f.before → length lines ≡ length f.before + suc (length f.behind) → get_or lines (length f.before) None ≡ Some f.timer
+            → d.deadline * TABLE_SIZE + d.line ≤ z.deadline * TABLE_SIZE + length f.before → length lines ≡ length f.before + suc (length f.behind) → get_or lines (length f.before) None ≡ Some f.timer
             → Some z ≡ fired_at now d.line (get_or lines d.line None)
         by_place z f here less long at =
             let m : ℕ = length f.before in
             let zero_m : 0 + m ≡ m = omega arith in
             let y : Fired = here.0 in
-            let z_number : z.place * 128 + z.offset ≡ m = fired_number now (0 + m) (Some f.timer) z f.is ∙ zero_m in
-            let y_number : y.place * 128 + y.offset ≡ d.line = fired_number now d.line (get_or lines d.line None) y here.1 in
+            let z_number : z.place * LINES_MAX + z.offset ≡ m = fired_number now (0 + m) (Some f.timer) z f.is ∙ zero_m in
+            let y_number : y.place * LINES_MAX + y.offset ≡ d.line = fired_number now d.line (get_or lines d.line None) y here.1 in
             let y_lies : LiesFrom d.line y = one_lies now d.line (get_or lines d.line None) y (omega (arith, in_lines)) here.1 in
             let keys : key y ≤ key z = key_le y z d.deadline d.line m y_number z_number here.2 less in
             elim (cases_eq d.line m) [

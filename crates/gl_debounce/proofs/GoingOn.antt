@@ -4,8 +4,10 @@ use Rattle.std.specs.List.{slice_get}
 use Rattle.std.specs.Option.{option_map}
 use Rattle.std.proofs.lemmas.Bool.{cases_order, eq-eqb, le-ltb, lt-ltb, ltb-false, ltb-true, ne_eqb}
 use Rattle.std.proofs.lemmas.List.{get_or_at, set_at}
+use Rattle.gl_base.specs.declared.limits.TheConstants.{LINES_MAX, PLACES}
 use Rattle.gl_base.specs.Ordered.{ordered, put_in_order}
 use Rattle.gl_base.specs.Rows.{Each}
+use Rattle.gl_debounce.specs.declared.timer.TheConstants.{TABLE_SIZE}
 use Rattle.gl_debounce.specs.declared.timer.Fired.{Fired}
 use Rattle.gl_debounce.specs.declared.timer.Timer.{Timer}
 use Rattle.gl_debounce.specs.Fire.{after_first, comes_before, due, fired, fired_at, fires, when_due, with_fired}
@@ -14,13 +16,13 @@ use Rattle.gl_debounce.proofs.Firing.{earlier_of, put_first}
 
 -- the number by which a line comes before another
 unfoldable pub key : Fired → ℕ
-key f = f.deadline * 2048 + f.place * 128 + f.offset
+key f = f.deadline * TABLE_SIZE + f.place * LINES_MAX + f.offset
 
 -- the line lies on the table, from number n on
 pub record LiesFrom (n : ℕ) (f : Fired) : Type 0 where
-  pub place : f.place < 16
-  pub offset : f.offset < 128
-  pub from : n ≤ f.place * 128 + f.offset
+  pub place : f.place < PLACES
+  pub offset : f.offset < LINES_MAX
+  pub from : n ≤ f.place * LINES_MAX + f.offset
 
 pub by_key : (n m : ℕ) (a b : Fired) → LiesFrom n a → LiesFrom m b → comes_before a b ≡ ltb (key a) (key b)
 unfolding key
@@ -79,8 +81,8 @@ by_key n m a b on_a on_b =
         ]
 
 -- lines of different numbers have different keys
-keys_apart : (a b : Fired) (n : ℕ) → a.place * 128 + a.offset ≡ n → key b ≤ key a → n + 1 ≤ b.place * 128 + b.offset
-    → a.place < 16 → a.offset < 128 → b.place < 16 → b.offset < 128 → key b < key a
+keys_apart : (a b : Fired) (n : ℕ) → a.place * LINES_MAX + a.offset ≡ n → key b ≤ key a → n + 1 ≤ b.place * LINES_MAX + b.offset
+    → a.place < PLACES → a.offset < LINES_MAX → b.place < PLACES → b.offset < LINES_MAX → key b < key a
 unfolding key
 keys_apart a b n number less from ap ao bp bo =
     elim (cases_order a.deadline b.deadline) [
@@ -89,7 +91,7 @@ keys_apart a b n number less from ap ao bp bo =
     ]
 
 -- the lines that are due lie on the table
-fired_lies : (now n : ℕ) (timer : Timer) (deadline : ℕ) → n < 2048 → LiesFrom n (fired n deadline timer)
+fired_lies : (now n : ℕ) (timer : Timer) (deadline : ℕ) → n < TABLE_SIZE → LiesFrom n (fired n deadline timer)
 fired_lies now n timer deadline within = record { place = omega arith; offset = omega arith; from = omega arith }
 
 weaker : (n m : ℕ) (f : Fired) → n ≤ m → LiesFrom m f → LiesFrom n f
@@ -99,7 +101,7 @@ Each-weaker : (n m : ℕ) (fs : List Fired) → n ≤ m → Each (LiesFrom m) fs
 Each-weaker n m [] less each = tt
 Each-weaker n m (f ∷ fs) less each = (weaker n m f less each.0, Each-weaker n m fs less each.1)
 
-with_fired_lies : (now n : ℕ) (timer : Option Timer) (others : List Fired) → n < 2048 → Each (LiesFrom n) others → Each (LiesFrom n) (with_fired (fired_at now n timer) others)
+with_fired_lies : (now n : ℕ) (timer : Option Timer) (others : List Fired) → n < TABLE_SIZE → Each (LiesFrom n) others → Each (LiesFrom n) (with_fired (fired_at now n timer) others)
 with_fired_lies now n None others within each = each
 with_fired_lies now n (Some timer) others within each = by_deadline timer.deadline
   where
@@ -111,7 +113,7 @@ with_fired_lies now n (Some timer) others within each = by_deadline timer.deadli
         by_test true = (fired_lies now n timer deadline within, each)
         by_test false = each
 
-due_lies : (now n : ℕ) (lines : List (Option Timer)) → n + length lines ≤ 2048 → Each (LiesFrom n) (due now n lines)
+due_lies : (now n : ℕ) (lines : List (Option Timer)) → n + length lines ≤ TABLE_SIZE → Each (LiesFrom n) (due now n lines)
 due_lies now n [] within = tt
 due_lies now n (timer ∷ timers) within =
     with_fired_lies now n timer (due now (n + 1) timers) (omega arith) (Each-weaker n (n + 1) (due now (n + 1) timers) (omega arith) (due_lies now (n + 1) timers (omega arith)))
@@ -162,7 +164,7 @@ due_parted now n lines x f =
     ∙ ap (λ o. due now n f.before ++ with_fired o (due now (n + length f.before + 1) f.behind)) f.is
 
 -- all that is due, but the first, comes behind it
-others_behind : (now n : ℕ) (timers : List (Option Timer)) (z y : Fired) (k : ℕ) → First now n timers z → LiesFrom k y → comes_before y z ≡ true → n + length timers ≤ 2048
+others_behind : (now n : ℕ) (timers : List (Option Timer)) (z y : Fired) (k : ℕ) → First now n timers z → LiesFrom k y → comes_before y z ≡ true → n + length timers ≤ TABLE_SIZE
     → Each (λ w. (comes_before y w ≡ true) × (comes_before w y ≡ false)) (due now n timers)
 others_behind now n timers z y k f on_y first within =
     let Behind : List Fired → Type 0 = λ ws. Each (λ w. (comes_before y w ≡ true) × (comes_before w y ≡ false)) ws in
@@ -178,22 +180,22 @@ others_behind now n timers z y k f on_y first within =
     ))
 
 -- what is found of a line is at its number
-pub fired_number : (now n : ℕ) (timer : Option Timer) (y : Fired) → fired_at now n timer ≡ Some y → y.place * 128 + y.offset ≡ n
+pub fired_number : (now n : ℕ) (timer : Option Timer) (y : Fired) → fired_at now n timer ≡ Some y → y.place * LINES_MAX + y.offset ≡ n
 fired_number now n None y is = cc
 fired_number now n (Some timer) y is = by_deadline timer.deadline is
   where
-    by_deadline : (deadline : Option ℕ) → when_due now n timer deadline ≡ Some y → y.place * 128 + y.offset ≡ n
+    by_deadline : (deadline : Option ℕ) → when_due now n timer deadline ≡ Some y → y.place * LINES_MAX + y.offset ≡ n
     by_deadline None e = cc
     by_deadline (Some deadline) e = by_test (leb deadline now) e
       where
-        by_test : (t : Bool) → cond t (Some (fired n deadline timer)) None ≡ Some y → y.place * 128 + y.offset ≡ n
+        by_test : (t : Bool) → cond t (Some (fired n deadline timer)) None ≡ Some y → y.place * LINES_MAX + y.offset ≡ n
         by_test true h =
             let same : fired n deadline timer ≡ y = cc in
-            let number : n / 128 * 128 + n % 128 ≡ n = omega arith in
-            sym (ap (λ (f : Fired). f.place * 128 + f.offset) same) ∙ number
+            let number : n / LINES_MAX * LINES_MAX + n % LINES_MAX ≡ n = omega arith in
+            sym (ap (λ (f : Fired). f.place * LINES_MAX + f.offset) same) ∙ number
         by_test false h = cc
 
-pub one_lies : (now n : ℕ) (timer : Option Timer) (y : Fired) → n < 2048 → fired_at now n timer ≡ Some y → LiesFrom n y
+pub one_lies : (now n : ℕ) (timer : Option Timer) (y : Fired) → n < TABLE_SIZE → fired_at now n timer ≡ Some y → LiesFrom n y
 one_lies now n timer y within is =
     let Lies : Option Fired → Type 0 = λ o. Each (LiesFrom n) (with_fired o []) in
     (subst Lies is (with_fired_lies now n timer [] within tt)).0
@@ -233,7 +235,7 @@ behind_first now n timer timers z f front =
     by_front (Some y) each = (each.0, f.earlier)
 
 -- the line in front, where it comes before all that is due behind it
-front_first : (now n : ℕ) (timer : Option Timer) (timers : List (Option Timer)) (y : Fired) → n < 2048 → fired_at now n timer ≡ Some y
+front_first : (now n : ℕ) (timer : Option Timer) (timers : List (Option Timer)) (y : Fired) → n < TABLE_SIZE → fired_at now n timer ≡ Some y
     → Each (λ w. (comes_before y w ≡ true) × (comes_before w y ≡ false)) (due now (n + 1) timers) → First now n (timer ∷ timers) y
 front_first now n None timers y within is later = cc
 front_first now n (Some timer) timers y within is later =
@@ -250,7 +252,7 @@ front_first now n (Some timer) timers y within is later =
       later = subst Later at later;
     }
 
-found_step : (now n : ℕ) (timer : Option Timer) (timers : List (Option Timer)) (x : Fired) → n + suc (length timers) ≤ 2048
+found_step : (now n : ℕ) (timer : Option Timer) (timers : List (Option Timer)) (x : Fired) → n + suc (length timers) ≤ TABLE_SIZE
     → ((z : Fired) → slice_get (ordered comes_before (due now (n + 1) timers)) 0 ≡ Some z → First now (n + 1) timers z)
     → slice_get (ordered comes_before (with_fired (fired_at now n timer) (due now (n + 1) timers))) 0 ≡ Some x → First now n (timer ∷ timers) x
 found_step now n timer timers x within rest first = by_line (fired_at now n timer) refl first
@@ -280,7 +282,7 @@ found_step now n timer timers x within rest first = by_line (fired_at now n time
                 let same : z ≡ x = cc in
                 let f : First now (n + 1) timers z = rest z some in
                 let y_lies : LiesFrom n y = one_lies now n timer y (omega arith) is in
-                let number : y.place * 128 + y.offset ≡ n = fired_number now n timer y is in
+                let number : y.place * LINES_MAX + y.offset ≡ n = fired_number now n timer y is in
                 let z_first : key z < key y = key_first y z number (ltb-false (key y) (key z) (sym (by_key n (n + 1) y z y_lies f.lies) ∙ test)) f.lies.from y_lies f.lies in
                 let First-of : Fired → Type 0 = λ w. First now n (timer ∷ timers) w in
                 let Front : Option Fired → Type 0 = λ o. Each (λ w. (comes_before z w ≡ true) × (comes_before w z ≡ false)) (with_fired o []) in
@@ -288,11 +290,11 @@ found_step now n timer timers x within rest first = by_line (fired_at now n time
                 (behind_first now n timer timers z f
                 (subst Front (sym is) ((by_key (n + 1) n z y f.lies y_lies ∙ lt-ltb (key z) (key y) z_first, test), tt)))
               where
-                key_first : (a b : Fired) → a.place * 128 + a.offset ≡ n → key b ≤ key a → n + 1 ≤ b.place * 128 + b.offset → LiesFrom n a → LiesFrom (n + 1) b → key b < key a
+                key_first : (a b : Fired) → a.place * LINES_MAX + a.offset ≡ n → key b ≤ key a → n + 1 ≤ b.place * LINES_MAX + b.offset → LiesFrom n a → LiesFrom (n + 1) b → key b < key a
                 key_first a b number less from on_a on_b = keys_apart a b n number less from on_a.place on_a.offset on_b.place on_b.offset
 
 -- which line is the first
-pub found : (now n : ℕ) (lines : List (Option Timer)) (x : Fired) → n + length lines ≤ 2048 → slice_get (ordered comes_before (due now n lines)) 0 ≡ Some x → First now n lines x
+pub found : (now n : ℕ) (lines : List (Option Timer)) (x : Fired) → n + length lines ≤ TABLE_SIZE → slice_get (ordered comes_before (due now n lines)) 0 ≡ Some x → First now n lines x
 found now n [] x within first = cc
 found now n (timer ∷ timers) x within first =
     found_step now n timer timers x within (λ z h. found now (n + 1) timers z (omega arith) h) first
@@ -323,7 +325,7 @@ pulled x (y ∷ front) back before behind =
     ap (put_in_order comes_before y) (pulled x front back before.1 behind)
     ∙ ap (λ b. cond b (y ∷ x ∷ ordered comes_before (front ++ back)) (x ∷ put_in_order comes_before y (ordered comes_before (front ++ back)))) before.0.1
 
-pub goes_on : (now : ℕ) (lines : List (Option Timer)) → length lines ≡ 2048 → fires now (after_first (slice_get (fires now lines) 0) lines) ≡ drop 1 (fires now lines)
+pub goes_on : (now : ℕ) (lines : List (Option Timer)) → length lines ≡ TABLE_SIZE → fires now (after_first (slice_get (fires now lines) 0) lines) ≡ drop 1 (fires now lines)
 goes_on now lines whole = by_first (slice_get (fires now lines) 0) refl
   where
     by_first : (o : Option Fired) → slice_get (fires now lines) 0 ≡ o → fires now (after_first o lines) ≡ drop 1 (fires now lines)

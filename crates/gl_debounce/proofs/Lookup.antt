@@ -3,6 +3,7 @@ use Rattle.std.proofs.Common.{ℕ, zero, suc, ◌≡◌, ◌+◌, ◌*◌, ◌<�
 use Rattle.std.proofs.lemmas.Bool.{cases_lt}
 use Rattle.std.proofs.lemmas.List.{get_or-map, get_or_past, length-map, length-replicate, map-set, set-get_or}
 use Rattle.std.proofs.lemmas.List.Sums.{sum_by-cons}
+use Rattle.gl_debounce.specs.declared.timer.TheConstants.{TABLE_SIZE}
 use Rattle.gl_debounce.specs.declared.due.Due.{Due}
 use Rattle.gl_debounce.specs.declared.timer.Timer.{Timer}
 use Rattle.gl_debounce.specs.Order.{Agree, AreNone, IsFirst, IsOrdered, deadline_in, deadline_of, deadlines_of, due_at, one, rank, rank_at}
@@ -38,7 +39,7 @@ first_due heap slots x agree order some is = record {
     told : get_or slots x.line None ≡ Some 0
     told = ap (λ (d : Due). get_or slots d.line None) is ∙ agree.told 0 some
 
-    by_slot : (line deadline : ℕ) (o : Option ℕ) → get_or slots line None ≡ o → deadline_in heap o ≡ Some deadline → x.deadline * 2048 + x.line ≤ deadline * 2048 + line
+    by_slot : (line deadline : ℕ) (o : Option ℕ) → get_or slots line None ≡ o → deadline_in heap o ≡ Some deadline → x.deadline * TABLE_SIZE + x.line ≤ deadline * TABLE_SIZE + line
     by_slot line deadline None at there = cc
     by_slot line deadline (Some k) at there =
         let stood : (k < length heap) × ((due_at heap k).line ≡ line) = agree.stands line k at in
@@ -69,7 +70,7 @@ free_since heap slots n none = by_slot (get_or slots n None) refl (sym (at_line 
     by_slot None at there = at
     by_slot (Some k) at there = cc
 
-pub free_cleared : (heap : List Due) (slots : List (Option ℕ)) (ds : List (Option ℕ)) (n : ℕ) → Agree heap slots → n < 2048 → deadlines_of heap slots ≡ set ds n None → get_or slots n None ≡ None
+pub free_cleared : (heap : List Due) (slots : List (Option ℕ)) (ds : List (Option ℕ)) (n : ℕ) → Agree heap slots → n < TABLE_SIZE → deadlines_of heap slots ≡ set ds n None → get_or slots n None ≡ None
 free_cleared heap slots ds n agree within is =
     let long : length (set ds n None) ≡ length ds = length-set ds n None in
     let as_many : length (deadlines_of heap slots) ≡ length slots = length-map slots (deadline_in heap) in
@@ -98,7 +99,7 @@ no_ones : (n : ℕ) → sum_by one (replicate n None) ≡ 0
 no_ones zero = refl
 no_ones (suc n) = omega (arith, sum_by-cons one None (replicate n None), no_ones n)
 
-pub empty_agrees : (heap : List Due) (slots : List (Option ℕ)) (n : ℕ) → n ≡ 2048 → heap ≡ [] → slots ≡ replicate n None → Agree heap slots
+pub empty_agrees : (heap : List Due) (slots : List (Option ℕ)) (n : ℕ) → n ≡ TABLE_SIZE → heap ≡ [] → slots ≡ replicate n None → Agree heap slots
 empty_agrees heap slots n whole is are = record {
   size = ap length are ∙ length-replicate n None ∙ whole;
   told = λ k below. absurd (omega (arith, ap length is));

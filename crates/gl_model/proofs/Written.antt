@@ -1,7 +1,7 @@
 -- The reply of a call tells how many bytes it has written.
 use Rattle.std.proofs.Common.{◌≡◌, ◌<◌, ◌≤◌, ℕ, ◌+◌, ◌-◌, ◌*◌, ◌/◌, Bool, true, false, not, ◌==◌, refl, sym, ap, ◌∙◌, subst, min, List, [], ◌∷◌, ◌++◌, length, take, drop, replicate, Option, Some, None, Result, Ok, Err, arith}
 use Rattle.std.specs.Prelude.{IsTrue, nat_le, codes, flat_map, if◌then◌else◌}
-use Rattle.std.proofs.lemmas.Fmt.{length-decimal-le_succ}
+use Rattle.std.proofs.lemmas.Fmt.{length-decimal-le}
 use Rattle.std.proofs.lemmas.List.{length-append, length-drop, length-replicate, length-take, length-take-le}
 use Rattle.gl_base.proofs.FirstRows.{Each-find, Each-take}
 use Rattle.gl_base.specs.ChipWord.{chip_name}
@@ -67,8 +67,8 @@ use Rattle.gl_model.specs.World.{World, Request, request_at}
 short_field : (name : List ℕ) → length name ≤ 32 → length (field_of name) ≡ 32
 short_field name short = length-append name (replicate (32 - length name) 0) ∙ omega (arith, length-replicate {A = ℕ} (32 - length name) 0)
 
-chip_field : (place : ℕ) → place < 16 → length (field_of (chip_name place)) ≡ 32
-chip_field place low = short_field (chip_name place) (omega (arith, length-append (codes "gpiochip") (decimal place), length-decimal-le_succ place (omega arith)))
+chip_field : (place : ℕ) → place < PLACES → length (field_of (chip_name place)) ≡ 32
+chip_field place low = short_field (chip_name place) (omega (arith, length-append (codes "gpiochip") (decimal place), length-decimal-le 3 place (omega arith) (omega arith) (omega arith)))
 
 marked_field : (name : List ℕ) → IsTrue (is_name name) → length (field_of (name_or_mark name)) ≡ 32
 marked_field [] h = short_field (codes "?") (omega arith)
@@ -133,7 +133,7 @@ info_written w v e names place offset =
     (length-field_of line.desc.name (subst (λ tables. IsTrue (is_name (line_at tables offset).desc.name)) (sym same) (names.names place offset)))
     (consumer_field line (subst (λ tables. IsTrue (is_name (line_at tables offset).desc.consumer)) (sym same) (names.consumers place offset)))
 
-act_written : (actor place fd len : ℕ) (command : Command) (bytes : List ℕ) (part : Part) (w : World) → place < 16 → HasNames w
+act_written : (actor place fd len : ℕ) (command : Command) (bytes : List ℕ) (part : Part) (w : World) → place < PLACES → HasNames w
     → Writes (command_writes command len) (act_on actor place fd command bytes part w)
 act_written actor place fd len ChipInfo bytes part w low names =
     length-chip_bytes (chip_name place) (chip_at w.chips place).label (lines_at w place) (chip_field place low) (length-field_of (chip_at w.chips place).label (names.labels place))
@@ -168,7 +168,7 @@ refused_none SetConfig len errno = refl
 refused_none GetValues len errno = refl
 refused_none SetValues len errno = refl
 
-checked_written : (actor place fd len : ℕ) (command : Command) (bytes : List ℕ) (part : Part) (w : World) → place < 16 → HasNames w
+checked_written : (actor place fd len : ℕ) (command : Command) (bytes : List ℕ) (part : Part) (w : World) → place < PLACES → HasNames w
     → Writes (command_writes command len) (checked actor place fd len command bytes part w)
 checked_written actor place fd len command bytes part w low names =
     writes_unless (command_writes command len) (command_refusal place fd len command part w) w _ (refused_none command len)
@@ -193,7 +193,7 @@ told_written (Some bits) len bytes (Some request) w long =
     ) in
     length-take len (take 588 bytes ++ (field ++ behind)) ∙ ap (λ n. min len n) whole
 
-part_written : (actor place fd len : ℕ) (command : Command) (bytes : List ℕ) (part : Part) (w : World) → place < 16 → length bytes ≡ 592 → HasNames w
+part_written : (actor place fd len : ℕ) (command : Command) (bytes : List ℕ) (part : Part) (w : World) → place < PLACES → length bytes ≡ 592 → HasNames w
     → Writes (command_writes command len) (in_part actor place fd len command bytes part w)
 part_written actor place fd len GetLine bytes Whole w low long names = checked_written actor place fd len GetLine bytes Whole w low names
 part_written actor place fd len GetLine bytes Ask w low long names = checked_written actor place fd len GetLine bytes Ask w low names
@@ -206,7 +206,7 @@ part_written actor place fd len SetConfig bytes part w low long names = checked_
 part_written actor place fd len GetValues bytes part w low long names = checked_written actor place fd len GetValues bytes part w low names
 part_written actor place fd len SetValues bytes part w low long names = checked_written actor place fd len SetValues bytes part w low names
 
-number_written : (actor place fd len : ℕ) (command : Option Command) (bytes : List ℕ) (part : Part) (w : World) → place < 16 → length bytes ≡ 592 → HasNames w
+number_written : (actor place fd len : ℕ) (command : Option Command) (bytes : List ℕ) (part : Part) (w : World) → place < PLACES → length bytes ≡ 592 → HasNames w
     → Writes (numbered_command_writes command len) (by_number actor place fd len command bytes part w)
 number_written actor place fd len None bytes part w low long names = refl
 number_written actor place fd len (Some command) bytes part w low long names = part_written actor place fd len command bytes part w low long names

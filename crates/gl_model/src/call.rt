@@ -22,7 +22,7 @@ pub enum Part {
 /// the number of an open file.
 #[derive(Clone, Copy)]
 pub enum Call {
-    /// Makes a chip outside the tree, with 1 to 128 lines.
+    /// Makes a chip outside the tree, with 1 to `LINES_MAX` lines.
     Probe {
         label: Name,
         lines: u32,

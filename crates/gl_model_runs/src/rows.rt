@@ -158,7 +158,7 @@ pub fn planned_fault()
     ensures { answers planned_fault_run ≡ planned_fault_given }
 {}
 
-/// There are 16 places, and the 17th chip finds none.
+/// Once there is a chip at each place, one more finds none.
 pub fn places_used()
     ensures { answers places_used_run ≡ places_used_given }
 {}

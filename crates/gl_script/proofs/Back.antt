@@ -3,6 +3,7 @@ use Rattle.std.proofs.Common.{◌≡◌, ◌≤◌, ◌+◌, ℕ, Bool, true, fa
 use Rattle.std.specs.Prelude.{if◌then◌else◌, IsTrue}
 use Rattle.std.specs.Option.{option_or}
 use Rattle.std.proofs.lemmas.List.{append-nil}
+use Rattle.gl_base.specs.declared.limits.TheConstants.{COST_MAX}
 use Rattle.gl_base.specs.Refusals.{when, first_of}
 use Rattle.gl_base.specs.Rows.{Each}
 use Rattle.gl_script.specs.declared.refusal.Spot.{Spot}
@@ -265,9 +266,9 @@ pub sentence : (bytes : List ℕ) (sections : List SaidSection) → Spelled byte
 sentence bytes sections s =
     let c = comes 1 (lines_of bytes) sections s.lines s.headed in
     let size : nat_lt 1048576 (length bytes) ≡ false = grind (arith, s.size) in
-    let within : session_cost (sections_said bytes) ≤ 100000 = subst (λ all. session_cost all ≤ 100000) (sym c.says) s.cost in
-    let cheap : nat_lt 100000 (session_cost (sections_said bytes)) ≡ false = grind (arith, within) in
-    let costs : cost_fault (sections_said bytes) ≡ None = free (nat_lt 100000 (session_cost (sections_said bytes))) _ cheap in
+    let within : session_cost (sections_said bytes) ≤ COST_MAX = subst (λ all. session_cost all ≤ COST_MAX) (sym c.says) s.cost in
+    let cheap : nat_lt COST_MAX (session_cost (sections_said bytes)) ≡ false = grind (arith, within) in
+    let costs : cost_fault (sections_said bytes) ≡ None = free (nat_lt COST_MAX (session_cost (sections_said bytes))) _ cheap in
     record {
       faultless = short (nat_lt 1048576 (length bytes)) _ (option_or (fault_from nothing 1 (lines_of bytes)) (cost_fault (sections_said bytes))) size
           (both (fault_from nothing 1 (lines_of bytes)) (cost_fault (sections_said bytes)) c.faultless costs);

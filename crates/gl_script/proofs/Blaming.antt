@@ -3,6 +3,7 @@ use Rattle.std.proofs.Common.{◌≡◌, ◌≢◌, ℕ, ◌+◌, Bool, true, fa
 use Rattle.std.specs.Prelude.{IsTrue, if◌then◌else◌, codes}
 use Rattle.std.specs.Option.{option_or}
 use Rattle.std.specs.Str.{bytes_eq}
+use Rattle.gl_base.specs.declared.limits.TheConstants.{COST_MAX}
 use Rattle.gl_base.specs.BytesText.{piece_size}
 use Rattle.gl_base.specs.Refusals.{when, first_of}
 use Rattle.gl_base.specs.Words.{Span, end_of, lines_of, text_at}
@@ -175,7 +176,7 @@ fine_text bytes =
     let rest = option_or (fault_from nothing 1 (lines_of bytes)) (cost_fault (sections_said bytes)) in
     if_fine (nat_lt 1048576 (length bytes)) (Some (record { line = 0; column = 0; kind = TooLong })) rest refl
     (either (fault_from nothing 1 (lines_of bytes)) (cost_fault (sections_said bytes)) (fine_from nothing 1 (lines_of bytes))
-    (when_fine (nat_lt 100000 (session_cost (sections_said bytes))) (record { line = 0; column = 0; kind = Cost }) refl))
+    (when_fine (nat_lt COST_MAX (session_cost (sections_said bytes))) (record { line = 0; column = 0; kind = Cost }) refl))
 
 other : (kind : RefusalKind) → IsTrue (is_of_text kind) → kind ≢ NoMemory
 other kind p e = let h : false ≡ true = subst (λ k. IsTrue (is_of_text k)) e p in cc

@@ -9,12 +9,14 @@ use Rattle.std.proofs.lemmas.List.{append-nil}
 use Rattle.std.proofs.lemmas.List.Folds.{list_all-append}
 use Rattle.std.proofs.lemmas.List.Sums.{sum_by-append, sum_by-cons}
 use Rattle.std.proofs.lemmas.Fmt.{decimal_nonempty, length-decimal-le}
+use Rattle.gl_base.specs.declared.limits.TheConstants.{COST_MAX}
 use Rattle.gl_base.specs.Decimal.{decimal}
 use Rattle.gl_base.specs.Rows.{Each}
 use Rattle.gl_base.specs.Words.{Span, has_text, lines_of, onto_first, pieces, placed, span}
 use Rattle.gl_base.proofs.Cutting.{onto_piece, pieces_begin}
 use Rattle.gl_base.proofs.Decimals.{digits-decimal, number_of_text-decimal}
 use Rattle.gl_base.proofs.FirstRows.{Each-append}
+use Rattle.gl_script.specs.declared.limits.TheConstants.{TURNS_MAX}
 use Rattle.gl_script.specs.Columns.{columns}
 use Rattle.gl_script.specs.Cost.{statement_cost, words_cost, session_cost, section_cost}
 use Rattle.gl_script.specs.Faults.{byte_fault, is_printable, size_fault, spot, statement_fault}
@@ -325,7 +327,7 @@ unfolding line_cost
 request_good = one_line request_line 3 200 (record { printable = refl; fits = refl; counts = refl; statement = (refl, refl {a = None}) }) (omega arith) (omega arith)
 
 -- the lines of a turn
-clock_part : (k : ℕ) → k ≤ 100000 → AreGood (clock_line k ∷ []) 1 29
+clock_part : (k : ℕ) → k ≤ TURNS_MAX → AreGood (clock_line k ∷ []) 1 29
 unfolding line_cost
 clock_part k few =
     let number : meets (Number 0 18446744073709551615) (decimal (1000 * k)) ≡ true = number_meets (1000 * k) (omega arith) in
@@ -367,13 +369,13 @@ events_part k = by_test (eqb (k % 16) 0)
     by_test true = events_good
     by_test false = record { each = tt; cost = omega arith; size = omega arith }
 
-turn_part : (k x : ℕ) → k ≤ 100000 → AreGood (turn k x) 14 137
+turn_part : (k x : ℕ) → k ≤ TURNS_MAX → AreGood (turn k x) 14 137
 turn_part k x few =
     more_lines (clock_line k ∷ []) (pull_line x ∷ get_line x ∷ events_at k) 1 13 29 108 (clock_part k few)
     (more_lines (pull_line x ∷ []) (get_line x ∷ events_at k) 2 11 60 48 (pull_part x)
     (more_lines (get_line x ∷ []) (events_at k) 10 1 34 14 (get_part x) (events_part k)))
 
-turns_part : (k x count : ℕ) → k + count ≤ 100000 → AreGood (turns k x count) (14 * count) (137 * count)
+turns_part : (k x count : ℕ) → k + count ≤ TURNS_MAX + 1 → AreGood (turns k x count) (14 * count) (137 * count)
 turns_part k x zero few = no_lines
 turns_part k x (suc count) few =
     let c : 14 * suc count ≡ 14 + 14 * count = omega arith in
@@ -386,7 +388,7 @@ turns_part k x (suc count) few =
 abbrev statement_lines : ℕ → List (List ℕ)
 statement_lines n = codes "probe gen 64" ∷ codes "open A 0" ∷ request_line ∷ (turns 1 n n ++ events_line ∷ [])
 
-statements_part : (n : ℕ) → n ≤ 5000 → AreGood (statement_lines n) (14 * n + 7) (137 * n + 236)
+statements_part : (n : ℕ) → n ≤ TURNS_MAX → AreGood (statement_lines n) (14 * n + 7) (137 * n + 236)
 statements_part n few =
     let c : 14 * n + 7 ≡ 1 + (2 + (3 + (14 * n + 1))) = omega arith in
     let s : 137 * n + 236 ≡ 13 + (9 + (200 + (137 * n + 14))) = omega arith in
@@ -430,7 +432,7 @@ cost_placed at (line ∷ lines) =
 abbrev load_section : ℕ → SaidSection
 load_section n = record { kind = Setup; name = []; statements = placed 16 (statement_lines n) }
 
-load_spelled : (n : ℕ) → n ≤ 5000 → Spelled (load_text n) (load_section n ∷ [])
+load_spelled : (n : ℕ) → n ≤ TURNS_MAX → Spelled (load_text n) (load_section n ∷ [])
 load_spelled n few =
     let part : AreGood (statement_lines n) (14 * n + 7) (137 * n + 236) = statements_part n few in
     let printable : Each (λ line. list_all is_printable line ≡ true) (load_lines n) = (refl, (refl, printable_each (statement_lines n) part.each)) in
@@ -449,8 +451,8 @@ load_spelled n few =
       cost = omega (arith, part.cost, sum_by-cons section_cost (load_section n) []);
     }
 
-pub load_is_session : (n : ℕ) → 1 ≤ n → n ≤ 5000 → IsSession (load_text n)
+pub load_is_session : (n : ℕ) → 1 ≤ n → n ≤ TURNS_MAX → IsSession (load_text n)
 load_is_session n some few =
     let spelled : Spelled (load_text n) (load_section n ∷ []) = load_spelled n few in
     let is : Sentence (load_text n) (load_section n ∷ []) = sentence (load_text n) (load_section n ∷ []) spelled in
-    (record { faultless = is.faultless; says = refl }, subst (λ (all : List SaidSection). session_cost all ≤ 100000) is.says spelled.cost)
+    (record { faultless = is.faultless; says = refl }, subst (λ (all : List SaidSection). session_cost all ≤ COST_MAX) is.says spelled.cost)

@@ -3,6 +3,7 @@ use Rattle.std.proofs.Common.{◌≡◌, ◌≤◌, ◌+◌, ℕ, Bool, true, fa
 use Rattle.std.specs.Prelude.{if◌then◌else◌, IsTrue}
 use Rattle.std.specs.Option.{option_or}
 use Rattle.std.proofs.lemmas.List.{append-nil}
+use Rattle.gl_base.specs.declared.limits.TheConstants.{COST_MAX}
 use Rattle.gl_base.specs.Refusals.{when, first_of}
 use Rattle.gl_base.specs.Rows.{Each}
 use Rattle.gl_script.specs.declared.refusal.Spot.{Spot}
@@ -222,10 +223,10 @@ pub spelled : (bytes : List ℕ) (sections : List SaidSection) → Sentence byte
 spelled bytes sections s =
     let parts = not_too_long (nat_lt 1048576 (length bytes)) _ (option_or (fault_from nothing 1 (lines_of bytes)) (cost_fault (sections_said bytes))) s.faultless in
     let two = neither (fault_from nothing 1 (lines_of bytes)) (cost_fault (sections_said bytes)) parts.1 in
-    let costs = cheap (nat_lt 100000 (session_cost (sections_said bytes))) _ two.1 in
+    let costs = cheap (nat_lt COST_MAX (session_cost (sections_said bytes))) _ two.1 in
     record {
       size = grind (arith, parts.0);
       lines = are_lines nothing 1 (lines_of bytes) two.0;
       headed = subst (λ all. IsHeaded (counted (lines_of bytes)) all) (sym s.says) (starts 1 (lines_of bytes) two.0);
-      cost = subst (λ all. session_cost all ≤ 100000) (sym s.says) (grind (arith, costs));
+      cost = subst (λ all. session_cost all ≤ COST_MAX) (sym s.says) (grind (arith, costs));
     }

@@ -3,6 +3,7 @@
 use Rattle.std.specs.Prelude.{ℕ, ◌+◌, ◌-◌, ◌*◌, Bool, true, false, ◌||◌, nat_eq, if◌then◌else◌, List, [], ◌∷◌, length, sum_by, codes, Option, Some, None}
 use Rattle.std.specs.List.{list_any, starts_with}
 use Rattle.std.specs.Str.{bytes_eq}
+use Rattle.gl_base.specs.declared.limits.TheConstants.{LINES_MAX, PLACES}
 use Rattle.gl_base.specs.Words.{Span, text_at}
 use Rattle.gl_script.specs.Columns.{columns}
 use Rattle.gl_script.specs.Faults.{makes_file}
@@ -52,8 +53,8 @@ cost Events words = 1
 cost Changes words = 1
 cost Poll words = 1
 cost Close words = 0
-cost Detect words = if is_bare words then 48 else 3 * length words
-cost Info words = if list_any is_chip_option words then 131 else 2096
+cost Detect words = if is_bare words then 3 * PLACES else 3 * length words
+cost Info words = if list_any is_chip_option words then LINES_MAX + 3 else PLACES * (LINES_MAX + 3)
 cost Get words = length words + 7
 cost Set words = length words + 5
 cost Start words = start_cost (text_at 1 words) (length words - 2)

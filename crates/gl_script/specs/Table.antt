@@ -9,6 +9,7 @@ use Rattle.gl_script.specs.declared.table.Shape.{Shape}
 use Rattle.gl_script.specs.declared.table.Keyword.{Keyword}
 use Rattle.gl_script.specs.declared.table.Keyword.TheVariants.{Probe, Unplug, MakeDir, RemoveDir, Write, Read, Clock, Fault, Pin, Irq, Open, Ioctl, Events, Changes, Poll, Close, Detect, Info, Get, Set, Start, Step, Stop}
 use Rattle.gl_script.specs.declared.table.TheConstants.{KEYWORDS}
+use Rattle.gl_base.specs.declared.limits.TheConstants.{LINES_MAX}
 
 -- the word of a statement
 abbrev pub keyword_name : Keyword → List ℕ
@@ -63,7 +64,7 @@ wanted_of shape = record { forms = shape.forms.now; tail = shape.tail }
 
 -- one row a statement; the second word, and whether the third is a command that makes a file, decide where a statement has several forms
 abbrev pub wanted : Keyword → List ℕ → Bool → Wanted
-wanted Probe second makes = only (Label ∷ Number 1 128 ∷ [])
+wanted Probe second makes = only (Label ∷ Number 1 LINES_MAX ∷ [])
 wanted Unplug second makes = only (Chip ∷ [])
 wanted MakeDir second makes = only (Path ∷ [])
 wanted RemoveDir second makes = only (Path ∷ [])

@@ -12,14 +12,23 @@ use crate::faults::{is_get_line, text_at};
 use crate::forms::number_within;
 use crate::section::{Section, Statement};
 use crate::table::{Keyword, keyword_of};
-use gl_base::{COST_MAX, command_number, next_word};
+use gl_base::{COST_MAX, LINES_MAX, PLACES, command_number, next_word};
 
 /// The least cost that is over the limit.
 const OVER: u64 = COST_MAX + 1;
 
-/// The cost of sections, if it is at most 100,000.
+/// The cost of gpiodetect of all places: an open, a question and a close each.
+const DETECT_ALL: u64 = 3 * PLACES as u64;
+
+/// The cost of gpioinfo of one chip: an open, a question, one a line, and a close.
+const INFO_ONE: u64 = LINES_MAX as u64 + 3;
+
+/// The cost of gpioinfo of all places.
+const INFO_ALL: u64 = PLACES as u64 * INFO_ONE;
+
+/// The cost of sections, if it is at most `COST_MAX`.
 pub fn cost_within_limit(sections: &[Section<'_>]) -> Option<u64>
-    ensures { MatchOption result (100000 < session_cost (map said_in sections.now)) (λ cost. (cost ≡ session_cost (map said_in sections.now)) × (session_cost (map said_in sections.now) ≤ 100000)) }
+    ensures { MatchOption result (COST_MAX < session_cost (map said_in sections.now)) (λ cost. (cost ≡ session_cost (map said_in sections.now)) × (session_cost (map said_in sections.now) ≤ COST_MAX)) }
 {
     let cost = session_cost(sections);
     if cost > COST_MAX {
@@ -28,10 +37,10 @@ pub fn cost_within_limit(sections: &[Section<'_>]) -> Option<u64>
     Some(cost)
 }
 
-/// The cost of sections, or 100,001 where it is more than 100,000.
+/// The cost of sections, or one more than `COST_MAX` where it is more than that.
 #[tactic(auto, using(crate::proofs::Sums::capped))]
 fn session_cost(sections: &[Section<'_>]) -> u64
-    ensures { result ≡ min (session_cost (map said_in sections.now)) 100001 }
+    ensures { result ≡ min (session_cost (map said_in sections.now)) OVER }
 {
     let mut total = 0;
     for section in sections {
@@ -40,18 +49,18 @@ fn session_cost(sections: &[Section<'_>]) -> u64
     total
 }
 
-/// The cost of a section, or 100,001 where it is more than 100,000.
+/// The cost of a section, or one more than `COST_MAX` where it is more than that.
 #[tactic(auto, using(crate::proofs::Sums::capped))]
 fn section_cost(section: &Section<'_>) -> u64
-    ensures cost { result ≡ min (section_cost (said_in section.now)) 100001 }
+    ensures cost { result ≡ min (section_cost (said_in section.now)) OVER }
 {
     statements_cost(&section.statements)
 }
 
-/// The cost of statements, or 100,001 where it is more than 100,000.
+/// The cost of statements, or one more than `COST_MAX` where it is more than that.
 #[tactic(auto, using(crate::proofs::Sums::capped))]
 fn statements_cost(statements: &[Statement<'_>]) -> u64
-    ensures cost { result ≡ min (sum_by statement_cost (map line_in statements.now)) 100001 }
+    ensures cost { result ≡ min (sum_by statement_cost (map line_in statements.now)) OVER }
 {
     let mut total = 0;
     for statement in statements {
@@ -60,9 +69,9 @@ fn statements_cost(statements: &[Statement<'_>]) -> u64
     total
 }
 
-/// The cost of a statement, or 100,001 where it is more than 100,000.
+/// The cost of a statement, or one more than `COST_MAX` where it is more than that.
 fn statement_cost(statement: &Statement<'_>) -> u64
-    ensures cost { result ≡ min (statement_cost (line_in statement.now)) 100001 }
+    ensures cost { result ≡ min (statement_cost (line_in statement.now)) OVER }
 {
     match next_word(1, statement.line) {
         Some(first) => match keyword_of(first.word) {
@@ -77,7 +86,7 @@ fn statement_cost(statement: &Statement<'_>) -> u64
 /// over the limit.
 fn keyword_cost(keyword: Keyword, at: usize, line: &[u8]) -> u64
     requires { at + length line.now + 1 < 2 ^ 64 }
-    ensures { min result 100001 ≡ min (cost keyword (words_at at line.now)) 100001 }
+    ensures { min result OVER ≡ min (cost keyword (words_at at line.now)) OVER }
 {
     match keyword {
         Keyword::Fault | Keyword::Close | Keyword::Stop => 0,
@@ -113,10 +122,10 @@ fn ioctl_cost(command: &[u8]) -> u64
 
 fn detect_cost(at: usize, line: &[u8]) -> u64
     requires { at + length line.now + 1 < 2 ^ 64 }
-    ensures { min result 100001 ≡ min (if is_bare (words_at at line.now) then 48 else 3 * length (words_at at line.now)) 100001 }
+    ensures { min result OVER ≡ min (if is_bare (words_at at line.now) then DETECT_ALL else 3 * length (words_at at line.now)) OVER }
 {
     if is_bare(at, line) {
-        return 48;
+        return DETECT_ALL;
     }
     3 * word_count(at, line)
 }
@@ -149,12 +158,12 @@ fn has_no_word(at: usize, line: &[u8]) -> bool
 
 fn info_cost(at: usize, line: &[u8]) -> u64
     requires { at + length line.now + 1 < 2 ^ 64 }
-    ensures { result ≡ (if list_any is_chip_option (words_at at line.now) then 131 else 2096) }
+    ensures { result ≡ (if list_any is_chip_option (words_at at line.now) then INFO_ONE else INFO_ALL) }
 {
     if names_chip(at, line) {
-        return 131;
+        return INFO_ONE;
     }
-    2096
+    INFO_ALL
 }
 
 /// Whether a word may be gpioinfo's option for a chip.
@@ -181,7 +190,7 @@ fn is_chip_option(word: &[u8]) -> bool
 }
 
 fn start_cost(tool: &[u8], count: u64) -> u64
-    requires { count ≤ 100001 }
+    requires { count ≤ OVER }
     ensures { result ≡ start_cost tool.now count }
 {
     if tool == b"gpionotify".as_slice() {
@@ -196,10 +205,10 @@ fn or_zero(number: Option<u64>) -> u64
     number.unwrap_or(0)
 }
 
-/// How many words a line has, or 100,001 where it has more.
+/// How many words a line has, or one more than `COST_MAX` where it has more.
 fn word_count(at: usize, line: &[u8]) -> u64
     requires { at + length line.now + 1 < 2 ^ 64 }
-    ensures { result ≡ min (length (words_at at line.now)) 100001 }
+    ensures { result ≡ min (length (words_at at line.now)) OVER }
 {
     let mut count = 0;
     let mut at = at;

@@ -2,6 +2,8 @@
 ghost use Rattle.std.specs.Prelude.{◌≡◌, find, option_copied};
 ghost use Rattle.gl_script.specs.Table.{keyword_name, is_keyword, keyword_of, wanted, wanted_of, only, followed};
 
+use gl_base::LINES_MAX;
+
 /// The form of a word.
 #[derive(Clone, Copy, PartialEq, Eq, Debug)]
 pub enum Form {
@@ -125,6 +127,12 @@ pub const KEYWORDS: [Keyword; 23] = [
     Keyword::Stop,
 ];
 
+/// A number of lines of a chip.
+const LINES: Form = Form::Number {
+    low: 1,
+    high: LINES_MAX as u64,
+};
+
 /// A number of 32 bits.
 const BELOW_2_32: Form = Form::Number {
     low: 0,
@@ -175,7 +183,7 @@ impl Keyword {
         ensures { wanted_of result ≡ wanted self second.now makes }
     {
         match self {
-            Keyword::Probe => only(&[Form::Label, Form::Number { low: 1, high: 128 }]),
+            Keyword::Probe => only(&[Form::Label, LINES]),
             Keyword::Unplug => only(&[Form::Chip]),
             Keyword::MakeDir => only(&[Form::Path]),
             Keyword::RemoveDir => only(&[Form::Path]),

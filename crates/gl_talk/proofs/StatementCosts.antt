@@ -2,6 +2,7 @@
 use Rattle.std.proofs.Common.{◌≡◌, ◌≤◌, ◌+◌, ◌-◌, ℕ, suc, Bool, true, false, cond, List, [], ◌∷◌, length, Option, None, Some, refl, sym, subst, arith}
 use Rattle.std.specs.Prelude.{if◌then◌else◌, ◌==◌, nat_lt, is_some, sum_by}
 use Rattle.std.proofs.lemmas.List.Sums.{sum_by-cons}
+use Rattle.gl_base.specs.declared.limits.TheConstants.{PLACES}
 use Rattle.gl_base.specs.CommandWord.{command_number_of}
 use Rattle.gl_base.specs.Operation.{refusal}
 use Rattle.gl_base.specs.Words.{Span, text_at}
@@ -87,7 +88,7 @@ irqs_cost (Some place) words = omega arith
 
 reads_cost : (file : Option LineFile) (path : List ℕ) → PlanCosts 1 (reads file path)
 reads_cost None path = omega arith
-reads_cost (Some file) path = plan_if 1 (nat_lt file.chip 16) _ _ (omega arith) tt
+reads_cost (Some file) path = plan_if 1 (nat_lt file.chip PLACES) _ _ (omega arith) tt
 
 pulls_cost : (file : LineFile) (up : Option Bool) → PlanCosts 2 (pulls file up)
 pulls_cost file None = tt
@@ -104,7 +105,7 @@ tree_cost (Some device) path value = lives_cost device (live_word value)
 writes_cost : (file : Option LineFile) (path value : List ℕ) → PlanCosts 2 (writes file path value)
 writes_cost None path value = tree_cost (live_device path) path value
 writes_cost (Some file) path value =
-    plan_if 2 (nat_lt file.chip 16) _ _ (plan_if 2 file.is_pull _ _ (pulls_cost file (pull_word value)) tt) tt
+    plan_if 2 (nat_lt file.chip PLACES) _ _ (plan_if 2 file.is_pull _ _ (pulls_cost file (pull_word value)) tt) tt
 
 opens_cost : (taken : Bool) (slot : ℕ) (word : List ℕ) → PlanCosts 2 (opens taken slot word)
 opens_cost true slot word = tt

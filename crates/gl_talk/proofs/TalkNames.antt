@@ -1,6 +1,7 @@
 -- Each operation of a talk names the slot of a file that is open, followed for one slot at a time.
 use Rattle.std.proofs.Common.{◌≡◌, ◌≤◌, ◌+◌, ◌-◌, ℕ, Bool, true, false, cond, List, [], ◌∷◌, ◌++◌, map, Option, None, Some, refl, sym, ap, subst, arith}
 use Rattle.std.specs.Prelude.{if◌then◌else◌, ◌==◌, find, is_some, nat_eq, nat_lt, option_map}
+use Rattle.gl_base.specs.declared.limits.TheConstants.{PLACES}
 use Rattle.gl_base.specs.Operation.{refusal}
 use Rattle.gl_base.specs.Rows.{without_first}
 use Rattle.gl_base.specs.Words.{Span, text_at}
@@ -232,7 +233,7 @@ module _ (s k : ℕ) where
 
     reads_at : (found : Option LineFile) (path : List ℕ) → Plans (reads found path)
     reads_at None path = (tt, λ got. refl)
-    reads_at (Some found) path = plan_if (nat_lt found.chip 16) _ _ (tt, λ got. refl) tt
+    reads_at (Some found) path = plan_if (nat_lt found.chip PLACES) _ _ (tt, λ got. refl) tt
 
     pulls_at : (found : LineFile) (up : Option Bool) → Plans (pulls found up)
     pulls_at found None = tt
@@ -248,7 +249,7 @@ module _ (s k : ℕ) where
 
     writes_at : (found : Option LineFile) (path value : List ℕ) → Plans (writes found path value)
     writes_at None path value = tree_at (live_device path) path value
-    writes_at (Some found) path value = plan_if (nat_lt found.chip 16) _ _ (plan_if found.is_pull _ _ (pulls_at found (pull_word value)) tt) tt
+    writes_at (Some found) path value = plan_if (nat_lt found.chip PLACES) _ _ (plan_if found.is_pull _ _ (pulls_at found (pull_word value)) tt) tt
 
     opens_at : (taken : Bool) (word : List ℕ) → Plans (opens taken slot word)
     opens_at true word = tt

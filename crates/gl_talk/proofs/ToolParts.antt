@@ -4,6 +4,7 @@ use Rattle.std.specs.Prelude.{◌||◌, is_some, find, codes}
 use Rattle.std.specs.Str.{bytes_eq}
 use Rattle.std.proofs.lemmas.Slice.Eq.{bytes_eq-Decides}
 use Rattle.std.specs.List.{list_any}
+use Rattle.gl_base.specs.declared.limits.TheConstants.{LINES_MAX, PLACES}
 use Rattle.gl_base.specs.Words.{Span}
 use Rattle.gl_args.specs.declared.names.ToolName.{ToolName}
 use Rattle.gl_args.specs.declared.names.ToolName.TheVariants.{Detect as DetectName, Info as InfoName, Get as GetName, Set as SetName, Watch as WatchName, Notify as NotifyName}
@@ -54,20 +55,20 @@ bare_short [] e = omega arith
 bare_short (word ∷ []) e = omega arith
 bare_short (word ∷ next ∷ words) e = not_bare (bytes_eq word.text (codes "--")) (length (word ∷ next ∷ words)) e
 
-detect_if : (n m : ℕ) (bare : Bool) → n ≤ m → (n ≡ 0 → bare ≡ true) → (bare ≡ true → m ≤ 1) → detect_cost n ≤ cond bare 48 (3 * m)
+detect_if : (n m : ℕ) (bare : Bool) → n ≤ m → (n ≡ 0 → bare ≡ true) → (bare ≡ true → m ≤ 1) → detect_cost n ≤ cond bare (3 * PLACES) (3 * m)
 detect_if zero m true le h k = omega arith
 detect_if zero m false le h k = let e : false ≡ true = h refl in cc
 detect_if (suc n) m true le h k = omega (arith, le, k refl)
 detect_if (suc n) m false le h k = omega (arith, le)
 
-info_if : (chip : Option (List ℕ)) (any : Bool) → (any ≡ true → is_some chip ≡ true) → info_cost chip ≤ cond any 131 2096
+info_if : (chip : Option (List ℕ)) (any : Bool) → (any ≡ true → is_some chip ≡ true) → info_cost chip ≤ cond any (LINES_MAX + 3) (PLACES * (LINES_MAX + 3))
 info_if None true h = let e : false ≡ true = h refl in cc
 info_if None false h = omega arith
 info_if (Some chip) true h = omega arith
 info_if (Some chip) false h = omega arith
 
 detect_fits : (first : Span) (words : List Span) (tool : SaidTool) (items : Option (List Item)) → tool_of DetectName items ≡ Some tool → tool_said (word_texts (first ∷ words)) ≡ Some tool
-    → tool_cost tool ≤ cond (is_bare words) 48 (3 * length words)
+    → tool_cost tool ≤ cond (is_bare words) (3 * PLACES) (3 * length words)
 detect_fits first words tool None s h = cc
 detect_fits first words (SaidDetect names) (Some items) s h =
     detect_if (length names) (length words) (is_bare words) (few first words (SaidDetect names) h)
@@ -79,7 +80,7 @@ detect_fits first words (SaidWatch opts) (Some items) s h = cc
 detect_fits first words (SaidNotify opts) (Some items) s h = cc
 
 info_fits : (first : Span) (words : List Span) (tool : SaidTool) (items : Option (List Item)) → tool_of InfoName items ≡ Some tool → tool_said (word_texts (first ∷ words)) ≡ Some tool
-    → tool_cost tool ≤ cond (list_any is_chip_option words) 131 2096
+    → tool_cost tool ≤ cond (list_any is_chip_option words) (LINES_MAX + 3) (PLACES * (LINES_MAX + 3))
 info_fits first words tool None s h = cc
 info_fits first words (SaidInfo opts) (Some items) s h =
     info_if opts.chip (list_any is_chip_option words) (λ e. chip_info first.text (word_texts words) (SaidInfo opts) h tt (sym (same_any words) ∙ e))

@@ -6,7 +6,7 @@ use Rattle.gl_base.specs.Padded.{padded}
 use Rattle.gl_base.specs.Words.{Span, text_at}
 use Rattle.gl_base.specs.declared.command.TheConstants.{GET_CHIPINFO, GET_LINEINFO, GET_LINEINFO_WATCH, GET_LINE, LINE_GET_VALUES}
 use Rattle.gl_base.specs.declared.errno.Errno.TheVariants.{BadF, Exist, Inval, NoEnt, Perm}
-use Rattle.gl_base.specs.declared.limits.TheConstants.{PLACES}
+use Rattle.gl_base.specs.declared.limits.TheConstants.{PLACES, LINES_MAX}
 use Rattle.gl_base.specs.declared.operation.Do.TheVariants.{Probe as DoProbe, Unplug as DoUnplug, MakeDir as DoMakeDir, RemoveDir as DoRemoveDir, Write as DoWrite, Read as DoRead, Live as DoLive, Tick as DoTick, Pin as DoPin, Irq as DoIrq, Pull as DoPull, Level as DoLevel, OpenChip as DoOpenChip, Ioctl as DoIoctl, ReadFile as DoReadFile, Poll as DoPoll, Close as DoClose, Plan as DoPlan}
 use Rattle.gl_base.specs.declared.pin.PinDo.{PinDo}
 use Rattle.gl_base.specs.declared.pin.PinDo.TheVariants.{Range, Hold, Release}
@@ -27,7 +27,7 @@ small_word word = number_word 0 0xFFFFFFFF word
 
 -- `probe LABEL N`
 abbrev pub probes : List ℕ → List ℕ → Plan
-probes label lines = Ask (DoProbe (name_word label) (number_word 1 128 lines)) Silent
+probes label lines = Ask (DoProbe (name_word label) (number_word 1 LINES_MAX lines)) Silent
 
 -- `clock N N`
 abbrev pub clocks : List ℕ → List ℕ → Plan

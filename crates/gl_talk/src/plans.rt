@@ -14,7 +14,7 @@ use crate::words::{
     path_word, place_word, pull_word, small_word, word,
 };
 use gl_base::command::{GET_CHIPINFO, GET_LINE, GET_LINEINFO, GET_LINEINFO_WATCH, LINE_GET_VALUES};
-use gl_base::{Do, Errno, PLACES, PinDo};
+use gl_base::{Do, Errno, LINES_MAX, PLACES, PinDo};
 use gl_script::Keyword;
 use std::alloc::Global;
 
@@ -104,7 +104,7 @@ fn probes(label: &[u8], lines: &[u8]) -> Plan
     Plan::Ask(
         Do::Probe {
             label: name_word(label),
-            lines: number_word(1, 128, lines) as u32,
+            lines: number_word(1, u64::from(LINES_MAX), lines) as u32,
         },
         Reply::Silent,
     )

@@ -82,14 +82,14 @@ pub fn turns_word(word: &[u8]) -> u32
 /// The place of the chip that a word names; None for a number that no place has.
 pub fn place_word(word: &[u8]) -> Option<u8>
     ensures place { result ≡ place_word word.now }
-    ensures below { IfSome result (λ place. place < 16) }
+    ensures below { IfSome result (λ place. place < PLACES) }
 {
     below_places(chip_number(word))
 }
 
 fn below_places(number: Option<u64>) -> Option<u8>
     ensures place { result ≡ below_places number }
-    ensures below { IfSome result (λ place. place < 16) }
+    ensures below { IfSome result (λ place. place < PLACES) }
 {
     match number {
         Some(number) => {

@@ -1,6 +1,7 @@
 -- The chip words of a tool, one after the other.
 use Rattle.std.proofs.Common.{◌≡◌, ◌≤◌, ◌<◌, ℕ, suc, ◌+◌, ◌-◌, List, [], ◌∷◌, length, get_or, refl, ap, arith}
 use Rattle.std.proofs.lemmas.List.{drop_more, drop_all}
+use Rattle.gl_base.specs.declared.limits.TheConstants.{PLACES}
 use Rattle.gl_base.specs.Decimal.{decimal}
 use Rattle.gl_values.specs.Chips.{places_from, words_from}
 
@@ -8,12 +9,12 @@ place_step : (i n m : ℕ) → n ≡ suc m → places_from i n ≡ decimal i ∷
 place_step i n m e = rw e (ap (λ j. decimal i ∷ places_from j m) (omega arith))
 
 -- the next of all places
-pub next_place : (words : List (List ℕ)) (i : ℕ) → length words ≡ 0 → i < 16 → words_from words i ≡ decimal i ∷ words_from words (i + 1)
-next_place [] i e h = place_step i (16 - i) (16 - (i + 1)) (omega arith)
+pub next_place : (words : List (List ℕ)) (i : ℕ) → length words ≡ 0 → i < PLACES → words_from words i ≡ decimal i ∷ words_from words (i + 1)
+next_place [] i e h = place_step i (PLACES - i) (PLACES - (i + 1)) (omega arith)
 next_place (word ∷ words) i e h = absurd (omega arith)
 
-pub no_place : (words : List (List ℕ)) (i : ℕ) → length words ≡ 0 → 16 ≤ i → words_from words i ≡ []
-no_place [] i e h = let z : 16 - i ≡ 0 = omega arith in rw z refl
+pub no_place : (words : List (List ℕ)) (i : ℕ) → length words ≡ 0 → PLACES ≤ i → words_from words i ≡ []
+no_place [] i e h = let z : PLACES - i ≡ 0 = omega arith in rw z refl
 no_place (word ∷ words) i e h = absurd (omega arith)
 
 -- the next word that was given

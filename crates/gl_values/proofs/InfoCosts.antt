@@ -1,6 +1,7 @@
 -- What gpioinfo costs.
 use Rattle.std.proofs.Common.{◌≡◌, ◌≤◌, ◌+◌, ◌-◌, ◌*◌, min, ℕ, zero, suc, Bool, true, false, cond, ◌&&◌, not, List, [], ◌∷◌, ◌++◌, length, Option, None, Some, refl, subst, arith}
 use Rattle.std.specs.Prelude.{is_some}
+use Rattle.gl_base.specs.declared.limits.TheConstants.{LINES_MAX}
 use Rattle.gl_base.specs.declared.errno.Errno.{Errno}
 use Rattle.gl_base.specs.Operation.{refusal, bytes_of}
 use Rattle.gl_uapi.specs.declared.line_infos.Info.{Info}
@@ -36,11 +37,11 @@ module _ (n : ℕ) (next : Program (Unit {0})) (later : CostsAtMost n next) (bas
     λ got. line_within (m - 1) (lines_from base opts next total left) (lines_within total left (m - 1) (omega arith)) total left text (refusal got) (bytes_of got),
   )
 
-  told_within : (m : ℕ) → n + 128 ≤ m → (o : Option Chip) → CostsAtMost m (told_by base opts next o)
+  told_within : (m : ℕ) → n + LINES_MAX ≤ m → (o : Option Chip) → CostsAtMost m (told_by base opts next o)
   told_within m le None = (omega arith, λ got. tt)
-  told_within m le (Some chip) = lines_within (min chip.lines 128) (min chip.lines 128) m (omega arith) (chip_head chip)
+  told_within m le (Some chip) = lines_within (min chip.lines LINES_MAX) (min chip.lines LINES_MAX) m (omega arith) (chip_head chip)
 
-  asked_within : (m : ℕ) → n + 128 ≤ m → (r : Option Errno) (bytes : List ℕ) → CostsAtMost m (asked base opts next r bytes)
+  asked_within : (m : ℕ) → n + LINES_MAX ≤ m → (r : Option Errno) (bytes : List ℕ) → CostsAtMost m (asked base opts next r bytes)
   asked_within m le (Some errno) bytes = (omega arith, λ got. tt)
   asked_within m le None bytes = told_within m le (chip_told bytes)
 
@@ -48,18 +49,18 @@ module _ (n : ℕ) (next : Program (Unit {0})) (later : CostsAtMost n next) (bas
   passed_by m le true text = costs_more next n m le later
   passed_by m le false text = tt
 
-  opened_within : (m : ℕ) → n + 129 ≤ m → (r : Option Errno) → CostsAtMost m (opened base opts next r)
+  opened_within : (m : ℕ) → n + LINES_MAX + 1 ≤ m → (r : Option Errno) → CostsAtMost m (opened base opts next r)
   opened_within m le (Some errno) = passed_by m (omega arith) (is_absent errno && not (is_some opts.chip)) _
   opened_within m le None = (omega arith, λ got. asked_within (m - 1) (omega arith) (refusal got) (bytes_of got))
 
-chips_within : (base : ℕ) (opts : Options) (words : List (List ℕ)) → CostsAtMost (131 * length words) (chips base opts words)
+chips_within : (base : ℕ) (opts : Options) (words : List (List ℕ)) → CostsAtMost ((LINES_MAX + 3) * length words) (chips base opts words)
 chips_within base opts [] = tt
 chips_within base opts (word ∷ words) = (
   omega arith,
-  λ got. opened_within (131 * length words) (chips base opts words) (chips_within base opts words) base opts (131 * suc (length words) - 2) (omega arith) (refusal got),
+  λ got. opened_within ((LINES_MAX + 3) * length words) (chips base opts words) (chips_within base opts words) base opts ((LINES_MAX + 3) * suc (length words) - 2) (omega arith) (refusal got),
 )
 
-infos_by : (o : Option (List ℕ)) → 131 * length (words_from (to_words o) 0) ≡ info_cost o
+infos_by : (o : Option (List ℕ)) → (LINES_MAX + 3) * length (words_from (to_words o) 0) ≡ info_cost o
 infos_by None = refl
 infos_by (Some chip) = refl
 

@@ -1,6 +1,7 @@
 -- The tools name their own two slots alone, and leave no file open but the request that a started gpioset holds.
 use Rattle.std.proofs.Common.{◌≡◌, ◌≤◌, ◌+◌, ◌-◌, min, ℕ, zero, suc, Bool, true, false, cond, ◌&&◌, not, List, [], ◌∷◌, ◌++◌, Option, None, Some, refl, sym, ◌∙◌, arith}
 use Rattle.std.specs.Prelude.{is_some, nat_eq}
+use Rattle.gl_base.specs.declared.limits.TheConstants.{LINES_MAX}
 use Rattle.gl_base.specs.declared.errno.Errno.{Errno}
 use Rattle.gl_base.specs.Operation.{refusal, bytes_of}
 use Rattle.gl_uapi.specs.declared.line_infos.Info.{Info}
@@ -84,7 +85,7 @@ module _ (s k n : ℕ) where
 
         info_told_at : (m : ℕ) (o : Option Chip) → m ≡ n + one_if (nat_eq s base) → Keeps m (info_told_by base opts next o)
         info_told_at m None e = (omega (arith, e), λ got kept. omega (arith, e))
-        info_told_at m (Some chip) e = lines_at (min chip.lines 128) (min chip.lines 128) m e (chip_head chip)
+        info_told_at m (Some chip) e = lines_at (min chip.lines LINES_MAX) (min chip.lines LINES_MAX) m e (chip_head chip)
 
         info_asked_at : (m : ℕ) (r : Option Errno) (bytes : List ℕ) → m ≡ n + one_if (nat_eq s base) → Keeps m (info_asked base opts next r bytes)
         info_asked_at m (Some errno) bytes e = (omega (arith, e), λ got kept. omega (arith, e))

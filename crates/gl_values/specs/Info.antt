@@ -51,7 +51,7 @@ module _ (base : ℕ) (opts : Options) where
   lines_from next total (suc left) text =
       ask (Ioctl base GET_LINEINFO 256 (info_sent (total - left - 1)) 0) (λ got. line_told (lines_from next total left) total left text (refusal got) (bytes_of got))
 
-  -- the chip told of itself; a chip has at most 128 lines
+  -- the chip told of itself; a chip has at most `LINES_MAX` lines
   abbrev pub told : Program (Unit {0}) → Chip → Program (Unit {0})
   told next chip = lines_from next (min chip.lines LINES_MAX) (min chip.lines LINES_MAX) (chip_head chip)
 

@@ -8,7 +8,7 @@ use Rattle.gl_core.specs.Chosen.{is_chosen}
 use Rattle.gl_core.proofs.Choosing.{none_yet, one_more}
 use Rattle.gl_core.proofs.chosen.clear_deadlines.Goals as goal
 
-number_again : (line place : ℕ) → place ≡ line / 128 → place * 128 + line % 128 ≡ line
+number_again : (line place : ℕ) → place ≡ line / LINES_MAX → place * LINES_MAX + line % LINES_MAX ≡ line
 number_again line place is = Prim.omega arith
 
 pub loop-line-init : goal.loop-line-init

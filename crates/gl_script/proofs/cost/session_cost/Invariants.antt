@@ -2,8 +2,9 @@ use Rattle.std.proofs.Common.{◌≡◌, ◌+◌, ◌≤◌, min, drop, map}
 use Rattle.gl_script.specs.Cost.{session_cost}
 use Rattle.gl_script.specs.Meaning.{said_in}
 use Rattle.gl_script.proofs.cost.session_cost.Given as goal
+use Rattle.gl_base.specs.declared.limits.TheConstants.{COST_MAX}
 
 abbrev pub invariant-loop-section : goal.invariant-loop-section
 invariant-loop-section l =
-    (min (l.total + session_cost (map said_in (drop l.section-index l.sections))) 100001 ≡ min (session_cost (map said_in l.sections)) 100001)
-    × (l.total ≤ 100001)
+    (min (l.total + session_cost (map said_in (drop l.section-index l.sections))) (COST_MAX + 1) ≡ min (session_cost (map said_in l.sections)) (COST_MAX + 1))
+    × (l.total ≤ COST_MAX + 1)

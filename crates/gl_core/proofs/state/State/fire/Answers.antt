@@ -1,4 +1,4 @@
-use Rattle.std.proofs.Common.{◌≡◌, ◌<◌, length, Option, Some, None, sym, ap, ◌∙◌, subst}
+use Rattle.std.proofs.Common.{◌≡◌, ◌<◌, ◌*◌, length, Option, Some, None, sym, ap, ◌∙◌, subst}
 use Rattle.std.specs.Prelude.{slice_get}
 use Rattle.gl_debounce.specs.Fire.{after_first, fires}
 use Rattle.gl_debounce.specs.declared.timer.Fired.{Fired}
@@ -7,6 +7,7 @@ use Rattle.gl_model.specs.World.{World}
 use Rattle.gl_core.specs.Kept.{Kept, StandsFor}
 use Rattle.gl_core.proofs.Settling.{fewer, fire_end, fire_more, timers_stand}
 use Rattle.gl_core.proofs.state.State.fire.Goals as goal
+use Rattle.gl_base.specs.declared.limits.TheConstants.{LINES_MAX, PLACES}
 
 -- what settles first, of what is kept and of the world
 first_in : (k : Kept) (w : World) (o : Option Fired) → StandsFor k w → o ≡ slice_get (fires k.mono k.timers) 0 → o ≡ slice_get (fires w.mono w.timers) 0
@@ -28,7 +29,7 @@ loop-line-preserved c = (
       let line : Fired = c.in-Some.line in
       let v : World = at.0 in
       let there : StandsFor c.next_due.new.self (record v { timers = after_first (Some line) v.timers }) = subst (λ (new : Kept). StandsFor new (record v { timers = after_first (Some line) v.timers })) (sym c.in-Some.ensures.rest) (timers_stand k v (after_first (Some line)) at.1) in
-      let whole : length v.timers ≡ 2048 = ap (λ (k : Kept). length k.timers) at.1.kept_so ∙ c.in-Some.ensures.all_lines in
+      let whole : length v.timers ≡ PLACES * LINES_MAX = ap (λ (k : Kept). length k.timers) at.1.kept_so ∙ c.in-Some.ensures.all_lines in
       (settle line v, c.settled.ensures.follows (record v { timers = after_first (Some line) v.timers }) there, fire_more v line whole (first_in k v (Some line) at.1 c.in-Some.ensures.first) ∙ at.2),
 )
 
