@@ -105,7 +105,7 @@ fine_tail (Pieces makes) end words = fine_bytes makes end words
 fine_statement : (keyword : Option Keyword) (first : Span) (words : List Span) → Fine (statement_fault keyword first words)
 fine_statement None first words = refl
 fine_statement (Some keyword) first words =
-    let row = wanted keyword (text_at 0 words) (makes_file words) in
+    let row = wanted keyword (text_at 0 words) (makes_file keyword words) in
     fine_forms row.forms (tail_fault row.tail) (fine_tail row.tail) (end_of first) words
 
 fine_actor : (before : Before) (end : ℕ) (words : List Span) → Fine (actor_fault before end words)

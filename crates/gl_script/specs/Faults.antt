@@ -14,6 +14,8 @@ use Rattle.gl_script.specs.declared.table.Form.TheVariants.{FileName}
 use Rattle.gl_script.specs.declared.table.Tail.{Tail}
 use Rattle.gl_script.specs.declared.table.Tail.TheVariants.{NoMore, Anything, Pieces}
 use Rattle.gl_script.specs.declared.table.Keyword.{Keyword}
+use Rattle.gl_script.specs.declared.table.Keyword.TheVariants.{OldIoctl}
+use Rattle.gl_v1.specs.Words.{makes_file as makes_old_file, old_number_of}
 use Rattle.gl_base.specs.Words.{Span, end_of, text_at}
 use Rattle.gl_script.specs.Table.{Wanted, wanted}
 use Rattle.gl_script.specs.Forms.{meets}
@@ -90,14 +92,19 @@ tail_fault NoMore end words = more_fault words
 tail_fault Anything end words = None
 tail_fault (Pieces makes) end words = bytes_fault makes end words
 
--- GET_LINE alone makes a file
+-- GET_LINE alone makes a file of v2
 abbrev pub is_get_line : Option ℕ → Bool
 is_get_line None = false
 is_get_line (Some number) = number == GET_LINE
 
--- the third word of a statement is that command
-abbrev pub makes_file : List Span → Bool
-makes_file words = is_get_line (command_number_of (text_at 1 words))
+-- the command of a statement makes a file, by its word
+abbrev pub makes : Keyword → List ℕ → Bool
+makes OldIoctl command = makes_old_file (old_number_of command)
+makes _ command = is_get_line (command_number_of command)
+
+-- the third word of a statement is such a command
+abbrev pub makes_file : Keyword → List Span → Bool
+makes_file keyword words = makes keyword (text_at 1 words)
 
 abbrev pub wanted_fault : Wanted → ℕ → List Span → Option Spot
 wanted_fault w end words = forms_fault w.forms (tail_fault w.tail) end words
@@ -106,4 +113,4 @@ wanted_fault w end words = forms_fault w.forms (tail_fault w.tail) end words
 abbrev pub statement_fault : Option Keyword → Span → List Span → Option Spot
 statement_fault None first words = Some (spot first.at Statement)
 statement_fault (Some keyword) first words =
-    wanted_fault (wanted keyword (text_at 0 words) (makes_file words)) (end_of first) words
+    wanted_fault (wanted keyword (text_at 0 words) (makes_file keyword words)) (end_of first) words

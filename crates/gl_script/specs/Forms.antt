@@ -7,8 +7,9 @@ use Rattle.gl_base.specs.CommandWord.{command_number_of}
 use Rattle.gl_base.specs.Decimal.{number_of_text}
 use Rattle.gl_base.specs.Label.{is_label_byte}
 use Rattle.gl_base.specs.Words.{is_nonempty}
+use Rattle.gl_v1.specs.Words.{old_number_of}
 use Rattle.gl_script.specs.declared.table.Form.{Form}
-use Rattle.gl_script.specs.declared.table.Form.TheVariants.{FileName, Label, Path, Number, Chip, Word, Command, PinWord, IrqWord, HeldTool}
+use Rattle.gl_script.specs.declared.table.Form.TheVariants.{FileName, Label, Path, Number, Chip, Word, Command, OldCommand, PinWord, IrqWord, HeldTool}
 
 -- a word is one of these
 abbrev pub is_one_of : List (List ℕ) → List ℕ → Bool
@@ -53,6 +54,7 @@ meets (Number low high) word = is_there (number_within low high word)
 meets Chip word = is_there (within 0 63 (chip_number_of word))
 meets Word word = nat_le (length word) 127
 meets Command word = is_there (command_number_of word)
+meets OldCommand word = is_there (old_number_of word)
 meets PinWord word = is_one_of pin_words word
 meets IrqWord word = is_one_of irq_words word
 meets HeldTool word = is_one_of held_tools word

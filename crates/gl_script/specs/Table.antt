@@ -2,12 +2,12 @@
 use Rattle.std.specs.Prelude.{◌≡◌, ℕ, Bool, if◌then◌else◌, List, [], ◌∷◌, Option, Some, find, codes}
 use Rattle.std.specs.Str.{bytes_eq}
 use Rattle.gl_script.specs.declared.table.Form.{Form}
-use Rattle.gl_script.specs.declared.table.Form.TheVariants.{FileName, Label, Path, Number, Chip, Word, Command, PinWord, IrqWord, HeldTool}
+use Rattle.gl_script.specs.declared.table.Form.TheVariants.{FileName, Label, Path, Number, Chip, Word, Command, OldCommand, PinWord, IrqWord, HeldTool}
 use Rattle.gl_script.specs.declared.table.Tail.{Tail}
 use Rattle.gl_script.specs.declared.table.Tail.TheVariants.{NoMore, Anything, Pieces}
 use Rattle.gl_script.specs.declared.table.Shape.{Shape}
 use Rattle.gl_script.specs.declared.table.Keyword.{Keyword}
-use Rattle.gl_script.specs.declared.table.Keyword.TheVariants.{Probe, Unplug, MakeDir, RemoveDir, Write, Read, Clock, Fault, Pin, Irq, Open, Ioctl, Events, Changes, Poll, Close, Detect, Info, Get, Set, Start, Step, Stop}
+use Rattle.gl_script.specs.declared.table.Keyword.TheVariants.{Probe, Unplug, MakeDir, RemoveDir, Write, Read, Clock, Fault, Pin, Irq, Open, Ioctl, Events, OldIoctl, OldEvents, Changes, Poll, Close, Detect, Info, Get, Set, Start, Step, Stop}
 use Rattle.gl_script.specs.declared.table.TheConstants.{KEYWORDS}
 use Rattle.gl_base.specs.declared.limits.TheConstants.{LINES_MAX}
 
@@ -26,6 +26,8 @@ keyword_name Irq = codes "irq"
 keyword_name Open = codes "open"
 keyword_name Ioctl = codes "ioctl"
 keyword_name Events = codes "events"
+keyword_name OldIoctl = codes "ioctl1"
+keyword_name OldEvents = codes "events1"
 keyword_name Changes = codes "changes"
 keyword_name Poll = codes "poll"
 keyword_name Close = codes "close"
@@ -79,6 +81,8 @@ wanted Irq second makes = only (IrqWord ∷ Chip ∷ Number 0 0xFFFFFFFF ∷ [])
 wanted Open second makes = only (FileName ∷ Word ∷ [])
 wanted Ioctl second makes = followed (FileName ∷ Command ∷ []) (Pieces makes)
 wanted Events second makes = only (FileName ∷ Number 0 49152 ∷ [])
+wanted OldIoctl second makes = followed (FileName ∷ OldCommand ∷ []) (Pieces makes)
+wanted OldEvents second makes = only (FileName ∷ Number 0 16384 ∷ [])
 wanted Changes second makes = only (FileName ∷ Number 0 9216 ∷ [])
 wanted Poll second makes = only (FileName ∷ [])
 wanted Close second makes = only (FileName ∷ [])

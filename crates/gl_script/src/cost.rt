@@ -2,17 +2,15 @@
 ghost use Rattle.std.specs.Prelude.{◌≡◌, ◌+◌, ◌*◌, ◌≤◌, ◌<◌, ◌^◌, ◌||◌, nat_eq, if◌then◌else◌, min, length, map, sum_by, codes, MatchOption};
 ghost use Rattle.std.specs.List.{list_any, starts_with};
 ghost use Rattle.std.specs.Str.{bytes_eq};
-ghost use Rattle.gl_base.specs.CommandWord.{command_number_of};
 ghost use Rattle.gl_base.specs.Words.{words_at, text_at};
 ghost use Rattle.gl_script.specs.Cost.{cost, are_none, cost_by, is_bare, is_chip_option, or_zero, start_cost, section_cost, session_cost, statement_cost};
-ghost use Rattle.gl_script.specs.Faults.{is_get_line};
 ghost use Rattle.gl_script.specs.Meaning.{line_in, said_in};
 
-use crate::faults::{is_get_line, text_at};
+use crate::faults::{makes, text_at};
 use crate::forms::number_within;
 use crate::section::{Section, Statement};
 use crate::table::{Keyword, keyword_of};
-use gl_base::{COST_MAX, LINES_MAX, PLACES, command_number, next_word};
+use gl_base::{COST_MAX, LINES_MAX, PLACES, next_word};
 
 /// The least cost that is over the limit.
 const OVER: u64 = COST_MAX + 1;
@@ -98,10 +96,12 @@ fn keyword_cost(keyword: Keyword, at: usize, line: &[u8]) -> u64
         | Keyword::Pin
         | Keyword::Irq
         | Keyword::Events
+        | Keyword::OldEvents
         | Keyword::Changes
         | Keyword::Poll => 1,
         Keyword::Write | Keyword::Unplug | Keyword::Open => 2,
-        Keyword::Ioctl => ioctl_cost(text_at(1, at, line)),
+        Keyword::Ioctl => command_cost(makes(Keyword::Ioctl, text_at(1, at, line))),
+        Keyword::OldIoctl => command_cost(makes(Keyword::OldIoctl, text_at(1, at, line))),
         Keyword::Detect => detect_cost(at, line),
         Keyword::Info => info_cost(at, line),
         Keyword::Get => word_count(at, line) + 7,
@@ -111,10 +111,10 @@ fn keyword_cost(keyword: Keyword, at: usize, line: &[u8]) -> u64
     }
 }
 
-fn ioctl_cost(command: &[u8]) -> u64
-    ensures { result ≡ (if is_get_line (command_number_of command.now) then 3 else 2) }
+fn command_cost(makes: bool) -> u64
+    ensures { result ≡ (if makes then 3 else 2) }
 {
-    if is_get_line(command_number(command)) {
+    if makes {
         return 3;
     }
     2

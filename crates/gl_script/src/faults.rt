@@ -2,7 +2,7 @@
 ghost use Rattle.std.specs.Prelude.{◌≡◌, ◌+◌, ◌<◌, ◌≤◌, ◌^◌, ◌&&◌, length, codes, IfOk};
 ghost use Rattle.gl_base.specs.BytesText.{piece_size};
 ghost use Rattle.gl_base.specs.Words.{Span, end_of, text_at, words_at};
-ghost use Rattle.gl_script.specs.Faults.{err_of, spot, is_printable, byte_fault, size_fault, more_fault, forms_fault, name_fault, as_fault, piece_fault, size_of, pieces_fault, bytes_fault, tail_fault, is_get_line, statement_fault};
+ghost use Rattle.gl_script.specs.Faults.{err_of, spot, is_printable, byte_fault, size_fault, more_fault, forms_fault, name_fault, as_fault, piece_fault, size_of, pieces_fault, bytes_fault, tail_fault, is_get_line, makes, statement_fault};
 ghost use Rattle.gl_script.specs.Table.{wanted_of};
 ghost use Rattle.std.specs.Str.{bytes_eq};
 
@@ -257,7 +257,7 @@ pub fn statement_fault(
 {
     match keyword {
         Some(keyword) => {
-            let makes = is_get_line(command_number(text_at(1, at, line)));
+            let makes = makes(keyword, text_at(1, at, line));
             let shape = keyword.shape(text_at(0, at, line), makes);
             shape_fault(&shape, end, at, line)
         }
@@ -265,8 +265,18 @@ pub fn statement_fault(
     }
 }
 
+/// Whether the command of a statement makes a file, by the command's word.
+pub fn makes(keyword: Keyword, command: &[u8]) -> bool
+    ensures { result ≡ makes keyword command.now }
+{
+    match keyword {
+        Keyword::OldIoctl => gl_v1::makes_file(gl_v1::command_number(command)),
+        _ => is_get_line(command_number(command)),
+    }
+}
+
 /// Whether a command is the one that makes a file.
-pub fn is_get_line(command: Option<u32>) -> bool
+fn is_get_line(command: Option<u32>) -> bool
     ensures { result ≡ is_get_line command }
 {
     match command {

@@ -22,6 +22,7 @@ pub fn meets(form: Form, word: &[u8]) -> bool
         Form::Chip => within(0, CHIP_MAX, chip_number(word)).is_some(),
         Form::Word => word.len() <= 127,
         Form::Command => command_number(word).is_some(),
+        Form::OldCommand => gl_v1::command_number(word).is_some(),
         Form::PinWord => {
             word == b"range".as_slice() || word == b"hold".as_slice() || word == b"drop".as_slice()
         }

@@ -21,6 +21,8 @@ pub enum Form {
     Word,
     /// COMMAND: the word of a command, or `0x` and eight hexadecimal digits.
     Command,
+    /// COMMAND of the first uAPI, in the same way.
+    OldCommand,
     /// `range`, `hold` or `drop`.
     PinWord,
     /// `lock`, `unlock`, `enable`, `disable` or `none`.
@@ -69,6 +71,10 @@ pub enum Keyword {
     Ioctl,
     /// `events`.
     Events,
+    /// `ioctl1`.
+    OldIoctl,
+    /// `events1`.
+    OldEvents,
     /// `changes`.
     Changes,
     /// `poll`.
@@ -101,7 +107,7 @@ pub struct Shape {
 }
 
 /// All statements.
-pub const KEYWORDS: [Keyword; 23] = [
+pub const KEYWORDS: [Keyword; 25] = [
     Keyword::Probe,
     Keyword::Unplug,
     Keyword::MakeDir,
@@ -115,6 +121,8 @@ pub const KEYWORDS: [Keyword; 23] = [
     Keyword::Open,
     Keyword::Ioctl,
     Keyword::Events,
+    Keyword::OldIoctl,
+    Keyword::OldEvents,
     Keyword::Changes,
     Keyword::Poll,
     Keyword::Close,
@@ -164,6 +172,8 @@ impl Keyword {
             Keyword::Open => "open",
             Keyword::Ioctl => "ioctl",
             Keyword::Events => "events",
+            Keyword::OldIoctl => "ioctl1",
+            Keyword::OldEvents => "events1",
             Keyword::Changes => "changes",
             Keyword::Poll => "poll",
             Keyword::Close => "close",
@@ -210,6 +220,16 @@ impl Keyword {
                 Form::Number {
                     low: 0,
                     high: 49_152,
+                },
+            ]),
+            Keyword::OldIoctl => {
+                followed(&[Form::FileName, Form::OldCommand], Tail::Pieces { makes })
+            }
+            Keyword::OldEvents => only(&[
+                Form::FileName,
+                Form::Number {
+                    low: 0,
+                    high: 16_384,
                 },
             ]),
             Keyword::Changes => only(&[Form::FileName, Form::Number { low: 0, high: 9216 }]),
