@@ -20,7 +20,7 @@ use gl_driver::Driver;
 use std::sync::Wait;
 
 impl<D: Driver<Core>> Gpio<D> {
-    /// Makes a chip of 1 to 128 lines outside the tree, and tells its place.
+    /// Makes a chip of 1 to `LINES_MAX` lines outside the tree, and tells its place.
     ///
     /// `NoSpc` where all places were used. `Full` where the history is full.
     pub fn probe<R: Wait>(

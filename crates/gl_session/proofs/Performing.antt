@@ -4,6 +4,7 @@ use Rattle.std.specs.List.{position}
 use Rattle.std.specs.Prelude.{get_or, nat_lt, if◌then◌else◌}
 use Rattle.std.proofs.lemmas.Bool.{true≢false}
 use Rattle.std.proofs.lemmas.List.{append-nil, drop_all, take_all}
+use Rattle.gl_base.specs.declared.limits.TheConstants.{PLACES}
 use Rattle.gl_base.specs.declared.errno.Errno.{Errno}
 use Rattle.gl_base.specs.declared.errno.Errno.TheVariants.{Perm, NoEnt, Io, NxIo, BadF, Again, NoMemory, Fault, Busy, Exist, NoDev, Inval, MFile, NoSpc, OpNotSupp, Full}
 use Rattle.gl_base.specs.declared.operation.Do.{Do}
@@ -233,11 +234,11 @@ if_false : (b : Bool) (x y : Asking) → b ≡ false → (if b then x else y) �
 if_false true x y e = absurd (true≢false e)
 if_false false x y e = refl
 
-pub at_some_place : (place : ℕ) (a : Asking) → place < 16 → at_place place a ≡ a
-at_some_place place a h = if_true (nat_lt place 16) a (Refuses NoEnt) (grind (arith, h))
+pub at_some_place : (place : ℕ) (a : Asking) → place < PLACES → at_place place a ≡ a
+at_some_place place a h = if_true (nat_lt place PLACES) a (Refuses NoEnt) (grind (arith, h))
 
-pub at_no_place : (place : ℕ) (a : Asking) → 16 ≤ place → at_place place a ≡ Refuses NoEnt
-at_no_place place a h = if_false (nat_lt place 16) a (Refuses NoEnt) (grind (arith, h))
+pub at_no_place : (place : ℕ) (a : Asking) → PLACES ≤ place → at_place place a ≡ Refuses NoEnt
+at_no_place place a h = if_false (nat_lt place PLACES) a (Refuses NoEnt) (grind (arith, h))
 
 pub probes_some : (label : List ℕ) (lines : ℕ) → has_lines lines ≡ true → probes label lines ≡ Calls (Once (Probe label lines Simulated))
 probes_some label lines h = if_true (has_lines lines) (Calls (Once (Probe label lines Simulated))) (Refuses Inval) h

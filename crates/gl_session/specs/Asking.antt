@@ -46,7 +46,7 @@ abbrev pub on_file : Option OpenFile → (OpenFile → Asking) → Asking
 on_file None on = Refuses BadF
 on_file (Some file) on = on file
 
--- a simulated chip has 1 to 128 lines
+-- a simulated chip has 1 to `LINES_MAX` lines
 abbrev pub has_lines : ℕ → Bool
 has_lines lines = nat_le 1 lines && nat_le lines LINES_MAX
 

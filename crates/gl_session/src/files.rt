@@ -2,6 +2,7 @@
 ghost use Rattle.std.specs.Prelude.{◌≡◌, ◌≢◌, ◌<◌, ◌^◌, ◌++◌, ℕ, List, [], Err, length, drop};
 ghost use Rattle.std.specs.List.{position};
 ghost use Rattle.gl_base.specs.declared.errno.Errno.TheVariants.{NoMemory};
+ghost use Rattle.gl_base.specs.declared.limits.TheConstants.{PLACES};
 ghost use Rattle.gl_model.specs.Parts.{Once};
 ghost use Rattle.gl_model.specs.declared.call.Call.TheVariants.{Close as CloseCall};
 ghost use Rattle.gl_chip.specs.Called.{ComesOut};
@@ -57,7 +58,7 @@ impl OpenFd {
     /// The place of its chip.
     pub fn place(&self) -> u8
         ensures place { result ≡ place_of self.now }
-        ensures below { result < 16 }
+        ensures below { result < PLACES }
     {
         match self {
             OpenFd::Chip(file) => file.place(),

@@ -72,7 +72,7 @@ fn one_line_is_written_for_words_and_for_bytes_that_are_not_run(
     check(&rt, &["--help"], ONE_CHIP, &PLAIN, 2, b"usage\n")?;
     let refused = [
         ("", "refused 1 1 header\n"),
-        ("session 1\nsetup\nprobe demo 129", "refused 3 12 word\n"),
+        ("session 1\nsetup\nprobe demo 0", "refused 3 12 word\n"),
         ("# \x7f\nsession 1", "refused 1 3 byte\n"),
         ("session 1\nactor a\n actor a", "refused 3 8 name\n"),
         (
