@@ -8,6 +8,7 @@ mod script;
 mod talk;
 mod tools;
 mod tree;
+mod v1;
 mod wire;
 
 use device::{Actor, Device, Port};

@@ -1,5 +1,6 @@
 //! The text of a session: its sections and statements, its first fault, its cost, and a generated one.
 
+use crate::v1;
 use crate::wire::*;
 
 pub struct Refusal {
@@ -64,9 +65,7 @@ pub fn command(word: &str) -> Option<u32> {
     if let Some(row) = CHIP_COMMANDS.iter().chain(&LINE_COMMANDS).find(|row| row.0 == word) {
         return Some(row.1);
     }
-    let digits = word.strip_prefix("0x")?;
-    let good = digits.len() == 8 && digits.bytes().all(|b| b.is_ascii_hexdigit());
-    good.then(|| u32::from_str_radix(digits, 16).unwrap())
+    hex_number(word)
 }
 
 /// The forms behind a statement's first word, for those that have a fixed list of them.
@@ -84,6 +83,7 @@ fn forms(word: &str, second: Option<&str>) -> Option<&'static [Form]> {
         "irq" => &[Form::OneOf(&["lock", "unlock", "enable", "disable", "none"]), Form::Chip, U32],
         "open" => &[NAME, Form::Word],
         "events" => &[NAME, Form::Number(0, 49152)],
+        "events1" => &[NAME, Form::Number(0, 16384)],
         "changes" => &[NAME, Form::Number(0, 9216)],
         "poll" | "close" | "stop" => &[NAME],
         "step" => &[NAME, Form::Number(1, 1000)],
@@ -116,10 +116,19 @@ fn fit(words: &[Placed], first: usize, forms: &[Form], open: bool) -> Result<(),
     }
 }
 
+/// Whether a command of `ioctl` or of `ioctl1` makes a file, if it is a command.
+fn gives(statement: &str, word: &str) -> Option<bool> {
+    if statement == "ioctl" {
+        command(word).map(|cmd| cmd == GET_LINE)
+    } else {
+        v1::command(word).map(v1::makes_file)
+    }
+}
+
 fn fit_ioctl(words: &[Placed]) -> Result<(), Fault> {
     fit(&words[..words.len().min(2)], 1, &[NAME], false)?;
     let Some((column, word)) = words.get(2) else { return Err((behind(words), "words")) };
-    let gives = command(word).ok_or((*column, "word"))? == GET_LINE;
+    let gives = gives(words[0].1, word).ok_or((*column, "word"))?;
     let mut total = 0;
     let mut at = 3;
     let alone = words.get(3).is_some_and(|w| w.1 == "-");
@@ -149,7 +158,7 @@ fn fit_ioctl(words: &[Placed]) -> Result<(), Fault> {
 
 fn fit_statement(words: &[Placed]) -> Result<(), Fault> {
     match words[0].1 {
-        "ioctl" => fit_ioctl(words),
+        "ioctl" | "ioctl1" => fit_ioctl(words),
         "start" => fit(words, 1, &[NAME, Form::OneOf(&["gpioset", "gpiomon", "gpionotify"])], true),
         tool if TOOLS.contains(&tool) => Ok(()),
         word => match forms(word, words.get(1).map(|w| w.1)) {
@@ -160,7 +169,7 @@ fn fit_statement(words: &[Placed]) -> Result<(), Fault> {
 }
 
 fn begins_statement(word: &str) -> bool {
-    ["ioctl", "start"].contains(&word) || TOOLS.contains(&word) || forms(word, None).is_some()
+    ["ioctl", "ioctl1", "start"].contains(&word) || TOOLS.contains(&word) || forms(word, None).is_some()
 }
 
 /// The words of a line, or the fault of a byte or of a limit.
@@ -259,7 +268,7 @@ pub fn cost(words: &Statement) -> u64 {
     match words[0] {
         "fault" | "close" | "stop" => 0,
         "write" | "unplug" | "open" => 2,
-        "ioctl" => 2 + u64::from(command(words[2]) == Some(GET_LINE)),
+        "ioctl" | "ioctl1" => 2 + u64::from(gives(words[0], words[2]) == Some(true)),
         "gpiodetect" if more == 0 || words[1..] == ["--"] => 48,
         "gpiodetect" => 3 * more,
         "gpioinfo" if words[1..].iter().any(|w| *w == "-c" || w.starts_with("--chip")) => 131,

@@ -7,13 +7,29 @@ use crate::options::{self, Tool};
 use crate::script::{command, Statement};
 use crate::tools::{self, Running};
 use crate::tree::live_device;
+use crate::v1;
 use crate::wire::*;
 use std::collections::BTreeMap;
+
+/// What a file is: a chip's, a request of v2, or one that a call of the first uAPI made.
+#[derive(Clone, Copy, PartialEq)]
+enum Kind {
+    Chip,
+    Request,
+    Old(v1::Kind),
+}
+
+/// An open file.
+#[derive(Clone, Copy)]
+struct File {
+    handle: Handle,
+    kind: Kind,
+}
 
 /// The files and tools that are open, by their names, and what was printed.
 #[derive(Default)]
 pub struct Talk {
-    files: BTreeMap<String, Handle>,
+    files: BTreeMap<String, File>,
     tools: BTreeMap<String, Running>,
     pub out: Vec<u8>,
 }
@@ -59,7 +75,9 @@ impl Talk {
             "stop" => self.stop(actor, words[1]),
             "open" => self.open(actor, words),
             "ioctl" => self.ioctl(actor, words),
+            "ioctl1" => self.old_ioctl(actor, words),
             "events" => self.events(actor, words),
+            "events1" => self.old_events(actor, words),
             "changes" => self.changes(actor, words),
             "poll" => self.poll(actor, words[1]),
             "close" => self.close(actor, words[1]),
@@ -76,13 +94,13 @@ impl Talk {
         print(&mut self.out, format_args!("{}: {why}\n", tool.name()));
     }
 
-    fn file(&self, name: &str) -> Result<Handle, Errno> {
+    fn file(&self, name: &str) -> Result<File, Errno> {
         self.files.get(name).copied().ok_or(Errno::BadF)
     }
 
     /// Closes all that is open, in order of the numbers.
     pub fn end(&mut self, actor: &Actor) {
-        let files = std::mem::take(&mut self.files).into_values();
+        let files = std::mem::take(&mut self.files).into_values().map(|file| file.handle);
         let tools = std::mem::take(&mut self.tools).into_values().map(|tool| tool.handle);
         let mut open: Vec<Handle> = files.chain(tools).collect();
         open.sort_by_key(|handle| handle.fd);
@@ -147,57 +165,96 @@ impl Talk {
             return Err(Errno::Exist);
         }
         let handle = actor.open(words[2])?;
-        self.files.insert(words[1].into(), handle);
+        self.files.insert(words[1].into(), File { handle, kind: Kind::Chip });
         Ok(())
     }
 
     fn poll(&mut self, actor: &Actor, name: &str) -> Said {
-        let ready = actor.poll(self.file(name)?)?;
+        let ready = actor.poll(self.file(name)?.handle)?;
         print(&mut self.out, format_args!("{}\n", ready_text(ready)));
         Ok(())
     }
 
     fn close(&mut self, actor: &Actor, name: &str) -> Said {
-        actor.close(self.file(name)?)?;
+        actor.close(self.file(name)?.handle)?;
         self.files.remove(name);
         Ok(())
     }
 
-    fn ioctl(&mut self, actor: &mut Actor, words: &Statement) -> Said {
-        let handle = self.file(words[1])?;
-        let cmd = command(words[2]).unwrap();
-        let end = if cmd == GET_LINE { words.len() - 2 } else { words.len() };
-        let mut buffer = vec![];
-        words[3..end].iter().filter(|word| **word != "-").for_each(|word| read_piece(word, &mut buffer));
-        let name = words[words.len() - 1];
-        if cmd == GET_LINE && self.files.contains_key(name) {
+    /// Keeps a file that was made on a chip, by the last word of its statement.
+    fn made(&mut self, words: &Statement, place: u8, fd: u64, kind: Kind) {
+        let handle = Handle { chip: false, place, fd: fd as u32 };
+        self.files.insert(words[words.len() - 1].into(), File { handle, kind });
+        print(&mut self.out, format_args!("fd {fd}\n"));
+    }
+
+    fn show(&mut self, bytes: &[u8]) {
+        print_bytes(&mut self.out, bytes);
+        self.out.push(b'\n');
+    }
+
+    /// The file of a command, unless the name of the file that it makes is there.
+    fn asked(&self, words: &Statement, makes: bool) -> Result<File, Errno> {
+        let file = self.file(words[1])?;
+        if makes && self.files.contains_key(words[words.len() - 1]) {
             return Err(Errno::Exist);
         }
-        let (reply, written) = actor.ioctl(handle, cmd, &buffer)?;
-        match (cmd, reply) {
-            (GET_LINE, Reply::Number(fd)) => {
-                self.files.insert(name.into(), Handle { chip: false, place: handle.place, fd: fd as u32 });
-                print(&mut self.out, format_args!("fd {fd}\n"));
-            }
-            (GET_CHIPINFO | GET_LINEINFO | WATCH | GET_VALUES, _) => {
-                print_bytes(&mut self.out, &written);
-                self.out.push(b'\n');
-            }
+        Ok(file)
+    }
+
+    fn ioctl(&mut self, actor: &mut Actor, words: &Statement) -> Said {
+        let cmd = command(words[2]).unwrap();
+        let File { handle, kind } = self.asked(words, cmd == GET_LINE)?;
+        let sent = match kind {
+            Kind::Old(_) => (0, vec![]),
+            Kind::Chip | Kind::Request => (cmd, buffer_of(words, cmd == GET_LINE)),
+        };
+        let (reply, written) = actor.ioctl(handle, sent.0, &sent.1)?;
+        match (sent.0, reply) {
+            (GET_LINE, Reply::Number(fd)) => self.made(words, handle.place, fd, Kind::Request),
+            (GET_CHIPINFO | GET_LINEINFO | WATCH | GET_VALUES, _) => self.show(&written),
             _ => {}
         }
         Ok(())
     }
 
-    fn items(&self, actor: &Actor, words: &Statement, chip: bool) -> Result<Vec<u8>, Errno> {
-        let handle = self.file(words[1])?;
-        if handle.chip != chip {
+    fn old_ioctl(&mut self, actor: &mut Actor, words: &Statement) -> Said {
+        let cmd = v1::command(words[2]).unwrap();
+        let File { handle, kind } = self.asked(words, v1::makes_file(cmd))?;
+        let buffer = buffer_of(words, v1::makes_file(cmd));
+        let kind = match kind {
+            Kind::Chip => v1::Kind::Chip,
+            Kind::Old(kind) => kind,
+            Kind::Request => return actor.ioctl(handle, 0, &[]).map(|_| ()),
+        };
+        let sent = v1::sent(kind, cmd, &buffer);
+        let (reply, written) = actor.ioctl(handle, sent.0, &sent.1)?;
+        match (sent.0, reply) {
+            (GET_LINE, Reply::Number(fd)) => self.made(words, handle.place, fd, Kind::Old(v1::made_kind(cmd, &buffer))),
+            (GET_CHIPINFO | GET_LINEINFO | GET_VALUES, _) => self.show(&v1::received(kind, cmd, &written, &buffer)),
+            _ => {}
+        }
+        Ok(())
+    }
+
+    fn items(&self, actor: &Actor, name: &str, len: u32, kind: Kind) -> Result<Vec<u8>, Errno> {
+        let file = self.file(name)?;
+        if file.kind != kind {
             return Err(Errno::Inval);
         }
-        actor.read(handle, small(words[2]))
+        actor.read(file.handle, len)
+    }
+
+    fn old_events(&mut self, actor: &Actor, words: &Statement) -> Said {
+        for item in self.items(actor, words[1], small(words[2]) / 16 * 48, Kind::Old(v1::Kind::Event))?.chunks(48) {
+            let edge = if u32_at(item, 8) == 1 { "rising" } else { "falling" };
+            print(&mut self.out, format_args!("{} {edge}\n", u64_at(item, 0)));
+        }
+        Ok(())
     }
 
     fn events(&mut self, actor: &Actor, words: &Statement) -> Said {
-        for item in self.items(actor, words, false)?.chunks(48) {
+        for item in self.items(actor, words[1], small(words[2]), Kind::Request)?.chunks(48) {
             let edge = if u32_at(item, 8) == 1 { "rising" } else { "falling" };
             let (time, offset) = (u64_at(item, 0), u32_at(item, 12));
             let (seqno, line_seqno) = (u32_at(item, 16), u32_at(item, 20));
@@ -207,7 +264,7 @@ impl Talk {
     }
 
     fn changes(&mut self, actor: &Actor, words: &Statement) -> Said {
-        for item in self.items(actor, words, true)?.chunks(288) {
+        for item in self.items(actor, words[1], small(words[2]), Kind::Chip)?.chunks(288) {
             let kind = ["requested", "released", "config"][u32_at(item, 264) as usize - 1];
             let (time, offset, flags) = (u64_at(item, 256), u32_at(item, 64), u64_at(item, 72));
             print(&mut self.out, format_args!("{time} {kind} {offset} 0x{flags:x}\n"));
@@ -237,6 +294,14 @@ impl Talk {
         });
         Ok(())
     }
+}
+
+/// The bytes of a command's pieces.
+fn buffer_of(words: &Statement, makes: bool) -> Vec<u8> {
+    let end = if makes { words.len() - 2 } else { words.len() };
+    let mut buffer = vec![];
+    words[3..end].iter().filter(|word| **word != "-").for_each(|word| read_piece(word, &mut buffer));
+    buffer
 }
 
 /// A statement that neither opens nor uses a file.

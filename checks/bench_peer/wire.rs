@@ -182,6 +182,13 @@ pub fn plain_decimal(word: &str, most: u64) -> Option<u64> {
     decimal(word, most).filter(|_| word == "0" || !word.starts_with('0'))
 }
 
+/// The number that `0x` and eight hexadecimal digits write.
+pub fn hex_number(word: &str) -> Option<u32> {
+    let digits = word.strip_prefix("0x")?;
+    let good = digits.len() == 8 && digits.bytes().all(|b| b.is_ascii_hexdigit());
+    good.then(|| u32::from_str_radix(digits, 16).unwrap())
+}
+
 /// The number of a chip that is named by its number, its name or its path below /dev/.
 pub fn chip_number(word: &str, most: u64) -> Option<u64> {
     let number = word.strip_prefix("/dev/gpiochip").or(word.strip_prefix("gpiochip")).unwrap_or(word);

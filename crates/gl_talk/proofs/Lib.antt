@@ -3,6 +3,7 @@ pub mod FileNumbers
 pub mod Front
 pub mod InARow
 pub mod NamedRows
+pub mod OldSizes
 pub mod OpenedSlots
 pub mod OwnSlots
 pub mod Parts

@@ -22,17 +22,20 @@ use Rattle.gl_monitor.specs.Monitor.{stops as stops_watching}
 use Rattle.gl_monitor.proofs.MonitorNames.{monitor_at, steps_held_at}
 use Rattle.gl_monitor.proofs.MonitorNames.{stops_at as watching_stops_at}
 use Rattle.gl_script.specs.Table.{keyword_of}
+use Rattle.gl_talk.specs.declared.files.FileKind.{FileKind}
+use Rattle.gl_talk.specs.declared.files.FileKind.TheVariants.{Chip, Request}
 use Rattle.gl_talk.specs.declared.plans.Plan.{Plan}
 use Rattle.gl_talk.specs.declared.plans.Plan.TheVariants.{Nothing, Refuse, Ask}
 use Rattle.gl_talk.specs.declared.plans.Reply.{Reply}
-use Rattle.gl_talk.specs.declared.plans.Reply.TheVariants.{Silent, Value, Level as LevelReply, Bytes, Edges, Infos, Ready, Opened, Closed, Made}
+use Rattle.gl_talk.specs.declared.plans.Reply.TheVariants.{Silent, Value, Level as LevelReply, Bytes, Edges, Infos, Ready, Opened, Closed, Made, OldBytes, OldEdges, OldMade}
 use Rattle.gl_talk.specs.declared.tools.Kind.{Kind}
 use Rattle.gl_talk.specs.declared.tools.Kind.TheVariants.{Plain, ToolAlone, Starting, Stepping, Stopping}
+use Rattle.gl_talk.specs.Old.{made_kind, old_command_word}
 use Rattle.gl_talk.specs.Open.{File, MonitorTool, Names, SetTool, has_tool, held_of_name, is_file, is_monitor, is_set, monitor_slots, set_slots, watched_of_name, without_monitor, without_set}
 use Rattle.gl_talk.specs.Plans.{planned}
 use Rattle.gl_talk.specs.Talk.{acts, does, does_by, file, keeps_monitor, keeps_set, replied_by, runs, starts, starts_said, starts_tool, steps, stops}
 use Rattle.gl_talk.specs.ToolWords.{kind_of, word_texts}
-use Rattle.gl_talk.specs.Words.{behind_two, made_name, turns_word}
+use Rattle.gl_talk.specs.Words.{behind_three, behind_two, bytes_said, made_name, turns_word}
 use Rattle.gl_talk.proofs.TalkNames.{PlanFits, file_times, monitor_more, one_more, open_times, planned_at, set_more}
 use Rattle.gl_values.specs.Client.{held_program, tool_program}
 use Rattle.gl_values.specs.Set.{Held}
@@ -148,6 +151,9 @@ module _ (slot : ℕ) where
     replied_opens None Opened got = tt
     replied_opens None Closed got = tt
     replied_opens None Made got = tt
+    replied_opens None (OldBytes kind) got = tt
+    replied_opens None OldEdges got = tt
+    replied_opens None OldMade got = tt
 
     own_first : is_own slot slot ≡ true
     own_first = ap (λ b. b || nat_eq slot (slot + 1)) (same_number slot)
@@ -173,6 +179,10 @@ module _ (slot : ℕ) where
     acts_open (Ask what Closed) fits = asks what Closed (subst (λ w. Opens (is_own slot) w) (sym (fits 0).1) tt)
     acts_open (Ask what Made) fits =
         asks what Made (subst (λ w. Opens (is_own slot) w) (sym (fits 0).4.0) (where_so (nat_eq (fits 0).1 GET_LINE) (is_own slot slot ≡ true) own_first))
+    acts_open (Ask what (OldBytes kind)) fits = asks what (OldBytes kind) (opens_what (is_own slot) (λ s. open_times s names) what (λ s e. (fits s).0))
+    acts_open (Ask what OldEdges) fits = asks what OldEdges (opens_what (is_own slot) (λ s. open_times s names) what (λ s e. (fits s).0))
+    acts_open (Ask what OldMade) fits =
+        asks what OldMade (subst (λ w. Opens (is_own slot) w) (sym (fits 0).4.0) (where_so (nat_eq (fits 0).1 GET_LINE) (is_own slot slot ≡ true) own_first))
 
     runs_open : (tool : Option SaidTool) → Own (runs tool names slot words)
     runs_open None = tt
@@ -286,9 +296,9 @@ module _ (slot : ℕ) where
     still : IsOneMore names
     still = omega (arith, none)
 
-    one_file : (name : List ℕ) (is_request : Bool) → IsOneMore (record names { files = names.files ++ file name slot is_request ∷ [] })
-    one_file name is_request =
-        omega (arith, none, one_more slot names.files (file name slot is_request), one_more (slot + 1) names.files (file name slot is_request), counts_two slot (Some slot))
+    one_file : (name : List ℕ) (kind : FileKind) → IsOneMore (record names { files = names.files ++ file name slot kind ∷ [] })
+    one_file name kind =
+        omega (arith, none, one_more slot names.files (file name slot kind), one_more (slot + 1) names.files (file name slot kind), counts_two slot (Some slot))
 
     one_replied : (fault : Option Errno) (reply : Reply) (got : Got) → Gives IsOneMore (replied_by fault reply names slot words got)
     one_replied (Some errno) reply got = still
@@ -299,9 +309,12 @@ module _ (slot : ℕ) where
     one_replied None Edges got = still
     one_replied None Infos got = still
     one_replied None Ready got = still
-    one_replied None Opened got = one_file (text_at 1 words) false
+    one_replied None Opened got = one_file (text_at 1 words) Chip
     one_replied None Closed got = omega (arith, none, files_fewer slot (text_at 1 words) names.files, files_fewer (slot + 1) (text_at 1 words) names.files)
-    one_replied None Made got = one_file (made_name words) true
+    one_replied None Made got = one_file (made_name words) Request
+    one_replied None (OldBytes kind) got = still
+    one_replied None OldEdges got = still
+    one_replied None OldMade got = one_file (made_name words) (made_kind (old_command_word (text_at 2 words)) (bytes_said (behind_three words)))
 
     one_acts : (plan : Plan) → Gives IsOneMore (acts plan names slot words)
     one_acts Nothing = still

@@ -19,18 +19,21 @@ use Rattle.gl_monitor.specs.WatchedSlots.{WatchedPasses}
 use Rattle.gl_monitor.proofs.MonitorSlots.{monitor_slots, stepped_slots}
 use Rattle.gl_monitor.proofs.MonitorSlots.{stopped_slots as watching_stopped}
 use Rattle.gl_script.specs.Table.{keyword_of}
+use Rattle.gl_talk.specs.declared.files.FileKind.{FileKind}
+use Rattle.gl_talk.specs.declared.files.FileKind.TheVariants.{Chip, Request}
 use Rattle.gl_talk.specs.declared.plans.Plan.{Plan}
 use Rattle.gl_talk.specs.declared.plans.Plan.TheVariants.{Nothing, Refuse, Ask}
 use Rattle.gl_talk.specs.declared.plans.Reply.{Reply}
-use Rattle.gl_talk.specs.declared.plans.Reply.TheVariants.{Silent, Value, Level, Bytes, Edges, Infos, Ready, Opened, Closed, Made}
+use Rattle.gl_talk.specs.declared.plans.Reply.TheVariants.{Silent, Value, Level, Bytes, Edges, Infos, Ready, Opened, Closed, Made, OldBytes, OldEdges, OldMade}
 use Rattle.gl_talk.specs.declared.tools.Kind.{Kind}
 use Rattle.gl_talk.specs.declared.tools.Kind.TheVariants.{Plain, ToolAlone, Starting, Stepping, Stopping}
+use Rattle.gl_talk.specs.Old.{made_kind, old_command_word}
 use Rattle.gl_talk.specs.Open.{File, MonitorTool, Names, SetTool, has_tool, held_of_name, is_file, is_monitor, is_set, watched_of_name, without_monitor, without_set}
 use Rattle.gl_talk.specs.Plans.{planned}
 use Rattle.gl_talk.specs.Slots.{OpenPass, SlotsAreOwn}
 use Rattle.gl_talk.specs.Talk.{acts, does_by, file, keeps_monitor, keeps_set, replied_by, runs, starts, starts_said, starts_tool, steps, stops}
 use Rattle.gl_talk.specs.ToolWords.{kind_of, word_texts}
-use Rattle.gl_talk.specs.Words.{behind_two, made_name, turns_word}
+use Rattle.gl_talk.specs.Words.{behind_three, behind_two, bytes_said, made_name, turns_word}
 use Rattle.gl_values.specs.Client.{held_program, tool_program}
 use Rattle.gl_values.specs.Set.{Held}
 use Rattle.gl_values.specs.Set.{stops as stops_holding}
@@ -69,9 +72,9 @@ module _ (test : ℕ → Bool) where
       record { files = held_open.files; sets = held_open.sets; monitors = Each-without_first (λ (tool : MonitorTool). WatchedPasses test tool.watched) (is_monitor name) names.monitors held_open.monitors }
 
   module _ (names : Names) (slot : ℕ) (held_open : OpenPass test names) (own : test slot ≡ true) (next : test (slot + 1) ≡ true) where
-    file_more : (name : List ℕ) (is_request : Bool) → OpenPass test (record names { files = names.files ++ file name slot is_request ∷ [] })
-    file_more name is_request =
-        record { files = Each-push (λ (f : File). test f.slot ≡ true) names.files (file name slot is_request) held_open.files own; sets = held_open.sets; monitors = held_open.monitors }
+    file_more : (name : List ℕ) (kind : FileKind) → OpenPass test (record names { files = names.files ++ file name slot kind ∷ [] })
+    file_more name kind =
+        record { files = Each-push (λ (f : File). test f.slot ≡ true) names.files (file name slot kind) held_open.files own; sets = held_open.sets; monitors = held_open.monitors }
 
     file_less : (name : List ℕ) → OpenPass test (record names { files = without_first (is_file name) names.files })
     file_less name = record { files = Each-without_first (λ (f : File). test f.slot ≡ true) (is_file name) names.files held_open.files; sets = held_open.sets; monitors = held_open.monitors }
@@ -85,9 +88,12 @@ module _ (test : ℕ → Bool) where
     replied_pass None Edges words got = held_open
     replied_pass None Infos words got = held_open
     replied_pass None Ready words got = held_open
-    replied_pass None Opened words got = file_more (text_at 1 words) false
+    replied_pass None Opened words got = file_more (text_at 1 words) Chip
     replied_pass None Closed words got = file_less (text_at 1 words)
-    replied_pass None Made words got = file_more (made_name words) true
+    replied_pass None Made words got = file_more (made_name words) Request
+    replied_pass None (OldBytes kind) words got = held_open
+    replied_pass None OldEdges words got = held_open
+    replied_pass None OldMade words got = file_more (made_name words) (made_kind (old_command_word (text_at 2 words)) (bytes_said (behind_three words)))
 
     acts_pass : (plan : Plan) (words : List Span) → Gives (OpenPass test) (acts plan names slot words)
     acts_pass Nothing words = held_open

@@ -22,21 +22,31 @@ use Rattle.gl_script.specs.Cost.{cost, cost_by, start_cost, words_cost}
 use Rattle.gl_script.specs.Faults.{is_get_line}
 use Rattle.gl_script.specs.Table.{keyword_of}
 use Rattle.gl_script.specs.declared.table.Keyword.{Keyword}
-use Rattle.gl_script.specs.declared.table.Keyword.TheVariants.{Probe, Unplug, MakeDir, RemoveDir, Write, Read, Clock, Fault, Pin, Irq, Open, Ioctl, Events, Changes, Poll, Close, Detect, Info, Get, Set, Start, Step, Stop}
+use Rattle.gl_script.specs.declared.table.Keyword.TheVariants.{Probe, Unplug, MakeDir, RemoveDir, Write, Read, Clock, Fault, Pin, Irq, Open, Ioctl, Events, OldIoctl, OldEvents, Changes, Poll, Close, Detect, Info, Get, Set, Start, Step, Stop}
+use Rattle.gl_v1.specs.declared.commands.CommandV1.{CommandV1}
+use Rattle.gl_v1.specs.declared.commands.CommandV1.TheVariants.{ChipInfo, LineInfo, LineHandle, LineEvent, GetValues, SetValues, SetConfig}
+use Rattle.gl_v1.specs.declared.commands.KindV1.TheVariants.{Chip as OldChip, Handle, Event}
+use Rattle.gl_v1.specs.declared.sending.Sent.{Sent}
+use Rattle.gl_v1.specs.Commands.{command_for, sent_as, size_of}
+use Rattle.gl_v1.specs.To.{sent_for, sent_if, whole, without_bytes}
+use Rattle.gl_v1.specs.Words.{makes as makes_old, makes_file as makes_old_file, old_number_of}
+use Rattle.gl_talk.specs.declared.files.FileKind.{FileKind}
+use Rattle.gl_talk.specs.declared.files.FileKind.TheVariants.{Chip, Request, Old}
 use Rattle.gl_talk.specs.declared.paths.LineFile.{LineFile}
 use Rattle.gl_talk.specs.declared.plans.Plan.{Plan}
 use Rattle.gl_talk.specs.declared.plans.Plan.TheVariants.{Nothing, Refuse, Ask}
 use Rattle.gl_talk.specs.declared.plans.Reply.{Reply}
-use Rattle.gl_talk.specs.declared.plans.Reply.TheVariants.{Silent, Value, Level, Bytes, Edges, Infos, Ready, Opened, Closed, Made}
+use Rattle.gl_talk.specs.declared.plans.Reply.TheVariants.{Silent, Value, Level, Bytes, Edges, Infos, Ready, Opened, Closed, Made, OldBytes, OldEdges, OldMade}
 use Rattle.gl_talk.specs.declared.tools.Kind.{Kind}
 use Rattle.gl_talk.specs.declared.tools.Kind.TheVariants.{Plain, ToolAlone, Starting, Stepping, Stopping}
 use Rattle.gl_talk.specs.Costs.{StatementsKeepWithinCost, TalksKeepWithinCost}
-use Rattle.gl_talk.specs.Open.{File, Names, file_of, has_tool, held_of_name, watched_of_name, slots_in_order, without_monitor, without_set}
+use Rattle.gl_talk.specs.Old.{sent_new, sent_old, takes_old_name}
+use Rattle.gl_talk.specs.Open.{File, Names, file_of, has_tool, held_of_name, is_chip, is_old_event, is_request, watched_of_name, slots_in_order, without_monitor, without_set}
 use Rattle.gl_talk.specs.Paths.{line_file, live_device}
-use Rattle.gl_talk.specs.Plans.{closes, ioctls, irqs, lives, opens, pins, planned, polls, pulls, reads, reads_file, takes_name, unplugs, writes, writes_tree}
+use Rattle.gl_talk.specs.Plans.{closes, ioctls, irqs, lives, old_ioctls, opens, pins, planned, polls, pulls, reads, reads_file, takes_name, unplugs, writes, writes_tree}
 use Rattle.gl_talk.specs.Talk.{acts, closes_all, does, does_by, keeps_monitor, keeps_set, replied_by, runs, quits, says, slot_behind, starts, starts_said, starts_tool, steps, stops}
 use Rattle.gl_talk.specs.ToolWords.{kind_of, word_texts}
-use Rattle.gl_talk.specs.Words.{behind_two, live_word, or_else, place_word, pull_word, turns_word}
+use Rattle.gl_talk.specs.Words.{behind_three, behind_two, bytes_said, live_word, or_else, place_word, pull_word, turns_word}
 use Rattle.gl_talk.proofs.ToolParts.{started_cost, started_fits, tool_fits}
 use Rattle.gl_values.specs.Client.{held_program, tool_program}
 use Rattle.gl_values.specs.Costs.{held_cost, tool_cost}
@@ -68,6 +78,9 @@ told_free n None Ready names slot words got = tt
 told_free n None Opened names slot words got = tt
 told_free n None Closed names slot words got = tt
 told_free n None Made names slot words got = tt
+told_free n None (OldBytes kind) names slot words got = tt
+told_free n None OldEdges names slot words got = tt
+told_free n None OldMade names slot words got = tt
 
 acts_cost : (n : ℕ) (plan : Plan) (names : Names) (slot : ℕ) (words : List Span) → PlanCosts n plan → CostsAtMost n (acts plan names slot words)
 acts_cost n Nothing names slot words h = tt
@@ -111,10 +124,9 @@ opens_cost : (taken : Bool) (slot : ℕ) (word : List ℕ) → PlanCosts 2 (open
 opens_cost true slot word = tt
 opens_cost false slot word = omega arith
 
-file_cost : (file : Option File) (is_request : Bool) (len : ℕ) (reply : Reply) → PlanCosts 1 (reads_file file is_request len reply)
-file_cost None is_request len reply = tt
-file_cost (Some file) true len reply = plan_if 1 file.is_request _ _ (omega arith) tt
-file_cost (Some file) false len reply = plan_if 1 file.is_request _ _ tt (omega arith)
+file_cost : (file : Option File) (can_be_read : FileKind → Bool) (len : ℕ) (reply : Reply) → PlanCosts 1 (reads_file file can_be_read len reply)
+file_cost None can_be_read len reply = tt
+file_cost (Some file) can_be_read len reply = plan_if 1 (can_be_read file.kind) _ _ (omega arith) tt
 
 polls_cost : (file : Option File) → PlanCosts 1 (polls file)
 polls_cost None = tt
@@ -139,9 +151,78 @@ entries_fit : (number : Option ℕ) → command_entries (or_else 0 number) ≤ (
 entries_fit None = omega arith
 entries_fit (Some number) = three_if (number == 0xC250B407) (number == 0xC110B40D) (number == 0xC010B40E) (number == 0xC010B40F)
 
+-- what is sent makes no more entries than the command that was said; no command makes one
+none_fits : (b : Bool) → 1 ≤ cond b 3 2
+none_fits true = omega arith
+none_fits false = omega arith
+
+two_fits : (b : Bool) (n : ℕ) → n ≤ 2 → n ≤ cond b 3 2
+two_fits true n h = omega (arith, h)
+two_fits false n h = h
+
+new_fits : (kind : FileKind) (number : Option ℕ) (bytes : List ℕ) → command_entries (sent_new kind (or_else 0 number) bytes).cmd ≤ (if is_get_line number then 3 else 2)
+new_fits Chip number bytes = entries_fit number
+new_fits Request number bytes = entries_fit number
+new_fits (Old kind) number bytes = none_fits (is_get_line number)
+
+cmd_if : (b : Bool) (x y : Sent) (n : ℕ) → x.cmd ≡ n → y.cmd ≡ n → (if b then x else y).cmd ≡ n
+cmd_if true x y n p q = p
+cmd_if false x y n p q = q
+
+sent_cmd : (command : CommandV1) (lines : ℕ) (bytes : List ℕ) → (sent_for command lines bytes).cmd ≡ sent_as command
+sent_cmd command lines bytes = cmd_if (nat_lt (length bytes) (size_of command)) (without_bytes (sent_as command)) (whole command lines bytes) (sent_as command) refl refl
+
+by_command : (command : CommandV1) → command_entries (sent_as command) ≤ cond (makes_old (Some command)) 3 2
+by_command ChipInfo = omega arith
+by_command LineInfo = omega arith
+by_command LineHandle = omega arith
+by_command LineEvent = omega arith
+by_command GetValues = omega arith
+by_command SetValues = omega arith
+by_command SetConfig = omega arith
+
+chip_fits : (command : Option CommandV1) (lines : ℕ) (bytes : List ℕ) → command_entries (sent_if command lines bytes).cmd ≤ cond (makes_old command) 3 2
+chip_fits None lines bytes = omega arith
+chip_fits (Some command) lines bytes = subst (λ n. command_entries n ≤ cond (makes_old (Some command)) 3 2) (sym (sent_cmd command lines bytes)) (by_command command)
+
+command_fits : (command : CommandV1) (lines : ℕ) (bytes : List ℕ) → command_entries (sent_as command) ≤ 2 → command_entries (sent_if (Some command) lines bytes).cmd ≤ 2
+command_fits command lines bytes h = subst (λ n. command_entries n ≤ 2) (sym (sent_cmd command lines bytes)) h
+
+handle_fits : (a b c : Bool) (lines : ℕ) (bytes : List ℕ)
+    → command_entries (sent_if (cond a (Some GetValues) (cond b (Some SetValues) (cond c (Some SetConfig) None))) lines bytes).cmd ≤ 2
+handle_fits true b c lines bytes = command_fits GetValues lines bytes (omega arith)
+handle_fits false true c lines bytes = command_fits SetValues lines bytes (omega arith)
+handle_fits false false true lines bytes = command_fits SetConfig lines bytes (omega arith)
+handle_fits false false false lines bytes = omega arith
+
+event_fits : (a : Bool) (bytes : List ℕ) → command_entries (sent_if (cond a (Some GetValues) None) 1 bytes).cmd ≤ 2
+event_fits true bytes = command_fits GetValues 1 bytes (omega arith)
+event_fits false bytes = omega arith
+
+old_fits_some : (kind : FileKind) (number : ℕ) (bytes : List ℕ) → command_entries (sent_old kind number bytes).cmd ≤ cond (makes_old (command_for OldChip number)) 3 2
+old_fits_some Chip number bytes = chip_fits (command_for OldChip number) 0 bytes
+old_fits_some Request number bytes = none_fits (makes_old (command_for OldChip number))
+old_fits_some (Old OldChip) number bytes = chip_fits (command_for OldChip number) 0 bytes
+old_fits_some (Old (Handle lines)) number bytes =
+    two_fits (makes_old (command_for OldChip number)) _ (handle_fits (0xC040B408 == number) (0xC040B409 == number) (0xC054B40A == number) lines bytes)
+old_fits_some (Old Event) number bytes = two_fits (makes_old (command_for OldChip number)) _ (event_fits (0xC040B408 == number) bytes)
+
+old_fits : (kind : FileKind) (number : Option ℕ) (bytes : List ℕ) → command_entries (sent_old kind (or_else 0 number) bytes).cmd ≤ (if makes_old_file number then 3 else 2)
+old_fits Chip None bytes = omega arith
+old_fits Request None bytes = omega arith
+old_fits (Old OldChip) None bytes = omega arith
+old_fits (Old (Handle lines)) None bytes = omega arith
+old_fits (Old Event) None bytes = omega arith
+old_fits kind (Some number) bytes = old_fits_some kind number bytes
+
+old_ioctls_cost : (file : Option File) (taken : Bool) (slot : ℕ) (first : Span) (words : List Span) → PlanCosts (cost OldIoctl words) (old_ioctls file taken slot (first ∷ words))
+old_ioctls_cost None taken slot first words = tt
+old_ioctls_cost (Some file) taken slot first words =
+    plan_if (cost OldIoctl words) taken _ _ tt (old_fits file.kind (old_number_of (text_at 1 words)) (bytes_said (behind_three (first ∷ words))))
+
 ioctls_cost : (file : Option File) (taken : Bool) (slot : ℕ) (first : Span) (words : List Span) → PlanCosts (cost Ioctl words) (ioctls file taken slot (first ∷ words))
 ioctls_cost None taken slot first words = tt
-ioctls_cost (Some file) taken slot first words = plan_if (cost Ioctl words) taken _ _ tt (entries_fit (command_number_of (text_at 1 words)))
+ioctls_cost (Some file) taken slot first words = plan_if (cost Ioctl words) taken _ _ tt (new_fits file.kind (command_number_of (text_at 1 words)) (bytes_said (behind_three (first ∷ words))))
 
 planned_cost : (keyword : Keyword) (files : List File) (slot : ℕ) (first : Span) (words : List Span) → PlanCosts (cost keyword words) (planned (Some keyword) files slot (first ∷ words))
 planned_cost Probe files slot first words = omega arith
@@ -156,8 +237,10 @@ planned_cost Pin files slot first words = pins_cost (place_word (text_at 1 words
 planned_cost Irq files slot first words = irqs_cost (place_word (text_at 1 words)) (first ∷ words)
 planned_cost Open files slot first words = opens_cost (is_some (file_of (text_at 0 words) files)) slot (text_at 1 words)
 planned_cost Ioctl files slot first words = ioctls_cost (file_of (text_at 0 words) files) (takes_name (first ∷ words) files) slot first words
-planned_cost Events files slot first words = file_cost (file_of (text_at 0 words) files) true _ Edges
-planned_cost Changes files slot first words = file_cost (file_of (text_at 0 words) files) false _ Infos
+planned_cost Events files slot first words = file_cost (file_of (text_at 0 words) files) is_request _ Edges
+planned_cost OldIoctl files slot first words = old_ioctls_cost (file_of (text_at 0 words) files) (takes_old_name (first ∷ words) files) slot first words
+planned_cost OldEvents files slot first words = file_cost (file_of (text_at 0 words) files) is_old_event _ OldEdges
+planned_cost Changes files slot first words = file_cost (file_of (text_at 0 words) files) is_chip _ Infos
 planned_cost Poll files slot first words = polls_cost (file_of (text_at 0 words) files)
 planned_cost Close files slot first words = closes_cost (file_of (text_at 0 words) files)
 planned_cost Detect files slot first words = tt
@@ -256,6 +339,8 @@ keyword_cost Irq Starting names slot first words k e = cc
 keyword_cost Open Starting names slot first words k e = cc
 keyword_cost Ioctl Starting names slot first words k e = cc
 keyword_cost Events Starting names slot first words k e = cc
+keyword_cost OldIoctl Starting names slot first words k e = cc
+keyword_cost OldEvents Starting names slot first words k e = cc
 keyword_cost Changes Starting names slot first words k e = cc
 keyword_cost Poll Starting names slot first words k e = cc
 keyword_cost Close Starting names slot first words k e = cc
@@ -278,6 +363,8 @@ keyword_cost Irq Stepping names slot first words k e = cc
 keyword_cost Open Stepping names slot first words k e = cc
 keyword_cost Ioctl Stepping names slot first words k e = cc
 keyword_cost Events Stepping names slot first words k e = cc
+keyword_cost OldIoctl Stepping names slot first words k e = cc
+keyword_cost OldEvents Stepping names slot first words k e = cc
 keyword_cost Changes Stepping names slot first words k e = cc
 keyword_cost Poll Stepping names slot first words k e = cc
 keyword_cost Close Stepping names slot first words k e = cc
@@ -300,6 +387,8 @@ keyword_cost Irq Stopping names slot first words k e = cc
 keyword_cost Open Stopping names slot first words k e = cc
 keyword_cost Ioctl Stopping names slot first words k e = cc
 keyword_cost Events Stopping names slot first words k e = cc
+keyword_cost OldIoctl Stopping names slot first words k e = cc
+keyword_cost OldEvents Stopping names slot first words k e = cc
 keyword_cost Changes Stopping names slot first words k e = cc
 keyword_cost Poll Stopping names slot first words k e = cc
 keyword_cost Close Stopping names slot first words k e = cc

@@ -21,17 +21,21 @@ use Rattle.gl_monitor.proofs.MonitorNames.{monitor_at, steps_held_at}
 use Rattle.gl_monitor.proofs.MonitorNames.{stops_at as watching_stops_at}
 use Rattle.gl_script.specs.Table.{keyword_of}
 use Rattle.gl_script.specs.declared.table.Keyword.{Keyword}
-use Rattle.gl_script.specs.declared.table.Keyword.TheVariants.{Probe, Unplug, MakeDir, RemoveDir, Write, Read, Clock, Fault, Pin, Irq, Open, Ioctl, Events, Changes, Poll, Close, Detect, Info, Get, Set, Start, Step, Stop}
+use Rattle.gl_script.specs.declared.table.Keyword.TheVariants.{Probe, Unplug, MakeDir, RemoveDir, Write, Read, Clock, Fault, Pin, Irq, Open, Ioctl, Events, OldIoctl, OldEvents, Changes, Poll, Close, Detect, Info, Get, Set, Start, Step, Stop}
+use Rattle.gl_v1.specs.declared.commands.KindV1.{KindV1}
+use Rattle.gl_v1.specs.declared.sending.Sent.{Sent}
+use Rattle.gl_talk.specs.declared.files.FileKind.TheVariants.{Chip, Request}
 use Rattle.gl_talk.specs.declared.paths.LineFile.{LineFile}
 use Rattle.gl_talk.specs.declared.plans.Plan.{Plan}
 use Rattle.gl_talk.specs.declared.plans.Plan.TheVariants.{Nothing, Refuse, Ask}
 use Rattle.gl_talk.specs.declared.plans.Reply.{Reply}
-use Rattle.gl_talk.specs.declared.plans.Reply.TheVariants.{Silent, Value, Level, Bytes, Edges, Infos, Ready, Opened, Closed, Made}
+use Rattle.gl_talk.specs.declared.plans.Reply.TheVariants.{Silent, Value, Level, Bytes, Edges, Infos, Ready, Opened, Closed, Made, OldBytes, OldEdges, OldMade}
 use Rattle.gl_talk.specs.declared.tools.Kind.{Kind}
 use Rattle.gl_talk.specs.declared.tools.Kind.TheVariants.{Plain, ToolAlone, Starting, Stepping, Stopping}
-use Rattle.gl_talk.specs.Open.{File, Names, SetTool, MonitorTool, file_of, has_tool, held_of_name, is_file, is_monitor, is_set, monitor_slots, open_slots, set_slots, watched_of_name, without_monitor, without_set}
+use Rattle.gl_talk.specs.Old.{kind_v1, made_kind, old_command_word, old_reply, sent_new, sent_old, takes_old_name}
+use Rattle.gl_talk.specs.Open.{File, Names, SetTool, MonitorTool, file_of, has_tool, held_of_name, is_chip, is_file, is_old_event, is_request, is_monitor, is_set, monitor_slots, open_slots, set_slots, watched_of_name, without_monitor, without_set}
 use Rattle.gl_talk.specs.Paths.{line_file, live_device}
-use Rattle.gl_talk.specs.Plans.{closes, ioctls, ioctls_bytes, irqs, lives, opens, pins, planned, polls, pulls, reads, reads_file, takes_name, unplugs, writes, writes_tree}
+use Rattle.gl_talk.specs.Plans.{asks_for, closes, command_reply, ioctls, ioctls_bytes, irqs, lives, old_ioctls, opens, pins, planned, polls, pulls, reads, reads_file, takes_name, unplugs, writes, writes_tree}
 use Rattle.gl_talk.specs.Talk.{acts, does_by, file, keeps_monitor, keeps_set, replied_by, runs, starts, starts_said, starts_tool, steps, stops}
 use Rattle.gl_talk.specs.ToolWords.{word_texts}
 use Rattle.gl_talk.specs.Words.{behind_two, bytes_said, behind_three, command_word, live_word, made_name, place_word, pull_word, turns_word}
@@ -135,6 +139,7 @@ module _ (s k : ℕ) where
     AskFits Opened what = (word : List ℕ) × (what ≡ OpenChip slot word)
     AskFits Closed what = (chip : ℕ) × (what ≡ DoClose chip) × FileTaken chip
     AskFits Made what = (chip : ℕ) × (command : ℕ) × (len : ℕ) × (bytes : List ℕ) × Makes what chip command len bytes
+    AskFits OldMade what = (chip : ℕ) × (command : ℕ) × (len : ℕ) × (bytes : List ℕ) × Makes what chip command len bytes
     AskFits _ what = LeavesAll what
 
     abbrev pub PlanFits : Plan → Type 0
@@ -147,6 +152,7 @@ module _ (s k : ℕ) where
     IsPlainReply Opened = ⊥
     IsPlainReply Closed = ⊥
     IsPlainReply Made = ⊥
+    IsPlainReply OldMade = ⊥
     IsPlainReply _ = Unit {0}
 
     plain_at : (fault : Option Errno) (reply : Reply) (got : Got) → IsPlainReply reply → Keeps (open_times s names) (replied_by fault reply names slot words got)
@@ -161,14 +167,22 @@ module _ (s k : ℕ) where
     plain_at None Opened got plain = absurd plain
     plain_at None Closed got plain = absurd plain
     plain_at None Made got plain = absurd plain
+    plain_at None (OldBytes kind) got plain = refl
+    plain_at None OldEdges got plain = refl
+    plain_at None OldMade got plain = absurd plain
 
     opened_at : (fault : Option Errno) (got : Got) → Keeps (with_one s k fault slot (open_times s names)) (replied_by fault Opened names slot words got)
     opened_at (Some errno) got = refl
-    opened_at None got = omega (arith, one_more s names.files (file (text_at 1 words) slot false))
+    opened_at None got = omega (arith, one_more s names.files (file (text_at 1 words) slot Chip))
 
     made_at : (fault : Option Errno) (got : Got) → Keeps (with_one s k fault slot (open_times s names)) (replied_by fault Made names slot words got)
     made_at (Some errno) got = refl
-    made_at None got = omega (arith, one_more s names.files (file (made_name words) slot true))
+    made_at None got = omega (arith, one_more s names.files (file (made_name words) slot Request))
+
+    old_made_at : (fault : Option Errno) (got : Got) → Keeps (with_one s k fault slot (open_times s names)) (replied_by fault OldMade names slot words got)
+    old_made_at (Some errno) got = refl
+    old_made_at None got =
+        omega (arith, one_more s names.files (file (made_name words) slot (made_kind (old_command_word (text_at 2 words)) (bytes_said (behind_three words)))))
 
     closed_at : (chip : ℕ) (fault : Option Errno) (got : Got) → FileTaken chip → fault ≡ None → Keeps (open_times s names - one_if (nat_eq s chip)) (replied_by fault Closed names slot words got)
     closed_at chip (Some errno) got taken kept = cc
@@ -181,6 +195,10 @@ module _ (s k : ℕ) where
     made_if : (b : Bool) (got : Got) → b ≡ true → Keeps (cond b (with_one s k (refusal got) slot (open_times s names)) (open_times s names)) (replied_by (refusal got) Made names slot words got)
     made_if true got e = made_at (refusal got) got
     made_if false got e = cc
+
+    old_made_if : (b : Bool) (got : Got) → b ≡ true → Keeps (cond b (with_one s k (refusal got) slot (open_times s names)) (open_times s names)) (replied_by (refusal got) OldMade names slot words got)
+    old_made_if true got e = old_made_at (refusal got) got
+    old_made_if false got e = cc
 
     where_so : (b : Bool) (P : Type 0) → P → Where b P
     where_so true P h = h
@@ -209,6 +227,13 @@ module _ (s k : ℕ) where
           let makes = fits.4 in
           subst (λ w. Keeps (open_times s names) (acts (Ask w Made) names slot words)) (sym makes.0)
           ((makes.2, where_so (nat_eq command GET_LINE) (open_times s names + one_if (nat_eq s slot) ≤ k) room), λ got kept. made_if (command == GET_LINE) got makes.1)
+      acts_at (Ask what (OldBytes kind)) fits = ask_plain what (OldBytes kind) tt fits
+      acts_at (Ask what OldEdges) fits = ask_plain what OldEdges tt fits
+      acts_at (Ask what OldMade) fits =
+          let command = fits.1 in
+          let makes = fits.4 in
+          subst (λ w. Keeps (open_times s names) (acts (Ask w OldMade) names slot words)) (sym makes.0)
+          ((makes.2, where_so (nat_eq command GET_LINE) (open_times s names + one_if (nat_eq s slot) ≤ k) room), λ got kept. old_made_if (command == GET_LINE) got makes.1)
 
   -- each row
   module _ (names : Names) (slot : ℕ) (words : List Span) where
@@ -280,21 +305,46 @@ module _ (s k : ℕ) where
     reply_if chip command len bytes false false false false true same le = plain_command chip command len bytes same le
     reply_if chip command len bytes false false false false false same le = plain_command chip command len bytes same le
 
+    by_sent : (found : File) (sent : Sent) → one_if (nat_eq s found.slot) ≤ open_times s names → Plans (asks_for found slot sent (command_reply sent.cmd))
+    by_sent found sent le =
+        reply_if found.slot sent.cmd sent.len sent.bytes (sent.cmd == GET_LINE) (sent.cmd == GET_CHIPINFO) (sent.cmd == GET_LINEINFO) (sent.cmd == GET_LINEINFO_WATCH) (sent.cmd == LINE_GET_VALUES) refl le
+
+    -- what a statement of the first uAPI sends
+    old_reply_if : (kind : KindV1) (chip command len : ℕ) (bytes : List ℕ) (a b c d : Bool) → (command == GET_LINE) ≡ a → one_if (nat_eq s chip) ≤ open_times s names
+        → AskFits names slot words (cond a OldMade (cond b (OldBytes kind) (cond c (OldBytes kind) (cond d (OldBytes kind) Silent)))) (DoIoctl chip command len bytes slot)
+    old_reply_if kind chip command len bytes true b c d same le = (chip, command, len, bytes, (refl, same, le))
+    old_reply_if kind chip command len bytes false true c d same le = plain_command chip command len bytes same le
+    old_reply_if kind chip command len bytes false false true d same le = plain_command chip command len bytes same le
+    old_reply_if kind chip command len bytes false false false true same le = plain_command chip command len bytes same le
+    old_reply_if kind chip command len bytes false false false false same le = plain_command chip command len bytes same le
+
+    by_old_sent : (found : File) (sent : Sent) → one_if (nat_eq s found.slot) ≤ open_times s names → Plans (asks_for found slot sent (old_reply found.kind sent.cmd))
+    by_old_sent found sent le =
+        old_reply_if (kind_v1 found.kind) found.slot sent.cmd sent.len sent.bytes (sent.cmd == GET_LINE) (sent.cmd == GET_CHIPINFO) (sent.cmd == GET_LINEINFO) (sent.cmd == LINE_GET_VALUES) refl le
+
+    old_ioctls_at : (o : Option File) (taken : Bool) → file_of (text_at 1 words) names.files ≡ o → Plans (old_ioctls o taken slot words)
+    old_ioctls_at None taken e = tt
+    old_ioctls_at (Some found) taken e =
+        plan_if taken _ _ tt (by_old_sent found (sent_old found.kind (old_command_word (text_at 2 words)) (bytes_said (behind_three words))) (there (text_at 1 words) found e))
+
     bytes_at : (found : File) (command : ℕ) (bytes : List ℕ) → one_if (nat_eq s found.slot) ≤ open_times s names → Plans (ioctls_bytes found slot command bytes)
-    bytes_at found command bytes le =
-        reply_if found.slot command _ _ (command == GET_LINE) (command == GET_CHIPINFO) (command == GET_LINEINFO) (command == GET_LINEINFO_WATCH) (command == LINE_GET_VALUES) refl le
+    bytes_at found command bytes le = by_sent found (sent_new found.kind command bytes) le
 
     ioctls_at : (o : Option File) (taken : Bool) → file_of (text_at 1 words) names.files ≡ o → Plans (ioctls o taken slot words)
     ioctls_at None taken e = tt
     ioctls_at (Some found) taken e = plan_if taken _ _ tt (bytes_at found (command_word (text_at 2 words)) (bytes_said (behind_three words)) (there (text_at 1 words) found e))
 
-    events_at : (o : Option File) (len : ℕ) → file_of (text_at 1 words) names.files ≡ o → Plans (reads_file o true len Edges)
+    events_at : (o : Option File) (len : ℕ) → file_of (text_at 1 words) names.files ≡ o → Plans (reads_file o is_request len Edges)
     events_at None len e = tt
-    events_at (Some found) len e = plan_if found.is_request _ _ (there (text_at 1 words) found e, λ got. refl) tt
+    events_at (Some found) len e = plan_if (is_request found.kind) _ _ (there (text_at 1 words) found e, λ got. refl) tt
 
-    changes_at : (o : Option File) (len : ℕ) → file_of (text_at 1 words) names.files ≡ o → Plans (reads_file o false len Infos)
+    old_events_at : (o : Option File) (len : ℕ) → file_of (text_at 1 words) names.files ≡ o → Plans (reads_file o is_old_event len OldEdges)
+    old_events_at None len e = tt
+    old_events_at (Some found) len e = plan_if (is_old_event found.kind) _ _ (there (text_at 1 words) found e, λ got. refl) tt
+
+    changes_at : (o : Option File) (len : ℕ) → file_of (text_at 1 words) names.files ≡ o → Plans (reads_file o is_chip len Infos)
     changes_at None len e = tt
-    changes_at (Some found) len e = plan_if found.is_request _ _ tt (there (text_at 1 words) found e, λ got. refl)
+    changes_at (Some found) len e = plan_if (is_chip found.kind) _ _ (there (text_at 1 words) found e, λ got. refl) tt
 
     polls_at : (o : Option File) → file_of (text_at 1 words) names.files ≡ o → Plans (polls o)
     polls_at None e = tt
@@ -319,6 +369,8 @@ module _ (s k : ℕ) where
     planned_at (Some Open) = opens_at (is_some (file_of (text_at 1 words) names.files)) (text_at 2 words)
     planned_at (Some Ioctl) = ioctls_at (file_of (text_at 1 words) names.files) (takes_name words names.files) refl
     planned_at (Some Events) = events_at (file_of (text_at 1 words) names.files) _ refl
+    planned_at (Some OldIoctl) = old_ioctls_at (file_of (text_at 1 words) names.files) (takes_old_name words names.files) refl
+    planned_at (Some OldEvents) = old_events_at (file_of (text_at 1 words) names.files) _ refl
     planned_at (Some Changes) = changes_at (file_of (text_at 1 words) names.files) _ refl
     planned_at (Some Poll) = polls_at (file_of (text_at 1 words) names.files) refl
     planned_at (Some Close) = closes_at (file_of (text_at 1 words) names.files) refl

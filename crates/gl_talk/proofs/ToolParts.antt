@@ -24,7 +24,7 @@ use Rattle.gl_script.specs.Cost.{is_bare, is_chip_option, start_cost}
 use Rattle.gl_script.specs.Cost.{cost}
 use Rattle.gl_script.specs.Table.{is_keyword, keyword_name, keyword_of}
 use Rattle.gl_script.specs.declared.table.Keyword.{Keyword}
-use Rattle.gl_script.specs.declared.table.Keyword.TheVariants.{Probe, Unplug, MakeDir, RemoveDir, Write, Read, Clock, Fault, Pin, Irq, Open, Ioctl, Events, Changes, Poll, Close, Detect, Info, Get, Set, Start, Step, Stop}
+use Rattle.gl_script.specs.declared.table.Keyword.TheVariants.{Probe, Unplug, MakeDir, RemoveDir, Write, Read, Clock, Fault, Pin, Irq, Open, Ioctl, Events, OldIoctl, OldEvents, Changes, Poll, Close, Detect, Info, Get, Set, Start, Step, Stop}
 use Rattle.gl_script.specs.declared.table.TheConstants.{KEYWORDS}
 use Rattle.gl_talk.specs.declared.tools.Kind.TheVariants.{ToolAlone}
 use Rattle.gl_talk.specs.ToolWords.{kind_of, word_texts}
@@ -149,6 +149,8 @@ tool_fits Irq first words tool e t h = cc
 tool_fits Open first words tool e t h = cc
 tool_fits Ioctl first words tool e t h = cc
 tool_fits Events first words tool e t h = cc
+tool_fits OldIoctl first words tool e t h = cc
+tool_fits OldEvents first words tool e t h = cc
 tool_fits Changes first words tool e t h = cc
 tool_fits Poll first words tool e t h = cc
 tool_fits Close first words tool e t h = cc

@@ -14,8 +14,9 @@ use Rattle.gl_base.specs.Words.{is_nonempty, text_at}
 use Rattle.gl_base.specs.declared.irq.IrqDo.TheVariants.{Lock, Unlock, Enable, Disable, Never}
 use Rattle.gl_base.specs.declared.pin.PinDo.TheVariants.{Range, Hold, Release}
 use Rattle.gl_script.specs.Forms.{is_path_byte, is_there, number_within}
+use Rattle.gl_v1.specs.Words.{old_number_of}
 use Rattle.gl_talk.specs.Plans.{small_word}
-use Rattle.gl_talk.specs.Readings.{CanStart, CommandsAreRead, HeldToolsAreRead, IrqsAreRead, LabelsAreRead, NumbersAreRead, PathsAreRead, PinsAreRead, WordsAreRead, irq_name, pin_name}
+use Rattle.gl_talk.specs.Readings.{CanStart, CommandsAreRead, HeldToolsAreRead, IrqsAreRead, LabelsAreRead, NumbersAreRead, OldCommandsAreRead, PathsAreRead, PinsAreRead, WordsAreRead, irq_name, pin_name}
 use Rattle.gl_talk.specs.Words.{or_else}
 
 both : (a b : Bool) → (a && b) ≡ true → (a ≡ true) × (b ≡ true)
@@ -63,6 +64,9 @@ numbers_are_read low high word e = there_or low (number_within low high word) e
 
 pub commands_are_read : CommandsAreRead
 commands_are_read word e = there_or 0 (command_number_of word) e
+
+pub old_commands_are_read : OldCommandsAreRead
+old_commands_are_read word e = there_or 0 (old_number_of word) e
 
 same : (word text : List ℕ) → bytes_eq word text ≡ true → text ≡ word
 same word text e = sym ((bytes_eq-Decides word text).0 e)

@@ -2,6 +2,7 @@ pub mod Costs
 pub mod Files
 pub mod InParts
 pub mod Numbers
+pub mod Old
 pub mod Open
 pub mod Over
 pub mod Paths

@@ -1,5 +1,5 @@
 -- What an actor has open, by its names: files, and tools that were started. This project's choice.
-use Rattle.std.specs.Prelude.{ℕ, Bool, nat_lt, ◌||◌, List, [], ◌∷◌, ◌++◌, map, find, is_some, Option, Some, None, option_map}
+use Rattle.std.specs.Prelude.{ℕ, Bool, true, false, nat_lt, ◌||◌, List, [], ◌∷◌, ◌++◌, map, find, is_some, Option, Some, None, option_map}
 use Rattle.std.specs.Str.{bytes_eq}
 use Rattle.gl_base.specs.Ordered.{ordered}
 use Rattle.gl_base.specs.Rows.{without_first}
@@ -7,15 +7,31 @@ use Rattle.gl_args.specs.OpenSlots.{with_slot}
 use Rattle.gl_monitor.specs.Monitor.{Watched, watched_by, watched_slot}
 use Rattle.gl_values.specs.Client.{held_by}
 use Rattle.gl_values.specs.Set.{Held}
+use Rattle.gl_v1.specs.declared.commands.KindV1.TheVariants.{Event}
+use Rattle.gl_talk.specs.declared.files.FileKind.{FileKind}
+use Rattle.gl_talk.specs.declared.files.FileKind.TheVariants.{Chip, Request, Old}
 use Rattle.gl_talk.specs.declared.files.FileRow.{FileRow}
 use Rattle.gl_talk.specs.declared.held.MonitorRow.{MonitorRow}
 use Rattle.gl_talk.specs.declared.held.SetRow.{SetRow}
 
--- an open file: its name, the slot that its operations name, and whether it is a request; else it is a chip's file
+-- an open file: its name, the slot that its operations name, and what kind of file it is
 pub record File : Type 0 where
   pub name : List ℕ
   pub slot : ℕ
-  pub is_request : Bool
+  pub kind : FileKind
+
+-- it is a chip's file, a request of v2, a request for edges of the first uAPI
+abbrev pub is_chip : FileKind → Bool
+is_chip Chip = true
+is_chip _ = false
+
+abbrev pub is_request : FileKind → Bool
+is_request Request = true
+is_request _ = false
+
+abbrev pub is_old_event : FileKind → Bool
+is_old_event (Old Event) = true
+is_old_event _ = false
 
 -- a gpioset that was started: its name, and the slot of the request that it holds
 pub record SetTool : Type 0 where
@@ -102,7 +118,7 @@ slots_in_order names = ordered nat_lt (open_slots names)
 
 -- the rows of the code stand for these
 abbrev pub file_in : FileRow → File
-file_in row = record { name = row.name.now; slot = row.slot; is_request = row.is_request }
+file_in row = record { name = row.name.now; slot = row.slot; kind = row.kind }
 
 abbrev pub set_in : SetRow → SetTool
 set_in row = record { name = row.name.now; held = held_by row.client }

@@ -1,8 +1,7 @@
 -- What each statement that is no tool's asks of the device, or how it is refused without a call; and how its result is told.
 -- This project's choice.
-use Rattle.std.specs.Prelude.{ℕ, Bool, true, false, ◌&&◌, ◌==◌, nat_lt, if◌then◌else◌, List, length, min, take, is_some, Option, Some, None, codes}
+use Rattle.std.specs.Prelude.{ℕ, ◌*◌, ◌/◌, Bool, true, false, ◌&&◌, ◌==◌, nat_lt, if◌then◌else◌, List, is_some, Option, Some, None, codes}
 use Rattle.std.specs.Str.{bytes_eq}
-use Rattle.gl_base.specs.Padded.{padded}
 use Rattle.gl_base.specs.Words.{Span, text_at}
 use Rattle.gl_base.specs.declared.command.TheConstants.{GET_CHIPINFO, GET_LINEINFO, GET_LINEINFO_WATCH, GET_LINE, LINE_GET_VALUES}
 use Rattle.gl_base.specs.declared.errno.Errno.TheVariants.{BadF, Exist, Inval, NoEnt, Perm}
@@ -11,13 +10,16 @@ use Rattle.gl_base.specs.declared.operation.Do.TheVariants.{Probe as DoProbe, Un
 use Rattle.gl_base.specs.declared.pin.PinDo.{PinDo}
 use Rattle.gl_base.specs.declared.pin.PinDo.TheVariants.{Range, Hold, Release}
 use Rattle.gl_script.specs.declared.table.Keyword.{Keyword}
-use Rattle.gl_script.specs.declared.table.Keyword.TheVariants.{Probe, Unplug, MakeDir, RemoveDir, Write, Read, Clock, Fault, Pin, Irq, Open, Ioctl, Events, Changes, Poll, Close, Detect, Info, Get, Set, Start, Step, Stop}
+use Rattle.gl_script.specs.declared.table.Keyword.TheVariants.{Probe, Unplug, MakeDir, RemoveDir, Write, Read, Clock, Fault, Pin, Irq, Open, Ioctl, Events, OldIoctl, OldEvents, Changes, Poll, Close, Detect, Info, Get, Set, Start, Step, Stop}
 use Rattle.gl_talk.specs.declared.paths.LineFile.{LineFile}
 use Rattle.gl_talk.specs.declared.plans.Plan.{Plan}
 use Rattle.gl_talk.specs.declared.plans.Plan.TheVariants.{Nothing, Refuse, Ask}
 use Rattle.gl_talk.specs.declared.plans.Reply.{Reply}
-use Rattle.gl_talk.specs.declared.plans.Reply.TheVariants.{Silent, Value, Level, Bytes, Edges, Infos, Ready, Opened, Closed, Made}
-use Rattle.gl_talk.specs.Open.{File, file_of}
+use Rattle.gl_talk.specs.declared.plans.Reply.TheVariants.{Silent, Value, Level, Bytes, Edges, Infos, Ready, Opened, Closed, Made, OldEdges}
+use Rattle.gl_v1.specs.declared.sending.Sent.{Sent}
+use Rattle.gl_talk.specs.declared.files.FileKind.{FileKind}
+use Rattle.gl_talk.specs.Old.{old_command_word, old_reply, sent_new, sent_old, takes_old_name}
+use Rattle.gl_talk.specs.Open.{File, file_of, is_chip, is_old_event, is_request}
 use Rattle.gl_talk.specs.Paths.{line_file, live_device}
 use Rattle.gl_talk.specs.Words.{name_word, path_word, number_word, place_word, command_word, irq_word, pull_word, live_word, behind_three, bytes_said, made_name}
 
@@ -103,21 +105,37 @@ command_reply number =
 abbrev pub takes_name : List Span → List File → Bool
 takes_name words files = (command_word (text_at 2 words) == GET_LINE) && is_some (file_of (made_name words) files)
 
+-- a call of v2 on a file
+abbrev pub asks_for : File → ℕ → Sent → Reply → Plan
+asks_for file slot sent reply = Ask (DoIoctl file.slot sent.cmd sent.len sent.bytes slot) reply
+
 -- `ioctl NAME COMMAND PIECES.. [as NAME]`
 abbrev pub ioctls_bytes : File → ℕ → ℕ → List ℕ → Plan
 ioctls_bytes file slot command bytes =
-    Ask (DoIoctl file.slot command (min (length bytes) 1024) (padded 592 (take 592 bytes)) slot) (command_reply command)
+    asks_for file slot (sent_new file.kind command bytes) (command_reply (sent_new file.kind command bytes).cmd)
 
 abbrev pub ioctls : Option File → Bool → ℕ → List Span → Plan
 ioctls None taken slot words = Refuse BadF
 ioctls (Some file) taken slot words =
     if taken then Refuse Exist else ioctls_bytes file slot (command_word (text_at 2 words)) (bytes_said (behind_three words))
 
--- `events NAME N` of a request, and `changes NAME N` of a chip's file
-abbrev pub reads_file : Option File → Bool → ℕ → Reply → Plan
-reads_file None is_request len reply = Refuse BadF
-reads_file (Some file) is_request len reply = if is_request then (if file.is_request then Ask (DoReadFile file.slot len) reply else Refuse Inval)
-    else (if file.is_request then Refuse Inval else Ask (DoReadFile file.slot len) reply)
+-- `ioctl1 NAME COMMAND PIECES.. [as NAME]`
+abbrev pub old_ioctls_bytes : File → ℕ → ℕ → List ℕ → Plan
+old_ioctls_bytes file slot command bytes =
+    asks_for file slot (sent_old file.kind command bytes) (old_reply file.kind (sent_old file.kind command bytes).cmd)
+
+abbrev pub old_ioctls : Option File → Bool → ℕ → List Span → Plan
+old_ioctls None taken slot words = Refuse BadF
+old_ioctls (Some file) taken slot words =
+    if taken then Refuse Exist else old_ioctls_bytes file slot (old_command_word (text_at 2 words)) (bytes_said (behind_three words))
+
+-- `events NAME N` of a request, `events1 NAME N` of a request for edges of the first uAPI, and `changes NAME N` of a chip's file
+abbrev pub read_if : Bool → ℕ → ℕ → Reply → Plan
+read_if can_be_read slot len reply = if can_be_read then Ask (DoReadFile slot len) reply else Refuse Inval
+
+abbrev pub reads_file : Option File → (FileKind → Bool) → ℕ → Reply → Plan
+reads_file None can_be_read len reply = Refuse BadF
+reads_file (Some file) can_be_read len reply = read_if (can_be_read file.kind) file.slot len reply
 
 -- `poll NAME`
 abbrev pub polls : Option File → Plan
@@ -144,8 +162,10 @@ planned (Some Pin) files slot words = pins (place_word (text_at 2 words)) words
 planned (Some Irq) files slot words = irqs (place_word (text_at 2 words)) words
 planned (Some Open) files slot words = opens (is_some (file_of (text_at 1 words) files)) slot (text_at 2 words)
 planned (Some Ioctl) files slot words = ioctls (file_of (text_at 1 words) files) (takes_name words files) slot words
-planned (Some Events) files slot words = reads_file (file_of (text_at 1 words) files) true (number_word 0 49152 (text_at 2 words)) Edges
-planned (Some Changes) files slot words = reads_file (file_of (text_at 1 words) files) false (number_word 0 9216 (text_at 2 words)) Infos
+planned (Some Events) files slot words = reads_file (file_of (text_at 1 words) files) is_request (number_word 0 49152 (text_at 2 words)) Edges
+planned (Some OldIoctl) files slot words = old_ioctls (file_of (text_at 1 words) files) (takes_old_name words files) slot words
+planned (Some OldEvents) files slot words = reads_file (file_of (text_at 1 words) files) is_old_event (48 * (number_word 0 16384 (text_at 2 words) / 16)) OldEdges
+planned (Some Changes) files slot words = reads_file (file_of (text_at 1 words) files) is_chip (number_word 0 9216 (text_at 2 words)) Infos
 planned (Some Poll) files slot words = polls (file_of (text_at 1 words) files)
 planned (Some Close) files slot words = closes (file_of (text_at 1 words) files)
 planned (Some Detect) files slot words = Nothing

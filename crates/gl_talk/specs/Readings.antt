@@ -10,7 +10,9 @@ use Rattle.gl_base.specs.declared.irq.IrqDo.TheVariants.{Lock, Unlock, Enable, D
 use Rattle.gl_base.specs.declared.pin.PinDo.{PinDo}
 use Rattle.gl_base.specs.declared.pin.PinDo.TheVariants.{Range, Hold, Release}
 use Rattle.gl_script.specs.Forms.{meets, number_within}
-use Rattle.gl_script.specs.declared.table.Form.TheVariants.{Label, Path, Word, Number, Command, PinWord, IrqWord, HeldTool}
+use Rattle.gl_script.specs.declared.table.Form.TheVariants.{Label, Path, Word, Number, Command, OldCommand, PinWord, IrqWord, HeldTool}
+use Rattle.gl_v1.specs.Words.{old_number_of}
+use Rattle.gl_talk.specs.Old.{old_command_word}
 use Rattle.gl_talk.specs.Plans.{pin_said}
 use Rattle.gl_talk.specs.Words.{command_word, irq_word, name_word, number_word, path_word}
 
@@ -49,6 +51,9 @@ NumbersAreRead = (low high : ℕ) (word : List ℕ) → meets (Number low high) 
 
 abbrev pub CommandsAreRead : Type 0
 CommandsAreRead = (word : List ℕ) → meets Command word ≡ true → command_number_of word ≡ Some (command_word word)
+
+abbrev pub OldCommandsAreRead : Type 0
+OldCommandsAreRead = (word : List ℕ) → meets OldCommand word ≡ true → old_number_of word ≡ Some (old_command_word word)
 
 -- so are the words of `irq`, `pin` and `start`
 abbrev pub IrqsAreRead : Type 0

@@ -24,17 +24,20 @@ use Rattle.gl_values.specs.Set.{stops as stops_holding}
 use Rattle.gl_talk.specs.declared.plans.Plan.{Plan}
 use Rattle.gl_talk.specs.declared.plans.Plan.TheVariants.{Nothing, Refuse, Ask}
 use Rattle.gl_talk.specs.declared.plans.Reply.{Reply}
-use Rattle.gl_talk.specs.declared.plans.Reply.TheVariants.{Silent, Value, Level, Bytes, Edges, Infos, Ready, Opened, Closed, Made}
+use Rattle.gl_talk.specs.declared.plans.Reply.TheVariants.{Silent, Value, Level, Bytes, Edges, Infos, Ready, Opened, Closed, Made, OldBytes, OldEdges, OldMade}
 use Rattle.gl_talk.specs.declared.talk.Stage.{Stage}
 use Rattle.gl_talk.specs.declared.talk.Stage.TheVariants.{Idle, Begun, Waiting, Running, Holding, Watching, Quitting, Closing}
 use Rattle.gl_talk.specs.declared.talk.Talk.{Talk}
 use Rattle.gl_talk.specs.declared.tools.Kind.{Kind}
 use Rattle.gl_talk.specs.declared.tools.Kind.TheVariants.{Plain, ToolAlone, Starting, Stepping, Stopping}
+use Rattle.gl_talk.specs.declared.files.FileKind.{FileKind}
+use Rattle.gl_talk.specs.declared.files.FileKind.TheVariants.{Chip, Request}
+use Rattle.gl_talk.specs.Old.{made_kind, old_command_word, old_edges_text, old_structure_text}
 use Rattle.gl_talk.specs.Open.{File, Names, no_names, file_in, set_in, monitor_in, has_tool, held_of_name, watched_of_name, with_file, without_file, with_set, with_monitor, without_set, without_monitor, slots_in_order}
 use Rattle.gl_talk.specs.Plans.{planned}
 use Rattle.gl_talk.specs.Replies.{number_of, text_of, level_text, ready_text, structure_text, fd_text, edges_text, infos_text}
 use Rattle.gl_talk.specs.ToolWords.{kind_of, usage_text, word_texts}
-use Rattle.gl_talk.specs.Words.{behind_two, command_word, made_name, turns_word}
+use Rattle.gl_talk.specs.Words.{behind_three, behind_two, bytes_said, command_word, made_name, turns_word}
 
 -- a statement gives the names behind it
 abbrev pub Does : Type 0
@@ -48,8 +51,8 @@ refused errno names = print (line (errno_name errno)) (done names)
 abbrev pub shows : List ℕ → Names → Does
 shows text names = print text (done names)
 
-abbrev pub file : List ℕ → ℕ → Bool → File
-file name slot is_request = record { name = name; slot = slot; is_request = is_request }
+abbrev pub file : List ℕ → ℕ → FileKind → File
+file name slot kind = record { name = name; slot = slot; kind = kind }
 
 -- how a result that is no refusal is told
 abbrev pub told : Reply → Names → ℕ → List Span → Got → Does
@@ -60,9 +63,14 @@ told Bytes names slot words got = shows (structure_text (command_word (text_at 2
 told Edges names slot words got = shows (edges_text (bytes_of got)) names
 told Infos names slot words got = shows (infos_text (bytes_of got)) names
 told Ready names slot words got = shows (line (ready_text (ready_of got))) names
-told Opened names slot words got = done (with_file (file (text_at 1 words) slot false) names)
+told Opened names slot words got = done (with_file (file (text_at 1 words) slot Chip) names)
 told Closed names slot words got = done (without_file (text_at 1 words) names)
-told Made names slot words got = shows (fd_text (bytes_of got)) (with_file (file (made_name words) slot true) names)
+told Made names slot words got = shows (fd_text (bytes_of got)) (with_file (file (made_name words) slot Request) names)
+told (OldBytes kind) names slot words got =
+    shows (old_structure_text kind (old_command_word (text_at 2 words)) (bytes_said (behind_three words)) (bytes_of got)) names
+told OldEdges names slot words got = shows (old_edges_text (bytes_of got)) names
+told OldMade names slot words got =
+    shows (fd_text (bytes_of got)) (with_file (file (made_name words) slot (made_kind (old_command_word (text_at 2 words)) (bytes_said (behind_three words)))) names)
 
 abbrev pub replied_by : Option Errno → Reply → Names → ℕ → List Span → Got → Does
 replied_by (Some errno) reply names slot words got = refused errno names

@@ -2,7 +2,51 @@
 ghost use Rattle.std.specs.Prelude.{◌≡◌, map, is_some, option_map};
 ghost use Rattle.std.specs.List.{position};
 ghost use Rattle.gl_base.specs.Rows.{without_first};
-ghost use Rattle.gl_talk.specs.Open.{file_in, file_of, is_file, is_row};
+ghost use Rattle.gl_talk.specs.Open.{file_in, file_of, is_chip, is_file, is_old_event, is_request, is_row};
+
+use gl_v1::KindV1;
+
+/// What kind of file it is.
+#[derive(Clone, Copy, PartialEq, Eq, Debug)]
+pub enum FileKind {
+    /// A chip's file.
+    Chip,
+    /// A request of uAPI v2.
+    Request,
+    /// A handle, or a request for edges, of the first uAPI.
+    Old(KindV1),
+}
+
+/// Whether it is a chip's file.
+pub fn is_chip(kind: FileKind) -> bool
+    ensures { result ≡ is_chip kind }
+{
+    match kind {
+        FileKind::Chip => true,
+        FileKind::Request | FileKind::Old(_) => false,
+    }
+}
+
+/// Whether it is a request of v2.
+pub fn is_request(kind: FileKind) -> bool
+    ensures { result ≡ is_request kind }
+{
+    match kind {
+        FileKind::Request => true,
+        FileKind::Chip | FileKind::Old(_) => false,
+    }
+}
+
+/// Whether it is a request for edges of the first uAPI.
+pub fn is_old_event(kind: FileKind) -> bool
+    ensures { result ≡ is_old_event kind }
+{
+    match kind {
+        FileKind::Old(KindV1::Event) => true,
+        FileKind::Old(KindV1::Chip | KindV1::Handle(_)) | FileKind::Chip | FileKind::Request =>
+            false,
+    }
+}
 
 /// An open file: its name as it stands in the source, and the slot that its operations name.
 #[derive(Clone, Copy, Debug)]
@@ -11,8 +55,8 @@ pub struct FileRow<'a> {
     pub name: &'a [u8],
     /// Its slot.
     pub slot: u32,
-    /// Whether it is a request; else it is a chip's file.
-    pub is_request: bool,
+    /// What kind of file it is.
+    pub kind: FileKind,
 }
 
 /// The file of a name, if there is one.

@@ -5,7 +5,7 @@ ghost use Rattle.gl_talk.specs.Slots.{SlotsAreOwn};
 ghost use Rattle.gl_talk.specs.Files.{EndClosesAll, EndMakesAtMost, NoneIsOpenBefore, StatementsFindTheirFiles, StatementsLeaveEntries, TalksFindTheirFiles};
 ghost use Rattle.gl_talk.specs.Numbers.{FilesCloseByNumber};
 ghost use Rattle.gl_talk.specs.InParts.{StatementsComeInParts, TalksAreStatementsAndTheEnd};
-ghost use Rattle.gl_talk.specs.Readings.{CommandsAreRead, HeldToolsAreRead, IrqsAreRead, LabelsAreRead, NumbersAreRead, PathsAreRead, PinsAreRead, WordsAreRead};
+ghost use Rattle.gl_talk.specs.Readings.{CommandsAreRead, HeldToolsAreRead, IrqsAreRead, LabelsAreRead, NumbersAreRead, OldCommandsAreRead, PathsAreRead, PinsAreRead, WordsAreRead};
 
 /// A statement makes at most as many entries of a history as it costs. The closing of a file is
 /// counted where the file is opened.
@@ -70,6 +70,7 @@ pub fn words_are_read_as_they_are()
     ensures words { WordsAreRead }
     ensures numbers { NumbersAreRead }
     ensures commands { CommandsAreRead }
+    ensures old_commands { OldCommandsAreRead }
     ensures irqs { IrqsAreRead }
     ensures pins { PinsAreRead }
     ensures held_tools { HeldToolsAreRead }

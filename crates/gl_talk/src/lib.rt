@@ -6,6 +6,7 @@ mod files;
 mod held;
 mod holding;
 mod laws;
+mod old;
 mod over;
 mod paths;
 mod plans;

@@ -1,21 +1,24 @@
 //! What a statement that is no tool's asks of the device.
-ghost use Rattle.std.specs.Prelude.{◌≡◌, ◌<◌, ◌≤◌, map, is_some, option_map, option_copied, IfOk, IfSome, IsOkUnless, true, false};
+ghost use Rattle.std.specs.Prelude.{◌≡◌, ◌*◌, ◌/◌, ◌<◌, ◌≤◌, map, is_some, option_map, option_copied, IfOk, IfSome, IsOkUnless, true, false};
 ghost use Rattle.gl_base.specs.Words.{text_at};
 ghost use Rattle.gl_script.specs.Columns.{columns};
-ghost use Rattle.gl_talk.specs.Open.{file_in, file_of};
+ghost use Rattle.gl_talk.specs.Old.{takes_old_name};
+ghost use Rattle.gl_talk.specs.Open.{file_in, file_of, is_chip, is_old_event, is_request};
 ghost use Rattle.gl_talk.specs.Paths.{line_file, live_device};
-ghost use Rattle.gl_talk.specs.Plans.{clocks, closes, command_reply, faults, ioctls, ioctls_bytes, irqs, lives, opens, pin_said, pins, planned, polls, probes, pulls, reads, reads_file, takes_name, unplugs, writes, writes_line, writes_tree};
+ghost use Rattle.gl_talk.specs.Plans.{asks_for, clocks, closes, command_reply, faults, ioctls, ioctls_bytes, irqs, lives, old_ioctls, old_ioctls_bytes, opens, pin_said, pins, planned, polls, probes, pulls, read_if, reads, reads_file, takes_name, unplugs, writes, writes_line, writes_tree};
 ghost use Rattle.gl_talk.specs.Words.{number_word};
 
-use crate::files::{FileRow, file_of, has_file};
+use crate::files::{FileRow, file_of, has_file, is_chip, is_old_event, is_request};
+use crate::old::{old_command_word, old_reply, sent_new, sent_old, takes_old_name};
 use crate::paths::{LineFile, line_file, live_device};
 use crate::words::{
-    bytes_said, command_word, first_bytes, irq_word, live_word, made_name, name_word, number_word,
-    path_word, place_word, pull_word, small_word, word,
+    bytes_said, command_word, irq_word, live_word, made_name, name_word, number_word, path_word,
+    place_word, pull_word, small_word, word,
 };
 use gl_base::command::{GET_CHIPINFO, GET_LINE, GET_LINEINFO, GET_LINEINFO_WATCH, LINE_GET_VALUES};
 use gl_base::{Do, Errno, LINES_MAX, PLACES, PinDo};
 use gl_script::Keyword;
+use gl_v1::{KindV1, Sent};
 use std::alloc::Global;
 
 /// How the result of an operation is told. A refusal is told by the error's name.
@@ -41,6 +44,12 @@ pub enum Reply {
     Closed,
     /// `fd N`; the request has the name behind `as`.
     Made,
+    /// The bytes of a structure of the first uAPI, on a file of this kind.
+    OldBytes(KindV1),
+    /// The edges that were read, a line each, as the first uAPI has them.
+    OldEdges,
+    /// `fd N`; the file of the first uAPI has the name after `as`.
+    OldMade,
 }
 
 /// What a statement does first.
@@ -85,6 +94,8 @@ pub fn planned(
         Keyword::Open => Ok(opens(has_file(files, word(1, line)), slot, word(2, line))),
         Keyword::Ioctl => commands(alloc, files, slot, line),
         Keyword::Events => Ok(events(file_of(files, word(1, line)), word(2, line))),
+        Keyword::OldIoctl => old_commands(alloc, files, slot, line),
+        Keyword::OldEvents => Ok(old_events(file_of(files, word(1, line)), word(2, line))),
         Keyword::Changes => Ok(changes(file_of(files, word(1, line)), word(2, line))),
         Keyword::Poll => Ok(polls(file_of(files, word(1, line)))),
         Keyword::Close => Ok(closes(file_of(files, word(1, line)))),
@@ -335,47 +346,110 @@ fn ioctls(
 fn ioctls_bytes(file: &FileRow<'_>, slot: u32, command: u32, bytes: &[u8]) -> Plan
     ensures { result ≡ ioctls_bytes (file_in file.now) slot command bytes.now }
 {
+    let sent = sent_new(file.kind, command, bytes);
+    asks_for(file, slot, &sent, command_reply(sent.cmd))
+}
+
+/// A call of v2 on a file.
+fn asks_for(file: &FileRow<'_>, slot: u32, sent: &Sent, reply: Reply) -> Plan
+    ensures { result ≡ asks_for (file_in file.now) slot sent.now reply }
+{
     Plan::Ask(
         Do::Ioctl {
             slot: file.slot,
-            cmd: command,
-            len: bytes.len().min(1024) as u32,
-            bytes: first_bytes(bytes),
+            cmd: sent.cmd,
+            len: sent.len,
+            bytes: sent.bytes,
             made: slot,
         },
-        command_reply(command),
+        reply,
     )
 }
 
-fn events(file: Option<FileRow<'_>>, len: &[u8]) -> Plan
-    ensures { result ≡ reads_file (option_map file_in file.entry) true (number_word 0 49152 len.now) Reply.Edges }
+fn old_commands(alloc: Global, files: &[FileRow<'_>], slot: u32, line: &[u8]) -> Result<Plan, Errno>
+    ensures ok { IfOk result (λ what. what ≡ old_ioctls (file_of (text_at 1 (columns line.now)) (map file_in files.now)) (takes_old_name (columns line.now) (map file_in files.now)) slot (columns line.now)) }
+    ensures memory_alone { IsOkUnless result Errno.NoMemory }
 {
-    reads_file(file, true, number_word(0, 49_152, len) as u32, Reply::Edges)
+    let file = file_of(files, word(1, line));
+    old_ioctls(alloc, file, takes_old_name(files, line), slot, line)
+}
+
+fn old_ioctls(
+    alloc: Global,
+    file: Option<FileRow<'_>>,
+    is_taken: bool,
+    slot: u32,
+    line: &[u8],
+) -> Result<Plan, Errno>
+    ensures ok { IfOk result (λ what. what ≡ old_ioctls (option_map file_in file.entry) is_taken slot (columns line.now)) }
+    ensures memory_alone { IsOkUnless result Errno.NoMemory }
+{
+    let Some(file) = file else {
+        return Ok(Plan::Refuse(Errno::BadF));
+    };
+    if is_taken {
+        return Ok(Plan::Refuse(Errno::Exist));
+    }
+    let bytes = bytes_said(alloc, line)?;
+    Ok(old_ioctls_bytes(&file, slot, old_command_word(word(2, line)), &bytes))
+}
+
+fn old_ioctls_bytes(file: &FileRow<'_>, slot: u32, command: u32, bytes: &[u8]) -> Plan
+    ensures { result ≡ old_ioctls_bytes (file_in file.now) slot command bytes.now }
+{
+    let sent = sent_old(file.kind, command, bytes);
+    asks_for(file, slot, &sent, old_reply(file.kind, sent.cmd))
+}
+
+fn events(file: Option<FileRow<'_>>, len: &[u8]) -> Plan
+    ensures { result ≡ reads_file (option_map file_in file.entry) is_request (number_word 0 49152 len.now) Reply.Edges }
+{
+    match file {
+        Some(file) => read_if(
+            is_request(file.kind),
+            file.slot,
+            number_word(0, 49_152, len) as u32,
+            Reply::Edges,
+        ),
+        None => Plan::Refuse(Errno::BadF),
+    }
+}
+
+fn old_events(file: Option<FileRow<'_>>, len: &[u8]) -> Plan
+    ensures { result ≡ reads_file (option_map file_in file.entry) is_old_event (48 * (number_word 0 16384 len.now / 16)) Reply.OldEdges }
+{
+    match file {
+        Some(file) => read_if(
+            is_old_event(file.kind),
+            file.slot,
+            48 * (number_word(0, 16_384, len) as u32 / 16),
+            Reply::OldEdges,
+        ),
+        None => Plan::Refuse(Errno::BadF),
+    }
 }
 
 fn changes(file: Option<FileRow<'_>>, len: &[u8]) -> Plan
-    ensures { result ≡ reads_file (option_map file_in file.entry) false (number_word 0 9216 len.now) Reply.Infos }
-{
-    reads_file(file, false, number_word(0, 9216, len) as u32, Reply::Infos)
-}
-
-fn reads_file(file: Option<FileRow<'_>>, is_request: bool, len: u32, reply: Reply) -> Plan
-    ensures { result ≡ reads_file (option_map file_in file.entry) is_request len reply }
+    ensures { result ≡ reads_file (option_map file_in file.entry) is_chip (number_word 0 9216 len.now) Reply.Infos }
 {
     match file {
-        Some(file) => {
-            if file.is_request != is_request {
-                return Plan::Refuse(Errno::Inval);
-            }
-            Plan::Ask(
-                Do::ReadFile {
-                    slot: file.slot,
-                    len,
-                },
-                reply,
-            )
-        }
+        Some(file) => read_if(
+            is_chip(file.kind),
+            file.slot,
+            number_word(0, 9216, len) as u32,
+            Reply::Infos,
+        ),
         None => Plan::Refuse(Errno::BadF),
+    }
+}
+
+fn read_if(can_be_read: bool, slot: u32, len: u32, reply: Reply) -> Plan
+    ensures { result ≡ read_if can_be_read slot len reply }
+{
+    if can_be_read {
+        Plan::Ask(Do::ReadFile { slot, len }, reply)
+    } else {
+        Plan::Refuse(Errno::Inval)
     }
 }
 

@@ -12,7 +12,8 @@ ghost use Rattle.gl_talk.specs.Talk.{StaysBegun, StaysLeft, acts, closes_all, do
 ghost use Rattle.gl_talk.specs.ToolWords.{word_texts};
 
 use crate::closing::slots_in_order;
-use crate::files::{FileRow, remove_file};
+use crate::files::{FileKind, FileRow, remove_file};
+use crate::old::{made_kind_of, old_edges_text, old_structure_line};
 use crate::plans::{Plan, Reply, planned};
 use crate::replies::{
     edges_text, fd_text, infos_text, level_text, line_of, number_of, ready_text, structure_text,
@@ -188,6 +189,9 @@ impl<'a> Talk<'a> {
                 return Ok(self.end());
             }
             Reply::Made => return self.made(alloc, got.bytes()),
+            Reply::OldMade => return self.old_made(alloc, got.bytes()),
+            Reply::OldBytes(kind) => old_structure_line(alloc, kind, self.line, got.bytes())?,
+            Reply::OldEdges => old_edges_text(alloc, got.bytes())?,
             Reply::Value => value_line(alloc, got)?,
             Reply::Level(is_pull) => line_of(alloc, level_text(is_pull, number_of(got)))?,
             Reply::Bytes => structure_text(alloc, command_word(word(2, self.line)), got.bytes())?,
@@ -201,7 +205,7 @@ impl<'a> Talk<'a> {
     /// A chip's file was opened.
     fn opened(&mut self) -> Result<Next, Errno>
         requires { self.old.begun ≤ 1048576 }
-        ensures goes { IfOk result (λ next. Goes (done (with_file (file (text_at 1 (words_in self.old)) (slot_in self.old) false) (names_in self.old))) next (left self.new)) }
+        ensures goes { IfOk result (λ next. Goes (done (with_file (file (text_at 1 (words_in self.old)) (slot_in self.old) FileKind.Chip) (names_in self.old))) next (left self.new)) }
         ensures rests { IfOk result (λ next. MatchNext next (Unit {0}) (left self.new ≡ goes_on (done (names_in self.new)))) }
         ensures counted { OnOk result (self.new.begun ≡ self.old.begun) }
         ensures kept { OnErr result (StaysLeft self.old self.new) }
@@ -210,7 +214,7 @@ impl<'a> Talk<'a> {
         self.files.push(FileRow {
             name: word(1, self.line),
             slot: 2 * self.begun,
-            is_request: false,
+            kind: FileKind::Chip,
         })?;
         Ok(self.end())
     }
@@ -228,7 +232,26 @@ impl<'a> Talk<'a> {
         self.files.push(FileRow {
             name: made_name(self.line),
             slot: 2 * self.begun,
-            is_request: true,
+            kind: FileKind::Request,
+        })?;
+        Ok(self.show(text))
+    }
+
+    /// A file of the first uAPI was made.
+    fn old_made(&mut self, alloc: Global, bytes: &[u8]) -> Result<Next, Errno>
+        requires { self.old.begun ≤ 1048576 }
+        ensures goes { IfOk result (λ next. Goes (told Reply.OldMade (names_in self.old) (slot_in self.old) (words_in self.old) (Got.Bytes bytes.now)) next (left self.new)) }
+        ensures rests { IfOk result (λ next. MatchNext next (Unit {0}) (left self.new ≡ goes_on (done (names_in self.new)))) }
+        ensures counted { OnOk result (self.new.begun ≡ self.old.begun) }
+        ensures kept { OnErr result (StaysLeft self.old self.new) }
+        ensures memory_alone { IsOkUnless result Errno.NoMemory }
+    {
+        let text = fd_text(alloc, bytes)?;
+        let kind = made_kind_of(alloc, self.line)?;
+        self.files.push(FileRow {
+            name: made_name(self.line),
+            slot: 2 * self.begun,
+            kind,
         })?;
         Ok(self.show(text))
     }

@@ -51,6 +51,8 @@ pub fn kind_of(keyword: Option<Keyword>) -> Kind
         | Keyword::Open
         | Keyword::Ioctl
         | Keyword::Events
+        | Keyword::OldIoctl
+        | Keyword::OldEvents
         | Keyword::Changes
         | Keyword::Poll
         | Keyword::Close => Kind::Plain,

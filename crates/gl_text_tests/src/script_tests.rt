@@ -95,6 +95,8 @@ fn each_statement_has_its_forms_and_its_cost(rt: HostRuntime) -> Result<(), Fail
         ("open A-name-of-16-byt gpiochip0", (3, 6, "word")),
         ("events B 49152", (1, 0, "ok")),
         ("events B 49153", (3, 10, "word")),
+        ("events1 E 16384", (1, 0, "ok")),
+        ("events1 E 16385", (3, 11, "word")),
         ("changes A 9216", (1, 0, "ok")),
         ("changes A 9217", (3, 11, "word")),
         ("poll A", (1, 0, "ok")),
@@ -149,6 +151,13 @@ fn commands_have_pieces_and_a_name_for_what_they_make(rt: HostRuntime) -> Result
         ("ioctl A GET_LINE - 00", (3, 20, "word")),
         ("ioctl A GET_LINE 00 as", (3, 23, "words")),
         ("ioctl A GET_LINE 00 as B C", (3, 26, "words")),
+        ("ioctl A LINEHANDLE 00", (3, 9, "word")),
+        ("ioctl1 A LINEINFO 00*72", (2, 0, "ok")),
+        ("ioctl1 A LINEHANDLE 00*364 as B", (3, 0, "ok")),
+        ("ioctl1 A 0xC030b404 - as B", (3, 0, "ok")),
+        ("ioctl1 A LINEEVENT 00", (3, 22, "words")),
+        ("ioctl1 A GET_VALUES 00 as B", (3, 24, "word")),
+        ("ioctl1 A GET_CHIPINFO 00", (3, 10, "word")),
     ];
     for (statement, fault) in statements {
         assert_eq!(rt;

@@ -1,4 +1,4 @@
-use Rattle.gl_talk.proofs.WordReadings.{labels_are_read, paths_are_read, words_are_read, numbers_are_read, commands_are_read, irqs_are_read, pins_are_read, held_tools_are_read}
+use Rattle.gl_talk.proofs.WordReadings.{labels_are_read, paths_are_read, words_are_read, numbers_are_read, commands_are_read, old_commands_are_read, irqs_are_read, pins_are_read, held_tools_are_read}
 use Rattle.gl_talk.proofs.laws.words_are_read_as_they_are.Goals as goal
 
 pub returns-clause-labels : goal.returns-clause-labels
@@ -15,6 +15,9 @@ returns-clause-numbers c = numbers_are_read
 
 pub returns-clause-commands : goal.returns-clause-commands
 returns-clause-commands c = commands_are_read
+
+pub returns-clause-old_commands : goal.returns-clause-old_commands
+returns-clause-old_commands c = old_commands_are_read
 
 pub returns-clause-irqs : goal.returns-clause-irqs
 returns-clause-irqs c = irqs_are_read

@@ -1,4 +1,5 @@
-use Rattle.std.proofs.Common.{map, ap, ◌∙◌, true, List, ℕ}
+use Rattle.std.proofs.Common.{map, ap, ◌∙◌, List, ℕ}
+use Rattle.gl_talk.specs.declared.files.FileKind.TheVariants.{Request}
 use Rattle.gl_talk.specs.Open.{File, file_in, with_file}
 use Rattle.gl_talk.specs.Talk.{file, names_in, slot_in}
 use Rattle.gl_talk.proofs.Continuing.{row_added, shows_same}
@@ -9,5 +10,5 @@ returns-clause-goes c =
     let names = names_in c.args.self.now in
     shows_same c.in_ok-text.text _ _ _ _ _ c.in_ok-text.ensures.ok
     (ap (λ (files : List File). record names { files = files }) (ap (map file_in) c.in_ok-push.ensures.items ∙ row_added file_in c.args.self.now.files.items _)
-    ∙ ap (λ (name : List ℕ). with_file (file name (slot_in c.args.self.now) true) names) c.made_name.ensures)
+    ∙ ap (λ (name : List ℕ). with_file (file name (slot_in c.args.self.now) Request) names) c.made_name.ensures)
     c.show.ensures.goes
