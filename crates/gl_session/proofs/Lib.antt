@@ -11,6 +11,7 @@ pub mod FewStatements
 pub mod Figures
 pub mod Known
 pub mod ManyFollows
+pub mod NoRoom
 pub mod OneCalls
 pub mod OneHistories
 pub mod Performing
