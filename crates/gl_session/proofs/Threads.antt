@@ -19,15 +19,11 @@ use Rattle.gl_rule.specs.Views.{as_joined, newcomer, taking_in, with_one_more}
 use Rattle.gl_args.specs.Program.{Program, ask, done}
 use Rattle.gl_driver.specs.Told.{Told}
 use Rattle.gl_talk.specs.Open.{Names}
-use Rattle.gl_chip.specs.Values.{ActorValue, IsActorOf, OneDeed, OneEntry, OneView, core}
+use Rattle.gl_chip.specs.Values.{ActorValue, IsActorOf, OneDeed, OneView, core}
 use Rattle.gl_session.specs.Performed.{StoppedFull, carried}
 use Rattle.gl_session.specs.Turns.{Follows, did_by}
 use Rattle.gl_session.specs.Workers.{AreDone, AreFresh, AreKept, CameOut, HasJoined, HasSplit, HasWorked, IsFresh, IsKept, PlaysWhole, WorkDone, there_at, told_at}
 use Rattle.gl_session.proofs.PortPlaces.{get_other, get_set, not_there, there_got, there_same, told_got, told_same}
-
-pub if_ok : {X E : Type 0} (r : Result X E) (A B : X → Type 0) → ((x : X) → A x → B x) → IfOk r A → IfOk r B
-if_ok (Ok x) A B f h = f x h
-if_ok (Err e) A B f h = h
 
 pub on_ok : {X E : Type 0} (r : Result X E) (A B : Type 0) → (A → B) → OnOk r A → OnOk r B
 on_ok (Ok x) A B f h = f h

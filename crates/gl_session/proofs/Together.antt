@@ -1,15 +1,12 @@
 -- Actors at work together make fewer entries than their session costs, while one of them has a call before it.
-use Rattle.std.proofs.Common.{◌≡◌, ◌≢◌, ℕ, zero, suc, ◌+◌, ◌-◌, ◌<◌, ◌≤◌, Bool, List, [], ◌∷◌, length, get_or, Option, sym, ap, ◌∙◌, subst, arith}
+use Rattle.std.proofs.Common.{◌≡◌, ℕ, zero, suc, ◌+◌, ◌-◌, ◌<◌, ◌≤◌, Bool, List, [], ◌∷◌, length, get_or, Option, sym, ap, ◌∙◌, subst, arith}
 use Rattle.std.specs.Prelude.{sum_by}
 use Rattle.std.proofs.lemmas.List.Sums.{sum_by-cons}
-use mathlib.Core.Logic.{dite}
-use native.Mathlib.Decide.{ℕ_discrete}
 use Rattle.gl_base.specs.Words.{Span}
 use Rattle.gl_world.specs.Deeds.{deeds_of, entries_in}
 use Rattle.gl_world.specs.History.{entries_of}
 use Rattle.gl_world.proofs.Deeds.{deeds_entries}
 use Rattle.gl_args.specs.Costs.{CostsAtMost}
-use Rattle.gl_args.specs.Program.{ask}
 use Rattle.gl_script.specs.Cost.{words_cost}
 use Rattle.gl_script.specs.Section.{SaidSection}
 use Rattle.gl_script.specs.declared.section.SectionKind.TheVariants.{Setup}
