@@ -1,9 +1,9 @@
 -- A session of several actors from its beginning to its end.
-use Rattle.std.proofs.Common.{◌≡◌, ℕ, zero, suc, ◌+◌, ◌<◌, ◌≤◌, Bool, true, List, [], ◌∷◌, length, length-set, set, Option, Some, None, sym, ap, ◌∙◌, subst, arith}
+use Rattle.std.proofs.Common.{◌≡◌, ℕ, zero, suc, ◌+◌, ◌<◌, ◌≤◌, Bool, true, List, [], ◌∷◌, length, length-set, map, set, Option, Some, None, Result, Ok, sym, ap, ◌∙◌, subst, arith}
 use Rattle.std.specs.Prelude.{slice_get}
 use mathlib.Core.Logic.{dite}
 use native.Mathlib.Decide.{dec_lt}
-use Rattle.gl_world.specs.Deeds.{deeds_of}
+use Rattle.gl_base.specs.declared.errno.Errno.{Errno}
 use Rattle.gl_world.specs.History.{Legal, StartsWith, entries_of}
 use Rattle.gl_gate.specs.Calls.{HasAllOf}
 use Rattle.gl_rule.specs.Views.{newcomer}
@@ -16,17 +16,16 @@ use Rattle.gl_session.specs.Alone.{setup_of}
 use Rattle.gl_session.specs.Many.{AllPlayed, CameToMany, Texts, actor_sections, program_of}
 use Rattle.gl_session.specs.Performed.{PlaysOn, carried}
 use Rattle.gl_session.specs.Ports.{AreAllThere}
-use Rattle.gl_session.specs.Turns.{Played}
-use Rattle.gl_session.specs.Workers.{AreKept, HasCarriedOut, there_at, told_at}
+use Rattle.gl_session.specs.Workers.{AreKept, CameOut, HasCarriedOut, there_at, told_at}
 use Rattle.gl_session.proofs.Ends.{all_played}
 use Rattle.gl_session.proofs.ManyFollows.{came_to_many}
 use Rattle.gl_session.proofs.PortPlaces.{all_found, found_all, get_other, get_set, not_there, there_got, there_same, told_got, told_same}
 
 -- promises are kept over ports that told the same and tell the same
-kept_as : (is_planned : Bool) (programs : ℕ → Program Names) (start other left later : ℕ → Option Told) (seen : List OneEntry) (first : OneView) (n : ℕ) (texts : List (List ℕ)) → ((k : ℕ) → n ≤ k → start k ≡ other k) → ((k : ℕ) → n ≤ k → left k ≡ later k)
-    → AreKept is_planned programs start left seen first n texts → AreKept is_planned programs other later seen first n texts
-kept_as is_planned programs start other left later seen first n [] same_start same_end h = tt
-kept_as is_planned programs start other left later seen first n (t ∷ ts) same_start same_end h = let k = h.0 in (
+kept_as : (is_planned : Bool) (programs : ℕ → Program Names) (start other left later : ℕ → Option Told) (v first : OneView) (n : ℕ) (texts : List (Result (List ℕ) Errno)) → ((k : ℕ) → n ≤ k → start k ≡ other k) → ((k : ℕ) → n ≤ k → left k ≡ later k)
+    → AreKept is_planned programs start left v first n texts → AreKept is_planned programs other later v first n texts
+kept_as is_planned programs start other left later v first n [] same_start same_end h = tt
+kept_as is_planned programs start other left later v first n (t ∷ ts) same_start same_end h = let k = h.0 in (
   record {
     saw = k.saw;
     place = k.place;
@@ -35,11 +34,9 @@ kept_as is_planned programs start other left later seen first n (t ∷ ts) same_
     begins = k.begins;
     own = k.own;
     nothing_before = k.nothing_before;
-    names = k.names;
-    files = k.files;
-    played = subst (λ (x : Option Told × Option Told). Played is_planned n (programs n) (carried [] x.0) t (deeds_of core n k.saw) k.names (carried k.files x.1)) (λ i. (same_start n (omega arith) i, same_end n (omega arith) i)) k.played;
+    came = subst (λ (x : Option Told × Option Told). CameOut is_planned n (programs n) x.0 k.saw v.room t x.1) (λ i. (same_start n (omega arith) i, same_end n (omega arith) i)) k.came;
   },
-  kept_as is_planned programs start other left later seen first (n + 1) ts (λ j more. same_start j (omega arith)) (λ j more. same_end j (omega arith)) h.1,
+  kept_as is_planned programs start other left later v first (n + 1) ts (λ j more. same_start j (omega arith)) (λ j more. same_end j (omega arith)) h.1,
 )
 
 -- the first port is there, and the others are once it is taken out
@@ -91,7 +88,7 @@ module _ {P : Type 0} (told : P → Option Told) (is_planned : Bool) (sections :
         new
         (subst (λ t. PlaysOn is_planned (setup_of sections) v (carried [] t) [] (done out.names) out.at_fork out.waiting texts.setup) (first_is ∙ sym start) out.setup)
         out.forked.split out.forked.joined
-        (kept_as is_planned (program_of sections) (told_at told taken) (told_at told ports) (told_at told ports_then) (told_at told given) out.at_fork.seen out.behind_fork 1 texts.actors same_before same_then out.forked.kept)
+        (kept_as is_planned (program_of sections) (told_at told taken) (told_at told ports) (told_at told ports_then) (told_at told given) out.at_fork out.behind_fork 1 (map Ok texts.actors) same_before same_then out.forked.kept)
         out.own out.last (out.left_is ∙ last_is ∙ sym end) legal begins mine all others (sym out.forked.as_many) out.forked.as_many
         in came_to_many is_planned (told_at told ports) (told_at told given) sections history texts played
 

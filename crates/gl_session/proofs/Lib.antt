@@ -3,6 +3,7 @@ pub mod Alone
 pub mod AloneRuns
 pub mod Came
 pub mod Causes
+pub mod Closings
 pub mod Commands
 pub mod Counting
 pub mod Ends
@@ -11,6 +12,8 @@ pub mod FewStatements
 pub mod Figures
 pub mod Known
 pub mod ManyFollows
+pub mod NoRoom
+pub mod Numbering
 pub mod OneCalls
 pub mod OneHistories
 pub mod Performing

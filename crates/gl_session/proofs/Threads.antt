@@ -1,31 +1,29 @@
 -- Actors that carry out their sections each by itself: made one after another, at work, and taken in one after another.
-use Rattle.std.proofs.Common.{◌≡◌, ◌≢◌, ℕ, zero, suc, ◌+◌, ◌<◌, ◌≤◌, List, [], ◌∷◌, ◌++◌, length, length-append, length-set, get_or, set, sym, refl, ap, ◌∙◌, subst, arith, Bool, true, Option, Some, None, Result, Ok, Err, IfOk}
-use Rattle.std.specs.Prelude.{OnOk, slice_get}
+use Rattle.std.proofs.Common.{◌≡◌, ◌≢◌, ◌⊎◌, ⊎_elim, inl, inr, ℕ, zero, suc, ◌+◌, ◌<◌, ◌≤◌, List, [], ◌∷◌, ◌++◌, length, length-append, length-set, get_or, set, sym, refl, ap, ◌∙◌, subst, arith, Bool, true, Option, Some, None, Result, Ok, Err, IfOk}
+use Rattle.std.specs.Prelude.{IfErr, OnOk, slice_get}
 use Rattle.std.proofs.lemmas.List.{append-nil}
 use mathlib.Core.Option.{some, some-ne-none}
 use mathlib.Core.Logic.{dite}
 use native.Mathlib.Decide.{ℕ_discrete}
 use lib.ListN.{get_elem?}
 use Rattle.gl_base.specs.declared.errno.Errno.{Errno}
+use Rattle.gl_base.specs.declared.errno.Errno.TheVariants.{Full, NoMemory}
 use Rattle.gl_world.specs.Deeds.{deeds_of}
 use Rattle.gl_world.specs.History.{StartsWith, entries_of}
 use Rattle.gl_world.proofs.Deeds.{deeds_none}
 use Rattle.gl_gate.specs.Calls.{HasItsOwn}
 use Rattle.gl_gate.specs.Values.{GateValue}
-use Rattle.gl_gate.proofs.Grown.{begins_further, grown_has_its_own}
+use Rattle.gl_gate.specs.Grown.{Grew}
+use Rattle.gl_gate.proofs.Grown.{begins_further, grown_has_its_own, grows_on}
 use Rattle.gl_rule.specs.Views.{as_joined, newcomer, taking_in, with_one_more}
-use Rattle.gl_args.specs.Program.{Program, done}
+use Rattle.gl_args.specs.Program.{Program, ask, done}
 use Rattle.gl_driver.specs.Told.{Told}
 use Rattle.gl_talk.specs.Open.{Names}
-use Rattle.gl_chip.specs.Values.{ActorValue, IsActorOf, OneDeed, OneEntry, OneView, core}
-use Rattle.gl_session.specs.Performed.{carried}
-use Rattle.gl_session.specs.Turns.{Follows, Played, did_by}
-use Rattle.gl_session.specs.Workers.{AreDone, AreFresh, AreKept, HasJoined, HasPlayed, HasSplit, IsFresh, IsKept, PlaysWhole, WorkDone, there_at, told_at}
+use Rattle.gl_chip.specs.Values.{ActorValue, IsActorOf, OneDeed, OneView, core}
+use Rattle.gl_session.specs.Performed.{StoppedFull, carried}
+use Rattle.gl_session.specs.Turns.{Follows, did_by}
+use Rattle.gl_session.specs.Workers.{AreDone, AreFresh, AreKept, CameOut, HasJoined, HasSplit, HasWorked, IsFresh, IsKept, PlaysWhole, WorkDone, there_at, told_at}
 use Rattle.gl_session.proofs.PortPlaces.{get_other, get_set, not_there, there_got, there_same, told_got, told_same}
-
-pub if_ok : {X E : Type 0} (r : Result X E) (A B : X → Type 0) → ((x : X) → A x → B x) → IfOk r A → IfOk r B
-if_ok (Ok x) A B f h = f x h
-if_ok (Err e) A B f h = h
 
 pub on_ok : {X E : Type 0} (r : Result X E) (A B : Type 0) → (A → B) → OnOk r A → OnOk r B
 on_ok (Ok x) A B f h = f h
@@ -41,73 +39,65 @@ at_front (x ∷ xs) ys zero a e = e
 at_front (x ∷ xs) ys (suc k) a e = at_front xs ys k a e
 
 module _ {P : Type 0} (told : P → Option Told) (start : ℕ → Option Told) (gate : GateValue) where
-  pub fresh_more : (seen : List OneEntry) (n : ℕ) (actors : List (ActorValue P)) (a : ActorValue P) → AreFresh told start gate seen n actors → IsFresh told start gate seen (n + length actors) a → AreFresh told start gate seen n (actors ++ a ∷ [])
-  fresh_more seen n [] a h f = let e : n + 0 ≡ n = omega arith in (subst (λ k. IsFresh told start gate seen k a) e f, tt)
-  fresh_more seen n (b ∷ rest) a h f = let e : n + length (b ∷ rest) ≡ (n + 1) + length rest = omega arith in (h.0, fresh_more seen (n + 1) rest a h.1 (subst (λ k. IsFresh told start gate seen k a) e f))
+  pub fresh_more : (v : OneView) (n : ℕ) (actors : List (ActorValue P)) (a : ActorValue P) → AreFresh told start gate v n actors → IsFresh told start gate v (n + length actors) a → AreFresh told start gate v n (actors ++ a ∷ [])
+  fresh_more v n [] a h f = let e : n + 0 ≡ n = omega arith in (subst (λ k. IsFresh told start gate v k a) e f, tt)
+  fresh_more v n (b ∷ rest) a h f = let e : n + length (b ∷ rest) ≡ (n + 1) + length rest = omega arith in (h.0, fresh_more v (n + 1) rest a h.1 (subst (λ k. IsFresh told start gate v k a) e f))
 
-  pub fresh_at : (seen : List OneEntry) (n : ℕ) (actors : List (ActorValue P)) → AreFresh told start gate seen n actors → (i : ℕ) (d : ActorValue P) → i < length actors → IsFresh told start gate seen (n + i) (get_or actors i d)
-  fresh_at seen n [] h i d l = absurd (omega arith)
-  fresh_at seen n (a ∷ rest) h zero d l = let e : n ≡ n + 0 = omega arith in subst (λ k. IsFresh told start gate seen k a) e h.0
-  fresh_at seen n (a ∷ rest) h (suc i) d l = let e : (n + 1) + i ≡ n + suc i = omega arith in subst (λ k. IsFresh told start gate seen k (get_or rest i d)) e (fresh_at seen (n + 1) rest h.1 i d (omega arith))
+  pub fresh_at : (v : OneView) (n : ℕ) (actors : List (ActorValue P)) → AreFresh told start gate v n actors → (i : ℕ) (d : ActorValue P) → i < length actors → IsFresh told start gate v (n + i) (get_or actors i d)
+  fresh_at v n [] h i d l = absurd (omega arith)
+  fresh_at v n (a ∷ rest) h zero d l = let e : n ≡ n + 0 = omega arith in subst (λ k. IsFresh told start gate v k a) e h.0
+  fresh_at v n (a ∷ rest) h (suc i) d l = let e : (n + 1) + i ≡ n + suc i = omega arith in subst (λ k. IsFresh told start gate v k (get_or rest i d)) e (fresh_at v (n + 1) rest h.1 i d (omega arith))
 
-  pub fresh_self : (seen : List OneEntry) (n : ℕ) (a : ActorValue P) → IsFresh told start gate seen n a → IsFresh told (λ _. told a.port) gate a.pass.view.seen a.pass.view.number a
-  fresh_self seen n a f = record { of = f.of; number = refl; seen_is = refl; nothing = f.nothing; none_joined = f.none_joined; own = f.own; tells = refl }
+  pub fresh_self : (v : OneView) (n : ℕ) (a : ActorValue P) → IsFresh told start gate v n a → IsFresh told (λ _. told a.port) gate a.pass.view a.pass.view.number a
+  fresh_self v n a f = record { of = f.of; number = refl; room_is = refl; seen_is = refl; nothing = f.nothing; none_joined = f.none_joined; own = f.own; tells = refl }
 
-  pub fresh_some : (seen : List OneEntry) (n : ℕ) (actors : List (ActorValue P)) → AreFresh told start gate seen n actors → (i : ℕ) → i < length actors → (a : ActorValue P) × (a ≡ get_or actors i a) × IsFresh told start gate seen (n + i) a
-  fresh_some seen n [] h i l = absurd (omega arith)
-  fresh_some seen n (a ∷ rest) h zero l = let e : n ≡ n + 0 = omega arith in (a, refl, subst (λ k. IsFresh told start gate seen k a) e h.0)
-  fresh_some seen n (a ∷ rest) h (suc i) l = let e : (n + 1) + i ≡ n + suc i = omega arith in let r = fresh_some seen (n + 1) rest h.1 i (omega arith) in (r.0, r.1, subst (λ k. IsFresh told start gate seen k r.0) e r.2)
+  pub fresh_some : (v : OneView) (n : ℕ) (actors : List (ActorValue P)) → AreFresh told start gate v n actors → (i : ℕ) → i < length actors → (a : ActorValue P) × (a ≡ get_or actors i a) × IsFresh told start gate v (n + i) a
+  fresh_some v n [] h i l = absurd (omega arith)
+  fresh_some v n (a ∷ rest) h zero l = let e : n ≡ n + 0 = omega arith in (a, refl, subst (λ k. IsFresh told start gate v k a) e h.0)
+  fresh_some v n (a ∷ rest) h (suc i) l = let e : (n + 1) + i ≡ n + suc i = omega arith in let r = fresh_some v (n + 1) rest h.1 i (omega arith) in (r.0, r.1, subst (λ k. IsFresh told start gate v k r.0) e r.2)
 
   -- an actor that is fresh over a port that told this is so over the port of its number
-  pub fresh_for : (before : Option Told) (seen : List OneEntry) (n : ℕ) (a : ActorValue P) → before ≡ start n → IsFresh told (λ _. before) gate seen n a → IsFresh told start gate seen n a
-  fresh_for before seen n a is f = record { of = f.of; number = f.number; seen_is = f.seen_is; nothing = f.nothing; none_joined = f.none_joined; own = f.own; tells = f.tells ∙ is }
+  pub fresh_for : (before : Option Told) (w v : OneView) (k n : ℕ) (a : ActorValue P) → before ≡ start n → w.room ≡ v.room → w.seen ≡ v.seen → k ≡ n
+      → IsFresh told (λ _. before) gate w k a → IsFresh told start gate v n a
+  fresh_for before w v k n a is room seen number f =
+      record { of = f.of; number = f.number ∙ number; room_is = f.room_is ∙ room; seen_is = f.seen_is ∙ seen; nothing = f.nothing; none_joined = f.none_joined; own = f.own; tells = f.tells ∙ is }
 
   module _ (is_planned : Bool) (programs : ℕ → Program Names) where
     -- what was done over a port that told this is done over the port of its number
-    played_for : (before : Option Told) (seen : List OneEntry) (n : ℕ) (a : ActorValue P) (text : List ℕ) → before ≡ start n
-        → HasPlayed told (λ _. before) gate is_planned programs seen n a text → HasPlayed told start gate is_planned programs seen n a text
-    played_for before seen n a text is h = record {
+    worked_for : (v : OneView) (n : ℕ) (a b : ActorValue P) (text : Result (List ℕ) Errno) → IsFresh told start gate v n a
+        → HasWorked told (λ _. told a.port) gate is_planned programs a.pass.view a.pass.view.number b text → HasWorked told start gate is_planned programs v n b text
+    worked_for v n a b text fresh h = record {
       of = h.of;
-      number = h.number;
+      number = h.number ∙ fresh.number;
       own = h.own;
       none_joined = h.none_joined;
-      nothing_before = h.nothing_before;
-      begins = h.begins;
-      names = h.names;
-      files = h.files;
-      played = subst (λ t. Played is_planned n (programs n) (carried [] t) text (deeds_of core n a.pass.view.seen) h.names (carried h.files (told a.port))) is h.played;
+      nothing_before = (λ i. entries_of (sym fresh.number i) (sym fresh.seen_is i)) ∙ h.nothing_before;
+      begins = subst (λ l. StartsWith b.pass.view.seen l) fresh.seen_is h.begins;
+      came = subst (λ (x : ℕ × ℕ × Option Told). CameOut is_planned x.0 (programs x.0) x.2 b.pass.view.seen x.1 text (told b.port)) (λ i. (fresh.number i, fresh.room_is i, fresh.tells i)) h.came;
     }
 
-    work_for : (before : Option Told) (seen : List OneEntry) (n : ℕ) (a : ActorValue P) (text : Result (List ℕ) Errno) → before ≡ start n
-        → WorkDone told (λ _. before) gate is_planned programs seen n (a, text) → WorkDone told start gate is_planned programs seen n (a, text)
-    work_for before seen n a (Ok text) is h = played_for before seen n a text is h
-    work_for before seen n a (Err errno) is h = h
+    pub done_as : (v : OneView) (n : ℕ) (a : ActorValue P) (d : ActorValue P × Result (List ℕ) Errno) → IsFresh told start gate v n a
+        → WorkDone told (λ _. told a.port) gate is_planned programs a.pass.view a.pass.view.number d → WorkDone told start gate is_planned programs v n d
+    done_as v n a d fresh h = ⊎_elim (λ wanted. inl wanted) (λ worked. inr (worked_for v n a d.0 d.1 fresh worked)) h
 
-    pub done_as : (seen : List OneEntry) (n : ℕ) (a : ActorValue P) (d : ActorValue P × Result (List ℕ) Errno) → IsFresh told start gate seen n a
-        → WorkDone told (λ _. told a.port) gate is_planned programs a.pass.view.seen a.pass.view.number d → WorkDone told start gate is_planned programs seen n d
-    done_as seen n a d fresh h = work_for (told a.port) seen n d.0 d.1 fresh.tells
-        (subst (λ (x : List OneEntry × ℕ). WorkDone told (λ _. told a.port) gate is_planned programs x.0 x.1 d) (λ i. (fresh.seen_is i, fresh.number i)) h)
+    pub done_last : (v : OneView) (n : ℕ) (ds : List (ActorValue P × Result (List ℕ) Errno)) (d : ActorValue P × Result (List ℕ) Errno)
+        → AreDone told start gate is_planned programs v n (ds ++ d ∷ []) → AreDone told start gate is_planned programs v n ds × WorkDone told start gate is_planned programs v (n + length ds) d
+    done_last v n [] d h = let e : n ≡ n + 0 = omega arith in (tt, subst (λ k. WorkDone told start gate is_planned programs v k d) e h.0)
+    done_last v n (x ∷ ds) d h = let e : (n + 1) + length ds ≡ n + length (x ∷ ds) = omega arith in let r = done_last v (n + 1) ds d h.1 in ((h.0, r.0), subst (λ k. WorkDone told start gate is_planned programs v k d) e r.1)
 
-    pub done_last : (seen : List OneEntry) (n : ℕ) (ds : List (ActorValue P × Result (List ℕ) Errno)) (d : ActorValue P × Result (List ℕ) Errno)
-        → AreDone told start gate is_planned programs seen n (ds ++ d ∷ []) → AreDone told start gate is_planned programs seen n ds × WorkDone told start gate is_planned programs seen (n + length ds) d
-    done_last seen n [] d h = let e : n ≡ n + 0 = omega arith in (tt, subst (λ k. WorkDone told start gate is_planned programs seen k d) e h.0)
-    done_last seen n (x ∷ ds) d h = let e : (n + 1) + length ds ≡ n + length (x ∷ ds) = omega arith in let r = done_last seen (n + 1) ds d h.1 in ((h.0, r.0), subst (λ k. WorkDone told start gate is_planned programs seen k d) e r.1)
-
-    pub done_all : (seen : List OneEntry) (n : ℕ) (ds : List (ActorValue P × Result (List ℕ) Errno))
-        → ((i : ℕ) (d : ActorValue P × Result (List ℕ) Errno) → i < length ds → WorkDone told start gate is_planned programs seen (n + i) (get_or ds i d)) → AreDone told start gate is_planned programs seen n ds
-    done_all seen n [] h = tt
-    done_all seen n (d ∷ ds) h = let z : n + 0 ≡ n = omega arith in (
-      subst (λ k. WorkDone told start gate is_planned programs seen k d) z (h 0 d (omega arith)),
-      done_all seen (n + 1) ds (λ i e l. let s : n + suc i ≡ (n + 1) + i = omega arith in subst (λ k. WorkDone told start gate is_planned programs seen k (get_or ds i e)) s (h (suc i) e (omega arith))),
+    pub done_all : (v : OneView) (n : ℕ) (ds : List (ActorValue P × Result (List ℕ) Errno))
+        → ((i : ℕ) (d : ActorValue P × Result (List ℕ) Errno) → i < length ds → WorkDone told start gate is_planned programs v (n + i) (get_or ds i d)) → AreDone told start gate is_planned programs v n ds
+    done_all v n [] h = tt
+    done_all v n (d ∷ ds) h = let z : n + 0 ≡ n = omega arith in (
+      subst (λ k. WorkDone told start gate is_planned programs v k d) z (h 0 d (omega arith)),
+      done_all v (n + 1) ds (λ i e l. let s : n + suc i ≡ (n + 1) + i = omega arith in subst (λ k. WorkDone told start gate is_planned programs v k (get_or ds i e)) s (h (suc i) e (omega arith))),
     )
 
-    -- what a fresh actor did that carried a whole program out
-    pub has_played : (seen : List OneEntry) (n : ℕ) (a b : ActorValue P) (program : Program Names) (text : List ℕ) → IsFresh told start gate seen n a → IsActorOf gate b
-        → PlaysWhole is_planned program a.pass.view (told a.port) text b.pass.view (told b.port) → program ≡ programs n → HasPlayed told start gate is_planned programs seen n b text
-    has_played seen n a b program text fresh of whole is =
-        let plays = whole.plays in let grew = plays.grew in
-        let did : List OneDeed = did_by plays.turns in
-        let nothing_before : entries_of n seen ≡ [] = (λ i. entries_of (sym fresh.number i) (sym fresh.seen_is i)) ∙ (fresh.own ∙ fresh.nothing) in
+    -- what a fresh actor did, however far it came
+    has_worked : (v : OneView) (n : ℕ) (a b : ActorValue P) (text : Result (List ℕ) Errno) (did : List OneDeed) → IsFresh told start gate v n a → IsActorOf gate b → Grew core a.pass.view did b.pass.view
+        → (deeds_of core n b.pass.view.seen ≡ did → CameOut is_planned n (programs n) (start n) b.pass.view.seen v.room text (told b.port)) → HasWorked told start gate is_planned programs v n b text
+    has_worked v n a b text did fresh of grew came =
+        let nothing_before : entries_of n v.seen ≡ [] = (λ i. entries_of (sym fresh.number i) (sym fresh.seen_is i)) ∙ (fresh.own ∙ fresh.nothing) in
         let none : deeds_of core n a.pass.view.seen ≡ [] = deeds_none core core.opening n a.pass.view.seen (ap (λ l. entries_of n l) fresh.seen_is ∙ nothing_before) in
         let mine : deeds_of core n b.pass.view.seen ≡ did =
         ap (λ k. deeds_of core k b.pass.view.seen) (sym fresh.number) ∙ grew.deeds ∙ ap (λ k. deeds_of core k a.pass.view.seen ++ did) fresh.number ∙ ap (λ (l : List OneDeed). l ++ did) none in record {
@@ -117,21 +107,42 @@ module _ {P : Type 0} (told : P → Option Told) (start : ℕ → Option Told) (
           none_joined = grew.joined ∙ fresh.none_joined;
           nothing_before = nothing_before;
           begins = subst (λ l. StartsWith b.pass.view.seen l) fresh.seen_is grew.seen;
-          names = whole.names;
-          files = whole.files;
-          played = record {
-            turns = plays.turns;
-            follows = subst (λ (x : ℕ × Program Names × Option Told). Follows is_planned x.0 x.1 (carried [] x.2) plays.turns (done whole.names) (carried whole.files (told b.port)))
-                (λ i. (fresh.number i, is i, fresh.tells i)) plays.follows;
-            text_is = plays.text_is;
-            did_is = mine;
-          };
+          came = came mine;
         }
 
+    -- it carried a whole program out, or up to where the history was full
+    pub work_done : (v : OneView) (n : ℕ) (a b : ActorValue P) (program : Program Names) (text : Result (List ℕ) Errno) → IsFresh told start gate v n a → IsActorOf gate b → program ≡ programs n
+        → IfOk text (λ t. PlaysWhole is_planned program a.pass.view (told a.port) t b.pass.view (told b.port))
+        → IfErr text (λ e. (e ≡ NoMemory) ⊎ ((e ≡ Full) × StoppedFull is_planned program a.pass.view (carried [] (told a.port)) b.pass.view))
+        → WorkDone told start gate is_planned programs v n (b, text)
+    work_done v n a b program (Ok text) fresh of is whole stopped = inr (has_worked v n a b (Ok text) (did_by whole.plays.turns) fresh of whole.plays.grew (λ mine. record {
+      names = whole.names;
+      files = whole.files;
+      played = record {
+        turns = whole.plays.turns;
+        follows = subst (λ (x : ℕ × Program Names × Option Told). Follows is_planned x.0 x.1 (carried [] x.2) whole.plays.turns (done whole.names) (carried whole.files (told b.port)))
+            (λ i. (fresh.number i, is i, fresh.tells i)) whole.plays.follows;
+        text_is = whole.plays.text_is;
+        did_is = mine;
+      };
+    }))
+    work_done v n a b program (Err errno) fresh of is whole stopped = ⊎_elim (λ wanted. inl (ap Err wanted))
+        (λ full. let s = full.1 in inr (has_worked v n a b (Err errno) (did_by s.turns ++ []) fresh of (grows_on core a.pass.view s.view b.pass.view (did_by s.turns) [] s.grew s.full.1.grew) (λ mine. record {
+          turns = s.turns;
+          what = s.what;
+          later = s.rest;
+          behind = s.then;
+          follows = subst (λ (x : ℕ × Program Names × Option Told). Follows is_planned x.0 x.1 (carried [] x.2) s.turns (ask s.what s.rest) s.then) (λ i. (fresh.number i, is i, fresh.tells i)) s.follows;
+          did = mine ∙ append-nil (did_by s.turns);
+          calls = s.full.0;
+          full = subst (λ room. room ≤ length b.pass.view.seen) (s.grew.room ∙ fresh.room_is) s.full.1.full;
+        })))
+        stopped
+
 -- what was kept of others stays, as the first actor takes one more in, and as ports of lower numbers are put back
-module _ (is_planned : Bool) (programs : ℕ → Program Names) (start : ℕ → Option Told) (seen : List OneEntry) where
-  pub kept_on : (left later : ℕ → Option Told) (v w u : OneView) → u ≡ taking_in v w → StartsWith u.seen v.seen → (n : ℕ) (texts : List (List ℕ)) → ((k : ℕ) → n ≤ k → left k ≡ later k)
-      → AreKept is_planned programs start left seen v n texts → AreKept is_planned programs start later seen u n texts
+module _ (is_planned : Bool) (programs : ℕ → Program Names) (start : ℕ → Option Told) (fork : OneView) where
+  pub kept_on : (left later : ℕ → Option Told) (v w u : OneView) → u ≡ taking_in v w → StartsWith u.seen v.seen → (n : ℕ) (texts : List (Result (List ℕ) Errno)) → ((k : ℕ) → n ≤ k → left k ≡ later k)
+      → AreKept is_planned programs start left fork v n texts → AreKept is_planned programs start later fork u n texts
   kept_on left later v w u is begins n [] same h = tt
   kept_on left later v w u is begins n (t ∷ ts) same h = let k = h.0 in (
     record {
@@ -142,15 +153,13 @@ module _ (is_planned : Bool) (programs : ℕ → Program Names) (start : ℕ →
       begins = begins_further u.seen v.seen k.saw begins k.begins;
       own = k.own;
       nothing_before = k.nothing_before;
-      names = k.names;
-      files = k.files;
-      played = subst (λ x. Played is_planned n (programs n) (carried [] (start n)) t (deeds_of core n k.saw) k.names (carried k.files x)) (same n (omega arith)) k.played;
+      came = subst (λ x. CameOut is_planned n (programs n) (start n) k.saw fork.room t x) (same n (omega arith)) k.came;
     },
     kept_on left later v w u is begins (n + 1) ts (λ j more. same j (omega arith)) h.1,
   )
 
-  pub kept_new : {P : Type 0} (told : P → Option Told) (left : ℕ → Option Told) (gate : GateValue) (v u : OneView) (a : ActorValue P) (n : ℕ) (t : List ℕ) → u ≡ taking_in v a.pass.view → StartsWith u.seen a.pass.view.seen
-      → told a.port ≡ left n → HasPlayed told start gate is_planned programs seen n a t → IsKept is_planned programs start left seen u n t
+  pub kept_new : {P : Type 0} (told : P → Option Told) (left : ℕ → Option Told) (gate : GateValue) (v u : OneView) (a : ActorValue P) (n : ℕ) (t : Result (List ℕ) Errno) → u ≡ taking_in v a.pass.view → StartsWith u.seen a.pass.view.seen
+      → told a.port ≡ left n → HasWorked told start gate is_planned programs fork n a t → IsKept is_planned programs start left fork u n t
   kept_new told left gate v u a n t is begins tells h = record {
     saw = a.pass.view.seen;
     place = length v.joined;
@@ -159,14 +168,13 @@ module _ (is_planned : Bool) (programs : ℕ → Program Names) (start : ℕ →
     begins = begins;
     own = ap (λ k. entries_of k a.pass.view.seen) (sym h.number) ∙ h.own;
     nothing_before = h.nothing_before;
-    names = h.names;
-    files = h.files;
-    played = subst (λ x. Played is_planned n (programs n) (carried [] (start n)) t (deeds_of core n a.pass.view.seen) h.names (carried h.files x)) tells h.played;
+    came = subst (λ x. CameOut is_planned n (programs n) (start n) a.pass.view.seen fork.room t x) tells h.came;
   }
 
 pub joined_more : (v w x u : OneView) (count : ℕ) → HasJoined v count w → u ≡ taking_in w x → x.joined ≡ [] → StartsWith u.seen w.seen → HasJoined v (count + 1) u
 joined_more v w x u count h is none begins = record {
   number = ap (λ (y : OneView). y.number) is ∙ h.number;
+  room = ap (λ (y : OneView). y.room) is ∙ h.room;
   made = ap (λ (y : OneView). y.made) is ∙ h.made;
   joined = let l = length-append w.joined (as_joined x ∷ x.joined) in let e : length u.joined ≡ length (w.joined ++ as_joined x ∷ x.joined) = ap (λ (y : OneView). length y.joined) is in let z : length x.joined ≡ 0 = ap (λ l. length l) none in let j = h.joined in omega arith;
   seen = begins_further u.seen w.seen v.seen begins h.seen;
@@ -174,14 +182,15 @@ joined_more v w x u count h is none begins = record {
 }
 
 pub joined_none : (v : OneView) → HasJoined v 0 v
-joined_none v = record { number = refl; made = refl; joined = omega arith; seen = ([], sym (append-nil v.seen)); mine = refl }
+joined_none v = record { number = refl; room = refl; made = refl; joined = omega arith; seen = ([], sym (append-nil v.seen)); mine = refl }
 
 pub split_none : (v : OneView) → HasSplit v 0 v
-split_none v = record { number = refl; made = omega arith; joined = refl; seen = refl; mine = refl }
+split_none v = record { number = refl; room = refl; made = omega arith; joined = refl; seen = refl; mine = refl }
 
 pub split_more : (v w u : OneView) (count : ℕ) → HasSplit v count w → u ≡ with_one_more w → HasSplit v (count + 1) u
 split_more v w u count h is = record {
   number = ap (λ (y : OneView). y.number) is ∙ h.number;
+  room = ap (λ (y : OneView). y.room) is ∙ h.room;
   made = let m = h.made in let e : u.made ≡ w.made + 1 = ap (λ (y : OneView). y.made) is in omega arith;
   joined = ap (λ (y : OneView). y.joined) is ∙ h.joined;
   seen = ap (λ (y : OneView). y.seen) is ∙ h.seen;
@@ -190,10 +199,11 @@ split_more v w u count h is = record {
 
 -- the actor that was made is fresh
 pub split_fresh : {P : Type 0} (told : P → Option Told) (gate : GateValue) (v : OneView) (a : ActorValue P) (p : P) → IsActorOf gate a → a.pass.view ≡ newcomer v.made v.room v.seen 0 v.closed v.drained → a.port ≡ p → HasItsOwn a.pass.view
-    → IsFresh told (λ _. told p) gate v.seen v.made a
+    → IsFresh told (λ _. told p) gate v v.made a
 split_fresh told gate v a p of is port own = record {
   of = of;
   number = ap (λ (y : OneView). y.number) is;
+  room_is = ap (λ (y : OneView). y.room) is;
   seen_is = ap (λ (y : OneView). y.seen) is;
   nothing = ap (λ (y : OneView). y.mine) is;
   none_joined = ap (λ (y : OneView). y.joined) is;
@@ -205,7 +215,7 @@ split_fresh told gate v a p of is port own = record {
 pub record SplitSoFar {P : Type 0} (told : P → Option Told) (gate : GateValue) (v : OneView) (ports : List (Option P)) (count : ℕ) (w : OneView) (actors : List (ActorValue P)) (ports_then : List (Option P)) : Type 0 where
   pub split : HasSplit v count w
   pub len : length actors ≡ count
-  pub fresh : AreFresh told (told_at told ports) gate v.seen 1 actors
+  pub fresh : AreFresh told (told_at told ports) gate v 1 actors
   pub ports_len : length ports_then ≡ length ports
   pub others : (n : ℕ) → count < n → slice_get ports_then n ≡ slice_get ports n
 
@@ -215,7 +225,7 @@ module _ {P : Type 0} (told : P → Option Told) (gate : GateValue) where
 
   -- one actor more was made, with the port of its number
   pub split_goes_on : (v w u : OneView) (ports ports_now ports_then : List (Option P)) (count : ℕ) (actors actors_then : List (ActorValue P)) (a : ActorValue P) (port : P) → v.made ≡ 1 → SplitSoFar told gate v ports count w actors ports_now
-      → slice_get ports_now (count + 1) ≡ Some (Some port) → ports_then ≡ set ports_now (count + 1) None → u ≡ with_one_more w → actors_then ≡ actors ++ a ∷ [] → IsFresh told (λ _. told port) gate w.seen w.made a
+      → slice_get ports_now (count + 1) ≡ Some (Some port) → ports_then ≡ set ports_now (count + 1) None → u ≡ with_one_more w → actors_then ≡ actors ++ a ∷ [] → IsFresh told (λ _. told port) gate w w.made a
       → SplitSoFar told gate v ports (count + 1) u actors_then ports_then
   split_goes_on v w u ports ports_now ports_then count actors actors_then a port one so_far got left is more fresh =
       let made : w.made ≡ 1 + length actors = let m = so_far.split.made in let l = so_far.len in omega arith in
@@ -224,8 +234,8 @@ module _ {P : Type 0} (told : P → Option Told) (gate : GateValue) where
       let tells : told port ≡ told_at told ports w.made = sym (ap (λ k. told_at told ports k) number ∙ told_got told ports (count + 1) port here) in record {
         split = split_more v w u count so_far.split is;
         len = ap (λ l. length l) more ∙ length-append actors (a ∷ []) ∙ ap (λ k. k + 1) so_far.len;
-        fresh = subst (λ l. AreFresh told (told_at told ports) gate v.seen 1 l) (sym more) (fresh_more told (told_at told ports) gate v.seen 1 actors a so_far.fresh
-            (subst (λ (x : List OneEntry × ℕ). IsFresh told (told_at told ports) gate x.0 x.1 a) (λ i. (so_far.split.seen i, made i)) (fresh_for told (told_at told ports) gate (told port) w.seen w.made a tells fresh)));
+        fresh = subst (λ l. AreFresh told (told_at told ports) gate v 1 l) (sym more) (fresh_more told (told_at told ports) gate v 1 actors a so_far.fresh
+            (fresh_for told (told_at told ports) gate (told port) w v w.made (1 + length actors) a (tells ∙ ap (λ k. told_at told ports k) made) so_far.split.room so_far.split.seen made fresh));
         ports_len = ap (λ l. length l) left ∙ length-set ports_now (count + 1) None ∙ so_far.ports_len;
         others = λ n far. ap (λ l. slice_get l n) left ∙ get_other ports_now (count + 1) n None (λ same. absurd (omega (arith, same))) ∙ so_far.others n (omega arith);
       }
@@ -235,18 +245,18 @@ module _ {P : Type 0} (told : P → Option Told) (gate : GateValue) where
       → there_at ports (count + 1) ≡ true → ⊥
   next_there v w ports ports_now count actors so_far got there = not_there ports (count + 1) (sym (so_far.others (count + 1) (omega arith)) ∙ got) there
 
-pub done_has : {P : Type 0} (told : P → Option Told) (start : ℕ → Option Told) (gate : GateValue) (is_planned : Bool) (programs : ℕ → Program Names) (seen : List OneEntry) (n : ℕ) (d : ActorValue P × Result (List ℕ) Errno) (t : List ℕ) → d.1 ≡ Ok t
-    → WorkDone told start gate is_planned programs seen n d → HasPlayed told start gate is_planned programs seen n d.0 t
-done_has told start gate is_planned programs seen n d t is h = subst (λ r. IfOk r (HasPlayed told start gate is_planned programs seen n d.0)) is h
+pub done_has : {P : Type 0} (told : P → Option Told) (start : ℕ → Option Told) (gate : GateValue) (is_planned : Bool) (programs : ℕ → Program Names) (v : OneView) (n : ℕ) (d : ActorValue P × Result (List ℕ) Errno) → d.1 ≢ Err NoMemory
+    → WorkDone told start gate is_planned programs v n d → HasWorked told start gate is_planned programs v n d.0 d.1
+done_has told start gate is_planned programs v n d had h = ⊎_elim (λ wanted. absurd (had wanted)) (λ worked. worked) h
 
 -- The last actors were taken in, their promises are kept, and their ports are in their places; the others stand before them.
 pub record JoinedSoFar {P : Type 0} (told : P → Option Told) (gate : GateValue) (is_planned : Bool) (v : OneView) (all : List (ActorValue P × Result (List ℕ) Errno)) (ports : List (Option P))
-    (w : OneView) (missing : List (ActorValue P × Result (List ℕ) Errno)) (texts : List (List ℕ)) (ports_now : List (Option P)) : Type 0 where
+    (w : OneView) (missing : List (ActorValue P × Result (List ℕ) Errno)) (texts : List (Result (List ℕ) Errno)) (ports_now : List (Option P)) : Type 0 where
   pub joined : HasJoined v (length texts) w
   pub len : length texts + length missing ≡ length all
   pub ports_len : length ports_now ≡ length ports
-  pub kept : (start : ℕ → Option Told) (programs : ℕ → Program Names) (seen : List OneEntry) → AreDone told start gate is_planned programs seen 1 all
-      → AreDone told start gate is_planned programs seen 1 missing × AreKept is_planned programs start (told_at told ports_now) seen w (length missing + 1) texts
+  pub kept : (start : ℕ → Option Told) (programs : ℕ → Program Names) (fork : OneView) → AreDone told start gate is_planned programs fork 1 all
+      → AreDone told start gate is_planned programs fork 1 missing × AreKept is_planned programs start (told_at told ports_now) fork w (length missing + 1) texts
   pub others : (n : ℕ) → length all < n → slice_get ports_now n ≡ slice_get ports n
   pub there : (n : ℕ) → length missing < n → n ≤ length all → there_at ports_now n ≡ true
 
@@ -256,40 +266,40 @@ module _ {P : Type 0} (told : P → Option Told) (gate : GateValue) (is_planned 
     joined = joined_none v;
     len = omega arith;
     ports_len = refl;
-    kept = λ start programs seen h. (h, tt);
+    kept = λ start programs fork h. (h, tt);
     others = λ n far. refl;
     there = λ n more most. absurd (omega arith);
   }
 
   -- one actor was taken in
-  pub join_goes_on : (v w u : OneView) (all missing missing_then : List (ActorValue P × Result (List ℕ) Errno)) (d : ActorValue P × Result (List ℕ) Errno) (ports ports_now ports_then : List (Option P)) (texts texts_then : List (List ℕ)) (t : List ℕ)
-      → (start : ℕ → Option Told) (programs : ℕ → Program Names) (seen : List OneEntry) → AreDone told start gate is_planned programs seen 1 all
+  pub join_goes_on : (v w u : OneView) (all missing missing_then : List (ActorValue P × Result (List ℕ) Errno)) (d : ActorValue P × Result (List ℕ) Errno) (ports ports_now ports_then : List (Option P)) (texts texts_then : List (Result (List ℕ) Errno))
+      → (start : ℕ → Option Told) (programs : ℕ → Program Names) (fork : OneView) → AreDone told start gate is_planned programs fork 1 all
       → length all < length ports → JoinedSoFar told gate is_planned v all ports w missing texts ports_now → missing ≡ missing_then ++ d ∷ []
-      → u ≡ taking_in w d.0.pass.view → StartsWith u.seen w.seen → StartsWith u.seen d.0.pass.view.seen → d.1 ≡ Ok t → texts_then ≡ t ∷ texts → ports_then ≡ set ports_now (length missing_then + 1) (Some d.0.port)
+      → u ≡ taking_in w d.0.pass.view → StartsWith u.seen w.seen → StartsWith u.seen d.0.pass.view.seen → d.1 ≢ Err NoMemory → texts_then ≡ d.1 ∷ texts → ports_then ≡ set ports_now (length missing_then + 1) (Some d.0.port)
       → JoinedSoFar told gate is_planned v all ports u missing_then texts_then ports_then
-  join_goes_on v w u all missing missing_then d ports ports_now ports_then texts texts_then t start programs seen all_done room so_far popped is begins begins_other text more put_back =
+  join_goes_on v w u all missing missing_then d ports ports_now ports_then texts texts_then start programs fork all_done room so_far popped is begins begins_other had more put_back =
       let shorter : length missing ≡ length missing_then + 1 = ap (λ l. length l) popped ∙ length-append missing_then (d ∷ []) in
-      let longer : length texts_then ≡ length texts + 1 = (let m : length texts_then ≡ length (t ∷ texts) = ap (λ l. length l) more in omega arith) in
+      let longer : length texts_then ≡ length texts + 1 = (let m : length texts_then ≡ length (d.1 ∷ texts) = ap (λ l. length l) more in omega arith) in
       let count = so_far.len in let same_length = so_far.ports_len in
-      let last = done_last told start gate is_planned programs seen 1 missing_then d (subst (λ l. AreDone told start gate is_planned programs seen 1 l) popped (so_far.kept start programs seen all_done).0) in
-      let none = (done_has told start gate is_planned programs seen (1 + length missing_then) d t text last.1).none_joined in
+      let last = done_last told start gate is_planned programs fork 1 missing_then d (subst (λ l. AreDone told start gate is_planned programs fork 1 l) popped (so_far.kept start programs fork all_done).0) in
+      let none = (done_has told start gate is_planned programs fork (1 + length missing_then) d had last.1).none_joined in
       let n : ℕ = length missing_then + 1 in
       let here : slice_get ports_then n ≡ Some (Some d.0.port) = ap (λ l. slice_get l n) put_back ∙ get_set ports_now n (Some d.0.port) (omega arith) in
       let elsewhere : (k : ℕ) → k ≢ n → slice_get ports_then k ≡ slice_get ports_now k = λ k other. ap (λ l. slice_get l k) put_back ∙ get_other ports_now n k (Some d.0.port) other in record {
         joined = subst (λ k. HasJoined v k u) (sym longer) (joined_more v w d.0.pass.view u (length texts) so_far.joined is none begins);
         len = omega arith;
         ports_len = ap (λ l. length l) put_back ∙ length-set ports_now n (Some d.0.port) ∙ so_far.ports_len;
-        kept = λ some_start some_programs some_seen h. let k = so_far.kept some_start some_programs some_seen h in
-            let l = done_last told some_start gate is_planned some_programs some_seen 1 missing_then d (subst (λ l. AreDone told some_start gate is_planned some_programs some_seen 1 l) popped k.0) in
-            let p = done_has told some_start gate is_planned some_programs some_seen (1 + length missing_then) d t text l.1 in
+        kept = λ some_start some_programs some_fork h. let k = so_far.kept some_start some_programs some_fork h in
+            let l = done_last told some_start gate is_planned some_programs some_fork 1 missing_then d (subst (λ l. AreDone told some_start gate is_planned some_programs some_fork 1 l) popped k.0) in
+            let p = done_has told some_start gate is_planned some_programs some_fork (1 + length missing_then) d had l.1 in
             let this : 1 + length missing_then ≡ n = omega arith in
             let next : length missing + 1 ≡ n + 1 = omega arith in (
               l.0,
-              subst (λ l. AreKept is_planned some_programs some_start (told_at told ports_then) some_seen u n l) (sym more) (
-                kept_new is_planned some_programs some_start some_seen told (told_at told ports_then) gate w u d.0 n t is begins_other (sym (told_got told ports_then n d.0.port here))
-                    (subst (λ k. HasPlayed told some_start gate is_planned some_programs some_seen k d.0 t) this p),
-                subst (λ k. AreKept is_planned some_programs some_start (told_at told ports_then) some_seen u k texts) next
-                    (kept_on is_planned some_programs some_start some_seen (told_at told ports_now) (told_at told ports_then) w d.0.pass.view u is begins (length missing + 1) texts
+              subst (λ l. AreKept is_planned some_programs some_start (told_at told ports_then) some_fork u n l) (sym more) (
+                kept_new is_planned some_programs some_start some_fork told (told_at told ports_then) gate w u d.0 n d.1 is begins_other (sym (told_got told ports_then n d.0.port here))
+                    (subst (λ k. HasWorked told some_start gate is_planned some_programs some_fork k d.0 d.1) this p),
+                subst (λ k. AreKept is_planned some_programs some_start (told_at told ports_then) some_fork u k texts) next
+                    (kept_on is_planned some_programs some_start some_fork (told_at told ports_now) (told_at told ports_then) w d.0.pass.view u is begins (length missing + 1) texts
                     (λ k far. told_same told ports_now ports_then k (sym (elsewhere k (λ same. absurd (omega (arith, same)))))) k.1),
               ),
             );

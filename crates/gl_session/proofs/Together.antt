@@ -1,15 +1,12 @@
 -- Actors at work together make fewer entries than their session costs, while one of them has a call before it.
-use Rattle.std.proofs.Common.{◌≡◌, ◌≢◌, ℕ, zero, suc, ◌+◌, ◌-◌, ◌<◌, ◌≤◌, Bool, List, [], ◌∷◌, length, get_or, Option, sym, ap, ◌∙◌, subst, arith}
+use Rattle.std.proofs.Common.{◌≡◌, ℕ, zero, suc, ◌+◌, ◌-◌, ◌<◌, ◌≤◌, Bool, List, [], ◌∷◌, length, get_or, Option, sym, ap, ◌∙◌, subst, arith}
 use Rattle.std.specs.Prelude.{sum_by}
 use Rattle.std.proofs.lemmas.List.Sums.{sum_by-cons}
-use mathlib.Core.Logic.{dite}
-use native.Mathlib.Decide.{ℕ_discrete}
 use Rattle.gl_base.specs.Words.{Span}
 use Rattle.gl_world.specs.Deeds.{deeds_of, entries_in}
 use Rattle.gl_world.specs.History.{entries_of}
 use Rattle.gl_world.proofs.Deeds.{deeds_entries}
 use Rattle.gl_args.specs.Costs.{CostsAtMost}
-use Rattle.gl_args.specs.Program.{ask}
 use Rattle.gl_script.specs.Cost.{words_cost}
 use Rattle.gl_script.specs.Section.{SaidSection}
 use Rattle.gl_script.specs.declared.section.SectionKind.TheVariants.{Setup}
@@ -27,22 +24,22 @@ use Rattle.gl_session.specs.Within.{cost_in_kind}
 use Rattle.gl_session.proofs.Counting.{actors_cost, count, count_all, count_costs, entries_length, played_within, section_costs}
 use Rattle.gl_session.proofs.Within.{calls_come_below_cost, entries_within_cost, sessions_cost_their_parts}
 
-abbrev section_at : List SaidSection → ℕ → SaidSection
+abbrev pub section_at : List SaidSection → ℕ → SaidSection
 section_at sections i = get_or (actor_sections sections) i no_section
 
 -- what a section costs, its program costs at most
-costs : (sections : List SaidSection) (i : ℕ) → CostsAtMost (section_costs (section_at sections i)) (program_of sections (suc i))
+pub costs : (sections : List SaidSection) (i : ℕ) → CostsAtMost (section_costs (section_at sections i)) (program_of sections (suc i))
 costs sections i =
     let words : List (List Span) = words_of (section_at sections i) in
     let first : i ≡ suc i - 1 = omega arith in
     subst (λ j. CostsAtMost (sum_by words_cost words) (talks 0 (words_of (section_at sections j)) no_names)) first (says_cost 0 words quits end_cost no_names)
 
 -- so many entries has an actor
-made : (n : ℕ) (history : List OneEntry) (turns : List Turn) → deeds_of core n history ≡ did_by turns → length (entries_of n history) ≡ length (did_by turns)
+pub made : (n : ℕ) (history : List OneEntry) (turns : List Turn) → deeds_of core n history ≡ did_by turns → length (entries_of n history) ≡ length (did_by turns)
 made n history turns did = ap (λ (l : List OneEntry). length l) (sym (deeds_entries core core.opening n history)) ∙ entries_length (deeds_of core n history) ∙ ap (λ (l : List OneDeed). length l) did
 
 -- actors have fewer entries than sections cost, where none has more than its section and one has fewer
-count_below : (cost : SaidSection → ℕ) (history : List OneEntry) (n : ℕ) (sections : List SaidSection) → ((i : ℕ) → i < length sections → length (entries_of (n + i) history) ≤ cost (get_or sections i no_section))
+pub count_below : (cost : SaidSection → ℕ) (history : List OneEntry) (n : ℕ) (sections : List SaidSection) → ((i : ℕ) → i < length sections → length (entries_of (n + i) history) ≤ cost (get_or sections i no_section))
     → (m : ℕ) → m < length sections → length (entries_of (n + m) history) < cost (get_or sections m no_section) → count (length sections) n history < sum_by cost sections
 count_below cost history n [] h m less fewer = absurd (omega arith)
 count_below cost history n (section ∷ sections) h zero less fewer =

@@ -32,7 +32,7 @@ use Rattle.gl_session.proofs.Within.{calls_have_room, sessions_keep_within_cost}
 pub quiet_driver : {P : Type 0} (Own : P → ℕ → Op → List OneEntry → Type 0) → ((port : P) (place : ℕ) (op : Op) (own : List OneEntry) → Own port place op own → own ≡ []) → IsQuietDriver Own
 quiet_driver Own none port place op own may = subst (λ (l : List OneEntry). MayOwn l) (sym (none port place op own may)) (record { quiet = tt; no_claims = tt })
 
-call_of : (a : Asking) → IsCall a → (call : DeviceCall) × (a ≡ Calls call)
+pub call_of : (a : Asking) → IsCall a → (call : DeviceCall) × (a ≡ Calls call)
 call_of (Calls call) is = (call, refl)
 call_of (Plans nth) is = absurd is
 call_of (Refuses errno) is = absurd is

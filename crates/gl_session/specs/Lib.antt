@@ -1,6 +1,7 @@
 pub mod Alone
 pub mod Answers
 pub mod Asking
+pub mod Closings
 pub mod Figures
 pub mod Files
 pub mod Lines

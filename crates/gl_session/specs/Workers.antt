@@ -1,25 +1,30 @@
 -- Actors that carry out their sections each by itself: before their work, after it, and once they were taken in. This project's choice.
-use Rattle.std.specs.Prelude.{◌≡◌, ℕ, ◌+◌, ◌<◌, ◌≤◌, Bool, true, false, is_some, List, [], ◌∷◌, length, slice_get, Option, None, Some, Result, IfOk}
+use Rattle.std.specs.Prelude.{◌≡◌, ◌⊎◌, ℕ, ◌+◌, ◌<◌, ◌≤◌, Bool, true, false, is_some, List, [], ◌∷◌, length, map, slice_get, Option, None, Some, Result, Ok, Err}
+use Rattle.std.specs.List.{Contains}
 use mathlib.Core.Option.{some}
 use lib.ListN.{get_elem?}
 use Rattle.gl_base.specs.declared.errno.Errno.{Errno}
+use Rattle.gl_base.specs.declared.errno.Errno.TheVariants.{NoMemory}
+use Rattle.gl_base.specs.declared.operation.Do.{Do}
+use Rattle.gl_base.specs.declared.operation.Got.{Got}
 use Rattle.gl_world.specs.Deeds.{deeds_of}
-use Rattle.gl_world.specs.History.{StartsWith, entries_of}
-use Rattle.gl_gate.specs.Calls.{HasItsOwn}
+use Rattle.gl_world.specs.History.{Legal, StartsWith, entries_of}
+use Rattle.gl_gate.specs.Calls.{HasAllOf, HasItsOwn}
 use Rattle.gl_gate.specs.Values.{GateValue}
-use Rattle.gl_args.specs.Program.{Program, done}
+use Rattle.gl_args.specs.Program.{Program, ask, done}
 use Rattle.gl_driver.specs.Told.{Told}
 use Rattle.gl_script.specs.Section.{SaidHead, SaidSection}
 use Rattle.gl_script.specs.declared.section.SectionKind.TheVariants.{Actor}
 use Rattle.gl_talk.specs.Open.{Names}
 use Rattle.gl_chip.specs.Values.{ActorValue, IsActorOf, OneEntry, OneView, core}
 use Rattle.gl_session.specs.Alone.{after_of, setup_of}
+use Rattle.gl_session.specs.Asking.{asking}
 use Rattle.gl_session.specs.Files.{OpenFile}
 use Rattle.gl_session.specs.Many.{Texts, actor_sections, program_of}
 use Rattle.gl_session.specs.One.{is_kind}
-use Rattle.gl_session.specs.Performed.{PlaysOn, carried}
+use Rattle.gl_session.specs.Performed.{IsCall, PlaysOn, carried}
 use Rattle.gl_session.specs.Ports.{told_by}
-use Rattle.gl_session.specs.Turns.{Carried, Played}
+use Rattle.gl_session.specs.Turns.{Carried, Follows, Played, Turn, did_by}
 
 -- the head of an actor's section
 abbrev pub is_actor_head : Option SaidHead → Bool
@@ -48,67 +53,89 @@ is_found (Some port) = is_some port
 abbrev pub there_at : {P : Type 0} → List (Option P) → ℕ → Bool
 there_at ports n = is_found (slice_get ports n)
 
+-- What an actor's program came to, by a history that the actor has seen.
+module _ (is_planned : Bool) (n : ℕ) (program : Program Names) (before : Option Told) (saw : List OneEntry) where
+  -- it was carried out to the end
+  pub record CameToEnd (text : List ℕ) (left : Option Told) : Type 0 where
+    pub names : Names
+    pub files : List OpenFile
+    pub played : Played is_planned n program (carried [] before) text (deeds_of core n saw) names (carried files left)
+
+  -- It was carried out up to a call of the device, and the history had no room for that.
+  pub record CameToFull (room : ℕ) : Type 0 where
+    pub turns : List Turn
+    pub what : Do
+    pub later : Got → Program Names
+    pub behind : Carried
+    pub follows : Follows is_planned n program (carried [] before) turns (ask what later) behind
+    pub did : deeds_of core n saw ≡ did_by turns
+    pub calls : IsCall (asking behind.files what)
+    pub full : room ≤ length saw
+
+  -- its text, or an error: then the history was full
+  abbrev pub CameOut : ℕ → Result (List ℕ) Errno → Option Told → Type 0
+  CameOut room (Ok text) left = CameToEnd text left
+  CameOut room (Err errno) left = CameToFull room
+
 -- `told`: what a port tells. `start`: what the port of each actor tells at the beginning.
 module _ {P : Type 0} (told : P → Option Told) (start : ℕ → Option Told) (gate : GateValue) where
-  -- an actor that has done nothing, with this number
-  pub record IsFresh (seen : List OneEntry) (n : ℕ) (a : ActorValue P) : Type 0 where
+  -- an actor with this number that has done nothing, made by the first actor, whose pass knew v
+  pub record IsFresh (v : OneView) (n : ℕ) (a : ActorValue P) : Type 0 where
     pub of : IsActorOf gate a
     pub number : a.pass.view.number ≡ n
-    pub seen_is : a.pass.view.seen ≡ seen
+    pub room_is : a.pass.view.room ≡ v.room
+    pub seen_is : a.pass.view.seen ≡ v.seen
     pub nothing : a.pass.view.mine ≡ []
     pub none_joined : a.pass.view.joined ≡ []
     pub own : HasItsOwn a.pass.view
     pub tells : told a.port ≡ start n
 
   -- actors with the numbers from n on
-  abbrev pub AreFresh : List OneEntry → ℕ → List (ActorValue P) → Type 0
-  AreFresh seen n [] = Unit {0}
-  AreFresh seen n (a ∷ actors) = IsFresh seen n a × AreFresh seen (n + 1) actors
+  abbrev pub AreFresh : OneView → ℕ → List (ActorValue P) → Type 0
+  AreFresh v n [] = Unit {0}
+  AreFresh v n (a ∷ actors) = IsFresh v n a × AreFresh v (n + 1) actors
 
   module _ (is_planned : Bool) (programs : ℕ → Program Names) where
-    -- A worker's promise, of its program, its own entries and its port alone: it carried its program out to the end. It has seen all
-    -- that it had seen before, where it had no entry.
-    pub record HasPlayed (seen : List OneEntry) (n : ℕ) (a : ActorValue P) (text : List ℕ) : Type 0 where
+    -- A worker's promise, of its program, its own entries and its port alone: how far it came. It has seen all that the first actor had
+    -- seen before, where it had no entry.
+    pub record HasWorked (v : OneView) (n : ℕ) (a : ActorValue P) (text : Result (List ℕ) Errno) : Type 0 where
       pub of : IsActorOf gate a
       pub number : a.pass.view.number ≡ n
       pub own : HasItsOwn a.pass.view
       pub none_joined : a.pass.view.joined ≡ []
-      pub nothing_before : entries_of n seen ≡ []
-      pub begins : StartsWith a.pass.view.seen seen
-      pub names : Names
-      pub files : List OpenFile
-      pub played : Played is_planned n (programs n) (carried [] (start n)) text (deeds_of core n a.pass.view.seen) names (carried files (told a.port))
+      pub nothing_before : entries_of n v.seen ≡ []
+      pub begins : StartsWith a.pass.view.seen v.seen
+      pub came : CameOut is_planned n (programs n) (start n) a.pass.view.seen v.room text (told a.port)
 
-    -- what a worker gives back: its promise, unless it had to give up
-    abbrev pub WorkDone : List OneEntry → ℕ → ActorValue P × Result (List ℕ) Errno → Type 0
-    WorkDone seen n (a, text) = IfOk text (HasPlayed seen n a)
+    -- what a worker gives back: its promise, unless it was out of memory
+    abbrev pub WorkDone : OneView → ℕ → ActorValue P × Result (List ℕ) Errno → Type 0
+    WorkDone v n (a, text) = (text ≡ Err NoMemory) ⊎ HasWorked v n a text
 
-    abbrev pub AreDone : List OneEntry → ℕ → List (ActorValue P × Result (List ℕ) Errno) → Type 0
-    AreDone seen n [] = Unit {0}
-    AreDone seen n (d ∷ done_ones) = WorkDone seen n d × AreDone seen (n + 1) done_ones
+    abbrev pub AreDone : OneView → ℕ → List (ActorValue P × Result (List ℕ) Errno) → Type 0
+    AreDone v n [] = Unit {0}
+    AreDone v n (d ∷ done_ones) = WorkDone v n d × AreDone v (n + 1) done_ones
 
-module _ (is_planned : Bool) (programs : ℕ → Program Names) (start left : ℕ → Option Told) (seen : List OneEntry) where
+module _ (is_planned : Bool) (programs : ℕ → Program Names) (start left : ℕ → Option Told) (v : OneView) where
   -- the promise of an actor that was taken in by the first one
-  pub record IsKept (first : OneView) (n : ℕ) (text : List ℕ) : Type 0 where
+  pub record IsKept (first : OneView) (n : ℕ) (text : Result (List ℕ) Errno) : Type 0 where
     pub saw : List OneEntry
     pub place : ℕ
     pub mine : List OneEntry
     pub joined : get_elem? first.joined place ≡ some (record { number = n; mine = mine })
     pub begins : StartsWith first.seen saw
     pub own : entries_of n saw ≡ mine
-    pub nothing_before : entries_of n seen ≡ []
-    pub names : Names
-    pub files : List OpenFile
-    pub played : Played is_planned n (programs n) (carried [] (start n)) text (deeds_of core n saw) names (carried files (left n))
+    pub nothing_before : entries_of n v.seen ≡ []
+    pub came : CameOut is_planned n (programs n) (start n) saw v.room text (left n)
 
   -- of the actors with the numbers from n on, with their texts
-  abbrev pub AreKept : OneView → ℕ → List (List ℕ) → Type 0
+  abbrev pub AreKept : OneView → ℕ → List (Result (List ℕ) Errno) → Type 0
   AreKept first n [] = Unit {0}
   AreKept first n (text ∷ texts) = IsKept first n text × AreKept first (n + 1) texts
 
 -- the first actor made so many others
 pub record HasSplit (v : OneView) (count : ℕ) (w : OneView) : Type 0 where
   pub number : w.number ≡ v.number
+  pub room : w.room ≡ v.room
   pub made : w.made ≡ v.made + count
   pub joined : w.joined ≡ v.joined
   pub seen : w.seen ≡ v.seen
@@ -117,6 +144,7 @@ pub record HasSplit (v : OneView) (count : ℕ) (w : OneView) : Type 0 where
 -- the first actor took so many others in
 pub record HasJoined (v : OneView) (count : ℕ) (w : OneView) : Type 0 where
   pub number : w.number ≡ v.number
+  pub room : w.room ≡ v.room
   pub made : w.made ≡ v.made
   pub joined : length w.joined ≡ length v.joined + count
   pub seen : StartsWith w.seen v.seen
@@ -128,11 +156,30 @@ pub record HasForked {P : Type 0} (told : P → Option Told) (is_planned : Bool)
   pub between : OneView
   pub split : HasSplit v count between
   pub joined : HasJoined between count w
-  pub kept : AreKept is_planned programs (told_at told ports) (told_at told ports_then) v.seen w 1 texts
+  pub kept : AreKept is_planned programs (told_at told ports) (told_at told ports_then) v w 1 (map Ok texts)
   pub as_many : length texts ≡ count
   pub ports_len : length ports_then ≡ length ports
   pub others : (n : ℕ) → count < n → slice_get ports_then n ≡ slice_get ports n
   pub there : (n : ℕ) → 1 ≤ n → n ≤ count → there_at ports_then n ≡ true
+
+-- The first actor made so many others and took them in again, and one of them had found the history full.
+pub record HasForkedFull (is_planned : Bool) (programs : ℕ → Program Names) (start : ℕ → Option Told) (count : ℕ) (v w : OneView) : Type 0 where
+  pub between : OneView
+  pub split : HasSplit v count between
+  pub joined : HasJoined between count w
+  pub left : ℕ → Option Told
+  pub texts : List (Result (List ℕ) Errno)
+  pub kept : AreKept is_planned programs start left v w 1 texts
+  pub as_many : length texts ≡ count
+  pub errno : Errno
+  pub stopped : Contains texts (Err errno)
+
+-- The first actor has taken all others in, and no history that a device may end with fits what it knows. So it never comes to this.
+pub record CannotEnd (w : OneView) : Type 0 where
+  pub number : w.number ≡ 0
+  pub all_joined : length w.joined + 1 ≡ w.made
+  pub no_history : (history : List OneEntry) → Legal core history → StartsWith history w.seen → entries_of 0 history ≡ w.mine → HasAllOf w.joined history
+      → ((n : ℕ) → w.made ≤ n → entries_of n history ≡ []) → ⊥
 
 -- The first actor carried `setup` out, had the actors carry out their sections, and carried `after` out, with this port of its own.
 pub record HasCarriedOut {P : Type 0} (told : P → Option Told) (is_planned : Bool) (sections : List SaidSection) (v : OneView) (before : Option Told) (ports : List (Option P)) (texts : Texts) (w : OneView) (left : Option Told) (ports_then : List (Option P)) : Type 0 where

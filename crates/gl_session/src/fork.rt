@@ -1,5 +1,7 @@
 //! The actors of a session: made, each carrying its section out in a thread of its own, and taken in again.
-ghost use Rattle.std.specs.Prelude.{◌≡◌, ◌≢◌, ℕ, ◌+◌, ◌≤◌, ◌<◌, true, List, [], ◌∷◌, ◌++◌, length, Some, None, Ok, IfOk, OnOk, IsOkUnless, slice_get, slice_set, slice_index_or, vec_len};
+ghost use Rattle.std.specs.Prelude.{◌≡◌, ◌≢◌, ◌⊎◌, ℕ, ◌+◌, ◌≤◌, ◌<◌, true, [], ◌∷◌, ◌++◌, length, map, Some, None, Ok, Err, IfOk, IfErr, OnOk, IsOkUnless, slice_get, slice_set, slice_index_or, vec_len};
+ghost use Rattle.std.specs.List.{Contains};
+ghost use Rattle.gl_base.specs.declared.errno.Errno.TheVariants.{NoMemory};
 ghost use Rattle.gl_world.specs.History.{StartsWith};
 ghost use Rattle.gl_rule.specs.Views.{taking_in, with_one_more};
 ghost use Rattle.gl_chip.specs.Values.{IsActorOf};
@@ -66,7 +68,7 @@ fn split_one<D: Driver<Core>>(
     ensures view { first.new.pass.view ≡ with_one_more first.old.pass.view }
     ensures port { first.new.port ≡ first.old.port }
     ensures more { OnOk result ((a : _) × (actors.new.items ≡ actors.old.items ++ a ∷ [])
-        × IsFresh D.Port.told (λ _. D.Port.told port) device.now first.old.pass.view.seen first.old.pass.view.made a) }
+        × IsFresh D.Port.told (λ _. D.Port.told port) device.now first.old.pass.view first.old.pass.view.made a) }
     ensures memory_alone { IsOkUnless result Errno.NoMemory }
 {
     let actor = device.split(first, port);
@@ -90,7 +92,7 @@ pub fn split_all<D: Driver<Core>>(
     ensures port { first.new.port ≡ first.old.port }
     ensures split { OnOk result (HasSplit first.old.pass.view count first.new.pass.view) }
     ensures len { IfOk result (λ v. vec_len v ≡ count) }
-    ensures fresh { IfOk result (λ v. AreFresh D.Port.told (told_at D.Port.told ports.old) device.now first.old.pass.view.seen 1 v.items) }
+    ensures fresh { IfOk result (λ v. AreFresh D.Port.told (told_at D.Port.told ports.old) device.now first.old.pass.view 1 v.items) }
     ensures ports_len { length ports.new ≡ length ports.old }
     ensures others { OnOk result ((n : ℕ) → count < n → slice_get ports.new n ≡ slice_get ports.old n) }
     ensures memory_alone { IsOkUnless result Errno.NoMemory }
@@ -118,10 +120,10 @@ fn work<R: Wait, D: Driver<Core>>(
     mut actor: Actor<D>,
 ) -> Done<D>
     requires none { D.ENTRIES ≡ 0 }
-    requires fresh { IsFresh D.Port.told (λ _. D.Port.told actor.port) device.now actor.pass.view.seen actor.pass.view.number actor }
+    requires fresh { IsFresh D.Port.told (λ _. D.Port.told actor.port) device.now actor.pass.view actor.pass.view.number actor }
     requires section { (1 ≤ actor.pass.view.number) × (actor.pass.view.number ≤ length (actor_sections (sections_of script.now))) }
     requires few { length (said_in_kind ActorKind (sections_of script.now)) ≤ 1048576 }
-    ensures { WorkDone D.Port.told (λ _. D.Port.told actor.port) device.now D.is_planned (program_of (sections_of script.now)) actor.pass.view.seen actor.pass.view.number result }
+    ensures { WorkDone D.Port.told (λ _. D.Port.told actor.port) device.now D.is_planned (program_of (sections_of script.now)) actor.pass.view actor.pass.view.number result }
 {
     let number = actor.number();
     let statements = actor_statements(script, number);
@@ -140,20 +142,20 @@ fn map_all<R: Threads + Wait + Sync, D: Driver<Core>>(
     requires none { D.ENTRIES ≡ 0 }
     requires few { length (said_in_kind ActorKind (sections_of script.now)) ≤ 1048576 }
     requires fresh { (i : ℕ) (a : _) → i < vec_len actors → a ≡ slice_index_or actors.items i a
-        → IsFresh D.Port.told (λ _. D.Port.told a.port) device.now a.pass.view.seen a.pass.view.number a
+        → IsFresh D.Port.told (λ _. D.Port.told a.port) device.now a.pass.view a.pass.view.number a
         × (1 ≤ a.pass.view.number) × (a.pass.view.number ≤ length (actor_sections (sections_of script.now))) }
     ensures len { IfOk result (λ v. vec_len v ≡ vec_len actors) }
     ensures done { IfOk result (λ v. (i : ℕ) (a : _) (d : _) → i < vec_len actors → a ≡ slice_index_or actors.items i a
-        → WorkDone D.Port.told (λ _. D.Port.told a.port) device.now D.is_planned (program_of (sections_of script.now)) a.pass.view.seen a.pass.view.number (slice_index_or v.items i d)) }
+        → WorkDone D.Port.told (λ _. D.Port.told a.port) device.now D.is_planned (program_of (sections_of script.now)) a.pass.view a.pass.view.number (slice_index_or v.items i d)) }
 {
     let meeting = Rendezvous::of(actors.len());
     let start = &meeting;
     let job = |actor: Actor<D>| -> Done<D>
         requires none { D.ENTRIES ≡ 0 }
         requires few { length (said_in_kind ActorKind (sections_of script.now)) ≤ 1048576 }
-        requires fresh { IsFresh D.Port.told (λ _. D.Port.told actor.port) device.now actor.pass.view.seen actor.pass.view.number actor }
+        requires fresh { IsFresh D.Port.told (λ _. D.Port.told actor.port) device.now actor.pass.view actor.pass.view.number actor }
         requires section { (1 ≤ actor.pass.view.number) × (actor.pass.view.number ≤ length (actor_sections (sections_of script.now))) }
-        ensures { WorkDone D.Port.told (λ _. D.Port.told actor.port) device.entry.now D.is_planned (program_of (sections_of script.entry.now)) actor.pass.view.seen actor.pass.view.number result }
+        ensures { WorkDone D.Port.told (λ _. D.Port.told actor.port) device.entry.now D.is_planned (program_of (sections_of script.entry.now)) actor.pass.view actor.pass.view.number result }
     { work(rt, alloc, device, script, start, actor) };
     thread::map_vec(rt, actors, &job)
 }
@@ -168,11 +170,11 @@ pub fn work_all<R: Threads + Wait + Sync, D: Driver<Core>>(
 ) -> Result<Vec<Done<D>>, AllocError>
     requires none { D.ENTRIES ≡ 0 }
     requires few { length (said_in_kind ActorKind (sections_of script.now)) ≤ 1048576 }
-    requires fresh { (start : _) × (seen : _) × AreFresh D.Port.told start device.now seen 1 actors.items }
+    requires fresh { (start : _) × (v : _) × AreFresh D.Port.told start device.now v 1 actors.items }
     requires sections { vec_len actors ≤ length (actor_sections (sections_of script.now)) }
     ensures len { IfOk result (λ v. vec_len v ≡ vec_len actors) }
-    ensures done { IfOk result (λ v. (start : _) (seen : _) → AreFresh D.Port.told start device.now seen 1 actors.items
-        → AreDone D.Port.told start device.now D.is_planned (program_of (sections_of script.now)) seen 1 v.items) }
+    ensures done { IfOk result (λ all. (start : _) (v : _) → AreFresh D.Port.told start device.now v 1 actors.items
+        → AreDone D.Port.told start device.now D.is_planned (program_of (sections_of script.now)) v 1 all.items) }
 {
     match map_all(rt, alloc, device, script, actors) {
         Ok(done) => Ok(done),
@@ -180,30 +182,30 @@ pub fn work_all<R: Threads + Wait + Sync, D: Driver<Core>>(
     }
 }
 
-/// Takes in one actor, and keeps its text before the others, and its port in its place.
+/// Takes in one actor that wasn't out of memory, and keeps what came of it before the others, and its port in its place.
 fn join_one<D: Driver<Core>>(
     device: &Gpio<D>,
     first: &mut Actor<D>,
     ports: &mut [Option<D::Port>],
-    texts: &mut Vec<ByteList>,
+    texts: &mut Vec<Result<ByteList, Errno>>,
     done: Done<D>,
     n: usize,
 ) -> Result<(), Errno>
     requires actor { IsActorOf device.now first.old }
     requires port { n < length ports.old }
-    requires other { (t : List ℕ) → done.1 ≡ Ok t → IsActorOf device.now done.0 × (done.0.pass.view.number ≢ 0) }
+    requires other { done.1 ≢ Err NoMemory → IsActorOf device.now done.0 × (done.0.pass.view.number ≢ 0) }
     ensures actor { IsActorOf device.now first.new }
     ensures port { first.new.port ≡ first.old.port }
     ensures ports { OnOk result (ports.new ≡ slice_set ports.old n (Some done.0.port)) }
     ensures joined { OnOk result ((first.new.pass.view ≡ taking_in first.old.pass.view done.0.pass.view)
         × StartsWith first.new.pass.view.seen first.old.pass.view.seen × StartsWith first.new.pass.view.seen done.0.pass.view.seen) }
-    ensures text { OnOk result ((t : List ℕ) × (done.1 ≡ Ok t) × (texts.new.items ≡ t ∷ texts.old.items)) }
+    ensures text { OnOk result ((done.1 ≢ Err NoMemory) × (texts.new.items ≡ done.1 ∷ texts.old.items)) }
     ensures memory_alone { IsOkUnless result Errno.NoMemory }
 {
     let (actor, text) = done;
     match text {
-        Err(_) => Err(Errno::NoMemory),
-        Ok(text) => {
+        Err(Errno::NoMemory) => Err(Errno::NoMemory),
+        text => {
             let port = device.join(first, actor);
             give_port::<D>(ports, n, port);
             match texts.insert(0, text) {
@@ -214,23 +216,24 @@ fn join_one<D: Driver<Core>>(
     }
 }
 
-/// Takes in all actors, and gives their texts in the order of their numbers; the port of each is in its place again.
+/// Takes in all actors, and gives what came of them in the order of their numbers: a text, or an error where the history was full. The
+/// port of each is in its place again.
 pub fn join_all<D: Driver<Core>>(
     alloc: Global,
     device: &Gpio<D>,
     first: &mut Actor<D>,
     ports: &mut [Option<D::Port>],
     mut all: Vec<Done<D>>,
-) -> Result<Vec<ByteList>, Errno>
+) -> Result<Vec<Result<ByteList, Errno>>, Errno>
     requires actor { IsActorOf device.now first.old }
     requires ports { vec_len all < length ports.old }
-    requires done { (start : _) × (programs : _) × (seen : _) × AreDone D.Port.told start device.now D.is_planned programs seen 1 all.items }
+    requires done { (start : _) × (programs : _) × (v : _) × AreDone D.Port.told start device.now D.is_planned programs v 1 all.items }
     ensures actor { IsActorOf device.now first.new }
     ensures port { first.new.port ≡ first.old.port }
     ensures joined { OnOk result (HasJoined first.old.pass.view (vec_len all) first.new.pass.view) }
     ensures len { IfOk result (λ texts. vec_len texts ≡ vec_len all) }
-    ensures kept { IfOk result (λ texts. (start : _) (programs : _) (seen : _) → AreDone D.Port.told start device.now D.is_planned programs seen 1 all.items
-        → AreKept D.is_planned programs start (told_at D.Port.told ports.new) seen first.new.pass.view 1 texts.items) }
+    ensures kept { IfOk result (λ texts. (start : _) (programs : _) (v : _) → AreDone D.Port.told start device.now D.is_planned programs v 1 all.items
+        → AreKept D.is_planned programs start (told_at D.Port.told ports.new) v first.new.pass.view 1 texts.items) }
     ensures ports_len { length ports.new ≡ length ports.old }
     ensures others { OnOk result ((n : ℕ) → vec_len all < n → slice_get ports.new n ≡ slice_get ports.old n) }
     ensures there { OnOk result ((n : ℕ) → 1 ≤ n → n ≤ vec_len all → there_at ports.new n ≡ true) }
@@ -241,6 +244,27 @@ pub fn join_all<D: Driver<Core>>(
         let n = all.len() + 1;
         match join_one(device, first, ports, &mut texts, done, n) {
             Ok(()) => {}
+            Err(errno) => return Err(errno),
+        }
+    }
+    Ok(texts)
+}
+
+/// The texts of all actors, if each has one.
+pub fn all_printed(
+    alloc: Global,
+    mut results: Vec<Result<ByteList, Errno>>,
+) -> Result<Vec<ByteList>, Errno>
+    ensures printed { IfOk result (λ texts. results.items ≡ map Ok texts.items) }
+    ensures cause { IfErr result (λ e. (e ≡ NoMemory) ⊎ Contains results.items (Err e)) }
+{
+    let mut texts = Vec::new(alloc);
+    while let Some(text) = results.pop() {
+        match text {
+            Ok(text) => match texts.insert(0, text) {
+                Ok(()) => {}
+                Err(_) => return Err(Errno::NoMemory),
+            },
             Err(errno) => return Err(errno),
         }
     }

@@ -3,6 +3,7 @@
 
 ghost use Rattle.std.specs.Prelude.{◌≡◌, []};
 ghost use Rattle.gl_session.specs.Alone.{AnswersAsPlanned, FirstActorIsAlone, FirstActorSeesItself, PortTells, PrintsOne};
+ghost use Rattle.gl_session.specs.Closings.{ActorsCloseByNumber};
 ghost use Rattle.gl_session.specs.Many.{AllPlayedCameToMany};
 ghost use Rattle.gl_session.specs.OneChip.{output, plans, printed, takes};
 ghost use Rattle.gl_session.specs.Output.{OutputTellsHistory};
@@ -76,4 +77,10 @@ pub fn all_played_came_to_many()
 pub fn output_tells_history()
     ensures of_entries { OutputTellsHistory }
     ensures of_runs { TextsTellHistory }
+{}
+
+/// In the history of several actors the end of each actor's section closes just the files that are open then, in the order of their
+/// numbers, and leaves none, unless the device refused a closing of one of its statements.
+pub fn actors_close_by_number()
+    ensures { ActorsCloseByNumber }
 {}

@@ -1,17 +1,20 @@
 //! A session that several actors carry out on a device of their own: `setup`, then each actor's section in a thread of its own
 //! where one can be made, then `after`.
-ghost use Rattle.std.specs.Prelude.{◌≡◌, ℕ, ◌≤◌, ◌<◌, true, length, slice_get, IfOk, OnOk, IsOkUnless};
+ghost use Rattle.std.specs.Prelude.{◌≡◌, ◌⊎◌, ℕ, ◌≤◌, ◌<◌, true, [], length, slice_get, IfOk, IfErr, OnOk, IsOkUnless};
+ghost use Rattle.gl_base.specs.declared.errno.Errno.TheVariants.{NoMemory};
+ghost use Rattle.gl_rule.specs.Views.{newcomer};
 ghost use Rattle.gl_chip.specs.Values.{IsActorOf};
+ghost use Rattle.gl_script.specs.Cost.{session_cost};
 ghost use Rattle.gl_script.specs.Script.{sections_of};
 ghost use Rattle.gl_talk.specs.Open.{no_names};
 ghost use Rattle.gl_talk.specs.Talk.{names_in};
 ghost use Rattle.gl_session.specs.Many.{CameToMany, actor_sections, program_of};
 ghost use Rattle.gl_session.specs.OneActor.{IsSized};
-ghost use Rattle.gl_session.specs.Workers.{HasCarriedOut, HasForked, there_at, told_at};
+ghost use Rattle.gl_session.specs.Workers.{CannotEnd, HasCarriedOut, HasForked, HasForkedFull, there_at, told_at};
 ghost use Rattle.gl_session.specs.Ports.{AreAllThere};
 ghost use Rattle.gl_session.specs.Several.{texts_of};
 
-use crate::fork::{give_port, join_all, split_all, take_port, work_all};
+use crate::fork::{all_printed, give_port, join_all, split_all, take_port, work_all};
 use crate::one_actor::{play_kind, play_to_end};
 use gl_base::{ByteList, Errno};
 use gl_chip::{Actor, Gpio};
@@ -56,6 +59,8 @@ fn fork<R: Threads + Wait + Sync, D: Driver<Core>>(
     ensures port { first.new.port ≡ first.old.port }
     ensures forked { IfOk result (λ texts. HasForked D.Port.told D.is_planned (program_of (sections_of script.now)) (length (actor_sections (sections_of script.now)))
         first.old.pass.view ports.old first.new.pass.view texts.items ports.new) }
+    ensures stopped { IfErr result (λ e. (e ≡ NoMemory) ⊎ HasForkedFull D.is_planned (program_of (sections_of script.now)) (told_at D.Port.told ports.old)
+        (length (actor_sections (sections_of script.now))) first.old.pass.view first.new.pass.view) }
     ensures ports_len { length ports.new ≡ length ports.old }
 {
     let actors = match split_all(alloc, device, first, ports, count) {
@@ -66,7 +71,11 @@ fn fork<R: Threads + Wait + Sync, D: Driver<Core>>(
         Ok(all) => all,
         Err(_) => return Err(Errno::NoMemory),
     };
-    match join_all(alloc, device, first, ports, all) {
+    let texts = match join_all(alloc, device, first, ports, all) {
+        Ok(texts) => texts,
+        Err(errno) => return Err(errno),
+    };
+    match all_printed(alloc, texts) {
         Ok(texts) => Ok(texts),
         Err(errno) => Err(errno),
     }
@@ -86,7 +95,7 @@ fn carry_parts<'a, R: Threads + Wait + Sync, D: Driver<Core>>(
 ) -> Result<Printed, Errno>
     requires none { D.ENTRIES ≡ 0 }
     requires actor { IsActorOf device.now first.old }
-    requires first { (first.old.pass.view.number ≡ 0) × (first.old.pass.view.made ≡ 1) }
+    requires first { first.old.pass.view ≡ newcomer 0 (session_cost (sections_of script.now)) [] 1 [] [] }
     requires sized { IsSized (sections_of script.now) }
     requires talk { (names_in talk.old ≡ no_names) × (talk.old.begun ≡ 0) }
     requires count { (count ≡ length (actor_sections (sections_of script.now))) × (count < 256) × (count < length ports.old) }
@@ -94,6 +103,7 @@ fn carry_parts<'a, R: Threads + Wait + Sync, D: Driver<Core>>(
     ensures actor { IsActorOf device.now first.new }
     ensures out { IfOk result (λ printed. HasCarriedOut D.Port.told D.is_planned (sections_of script.now) first.old.pass.view (D.Port.told first.old.port) ports.old
         (texts_of printed) first.new.pass.view (D.Port.told first.new.port) ports.new) }
+    ensures stopped { IfErr result (λ e. (e ≡ NoMemory) ⊎ CannotEnd first.new.pass.view) }
     ensures ports_len { length ports.new ≡ length ports.old }
 {
     let mut rows = Vec::new(alloc);
@@ -150,13 +160,14 @@ fn carry_out<R: Threads + Wait + Sync, D: Driver<Core>>(
 ) -> Result<Printed, Errno>
     requires none { D.ENTRIES ≡ 0 }
     requires actor { IsActorOf device.now first.old }
-    requires first { (first.old.pass.view.number ≡ 0) × (first.old.pass.view.made ≡ 1) }
+    requires first { first.old.pass.view ≡ newcomer 0 (session_cost (sections_of script.now)) [] 1 [] [] }
     requires sized { IsSized (sections_of script.now) }
     requires count { (count ≡ length (actor_sections (sections_of script.now))) × (count < 256) × (count < length ports.old) }
     requires there { (n : ℕ) → 1 ≤ n → n < length ports.old → there_at ports.old n ≡ true }
     ensures actor { IsActorOf device.now first.new }
     ensures out { IfOk result (λ printed. HasCarriedOut D.Port.told D.is_planned (sections_of script.now) first.old.pass.view (D.Port.told first.old.port) ports.old
         (texts_of printed) first.new.pass.view (D.Port.told first.new.port) ports.new) }
+    ensures stopped { IfErr result (λ e. (e ≡ NoMemory) ⊎ CannotEnd first.new.pass.view) }
     ensures ports_len { length ports.new ≡ length ports.old }
 {
     match Talk::new(alloc) {
@@ -168,8 +179,8 @@ fn carry_out<R: Threads + Wait + Sync, D: Driver<Core>>(
 /// Runs a session by an actor for each of its actors' sections, on a new device with this driver, each actor with the port of its
 /// number. Gives what they printed, and the history.
 ///
-/// `NoMemory` alone is refused, and then ports may be missing. It is also what a full history comes to here: no clause of the gate
-/// says that all passes together stay below its room.
+/// The history takes just as many entries as the session costs, and is never full before a call. `NoMemory` alone is refused, and then
+/// ports may be missing.
 pub fn run_several<R: Threads + Wait + Sync, D: Driver<Core>>(
     rt: &R,
     alloc: Global,
@@ -196,7 +207,11 @@ pub fn run_several<R: Threads + Wait + Sync, D: Driver<Core>>(
                         give_port::<D>(ports, 0, port);
                         Ok((printed, history))
                     }
-                    Err(_) => Err(Errno::NoMemory),
+                    Err(Errno::NoMemory) => Err(Errno::NoMemory),
+                    Err(_) => {
+                        let _ended = device.finish(first);
+                        unreachable!()
+                    }
                 }
             }
             Err(_) => Err(Errno::NoMemory),

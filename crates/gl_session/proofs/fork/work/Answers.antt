@@ -1,6 +1,6 @@
 use Rattle.gl_script.specs.Script.{sections_of}
 use Rattle.gl_session.specs.Many.{program_of}
-use Rattle.gl_session.proofs.Threads.{has_played, if_ok}
+use Rattle.gl_session.proofs.Threads.{work_done}
 use Rattle.gl_session.proofs.WholeSections.{program_same, statements_few}
 use Rattle.gl_session.proofs.fork.work.Goals as goal
 
@@ -10,7 +10,5 @@ play_beside-text-requires-clause-few g c κs within =
 
 pub returns : goal.returns
 returns g c =
-    if_ok c.play_beside-text.result _ _
-    (λ text whole. has_played g.D.Port.Port.told _ c.args.device.now g.D.Driver.is_planned (program_of (sections_of c.args.script.now)) c.args.actor.pass.view.seen c.args.actor.pass.view.number c.args.actor c.play_beside-text.new.actor _ text
-    c.requires.fresh c.play_beside-text.ensures.actor whole (program_same (sections_of c.args.script.now) _ _ _ c.number-number.ensures.number c.actor_statements-statements.ensures))
-    c.play_beside-text.ensures.played
+    work_done g.D.Port.Port.told (λ _. g.D.Port.Port.told c.args.actor.port) c.args.device.now g.D.Driver.is_planned (program_of (sections_of c.args.script.now)) c.args.actor.pass.view c.args.actor.pass.view.number c.args.actor c.play_beside-text.new.actor _ c.play_beside-text.result
+    c.requires.fresh c.play_beside-text.ensures.actor (program_same (sections_of c.args.script.now) _ _ _ c.number-number.ensures.number c.actor_statements-statements.ensures) c.play_beside-text.ensures.played c.play_beside-text.ensures.stopped

@@ -1,0 +1,62 @@
+-- Which files the end of a talk closes on the device, and in which order. This project's choice.
+use Rattle.std.specs.Prelude.{◌≡◌, ℕ, ◌-◌, Bool, nat_lt, List, [], ◌∷◌, ◌++◌, map, get_or, Option, None, Some}
+use Rattle.gl_base.specs.Ordered.{ordered}
+use Rattle.gl_base.specs.declared.operation.Do.{Do}
+use Rattle.gl_base.specs.declared.operation.Do.TheVariants.{Close}
+use Rattle.gl_world.specs.History.{Legal}
+use Rattle.gl_args.specs.Entries.{IsKept}
+use Rattle.gl_args.specs.Program.{Program, done}
+use Rattle.gl_driver.specs.Told.{Told}
+use Rattle.gl_script.specs.Section.{SaidSection}
+use Rattle.gl_talk.specs.Open.{Names, no_names}
+use Rattle.gl_talk.specs.Talk.{quits, says}
+use Rattle.gl_chip.specs.Values.{OneEntry, core}
+use Rattle.gl_session.specs.Asking.{files_behind, got_of}
+use Rattle.gl_session.specs.Files.{OpenFile, file_in}
+use Rattle.gl_session.specs.Many.{ActorPlayed, actor_sections, no_section, words_of}
+use Rattle.gl_session.specs.Performed.{carried}
+use Rattle.gl_session.specs.Turns.{Carried, Turn, Said, Did, Follows}
+
+-- the numbers of open files
+abbrev pub numbers_of : List OpenFile → List ℕ
+numbers_of files = map (λ file. file.fd) files
+
+-- the number of the file that is closed, if there is one
+abbrev pub number_in : Option OpenFile → List ℕ
+number_in None = []
+number_in (Some file) = file.fd ∷ []
+
+abbrev pub closed_by : List OpenFile → Do → List ℕ
+closed_by files (Close slot) = number_in (file_in slot files)
+closed_by files _ = []
+
+-- the numbers of the files that turns close, one after another, where these files are open before
+abbrev pub closed_in : List OpenFile → List Turn → List ℕ
+closed_in files [] = []
+closed_in files (Said text ∷ turns) = closed_in files turns
+closed_in files (Did e ∷ turns) = closed_by files e.what ++ closed_in (files_behind e.what e.reply files) turns
+
+-- none of the closings among turns was refused
+abbrev pub AreKept : List Turn → Type 0
+AreKept [] = Unit {0}
+AreKept (Said text ∷ turns) = AreKept turns
+AreKept (Did e ∷ turns) = IsKept e.what (got_of e.what e.reply e.wrote) × AreKept turns
+
+-- The turns of a talk, which leaves the actor so: first those of its statements, then those of its end. Where no closing among the
+-- statements was refused, the end closes just the files that are open then, each once, in the order of their numbers, and leaves none.
+pub record ClosesByNumber (is_planned : Bool) (actor : ℕ) (statements : Program Names) (s : Carried) (turns : List Turn) (last : Names) (r : Carried) : Type 0 where
+  pub begun : List Turn
+  pub ending : List Turn
+  pub turns_are : turns ≡ begun ++ ending
+  pub names : Names
+  pub between : Carried
+  pub follows : Follows is_planned actor statements s begun (done names) between
+  pub ends : Follows is_planned actor (quits names) between ending (done last) r
+  pub in_order : AreKept begun → closed_in between.files ending ≡ ordered nat_lt (numbers_of between.files)
+  pub leaves_none : AreKept begun → r.files ≡ []
+
+-- So each actor's section ends in a legal history of several actors.
+abbrev pub ActorsCloseByNumber : Type 0
+ActorsCloseByNumber = (is_planned : Bool) (before left : ℕ → Option Told) (sections : List SaidSection) (history : List OneEntry) → Legal core history
+    → (n : ℕ) (text : List ℕ) (actor : ActorPlayed is_planned before left sections history n text)
+    → ClosesByNumber is_planned n (says 0 (words_of (get_or (actor_sections sections) (n - 1) no_section)) done no_names) (carried [] (before n)) actor.played.turns actor.names actor.behind
