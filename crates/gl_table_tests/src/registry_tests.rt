@@ -1,6 +1,6 @@
 //! Chips by place and by word.
 
-use gl_base::{Errno, Name, Phase};
+use gl_base::{Errno, Name, PLACES, Phase};
 use gl_registry::Registry;
 use std::test::Fail;
 
@@ -10,7 +10,7 @@ fn a_chip_is_named_by_three_words_until_it_is_gone(rt: HostRuntime) -> Result<()
     let label = Name::of(b"demo").ok_or("a name")?;
     assert_eq!(rt; registry.add(label, 4)?, 0);
     assert_eq!(rt; registry.add(label, 8)?, 1);
-    assert_eq!(rt; registry.left(), 14);
+    assert_eq!(rt; registry.left(), u32::from(PLACES) - 2);
     assert_eq!(rt; registry.label(1), label);
     assert_eq!(rt; registry.lines(1), 8);
     assert_eq!(rt; registry.chip(1).lines, 8);
@@ -34,9 +34,9 @@ fn a_chip_is_named_by_three_words_until_it_is_gone(rt: HostRuntime) -> Result<()
 }
 
 #[test]
-fn sixteen_chips_are_made(rt: HostRuntime) -> Result<(), Fail> {
+fn a_chip_is_made_at_each_place(rt: HostRuntime) -> Result<(), Fail> {
     let mut registry = Registry::new(rt.alloc())?;
-    for place in 0..16 {
+    for place in 0..PLACES {
         assert_eq!(rt; registry.add(Name::empty(), 1), Ok(place));
     }
     assert_eq!(rt; registry.add(Name::empty(), 1), Err(Errno::NoSpc));

@@ -1,6 +1,6 @@
 //! The tree with ample memory, against the forms, refusals and values of this project's documents.
 
-use gl_base::{Errno, Name, Path};
+use gl_base::{Errno, LINES_MAX, Name, PLACES, Path};
 use gl_desc::HogWay;
 use gl_simtree::node::{Directory, File, Node};
 use gl_simtree::parse::node_at;
@@ -75,6 +75,9 @@ fn paths_have_these_forms_and_no_others(rt: HostRuntime) -> Result<(), Fail> {
     Ok(())
 }
 
+/// So many chips can be made on a new device.
+const ALL_LEFT: u32 = PLACES as u32;
+
 /// A call on the tree.
 #[derive(Clone, Copy)]
 enum Call {
@@ -117,13 +120,13 @@ fn made(tree: &mut Tree, call: Call, text: &str) -> Result<Result<(), Errno>, Fa
 fn the_first_refusal_decides(rt: HostRuntime) -> Result<(), Fail> {
     let mut tree = Tree::new(rt.alloc()).map_err(|_| "memory")?;
     let calls = [
-        (Call::CheckLive(16), "gpiochip1", Err(Errno::Inval)),
-        (Call::CheckLive(16), "d", Err(Errno::NoEnt)),
+        (Call::CheckLive(ALL_LEFT), "gpiochip1", Err(Errno::Inval)),
+        (Call::CheckLive(ALL_LEFT), "d", Err(Errno::NoEnt)),
         (Call::Mkdir, "d/b", Err(Errno::NoEnt)),
         (Call::Mkdir, "d", Ok(())),
         (Call::Mkdir, "d", Err(Errno::Exist)),
         (Call::Mkdir, "d/live", Err(Errno::Inval)),
-        (Call::CheckLive(16), "d", Err(Errno::Inval)),
+        (Call::CheckLive(ALL_LEFT), "d", Err(Errno::Inval)),
         (Call::Mkdir, "d/b", Ok(())),
         (Call::CheckLive(0), "d", Err(Errno::NoSpc)),
         (Call::CheckLive(1), "d", Ok(())),
@@ -133,21 +136,19 @@ fn the_first_refusal_decides(rt: HostRuntime) -> Result<(), Fail> {
         (Call::Write("1"), "d/x/label", Err(Errno::NoEnt)),
         (Call::Write("1"), "d/b/chip_name", Err(Errno::Perm)),
         (Call::Write("0"), "d/b/num_lines", Err(Errno::Inval)),
-        (Call::Write("129"), "d/b/num_lines", Err(Errno::Inval)),
         (Call::Write("08"), "d/b/num_lines", Err(Errno::Inval)),
-        (Call::Write("128"), "d/b/num_lines", Ok(())),
         (Call::Write(""), "d/b/label", Err(Errno::Inval)),
         (Call::Write("main"), "d/b/label", Ok(())),
         (Call::Rmdir, "d", Err(Errno::Busy)),
         (Call::Rmdir, "d/c", Err(Errno::NoEnt)),
         (Call::SetLive(7), "d", Ok(())),
-        (Call::CheckLive(16), "d", Err(Errno::Perm)),
+        (Call::CheckLive(ALL_LEFT), "d", Err(Errno::Perm)),
         (Call::Mkdir, "d", Err(Errno::Busy)),
         (Call::Rmdir, "d/b", Err(Errno::Busy)),
         (Call::Write(""), "d/b/label", Err(Errno::Busy)),
         (Call::CheckRemove, "d", Ok(())),
         (Call::SetLeaving, "d", Ok(())),
-        (Call::CheckLive(16), "d", Err(Errno::Busy)),
+        (Call::CheckLive(ALL_LEFT), "d", Err(Errno::Busy)),
         (Call::CheckRemove, "d", Err(Errno::Busy)),
         (Call::SetOff, "d", Ok(())),
         (Call::Rmdir, "d/b", Ok(())),
@@ -156,6 +157,21 @@ fn the_first_refusal_decides(rt: HostRuntime) -> Result<(), Fail> {
     for (call, text, expected) in calls {
         assert_eq!(rt; made(&mut tree, call, text)?, expected, "{text}");
     }
+    Ok(())
+}
+
+#[test]
+fn a_bank_has_as_many_lines_as_a_chip_may_have(rt: HostRuntime) -> Result<(), Fail> {
+    let mut tree = Tree::new(rt.alloc()).map_err(|_| "memory")?;
+    assert_eq!(rt;
+        (tree.mkdir(&path("d")?), tree.mkdir(&path("d/b")?)),
+        (Ok(()), Ok(()))
+    );
+    let file = path("d/b/num_lines")?;
+    let more = format!(in rt.alloc(); "{}", LINES_MAX + 1)?;
+    assert_eq!(rt; tree.write(&file, &name(more.as_str())?), Err(Errno::Inval));
+    let most = format!(in rt.alloc(); "{LINES_MAX}")?;
+    assert_eq!(rt; tree.write(&file, &name(most.as_str())?), Ok(()));
     Ok(())
 }
 

@@ -1,6 +1,7 @@
 //! Texts, their first faults and their statements.
 ghost use Rattle.std.specs.Prelude.{◌<◌, ◌≤◌, length};
 
+use gl_base::{COST_MAX, LINES_MAX, PLACES};
 use gl_script::{
     Feed, Head, Script, generate, loads_are_sessions, sentence_is_single, sentences_are_spelled,
     spelled_are_sentences,
@@ -15,6 +16,16 @@ const BOARD: &[u8] =
 /// The load of number 1, whose one turn has the number 1103527590: line 6 is pulled up, and line 14 is read.
 const ONE_TURN: &[u8] =
     b"session 1\nsetup\nprobe gen 64\nopen A 0\nioctl A GET_LINE 00000000 01000000 02000000 03000000 04000000 05000000 06000000 07000000 00*256 34 00*271 08000000 00*28 as R\nclock 1000 0\nwrite gpiochip0/sim_gpio6/pull pull-up\ngpioget -c 0 14\nevents R 6144\n";
+
+/// What gpiodetect of all places costs, gpioinfo of one chip, and gpioinfo of all places.
+const DETECT_COST: u64 = 3 * PLACES as u64;
+
+const CHIP_COST: u64 = LINES_MAX as u64 + 3;
+
+const INFO_COST: u64 = PLACES as u64 * CHIP_COST;
+
+/// What a step of 1000 turns costs.
+const STEP_COST: u64 = 1001;
 
 /// The line, the column and the kind of the first fault; the cost and `ok` where there is none.
 fn first_fault(alloc: Global, text: &[u8]) -> (u64, u32, &'static str) {
@@ -45,7 +56,6 @@ fn each_kind_of_fault_has_its_place(rt: HostRuntime) {
         ("session 1\nactor a\nactor b\nactor a", (4, 7, "name")),
         ("session 1\nsetup\nprobe demo", (3, 11, "words")),
         ("session 1\nsetup\nprobe demo 4 4", (3, 14, "words")),
-        ("session 1\nsetup\nprobe demo 129", (3, 12, "word")),
         ("session 1\nsetup\nprobe de/mo 4\nprob", (3, 7, "word")),
         ("session 1\nsetup\nprob\n#\x7f", (3, 1, "statement")),
         ("session 1\nsetup\nprobe demo 4\x7f", (3, 13, "byte")),
@@ -72,7 +82,8 @@ fn statement_fault(alloc: Global, statement: &str) -> Result<(u64, u32, &'static
 #[test]
 fn each_statement_has_its_forms_and_its_cost(rt: HostRuntime) -> Result<(), Fail> {
     let statements = [
-        ("probe demo 0128", (1, 0, "ok")),
+        ("probe demo 0004", (1, 0, "ok")),
+        ("probe demo 0", (3, 12, "word")),
         ("unplug gpiochip63", (2, 0, "ok")),
         ("unplug 64", (3, 8, "word")),
         ("mkdir a/b", (1, 0, "ok")),
@@ -101,12 +112,12 @@ fn each_statement_has_its_forms_and_its_cost(rt: HostRuntime) -> Result<(), Fail
         ("changes A 9217", (3, 11, "word")),
         ("poll A", (1, 0, "ok")),
         ("close A", (0, 0, "ok")),
-        ("gpiodetect", (48, 0, "ok")),
-        ("gpiodetect --", (48, 0, "ok")),
+        ("gpiodetect", (DETECT_COST, 0, "ok")),
+        ("gpiodetect --", (DETECT_COST, 0, "ok")),
         ("gpiodetect 0 -x", (6, 0, "ok")),
-        ("gpioinfo", (2096, 0, "ok")),
-        ("gpioinfo -c 0", (131, 0, "ok")),
-        ("gpioinfo --chip=0", (131, 0, "ok")),
+        ("gpioinfo", (INFO_COST, 0, "ok")),
+        ("gpioinfo -c 0", (CHIP_COST, 0, "ok")),
+        ("gpioinfo --chip=0", (CHIP_COST, 0, "ok")),
         ("gpioget -c 0 1", (10, 0, "ok")),
         ("gpioset 1=0", (6, 0, "ok")),
         ("start t gpiomon -c 0 1", (8, 0, "ok")),
@@ -125,6 +136,18 @@ fn each_statement_has_its_forms_and_its_cost(rt: HostRuntime) -> Result<(), Fail
             "{statement}"
         );
     }
+    Ok(())
+}
+
+#[test]
+fn a_chip_has_at_most_so_many_lines(rt: HostRuntime) -> Result<(), Fail> {
+    let most = format!(in rt.alloc(); "probe demo {LINES_MAX}")?;
+    let more = format!(in rt.alloc(); "probe demo {}", LINES_MAX + 1)?;
+    let faults = (
+        statement_fault(rt.alloc(), most.as_str())?,
+        statement_fault(rt.alloc(), more.as_str())?,
+    );
+    assert!(rt; faults == ((1, 0, "ok"), (3, 12, "word")));
     Ok(())
 }
 
@@ -210,7 +233,7 @@ fn limits_are_met_to_the_byte(rt: HostRuntime) -> Result<(), Fail> {
         ),
         (lines(alloc, b"# ", 127)?, (0, 0, "ok")),
         (lines(alloc, b"# ", 129)?, (2, 257, "limit")),
-        (lines(alloc, b"setup\ngpioinfo\n", 1)?, (2096, 0, "ok")),
+        (lines(alloc, b"setup\ngpioinfo\n", 1)?, (INFO_COST, 0, "ok")),
     ];
     for (text, fault) in texts {
         assert_eq!(rt; first_fault(alloc, &text), fault);
@@ -232,17 +255,21 @@ fn sixteen_actors_are_the_most(rt: HostRuntime) -> Result<(), Fail> {
 }
 
 #[test]
-fn cost_is_at_most_100000(rt: HostRuntime) -> Result<(), Fail> {
+fn cost_is_at_most_so_much(rt: HostRuntime) -> Result<(), Fail> {
     let mut text = b"session 1\nactor a\n".to_vec(rt.alloc())?;
-    for _ in 0..99 {
+    for _ in 0..COST_MAX / STEP_COST {
         text.extend_from_slice(b"step t 1000\n")?;
     }
-    text.extend_from_slice(b"after\nstep t 900")?;
-    assert_eq!(rt; first_fault(rt.alloc(), &text), (100_000, 0, "ok"));
+    let rest = format!(in rt.alloc(); "after\nstep t {}", COST_MAX % STEP_COST - 1)?;
+    text.extend_from_slice(rest.as_bytes())?;
+    assert_eq!(rt; first_fault(rt.alloc(), &text), (COST_MAX, 0, "ok"));
     text.extend_from_slice(b"\nread a\n")?;
     assert_eq!(rt; first_fault(rt.alloc(), &text), (0, 0, "cost"));
     text.extend_from_slice(b"prob")?;
-    assert_eq!(rt; first_fault(rt.alloc(), &text), (105, 1, "statement"));
+    assert_eq!(rt;
+        first_fault(rt.alloc(), &text),
+        (COST_MAX / STEP_COST + 6, 1, "statement")
+    );
     Ok(())
 }
 
