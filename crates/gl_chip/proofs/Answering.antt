@@ -26,7 +26,9 @@ use Rattle.gl_model.specs.Entries.{is_get_line, is_go}
 use Rattle.gl_model.specs.Ioctl.{by_number}
 use Rattle.gl_model.specs.OneClaim.{claims_of, first_get_line, told_reply}
 use Rattle.gl_model.specs.OpenFiles.{is_whole}
-use Rattle.gl_model.specs.Parts.{CommandIn, Commanding, MakesAt, MakesCommand, MakesRest, MakesTwo, in_ask, in_tell, is_driver_asked, last_reply}
+use Rattle.gl_model.specs.declared.device_call.CommandIn.{CommandIn}
+use Rattle.gl_model.specs.declared.device_call.DeviceCall.TheVariants.{Commanding}
+use Rattle.gl_model.specs.Parts.{MakesAt, MakesCommand, MakesRest, MakesTwo, in_ask, in_tell, is_driver_asked, last_reply}
 use Rattle.gl_model.specs.Replies.{has_form, numbered_form}
 use Rattle.gl_model.specs.Step.{guard_reply}
 use Rattle.gl_model.specs.World.{World, Request}

@@ -36,7 +36,9 @@ use Rattle.gl_model.specs.declared.reply.Reply.{Reply}
 use Rattle.gl_model.specs.declared.reply.Reply.TheVariants.{Done, Number, Go, Found, Text, Ready, Refused}
 use Rattle.gl_model.specs.Entries.{is_go, is_tell}
 use Rattle.gl_model.specs.Fits.{Fits, FitsGift}
-use Rattle.gl_model.specs.Parts.{CommandIn, Commanding, MakesCommand, MakesRest, MakesTwo, in_ask, in_tell, is_driver_asked, last_reply}
+use Rattle.gl_model.specs.declared.device_call.CommandIn.{CommandIn}
+use Rattle.gl_model.specs.declared.device_call.DeviceCall.TheVariants.{Commanding}
+use Rattle.gl_model.specs.Parts.{MakesCommand, MakesRest, MakesTwo, in_ask, in_tell, is_driver_asked, last_reply}
 use Rattle.gl_model.specs.Replies.{IoCause, has_form}
 use Rattle.gl_model.specs.Step.{guard_reply}
 use Rattle.gl_model.specs.World.{World}

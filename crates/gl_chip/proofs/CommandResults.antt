@@ -18,7 +18,9 @@ use Rattle.gl_model.specs.declared.call.Part.TheVariants.{Whole}
 use Rattle.gl_model.specs.declared.reply.Reply.{Reply}
 use Rattle.gl_model.specs.declared.reply.Reply.TheVariants.{Refused}
 use Rattle.gl_model.specs.Entries.{is_tell}
-use Rattle.gl_model.specs.Parts.{CommandIn, Commanding, MakesAt, MakesCommand, guard_of, in_whole, is_driver_asked}
+use Rattle.gl_model.specs.declared.device_call.CommandIn.{CommandIn}
+use Rattle.gl_model.specs.declared.device_call.DeviceCall.TheVariants.{Commanding}
+use Rattle.gl_model.specs.Parts.{MakesAt, MakesCommand, guard_of, in_whole, is_driver_asked}
 use Rattle.gl_model.specs.Replies.{IoCause}
 use Rattle.gl_model.specs.Step.{guard_reply}
 use Rattle.gl_model.specs.World.{World}

@@ -20,7 +20,8 @@ use Rattle.gl_model.specs.Chips.{is_leaving, phase_at}
 use Rattle.gl_model.specs.OpenFiles.{number_refusal, open_count}
 use Rattle.gl_model.specs.Opening.{open_at, with_file}
 use Rattle.gl_model.specs.Outcome.{numbers, refused_or}
-use Rattle.gl_model.specs.Parts.{Once, last_reply}
+use Rattle.gl_model.specs.declared.device_call.DeviceCall.TheVariants.{Once}
+use Rattle.gl_model.specs.Parts.{last_reply}
 use Rattle.gl_model.specs.Replies.{has_form}
 use Rattle.gl_model.specs.World.{World}
 use Rattle.gl_model.proofs.Bounds.{legal_worlds_have_bounds}

@@ -23,7 +23,11 @@ use Rattle.gl_model.specs.Entries.{awaited_call, begins, begun_places, ends, gua
 use Rattle.gl_model.specs.Fits.{Fits, FitsCall}
 use Rattle.gl_model.specs.Machine.{bytes_of, reply_of}
 use Rattle.gl_model.specs.Outcome.{refused_or, writes}
-use Rattle.gl_model.specs.Parts.{DeviceCall, MakesRest, MakesTwo, OfChip, OfDevice, RemovalOf, Removing, first_call, guard_of}
+use Rattle.gl_model.specs.declared.device_call.DeviceCall.{DeviceCall}
+use Rattle.gl_model.specs.Parts.{MakesRest, MakesTwo, first_call, guard_of}
+use Rattle.gl_model.specs.declared.device_call.RemovalOf.TheVariants.{OfChip, OfDevice}
+use Rattle.gl_model.specs.declared.device_call.RemovalOf.{RemovalOf}
+use Rattle.gl_model.specs.declared.device_call.DeviceCall.TheVariants.{Removing}
 use Rattle.gl_model.specs.Removal.{removal_bytes, up_places}
 use Rattle.gl_model.specs.World.{World}
 use Rattle.gl_model.specs.Replies.{has_form}

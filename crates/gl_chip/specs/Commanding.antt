@@ -23,7 +23,9 @@ use Rattle.gl_model.specs.declared.reply.Reply.TheVariants.{Number, Go, Refused}
 use Rattle.gl_model.specs.Asked.{asked_in, lines_asked, request_fault}
 use Rattle.gl_model.specs.Entries.{begins}
 use Rattle.gl_model.specs.Machine.{reply_of}
-use Rattle.gl_model.specs.Parts.{CommandIn, Commanding, MakesTwo, in_ask, in_tell, is_driver_asked, last_reply}
+use Rattle.gl_model.specs.declared.device_call.CommandIn.{CommandIn}
+use Rattle.gl_model.specs.declared.device_call.DeviceCall.TheVariants.{Commanding}
+use Rattle.gl_model.specs.Parts.{MakesTwo, in_ask, in_tell, is_driver_asked, last_reply}
 use Rattle.gl_model.specs.Places.{place_at}
 use Rattle.gl_model.specs.Replies.{AsksLockedOutput, SetsLockedOutput}
 use Rattle.gl_model.specs.Step.{guard_reply}

@@ -5,7 +5,7 @@ ghost use Rattle.gl_base.specs.declared.limits.TheConstants.{LINES_MAX, PLACES};
 ghost use Rattle.gl_gate.specs.Calls.{KnowsTheSame};
 ghost use Rattle.gl_model.specs.declared.call.Call.TheVariants.{Find as FindCall, Probe as ProbeCall, Tick as TickCall};
 ghost use Rattle.gl_model.specs.Fits.{IsSomePlace};
-ghost use Rattle.gl_model.specs.Parts.{Once};
+ghost use Rattle.gl_model.specs.declared.device_call.DeviceCall.TheVariants.{Once};
 ghost use Rattle.gl_chip.specs.Called.{ComesOut};
 ghost use Rattle.gl_chip.specs.Results.{done_of, found_of, number_of};
 ghost use Rattle.gl_chip.specs.Values.{IsActorOf, IsSameActor};

@@ -3,7 +3,7 @@
 ghost use Rattle.std.specs.Prelude.{◌≡◌, ◌<◌, [], true, false};
 ghost use Rattle.gl_base.specs.declared.limits.TheConstants.{PLACES};
 ghost use Rattle.gl_model.specs.declared.call.Call.TheVariants.{Interrupt, Irq as IrqCall, Level as LevelCall, Pin as PinCall, Pull as PullCall};
-ghost use Rattle.gl_model.specs.Parts.{Once};
+ghost use Rattle.gl_model.specs.declared.device_call.DeviceCall.TheVariants.{Once};
 ghost use Rattle.gl_chip.specs.Called.{ComesOut};
 ghost use Rattle.gl_chip.specs.Results.{done_of, level_of};
 ghost use Rattle.gl_chip.specs.Values.{IsActorOf, IsSameActor};

@@ -7,7 +7,7 @@ ghost use Rattle.gl_base.specs.declared.limits.TheConstants.{PLACES};
 ghost use Rattle.gl_gate.specs.Calls.{KnowsTheSame};
 ghost use Rattle.gl_model.specs.declared.call.Call.TheVariants.{OpenChip};
 ghost use Rattle.gl_model.specs.declared.reply.Reply.TheVariants.{Number};
-ghost use Rattle.gl_model.specs.Parts.{Once};
+ghost use Rattle.gl_model.specs.declared.device_call.DeviceCall.TheVariants.{Once};
 ghost use Rattle.gl_model.specs.Written.{number_answered};
 ghost use Rattle.gl_chip.specs.Called.{ComesOut};
 ghost use Rattle.gl_chip.specs.Opened.{LastFinds, names_leaving, opened_of, place_named};

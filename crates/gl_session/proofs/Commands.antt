@@ -19,7 +19,9 @@ use Rattle.gl_driver.specs.declared.op.Op.{Op}
 use Rattle.gl_model.specs.declared.reply.Reply.{Reply}
 use Rattle.gl_model.specs.declared.reply.Reply.TheVariants.{Done, Number, Go, Found, Text, Ready, Refused}
 use Rattle.gl_model.specs.Entries.{begins}
-use Rattle.gl_model.specs.Parts.{CommandIn, Commanding, Makes, MakesCommand, MakesRest, in_ask, in_tell, is_driver_asked}
+use Rattle.gl_model.specs.declared.device_call.CommandIn.{CommandIn}
+use Rattle.gl_model.specs.declared.device_call.DeviceCall.TheVariants.{Commanding}
+use Rattle.gl_model.specs.Parts.{Makes, MakesCommand, MakesRest, in_ask, in_tell, is_driver_asked}
 use Rattle.gl_chip.specs.Commanding.{CommandsOut, IsCommanded, is_asked, op_for}
 use Rattle.gl_chip.specs.Commanding.{PortAfter as PortOf}
 use Rattle.gl_chip.specs.Values.{ActorValue, OneEntry, core}

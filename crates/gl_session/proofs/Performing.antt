@@ -22,7 +22,11 @@ use Rattle.gl_model.specs.declared.call.Call.TheVariants.{Probe, Unplug, MakeDir
 use Rattle.gl_model.specs.declared.reply.Reply.{Reply}
 use Rattle.gl_model.specs.declared.reply.Reply.TheVariants.{Done as DoneReply, Refused as RefusedReply}
 use Rattle.gl_model.specs.Entries.{begins}
-use Rattle.gl_model.specs.Parts.{DeviceCall, Makes, MakesAt, MakesRest, Once, Removing, RemovalOf, OfChip, OfDevice, first_call, guard_of, is_single}
+use Rattle.gl_model.specs.declared.device_call.DeviceCall.{DeviceCall}
+use Rattle.gl_model.specs.Parts.{Makes, MakesAt, MakesRest, first_call, guard_of, is_single}
+use Rattle.gl_model.specs.declared.device_call.DeviceCall.TheVariants.{Once, Removing}
+use Rattle.gl_model.specs.declared.device_call.RemovalOf.{RemovalOf}
+use Rattle.gl_model.specs.declared.device_call.RemovalOf.TheVariants.{OfChip, OfDevice}
 use Rattle.gl_model.specs.Entries.{last_call}
 use Rattle.gl_chip.specs.Called.{ComesOut, HasCalled, IsMade}
 use Rattle.gl_chip.specs.Files.{ChipFile}

@@ -29,7 +29,10 @@ use Rattle.gl_model.specs.declared.call.Call.TheVariants.{Close}
 use Rattle.gl_model.specs.declared.reply.Reply.{Reply}
 use Rattle.gl_model.specs.declared.reply.Reply.TheVariants.{Done, Number, Go, Found, Text, Ready, Refused}
 use Rattle.gl_model.specs.Entries.{begins}
-use Rattle.gl_model.specs.Parts.{CommandIn, DeviceCall, Once, Removing, Commanding, MakesAt, MakesCommand, MakesInside, MakesOne, MakesRest, MakesTwo, guard_of, is_driver_asked}
+use Rattle.gl_model.specs.declared.device_call.CommandIn.{CommandIn}
+use Rattle.gl_model.specs.declared.device_call.DeviceCall.{DeviceCall}
+use Rattle.gl_model.specs.declared.device_call.DeviceCall.TheVariants.{Once, Removing, Commanding}
+use Rattle.gl_model.specs.Parts.{MakesAt, MakesCommand, MakesInside, MakesOne, MakesRest, MakesTwo, guard_of, is_driver_asked}
 use Rattle.gl_script.specs.Columns.{columns}
 use Rattle.gl_script.specs.Cost.{section_cost, session_cost, statement_cost, words_cost}
 use Rattle.gl_script.specs.Section.{SaidSection}

@@ -15,7 +15,9 @@ use Rattle.gl_base.specs.declared.operation.Got.TheVariants.{Done as GotDone, Nu
 use Rattle.gl_uapi.specs.declared.layout.TheConstants.{LINE_REQUEST_SIZE}
 use Rattle.gl_driver.specs.declared.op.Op.{Op}
 use Rattle.gl_model.specs.Asked.{lines_asked}
-use Rattle.gl_model.specs.Parts.{DeviceCall, Once, Removing, Commanding, OfChip, OfDevice}
+use Rattle.gl_model.specs.declared.device_call.DeviceCall.{DeviceCall}
+use Rattle.gl_model.specs.declared.device_call.DeviceCall.TheVariants.{Once, Removing, Commanding}
+use Rattle.gl_model.specs.declared.device_call.RemovalOf.TheVariants.{OfChip, OfDevice}
 use Rattle.gl_model.specs.declared.call.Call.{Call}
 use Rattle.gl_model.specs.declared.call.Call.TheVariants.{Probe, MakeDir, RemoveDir, Write, Read, Live, Tick, Pin, Irq, Pull, Level, OpenChip, Find, ReadEdges, ReadInfo, PollLine, PollChip, Close}
 use Rattle.gl_model.specs.declared.reply.Reply.{Reply}

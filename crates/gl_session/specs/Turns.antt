@@ -9,7 +9,8 @@ use Rattle.gl_world.specs.Deeds.{entries_in}
 use Rattle.gl_args.specs.Program.{Program, done, print, ask}
 use Rattle.gl_driver.specs.Told.{Told, with_call, with_plan}
 use Rattle.gl_driver.specs.declared.op.Op.{Op}
-use Rattle.gl_model.specs.Parts.{DeviceCall, Makes, last_reply}
+use Rattle.gl_model.specs.declared.device_call.DeviceCall.{DeviceCall}
+use Rattle.gl_model.specs.Parts.{Makes, last_reply}
 use Rattle.gl_model.specs.declared.call.Call.{Call}
 use Rattle.gl_model.specs.declared.call.Call.TheVariants.{Ioctl}
 use Rattle.gl_model.specs.declared.call.Part.{Part}

@@ -2,7 +2,7 @@
 ghost use Rattle.std.specs.Prelude.{◌≡◌, ◌≢◌, ◌<◌, ◌^◌, ◌++◌, ℕ, List, [], Err, length, drop};
 ghost use Rattle.std.specs.List.{position};
 ghost use Rattle.gl_base.specs.declared.errno.Errno.TheVariants.{NoMemory};
-ghost use Rattle.gl_model.specs.Parts.{Once};
+ghost use Rattle.gl_model.specs.declared.device_call.DeviceCall.TheVariants.{Once};
 ghost use Rattle.gl_model.specs.declared.call.Call.TheVariants.{Close as CloseCall};
 ghost use Rattle.gl_chip.specs.Called.{ComesOut};
 ghost use Rattle.gl_chip.specs.Results.{done_of, number_of, ready_of};

@@ -1,6 +1,6 @@
 use Rattle.std.proofs.Common.{refl, sym, subst, [], ℕ, Some}
 use Rattle.gl_base.specs.declared.operation.Do.TheVariants.{Find as Asked}
-use Rattle.gl_model.specs.Parts.{Once}
+use Rattle.gl_model.specs.declared.device_call.DeviceCall.TheVariants.{Once}
 use Rattle.gl_model.specs.declared.call.Call.TheVariants.{Find as Made}
 use Rattle.gl_chip.specs.Called.{ComesOut}
 use Rattle.gl_chip.specs.Results.{found_of}

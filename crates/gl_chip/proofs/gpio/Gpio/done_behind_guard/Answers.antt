@@ -1,5 +1,5 @@
 use Rattle.std.proofs.Common.{rules, []}
-use Rattle.gl_model.specs.Parts.{Once}
+use Rattle.gl_model.specs.declared.device_call.DeviceCall.TheVariants.{Once}
 use Rattle.gl_chip.proofs.WholeCalls.{is_made, made_with_nothing}
 use Rattle.gl_chip.proofs.gpio.Gpio.done_behind_guard.Goals as goal
 

@@ -1,6 +1,6 @@
 use Rattle.std.proofs.Common.{rules, ◌≡◌, ◌^◌, ◌++◌, ℕ, List, [], length, drop, refl, subst}
 use Rattle.gl_model.specs.declared.call.Call.TheVariants.{ReadEdges}
-use Rattle.gl_model.specs.Parts.{Once}
+use Rattle.gl_model.specs.declared.device_call.DeviceCall.TheVariants.{Once}
 use Rattle.gl_model.specs.Written.{number_answered}
 use Rattle.gl_chip.specs.Called.{ComesOut}
 use Rattle.gl_chip.specs.Files.{LineFile}

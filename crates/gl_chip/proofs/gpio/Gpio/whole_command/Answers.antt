@@ -1,5 +1,6 @@
 use Rattle.std.proofs.Common.{◌≡◌, ℕ, List, ◌++◌, length, drop, false}
-use Rattle.gl_model.specs.Parts.{Commanding, in_whole}
+use Rattle.gl_model.specs.declared.device_call.DeviceCall.TheVariants.{Commanding}
+use Rattle.gl_model.specs.Parts.{in_whole}
 use Rattle.gl_chip.specs.Called.{HasCalled}
 use Rattle.gl_chip.specs.Handed.{command_in}
 use Rattle.gl_chip.proofs.GateSteps.{if_ok}
