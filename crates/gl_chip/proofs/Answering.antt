@@ -37,7 +37,7 @@ use Rattle.gl_model.proofs.Replies.{replies_have_form}
 use Rattle.gl_chip.specs.Answering.{AnswersInOrder, AtFirst, AtLast, ConfigRefused, ConfiguresInOrder, IsClaimTold, RequestRefused, RequestsInOrder}
 use Rattle.gl_chip.specs.Called.{HasCalled, first_entry, last_entry}
 use Rattle.gl_chip.specs.Commanding.{HasCommanded, PortAfter, WasAsked, is_asked}
-use Rattle.gl_chip.specs.Results.{value_of}
+use Rattle.gl_asking.specs.Results.{value_of}
 use Rattle.gl_chip.specs.Values.{ActorValue, IsIdle, OneEntry, OneView, core}
 use Rattle.gl_chip.proofs.CommandCalls.{go_is, last_entry_on, last_reply_snoc}
 use Rattle.gl_chip.proofs.CommandResults.{entry_or}

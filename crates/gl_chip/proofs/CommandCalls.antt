@@ -48,8 +48,8 @@ use Rattle.gl_model.proofs.IoCauses.{io_has_cause}
 use Rattle.gl_model.proofs.Replies.{replies_have_form}
 use Rattle.gl_chip.specs.Called.{last_bytes, last_entry}
 use Rattle.gl_chip.specs.Commanding.{CommandedInside, HasCommanded, IoComesOf, IsOp, PortAfter}
-use Rattle.gl_chip.specs.Handed.{command_in}
-use Rattle.gl_chip.proofs.HandedBytes.{handed_fits, handed_start}
+use Rattle.gl_asking.specs.Handed.{command_in}
+use Rattle.gl_asking.proofs.HandedBytes.{handed_fits, handed_start}
 use Rattle.gl_base.specs.declared.limits.TheConstants.{PLACES}
 use Rattle.gl_chip.specs.Steps.{CalledOnce, Drove, EndsWith, IsAsk, IsTell, StoodFull, deed_of}
 use Rattle.gl_chip.specs.Values.{ActorValue, IsIdle, MayOwn, OneDeed, OneEntry, OneView, core}

@@ -27,7 +27,7 @@ use Rattle.gl_model.specs.World.{World}
 use Rattle.gl_model.proofs.IoCauses.{io_has_cause}
 use Rattle.gl_chip.specs.Called.{ComesOut, HasCalled, last_entry}
 use Rattle.gl_chip.specs.Commanding.{CommandsOut, HasCommanded, IoComesOf, PortAfter, is_asked}
-use Rattle.gl_chip.specs.Results.{value_of}
+use Rattle.gl_asking.specs.Results.{value_of}
 use Rattle.gl_chip.specs.Steps.{FoundNoRoom}
 use Rattle.gl_chip.specs.Values.{ActorValue, OneEntry, OneView, core}
 use Rattle.gl_chip.proofs.CommandCalls.{not_gone_io}

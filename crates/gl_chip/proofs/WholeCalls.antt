@@ -30,7 +30,7 @@ use Rattle.gl_model.specs.Replies.{has_form}
 use Rattle.gl_model.specs.Step.{guard_reply}
 use Rattle.gl_model.proofs.Replies.{replies_have_form}
 use Rattle.gl_chip.specs.Called.{ComesOut, HasCalled, last_entry}
-use Rattle.gl_chip.specs.Results.{value_of}
+use Rattle.gl_asking.specs.Results.{value_of}
 use Rattle.gl_chip.specs.Steps.{CalledGuarded, CalledOnce, EndsWith, FoundNoRoom, IsAnswered, IsWhole, Owes, StoodFull, deed_of}
 use Rattle.gl_chip.specs.Values.{ActorValue, IsIdle, MayOwn, OneEntry, OneView, core}
 use Rattle.gl_chip.proofs.GateSteps.{is_free, knows_same}

@@ -33,7 +33,7 @@ use Rattle.gl_model.specs.Values.{bits_in, mask_in}
 use Rattle.gl_model.specs.World.{World}
 use Rattle.gl_chip.specs.Called.{EndsWithLast, HadRoom, HasCalled, last_bytes}
 use Rattle.gl_chip.specs.Files.{LineFile}
-use Rattle.gl_chip.specs.Results.{value_of}
+use Rattle.gl_asking.specs.Results.{value_of}
 use Rattle.gl_chip.specs.Steps.{FoundNoRoom}
 use Rattle.gl_chip.specs.Values.{ActorValue, MayOwn, OneDeed, OneEntry, OneView, core}
 

@@ -23,7 +23,7 @@ use Rattle.gl_model.specs.Parts.{first_call}
 use Rattle.gl_model.specs.Removal.{is_outside_tree}
 use Rattle.gl_model.specs.World.{World}
 use Rattle.gl_chip.specs.Called.{IsMade}
-use Rattle.gl_chip.specs.Results.{done_of}
+use Rattle.gl_asking.specs.Results.{done_of}
 use Rattle.gl_chip.specs.Steps.{EndsWith, FoundNoRoom, deed_of}
 use Rattle.gl_chip.specs.Values.{OneDeed, OneEntry, OneView, core}
 

@@ -12,7 +12,7 @@ ghost use Rattle.gl_model.specs.declared.device_call.RemovalOf.TheVariants.{OfCh
 ghost use Rattle.gl_chip.specs.Called.{ComesOut};
 ghost use Rattle.gl_chip.specs.Opened.{LastFinds};
 ghost use Rattle.gl_chip.specs.Removing.{EndsAsBegun, RemovesOut, is_gone_outside};
-ghost use Rattle.gl_chip.specs.Results.{done_of};
+ghost use Rattle.gl_asking.specs.Results.{done_of};
 ghost use Rattle.gl_chip.specs.Values.{IsActorOf, IsSameActor, core};
 
 use crate::actor::Actor;

@@ -31,8 +31,8 @@ use Rattle.gl_session.specs.Making.{IsCommanding, kept_with, none_made, request_
 use Rattle.gl_session.specs.Rows.{fd_of, files_of, is_chip, is_row, lines_of, place_of, row_file}
 use Rattle.gl_session.specs.declared.files.FileRow.{FileRow}
 use Rattle.gl_chip.specs.Files.{LineFile}
-use Rattle.gl_chip.specs.Handed.{command_in}
-use Rattle.gl_chip.specs.Results.{done_of}
+use Rattle.gl_asking.specs.Handed.{command_in}
+use Rattle.gl_asking.specs.Results.{done_of}
 use Rattle.gl_chip.specs.Steps.{FoundNoRoom}
 use Rattle.gl_session.specs.Files.{OpenFile, file_in}
 use Rattle.gl_session.specs.Performed.{Performs, carried}

@@ -29,10 +29,9 @@ use Rattle.gl_model.specs.declared.device_call.RemovalOf.{RemovalOf}
 use Rattle.gl_model.specs.declared.device_call.RemovalOf.TheVariants.{OfChip, OfDevice}
 use Rattle.gl_model.specs.Entries.{last_call}
 use Rattle.gl_chip.specs.Called.{ComesOut, HasCalled, IsMade}
-use Rattle.gl_chip.specs.Files.{ChipFile}
-use Rattle.gl_chip.specs.Opened.{opened_of}
+use Rattle.gl_asking.specs.Opened.{ChipFile, opened_of}
 use Rattle.gl_chip.specs.Removing.{RemovesOut}
-use Rattle.gl_chip.specs.Results.{done_of, number_of}
+use Rattle.gl_asking.specs.Results.{done_of, number_of}
 use Rattle.gl_chip.specs.Steps.{FoundNoRoom}
 use Rattle.gl_chip.specs.Values.{OneEntry, OneView, core}
 use Rattle.gl_session.specs.Answers.{came, refused_got}

@@ -41,8 +41,7 @@ use Rattle.gl_script.specs.declared.section.SectionKind.TheVariants.{Setup, Acto
 use Rattle.gl_talk.specs.Open.{Names, no_names}
 use Rattle.gl_talk.specs.Talk.{quits}
 use Rattle.gl_talk.proofs.StatementCosts.{end_cost, says_cost}
-use Rattle.gl_chip.specs.Files.{ChipFile}
-use Rattle.gl_chip.specs.Opened.{opened_of}
+use Rattle.gl_asking.specs.Opened.{ChipFile, opened_of}
 use Rattle.gl_chip.specs.Values.{OneDeed, OneEntry}
 use Rattle.gl_session.specs.Alone.{Part, actor_of, after_of, setup_of}
 use Rattle.gl_session.specs.Asking.{Asking, Calls, Plans, Refuses, asking, at_place, buffer_of, files_behind, has_lines, lines_named, made_by, made_on, on_file, once, op_asked, opened, with_request}

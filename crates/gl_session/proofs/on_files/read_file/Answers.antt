@@ -1,7 +1,7 @@
 use Rattle.std.proofs.Common.{rules, refl, sym, subst, length, ◌∙◌, ap}
 use Rattle.std.specs.Prelude.{get_or}
 use Rattle.gl_chip.specs.Called.{ComesOut}
-use Rattle.gl_chip.specs.Results.{number_of}
+use Rattle.gl_asking.specs.Results.{number_of}
 use Rattle.gl_session.specs.Rows.{row_file}
 use Rattle.gl_session.specs.declared.files.FileRow.{FileRow}
 use Rattle.gl_base.specs.declared.operation.Do.TheVariants.{ReadFile as Asked}
