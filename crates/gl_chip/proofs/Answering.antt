@@ -36,7 +36,7 @@ use Rattle.gl_model.proofs.FinishingCalls.{calls_finish_claims}
 use Rattle.gl_model.proofs.Replies.{replies_have_form}
 use Rattle.gl_chip.specs.Answering.{AnswersInOrder, AtFirst, AtLast, ConfigRefused, ConfiguresInOrder, IsClaimTold, RequestRefused, RequestsInOrder}
 use Rattle.gl_chip.specs.Called.{HasCalled, first_entry, last_entry}
-use Rattle.gl_chip.specs.Commanding.{HasCommanded, PortAfter, WasAsked, is_asked}
+use Rattle.gl_chip.specs.Commanding.{HasCommanded, PortOf, WasAsked, is_asked}
 use Rattle.gl_asking.specs.Results.{value_of}
 use Rattle.gl_chip.specs.Values.{ActorValue, IsIdle, OneEntry, OneView, core}
 use Rattle.gl_chip.proofs.CommandCalls.{go_is, last_entry_on, last_reply_snoc}
@@ -255,7 +255,7 @@ module _ {P : Type 0} (told : P → Option Told) (faults : P → ℕ) (Own : P �
     failed : AskedAndTold n c did.called.answer did.called.own made reply → did.called.answer ≡ None → Counted
     failed both none =
         let was : WasAsked told faults Own limit planned op c.place did.called.answer did.called.own a.port b.port =
-        subst (λ (l : List OneEntry). PortAfter told faults Own limit planned (is_asked l) op c.place did.called.answer did.called.own a.port b.port) both.is did.port in was.counted none
+        subst (λ (l : List OneEntry). PortOf told faults Own limit planned (is_asked l) op c.place did.called.answer did.called.own a.port b.port) both.is did.port in was.counted none
 
     last_of_two : AskedAndTold n c did.called.answer did.called.own made reply → LastTold b.pass.view (entry n (in_tell did.called.answer c) reply)
     last_of_two both = last_told limit a.pass.view b.pass.view c reply bytes did.called (entry n (in_tell did.called.answer c) reply)

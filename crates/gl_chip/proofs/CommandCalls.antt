@@ -47,7 +47,7 @@ use Rattle.gl_model.proofs.Bounds.{legal_worlds_have_bounds}
 use Rattle.gl_model.proofs.IoCauses.{io_has_cause}
 use Rattle.gl_model.proofs.Replies.{replies_have_form}
 use Rattle.gl_chip.specs.Called.{last_bytes, last_entry}
-use Rattle.gl_chip.specs.Commanding.{CommandedInside, HasCommanded, IoComesOf, IsOp, PortAfter}
+use Rattle.gl_chip.specs.Commanding.{CommandedInside, HasCommanded, IoComesOf, IsOp, PortOf}
 use Rattle.gl_asking.specs.Handed.{command_in}
 use Rattle.gl_asking.proofs.HandedBytes.{handed_fits, handed_start}
 use Rattle.gl_base.specs.declared.limits.TheConstants.{PLACES}
@@ -189,7 +189,7 @@ module _ {P : Type 0} (told : P → Option Told) (faults : P → ℕ) (Own : P �
     legal = step.legal;
     reply_is = refl;
     bytes = step.bytes;
-    port = subst (λ b. PortAfter told faults Own limit planned b op c.place None [] p p) (sym unasked) refl;
+    port = subst (λ b. PortOf told faults Own limit planned b op c.place None [] p p) (sym unasked) refl;
     never_falls = omega arith;
     io = λ is. io_asked (Rises (faults p) (faults p)) (fold core step.last.0) c.place c.fd (command_of c.cmd) c.bytes
         (io_has_cause (fold core step.last.0) v.number c.place c.fd c.cmd c.len c.bytes Ask (sym (answered_last v w (in_ask c) reply step.last step.legal) ∙ is));
@@ -233,7 +233,7 @@ module _ {P : Type 0} (told : P → Option Told) (faults : P → ℕ) (Own : P �
         legal = last.legal;
         reply_is = ap (λ l. last_reply (entry v.number (in_ask c) first ∷ l)) entries ∙ last_reply_snoc (entry v.number (in_ask c) first ∷ own) second;
         bytes = subst (λ (l : List ℕ). new ≡ l ++ drop (length l) old) (sym (last_bytes_snoc (ask_deed ∷ did) told_deed)) (subst (λ (m : List ℕ). new ≡ last.wrote ++ drop (length last.wrote) m) (go_left_buffer v w c first old mid step go) last.bytes);
-        port = subst (λ b. PortAfter told faults Own limit planned b op c.place answer own p q) (sym go) record { asked_for = asked_for; is_this = this; told_then = told_then; own_entries = its; counted = counted; as_planned = plan; count_after = after };
+        port = subst (λ b. PortOf told faults Own limit planned b op c.place answer own p q) (sym go) record { asked_for = asked_for; is_this = this; told_then = told_then; own_entries = its; counted = counted; as_planned = plan; count_after = after };
         never_falls = never;
         io = λ is. io_told (Rises (faults p) (faults q)) answer (fold core ends.0) c.place c.fd (command_of c.cmd) c.bytes counted
             (io_has_cause (fold core ends.0) v.number c.place c.fd c.cmd c.len c.bytes (Tell answer) (sym answered ∙ is));

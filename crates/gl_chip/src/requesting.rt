@@ -52,7 +52,7 @@ pub(crate) fn requested(place: u8, lines: &Lines, reply: Reply) -> Result<Option
 }
 
 /// The memory that an ask of GET_LINE brings: none, where its bytes alone have it refused.
-fn ring_for(asking: &Call, op: &Option<Op>, alloc: Global) -> Result<Gift, Errno>
+pub(crate) fn ring_for(asking: &Call, op: &Option<Op>, alloc: Global) -> Result<Gift, Errno>
     requires none { op.now ≡ None → (gift : AGift) → FitsGift asking.now gift }
     ensures ok { IfOk result (λ gift. FitsGift asking.now gift) }
     ensures memory { IfErr result (λ e. (e ≡ NoMemory) × (op.now ≢ None)) }
