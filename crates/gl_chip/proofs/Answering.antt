@@ -26,7 +26,9 @@ use Rattle.gl_model.specs.Entries.{is_get_line, is_go}
 use Rattle.gl_model.specs.Ioctl.{by_number}
 use Rattle.gl_model.specs.OneClaim.{claims_of, first_get_line, told_reply}
 use Rattle.gl_model.specs.OpenFiles.{is_whole}
-use Rattle.gl_model.specs.Parts.{CommandIn, Commanding, MakesAt, MakesCommand, MakesRest, MakesTwo, in_ask, in_tell, is_driver_asked, last_reply}
+use Rattle.gl_model.specs.declared.device_call.CommandIn.{CommandIn}
+use Rattle.gl_model.specs.declared.device_call.DeviceCall.TheVariants.{Commanding}
+use Rattle.gl_model.specs.Parts.{MakesAt, MakesCommand, MakesRest, MakesTwo, in_ask, in_tell, is_driver_asked, last_reply}
 use Rattle.gl_model.specs.Replies.{has_form, numbered_form}
 use Rattle.gl_model.specs.Step.{guard_reply}
 use Rattle.gl_model.specs.World.{World, Request}
@@ -34,8 +36,8 @@ use Rattle.gl_model.proofs.FinishingCalls.{calls_finish_claims}
 use Rattle.gl_model.proofs.Replies.{replies_have_form}
 use Rattle.gl_chip.specs.Answering.{AnswersInOrder, AtFirst, AtLast, ConfigRefused, ConfiguresInOrder, IsClaimTold, RequestRefused, RequestsInOrder}
 use Rattle.gl_chip.specs.Called.{HasCalled, first_entry, last_entry}
-use Rattle.gl_chip.specs.Commanding.{HasCommanded, PortAfter, WasAsked, is_asked}
-use Rattle.gl_chip.specs.Results.{value_of}
+use Rattle.gl_chip.specs.Commanding.{HasCommanded, PortOf, WasAsked, is_asked}
+use Rattle.gl_asking.specs.Results.{value_of}
 use Rattle.gl_chip.specs.Values.{ActorValue, IsIdle, OneEntry, OneView, core}
 use Rattle.gl_chip.proofs.CommandCalls.{go_is, last_entry_on, last_reply_snoc}
 use Rattle.gl_chip.proofs.CommandResults.{entry_or}
@@ -253,7 +255,7 @@ module _ {P : Type 0} (told : P → Option Told) (faults : P → ℕ) (Own : P �
     failed : AskedAndTold n c did.called.answer did.called.own made reply → did.called.answer ≡ None → Counted
     failed both none =
         let was : WasAsked told faults Own limit planned op c.place did.called.answer did.called.own a.port b.port =
-        subst (λ (l : List OneEntry). PortAfter told faults Own limit planned (is_asked l) op c.place did.called.answer did.called.own a.port b.port) both.is did.port in was.counted none
+        subst (λ (l : List OneEntry). PortOf told faults Own limit planned (is_asked l) op c.place did.called.answer did.called.own a.port b.port) both.is did.port in was.counted none
 
     last_of_two : AskedAndTold n c did.called.answer did.called.own made reply → LastTold b.pass.view (entry n (in_tell did.called.answer c) reply)
     last_of_two both = last_told limit a.pass.view b.pass.view c reply bytes did.called (entry n (in_tell did.called.answer c) reply)

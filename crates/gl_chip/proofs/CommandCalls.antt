@@ -36,7 +36,9 @@ use Rattle.gl_model.specs.declared.reply.Reply.{Reply}
 use Rattle.gl_model.specs.declared.reply.Reply.TheVariants.{Done, Number, Go, Found, Text, Ready, Refused}
 use Rattle.gl_model.specs.Entries.{is_go, is_tell}
 use Rattle.gl_model.specs.Fits.{Fits, FitsGift}
-use Rattle.gl_model.specs.Parts.{CommandIn, Commanding, MakesCommand, MakesRest, MakesTwo, in_ask, in_tell, is_driver_asked, last_reply}
+use Rattle.gl_model.specs.declared.device_call.CommandIn.{CommandIn}
+use Rattle.gl_model.specs.declared.device_call.DeviceCall.TheVariants.{Commanding}
+use Rattle.gl_model.specs.Parts.{MakesCommand, MakesRest, MakesTwo, in_ask, in_tell, is_driver_asked, last_reply}
 use Rattle.gl_model.specs.Replies.{IoCause, has_form}
 use Rattle.gl_model.specs.Step.{guard_reply}
 use Rattle.gl_model.specs.World.{World}
@@ -45,9 +47,9 @@ use Rattle.gl_model.proofs.Bounds.{legal_worlds_have_bounds}
 use Rattle.gl_model.proofs.IoCauses.{io_has_cause}
 use Rattle.gl_model.proofs.Replies.{replies_have_form}
 use Rattle.gl_chip.specs.Called.{last_bytes, last_entry}
-use Rattle.gl_chip.specs.Commanding.{CommandedInside, HasCommanded, IoComesOf, IsOp, PortAfter}
-use Rattle.gl_chip.specs.Handed.{command_in}
-use Rattle.gl_chip.proofs.HandedBytes.{handed_fits, handed_start}
+use Rattle.gl_chip.specs.Commanding.{CommandedInside, HasCommanded, IoComesOf, IsOp, PortOf}
+use Rattle.gl_asking.specs.Handed.{command_in}
+use Rattle.gl_asking.proofs.HandedBytes.{handed_fits, handed_start}
 use Rattle.gl_base.specs.declared.limits.TheConstants.{PLACES}
 use Rattle.gl_chip.specs.Steps.{CalledOnce, Drove, EndsWith, IsAsk, IsTell, StoodFull, deed_of}
 use Rattle.gl_chip.specs.Values.{ActorValue, IsIdle, MayOwn, OneDeed, OneEntry, OneView, core}
@@ -187,7 +189,7 @@ module _ {P : Type 0} (told : P → Option Told) (faults : P → ℕ) (Own : P �
     legal = step.legal;
     reply_is = refl;
     bytes = step.bytes;
-    port = subst (λ b. PortAfter told faults Own limit planned b op c.place None [] p p) (sym unasked) refl;
+    port = subst (λ b. PortOf told faults Own limit planned b op c.place None [] p p) (sym unasked) refl;
     never_falls = omega arith;
     io = λ is. io_asked (Rises (faults p) (faults p)) (fold core step.last.0) c.place c.fd (command_of c.cmd) c.bytes
         (io_has_cause (fold core step.last.0) v.number c.place c.fd c.cmd c.len c.bytes Ask (sym (answered_last v w (in_ask c) reply step.last step.legal) ∙ is));
@@ -231,7 +233,7 @@ module _ {P : Type 0} (told : P → Option Told) (faults : P → ℕ) (Own : P �
         legal = last.legal;
         reply_is = ap (λ l. last_reply (entry v.number (in_ask c) first ∷ l)) entries ∙ last_reply_snoc (entry v.number (in_ask c) first ∷ own) second;
         bytes = subst (λ (l : List ℕ). new ≡ l ++ drop (length l) old) (sym (last_bytes_snoc (ask_deed ∷ did) told_deed)) (subst (λ (m : List ℕ). new ≡ last.wrote ++ drop (length last.wrote) m) (go_left_buffer v w c first old mid step go) last.bytes);
-        port = subst (λ b. PortAfter told faults Own limit planned b op c.place answer own p q) (sym go) record { asked_for = asked_for; is_this = this; told_then = told_then; own_entries = its; counted = counted; as_planned = plan; count_after = after };
+        port = subst (λ b. PortOf told faults Own limit planned b op c.place answer own p q) (sym go) record { asked_for = asked_for; is_this = this; told_then = told_then; own_entries = its; counted = counted; as_planned = plan; count_after = after };
         never_falls = never;
         io = λ is. io_told (Rises (faults p) (faults q)) answer (fold core ends.0) c.place c.fd (command_of c.cmd) c.bytes counted
             (io_has_cause (fold core ends.0) v.number c.place c.fd c.cmd c.len c.bytes (Tell answer) (sym answered ∙ is));

@@ -18,14 +18,16 @@ use Rattle.gl_model.specs.declared.call.Part.TheVariants.{Whole}
 use Rattle.gl_model.specs.declared.reply.Reply.{Reply}
 use Rattle.gl_model.specs.declared.reply.Reply.TheVariants.{Refused}
 use Rattle.gl_model.specs.Entries.{is_tell}
-use Rattle.gl_model.specs.Parts.{CommandIn, Commanding, MakesAt, MakesCommand, guard_of, in_whole, is_driver_asked}
+use Rattle.gl_model.specs.declared.device_call.CommandIn.{CommandIn}
+use Rattle.gl_model.specs.declared.device_call.DeviceCall.TheVariants.{Commanding}
+use Rattle.gl_model.specs.Parts.{MakesAt, MakesCommand, guard_of, in_whole, is_driver_asked}
 use Rattle.gl_model.specs.Replies.{IoCause}
 use Rattle.gl_model.specs.Step.{guard_reply}
 use Rattle.gl_model.specs.World.{World}
 use Rattle.gl_model.proofs.IoCauses.{io_has_cause}
 use Rattle.gl_chip.specs.Called.{ComesOut, HasCalled, last_entry}
-use Rattle.gl_chip.specs.Commanding.{CommandsOut, HasCommanded, IoComesOf, PortAfter, is_asked}
-use Rattle.gl_chip.specs.Results.{value_of}
+use Rattle.gl_chip.specs.Commanding.{CommandsOut, HasCommanded, IoComesOf, PortOf, is_asked}
+use Rattle.gl_asking.specs.Results.{value_of}
 use Rattle.gl_chip.specs.Steps.{FoundNoRoom}
 use Rattle.gl_chip.specs.Values.{ActorValue, OneEntry, OneView, core}
 use Rattle.gl_chip.proofs.CommandCalls.{not_gone_io}
@@ -99,7 +101,7 @@ module _ {P : Type 0} (told : P → Option Told) (faults : P → ℕ) (Own : P �
       guard = called.guard;
       knows_as_much = called.knows_as_much;
     };
-    port = subst (λ asked. PortAfter told faults Own limit planned asked op c.place called.answer called.own a.port b.port)
+    port = subst (λ asked. PortOf told faults Own limit planned asked op c.place called.answer called.own a.port b.port)
         (sym (none_asked a.pass.view.number called.closed c called.answer called.own (entries_in called.did) not_asked called.makes.1)) same;
     never_falls = subst (λ x. faults a.port ≤ faults x) (sym same) (omega arith);
     io = λ is. let h = called_last 0 a.pass.view b.pass.view c reply bytes called in

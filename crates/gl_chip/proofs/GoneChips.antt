@@ -22,7 +22,7 @@ use Rattle.gl_model.specs.Removal.{begin_unplug, end_unplug, is_actor, is_outsid
 use Rattle.gl_model.specs.World.{World}
 use Rattle.gl_chip.specs.Opened.{LastFinds}
 use Rattle.gl_chip.specs.Removing.{HasEnded, is_gone_outside}
-use Rattle.gl_chip.specs.Results.{done_of}
+use Rattle.gl_asking.specs.Results.{done_of}
 use Rattle.gl_chip.specs.Values.{OneEntry, OneView, core}
 use Rattle.gl_chip.proofs.CommandCalls.{answered_last}
 use Rattle.gl_chip.proofs.OpenedChips.{found_last, is_no_dev}

@@ -11,5 +11,7 @@ pub mod RequestedFiles
 pub mod RequestedLines
 pub mod CommandCalls
 pub mod CommandResults
+pub mod Telling
+pub mod OrderedCalls
 pub mod FaultyLines
 pub mod Answering

@@ -20,15 +20,16 @@ use Rattle.gl_model.specs.Chips.{is_leaving, phase_at}
 use Rattle.gl_model.specs.OpenFiles.{number_refusal, open_count}
 use Rattle.gl_model.specs.Opening.{open_at, with_file}
 use Rattle.gl_model.specs.Outcome.{numbers, refused_or}
-use Rattle.gl_model.specs.Parts.{Once, last_reply}
+use Rattle.gl_model.specs.declared.device_call.DeviceCall.TheVariants.{Once}
+use Rattle.gl_model.specs.Parts.{last_reply}
 use Rattle.gl_model.specs.Replies.{has_form}
 use Rattle.gl_model.specs.World.{World}
 use Rattle.gl_model.proofs.Bounds.{legal_worlds_have_bounds}
 use Rattle.gl_model.proofs.Columns.{read_past}
 use Rattle.gl_chip.proofs.WholeCalls.{errno_is_told}
 use Rattle.gl_chip.specs.Called.{HasCalled, last_entry}
-use Rattle.gl_chip.specs.Files.{ChipFile}
-use Rattle.gl_chip.specs.Opened.{LastFinds, file_in, is_leaving_at, names_leaving, opened_of, place_named, place_or_first}
+use Rattle.gl_asking.specs.Opened.{ChipFile, file_in, opened_of, place_named, place_or_first}
+use Rattle.gl_chip.specs.Opened.{LastFinds, is_leaving_at, names_leaving}
 use Rattle.gl_chip.specs.Values.{OneEntry, OneView, core}
 
 abbrev pub is_no_dev : Reply → Bool

@@ -23,7 +23,11 @@ use Rattle.gl_model.specs.Entries.{awaited_call, begins, begun_places, ends, gua
 use Rattle.gl_model.specs.Fits.{Fits, FitsCall}
 use Rattle.gl_model.specs.Machine.{bytes_of, reply_of}
 use Rattle.gl_model.specs.Outcome.{refused_or, writes}
-use Rattle.gl_model.specs.Parts.{DeviceCall, MakesRest, MakesTwo, OfChip, OfDevice, RemovalOf, Removing, first_call, guard_of}
+use Rattle.gl_model.specs.declared.device_call.DeviceCall.{DeviceCall}
+use Rattle.gl_model.specs.Parts.{MakesRest, MakesTwo, first_call, guard_of}
+use Rattle.gl_model.specs.declared.device_call.RemovalOf.TheVariants.{OfChip, OfDevice}
+use Rattle.gl_model.specs.declared.device_call.RemovalOf.{RemovalOf}
+use Rattle.gl_model.specs.declared.device_call.DeviceCall.TheVariants.{Removing}
 use Rattle.gl_model.specs.Removal.{removal_bytes, up_places}
 use Rattle.gl_model.specs.World.{World}
 use Rattle.gl_model.specs.Replies.{has_form}
@@ -33,7 +37,7 @@ use Rattle.gl_model.proofs.EndingRemovals.{last_calls_are_done}
 use Rattle.gl_model.proofs.Phases.{length-places_from, read_places, within_chips}
 use Rattle.gl_chip.specs.Called.{HasCalled}
 use Rattle.gl_chip.specs.Removing.{AllDrained, EndsAsBegun, HasBegun, HasDrained, HasEnded, RemovedBy, RemovesOut, is_first_call, removal_of}
-use Rattle.gl_chip.specs.Results.{done_of}
+use Rattle.gl_asking.specs.Results.{done_of}
 use Rattle.gl_chip.specs.Steps.{FoundNoRoom, deed_of}
 use Rattle.gl_chip.specs.Values.{IsIdle, MayOwn, OneEntry, OneView, core}
 use Rattle.gl_chip.proofs.GateSteps.{free_owes, is_free, knows_on, knows_same, own_in_front, owes_refused, stood_full}

@@ -21,7 +21,9 @@ use Rattle.gl_model.specs.Entries.{is_ask, is_done, is_get_line, is_go}
 use Rattle.gl_model.specs.Ioctl.{by_number}
 use Rattle.gl_model.specs.OpenFiles.{kind_refusal}
 use Rattle.gl_model.specs.Outcome.{Outcome, refused_or}
-use Rattle.gl_model.specs.Parts.{CommandIn, Commanding, MakesAt, MakesCommand, MakesRest, guard_of, in_ask, in_tell, in_whole, is_driver_asked}
+use Rattle.gl_model.specs.declared.device_call.CommandIn.{CommandIn}
+use Rattle.gl_model.specs.declared.device_call.DeviceCall.TheVariants.{Commanding}
+use Rattle.gl_model.specs.Parts.{MakesAt, MakesCommand, MakesRest, guard_of, in_ask, in_tell, in_whole, is_driver_asked}
 use Rattle.gl_model.specs.Replies.{has_form, is_go_below, is_number, numbered_form}
 use Rattle.gl_model.specs.Step.{guard_reply}
 use Rattle.gl_model.specs.World.{World}

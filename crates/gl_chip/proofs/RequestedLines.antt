@@ -33,7 +33,7 @@ use Rattle.gl_model.specs.World.{World, Request, has_number, request_at}
 use Rattle.gl_model.specs.Written.{number_answered}
 use Rattle.gl_model.proofs.Requests.{claim_by_any}
 use Rattle.gl_chip.specs.Commanding.{IsOp, IsOpAfterGo, TakesMemory, op_of, op_requested}
-use Rattle.gl_chip.specs.Handed.{command_in, handed_in}
+use Rattle.gl_asking.specs.Handed.{command_in, handed_in}
 
 abbrev is_request : Option Request → Bool
 is_request (Some request) = true

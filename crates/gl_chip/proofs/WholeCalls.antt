@@ -22,12 +22,15 @@ use Rattle.gl_model.specs.Entries.{guarded_place, refused_place}
 use Rattle.gl_model.specs.Fits.{FitsCall}
 use Rattle.gl_model.specs.Written.{bytes_written, number_answered}
 use Rattle.gl_model.proofs.LegalLengths.{legal_replies_tell_lengths}
-use Rattle.gl_model.specs.Parts.{CommandIn, DeviceCall, MakesAt, MakesCommand, MakesInside, Commanding, Once, device_has, guard_of, in_whole, is_driver_asked, is_poll, is_single, last_reply}
+use Rattle.gl_model.specs.declared.device_call.CommandIn.{CommandIn}
+use Rattle.gl_model.specs.declared.device_call.DeviceCall.{DeviceCall}
+use Rattle.gl_model.specs.Parts.{MakesAt, MakesCommand, MakesInside, device_has, guard_of, in_whole, is_driver_asked, is_poll, is_single, last_reply}
+use Rattle.gl_model.specs.declared.device_call.DeviceCall.TheVariants.{Commanding, Once}
 use Rattle.gl_model.specs.Replies.{has_form}
 use Rattle.gl_model.specs.Step.{guard_reply}
 use Rattle.gl_model.proofs.Replies.{replies_have_form}
 use Rattle.gl_chip.specs.Called.{ComesOut, HasCalled, last_entry}
-use Rattle.gl_chip.specs.Results.{value_of}
+use Rattle.gl_asking.specs.Results.{value_of}
 use Rattle.gl_chip.specs.Steps.{CalledGuarded, CalledOnce, EndsWith, FoundNoRoom, IsAnswered, IsWhole, Owes, StoodFull, deed_of}
 use Rattle.gl_chip.specs.Values.{ActorValue, IsIdle, MayOwn, OneEntry, OneView, core}
 use Rattle.gl_chip.proofs.GateSteps.{is_free, knows_same}

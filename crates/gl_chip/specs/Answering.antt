@@ -16,7 +16,8 @@ use Rattle.gl_model.specs.Claiming.{line_refusal}
 use Rattle.gl_model.specs.Configuring.{directed_fault}
 use Rattle.gl_model.specs.Entries.{is_get_line}
 use Rattle.gl_model.specs.OpenFiles.{chip_file_refusal, number_refusal, request_file_refusal}
-use Rattle.gl_model.specs.Parts.{CommandIn, in_ask, in_tell}
+use Rattle.gl_model.specs.declared.device_call.CommandIn.{CommandIn}
+use Rattle.gl_model.specs.Parts.{in_ask, in_tell}
 use Rattle.gl_model.specs.Places.{place_at}
 use Rattle.gl_model.specs.World.{World, Request, request_at}
 use Rattle.gl_chip.specs.Values.{OneEntry, OneView, core}

@@ -7,7 +7,8 @@ use Rattle.gl_world.specs.History.{Legal, entries_of}
 use Rattle.gl_gate.specs.Calls.{KnowsAsMuch, KnowsClosed}
 use Rattle.gl_gate.specs.Grown.{Grew}
 use Rattle.gl_model.specs.declared.reply.Reply.{Reply}
-use Rattle.gl_model.specs.Parts.{DeviceCall, Makes, guard_of, is_poll, last_reply}
+use Rattle.gl_model.specs.declared.device_call.DeviceCall.{DeviceCall}
+use Rattle.gl_model.specs.Parts.{Makes, guard_of, is_poll, last_reply}
 use Rattle.gl_model.specs.Step.{guard_reply}
 use Rattle.gl_chip.specs.Steps.{EndsWith, FoundNoRoom}
 use Rattle.gl_chip.specs.Values.{MayOwn, OneDeed, OneEntry, OneView, core}

@@ -23,7 +23,9 @@ use Rattle.gl_model.specs.declared.reply.Reply.TheVariants.{Number, Go, Refused}
 use Rattle.gl_model.specs.Asked.{asked_in, lines_asked, request_fault}
 use Rattle.gl_model.specs.Entries.{begins}
 use Rattle.gl_model.specs.Machine.{reply_of}
-use Rattle.gl_model.specs.Parts.{CommandIn, Commanding, MakesTwo, in_ask, in_tell, is_driver_asked, last_reply}
+use Rattle.gl_model.specs.declared.device_call.CommandIn.{CommandIn}
+use Rattle.gl_model.specs.declared.device_call.DeviceCall.TheVariants.{Commanding}
+use Rattle.gl_model.specs.Parts.{MakesTwo, in_ask, in_tell, is_driver_asked, last_reply}
 use Rattle.gl_model.specs.Places.{place_at}
 use Rattle.gl_model.specs.Replies.{AsksLockedOutput, SetsLockedOutput}
 use Rattle.gl_model.specs.Step.{guard_reply}
@@ -31,7 +33,7 @@ use Rattle.gl_model.specs.Values.{bits_in, mask_in}
 use Rattle.gl_model.specs.World.{World}
 use Rattle.gl_chip.specs.Called.{EndsWithLast, HadRoom, HasCalled, last_bytes}
 use Rattle.gl_chip.specs.Files.{LineFile}
-use Rattle.gl_chip.specs.Results.{value_of}
+use Rattle.gl_asking.specs.Results.{value_of}
 use Rattle.gl_chip.specs.Steps.{FoundNoRoom}
 use Rattle.gl_chip.specs.Values.{ActorValue, MayOwn, OneDeed, OneEntry, OneView, core}
 
@@ -107,16 +109,16 @@ module _ {P : Type 0} (told : P → Option Told) (faults : P → ℕ) (Own : P �
     pub count_after : faults q ≡ faults_after answer (faults p)
 
   -- the port after a command that asked the driver, or didn't
-  abbrev pub PortAfter : Bool → Option Op → ℕ → Option ℕ → List OneEntry → P → P → Type 0
-  PortAfter true op place answer own p q = WasAsked op place answer own p q
-  PortAfter false op place answer own p q = q ≡ p
+  abbrev pub PortOf : Bool → Option Op → ℕ → Option ℕ → List OneEntry → P → P → Type 0
+  PortOf true op place answer own p q = WasAsked op place answer own p q
+  PortOf false op place answer own p q = q ≡ p
 
   -- One command, by an actor who was a and is b then, for which the driver is asked this if it is asked. It is a call of the device
   -- (`HasCalled`). After Go, and only then, the driver was asked once, and the tell holds what it answered. EIO comes only from the
   -- driver, whose port has counted that, or from a line that is locked.
   pub record HasCommanded (op : Option Op) (a : ActorValue P) (c : CommandIn) (reply : Reply) (bytes : List ℕ) (b : ActorValue P) : Type 0 where
     pub called : HasCalled limit a.pass.view (Commanding c) reply bytes b.pass.view
-    pub port : PortAfter (is_asked (entries_in called.did)) op c.place called.answer called.own a.port b.port
+    pub port : PortOf (is_asked (entries_in called.did)) op c.place called.answer called.own a.port b.port
     pub never_falls : faults a.port ≤ faults b.port
     pub io : reply ≡ Refused Io → IoComesOf (Rises (faults a.port) (faults b.port)) (fold core called.last.at.0) c.place c.fd (command_of c.cmd) c.bytes
 
@@ -134,7 +136,7 @@ module _ {P : Type 0} (told : P → Option Told) (faults : P → ℕ) (Own : P �
     pub legal : Legal core w.seen
     pub reply_is : last_reply (entries_in did) ≡ Some reply
     pub bytes : new ≡ last_bytes did ++ drop (length (last_bytes did)) old
-    pub port : PortAfter (is_asked (entries_in did)) op c.place answer own p q
+    pub port : PortOf (is_asked (entries_in did)) op c.place answer own p q
     pub never_falls : faults p ≤ faults q
     pub io : reply ≡ Refused Io → IoComesOf (Rises (faults p) (faults q)) (fold core last.at.0) c.place c.fd (command_of c.cmd) c.bytes
     pub let_in : reply ≢ guard_reply false

@@ -3,11 +3,6 @@ use Rattle.std.specs.Prelude.{ℕ, Result, Ok, Err}
 use Rattle.gl_base.specs.declared.errno.Errno.{Errno}
 use Rattle.gl_base.specs.declared.lines.Lines.{Lines}
 
--- an open chip: its place, and the number of the file
-pub record ChipFile : Type 0 where
-  pub place : ℕ
-  pub fd : ℕ
-
 -- an open request: the place of its lines, its number, and the lines
 pub record LineFile : Type 0 where
   pub place : ℕ

@@ -16,11 +16,14 @@ use Rattle.gl_model.specs.declared.reply.Reply.{Reply}
 use Rattle.gl_model.specs.declared.reply.Reply.TheVariants.{Done, Refused}
 use Rattle.gl_model.specs.Chips.{phase_at}
 use Rattle.gl_model.specs.Entries.{awaited_call, begun_places, last_call}
-use Rattle.gl_model.specs.Parts.{DeviceCall, RemovalOf, OfChip, OfDevice, first_call}
+use Rattle.gl_model.specs.declared.device_call.DeviceCall.{DeviceCall}
+use Rattle.gl_model.specs.declared.device_call.RemovalOf.{RemovalOf}
+use Rattle.gl_model.specs.declared.device_call.RemovalOf.TheVariants.{OfChip, OfDevice}
+use Rattle.gl_model.specs.Parts.{first_call}
 use Rattle.gl_model.specs.Removal.{is_outside_tree}
 use Rattle.gl_model.specs.World.{World}
 use Rattle.gl_chip.specs.Called.{IsMade}
-use Rattle.gl_chip.specs.Results.{done_of}
+use Rattle.gl_asking.specs.Results.{done_of}
 use Rattle.gl_chip.specs.Steps.{EndsWith, FoundNoRoom, deed_of}
 use Rattle.gl_chip.specs.Values.{OneDeed, OneEntry, OneView, core}
 

@@ -5,10 +5,11 @@ ghost use Rattle.gl_base.specs.Lines.{IsLineCount};
 ghost use Rattle.gl_driver.specs.Calls.{FitsOp};
 ghost use Rattle.gl_uapi.specs.Command.{command_of, size_of};
 ghost use Rattle.gl_uapi.specs.declared.layout.TheConstants.{LINE_REQUEST_SIZE};
-ghost use Rattle.gl_model.specs.Asked.{lines_asked, request_fault};
+ghost use Rattle.gl_model.specs.Asked.{request_fault};
 ghost use Rattle.gl_model.specs.Parts.{is_driver_asked};
 ghost use Rattle.gl_chip.specs.Commanding.{op_of, op_requested};
 
+use gl_asking::lines_in;
 use gl_attrs::{resolve, settings_of};
 use gl_base::{LINES_PER_REQUEST, Lines};
 use gl_driver::Op;
@@ -76,27 +77,6 @@ pub(crate) fn line_op(
         None => None,
         Some(command) => op_on_lines(lines, command, len, bytes),
     }
-}
-
-/// The lines that a request names, in order.
-fn lines_in(request: &RequestRef<'_>) -> Lines
-    ensures { result ≡ lines_asked request.now }
-{
-    let mut offsets = [0; LINES_PER_REQUEST as usize];
-    for i in 0..LINES_PER_REQUEST {
-        offsets[i as usize] = request.offset(i);
-    }
-    Lines {
-        count: request.num_lines(),
-        offsets,
-    }
-}
-
-/// The lines that the bytes of a request name, in order, as many as the bytes say.
-pub(crate) fn lines_named(bytes: &[u8; LINE_REQUEST_SIZE]) -> Lines
-    ensures { result ≡ lines_asked (take LINE_REQUEST_SIZE bytes.now) }
-{
-    lines_in(&RequestRef::of(bytes).unwrap())
 }
 
 /// What the driver is asked for a request of lines: nothing, where its bytes alone have it refused.

@@ -5,9 +5,9 @@ ghost use Rattle.gl_base.specs.declared.limits.TheConstants.{LINES_MAX, PLACES};
 ghost use Rattle.gl_gate.specs.Calls.{KnowsTheSame};
 ghost use Rattle.gl_model.specs.declared.call.Call.TheVariants.{Find as FindCall, Probe as ProbeCall, Tick as TickCall};
 ghost use Rattle.gl_model.specs.Fits.{IsSomePlace};
-ghost use Rattle.gl_model.specs.Parts.{Once};
+ghost use Rattle.gl_model.specs.declared.device_call.DeviceCall.TheVariants.{Once};
 ghost use Rattle.gl_chip.specs.Called.{ComesOut};
-ghost use Rattle.gl_chip.specs.Results.{done_of, found_of, number_of};
+ghost use Rattle.gl_asking.specs.Results.{done_of, found_of, number_of};
 ghost use Rattle.gl_chip.specs.Values.{IsActorOf, IsSameActor};
 
 use crate::actor::Actor;
@@ -41,7 +41,7 @@ impl<D: Driver<Core>> Gpio<D> {
         ensures called { ComesOut number_of result actor.old.pass.view (Once (ProbeCall label lines kind)) [] actor.new.pass.view }
     {
         let mut gift = nothing();
-        match self.unguarded(rt, actor, Call::Probe { label, lines, kind }, &mut gift) {
+        match self.plain(rt, actor, Call::Probe { label, lines, kind }, &mut gift) {
             Ok(reply) => results::place(reply),
             Err(errno) => Err(errno),
         }
@@ -87,7 +87,7 @@ impl<D: Driver<Core>> Gpio<D> {
         ensures called { ComesOut found_of result actor.old.pass.view (Once (FindCall place name.now)) [] actor.new.pass.view }
     {
         let mut gift = nothing();
-        match self.unguarded(rt, actor, Call::Find { place, name: *name }, &mut gift) {
+        match self.plain(rt, actor, Call::Find { place, name: *name }, &mut gift) {
             Ok(reply) => results::found(reply),
             Err(errno) => Err(errno),
         }

@@ -12,7 +12,7 @@ ghost use Rattle.gl_model.specs.Entries.{is_go};
 ghost use Rattle.gl_model.specs.Fits.{FitsGift};
 ghost use Rattle.gl_model.specs.Parts.{in_ask, is_driver_asked};
 ghost use Rattle.gl_chip.specs.Commanding.{CommandedInside, IsOp, IsOpAfterGo, HasCommanded};
-ghost use Rattle.gl_chip.specs.Handed.{command_in};
+ghost use Rattle.gl_asking.specs.Handed.{command_in};
 ghost use Rattle.gl_chip.specs.Steps.{FoundNoRoom, Owes, StoodFull};
 ghost use Rattle.gl_chip.specs.Values.{IsActorOf, IsSameActor, core};
 
@@ -20,8 +20,8 @@ use crate::actor::Actor;
 use crate::commands::OpenFile;
 use crate::driving::{ask, drive, tell};
 use crate::gpio::Gpio;
-use crate::handed::handed_in;
 use crate::steps::alone;
+use gl_asking::handed_in;
 use gl_base::Errno;
 use gl_core::{Call, Core, Gift, Part, Reply};
 use gl_driver::{Driver, Op};

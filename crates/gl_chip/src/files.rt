@@ -13,7 +13,7 @@ pub struct ChipFd {
 impl Model for ChipFd {
     ghost use Rattle.std.specs.Prelude.{◌<◌};
     ghost use Rattle.gl_base.specs.declared.limits.TheConstants.{PLACES};
-    ghost use Rattle.gl_chip.specs.Files.{ChipFile};
+    ghost use Rattle.gl_asking.specs.Opened.{ChipFile};
 
     ghost Value = { ChipFile };
 

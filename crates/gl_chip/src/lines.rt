@@ -3,13 +3,14 @@
 ghost use Rattle.std.specs.Prelude.{◌≡◌, ◌<◌, [], true, false};
 ghost use Rattle.gl_base.specs.declared.limits.TheConstants.{PLACES};
 ghost use Rattle.gl_model.specs.declared.call.Call.TheVariants.{Interrupt, Irq as IrqCall, Level as LevelCall, Pin as PinCall, Pull as PullCall};
-ghost use Rattle.gl_model.specs.Parts.{Once};
+ghost use Rattle.gl_model.specs.declared.device_call.DeviceCall.TheVariants.{Once};
 ghost use Rattle.gl_chip.specs.Called.{ComesOut};
-ghost use Rattle.gl_chip.specs.Results.{done_of, level_of};
+ghost use Rattle.gl_asking.specs.Results.{done_of, level_of};
 ghost use Rattle.gl_chip.specs.Values.{IsActorOf, IsSameActor};
 
 use crate::actor::Actor;
 use crate::gpio::Gpio;
+use crate::inner::nothing;
 use crate::results;
 use gl_base::{Errno, IrqDo, PinDo};
 use gl_core::{Call, Core};
@@ -36,7 +37,7 @@ impl<D: Driver<Core>> Gpio<D> {
         ensures port { actor.new.port ≡ actor.old.port }
         ensures called { ComesOut done_of result actor.old.pass.view (Once (PullCall place offset up)) [] actor.new.pass.view }
     {
-        self.done_behind_guard(rt, actor, place, Call::Pull { place, offset, up })
+        self.done_alone(rt, actor, Call::Pull { place, offset, up })
     }
 
     /// The physical level of a line of a simulated chip: true for high.
@@ -102,7 +103,7 @@ impl<D: Driver<Core>> Gpio<D> {
             offset,
             pull,
         };
-        match self.behind_guard(rt, actor, place, call, false, &mut []) {
+        match self.plain(rt, actor, call, &mut nothing()) {
             Ok(reply) => results::level(reply),
             Err(errno) => Err(errno),
         }
@@ -127,7 +128,7 @@ impl<D: Driver<Core>> Gpio<D> {
         ensures port { actor.new.port ≡ actor.old.port }
         ensures called { ComesOut done_of result actor.old.pass.view (Once (Interrupt place offset up)) [] actor.new.pass.view }
     {
-        self.done_behind_guard(rt, actor, place, Call::Interrupt { place, offset, up })
+        self.done_alone(rt, actor, Call::Interrupt { place, offset, up })
     }
 
     /// Maps lines of a chip to pins, or holds or drops a pin for another function.
@@ -150,7 +151,7 @@ impl<D: Driver<Core>> Gpio<D> {
         ensures port { actor.new.port ≡ actor.old.port }
         ensures called { ComesOut done_of result actor.old.pass.view (Once (PinCall place what)) [] actor.new.pass.view }
     {
-        self.done_behind_guard(rt, actor, place, Call::Pin { place, what })
+        self.done_alone(rt, actor, Call::Pin { place, what })
     }
 
     /// Locks the interrupt of a line, unlocks, enables or disables it, or takes it away.
@@ -175,10 +176,9 @@ impl<D: Driver<Core>> Gpio<D> {
         ensures port { actor.new.port ≡ actor.old.port }
         ensures called { ComesOut done_of result actor.old.pass.view (Once (IrqCall place offset what)) [] actor.new.pass.view }
     {
-        self.done_behind_guard(
+        self.done_alone(
             rt,
             actor,
-            place,
             Call::Irq {
                 place,
                 offset,

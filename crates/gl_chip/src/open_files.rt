@@ -3,15 +3,16 @@
 ghost use Rattle.std.specs.Prelude.{◌≡◌, ◌<◌, ◌^◌, ◌++◌, ℕ, List, [], length, drop, Err, IfErr};
 ghost use Rattle.gl_gate.specs.Calls.{KnowsTheSame};
 ghost use Rattle.gl_model.specs.declared.call.Call.TheVariants.{Close, PollChip as PollChipCall, PollLine as PollLineCall, ReadEdges, ReadInfo};
-ghost use Rattle.gl_model.specs.Parts.{Once};
+ghost use Rattle.gl_model.specs.declared.device_call.DeviceCall.TheVariants.{Once};
 ghost use Rattle.gl_chip.specs.Called.{ComesOut};
 ghost use Rattle.gl_chip.specs.Files.{close_result};
-ghost use Rattle.gl_chip.specs.Results.{done_of, number_of, ready_of};
+ghost use Rattle.gl_asking.specs.Results.{done_of, number_of, ready_of};
 ghost use Rattle.gl_chip.specs.Values.{IsActorOf, IsSameActor};
 
 use crate::actor::Actor;
 use crate::files::{ChipFd, LineFd};
 use crate::gpio::Gpio;
+use crate::inner::nothing;
 use crate::results;
 use gl_base::Errno;
 use gl_core::{Call, Core};
@@ -31,14 +32,7 @@ impl<D: Driver<Core>> Gpio<D> {
         ensures called { ComesOut ready_of result actor.old.pass.view (Once (PollChipCall fd.now.place fd.now.fd)) [] actor.new.pass.view }
     {
         let (place, fd) = (fd.place, fd.fd);
-        match self.behind_guard(
-            rt,
-            actor,
-            place,
-            Call::PollChip { place, fd },
-            true,
-            &mut [],
-        ) {
+        match self.plain(rt, actor, Call::PollChip { place, fd }, &mut nothing()) {
             Ok(reply) => results::ready(reply),
             Err(errno) => Err(errno),
         }
@@ -57,14 +51,7 @@ impl<D: Driver<Core>> Gpio<D> {
         ensures called { ComesOut ready_of result actor.old.pass.view (Once (PollLineCall fd.now.place fd.now.fd)) [] actor.new.pass.view }
     {
         let (place, fd) = (fd.place, fd.fd);
-        match self.behind_guard(
-            rt,
-            actor,
-            place,
-            Call::PollLine { place, fd },
-            true,
-            &mut [],
-        ) {
+        match self.plain(rt, actor, Call::PollLine { place, fd }, &mut nothing()) {
             Ok(reply) => results::ready(reply),
             Err(errno) => Err(errno),
         }
@@ -91,12 +78,11 @@ impl<D: Driver<Core>> Gpio<D> {
     {
         let (place, fd) = (fd.place, fd.fd);
         let len = buf.len() as u32;
-        match self.behind_guard(
+        match self.once(
             rt,
             actor,
-            place,
             Call::ReadInfo { place, fd, len },
-            false,
+            &mut nothing(),
             buf,
         ) {
             Ok(reply) => results::count(reply),
@@ -125,12 +111,11 @@ impl<D: Driver<Core>> Gpio<D> {
     {
         let (place, fd) = (fd.place, fd.fd);
         let len = buf.len() as u32;
-        match self.behind_guard(
+        match self.once(
             rt,
             actor,
-            place,
             Call::ReadEdges { place, fd, len },
-            false,
+            &mut nothing(),
             buf,
         ) {
             Ok(reply) => results::count(reply),

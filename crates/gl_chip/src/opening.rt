@@ -7,32 +7,23 @@ ghost use Rattle.gl_base.specs.declared.limits.TheConstants.{PLACES};
 ghost use Rattle.gl_gate.specs.Calls.{KnowsTheSame};
 ghost use Rattle.gl_model.specs.declared.call.Call.TheVariants.{OpenChip};
 ghost use Rattle.gl_model.specs.declared.reply.Reply.TheVariants.{Number};
-ghost use Rattle.gl_model.specs.Parts.{Once};
+ghost use Rattle.gl_model.specs.declared.device_call.DeviceCall.TheVariants.{Once};
 ghost use Rattle.gl_model.specs.Written.{number_answered};
 ghost use Rattle.gl_chip.specs.Called.{ComesOut};
-ghost use Rattle.gl_chip.specs.Opened.{LastFinds, names_leaving, opened_of, place_named};
+ghost use Rattle.gl_asking.specs.Opened.{opened_of, place_named};
+ghost use Rattle.gl_chip.specs.Opened.{LastFinds, names_leaving};
 ghost use Rattle.gl_chip.specs.Values.{IsActorOf, IsSameActor};
 
 use crate::actor::Actor;
 use crate::files::ChipFd;
 use crate::gpio::Gpio;
-use gl_base::{Errno, Path, chip_number};
+use gl_asking::place_named;
+use gl_base::{Errno, Path};
 use gl_core::{Call, Core, Gift, Reply};
 use gl_driver::Driver;
 use gl_watch::InfoQueue;
 use std::alloc::Global;
 use std::sync::Wait;
-
-/// The place that a word names.
-fn place_named(word: &Path) -> u8
-    requires { place_named word.now < PLACES }
-    ensures { result ≡ place_named word.now }
-{
-    match chip_number(word.as_bytes()) {
-        Some(number) => number as u8,
-        None => 0,
-    }
-}
 
 /// The file of a chip that was opened by this word, or why it wasn't. A reply of another form doesn't come.
 fn opened(word: &Path, reply: Reply) -> Result<ChipFd, Errno>
@@ -83,7 +74,7 @@ impl<D: Driver<Core>> Gpio<D> {
             ring: None,
             queue: Some(queue),
         };
-        match self.unguarded(rt, actor, Call::OpenChip { word: *word }, &mut gift) {
+        match self.plain(rt, actor, Call::OpenChip { word: *word }, &mut gift) {
             Ok(reply) => opened(word, reply),
             Err(errno) => Err(errno),
         }

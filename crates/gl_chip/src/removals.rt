@@ -7,11 +7,12 @@ ghost use Rattle.gl_world.specs.Events.{DrainedStaysEmpty};
 ghost use Rattle.gl_rule.specs.Laws.{KnownDrainedStaysEmpty};
 ghost use Rattle.gl_gate.specs.Calls.{KnowsClosed, KnowsDrained, KnowsTheSame};
 ghost use Rattle.gl_model.specs.declared.call.Call.TheVariants.{Live as LiveCall};
-ghost use Rattle.gl_model.specs.Parts.{Once, Removing, OfChip, OfDevice};
+ghost use Rattle.gl_model.specs.declared.device_call.DeviceCall.TheVariants.{Once, Removing};
+ghost use Rattle.gl_model.specs.declared.device_call.RemovalOf.TheVariants.{OfChip, OfDevice};
 ghost use Rattle.gl_chip.specs.Called.{ComesOut};
 ghost use Rattle.gl_chip.specs.Opened.{LastFinds};
 ghost use Rattle.gl_chip.specs.Removing.{EndsAsBegun, RemovesOut, is_gone_outside};
-ghost use Rattle.gl_chip.specs.Results.{done_of};
+ghost use Rattle.gl_asking.specs.Results.{done_of};
 ghost use Rattle.gl_chip.specs.Values.{IsActorOf, IsSameActor, core};
 
 use crate::actor::Actor;

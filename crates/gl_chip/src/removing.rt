@@ -12,7 +12,7 @@ ghost use Rattle.gl_model.specs.declared.call.Call.TheVariants.{Unplug as Unplug
 ghost use Rattle.gl_model.specs.declared.reply.Reply.TheVariants.{Refused};
 ghost use Rattle.gl_model.specs.Entries.{is_done, last_call};
 ghost use Rattle.gl_model.specs.Fits.{FitsCall};
-ghost use Rattle.gl_model.specs.Parts.{Removing};
+ghost use Rattle.gl_model.specs.declared.device_call.DeviceCall.TheVariants.{Removing};
 ghost use Rattle.gl_chip.specs.Called.{HasCalled};
 ghost use Rattle.gl_chip.specs.Opened.{LastFinds};
 ghost use Rattle.gl_chip.specs.Removing.{AllDrained, HasBegun, HasDrained, HasEnded, RemovedBy, is_first_call, is_gone_outside, removal_of};

@@ -16,16 +16,16 @@ ghost use Rattle.gl_model.specs.Parts.{is_driver_asked};
 ghost use Rattle.gl_model.specs.Written.{number_answered};
 ghost use Rattle.gl_chip.specs.Answering.{AnswersInOrder, RequestsInOrder, WasLetIn};
 ghost use Rattle.gl_chip.specs.Commanding.{CommandsOut, TakesMemory, op_for, requested_of};
-ghost use Rattle.gl_chip.specs.Handed.{command_in};
+ghost use Rattle.gl_asking.specs.Handed.{command_in};
 ghost use Rattle.gl_chip.specs.Values.{IsActorOf, IsSameActor};
 
 use crate::actor::Actor;
-use crate::asking::{lines_named, request_op};
+use crate::asking::request_op;
 use crate::commands::OpenFile;
 use crate::files::LineFd;
 use crate::gpio::Gpio;
-use crate::handed::handed_in;
 use crate::inner::nothing;
+use gl_asking::{handed_in, lines_named};
 use gl_base::{Errno, Lines};
 use gl_core::fits::gift_for;
 use gl_core::{Call, Core, Gift, Part, Reply};
@@ -52,7 +52,7 @@ pub(crate) fn requested(place: u8, lines: &Lines, reply: Reply) -> Result<Option
 }
 
 /// The memory that an ask of GET_LINE brings: none, where its bytes alone have it refused.
-fn ring_for(asking: &Call, op: &Option<Op>, alloc: Global) -> Result<Gift, Errno>
+pub(crate) fn ring_for(asking: &Call, op: &Option<Op>, alloc: Global) -> Result<Gift, Errno>
     requires none { op.now ≡ None → (gift : AGift) → FitsGift asking.now gift }
     ensures ok { IfOk result (λ gift. FitsGift asking.now gift) }
     ensures memory { IfErr result (λ e. (e ≡ NoMemory) × (op.now ≢ None)) }

@@ -5,7 +5,7 @@
 
 ghost use Rattle.std.specs.Prelude.{◌≡◌, ◌<◌, ◌^◌};
 ghost use Rattle.gl_model.specs.Written.{number_answered};
-ghost use Rattle.gl_chip.specs.Results.{done_of, found_of, level_of, number_of, ready_of, text_of};
+ghost use Rattle.gl_asking.specs.Results.{done_of, found_of, level_of, number_of, ready_of, text_of};
 
 use gl_base::{Errno, Name};
 use gl_core::Reply;

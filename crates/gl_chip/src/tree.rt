@@ -3,9 +3,9 @@
 ghost use Rattle.std.specs.Prelude.{◌≡◌, []};
 ghost use Rattle.gl_gate.specs.Calls.{KnowsTheSame};
 ghost use Rattle.gl_model.specs.declared.call.Call.TheVariants.{MakeDir, Read as ReadCall, RemoveDir, Write as WriteCall};
-ghost use Rattle.gl_model.specs.Parts.{Once};
+ghost use Rattle.gl_model.specs.declared.device_call.DeviceCall.TheVariants.{Once};
 ghost use Rattle.gl_chip.specs.Called.{ComesOut};
-ghost use Rattle.gl_chip.specs.Results.{done_of, text_of};
+ghost use Rattle.gl_asking.specs.Results.{done_of, text_of};
 ghost use Rattle.gl_chip.specs.Values.{IsActorOf, IsSameActor};
 
 use crate::actor::Actor;
@@ -90,7 +90,7 @@ impl<D: Driver<Core>> Gpio<D> {
         ensures called { ComesOut text_of result actor.old.pass.view (Once (ReadCall path.now)) [] actor.new.pass.view }
     {
         let mut gift = nothing();
-        match self.unguarded(rt, actor, Call::Read { path: *path }, &mut gift) {
+        match self.plain(rt, actor, Call::Read { path: *path }, &mut gift) {
             Ok(reply) => results::text(reply),
             Err(errno) => Err(errno),
         }

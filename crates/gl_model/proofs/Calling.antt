@@ -14,7 +14,12 @@ use Rattle.gl_model.specs.declared.reply.Reply.{Reply}
 use Rattle.gl_model.specs.Calling.{AreOfCalls, Called, IsCalled, made_by}
 use Rattle.gl_model.specs.Entries.{begins, last_call, places_named}
 use Rattle.gl_model.specs.Machine.{machine}
-use Rattle.gl_model.specs.Parts.{DeviceCall, Once, Removing, Commanding, CommandIn, RemovalOf, OfChip, OfDevice, MakesAt, MakesCommand, MakesInside, MakesRest, first_call, guard_of, in_ask, in_tell, in_whole, is_driver_asked, device_has, is_poll, is_single}
+use Rattle.gl_model.specs.declared.device_call.DeviceCall.{DeviceCall}
+use Rattle.gl_model.specs.declared.device_call.DeviceCall.TheVariants.{Once, Removing, Commanding}
+use Rattle.gl_model.specs.declared.device_call.CommandIn.{CommandIn}
+use Rattle.gl_model.specs.declared.device_call.RemovalOf.{RemovalOf}
+use Rattle.gl_model.specs.declared.device_call.RemovalOf.TheVariants.{OfChip, OfDevice}
+use Rattle.gl_model.specs.Parts.{MakesAt, MakesCommand, MakesInside, MakesRest, first_call, guard_of, in_ask, in_tell, in_whole, is_driver_asked, device_has, is_poll, is_single}
 use Rattle.gl_model.specs.Step.{guard_reply}
 use Rattle.gl_model.proofs.Awaiting.{Leads, Moves, quiet_leads}
 use Rattle.gl_model.proofs.Leading.{leads_on}

@@ -29,7 +29,9 @@ use Rattle.gl_model.specs.EndingRemovals.{HasBegun, LastCallsAreDone}
 use Rattle.gl_model.specs.Entries.{awaited_call, begun_places, ending_call, is_done, last_call}
 use Rattle.gl_model.specs.Machine.{IsLegal, bytes_of, machine, remover_of, reply_of, world_after, world_of}
 use Rattle.gl_model.specs.Outcome.{Outcome, done, refused_or}
-use Rattle.gl_model.specs.Parts.{OfChip, OfDevice, RemovalOf, first_call}
+use Rattle.gl_model.specs.declared.device_call.RemovalOf.TheVariants.{OfChip, OfDevice}
+use Rattle.gl_model.specs.declared.device_call.RemovalOf.{RemovalOf}
+use Rattle.gl_model.specs.Parts.{first_call}
 use Rattle.gl_model.specs.Places.{origin_at}
 use Rattle.gl_model.specs.Removal.{end_at, is_actor, is_of, is_outside_tree, is_removing, is_removing_of, is_unplugging, remove_begun, remove_ended, removed_places, unplug_begun, unplug_refusal}
 use Rattle.gl_model.specs.Sound.{IsSound, IsSoundFor}

@@ -43,7 +43,8 @@ use Rattle.gl_model.specs.Opening.{is_open}
 use Rattle.gl_model.specs.OpenFiles.{is_hold}
 use Rattle.gl_model.specs.OpenFiles.{chip_file_refusal, command_refusal}
 use Rattle.gl_model.specs.Outcome.{Outcome, replies, refused_or}
-use Rattle.gl_model.specs.Parts.{CommandIn, in_ask, in_tell, in_whole}
+use Rattle.gl_model.specs.declared.device_call.CommandIn.{CommandIn}
+use Rattle.gl_model.specs.Parts.{in_ask, in_tell, in_whole}
 use Rattle.gl_model.specs.Places.{with_place}
 use Rattle.gl_model.specs.Reading.{read_from}
 use Rattle.gl_model.specs.Step.{step}

@@ -19,7 +19,12 @@ use Rattle.gl_model.specs.Claiming.{is_claim_of}
 use Rattle.gl_model.specs.Entries.{begins, is_go, last_call, is_get_line, is_get_line_call}
 use Rattle.gl_model.specs.Machine.{IsLegal, world_of}
 use Rattle.gl_model.specs.OneClaim.{CallsFinishClaims, claims_of, first_get_line, is_ask_call, is_tell_at}
-use Rattle.gl_model.specs.Parts.{DeviceCall, Once, Removing, Commanding, CommandIn, RemovalOf, OfChip, OfDevice, MakesAt, MakesCommand, MakesInside, MakesRest, first_call, guard_of, in_ask, in_tell, in_whole, is_driver_asked, device_has, is_poll, is_single}
+use Rattle.gl_model.specs.declared.device_call.DeviceCall.{DeviceCall}
+use Rattle.gl_model.specs.declared.device_call.DeviceCall.TheVariants.{Once, Removing, Commanding}
+use Rattle.gl_model.specs.declared.device_call.CommandIn.{CommandIn}
+use Rattle.gl_model.specs.declared.device_call.RemovalOf.{RemovalOf}
+use Rattle.gl_model.specs.declared.device_call.RemovalOf.TheVariants.{OfChip, OfDevice}
+use Rattle.gl_model.specs.Parts.{MakesAt, MakesCommand, MakesInside, MakesRest, first_call, guard_of, in_ask, in_tell, in_whole, is_driver_asked, device_has, is_poll, is_single}
 use Rattle.gl_model.specs.Step.{guard_reply}
 use Rattle.gl_model.specs.World.{World, Request, opening}
 use Rattle.gl_model.proofs.Claims.{one_claim}

@@ -1,5 +1,5 @@
 -- No two holds are of one line.
-use Rattle.std.proofs.Common.{◌≡◌, ◌+◌, ◌<◌, ℕ, zero, suc, List, [], ◌∷◌, ◌++◌, map, take, refl, sym, ap, ◌∙◌, subst, Bool, true, false, cond, Option, Some, None, arith, inl, inr}
+use Rattle.std.proofs.Common.{◌≡◌, ◌+◌, ◌<◌, ℕ, zero, suc, List, [], ◌∷◌, ◌++◌, map, take, refl, sym, ap, ◌∙◌, Bool, true, false, cond, Some, arith, inl, inr}
 use Rattle.std.specs.Prelude.{nat_eq, ◌==◌, ◌&&◌, ◌||◌, slice_index, slice_index_or}
 use Rattle.std.specs.List.{AllByRecursion, IsDistinct, flat_map, list_any}
 use Rattle.std.proofs.lemmas.Bool.{true≢false}
@@ -16,7 +16,7 @@ use Rattle.gl_model.specs.declared.call.Call.{Call}
 use Rattle.gl_model.specs.declared.gift.Gift.{Gift}
 use Rattle.gl_model.specs.declared.place.Place.{Place}
 use Rattle.gl_model.specs.declared.reply.Reply.{Reply}
-use Rattle.gl_model.specs.Holders.{HasItsLines, HoldersAgree, has_line, holder_at, holder_of, taken_by}
+use Rattle.gl_model.specs.Holders.{HasItsLines, HoldersAgree, holder_at, holder_of, taken_by}
 use Rattle.gl_model.specs.Holds.{HasOneHolder, Hold, OneHolder, hold_of, holds_of, hogs_at, hogs_from, is_hog, is_same_line}
 use Rattle.gl_model.specs.Machine.{machine, world_of}
 use Rattle.gl_model.specs.Places.{no_place, place_at}

@@ -8,7 +8,8 @@ use Rattle.gl_model.specs.declared.call.Call.{Call}
 use Rattle.gl_model.specs.declared.gift.Gift.{Gift}
 use Rattle.gl_model.specs.declared.reply.Reply.{Reply}
 use Rattle.gl_model.specs.Machine.{machine}
-use Rattle.gl_model.specs.Parts.{DeviceCall, Makes}
+use Rattle.gl_model.specs.declared.device_call.DeviceCall.{DeviceCall}
+use Rattle.gl_model.specs.Parts.{Makes}
 use Rattle.gl_model.specs.Entries.{is_get_line_call}
 use Rattle.gl_model.specs.World.{World}
 

@@ -9,7 +9,8 @@ use Rattle.gl_model.specs.declared.reply.Reply.{Reply}
 use Rattle.gl_model.specs.declared.reply.Reply.TheVariants.{Done}
 use Rattle.gl_model.specs.Entries.{awaited_call, last_call}
 use Rattle.gl_model.specs.Machine.{Always, machine, world_of}
-use Rattle.gl_model.specs.Parts.{RemovalOf, first_call}
+use Rattle.gl_model.specs.declared.device_call.RemovalOf.{RemovalOf}
+use Rattle.gl_model.specs.Parts.{first_call}
 use Rattle.gl_model.specs.Step.{step}
 use Rattle.gl_model.specs.World.{World}
 

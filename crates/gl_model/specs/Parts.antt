@@ -9,32 +9,16 @@ use Rattle.gl_world.specs.declared.history.Entry.{Entry}
 use Rattle.gl_model.specs.declared.call.Call.{Call}
 use Rattle.gl_model.specs.declared.call.Call.TheVariants.{Unplug, Remove, Ioctl, PollLine, PollChip, Refused as RefusedCall}
 use Rattle.gl_model.specs.declared.call.Part.TheVariants.{Whole, Ask, Tell}
+use Rattle.gl_model.specs.declared.device_call.CommandIn.{CommandIn}
+use Rattle.gl_model.specs.declared.device_call.RemovalOf.{RemovalOf}
+use Rattle.gl_model.specs.declared.device_call.RemovalOf.TheVariants.{OfChip, OfDevice}
+use Rattle.gl_model.specs.declared.device_call.DeviceCall.{DeviceCall}
+use Rattle.gl_model.specs.declared.device_call.DeviceCall.TheVariants.{Once, Removing, Commanding}
 use Rattle.gl_model.specs.declared.gift.Gift.{Gift}
 use Rattle.gl_model.specs.declared.reply.Reply.{Reply}
 use Rattle.gl_model.specs.Entries.{begins, guarded_place, last_call}
 use Rattle.gl_model.specs.OpenFiles.{asks_driver, is_for_chips}
 use Rattle.gl_model.specs.Step.{guard_reply}
-
--- a command as it is handed in: a handle's place and number, whether it is a chip's, and the command's number, the
--- buffer's length and its bytes
-pub record CommandIn : Type 0 where
-  pub place : ℕ
-  pub fd : ℕ
-  pub of_chip : Bool
-  pub cmd : ℕ
-  pub len : ℕ
-  pub bytes : List ℕ
-
--- what a removal takes away: the chip of a place, or all chips of a device
-pub data RemovalOf : Type 0 where
-  OfChip : ℕ → RemovalOf
-  OfDevice : List ℕ → RemovalOf
-
--- A call of the device: one call of the machine, a removal, or a command on an open file.
-pub data DeviceCall : Type 0 where
-  Once : Call → DeviceCall
-  Removing : RemovalOf → DeviceCall
-  Commanding : CommandIn → DeviceCall
 
 -- a call that is whole by itself: it is no part of a removal or of a command, and no record of a closed guard
 abbrev pub is_single : Call → Bool

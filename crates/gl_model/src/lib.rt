@@ -4,6 +4,7 @@
 
 pub mod answers;
 mod call;
+mod device_call;
 mod gift;
 mod image;
 pub mod laws;
@@ -11,6 +12,7 @@ mod place;
 mod reply;
 
 pub use call::{Call, Part};
+pub use device_call::{CommandIn, DeviceCall, RemovalOf};
 pub use gift::Gift;
 pub use image::Image;
 pub use place::{Origin, Place};

@@ -22,7 +22,9 @@ use Rattle.gl_model.specs.declared.reply.Reply.TheVariants.{Done, Go, Number, Re
 use Rattle.gl_model.specs.Bits.{bits_where}
 use Rattle.gl_model.specs.Calling.{AreOfCalls, Called, IsCalled}
 use Rattle.gl_model.specs.Machine.{IsLegal}
-use Rattle.gl_model.specs.Parts.{Once, Removing, Commanding, OfChip, OfDevice, CommandIn}
+use Rattle.gl_model.specs.declared.device_call.DeviceCall.TheVariants.{Once, Removing, Commanding}
+use Rattle.gl_model.specs.declared.device_call.RemovalOf.TheVariants.{OfChip, OfDevice}
+use Rattle.gl_model.specs.declared.device_call.CommandIn.{CommandIn}
 use Rattle.gl_model_runs.specs.Rows.DeviceCalls.{asked, run, given}
 use Rattle.gl_model_runs.specs.Rows.Histories.{history}
 use Rattle.gl_model_runs.specs.Rows.Structures.{ioctl, values}

@@ -9,7 +9,9 @@ use Rattle.gl_model.specs.declared.call.Call.TheVariants.{Close, OpenChip, Refus
 use Rattle.gl_model.specs.declared.call.Part.TheVariants.{Whole}
 use Rattle.gl_model.specs.declared.reply.Reply.TheVariants.{Done, Number, Refused}
 use Rattle.gl_model.specs.Calling.{AreOfCalls, AreOfCallsSoFar, Called}
-use Rattle.gl_model.specs.Parts.{Once, Removing, Commanding, OfChip, CommandIn}
+use Rattle.gl_model.specs.declared.device_call.DeviceCall.TheVariants.{Once, Removing, Commanding}
+use Rattle.gl_model.specs.declared.device_call.RemovalOf.TheVariants.{OfChip}
+use Rattle.gl_model.specs.declared.device_call.CommandIn.{CommandIn}
 use Rattle.gl_model_runs.specs.Rows.Histories.{history}
 use Rattle.gl_model_runs.specs.Rows.Structures.{ioctl}
 use Rattle.gl_model_runs.specs.Rows.TwoActorsBefore.{run as run_before, given as given_before}

@@ -17,7 +17,7 @@ use Rattle.gl_driver.specs.Told.{Told, with_call, with_plan}
 use Rattle.gl_driver.specs.declared.op.Op.{Op}
 use Rattle.gl_model.specs.declared.reply.Reply.{Reply}
 use Rattle.gl_model.specs.declared.reply.Reply.TheVariants.{Done as DoneReply, Refused as RefusedReply}
-use Rattle.gl_model.specs.Parts.{DeviceCall}
+use Rattle.gl_model.specs.declared.device_call.DeviceCall.{DeviceCall}
 use Rattle.gl_model.specs.World.{World, opening}
 use Rattle.gl_model.proofs.MachineLaws.{machine_laws}
 use Rattle.gl_script.specs.Section.{SaidSection}

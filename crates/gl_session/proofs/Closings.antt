@@ -26,7 +26,8 @@ use Rattle.gl_driver.specs.declared.op.Op.{Op}
 use Rattle.gl_model.specs.Calling.{AreOfCalls, Called, IsCalled, made_by}
 use Rattle.gl_model.specs.Claiming.{is_claim_of}
 use Rattle.gl_model.specs.Holders.{HoldersAgree}
-use Rattle.gl_model.specs.Parts.{Commanding, Makes, last_reply}
+use Rattle.gl_model.specs.declared.device_call.DeviceCall.TheVariants.{Commanding}
+use Rattle.gl_model.specs.Parts.{Makes, last_reply}
 use Rattle.gl_model.specs.World.{World, Request}
 use Rattle.gl_model.specs.declared.call.Call.TheVariants.{OpenChip}
 use Rattle.gl_model.specs.declared.reply.Reply.{Reply}
@@ -34,8 +35,8 @@ use Rattle.gl_model.specs.declared.reply.Reply.TheVariants.{Number, Refused}
 use Rattle.gl_model.proofs.FinishingCalls.{calls_finish_claims}
 use Rattle.gl_model.proofs.HoldersLaw.{holders_always_agree}
 use Rattle.gl_core.specs.Kept.{Kept, StandsFor}
-use Rattle.gl_chip.specs.Handed.{command_in}
-use Rattle.gl_chip.specs.Opened.{place_named}
+use Rattle.gl_asking.specs.Handed.{command_in}
+use Rattle.gl_asking.specs.Opened.{place_named}
 use Rattle.gl_chip.specs.Values.{OneDeed, OneEntry, core}
 use Rattle.gl_talk.specs.Numbers.{CloseByNumber, Numbered, NumbersFiles, has_less, has_slot, numbered_behind, with_number}
 use Rattle.gl_talk.specs.Open.{Names, no_names, slots_in_order}

@@ -11,17 +11,18 @@ use Rattle.gl_base.specs.declared.operation.Do.{Do}
 use Rattle.gl_base.specs.declared.operation.Do.TheVariants.{Ioctl as DoIoctl}
 use Rattle.gl_base.specs.declared.operation.Got.{Got}
 use Rattle.gl_base.specs.declared.operation.Got.TheVariants.{Bytes}
-use Rattle.gl_uapi.specs.Command.{command_of}
 use Rattle.gl_uapi.specs.declared.layout.TheConstants.{LINE_REQUEST_SIZE}
 use Rattle.gl_world.specs.Deeds.{entries_in}
 use Rattle.gl_driver.specs.Told.{Told}
 use Rattle.gl_driver.specs.declared.op.Op.{Op}
 use Rattle.gl_model.specs.declared.reply.Reply.{Reply}
 use Rattle.gl_model.specs.declared.reply.Reply.TheVariants.{Done, Number, Go, Found, Text, Ready, Refused}
-use Rattle.gl_model.specs.Entries.{begins}
-use Rattle.gl_model.specs.Parts.{CommandIn, Commanding, Makes, MakesCommand, MakesRest, in_ask, in_tell, is_driver_asked}
+use Rattle.gl_model.specs.declared.device_call.CommandIn.{CommandIn}
+use Rattle.gl_model.specs.declared.device_call.DeviceCall.TheVariants.{Commanding}
+use Rattle.gl_model.specs.Parts.{Makes}
 use Rattle.gl_chip.specs.Commanding.{CommandsOut, IsCommanded, is_asked, op_for}
-use Rattle.gl_chip.specs.Commanding.{PortAfter as PortOf}
+use Rattle.gl_chip.specs.Commanding.{PortOf}
+use Rattle.gl_chip.proofs.Telling.{at_port, none_own}
 use Rattle.gl_chip.specs.Values.{ActorValue, OneEntry, core}
 use Rattle.gl_session.specs.Answers.{came}
 use Rattle.gl_session.specs.Asking.{Calls, asking, buffer_of, files_behind, got_by, got_of, lines_by, lines_named, made_by, made_on, op_asked, op_on, written_over}
@@ -29,35 +30,13 @@ use Rattle.gl_session.specs.Making.{IsCommanding, kept_with, none_made, request_
 use Rattle.gl_session.specs.Rows.{fd_of, files_of, is_chip, is_row, lines_of, place_of, row_file}
 use Rattle.gl_session.specs.declared.files.FileRow.{FileRow}
 use Rattle.gl_chip.specs.Files.{LineFile}
-use Rattle.gl_chip.specs.Handed.{command_in}
-use Rattle.gl_chip.specs.Results.{done_of}
+use Rattle.gl_asking.specs.Handed.{command_in}
+use Rattle.gl_asking.specs.Results.{done_of}
 use Rattle.gl_chip.specs.Steps.{FoundNoRoom}
 use Rattle.gl_session.specs.Files.{OpenFile, file_in}
 use Rattle.gl_session.specs.Performed.{Performs, carried}
 use Rattle.gl_session.specs.Turns.{PortAfter, tells_in}
-use Rattle.gl_session.proofs.Performing.{err_or, found_file, full_outcome, is_ok, made_outcome, none_own, on_found, unless_wanted}
-
-module _ {P : Type 0} (told : P → Option Told) (faults : P → ℕ) (Own : P → ℕ → Op → List OneEntry → Type 0) (limit : ℕ) (is_planned : Bool) where
-  -- the port after entries that begin with this one of the actor
-  rest_port : (n : ℕ) (c : CommandIn) (answer : Option ℕ) (op : Option Op) (reply : Reply) (rest : List OneEntry) (goes : Bool) (p q : P) → begins (in_ask c) reply ≡ goes
-      → MakesRest n goes (in_tell answer c) [] rest → PortOf told faults Own limit is_planned goes op c.place answer [] p q → PortAfter is_planned op (tells_in rest) (told p) (told q)
-  rest_port n c answer op reply rest false p q is makes port = subst (λ (es : List OneEntry). PortAfter is_planned op (tells_in es) (told p) (told q)) (sym makes.0) (ap told port)
-  rest_port n c answer op reply rest true p q is makes port =
-      subst (λ (es : List OneEntry). PortAfter is_planned op (tells_in es) (told p) (told q)) (sym makes.1) (port.asked_for, port.is_this, port.told_then, port.as_planned)
-
-  inside_port : (n : ℕ) (c : CommandIn) (answer : Option ℕ) (op : Option Op) (asks : Bool) (made : List OneEntry) (p q : P) → MakesCommand n asks answer c [] made
-      → PortOf told faults Own limit is_planned (is_asked made) op c.place answer [] p q → PortAfter is_planned op (tells_in made) (told p) (told q)
-  inside_port n c answer op false made p q ((reply, is), none) port =
-      subst (λ (es : List OneEntry). PortOf told faults Own limit is_planned (is_asked es) op c.place answer [] p q → PortAfter is_planned op (tells_in es) (told p) (told q)) (sym is) (λ same. ap told same) port
-  inside_port n c answer op true made p q (reply, rest, is, makes) port =
-      subst (λ (es : List OneEntry). PortOf told faults Own limit is_planned (is_asked es) op c.place answer [] p q → PortAfter is_planned op (tells_in es) (told p) (told q)) (sym is)
-      (λ went. rest_port n c answer op reply rest (begins (in_ask c) reply) p q refl makes went) port
-
-  at_port : (n : ℕ) (c : CommandIn) (answer : Option ℕ) (op : Option Op) (closed : Bool) (made : List OneEntry) (p q : P) → Makes n closed (Commanding c) answer [] made
-      → PortOf told faults Own limit is_planned (is_asked made) op c.place answer [] p q → PortAfter is_planned op (tells_in made) (told p) (told q)
-  at_port n c answer op false made p q makes port = inside_port n c answer op (is_driver_asked c.of_chip c.len (command_of c.cmd)) made p q makes.1 port
-  at_port n c answer op true made p q makes port =
-      subst (λ (es : List OneEntry). PortOf told faults Own limit is_planned (is_asked es) op c.place answer [] p q → PortAfter is_planned op (tells_in es) (told p) (told q)) (sym makes.1.0) (λ same. ap told same) port
+use Rattle.gl_session.proofs.Performing.{err_or, found_file, full_outcome, is_ok, made_outcome, on_found, unless_wanted}
 
 module _ {X P : Type 0} (told : P → Option Told) (faults : P → ℕ) (Own : P → ℕ → Op → List OneEntry → Type 0) (is_planned : Bool) (what : Do) (value : X → Got) (answer : Reply → Result X Errno)
     (op : Option Op) (a b : ActorValue P) (c : CommandIn) (bytes : List ℕ) (kept after : List OpenFile) where

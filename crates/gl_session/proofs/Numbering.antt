@@ -25,7 +25,9 @@ use Rattle.gl_model.specs.Ioctl.{by_number}
 use Rattle.gl_model.specs.Opening.{open_at, open_chip, open_refusal, with_file}
 use Rattle.gl_model.specs.OpenFiles.{chip_file_refusal}
 use Rattle.gl_model.specs.Outcome.{Outcome, numbers, refused_or}
-use Rattle.gl_model.specs.Parts.{CommandIn, Commanding, Makes, MakesCommand, MakesRest, in_ask, in_tell, in_whole, is_driver_asked, last_reply}
+use Rattle.gl_model.specs.declared.device_call.CommandIn.{CommandIn}
+use Rattle.gl_model.specs.declared.device_call.DeviceCall.TheVariants.{Commanding}
+use Rattle.gl_model.specs.Parts.{Makes, MakesCommand, MakesRest, in_ask, in_tell, in_whole, is_driver_asked, last_reply}
 use Rattle.gl_model.specs.Reading.{read_from}
 use Rattle.gl_model.specs.Replies.{has_form, numbered_form}
 use Rattle.gl_model.specs.Step.{guard_reply, step}

@@ -16,7 +16,12 @@ use Rattle.gl_model.specs.Chips.{phase_at}
 use Rattle.gl_model.specs.Entries.{begins, begun_places, guarded_place, last_call, places_named, refused_place}
 use Rattle.gl_model.specs.Fits.{FitsCall}
 use Rattle.gl_model.specs.Outcome.{Outcome}
-use Rattle.gl_model.specs.Parts.{CommandIn, DeviceCall, Once, Removing, Commanding, RemovalOf, OfChip, OfDevice, Makes, MakesAt, MakesCommand, MakesOne, MakesRest, MakesTwo, first_call, in_ask, in_tell, in_whole, is_driver_asked, is_poll, is_single, last_reply}
+use Rattle.gl_model.specs.declared.device_call.CommandIn.{CommandIn}
+use Rattle.gl_model.specs.declared.device_call.DeviceCall.{DeviceCall}
+use Rattle.gl_model.specs.declared.device_call.DeviceCall.TheVariants.{Once, Removing, Commanding}
+use Rattle.gl_model.specs.declared.device_call.RemovalOf.{RemovalOf}
+use Rattle.gl_model.specs.declared.device_call.RemovalOf.TheVariants.{OfChip, OfDevice}
+use Rattle.gl_model.specs.Parts.{Makes, MakesAt, MakesCommand, MakesOne, MakesRest, MakesTwo, first_call, in_ask, in_tell, in_whole, is_driver_asked, is_poll, is_single, last_reply}
 use Rattle.gl_model.specs.Step.{guard_reply, step}
 use Rattle.gl_model.specs.World.{World}
 use Rattle.gl_chip.specs.Called.{last_bytes}

@@ -19,19 +19,21 @@ use Rattle.gl_gate.specs.Values.{PassValue}
 use Rattle.gl_core.specs.Kept.{Kept}
 use Rattle.gl_model.specs.declared.gift.Gift.{Gift}
 use Rattle.gl_model.specs.declared.call.Call.{Call}
-use Rattle.gl_model.specs.declared.call.Call.TheVariants.{Probe, Unplug, MakeDir, RemoveDir, Write, Read, Live, Remove, Tick, Pin, Irq, Pull, Level, Interrupt, OpenChip, Find, Ioctl, ReadEdges, ReadInfo, PollLine, PollChip, Close, Refused as RefusedCall}
+use Rattle.gl_model.specs.declared.call.Call.TheVariants.{Probe, Live, OpenChip}
 use Rattle.gl_model.specs.declared.reply.Reply.{Reply}
 use Rattle.gl_model.specs.declared.reply.Reply.TheVariants.{Done as DoneReply, Refused as RefusedReply}
-use Rattle.gl_model.specs.Entries.{begins}
-use Rattle.gl_model.specs.Parts.{DeviceCall, Makes, MakesAt, MakesRest, Once, Removing, RemovalOf, OfChip, OfDevice, first_call, guard_of, is_single}
-use Rattle.gl_model.specs.Entries.{last_call}
+use Rattle.gl_model.specs.declared.device_call.DeviceCall.{DeviceCall}
+use Rattle.gl_model.specs.Parts.{Makes}
+use Rattle.gl_model.specs.declared.device_call.DeviceCall.TheVariants.{Once, Removing}
+use Rattle.gl_model.specs.declared.device_call.RemovalOf.{RemovalOf}
+use Rattle.gl_model.specs.declared.device_call.RemovalOf.TheVariants.{OfDevice}
 use Rattle.gl_chip.specs.Called.{ComesOut, HasCalled, IsMade}
-use Rattle.gl_chip.specs.Files.{ChipFile}
-use Rattle.gl_chip.specs.Opened.{opened_of}
+use Rattle.gl_asking.specs.Opened.{ChipFile, opened_of}
 use Rattle.gl_chip.specs.Removing.{RemovesOut}
-use Rattle.gl_chip.specs.Results.{done_of, number_of}
+use Rattle.gl_asking.specs.Results.{done_of, number_of}
 use Rattle.gl_chip.specs.Steps.{FoundNoRoom}
 use Rattle.gl_chip.specs.Values.{OneEntry, OneView, core}
+use Rattle.gl_chip.proofs.Telling.{none_own, once_tells, removal_tells}
 use Rattle.gl_session.specs.Answers.{came, refused_got}
 use Rattle.gl_session.specs.Asking.{Asking, Calls, Plans, Refuses, asking, at_place, files_behind, got_by, got_of, has_lines, on_file, op_asked, opened, probes, reads_from, written_over}
 use Rattle.gl_session.specs.declared.files.FileRow.{FileRow}
@@ -39,68 +41,9 @@ use Rattle.gl_session.specs.Files.{OpenFile, file_in, is_in}
 use Rattle.gl_session.specs.Performed.{HasPerformed, IsCall, Performs, PerformsAlone, carried}
 use Rattle.gl_session.specs.Rows.{files_of, is_row, row_file}
 use Rattle.gl_talk.proofs.NamedRows.{row_found, no_row_found}
-use Rattle.gl_session.specs.Turns.{Carried, IsDone, PortAfter, call_tells, tells_in}
-
--- Calls that tell no answer of a driver
-
-single_tells : (call : Call) → is_single call ≡ true → call_tells call ≡ []
-single_tells (Probe a b c) s = refl
-single_tells (Unplug a b) s = refl
-single_tells (MakeDir a) s = refl
-single_tells (RemoveDir a) s = refl
-single_tells (Write a b) s = refl
-single_tells (Read a) s = refl
-single_tells (Live a) s = refl
-single_tells (Remove a b) s = refl
-single_tells (Tick a b) s = refl
-single_tells (Pin a b) s = refl
-single_tells (Irq a b c) s = refl
-single_tells (Pull a b c) s = refl
-single_tells (Level a b c) s = refl
-single_tells (Interrupt a b c) s = refl
-single_tells (OpenChip a) s = refl
-single_tells (Find a b) s = refl
-single_tells (Ioctl a b c d e f) s = absurd (true≢false (sym s))
-single_tells (ReadEdges a b c) s = refl
-single_tells (ReadInfo a b c) s = refl
-single_tells (PollLine a b) s = refl
-single_tells (PollChip a b) s = refl
-single_tells (Close a) s = refl
-single_tells (RefusedCall a b) s = refl
-
-one_tells : (n : ℕ) (call : Call) (made : List OneEntry) → is_single call ≡ true → (reply : Reply) × (made ≡ record { actor = n; call = call; reply = reply } ∷ []) → tells_in made ≡ []
-one_tells n call made single (reply, is) = subst (λ es. tells_in es ≡ []) (sym is) (ap (λ answers. answers ++ []) (single_tells call single))
-
-once_tells_at : (n : ℕ) (guard : Option ℕ) (closed : Bool) (call : Call) (answer : Option ℕ) (own made : List OneEntry) → is_single call ≡ true
-    → MakesAt n guard closed (Once call) answer own made → tells_in made ≡ []
-once_tells_at n None closed call answer own made single makes = one_tells n call made single makes.0
-once_tells_at n (Some place) false call answer own made single makes = one_tells n call made single makes.0
-once_tells_at n (Some place) true call answer own made single makes = subst (λ es. tells_in es ≡ []) (sym makes.0) refl
-
-pub once_tells : (n : ℕ) (closed : Bool) (call : Call) (answer : Option ℕ) (own made : List OneEntry) → Makes n closed (Once call) answer own made → tells_in made ≡ []
-once_tells n closed call answer own made makes = once_tells_at n (guard_of (Once call)) closed call answer own made makes.0 makes.1
-
-removal_tells_by : (n : ℕ) (both : Bool) (first second : Call) (reply : Reply) (rest : List OneEntry) → call_tells first ≡ [] → call_tells second ≡ []
-    → MakesRest n both second [] rest → tells_in (record { actor = n; call = first; reply = reply } ∷ rest) ≡ []
-removal_tells_by n false first second reply rest f s makes = subst (λ es. call_tells first ++ tells_in es ≡ []) (sym makes.0) (ap (λ answers. answers ++ []) f)
-removal_tells_by n true first second reply rest f s makes =
-    subst (λ es. call_tells first ++ tells_in es ≡ []) (sym makes.1)
-    (ap (λ answers. answers ++ (call_tells second ++ [])) f ∙ ap (λ answers. answers ++ []) s)
-
-removal_silent : (removal : RemovalOf) → (call_tells (first_call removal) ≡ []) × (call_tells (last_call (first_call removal)) ≡ [])
-removal_silent (OfChip place) = (refl, refl)
-removal_silent (OfDevice device) = (refl, refl)
-
-pub removal_tells : (n : ℕ) (closed : Bool) (removal : RemovalOf) (answer : Option ℕ) (own made : List OneEntry) → Makes n closed (Removing removal) answer own made → tells_in made ≡ []
-removal_tells n closed removal answer own made (has, ((reply, rest, is, makes), none)) =
-    subst (λ es. tells_in es ≡ []) (sym is)
-    (removal_tells_by n (begins (first_call removal) reply) (first_call removal) (last_call (first_call removal)) reply rest (removal_silent removal).0 (removal_silent removal).1 makes)
+use Rattle.gl_session.specs.Turns.{Carried, IsDone, PortAfter, tells_in}
 
 -- An operation that is a call
-
-pub none_own : (own : List OneEntry) → length own ≤ 0 → own ≡ []
-none_own [] h = refl
-none_own (e ∷ es) h = absurd (omega (arith, h))
 
 pub refusal_case : (errno : Errno) → (errno ≡ NoMemory) ⊎ ((errno ≡ Full) ⊎ (refused_got errno ≡ Ok (GotRefused errno)))
 refusal_case Perm = inr (inr refl)

@@ -15,7 +15,10 @@ use Rattle.gl_args.specs.Program.{Program, done}
 use Rattle.gl_driver.specs.Told.{Told, new_port, with_call, with_plan}
 use Rattle.gl_driver.specs.declared.op.Op.{Op}
 use Rattle.gl_model.specs.Entries.{begins}
-use Rattle.gl_model.specs.Parts.{DeviceCall, Commanding, Makes, MakesAt, MakesCommand, MakesInside, MakesOne, MakesRest, MakesTwo, OfChip, OfDevice, Once, Removing, device_has, guard_of, in_ask, in_tell, in_whole, is_driver_asked}
+use Rattle.gl_model.specs.declared.device_call.DeviceCall.{DeviceCall}
+use Rattle.gl_model.specs.declared.device_call.DeviceCall.TheVariants.{Commanding, Once, Removing}
+use Rattle.gl_model.specs.Parts.{Makes, MakesAt, MakesCommand, MakesInside, MakesOne, MakesRest, MakesTwo, device_has, guard_of, in_ask, in_tell, in_whole, is_driver_asked}
+use Rattle.gl_model.specs.declared.device_call.RemovalOf.TheVariants.{OfChip, OfDevice}
 use Rattle.gl_model.specs.declared.call.Call.{Call}
 use Rattle.gl_model.specs.declared.call.Call.TheVariants.{Remove, Unplug}
 use Rattle.gl_script.specs.Section.{SaidSection}

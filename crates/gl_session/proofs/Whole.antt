@@ -10,7 +10,7 @@ use Rattle.gl_gate.proofs.Grown.{grows_on}
 use Rattle.gl_args.specs.Program.{Program, ask, done}
 use Rattle.gl_driver.specs.Told.{Told}
 use Rattle.gl_driver.specs.declared.op.Op.{Op}
-use Rattle.gl_model.specs.Parts.{DeviceCall}
+use Rattle.gl_model.specs.declared.device_call.DeviceCall.{DeviceCall}
 use Rattle.gl_script.specs.Cost.{session_cost}
 use Rattle.gl_script.specs.Section.{SaidSection}
 use Rattle.gl_talk.specs.Open.{Names}

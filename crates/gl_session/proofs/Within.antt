@@ -29,7 +29,10 @@ use Rattle.gl_model.specs.declared.call.Call.TheVariants.{Close}
 use Rattle.gl_model.specs.declared.reply.Reply.{Reply}
 use Rattle.gl_model.specs.declared.reply.Reply.TheVariants.{Done, Number, Go, Found, Text, Ready, Refused}
 use Rattle.gl_model.specs.Entries.{begins}
-use Rattle.gl_model.specs.Parts.{CommandIn, DeviceCall, Once, Removing, Commanding, MakesAt, MakesCommand, MakesInside, MakesOne, MakesRest, MakesTwo, guard_of, is_driver_asked}
+use Rattle.gl_model.specs.declared.device_call.CommandIn.{CommandIn}
+use Rattle.gl_model.specs.declared.device_call.DeviceCall.{DeviceCall}
+use Rattle.gl_model.specs.declared.device_call.DeviceCall.TheVariants.{Once, Removing, Commanding}
+use Rattle.gl_model.specs.Parts.{MakesAt, MakesCommand, MakesInside, MakesOne, MakesRest, MakesTwo, guard_of, is_driver_asked}
 use Rattle.gl_script.specs.Columns.{columns}
 use Rattle.gl_script.specs.Cost.{section_cost, session_cost, statement_cost, words_cost}
 use Rattle.gl_script.specs.Section.{SaidSection}
@@ -38,8 +41,7 @@ use Rattle.gl_script.specs.declared.section.SectionKind.TheVariants.{Setup, Acto
 use Rattle.gl_talk.specs.Open.{Names, no_names}
 use Rattle.gl_talk.specs.Talk.{quits}
 use Rattle.gl_talk.proofs.StatementCosts.{end_cost, says_cost}
-use Rattle.gl_chip.specs.Files.{ChipFile}
-use Rattle.gl_chip.specs.Opened.{opened_of}
+use Rattle.gl_asking.specs.Opened.{ChipFile, opened_of}
 use Rattle.gl_chip.specs.Values.{OneDeed, OneEntry}
 use Rattle.gl_session.specs.Alone.{Part, actor_of, after_of, setup_of}
 use Rattle.gl_session.specs.Asking.{Asking, Calls, Plans, Refuses, asking, at_place, buffer_of, files_behind, has_lines, lines_named, made_by, made_on, on_file, once, op_asked, opened, with_request}

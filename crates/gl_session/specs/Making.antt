@@ -7,8 +7,8 @@ use Rattle.gl_driver.specs.Told.{Told}
 use Rattle.gl_driver.specs.declared.op.Op.{Op}
 use Rattle.gl_chip.specs.Commanding.{CommandsOut, op_for, requested_of}
 use Rattle.gl_chip.specs.Files.{LineFile}
-use Rattle.gl_chip.specs.Handed.{command_in}
-use Rattle.gl_chip.specs.Results.{value_of}
+use Rattle.gl_asking.specs.Handed.{command_in}
+use Rattle.gl_asking.specs.Results.{value_of}
 use Rattle.gl_chip.specs.Values.{ActorValue, OneEntry}
 use Rattle.gl_session.specs.Asking.{lines_by}
 use Rattle.gl_session.specs.Rows.{fd_of, is_chip, lines_of, place_of}

@@ -20,7 +20,9 @@ use Rattle.gl_script.specs.declared.section.SectionKind.TheVariants.{Setup, Acto
 use Rattle.gl_model.specs.Chips.{phase_at}
 use Rattle.gl_model.specs.Entries.{begins, last_call}
 use Rattle.gl_model.specs.Outcome.{Outcome}
-use Rattle.gl_model.specs.Parts.{DeviceCall, Once, Removing, Commanding, first_call, guard_of, in_ask, in_tell, in_whole, is_driver_asked, is_poll}
+use Rattle.gl_model.specs.declared.device_call.DeviceCall.{DeviceCall}
+use Rattle.gl_model.specs.declared.device_call.DeviceCall.TheVariants.{Once, Removing, Commanding}
+use Rattle.gl_model.specs.Parts.{first_call, guard_of, in_ask, in_tell, in_whole, is_driver_asked, is_poll}
 use Rattle.gl_model.specs.Step.{step}
 use Rattle.gl_model.specs.World.{World, opening}
 use Rattle.gl_model.specs.declared.call.Call.{Call}

@@ -1,40 +1,22 @@
 -- A talk as an actor carried it out on the device: what it printed and what it did, one turn after another. The history may have
 -- entries of other actors between any two of its own. This project's choice.
-use Rattle.std.specs.Prelude.{◌≡◌, ℕ, Bool, true, List, [], ◌∷◌, ◌++◌, Option, Some, IfSome}
-use Rattle.gl_base.specs.Count.{counted_up}
-use Rattle.gl_base.specs.Planned.{planned_answer}
+use Rattle.std.specs.Prelude.{◌≡◌, ℕ, Bool, List, [], ◌∷◌, ◌++◌, Option, Some}
 use Rattle.gl_base.specs.declared.operation.Do.{Do}
 use Rattle.gl_base.specs.declared.operation.Got.{Got}
 use Rattle.gl_world.specs.Deeds.{entries_in}
 use Rattle.gl_args.specs.Program.{Program, done, print, ask}
-use Rattle.gl_driver.specs.Told.{Told, with_call, with_plan}
+use Rattle.gl_driver.specs.Told.{Told, with_plan}
 use Rattle.gl_driver.specs.declared.op.Op.{Op}
-use Rattle.gl_model.specs.Parts.{DeviceCall, Makes, last_reply}
-use Rattle.gl_model.specs.declared.call.Call.{Call}
-use Rattle.gl_model.specs.declared.call.Call.TheVariants.{Ioctl}
-use Rattle.gl_model.specs.declared.call.Part.{Part}
-use Rattle.gl_model.specs.declared.call.Part.TheVariants.{Whole, Ask, Tell}
+use Rattle.gl_model.specs.declared.device_call.DeviceCall.{DeviceCall}
+use Rattle.gl_model.specs.Parts.{Makes, last_reply}
 use Rattle.gl_model.specs.declared.reply.Reply.{Reply}
 use Rattle.gl_model.specs.declared.reply.Reply.TheVariants.{Done, Refused}
 use Rattle.gl_chip.specs.Called.{last_bytes}
-use Rattle.gl_chip.specs.Values.{OneDeed, OneEntry}
+use Rattle.gl_chip.specs.Values.{OneDeed}
 use Rattle.gl_session.specs.Asking.{Asking, Calls, Plans, Refuses, asking, files_behind, got_of, op_asked}
 use Rattle.gl_session.specs.Files.{OpenFile}
-
--- the answer of the driver that a call tells, if it tells one
-abbrev pub part_tells : Part → List (Option ℕ)
-part_tells Whole = []
-part_tells Ask = []
-part_tells (Tell answer) = answer ∷ []
-
-abbrev pub call_tells : Call → List (Option ℕ)
-call_tells (Ioctl place fd cmd len bytes part) = part_tells part
-call_tells _ = []
-
--- the answers that entries tell, in order
-abbrev pub tells_in : List OneEntry → List (Option ℕ)
-tells_in [] = []
-tells_in (e ∷ es) = call_tells e.call ++ tells_in es
+-- the answers of the driver that entries tell, and what becomes of a port by them
+pub use Rattle.gl_chip.specs.Telling.{PortAfter, call_tells, part_tells, tells_in}
 
 -- an operation as it was carried out: whether the guard of its place was closed, what the driver answered where it was asked,
 -- what the actor did, and the last reply and what was written there
@@ -50,14 +32,6 @@ pub record Exchange : Type 0 where
 pub record Carried : Type 0 where
   pub files : List OpenFile
   pub told : Option Told
-
--- What becomes of a port by the answers that a call told: none, or one, to just what the driver is asked for the call. A planned driver
--- answers as the port plans.
-abbrev pub PortAfter : Bool → Option Op → List (Option ℕ) → Option Told → Option Told → Type 0
-PortAfter is_planned op [] before after = after ≡ before
-PortAfter is_planned op (answer ∷ answers) before after =
-    (asked : Op) × (op ≡ Some asked) × (after ≡ with_call asked answer before)
-    × (is_planned ≡ true → IfSome before (λ told. answer ≡ planned_answer told.plan (counted_up told.calls)))
 
 module _ (is_planned : Bool) (actor : ℕ) where
   -- a call of the device was made, for which the driver is asked this: its deeds are parts of the call, and reply and bytes are the last one's

@@ -5,7 +5,7 @@ use Rattle.gl_base.specs.declared.operation.Got.{Got}
 use Rattle.gl_args.specs.Costs.{CostsAtMost}
 use Rattle.gl_args.specs.Program.{Program, ask}
 use Rattle.gl_driver.specs.Told.{Told}
-use Rattle.gl_model.specs.Parts.{DeviceCall}
+use Rattle.gl_model.specs.declared.device_call.DeviceCall.{DeviceCall}
 use Rattle.gl_script.specs.Cost.{session_cost, words_cost}
 use Rattle.gl_script.specs.Section.{SaidSection}
 use Rattle.gl_script.specs.declared.section.SectionKind.{SectionKind}

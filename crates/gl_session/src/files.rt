@@ -3,10 +3,10 @@ ghost use Rattle.std.specs.Prelude.{◌≡◌, ◌≢◌, ◌<◌, ◌^◌, ◌+
 ghost use Rattle.std.specs.List.{position};
 ghost use Rattle.gl_base.specs.declared.errno.Errno.TheVariants.{NoMemory};
 ghost use Rattle.gl_base.specs.declared.limits.TheConstants.{PLACES};
-ghost use Rattle.gl_model.specs.Parts.{Once};
+ghost use Rattle.gl_model.specs.declared.device_call.DeviceCall.TheVariants.{Once};
 ghost use Rattle.gl_model.specs.declared.call.Call.TheVariants.{Close as CloseCall};
 ghost use Rattle.gl_chip.specs.Called.{ComesOut};
-ghost use Rattle.gl_chip.specs.Results.{done_of, number_of, ready_of};
+ghost use Rattle.gl_asking.specs.Results.{done_of, number_of, ready_of};
 ghost use Rattle.gl_chip.specs.Values.{IsActorOf};
 ghost use Rattle.gl_session.specs.Asking.{polls, reads_from};
 ghost use Rattle.gl_session.specs.Making.{IsCommanding, none_made};

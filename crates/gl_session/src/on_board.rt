@@ -1,10 +1,10 @@
 //! Operations of a talk that name no open file, carried out on the device.
 ghost use Rattle.std.specs.Prelude.{◌≡◌, ◌<◌, ◌≤◌, [], None, Ok, false, true};
 ghost use Rattle.gl_base.specs.declared.limits.TheConstants.{PLACES};
-ghost use Rattle.gl_model.specs.Parts.{Once};
+ghost use Rattle.gl_model.specs.declared.device_call.DeviceCall.TheVariants.{Once};
 ghost use Rattle.gl_model.specs.declared.call.Call.TheVariants.{Level as LevelCall};
 ghost use Rattle.gl_chip.specs.Called.{ComesOut};
-ghost use Rattle.gl_chip.specs.Results.{level_of};
+ghost use Rattle.gl_asking.specs.Results.{level_of};
 ghost use Rattle.gl_base.specs.declared.operation.Do.TheVariants.{Find, Irq, Level, Live, MakeDir, Pin, Plan, Probe, Pull, Read, RemoveDir, Tick, Unplug, Write};
 ghost use Rattle.gl_chip.specs.Values.{IsActorOf};
 ghost use Rattle.gl_session.specs.Asking.{has_lines};

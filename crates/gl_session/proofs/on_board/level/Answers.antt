@@ -1,7 +1,7 @@
 use Rattle.std.proofs.Common.{rules, refl, []}
 use Rattle.gl_base.specs.declared.operation.Do.TheVariants.{Level as Asked}
 use Rattle.gl_model.specs.declared.call.Call.TheVariants.{Level as Made}
-use Rattle.gl_chip.specs.Results.{level_of}
+use Rattle.gl_asking.specs.Results.{level_of}
 use Rattle.gl_base.specs.declared.errno.Errno.TheVariants.{NoEnt}
 use Rattle.gl_session.specs.Asking.{level_got}
 use Rattle.gl_session.proofs.Performing.{once_outcome, refused_outcome, at_some_place, at_no_place}

@@ -2,7 +2,7 @@ use Rattle.std.proofs.Common.{refl, []}
 use Rattle.gl_base.specs.declared.operation.Do.TheVariants.{MakeDir as Asked}
 use Rattle.gl_base.specs.declared.operation.Got.TheVariants.{Done}
 use Rattle.gl_model.specs.declared.call.Call.TheVariants.{MakeDir as Made}
-use Rattle.gl_chip.specs.Results.{done_of}
+use Rattle.gl_asking.specs.Results.{done_of}
 use Rattle.gl_session.proofs.Performing.{once_outcome}
 use Rattle.gl_session.proofs.on_board.mkdir.Goals as goal
 

@@ -2,7 +2,7 @@ use Rattle.std.proofs.Common.{rules, refl, []}
 use Rattle.gl_base.specs.declared.operation.Do.TheVariants.{Pin as Asked}
 use Rattle.gl_base.specs.declared.operation.Got.TheVariants.{Done}
 use Rattle.gl_model.specs.declared.call.Call.TheVariants.{Pin as Made}
-use Rattle.gl_chip.specs.Results.{done_of}
+use Rattle.gl_asking.specs.Results.{done_of}
 use Rattle.gl_base.specs.declared.errno.Errno.TheVariants.{NoEnt}
 use Rattle.gl_session.proofs.Performing.{once_outcome, refused_outcome, at_some_place, at_no_place}
 use Rattle.gl_session.proofs.on_board.pin.Goals as goal

@@ -4,7 +4,7 @@ use Rattle.gl_base.specs.declared.kind.Kind.TheVariants.{Simulated}
 use Rattle.gl_base.specs.declared.operation.Do.TheVariants.{Probe as Asked}
 use Rattle.gl_base.specs.declared.operation.Got.TheVariants.{Number}
 use Rattle.gl_model.specs.declared.call.Call.TheVariants.{Probe as Made}
-use Rattle.gl_chip.specs.Results.{number_of}
+use Rattle.gl_asking.specs.Results.{number_of}
 use Rattle.gl_session.proofs.Performing.{once_outcome, refused_outcome, probes_some, probes_none}
 use Rattle.gl_session.proofs.on_board.probe.Goals as goal
 

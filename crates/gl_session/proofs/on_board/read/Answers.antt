@@ -2,7 +2,7 @@ use Rattle.std.proofs.Common.{refl, []}
 use Rattle.gl_base.specs.declared.operation.Do.TheVariants.{Read as Asked}
 use Rattle.gl_base.specs.declared.operation.Got.TheVariants.{Text}
 use Rattle.gl_model.specs.declared.call.Call.TheVariants.{Read as Made}
-use Rattle.gl_chip.specs.Results.{text_of}
+use Rattle.gl_asking.specs.Results.{text_of}
 use Rattle.gl_session.proofs.Performing.{once_outcome}
 use Rattle.gl_session.proofs.on_board.read.Goals as goal
 

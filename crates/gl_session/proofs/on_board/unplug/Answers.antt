@@ -1,7 +1,7 @@
 use Rattle.std.proofs.Common.{rules, refl}
 use Rattle.gl_base.specs.declared.errno.Errno.TheVariants.{NoEnt}
 use Rattle.gl_base.specs.declared.operation.Do.TheVariants.{Unplug as Asked}
-use Rattle.gl_model.specs.Parts.{OfChip}
+use Rattle.gl_model.specs.declared.device_call.RemovalOf.TheVariants.{OfChip}
 use Rattle.gl_session.proofs.Performing.{removal_outcome, refused_outcome, at_some_place, at_no_place}
 use Rattle.gl_session.proofs.on_board.unplug.Goals as goal
 

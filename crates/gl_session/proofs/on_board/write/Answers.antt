@@ -2,7 +2,7 @@ use Rattle.std.proofs.Common.{refl, []}
 use Rattle.gl_base.specs.declared.operation.Do.TheVariants.{Write as Asked}
 use Rattle.gl_base.specs.declared.operation.Got.TheVariants.{Done}
 use Rattle.gl_model.specs.declared.call.Call.TheVariants.{Write as Made}
-use Rattle.gl_chip.specs.Results.{done_of}
+use Rattle.gl_asking.specs.Results.{done_of}
 use Rattle.gl_session.proofs.Performing.{once_outcome}
 use Rattle.gl_session.proofs.on_board.write.Goals as goal
 

@@ -2,9 +2,9 @@ use Rattle.std.proofs.Common.{rules, refl, [], ◌≡◌, None, Some}
 use Rattle.std.specs.List.{position}
 use Rattle.gl_base.specs.declared.operation.Do.TheVariants.{Close as Asked}
 use Rattle.gl_base.specs.declared.operation.Got.TheVariants.{Done}
-use Rattle.gl_model.specs.Parts.{Once}
+use Rattle.gl_model.specs.declared.device_call.DeviceCall.TheVariants.{Once}
 use Rattle.gl_model.specs.declared.call.Call.TheVariants.{Close as Made}
-use Rattle.gl_chip.specs.Results.{done_of}
+use Rattle.gl_asking.specs.Results.{done_of}
 use Rattle.gl_talk.proofs.NamedRows.{row_removed, no_row_removed}
 use Rattle.gl_session.specs.Asking.{Calls}
 use Rattle.gl_session.specs.Files.{is_in}

@@ -1,9 +1,9 @@
 use Rattle.std.proofs.Common.{refl, sym, subst, [], ℕ, Some}
 use Rattle.gl_base.specs.declared.operation.Do.TheVariants.{Find as Asked}
-use Rattle.gl_model.specs.Parts.{Once}
+use Rattle.gl_model.specs.declared.device_call.DeviceCall.TheVariants.{Once}
 use Rattle.gl_model.specs.declared.call.Call.TheVariants.{Find as Made}
 use Rattle.gl_chip.specs.Called.{ComesOut}
-use Rattle.gl_chip.specs.Results.{found_of}
+use Rattle.gl_asking.specs.Results.{found_of}
 use Rattle.gl_session.specs.Asking.{Calls, found_got}
 use Rattle.gl_session.specs.Rows.{place_of}
 use Rattle.gl_session.specs.declared.files.FileRow.{FileRow}

@@ -5,8 +5,8 @@ use Rattle.gl_session.specs.Rows.{row_file}
 use Rattle.gl_session.specs.declared.files.FileRow.{FileRow}
 use Rattle.gl_base.specs.declared.operation.Do.TheVariants.{Poll as Asked}
 use Rattle.gl_base.specs.declared.operation.Got.TheVariants.{Ready}
-use Rattle.gl_model.specs.Parts.{Once}
-use Rattle.gl_chip.specs.Results.{ready_of}
+use Rattle.gl_model.specs.declared.device_call.DeviceCall.TheVariants.{Once}
+use Rattle.gl_asking.specs.Results.{ready_of}
 use Rattle.gl_session.specs.Asking.{Calls, polls}
 use Rattle.gl_session.proofs.Performing.{no_slot_outcome, slot_outcome}
 use Rattle.gl_session.proofs.on_files.poll.Goals as goal

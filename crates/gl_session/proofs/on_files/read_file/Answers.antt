@@ -1,11 +1,11 @@
 use Rattle.std.proofs.Common.{rules, refl, sym, subst, length, ◌∙◌, ap}
 use Rattle.std.specs.Prelude.{get_or}
 use Rattle.gl_chip.specs.Called.{ComesOut}
-use Rattle.gl_chip.specs.Results.{number_of}
+use Rattle.gl_asking.specs.Results.{number_of}
 use Rattle.gl_session.specs.Rows.{row_file}
 use Rattle.gl_session.specs.declared.files.FileRow.{FileRow}
 use Rattle.gl_base.specs.declared.operation.Do.TheVariants.{ReadFile as Asked}
-use Rattle.gl_model.specs.Parts.{Once}
+use Rattle.gl_model.specs.declared.device_call.DeviceCall.TheVariants.{Once}
 use Rattle.gl_session.specs.Asking.{Calls, reads_from}
 use Rattle.gl_session.proofs.Performing.{no_slot_outcome, read_outcome, whole_again}
 use Rattle.gl_session.proofs.on_files.read_file.Goals as goal

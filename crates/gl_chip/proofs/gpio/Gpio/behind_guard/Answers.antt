@@ -1,5 +1,5 @@
 use Rattle.std.proofs.Common.{◌≡◌, ℕ, List, ◌++◌, length, drop}
-use Rattle.gl_model.specs.Parts.{Once}
+use Rattle.gl_model.specs.declared.device_call.DeviceCall.TheVariants.{Once}
 use Rattle.gl_chip.specs.Called.{HasCalled}
 use Rattle.gl_chip.proofs.GateSteps.{if_ok}
 use Rattle.gl_chip.proofs.WholeCalls.{called_guarded, guarded_not_full, length_guarded, form_guarded, idle_guarded, once_is_one, seen_from}

@@ -4,8 +4,9 @@ use Rattle.gl_uapi.specs.declared.layout.TheConstants.{LINE_REQUEST_SIZE}
 use Rattle.gl_model.specs.Asked.{lines_asked}
 use Rattle.gl_chip.specs.Answering.{AnswersInOrder}
 use Rattle.gl_chip.specs.Commanding.{CommandsOut, op_for, request_in, requested_of}
-use Rattle.gl_chip.specs.Files.{ChipFile, LineFile}
-use Rattle.gl_chip.specs.Handed.{command_in, handed_in}
+use Rattle.gl_asking.specs.Opened.{ChipFile}
+use Rattle.gl_chip.specs.Files.{LineFile}
+use Rattle.gl_asking.specs.Handed.{command_in, handed_in}
 use Rattle.gl_chip.proofs.CommandResults.{command_is_full, command_is_made, whole_commanded}
 use Rattle.gl_chip.proofs.RequestedFiles.{file_where_requested}
 use Rattle.gl_chip.proofs.gpio.Gpio.chip_ioctl.Goals as goal

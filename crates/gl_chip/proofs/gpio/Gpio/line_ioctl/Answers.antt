@@ -1,4 +1,4 @@
-use Rattle.std.proofs.Common.{◌≡◌, ℕ, List, [], ◌++◌, length, drop, false, Option, Some, sym, refl, subst, true, ◌∙◌}
+use Rattle.std.proofs.Common.{◌≡◌, ℕ, List, [], ◌++◌, length, drop, false, Option, Some, sym, refl, subst, ◌∙◌}
 use Rattle.std.proofs.lemmas.Bool.{true≢false}
 use Rattle.gl_driver.specs.declared.op.Op.{Op}
 use Rattle.gl_uapi.specs.Command.{command_of}
@@ -6,8 +6,8 @@ use Rattle.gl_base.specs.Count.{Rises}
 use Rattle.gl_chip.specs.Answering.{AnswersInOrder, ConfiguresInOrder}
 use Rattle.gl_chip.specs.Commanding.{CommandsOut, HasCommanded, op_for, op_of}
 use Rattle.gl_chip.specs.Files.{LineFile}
-use Rattle.gl_chip.specs.Handed.{command_in}
-use Rattle.gl_chip.specs.Results.{done_of}
+use Rattle.gl_asking.specs.Handed.{command_in}
+use Rattle.gl_asking.specs.Results.{done_of}
 use Rattle.gl_chip.proofs.Answering.{answers_in_order, configures_in_order, no_get_line}
 use Rattle.gl_chip.proofs.CommandResults.{command_is_full, command_is_made, whole_comes_out}
 use Rattle.gl_chip.proofs.gpio.Gpio.line_ioctl.Goals as goal

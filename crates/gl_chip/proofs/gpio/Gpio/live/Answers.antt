@@ -1,4 +1,5 @@
-use Rattle.gl_model.specs.Parts.{Removing, OfDevice}
+use Rattle.gl_model.specs.declared.device_call.DeviceCall.TheVariants.{Removing}
+use Rattle.gl_model.specs.declared.device_call.RemovalOf.TheVariants.{OfDevice}
 use Rattle.gl_chip.proofs.RemovalCalls.{ends_as_begun, removes_out}
 use Rattle.gl_chip.proofs.gpio.Gpio.live.Goals as goal
 

@@ -1,6 +1,6 @@
 use Rattle.std.proofs.Common.{rules, ◌≡◌, ℕ, List, length, sym, ◌∙◌}
 use Rattle.std.proofs.lemmas.Bool.{true≢false}
-use Rattle.gl_model.specs.Parts.{Removing}
+use Rattle.gl_model.specs.declared.device_call.DeviceCall.TheVariants.{Removing}
 use Rattle.gl_chip.specs.Called.{HasCalled}
 use Rattle.gl_chip.specs.Removing.{AllDrained, RemovedBy, removal_of}
 use Rattle.gl_chip.proofs.GoneChips.{ended_not_gone, refused_as_gone}

@@ -1,6 +1,6 @@
 use Rattle.std.proofs.Common.{rules, ◌≡◌, [], length}
 use Rattle.gl_gate.specs.Calls.{KnowsTheSame}
-use Rattle.gl_model.specs.Parts.{Once}
+use Rattle.gl_model.specs.declared.device_call.DeviceCall.TheVariants.{Once}
 use Rattle.gl_chip.specs.Called.{HasCalled}
 use Rattle.gl_chip.proofs.GateSteps.{if_ok}
 use Rattle.gl_chip.proofs.WholeCalls.{alone_not_full, called_alone, form_alone, idle_alone, seen_from, single_is_whole}

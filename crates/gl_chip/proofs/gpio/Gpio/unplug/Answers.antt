@@ -1,5 +1,6 @@
 use Rattle.std.proofs.Common.{refl}
-use Rattle.gl_model.specs.Parts.{Removing, OfChip}
+use Rattle.gl_model.specs.declared.device_call.DeviceCall.TheVariants.{Removing}
+use Rattle.gl_model.specs.declared.device_call.RemovalOf.TheVariants.{OfChip}
 use Rattle.gl_gate.specs.Calls.{KnowsClosed, KnowsDrained}
 use Rattle.gl_chip.specs.Opened.{LastFinds}
 use Rattle.gl_chip.specs.Removing.{is_gone_outside}

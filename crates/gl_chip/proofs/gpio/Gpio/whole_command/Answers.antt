@@ -1,7 +1,8 @@
 use Rattle.std.proofs.Common.{◌≡◌, ℕ, List, ◌++◌, length, drop, false}
-use Rattle.gl_model.specs.Parts.{Commanding, in_whole}
+use Rattle.gl_model.specs.declared.device_call.DeviceCall.TheVariants.{Commanding}
+use Rattle.gl_model.specs.Parts.{in_whole}
 use Rattle.gl_chip.specs.Called.{HasCalled}
-use Rattle.gl_chip.specs.Handed.{command_in}
+use Rattle.gl_asking.specs.Handed.{command_in}
 use Rattle.gl_chip.proofs.GateSteps.{if_ok}
 use Rattle.gl_chip.proofs.HandedBytes.{command_fits, handed_call}
 use Rattle.gl_chip.proofs.WholeCalls.{called_guarded, command_is_one, guarded_not_full, form_guarded, idle_guarded, seen_from}

@@ -1,5 +1,5 @@
-use Rattle.gl_chip.proofs.HandedBytes.{copied_is}
-use Rattle.gl_chip.proofs.handed.handed_in.Goals as goal
+use Rattle.gl_asking.proofs.HandedBytes.{copied_is}
+use Rattle.gl_asking.proofs.commanding.handed_in.Goals as goal
 
 pub returns : goal.returns
 returns c = copied_is _ c.args.buffer.now c.copy_from_slice.new.self c.min-count.ensures c.copy_from_slice.ensures.after

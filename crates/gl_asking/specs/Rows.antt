@@ -1,0 +1,39 @@
+-- What the rows of the code stand for.
+use Rattle.std.specs.Prelude.{◌<◌, Bool, true, false, Option, None, Some}
+use Rattle.gl_base.specs.Lines.{IsLineCount}
+use Rattle.gl_base.specs.declared.limits.TheConstants.{PLACES}
+use Rattle.gl_base.specs.declared.lines.Lines.{Lines}
+use Rattle.gl_asking.specs.declared.kinds.FileKind.{FileKind}
+use Rattle.gl_asking.specs.declared.kinds.FileKind.TheVariants.{Chip, Request}
+use Rattle.gl_asking.specs.declared.kinds.FileRow.{FileRow}
+use Rattle.gl_asking.specs.Files.{OpenFile, no_lines}
+
+abbrev pub is_chip : FileKind → Bool
+is_chip Chip = true
+is_chip (Request lines) = false
+
+abbrev pub lines_of : FileKind → Lines
+lines_of Chip = no_lines
+lines_of (Request lines) = lines
+
+-- the open file of a row
+abbrev pub row_file : FileRow → OpenFile
+row_file row = record { slot = row.slot; place = row.place; fd = row.fd; of_chip = is_chip row.kind; lines = lines_of row.kind }
+
+abbrev pub file_of : Option FileRow → Option OpenFile
+file_of None = None
+file_of (Some row) = Some (row_file row)
+
+-- a request has as many lines as one may have
+abbrev pub HasLines : FileKind → Type 0
+HasLines Chip = Unit {0}
+HasLines (Request lines) = IsLineCount lines.count
+
+-- A row is one of a place, and a request's has its lines.
+pub record IsRow (row : FileRow) : Type 0 where
+  pub place : row.place < PLACES
+  pub lines : HasLines row.kind
+
+abbrev pub IsSomeRow : Option FileRow → Type 0
+IsSomeRow None = Unit {0}
+IsSomeRow (Some row) = IsRow row

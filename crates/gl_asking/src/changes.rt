@@ -1,0 +1,121 @@
+//! The open files after an operation.
+
+ghost use Rattle.std.specs.Prelude.{◌≡◌, ℕ, ◌<◌, ◌^◌, List};
+ghost use Rattle.gl_base.specs.Lines.{IsLineCount};
+ghost use Rattle.gl_base.specs.declared.limits.TheConstants.{PLACES};
+ghost use Rattle.gl_model.specs.Written.{number_answered};
+ghost use Rattle.gl_model.specs.declared.reply.Reply.TheVariants.{Number};
+ghost use Rattle.gl_asking.specs.Asking.{buffer_of, file_for, files_behind, lines_named, made_on, opened};
+ghost use Rattle.gl_asking.specs.Changes.{IsChange, OpensWithin, changed};
+ghost use Rattle.gl_asking.specs.Files.{OpenFile, chip_file, with_file};
+ghost use Rattle.gl_asking.specs.Opened.{opened_of, place_named};
+ghost use Rattle.gl_asking.specs.Rows.{IsSomeRow, file_of};
+
+use crate::commanding::{handed_of, lines_named};
+use crate::kinds::{Change, FileKind, FileRow};
+use gl_base::command::GET_LINE;
+use gl_base::{Do, Lines, Path, chip_number};
+use gl_model::Reply;
+use gl_uapi::layout::LINE_REQUEST_SIZE;
+
+/// The place that a word names: 0 where it names none.
+pub fn place_named(word: &Path) -> u8
+    requires { place_named word.now < PLACES }
+    ensures { result ≡ place_named word.now }
+{
+    match chip_number(word.as_bytes()) {
+        Some(number) => number as u8,
+        None => 0,
+    }
+}
+
+/// The row of a chip's file.
+fn chip_row(slot: u32, place: u8, fd: u32) -> Change
+    requires { place < PLACES }
+    ensures row { IsChange result }
+    ensures told { (files : List OpenFile) → changed result files ≡ with_file (chip_file slot place fd) files }
+{
+    Change::Adds(FileRow {
+        slot,
+        place,
+        fd,
+        kind: FileKind::Chip,
+    })
+}
+
+/// A chip that was opened into a slot. A reply of another form doesn't come.
+fn opened(slot: u32, word: &Path, reply: Reply) -> Change
+    requires number { number_answered reply < 2 ^ 32 }
+    requires place { (fd : ℕ) → reply ≡ Number fd → place_named word.now < PLACES }
+    ensures row { IsChange result }
+    ensures told { (files : List OpenFile) → opened slot (opened_of word.now reply) files ≡ changed result files }
+{
+    match reply {
+        Reply::Refused(_) => Change::Stays,
+        Reply::Number(number) => chip_row(slot, place_named(word), number as u32),
+        _ => chip_row(slot, 0, 0),
+    }
+}
+
+/// The lines that the structure in a command's buffer names.
+fn lines_asked(len: u32, bytes: &[u8; LINE_REQUEST_SIZE]) -> Lines
+    ensures { result ≡ lines_named (buffer_of len bytes.now) }
+{
+    lines_named(&handed_of(len, bytes))
+}
+
+/// A request of these lines that was made on a file, into a slot.
+fn made(slot: u32, row: Option<FileRow>, lines: &Lines, reply: Reply) -> Change
+    requires number { number_answered reply < 2 ^ 32 }
+    requires row { IsSomeRow row }
+    requires lines { (fd : ℕ) → reply ≡ Number fd → IsLineCount lines.now.count }
+    ensures row { IsChange result }
+    ensures told { (files : List OpenFile) → made_on slot (file_of row) lines.now reply files ≡ changed result files }
+{
+    match (row, reply) {
+        (
+            Some(
+                FileRow {
+                    place,
+                    kind: FileKind::Chip,
+                    ..
+                },
+            ),
+            Reply::Number(number),
+        ) => Change::Adds(FileRow {
+            slot,
+            place,
+            fd: number as u32,
+            kind: FileKind::Request(*lines),
+        }),
+        _ => Change::Stays,
+    }
+}
+
+/// What becomes of the open files by an operation on this file, with this reply of the machine. A file that was to be closed is gone,
+/// whatever the reply.
+pub fn files_behind(what: &Do, row: Option<FileRow>, reply: Reply) -> Change
+    requires within { OpensWithin what.now reply }
+    requires row { IsSomeRow row }
+    ensures row { IsChange result }
+    ensures told { (files : List OpenFile) → file_for what.now files ≡ file_of row → files_behind what.now reply files ≡ changed result files }
+{
+    match what {
+        Do::OpenChip { slot, word } => opened(*slot, word, reply),
+        Do::Ioctl {
+            cmd,
+            len,
+            bytes,
+            made: slot,
+            ..
+        } => {
+            if *cmd == GET_LINE {
+                made(*slot, row, &lines_asked(*len, bytes), reply)
+            } else {
+                Change::Stays
+            }
+        }
+        Do::Close { slot } => Change::Removes(*slot),
+        _ => Change::Stays,
+    }
+}

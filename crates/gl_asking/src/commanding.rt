@@ -1,0 +1,86 @@
+//! A command on an open file, as it is handed in.
+
+ghost use Rattle.std.specs.Prelude.{◌≡◌, ◌<◌, length, take};
+ghost use Rattle.gl_model.specs.Asked.{lines_asked};
+ghost use Rattle.gl_model.specs.Fits.{FitsBytes};
+ghost use Rattle.gl_model.specs.declared.device_call.DeviceCall.TheVariants.{Commanding};
+ghost use Rattle.gl_uapi.specs.declared.layout.TheConstants.{LINE_REQUEST_SIZE};
+ghost use Rattle.gl_asking.specs.Asking.{buffer_of};
+ghost use Rattle.gl_asking.specs.Fitting.{FitsDevice};
+ghost use Rattle.gl_asking.specs.Handed.{command_in, handed_in};
+ghost use Rattle.gl_asking.specs.Rows.{IsRow, is_chip};
+
+use crate::kinds::{FileKind, FileRow};
+use gl_base::{LINES_PER_REQUEST, Lines};
+use gl_model::CommandIn;
+use gl_uapi::RequestRef;
+use gl_uapi::layout::LINE_REQUEST_SIZE;
+
+/// The bytes of a command that is called with a buffer: those of the buffer, at most as many as the longest structure has, and
+/// then zeros.
+pub fn handed_in(buffer: &[u8]) -> [u8; LINE_REQUEST_SIZE]
+    ensures { result ≡ handed_in buffer.now }
+{
+    let mut bytes = [0; LINE_REQUEST_SIZE];
+    let count = buffer.len().min(LINE_REQUEST_SIZE);
+    bytes[..count].copy_from_slice(&buffer[..count]);
+    bytes
+}
+
+/// The lines that a request names, in order, as many as its bytes say.
+pub fn lines_in(request: &RequestRef<'_>) -> Lines
+    ensures { result ≡ lines_asked request.now }
+{
+    let mut offsets = [0; LINES_PER_REQUEST as usize];
+    for i in 0..LINES_PER_REQUEST {
+        offsets[i as usize] = request.offset(i);
+    }
+    Lines {
+        count: request.num_lines(),
+        offsets,
+    }
+}
+
+/// The lines that the bytes of a request name, in order, as many as the bytes say.
+pub fn lines_named(bytes: &[u8; LINE_REQUEST_SIZE]) -> Lines
+    ensures { result ≡ lines_asked (take LINE_REQUEST_SIZE bytes.now) }
+{
+    lines_in(&RequestRef::of(bytes).unwrap())
+}
+
+/// The bytes that are handed in for a buffer of this length that begins with these bytes.
+pub(crate) fn handed_of(len: u32, bytes: &[u8; LINE_REQUEST_SIZE]) -> [u8; LINE_REQUEST_SIZE]
+    ensures told { result ≡ handed_in (buffer_of len bytes.now) }
+    ensures fits { FitsBytes len result }
+{
+    let count = bytes.len().min(len as usize);
+    handed_in(&bytes[..count])
+}
+
+/// The row is a chip's.
+pub(crate) fn is_chip(row: &FileRow) -> bool
+    ensures { result ≡ is_chip row.now.kind }
+{
+    matches!(row.kind, FileKind::Chip)
+}
+
+/// The command of a number on an open file, with a buffer of this length that begins with these bytes.
+pub(crate) fn command_on(
+    row: &FileRow,
+    cmd: u32,
+    len: u32,
+    bytes: &[u8; LINE_REQUEST_SIZE],
+) -> CommandIn
+    requires { IsRow row.now }
+    ensures fits { FitsDevice (Commanding result) }
+    ensures told { result ≡ command_in row.now.place row.now.fd (is_chip row.now.kind) cmd (buffer_of len bytes.now) }
+{
+    CommandIn {
+        place: row.place,
+        fd: row.fd,
+        of_chip: is_chip(row),
+        cmd,
+        len,
+        bytes: handed_of(len, bytes),
+    }
+}

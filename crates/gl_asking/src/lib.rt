@@ -1,0 +1,17 @@
+//! What each operation of a client is on the device, and what it is answered.
+//!
+//! Three functions, one case an operation: which call of the device it is, by the file that it names; what the client gets of the
+//! machine's reply; and what becomes of the client's open files. They take no memory, and know nothing of how a call is made.
+#![tactic(auto)]
+
+mod answers;
+mod changes;
+mod commanding;
+mod kinds;
+mod operations;
+
+pub use answers::got_of;
+pub use changes::{files_behind, place_named};
+pub use commanding::{handed_in, lines_in, lines_named};
+pub use kinds::{Asking, Change, FileKind, FileRow};
+pub use operations::asking_of;

@@ -1,0 +1,229 @@
+//! What each operation is on the device.
+
+ghost use Rattle.std.specs.Prelude.{◌≡◌, ◌≤◌, ◌<◌, ℕ, List, Some, true, IsTrue};
+ghost use Rattle.gl_base.specs.declared.limits.TheConstants.{LINES_MAX, PLACES};
+ghost use Rattle.gl_model.specs.Fits.{FitsCall};
+ghost use Rattle.gl_model.specs.Parts.{is_single};
+ghost use Rattle.gl_model.specs.declared.call.Call.TheVariants.{Irq, Level, Pin, Pull, Write};
+ghost use Rattle.gl_asking.specs.Fitting.{FitsAsking, FitsDevice};
+ghost use Rattle.gl_asking.specs.declared.kinds.Asking.TheVariants.{Calls};
+ghost use Rattle.gl_asking.specs.Asking.{asking, at_place, file_for, has_lines, lives, once, polls, probes, reads_from};
+ghost use Rattle.gl_asking.specs.Files.{OpenFile};
+ghost use Rattle.gl_asking.specs.Rows.{IsRow, IsSomeRow, file_of, row_file};
+
+use crate::commanding::{command_on, is_chip};
+use crate::kinds::{Asking, FileRow};
+use gl_base::{Do, Errno, IrqDo, Kind, LINES_MAX, Name, PLACES, Path, PinDo};
+use gl_model::{Call, DeviceCall, RemovalOf};
+
+/// A simulated chip may have so many lines.
+fn has_lines(lines: u32) -> bool
+    ensures told { result ≡ has_lines lines }
+    ensures some { result ≡ true → (1 ≤ lines) × (lines ≤ LINES_MAX) }
+{
+    1 <= lines && lines <= LINES_MAX
+}
+
+/// A chip of so many lines.
+fn probes(label: Name, lines: u32) -> Asking
+    ensures told { result ≡ probes label lines }
+    ensures fits { FitsAsking result }
+{
+    // That a name is one is known once it is read.
+    let _name = label.as_bytes();
+    if !has_lines(lines) {
+        return Asking::Refuses(Errno::Inval);
+    }
+    Asking::Calls(DeviceCall::Once(Call::Probe {
+        label,
+        lines,
+        kind: Kind::Simulated,
+    }))
+}
+
+/// A call at a place that a device has.
+fn at_place(place: u8, call: DeviceCall) -> Asking
+    requires { place < PLACES → FitsDevice call }
+    ensures told { result ≡ at_place place (Calls call) }
+    ensures fits { FitsAsking result }
+{
+    if place < PLACES {
+        Asking::Calls(call)
+    } else {
+        Asking::Refuses(Errno::NoEnt)
+    }
+}
+
+/// A device comes up, or goes down.
+fn lives(device: Name, up: bool) -> Asking
+    ensures told { result ≡ lives device up }
+    ensures fits { FitsAsking result }
+{
+    if up {
+        Asking::Calls(DeviceCall::Once(Call::Live { device }))
+    } else {
+        Asking::Calls(DeviceCall::Removing(RemovalOf::OfDevice(device)))
+    }
+}
+
+/// A value of the tree.
+fn writes(path: &Path, value: &Name) -> Asking
+    ensures told { result ≡ once (Write path.now value.now) }
+    ensures fits { FitsAsking result }
+{
+    let _name = value.as_bytes();
+    Asking::Calls(DeviceCall::Once(Call::Write {
+        path: *path,
+        value: *value,
+    }))
+}
+
+/// A read from a file.
+fn reads_from(len: u32, row: &FileRow) -> Call
+    requires { IsRow row.now }
+    ensures told { result ≡ reads_from len (row_file row.now) }
+    ensures fits { (is_single result ≡ true) × FitsCall result }
+{
+    let FileRow { place, fd, .. } = *row;
+    if is_chip(row) {
+        Call::ReadInfo { place, fd, len }
+    } else {
+        Call::ReadEdges { place, fd, len }
+    }
+}
+
+/// A poll of a file.
+fn polls(row: &FileRow) -> Call
+    requires { IsRow row.now }
+    ensures told { result ≡ polls (row_file row.now) }
+    ensures fits { (is_single result ≡ true) × FitsCall result }
+{
+    let FileRow { place, fd, .. } = *row;
+    if is_chip(row) {
+        Call::PollChip { place, fd }
+    } else {
+        Call::PollLine { place, fd }
+    }
+}
+
+/// What an operation on this file is.
+fn on_file(row: &FileRow, what: &Do) -> Asking
+    requires { IsRow row.now }
+    ensures told { (files : List OpenFile) → file_for what.now files ≡ Some (row_file row.now) → result ≡ asking files what.now }
+    ensures fits { FitsAsking result }
+{
+    match what {
+        Do::Find { name, .. } => Asking::Calls(DeviceCall::Once(Call::Find {
+            place: Some(row.place),
+            name: *name,
+        })),
+        Do::Ioctl {
+            cmd,
+            len,
+            bytes,
+            ..
+        } => Asking::Calls(DeviceCall::Commanding(command_on(row, *cmd, *len, bytes))),
+        Do::ReadFile { len, .. } => Asking::Calls(DeviceCall::Once(reads_from(*len, row))),
+        Do::Poll { .. } => Asking::Calls(DeviceCall::Once(polls(row))),
+        Do::Close { .. } => Asking::Calls(DeviceCall::Once(Call::Close { fd: row.fd })),
+        _ => Asking::Refuses(Errno::BadF),
+    }
+}
+
+/// Something with the pins of a place.
+fn pins(place: u8, what: PinDo) -> Asking
+    ensures told { result ≡ at_place place (once (Pin place what)) }
+    ensures fits { FitsAsking result }
+{
+    at_place(place, DeviceCall::Once(Call::Pin { place, what }))
+}
+
+/// Something with the interrupt of a line.
+fn irq(place: u8, offset: u32, what: IrqDo) -> Asking
+    ensures told { result ≡ at_place place (once (Irq place offset what)) }
+    ensures fits { FitsAsking result }
+{
+    let call = Call::Irq {
+        place,
+        offset,
+        what,
+    };
+    at_place(place, DeviceCall::Once(call))
+}
+
+/// A pull of a line.
+fn pulls(place: u8, offset: u32, up: bool) -> Asking
+    ensures told { result ≡ at_place place (once (Pull place offset up)) }
+    ensures fits { FitsAsking result }
+{
+    at_place(place, DeviceCall::Once(Call::Pull { place, offset, up }))
+}
+
+/// The level of a line, or its pull.
+fn level(place: u8, offset: u32, pull: bool) -> Asking
+    ensures told { result ≡ at_place place (once (Level place offset pull)) }
+    ensures fits { FitsAsking result }
+{
+    let call = Call::Level {
+        place,
+        offset,
+        pull,
+    };
+    at_place(place, DeviceCall::Once(call))
+}
+
+/// One call of the machine that is whole by itself.
+fn once(call: Call) -> Asking
+    requires { (is_single call ≡ true) × FitsCall call }
+    ensures told { result ≡ once call }
+    ensures fits { FitsAsking result }
+{
+    Asking::Calls(DeviceCall::Once(call))
+}
+
+/// What an operation is, by the row of the open file that it names; None where it names none, or that isn't open.
+///
+/// An operation on a slot without a file is refused with `BadF`; `NoEnt` where it names a place that no device has; a chip of no line,
+/// or of more than `LINES_MAX`, with `Inval`. These are refused without a call (this project's choice). Every other operation is a call that
+/// may be made, or a plan.
+pub fn asking_of(what: &Do, row: Option<FileRow>) -> Asking
+    requires row { IsSomeRow row }
+    ensures told { (files : List OpenFile) → file_for what.now files ≡ file_of row → result ≡ asking files what.now }
+    ensures fits { FitsAsking result }
+{
+    match what {
+        Do::Probe { label, lines } => probes(*label, *lines),
+        Do::Unplug { place } => at_place(*place, DeviceCall::Removing(RemovalOf::OfChip(*place))),
+        Do::MakeDir(path) => once(Call::MakeDir { path: *path }),
+        Do::RemoveDir(path) => once(Call::RemoveDir { path: *path }),
+        Do::Write { path, value } => writes(path, value),
+        Do::Read(path) => once(Call::Read { path: *path }),
+        Do::Live { device, up } => lives(*device, *up),
+        Do::Tick { mono, real } => once(Call::Tick {
+            mono: *mono,
+            real: *real,
+        }),
+        Do::Pin { place, what } => pins(*place, *what),
+        Do::Irq {
+            place,
+            offset,
+            what,
+        } => irq(*place, *offset, *what),
+        Do::Pull { place, offset, up } => pulls(*place, *offset, *up),
+        Do::Level {
+            place,
+            offset,
+            pull,
+        } => level(*place, *offset, *pull),
+        Do::OpenChip { word, .. } => once(Call::OpenChip { word: *word }),
+        Do::Find { slot: None, name } => once(Call::Find {
+            place: None,
+            name: *name,
+        }),
+        Do::Plan { nth } => Asking::Plans(*nth),
+        _ => match row {
+            Some(row) => on_file(&row, what),
+            None => Asking::Refuses(Errno::BadF),
+        },
+    }
+}

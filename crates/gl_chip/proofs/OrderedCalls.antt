@@ -1,0 +1,84 @@
+-- Any call of the device, as it is ordered.
+use Rattle.std.proofs.Common.{◌≡◌, ◌⊎◌, inl, inr, ℕ, ◌<◌, Bool, true, false, List, ◌++◌, length, drop, Option, Result, IfOk, IfErr, refl, sym, ap, ◌∙◌, subst}
+use Rattle.std.specs.Prelude.{◌^◌}
+use Rattle.std.proofs.lemmas.Bool.{true≢false}
+use Rattle.gl_base.specs.declared.errno.Errno.{Errno}
+use Rattle.gl_base.specs.declared.errno.Errno.TheVariants.{Full, NoMemory}
+use Rattle.gl_driver.specs.Told.{Told}
+use Rattle.gl_driver.specs.declared.op.Op.{Op}
+use Rattle.gl_uapi.specs.Command.{command_of}
+use Rattle.gl_model.specs.declared.device_call.CommandIn.{CommandIn}
+use Rattle.gl_model.specs.declared.device_call.DeviceCall.TheVariants.{Commanding, Removing}
+use Rattle.gl_model.specs.declared.device_call.RemovalOf.{RemovalOf}
+use Rattle.gl_model.specs.declared.reply.Reply.{Reply}
+use Rattle.gl_model.specs.declared.reply.Reply.TheVariants.{Number}
+use Rattle.gl_model.specs.Parts.{in_whole, is_driver_asked}
+use Rattle.gl_model.specs.Replies.{has_form}
+use Rattle.gl_model.specs.Step.{guard_reply}
+use Rattle.gl_chip.specs.Called.{HasCalled}
+use Rattle.gl_chip.specs.Commanding.{HasCommanded, IsOp}
+use Rattle.gl_asking.specs.declared.kinds.FileKind.TheVariants.{Chip}
+use Rattle.gl_chip.specs.Orders.{CouldNot, HasDone}
+use Rattle.gl_chip.specs.Removing.{AllDrained}
+use Rattle.gl_chip.specs.Steps.{FoundNoRoom}
+use Rattle.gl_chip.specs.Values.{ActorValue, OneEntry, core}
+use Rattle.gl_chip.proofs.CommandResults.{whole_commanded}
+use Rattle.gl_chip.proofs.GateSteps.{if_err, if_ok}
+use Rattle.gl_chip.proofs.RequestedLines.{whole_no_number}
+
+module _ {P : Type 0} (told : P → Option Told) (faults : P → ℕ) (Own : P → ℕ → Op → List OneEntry → Type 0) (limit : ℕ) (planned : Bool) where
+  -- a command with the buffer that it is called with, and what the driver is asked for it
+  pub as_ordered : (result : Result Reply Errno) (op wanted : Option Op) (a b : ActorValue P) (c d : CommandIn) (old new : List ℕ) → c ≡ d → wanted ≡ op
+      → IfOk result (λ r. (bytes : List ℕ) × (new ≡ bytes ++ drop (length bytes) old) × HasCommanded told faults Own limit planned op a d r bytes b)
+      → IfOk result (λ r. (bytes : List ℕ) × (new ≡ bytes ++ drop (length bytes) old) × HasCommanded told faults Own limit planned wanted a c r bytes b)
+  as_ordered result op wanted a b c d old new is wants h =
+      subst (λ (o : Option Op). IfOk result (λ r. (bytes : List ℕ) × (new ≡ bytes ++ drop (length bytes) old) × HasCommanded told faults Own limit planned o a c r bytes b)) (sym wants)
+      (subst (λ (x : CommandIn). IfOk result (λ r. (bytes : List ℕ) × (new ≡ bytes ++ drop (length bytes) old) × HasCommanded told faults Own limit planned op a x r bytes b)) (sym is) h)
+
+  -- one for which the driver isn't asked
+  pub whole_ordered : (result : Result Reply Errno) (op : Option Op) (a b : ActorValue P) (c d : CommandIn) (old new : List ℕ) → c ≡ d → is_driver_asked d.of_chip d.len (command_of d.cmd) ≡ false → b.port ≡ a.port
+      → IfOk result (λ r. (bytes : List ℕ) × (new ≡ bytes ++ drop (length bytes) old) × HasCalled 0 a.pass.view (Commanding d) r bytes b.pass.view)
+      → IfOk result (λ r. (bytes : List ℕ) × (new ≡ bytes ++ drop (length bytes) old) × HasCommanded told faults Own limit planned op a c r bytes b)
+  whole_ordered result op a b c d old new is not_asked same h =
+      as_ordered result op op a b c d old new is refl (if_ok result _ _ (λ r k. (k.0, k.1, whole_commanded told faults Own limit planned op a b d r k.0 not_asked k.2 same)) h)
+
+abbrev is_number : Reply → Bool
+is_number (Number n) = true
+is_number _ = false
+
+no_number : (c : CommandIn) (reply : Reply) → (reply ≡ guard_reply false) ⊎ (has_form (in_whole c) reply ≡ true) → (n : ℕ) → reply ≡ Number n → ⊥
+no_number c reply (inl gone) n is = true≢false (ap is_number (sym is ∙ gone))
+no_number c reply (inr form) n is = whole_no_number (command_of c.cmd) n (subst (λ r. has_form (in_whole c) r ≡ true) is form)
+
+-- it is answered no number
+pub whole_numbers : (result : Result Reply Errno) (op : Option Op) (c : CommandIn) → IfOk result (λ r. (r ≡ guard_reply false) ⊎ (has_form (in_whole c) r ≡ true)) → IfOk result (λ r. (n : ℕ) → r ≡ Number n → (n < 2 ^ 31) × IsOp op)
+whole_numbers result op c h = if_ok result _ _ (λ r form n is. absurd (no_number c r form n is)) h
+
+pub number_ordered : (result : Result Reply Errno) (op wanted : Option Op) → wanted ≡ op → IfOk result (λ r. (n : ℕ) → r ≡ Number n → (n < 2 ^ 31) × IsOp op) → IfOk result (λ r. (n : ℕ) → r ≡ Number n → (n < 2 ^ 31) × IsOp wanted)
+number_ordered result op wanted wants h = subst (λ (o : Option Op). IfOk result (λ r. (n : ℕ) → r ≡ Number n → (n < 2 ^ 31) × IsOp o)) (sym wants) h
+
+module _ {P : Type 0} where
+  -- memory was wanted
+  pub wanted : (errno : Errno) (a : ActorValue P) → errno ≡ NoMemory → CouldNot errno a a
+  wanted errno a is = inl (is, refl)
+
+  -- the history was full
+  pub was_full : (result : Result Reply Errno) (a b : ActorValue P) (old new : List ℕ) → IfErr result (λ e. (e ≡ Full) × (new ≡ old) × (b.port ≡ a.port) × FoundNoRoom core a.pass.view b.pass.view)
+      → IfErr result (λ e. CouldNot e a b × (new ≡ old))
+  was_full result a b old new h = if_err result _ _ (λ e k. (inr (k.0, k.2, k.3), k.1)) h
+
+  pub was_full_alone : (result : Result Reply Errno) (a b : ActorValue P) (old new : List ℕ) → b.port ≡ a.port → IfErr result (λ e. (e ≡ Full) × (new ≡ old) × FoundNoRoom core a.pass.view b.pass.view)
+      → IfErr result (λ e. CouldNot e a b × (new ≡ old))
+  was_full_alone result a b old new same h = if_err result _ _ (λ e k. (inr (k.0, same, k.2), k.1)) h
+
+  pub was_full_removing : (result : Result Reply Errno) (a b : ActorValue P) → b.port ≡ a.port → IfErr result (λ e. (e ≡ Full) × FoundNoRoom core a.pass.view b.pass.view) → IfErr result (λ e. CouldNot e a b)
+  was_full_removing result a b same h = if_err result _ _ (λ e k. inr (k.0, same, k.1)) h
+
+-- a removal that was made
+module _ {P : Type 0} (told : P → Option Told) (faults : P → ℕ) (Own : P → ℕ → Op → List OneEntry → Type 0) (limit : ℕ) (planned : Bool) where
+  pub removal_done : (result : Result Reply Errno) (a b : ActorValue P) (removal given : RemovalOf) → given ≡ removal → b.port ≡ a.port
+      → IfOk result (λ r. (bytes : List ℕ) × (called : HasCalled 0 a.pass.view (Removing given) r bytes b.pass.view) × AllDrained called.did b.pass.view)
+      → IfOk result (λ r. (bytes : List ℕ) × HasDone told faults Own limit planned (Removing removal) Chip a r bytes b)
+  removal_done result a b removal given is same h =
+      if_ok result _ _ (λ r k. (k.0, (k.1, k.2, same)))
+      (subst (λ (x : RemovalOf). IfOk result (λ r. (bytes : List ℕ) × (called : HasCalled 0 a.pass.view (Removing x) r bytes b.pass.view) × AllDrained called.did b.pass.view)) is h)

@@ -1,0 +1,82 @@
+-- Any call of the device as one value, and how it comes out.
+use Rattle.std.specs.Prelude.{◌≡◌, ◌⊎◌, ℕ, ◌<◌, ◌^◌, Bool, false, List, ◌++◌, length, take, drop, Option, None}
+use Rattle.gl_base.specs.declared.errno.Errno.{Errno}
+use Rattle.gl_base.specs.declared.errno.Errno.TheVariants.{Full, NoMemory}
+use Rattle.gl_base.specs.declared.lines.Lines.{Lines}
+use Rattle.gl_driver.specs.Told.{Told}
+use Rattle.gl_driver.specs.declared.op.Op.{Op}
+use Rattle.gl_uapi.specs.declared.layout.TheConstants.{LINE_REQUEST_SIZE}
+use Rattle.gl_model.specs.declared.device_call.CommandIn.{CommandIn}
+use Rattle.gl_model.specs.declared.device_call.DeviceCall.{DeviceCall}
+use Rattle.gl_model.specs.declared.device_call.DeviceCall.TheVariants.{Once, Removing, Commanding}
+use Rattle.gl_model.specs.declared.reply.Reply.{Reply}
+use Rattle.gl_model.specs.declared.reply.Reply.TheVariants.{Number, Refused}
+use Rattle.gl_model.specs.Asked.{lines_asked}
+use Rattle.gl_model.specs.Entries.{guarded_place, is_done}
+use Rattle.gl_model.specs.Fits.{FitsBuffer}
+use Rattle.gl_asking.specs.declared.kinds.FileKind.{FileKind}
+use Rattle.gl_asking.specs.declared.kinds.FileKind.TheVariants.{Chip, Request}
+use Rattle.gl_asking.specs.Fitting.{FitsDevice}
+use Rattle.gl_asking.specs.Handed.{command_in}
+use Rattle.gl_asking.specs.Rows.{HasLines, is_chip}
+use Rattle.gl_chip.specs.Called.{HasCalled}
+use Rattle.gl_chip.specs.Calling.{Answers}
+use Rattle.gl_chip.specs.Commanding.{HasCommanded, IsOp, op_for}
+use Rattle.gl_chip.specs.Removing.{AllDrained}
+use Rattle.gl_chip.specs.Steps.{FoundNoRoom}
+use Rattle.gl_chip.specs.Values.{ActorValue, OneEntry, core}
+
+-- the lines that a command is on: on a chip those that its structure names, on a request the request's
+abbrev pub lines_on : FileKind → CommandIn → Lines
+lines_on Chip c = lines_asked (take LINE_REQUEST_SIZE c.bytes)
+lines_on (Request lines) c = lines
+
+-- what the driver is asked for a call, where it is asked
+abbrev pub op_ordered : DeviceCall → FileKind → Option Op
+op_ordered (Once call) on = None
+op_ordered (Removing removal) on = None
+op_ordered (Commanding c) on = op_for (lines_on on c) c
+
+-- a command is on a file of its own kind
+abbrev pub FitsFile : DeviceCall → FileKind → Type 0
+FitsFile (Once call) on = Unit {0}
+FitsFile (Removing removal) on = Unit {0}
+FitsFile (Commanding c) on = (c.of_chip ≡ is_chip on) × HasLines on
+
+-- and is handed in with its buffer
+abbrev pub FitsOut : DeviceCall → List ℕ → Type 0
+FitsOut (Once call) out = FitsBuffer call out
+FitsOut (Removing removal) out = Unit {0}
+FitsOut (Commanding c) out = c ≡ command_in c.place c.fd c.of_chip c.cmd out
+
+-- A call may be made on a file of this kind, with this buffer.
+pub record FitsOrder (call : DeviceCall) (on : FileKind) (out : List ℕ) : Type 0 where
+  pub device : FitsDevice call
+  pub file : FitsFile call on
+  pub buffer : FitsOut call out
+
+-- what a call wrote stands at the start of its buffer; a removal writes into none
+abbrev pub WroteTo : DeviceCall → List ℕ → List ℕ → List ℕ → Type 0
+WroteTo (Once call) bytes old new = new ≡ bytes ++ drop (length bytes) old
+WroteTo (Removing removal) bytes old new = new ≡ old
+WroteTo (Commanding c) bytes old new = new ≡ bytes ++ drop (length bytes) old
+
+-- The form of what a call is answered: of one call of the machine by its guard; of a removal that isn't done, why; of a command a number
+-- only where it has made a request.
+abbrev pub AnswersOrder : DeviceCall → FileKind → Reply → Type 0
+AnswersOrder (Once call) on reply = Answers (guarded_place call) call reply
+AnswersOrder (Removing removal) on reply = is_done reply ≡ false → (errno : Errno) × (reply ≡ Refused errno)
+AnswersOrder (Commanding c) on reply = (n : ℕ) → reply ≡ Number n → (n < 2 ^ 31) × IsOp (op_for (lines_on on c) c)
+
+-- A call wasn't made: memory was wanted, and nothing was done; or the history was full.
+abbrev pub CouldNot : {P : Type 0} → Errno → ActorValue P → ActorValue P → Type 0
+CouldNot errno a b = ((errno ≡ NoMemory) × (b ≡ a)) ⊎ ((errno ≡ Full) × (b.port ≡ a.port) × FoundNoRoom core a.pass.view b.pass.view)
+
+module _ {P : Type 0} (told : P → Option Told) (faults : P → ℕ) (Own : P → ℕ → Op → List OneEntry → Type 0) (limit : ℕ) (planned : Bool) where
+  -- What a call did, by what it is. One call of the machine and a removal leave the port as it was, and each place whose removal
+  -- was begun is closed and drained; a command asks the driver as it says (`HasCommanded`).
+  abbrev pub HasDone : DeviceCall → FileKind → ActorValue P → Reply → List ℕ → ActorValue P → Type 0
+  HasDone (Once call) on a reply bytes b = HasCalled 0 a.pass.view (Once call) reply bytes b.pass.view × (b.port ≡ a.port)
+  HasDone (Removing removal) on a reply bytes b =
+      (called : HasCalled 0 a.pass.view (Removing removal) reply bytes b.pass.view) × AllDrained called.did b.pass.view × (b.port ≡ a.port)
+  HasDone (Commanding c) on a reply bytes b = HasCommanded told faults Own limit planned (op_for (lines_on on c) c) a c reply bytes b

@@ -1,0 +1,87 @@
+//! One call of the machine as a call of the device: with a guard or without one, by the call itself.
+
+ghost use Rattle.std.specs.Prelude.{◌≡◌, ◌≢◌, ◌++◌, ℕ, List, [], Some, None, true, length, drop, IfOk, IfErr};
+ghost use Rattle.gl_base.specs.declared.errno.Errno.TheVariants.{Full};
+ghost use Rattle.gl_model.specs.declared.device_call.DeviceCall.TheVariants.{Once};
+ghost use Rattle.gl_model.specs.declared.reply.Reply.TheVariants.{Refused};
+ghost use Rattle.gl_model.specs.Entries.{guarded_place};
+ghost use Rattle.gl_model.specs.Fits.{Fits};
+ghost use Rattle.gl_model.specs.Parts.{is_poll, is_single};
+ghost use Rattle.gl_chip.specs.Called.{HasCalled};
+ghost use Rattle.gl_chip.specs.Calling.{Answers, KnowsBy, WroteBy};
+ghost use Rattle.gl_chip.specs.Steps.{FoundNoRoom};
+ghost use Rattle.gl_chip.specs.Values.{IsActorOf, IsSameActor, core};
+
+use crate::actor::Actor;
+use crate::gpio::Gpio;
+use gl_base::Errno;
+use gl_core::entries::place_of;
+use gl_core::{Call, Core, Gift, Reply};
+use gl_driver::Driver;
+use std::sync::Wait;
+
+/// The call is a poll.
+fn is_poll(call: &Call) -> bool
+    ensures { result ≡ is_poll (Once call.now) }
+{
+    matches!(call, Call::PollLine { .. } | Call::PollChip { .. })
+}
+
+impl<D: Driver<Core>> Gpio<D> {
+    /// A call of the machine that is whole by itself, with the guard that it needs, if it needs one. It brings the memory that
+    /// `gl_core::fits::gift_for` takes for it, and a buffer of the length that it names.
+    ///
+    /// Where its guard is closed it is answered `NoDev`, and a poll 6, as a reply. `Full` where the history is full; that is its only
+    /// error.
+    pub fn once<R: Wait>(
+        &self,
+        rt: &R,
+        actor: &mut Actor<D>,
+        call: Call,
+        gift: &mut Gift,
+        out: &mut [u8],
+    ) -> Result<Reply, Errno>
+        requires actor { IsActorOf self.now actor.old }
+        requires single { is_single call ≡ true }
+        requires fits { Fits call gift.old out.old }
+        ensures actor { IsActorOf self.now actor.new }
+        ensures same { IsSameActor actor.old.pass.view actor.new.pass.view }
+        ensures port { actor.new.port ≡ actor.old.port }
+        ensures places { KnowsBy (guarded_place call) actor.old.pass.view actor.new.pass.view }
+        ensures called { IfOk result (λ r. (bytes : List ℕ) × (out.new ≡ bytes ++ drop (length bytes) out.old)
+            × HasCalled 0 actor.old.pass.view (Once call) r bytes actor.new.pass.view) }
+        ensures form { IfOk result (Answers (guarded_place call) call) }
+        ensures lengths { IfOk result (WroteBy (guarded_place call) call out.old out.new) }
+        ensures not_full { IfOk result (λ r. r ≢ Refused Full) }
+        ensures full { IfErr result (λ e. (e ≡ Full) × (out.new ≡ out.old)
+            × FoundNoRoom core actor.old.pass.view actor.new.pass.view) }
+    {
+        match place_of(&call) {
+            None => self.unguarded(rt, actor, call, gift),
+            Some(place) => self.behind_guard(rt, actor, place, call, is_poll(&call), out),
+        }
+    }
+
+    /// Such a call without a buffer.
+    pub(crate) fn plain<R: Wait>(
+        &self,
+        rt: &R,
+        actor: &mut Actor<D>,
+        call: Call,
+        gift: &mut Gift,
+    ) -> Result<Reply, Errno>
+        requires actor { IsActorOf self.now actor.old }
+        requires single { is_single call ≡ true }
+        requires fits { Fits call gift.old [] }
+        ensures actor { IsActorOf self.now actor.new }
+        ensures same { IsSameActor actor.old.pass.view actor.new.pass.view }
+        ensures port { actor.new.port ≡ actor.old.port }
+        ensures places { KnowsBy (guarded_place call) actor.old.pass.view actor.new.pass.view }
+        ensures called { IfOk result (λ r. HasCalled 0 actor.old.pass.view (Once call) r [] actor.new.pass.view) }
+        ensures form { IfOk result (Answers (guarded_place call) call) }
+        ensures not_full { IfOk result (λ r. r ≢ Refused Full) }
+        ensures full { IfErr result (λ e. (e ≡ Full) × FoundNoRoom core actor.old.pass.view actor.new.pass.view) }
+    {
+        self.once(rt, actor, call, gift, &mut [])
+    }
+}
