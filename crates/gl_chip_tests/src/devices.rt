@@ -79,6 +79,15 @@ impl<D: Driver<Core>> Device<D> {
         self.gpio.probe(rt, &mut self.actor, label, lines, kind)
     }
 
+    /// Makes a simulated chip of so many lines without a label, and opens the chip of place 0.
+    pub fn opened<R: Wait>(&mut self, rt: &R, alloc: Global, lines: u32) -> Result<ChipFd, Errno>
+        requires some { 1 ≤ lines }
+        requires few { lines ≤ LINES_MAX }
+    {
+        self.probe(rt, Name::empty(), lines, Kind::Simulated)?;
+        self.open(rt, alloc, b"gpiochip0")
+    }
+
     /// Removes a chip.
     pub fn unplug<R: Wait>(&mut self, rt: &R, place: u8) -> Result<(), Errno>
         requires { place < PLACES }

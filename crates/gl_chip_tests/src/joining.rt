@@ -2,7 +2,7 @@
 
 use crate::devices::{Device, bad_entry};
 use crate::requesting::request;
-use gl_base::{Errno, Kind, Name, flag};
+use gl_base::{Errno, flag};
 use gl_chip::ChipFd;
 use gl_core::Core;
 use gl_driver::{Port, SimDriver, SimPort};
@@ -53,9 +53,13 @@ fn request_and_join<R: Wait>(
 /// On a new device a second actor requests a line, while its driver call fails, and is joined.
 pub fn fail_and_join<R: Wait>(rt: &R, alloc: Global) -> Result<Joined, Errno> {
     let mut device = Device::new(alloc, SimDriver::new(), SimPort::new(), 100)?;
-    device.probe(rt, Name::empty(), 4, Kind::Simulated)?;
-    let file = device.open(rt, alloc, b"gpiochip0")?;
+    let file = device.opened(rt, alloc, 4)?;
     let (joined, history) = request_and_join(rt, alloc, device, &file);
-    let bad = bad_entry(alloc, history.as_slice())?;
+    with_bad(alloc, joined, history.as_slice())
+}
+
+/// The same with the first entry of this history that is bad.
+fn with_bad(alloc: Global, joined: Joined, history: &[Entry<Core>]) -> Result<Joined, Errno> {
+    let bad = bad_entry(alloc, history)?;
     Ok(Joined { bad, ..joined })
 }

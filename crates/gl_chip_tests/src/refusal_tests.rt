@@ -8,14 +8,19 @@ use gl_chip::{ChipFd, LineFd};
 use gl_driver::{SimDriver, SimPort};
 use std::alloc::Global;
 use std::sync::Wait;
-use std::test::Fail;
 
 /// A device with simulated chips of four lines at the places 0 and 1.
 fn with_two_chips<R: Wait>(rt: &R, alloc: Global, room: u32) -> Result<Device<SimDriver>, Errno> {
     let mut device = Device::new(alloc, SimDriver::new(), SimPort::new(), room)?;
+    probe_both(rt, &mut device)?;
+    Ok(device)
+}
+
+/// Makes these two chips.
+fn probe_both<R: Wait>(rt: &R, device: &mut Device<SimDriver>) -> Result<(), Errno> {
     device.probe(rt, name_of(b"first"), 4, Kind::Simulated)?;
     device.probe(rt, name_of(b"second"), 4, Kind::Simulated)?;
-    Ok(device)
+    Ok(())
 }
 
 /// A file of the chip at place 1, whose number is 3, and a request of its line 3 as an output, whose number is 4.
@@ -82,63 +87,135 @@ fn are_handed_back<R: Wait>(
     device.close_line(rt, line) == Err(line_back) && device.close_chip(rt, file) == Err(file_back)
 }
 
-#[test]
-fn open_files_outlive_their_chip(rt: HostRuntime) -> Result<(), Fail> {
-    let mut device = with_two_chips(&rt, rt.alloc(), 100)?;
-    let (file, line) = open_both(&rt, rt.alloc(), &mut device)?;
+/// Opens both files of a chip, which is then unplugged. Whether each call is answered so, in this order.
+fn outlive<R: Wait>(
+    rt: &R,
+    alloc: Global,
+    device: &mut Device<SimDriver>,
+) -> Result<[bool; 5], Errno> {
+    let (file, line) = open_both(rt, alloc, device)?;
     let there = OnBoth {
         on_chip_file: OnChipFile::quiet(5),
         on_request: OnRequest::set(),
     };
-    assert!(rt; call_on_both(&rt, rt.alloc(), &mut device, &file, &line) == there);
-    device.unplug(&rt, 1)?;
     let gone = OnBoth::refused(Errno::NoDev, Ok(6));
-    assert!(rt; call_on_both(&rt, rt.alloc(), &mut device, &file, &line) == gone);
-    assert!(rt; device.close_line(&rt, line) == Ok(()) && device.close_chip(&rt, file) == Ok(()));
-    Ok(())
+    Ok([
+        call_on_both(rt, alloc, device, &file, &line) == there,
+        device.unplug(rt, 1).is_ok(),
+        call_on_both(rt, alloc, device, &file, &line) == gone,
+        device.close_line(rt, line).is_ok(),
+        device.close_chip(rt, file).is_ok(),
+    ])
+}
+
+/// The same on a new device.
+fn outlive_on_new<R: Wait>(rt: &R, alloc: Global) -> Result<[bool; 5], Errno> {
+    let mut device = with_two_chips(rt, alloc, 100)?;
+    outlive(rt, alloc, &mut device)
 }
 
 #[test]
-fn a_file_of_another_kind_is_refused_and_so_is_a_closed_one(rt: HostRuntime) -> Result<(), Fail> {
-    let mut device = with_two_chips(&rt, rt.alloc(), 100)?;
-    let (file, line) = open_both(&rt, rt.alloc(), &mut device)?;
-    let mut second = with_two_chips(&rt, rt.alloc(), 100)?;
-    let third_file = second.open(&rt, rt.alloc(), b"1")?;
-    let fourth_file = second.open(&rt, rt.alloc(), b"1")?;
-    assert!(rt; third_file.number() == file.number() && fourth_file.number() == line.number());
+fn open_files_outlive_their_chip(rt: HostRuntime) {
+    assert_eq!(rt; outlive_on_new(&rt, rt.alloc()), Ok([true; 5]));
+}
+
+/// Two files of the chip at place 1.
+fn open_twice<R: Wait>(
+    rt: &R,
+    alloc: Global,
+    device: &mut Device<SimDriver>,
+) -> Result<(ChipFd, ChipFd), Errno> {
+    let third = device.open(rt, alloc, b"1")?;
+    let fourth = device.open(rt, alloc, b"1")?;
+    Ok((third, fourth))
+}
+
+/// Calls each device with the files of the other one, which are of another kind, and then closed. Whether each call is answered so, in
+/// this order.
+fn mix_up<R: Wait>(
+    rt: &R,
+    alloc: Global,
+    first: &mut Device<SimDriver>,
+    second: &mut Device<SimDriver>,
+) -> Result<[bool; 8], Errno> {
+    let (file, line) = open_both(rt, alloc, first)?;
+    let (third, fourth) = open_twice(rt, alloc, second)?;
     let unlike = OnBoth::refused(Errno::Inval, Err(Errno::Inval));
-    let told = OnBoth {
-        on_chip_file: call_on_chip_file(&rt, rt.alloc(), &mut device, &fourth_file),
-        on_request: second.call_on_request(&rt, &line),
-    };
-    assert!(rt; told == unlike);
-    assert!(rt; second.close_chip(&rt, third_file) == Ok(()));
-    assert!(rt; second.close_chip(&rt, fourth_file) == Ok(()));
     let closed = OnBoth::refused(Errno::BadF, Err(Errno::BadF));
-    assert!(rt; call_on_both(&rt, rt.alloc(), &mut second, &file, &line) == closed);
-    assert!(rt; are_handed_back(&rt, &mut second, file, line, Errno::BadF));
-    Ok(())
+    Ok([
+        third.number() == file.number(),
+        fourth.number() == line.number(),
+        call_on_chip_file(rt, alloc, first, &fourth) == unlike.on_chip_file,
+        second.call_on_request(rt, &line) == unlike.on_request,
+        second.close_chip(rt, third).is_ok(),
+        second.close_chip(rt, fourth).is_ok(),
+        call_on_both(rt, alloc, second, &file, &line) == closed,
+        are_handed_back(rt, second, file, line, Errno::BadF),
+    ])
+}
+
+/// The same on two new devices.
+fn mix_up_new<R: Wait>(rt: &R, alloc: Global) -> Result<[bool; 8], Errno> {
+    let mut first = with_two_chips(rt, alloc, 100)?;
+    let mut second = with_two_chips(rt, alloc, 100)?;
+    mix_up(rt, alloc, &mut first, &mut second)
 }
 
 #[test]
-fn a_full_history_refuses_every_call(rt: HostRuntime) -> Result<(), Fail> {
-    let mut device = with_two_chips(&rt, rt.alloc(), 4)?;
-    let (file, line) = open_both(&rt, rt.alloc(), &mut device)?;
-    assert!(rt; call_on_place(&rt, &mut device, 0, 1) == OnPlace::refused(Errno::Full));
+fn a_file_of_another_kind_is_refused_and_so_is_a_closed_one(rt: HostRuntime) {
+    assert_eq!(rt; mix_up_new(&rt, rt.alloc()), Ok([true; 8]));
+}
+
+/// Makes each call on a device whose history is full once both files are open. Whether each is answered so, in this order.
+fn fill_up<R: Wait>(
+    rt: &R,
+    alloc: Global,
+    device: &mut Device<SimDriver>,
+) -> Result<[bool; 3], Errno> {
+    let (file, line) = open_both(rt, alloc, device)?;
     let full = OnBoth::refused(Errno::Full, Err(Errno::Full));
-    assert!(rt; call_on_both(&rt, rt.alloc(), &mut device, &file, &line) == full);
-    assert!(rt; are_handed_back(&rt, &mut device, file, line, Errno::Full));
-    Ok(())
+    Ok([
+        call_on_place(rt, device, 0, 1) == OnPlace::refused(Errno::Full),
+        call_on_both(rt, alloc, device, &file, &line) == full,
+        are_handed_back(rt, device, file, line, Errno::Full),
+    ])
+}
+
+/// The same on a new device.
+fn fill_up_new<R: Wait>(rt: &R, alloc: Global) -> Result<[bool; 3], Errno> {
+    let mut device = with_two_chips(rt, alloc, 4)?;
+    fill_up(rt, alloc, &mut device)
 }
 
 #[test]
-fn a_device_without_room_refuses_the_first_call(rt: HostRuntime) -> Result<(), Fail> {
-    let mut device = Device::new(rt.alloc(), SimDriver::new(), SimPort::new(), 0)?;
-    for step in every_step() {
-        let told = take_step(&rt, rt.alloc(), &mut device, step);
-        assert!(rt; told == Answer::Refused(Errno::Full));
+fn a_full_history_refuses_every_call(rt: HostRuntime) {
+    assert_eq!(rt; fill_up_new(&rt, rt.alloc()), Ok([true; 3]));
+}
+
+/// The first of the steps that isn't refused for want of room, on a new device without any.
+fn first_with_room<R: Wait>(rt: &R, alloc: Global) -> Result<Option<usize>, Errno> {
+    let mut device = Device::new(alloc, SimDriver::new(), SimPort::new(), 0)?;
+    Ok(first_not_full(rt, alloc, &mut device, &every_step()))
+}
+
+/// The first of these steps that isn't refused for want of room, if there is one.
+fn first_not_full<R: Wait>(
+    rt: &R,
+    alloc: Global,
+    device: &mut Device<SimDriver>,
+    steps: &[Step],
+) -> Option<usize> {
+    for (i, step) in steps.iter().enumerate() {
+        if take_step(rt, alloc, device, *step) != Answer::Refused(Errno::Full) {
+            return Some(i);
+        }
     }
-    Ok(())
+    None
+}
+
+#[test]
+fn a_device_without_room_refuses_the_first_call(rt: HostRuntime) {
+    assert_eq!(rt; first_with_room(&rt, rt.alloc()), Ok(None));
 }
 
 /// A step of each kind.

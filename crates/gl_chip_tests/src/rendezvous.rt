@@ -4,7 +4,7 @@ ghost use Rattle.gl_chip.specs.Values.{IsActorOf};
 
 use crate::devices::Device;
 use crate::requesting::request;
-use gl_base::{Errno, Kind, Name, flag};
+use gl_base::{Errno, flag};
 use gl_chip::{Actor, ChipFd, Gpio};
 use gl_driver::{HoldDriver, SimPort};
 use std::alloc::Global;
@@ -67,17 +67,29 @@ fn request_in_two_threads<R: Threads + Wait + Sync>(
     )
 }
 
-/// On a new device two actors request a line each at once, over a driver that lets the first one go only once the second one has
-/// called it. The numbers of the requests.
-pub fn request_at_once<R: Threads + Wait + Sync>(rt: &R, alloc: Global) -> Result<[u32; 2], Errno> {
-    let mut device = Device::new(alloc, HoldDriver::new(2), SimPort::new(), 100)?;
-    device.probe(rt, Name::empty(), 2, Kind::Simulated)?;
-    let file = device.open(rt, alloc, b"gpiochip0")?;
+/// The numbers of two requests, or why there are none.
+type Numbers = [Result<u32, Errno>; 2];
+
+/// Two actors of a device request a line each of this chip at once.
+fn request_both<R: Threads + Wait + Sync>(
+    rt: &R,
+    alloc: Global,
+    device: Device<HoldDriver>,
+    file: &ChipFd,
+) -> Numbers {
     let Device { gpio, mut actor } = device;
     let first = gpio.split(&mut actor, SimPort::new());
     let second = gpio.split(&mut actor, SimPort::new());
     let ((_first, one), (_second, two)) = request_in_two_threads(
-        rt, alloc, &gpio, first, second, &file,
+        rt, alloc, &gpio, first, second, file,
     );
-    Ok([one?, two?])
+    [one, two]
+}
+
+/// On a new device two actors request a line each at once, over a driver that lets the first one go only once the second one has
+/// called it.
+pub fn request_at_once<R: Threads + Wait + Sync>(rt: &R, alloc: Global) -> Result<Numbers, Errno> {
+    let mut device = Device::new(alloc, HoldDriver::new(2), SimPort::new(), 100)?;
+    let file = device.opened(rt, alloc, 2)?;
+    Ok(request_both(rt, alloc, device, &file))
 }

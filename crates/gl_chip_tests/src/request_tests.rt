@@ -5,7 +5,6 @@ use gl_base::{Errno, Kind, Name, flag};
 use gl_driver::{FakeDriver, SimPort};
 use std::alloc::Global;
 use std::sync::Wait;
-use std::test::Fail;
 
 /// What came of a request of both lines of a remote chip as inputs, whose driver tells that the first one is high.
 #[derive(Clone, Copy, PartialEq, Eq)]
@@ -40,10 +39,20 @@ fn call_on_remote<R: Wait>(
     })
 }
 
+/// A new device over a driver that tells that the first of two lines is high.
+fn remote_device(alloc: Global) -> Result<Device<FakeDriver>, Errno> {
+    let driver = FakeDriver::new(vec![in alloc; true, false]?);
+    Device::new(alloc, driver, SimPort::new(), 100)
+}
+
+/// The same calls on this new device.
+fn call_on_new<R: Wait>(rt: &R, alloc: Global) -> Result<OnRemote, Errno> {
+    let mut device = remote_device(alloc)?;
+    call_on_remote(rt, alloc, &mut device)
+}
+
 #[test]
-fn a_remote_chip_shows_what_its_driver_tells(rt: HostRuntime) -> Result<(), Fail> {
-    let driver = FakeDriver::new(vec![in rt.alloc(); true, false]?);
-    let mut device = Device::new(rt.alloc(), driver, SimPort::new(), 100)?;
+fn a_remote_chip_shows_what_its_driver_tells(rt: HostRuntime) {
     let wanted = OnRemote {
         number: 4,
         place: 0,
@@ -53,26 +62,22 @@ fn a_remote_chip_shows_what_its_driver_tells(rt: HostRuntime) -> Result<(), Fail
         interrupt: Ok(()),
         set_pull: Err(Errno::Inval),
     };
-    assert!(rt; call_on_remote(&rt, rt.alloc(), &mut device)? == wanted);
-    Ok(())
+    assert!(rt; call_on_new(&rt, rt.alloc()) == Ok(wanted));
 }
 
 #[test]
-fn two_requests_are_held_in_the_driver_at_the_same_time(rt: HostRuntime) -> Result<(), Fail> {
-    let mut numbers = request_at_once(&rt, rt.alloc())?;
-    numbers.sort_unstable();
-    assert!(rt; numbers == [4, 5]);
-    Ok(())
+fn two_requests_are_held_in_the_driver_at_the_same_time(rt: HostRuntime) {
+    let numbers = request_at_once(&rt, rt.alloc());
+    assert!(rt; numbers == Ok([Ok(4), Ok(5)]) || numbers == Ok([Ok(5), Ok(4)]));
 }
 
 #[test]
-fn an_actor_that_is_joined_gives_its_port_back(rt: HostRuntime) -> Result<(), Fail> {
+fn an_actor_that_is_joined_gives_its_port_back(rt: HostRuntime) {
     let wanted = Joined {
         numbers: [0, 1],
         told: Err(Errno::Io),
         faults: [0, 1],
         bad: None,
     };
-    assert!(rt; fail_and_join(&rt, rt.alloc())? == wanted);
-    Ok(())
+    assert!(rt; fail_and_join(&rt, rt.alloc()) == Ok(wanted));
 }

@@ -28,14 +28,14 @@ const ROOM: u32 = 24_200;
 
 /// What an actor was answered.
 #[derive(Clone, Copy, PartialEq, Eq)]
-pub struct Answers {
+struct Answers {
     /// Some calls were done.
-    pub some_done: bool,
+    some_done: bool,
     /// Then some were refused.
-    pub some_refused: bool,
+    some_refused: bool,
     /// A call was done behind one that was refused, or was refused for another reason than that the chip is gone, or a value that
     /// was got isn't the one that was set.
-    pub wrong: bool,
+    wrong: bool,
 }
 
 impl Answers {
@@ -61,7 +61,7 @@ impl Answers {
     }
 
     /// First calls were done, and then they were refused.
-    pub fn are_right(&self) -> bool {
+    fn are_right(&self) -> bool {
         self.some_done && self.some_refused && !self.wrong
     }
 }
@@ -291,15 +291,14 @@ fn steps_up() -> [Step; 5] {
     ]
 }
 
-/// Makes this device.
-fn set_up<R: Wait>(rt: &R, alloc: Global) -> Result<Device<SimDriver>, Errno> {
-    let mut device = Device::new(alloc, SimDriver::new(), SimPort::new(), ROOM)?;
+/// Makes the chips of this device. False where a step was refused.
+fn set_up<R: Wait>(rt: &R, alloc: Global, device: &mut Device<SimDriver>) -> bool {
     for step in steps_up() {
-        if take_step(rt, alloc, &mut device, step) != Answer::Done {
-            return Err(Errno::Again);
+        if take_step(rt, alloc, device, step) != Answer::Done {
+            return false;
         }
     }
-    Ok(device)
+    true
 }
 
 /// Opens a chip and requests its line 0 as an output.
@@ -316,13 +315,26 @@ fn request_of<R: Wait>(
 /// A device, and requests of line 0 of the chips at the places 0, 1 and 2.
 type Used = (Device<SimDriver>, [LineFd; 3]);
 
+/// Makes the chips of this device, and requests a line of each.
+fn request_all<R: Wait>(
+    rt: &R,
+    alloc: Global,
+    device: &mut Device<SimDriver>,
+) -> Result<[LineFd; 3], Errno> {
+    if !set_up(rt, alloc, device) {
+        return Err(Errno::Again);
+    }
+    let first = request_of(rt, alloc, device, b"gpiochip0")?;
+    let second = request_of(rt, alloc, device, b"gpiochip1")?;
+    let third = request_of(rt, alloc, device, b"gpiochip2")?;
+    Ok([first, second, third])
+}
+
 /// Makes a device of three banks, and requests a line of each.
 fn used_device<R: Wait>(rt: &R, alloc: Global) -> Result<Used, Errno> {
-    let mut device = set_up(rt, alloc)?;
-    let first = request_of(rt, alloc, &mut device, b"gpiochip0")?;
-    let second = request_of(rt, alloc, &mut device, b"gpiochip1")?;
-    let third = request_of(rt, alloc, &mut device, b"gpiochip2")?;
-    Ok((device, [first, second, third]))
+    let mut device = Device::new(alloc, SimDriver::new(), SimPort::new(), ROOM)?;
+    let lines = request_all(rt, alloc, &mut device)?;
+    Ok((device, lines))
 }
 
 /// What the three actors were answered that used a line, and the fourth that removed the device; and the history.
@@ -352,15 +364,21 @@ fn use_and_take_down<R: Threads + Wait + Sync>(
     ([one, two, three], removed, history)
 }
 
-/// What came of a device that was removed while its lines were used.
-#[derive(Drop)]
-pub struct TakenDown {
-    /// What the three actors were answered that used a line.
-    pub users: [Answers; 3],
-    /// What the actor was answered that removed the device.
-    pub removed: Result<(), Errno>,
-    /// The first entry of the history that the machine can't have, if there is one.
-    pub bad: Option<u32>,
+/// Whether each of the three actors that used a line was answered rightly, and the one that removed the device, and whether the
+/// history is one that the machine can have.
+pub type TakenDown = [bool; 5];
+
+/// Which of these things are right.
+fn right_of(alloc: Global, ended: &Ended) -> TakenDown {
+    let (users, removed, history) = ended;
+    let bad = bad_entry(alloc, history.as_slice());
+    [
+        users[0].are_right(),
+        users[1].are_right(),
+        users[2].are_right(),
+        removed.is_ok(),
+        matches!(bad, Ok(None)),
+    ]
 }
 
 /// A new device of three banks is removed while three actors set and get values on its chips.
@@ -369,11 +387,6 @@ pub fn take_down_under_load<R: Threads + Wait + Sync>(
     alloc: Global,
 ) -> Result<TakenDown, Errno> {
     let (device, lines) = used_device(rt, alloc)?;
-    let (users, removed, history) = use_and_take_down(rt, device, &lines);
-    let bad = bad_entry(alloc, history.as_slice())?;
-    Ok(TakenDown {
-        users,
-        removed,
-        bad,
-    })
+    let ended = use_and_take_down(rt, device, &lines);
+    Ok(right_of(alloc, &ended))
 }

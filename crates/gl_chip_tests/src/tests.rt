@@ -1,33 +1,45 @@
 use crate::boards::{Answer, Step, name_of, take_step};
 use crate::devices::Device;
 use crate::on_places::{OnPlace, call_on_place};
-use crate::unplugging::unplug_twice;
+use crate::unplugging::has_one_winner;
 use gl_base::Errno;
 use gl_driver::{SimDriver, SimPort};
-use std::test::Fail;
+use std::alloc::Global;
+use std::sync::Wait;
 
 #[test]
-fn of_two_actors_that_unplug_one_chip_one_is_done(rt: HostRuntime) -> Result<(), Fail> {
+fn of_two_actors_that_unplug_one_chip_one_is_done(rt: HostRuntime) {
     for _ in 0..200 {
-        let race = unplug_twice(&rt, rt.alloc())?;
-        assert!(rt; race.has_one_winner());
+        assert!(rt; has_one_winner(&rt, rt.alloc()));
     }
-    Ok(())
+}
+
+/// Makes calls on the places of a device. Whether each is answered by the kind of its chip, in this order.
+fn are_answered_by_kind<R: Wait>(
+    rt: &R,
+    alloc: Global,
+    device: &mut Device<SimDriver>,
+) -> [bool; 7] {
+    [
+        take_step(rt, alloc, device, Step::Probe) == Answer::At(0),
+        take_step(rt, alloc, device, Step::ProbeRemote) == Answer::At(1),
+        call_on_place(rt, device, 0, 1) == OnPlace::simulated(),
+        call_on_place(rt, device, 1, 1) == OnPlace::remote(),
+        take_step(rt, alloc, device, Step::Unplug(0)) == Answer::Done,
+        call_on_place(rt, device, 0, 1) == OnPlace::refused(Errno::NoDev),
+        call_on_place(rt, device, 2, 1) == OnPlace::refused(Errno::NoEnt),
+    ]
+}
+
+/// The same on a new device.
+fn answered_by_kind<R: Wait>(rt: &R, alloc: Global) -> Result<[bool; 7], Errno> {
+    let mut device = Device::new(alloc, SimDriver::new(), SimPort::new(), 100)?;
+    Ok(are_answered_by_kind(rt, alloc, &mut device))
 }
 
 #[test]
-fn calls_on_a_place_are_answered_by_the_kind_of_its_chip(rt: HostRuntime) -> Result<(), Fail> {
-    let mut device = Device::new(rt.alloc(), SimDriver::new(), SimPort::new(), 100)?;
-    let first = take_step(&rt, rt.alloc(), &mut device, Step::Probe);
-    let second = take_step(&rt, rt.alloc(), &mut device, Step::ProbeRemote);
-    assert!(rt; first == Answer::At(0) && second == Answer::At(1));
-    assert!(rt; call_on_place(&rt, &mut device, 0, 1) == OnPlace::simulated());
-    assert!(rt; call_on_place(&rt, &mut device, 1, 1) == OnPlace::remote());
-    let removed = take_step(&rt, rt.alloc(), &mut device, Step::Unplug(0));
-    assert!(rt; removed == Answer::Done);
-    assert!(rt; call_on_place(&rt, &mut device, 0, 1) == OnPlace::refused(Errno::NoDev));
-    assert!(rt; call_on_place(&rt, &mut device, 2, 1) == OnPlace::refused(Errno::NoEnt));
-    Ok(())
+fn calls_on_a_place_are_answered_by_the_kind_of_its_chip(rt: HostRuntime) {
+    assert_eq!(rt; answered_by_kind(&rt, rt.alloc()), Ok([true; 7]));
 }
 
 /// The steps of a board's life, and what each is answered.
@@ -78,12 +90,33 @@ fn life_of_a_board() -> [(Step, Answer); 33] {
     ]
 }
 
-#[test]
-fn a_board_is_made_found_and_removed(rt: HostRuntime) -> Result<(), Fail> {
-    let mut device = Device::new(rt.alloc(), SimDriver::new(), SimPort::new(), 100)?;
-    for (i, (step, answer)) in life_of_a_board().iter().enumerate() {
-        let told = take_step(&rt, rt.alloc(), &mut device, *step);
-        assert!(rt; told == *answer, "row {i}");
+/// Takes the steps of rows. The first one that is answered otherwise, if there is one.
+fn first_wrong<R: Wait>(
+    rt: &R,
+    alloc: Global,
+    device: &mut Device<SimDriver>,
+    rows: &[(Step, Answer)],
+) -> Option<usize> {
+    for (i, (step, answer)) in rows.iter().enumerate() {
+        if take_step(rt, alloc, device, *step) != *answer {
+            return Some(i);
+        }
     }
-    Ok(())
+    None
+}
+
+/// The same on a new device.
+fn first_wrong_of_new<R: Wait>(
+    rt: &R,
+    alloc: Global,
+    rows: &[(Step, Answer)],
+) -> Result<Option<usize>, Errno> {
+    let mut device = Device::new(alloc, SimDriver::new(), SimPort::new(), 100)?;
+    Ok(first_wrong(rt, alloc, &mut device, rows))
+}
+
+#[test]
+fn a_board_is_made_found_and_removed(rt: HostRuntime) {
+    let wrong = first_wrong_of_new(&rt, rt.alloc(), &life_of_a_board());
+    assert_eq!(rt; wrong, Ok(None));
 }

@@ -8,7 +8,7 @@ use crate::devices::{Device, bad_entry};
 use crate::on_requests::{OnRequest, call_on_request};
 use crate::requesting::{open, request};
 use crate::waiting::{rest, wait_for};
-use gl_base::{Errno, Kind, Name, flag};
+use gl_base::{Errno, flag};
 use gl_chip::{Actor, ChipFd, Gpio, LineFd};
 use gl_core::{Call, Core, Part, Reply};
 use gl_driver::{Driver, Latch, LatchDriver, SimPort};
@@ -347,9 +347,27 @@ fn opened_over<D: Driver<Core>, R: Wait>(
     requires none { D.ENTRIES ≡ 0 }
 {
     let mut device = Device::new(alloc, driver, port, ROOM)?;
-    device.probe(rt, Name::empty(), 4, Kind::Simulated)?;
-    let file = device.open(rt, alloc, b"gpiochip0")?;
+    let file = device.opened(rt, alloc, 4)?;
     Ok((device, file))
+}
+
+/// What came of all this.
+fn under_load_of(alloc: Global, ended: &Ended) -> Result<UnderLoad, Errno> {
+    let afterwards = ended.afterwards?;
+    let told = Mark::Told(u64::from(afterwards.number));
+    let in_order = stand_in(
+        ended.history.as_slice(),
+        &[Mark::Begun, Mark::HungUp, told, Mark::Ended],
+    );
+    let bad = bad_entry(alloc, ended.history.as_slice())?;
+    Ok(UnderLoad {
+        unplugged: ended.unplugged,
+        seen: ended.seen,
+        on_request: afterwards.on_request,
+        closed: afterwards.closed,
+        in_order,
+        bad,
+    })
 }
 
 /// On a new device over this driver, whose ports these are, an actor is held in the driver, a second one unplugs the chip, and a
@@ -366,21 +384,7 @@ fn unplug_over<D: Driver<Core>, R: Threads + Wait + Sync>(
 {
     let (device, file) = opened_over(rt, alloc, driver, port)?;
     let ended = call_and_end(rt, alloc, device, file, ports, latch);
-    let afterwards = ended.afterwards?;
-    let told = Mark::Told(u64::from(afterwards.number));
-    let in_order = stand_in(
-        ended.history.as_slice(),
-        &[Mark::Begun, Mark::HungUp, told, Mark::Ended],
-    );
-    let bad = bad_entry(alloc, ended.history.as_slice())?;
-    Ok(UnderLoad {
-        unplugged: ended.unplugged,
-        seen: ended.seen,
-        on_request: afterwards.on_request,
-        closed: afterwards.closed,
-        in_order,
-        bad,
-    })
+    under_load_of(alloc, &ended)
 }
 
 /// On a new device an actor is held in the driver, a second one unplugs the chip, and a third one polls a file of it.

@@ -7,8 +7,9 @@ ghost use Rattle.gl_chip_tests.specs.Same.{IsSame};
 use crate::devices::{Device, bad_entry};
 use gl_base::{Errno, Kind, Name, Phase};
 use gl_chip::{Actor, Gpio};
+use gl_core::Core;
 use gl_driver::{SimDriver, SimPort};
-use gl_world::Machine;
+use gl_world::{Entry, Machine};
 use std::alloc::Global;
 use std::sync::Wait;
 use std::thread::{Threads, join};
@@ -56,16 +57,16 @@ fn unplug_in_two_threads<R: Threads + Wait + Sync>(
 }
 
 /// What came of two actors that unplugged one chip.
-#[derive(Clone, Copy, PartialEq, Eq)]
-pub struct Race {
+#[derive(Clone, Copy)]
+struct Race {
     /// What the first actor was answered.
-    pub first: Result<(), Errno>,
+    first: Result<(), Errno>,
     /// What the second actor was answered.
-    pub second: Result<(), Errno>,
+    second: Result<(), Errno>,
     /// The phase of the chip afterwards.
-    pub phase: Phase,
+    phase: Phase,
     /// The first entry of the history that the machine can't have, if there is one.
-    pub bad: Option<u32>,
+    bad: Option<u32>,
 }
 
 /// Whether an actor was told that another one unplugs the chip, or has unplugged it.
@@ -75,7 +76,7 @@ fn is_late(answer: Result<(), Errno>) -> bool {
 
 impl Race {
     /// One actor unplugged the chip, the other was late, and the history is one that the machine can have.
-    pub fn has_one_winner(&self) -> bool {
+    fn has_one_winner(&self) -> bool {
         let one = if self.first == Ok(()) {
             is_late(self.second)
         } else {
@@ -85,20 +86,53 @@ impl Race {
     }
 }
 
-/// On a new device two actors unplug one chip at once.
-pub fn unplug_twice<R: Threads + Wait + Sync>(rt: &R, alloc: Global) -> Result<Race, Errno> {
-    let mut device = Device::new(alloc, SimDriver::new(), SimPort::new(), 10)?;
-    device.probe(rt, Name::empty(), 4, Kind::Simulated)?;
+/// What the two actors were answered, the core and the history.
+#[derive(Drop)]
+struct Ended {
+    first: Result<(), Errno>,
+    second: Result<(), Errno>,
+    core: Core,
+    history: Vec<Entry<Core>>,
+}
+
+/// Two actors unplug the chip of place 0 at once, and the device ends.
+fn unplug_and_end<R: Threads + Wait + Sync>(rt: &R, device: Device<SimDriver>) -> Ended {
     let Device { gpio, mut actor } = device;
     let other = gpio.split(&mut actor, SimPort::new());
     let ((mut actor, first), (other, second)) = unplug_in_two_threads(rt, &gpio, actor, other);
     gpio.join(&mut actor, other);
     let (core, history, _port) = gpio.finish(actor);
-    let bad = bad_entry(alloc, history.as_slice())?;
-    Ok(Race {
+    Ended {
         first,
         second,
-        phase: core.phase(0),
+        core,
+        history,
+    }
+}
+
+/// What came of these two actors.
+fn race_of(alloc: Global, ended: &Ended) -> Result<Race, Errno> {
+    let bad = bad_entry(alloc, ended.history.as_slice())?;
+    Ok(Race {
+        first: ended.first,
+        second: ended.second,
+        phase: ended.core.phase(0),
         bad,
     })
+}
+
+/// On a new device two actors unplug one chip at once.
+fn unplug_twice<R: Threads + Wait + Sync>(rt: &R, alloc: Global) -> Result<Race, Errno> {
+    let mut device = Device::new(alloc, SimDriver::new(), SimPort::new(), 10)?;
+    device.probe(rt, Name::empty(), 4, Kind::Simulated)?;
+    let ended = unplug_and_end(rt, device);
+    race_of(alloc, &ended)
+}
+
+/// On a new device two actors unplug one chip at once, and one of them does it.
+pub fn has_one_winner<R: Threads + Wait + Sync>(rt: &R, alloc: Global) -> bool {
+    match unplug_twice(rt, alloc) {
+        Ok(race) => race.has_one_winner(),
+        Err(_) => false,
+    }
 }
