@@ -1,8 +1,8 @@
 //! What lines show, by the rules for outputs, open drain, open source, active low and bias.
 
 use gl_bank::{Bank, Change, flip};
-use gl_base::{Settings, flag};
-use std::test::Fail;
+use gl_base::{Errno, Settings, flag};
+use std::alloc::Global;
 
 /// The word of some flags.
 const OUT: u64 = 1 << flag::OUTPUT;
@@ -19,8 +19,24 @@ const UP: u64 = 1 << flag::BIAS_PULL_UP;
 
 const DOWN: u64 = 1 << flag::BIAS_PULL_DOWN;
 
+/// The level and the logical value of a line whose pull was this before it was given these flags and this value.
+fn shown(alloc: Global, flags: u64, value: bool, up: bool) -> Result<(bool, bool), Errno> {
+    let mut bank = Bank::new(alloc, 4)?;
+    bank.fit(3);
+    let _ = bank.set_pull(2, up);
+    bank.apply(
+        2,
+        Settings {
+            flags,
+            value,
+            debounce_us: 0,
+        },
+    );
+    Ok((bank.level(2), bank.logical(2)))
+}
+
 #[test]
-fn a_line_shows_its_drive_or_its_pull(rt: HostRuntime) -> Result<(), Fail> {
+fn a_line_shows_its_drive_or_its_pull(rt: HostRuntime) {
     // flags, value, pull before; level, logical value
     let cases = [
         (OUT, true, false, true, true),
@@ -36,30 +52,16 @@ fn a_line_shows_its_drive_or_its_pull(rt: HostRuntime) -> Result<(), Fail> {
         (IN | DOWN, false, true, false, false),
     ];
     for (flags, value, up, level, logical) in cases {
-        let mut bank = Bank::new(rt.alloc(), 4)?;
-        bank.fit(3);
-        let _ = bank.set_pull(2, up);
-        bank.apply(
-            2,
-            Settings {
-                flags,
-                value,
-                debounce_us: 0,
-            },
-        );
-        assert_eq!(rt; bank.level(2), level, "flags {flags}");
-        assert_eq!(rt; bank.logical(2), logical, "flags {flags}");
+        let told = shown(rt.alloc(), flags, value, up);
+        assert!(rt; told == Ok((level, logical)), "flags {flags}");
     }
-    Ok(())
 }
 
-#[test]
-fn a_release_keeps_the_direction_and_a_kept_output_drives_its_pull(
-    rt: HostRuntime,
-) -> Result<(), Fail> {
-    let mut bank = Bank::new(rt.alloc(), 1)?;
-    assert_eq!(rt; bank.set_pull(0, true), Some(Change { rose: true }));
-    assert_eq!(rt; bank.set_pull(0, true), None);
+/// Whether a line of one, given these flags, its release and a pull, shows what it has to, in this order.
+fn released(alloc: Global) -> Result<[bool; 8], Errno> {
+    let mut bank = Bank::new(alloc, 1)?;
+    let rose = bank.set_pull(0, true) == Some(Change { rose: true });
+    let stayed = bank.set_pull(0, true) == None;
     bank.apply(
         0,
         Settings {
@@ -68,12 +70,12 @@ fn a_release_keeps_the_direction_and_a_kept_output_drives_its_pull(
             debounce_us: 9,
         },
     );
-    assert_eq!(rt; bank.line(0).debounce_us, 9);
-    assert_eq!(rt; bank.set_pull(0, false), None);
+    let period = bank.line(0).debounce_us == 9;
+    let driven = bank.set_pull(0, false) == None;
     bank.drive(0, true);
-    assert!(rt; bank.level(0));
+    let high = bank.level(0);
     bank.release(0);
-    assert!(rt; bank.is_output(0) && !bank.level(0));
+    let output = bank.is_output(0) && !bank.level(0);
     let _ = bank.set_pull(0, true);
     bank.apply(
         0,
@@ -84,7 +86,12 @@ fn a_release_keeps_the_direction_and_a_kept_output_drives_its_pull(
         },
     );
     let _ = bank.set_pull(0, false);
-    assert!(rt; bank.level(0) && !bank.pull(0));
-    assert!(rt; flip(LOW, false) && !flip(IN, false));
-    Ok(())
+    let kept = bank.level(0) && !bank.pull(0);
+    let flipped = flip(LOW, false) && !flip(IN, false);
+    Ok([rose, stayed, period, driven, high, output, kept, flipped])
+}
+
+#[test]
+fn a_release_keeps_the_direction_and_a_kept_output_drives_its_pull(rt: HostRuntime) {
+    assert_eq!(rt; released(rt.alloc()), Ok([true; 8]));
 }

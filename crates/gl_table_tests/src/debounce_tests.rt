@@ -1,12 +1,12 @@
 //! What no clause says: that the maker succeeds where there is memory, and that lines fire as is meant.
 
+use gl_base::Errno;
 use gl_debounce::{Fired, Timers};
-use std::test::Fail;
+use std::alloc::Global;
 
-#[test]
-fn due_lines_fire_in_order(rt: HostRuntime) -> Result<(), Fail> {
-    let mut timers = Timers::new(rt.alloc()).ok().ok_or("memory")?;
-    assert_eq!(rt; timers.settled(1, 3), None);
+/// Starts lines and tells of edges on them; one is cleared again. Whether a line had settled before and afterwards is as it has to be.
+fn start(timers: &mut Timers) -> [bool; 2] {
+    let before = timers.settled(1, 3) == None;
     // Place, offset, the level of the edge and the deadline.
     let edges = [
         (1, 3, true, 20),
@@ -21,22 +21,43 @@ fn due_lines_fire_in_order(rt: HostRuntime) -> Result<(), Fail> {
         timers.raw(place, offset, level, deadline);
     }
     timers.clear(3, 2);
-    assert_eq!(rt; timers.settled(1, 3), Some(false));
+    [before, timers.settled(1, 3) == Some(false)]
+}
 
-    // Deadline, place and offset decide; line 7 is where it was.
-    let due = [
-        Some((2, 0, 10, true, true)),
-        Some((0, 7, 20, false, false)),
-        Some((0, 9, 20, true, true)),
-        Some((1, 3, 20, true, true)),
-        None,
-    ];
-    for wanted in due {
-        let fired = timers.fire(30);
-        assert!(rt;
-            fired.map(|f: Fired| (f.place, f.offset, f.deadline, f.level, f.changed)) == wanted
-        );
+/// Whether the next line that is due at time 30 is this one: place, offset, deadline, level, and whether it changed.
+fn fires(timers: &mut Timers, wanted: Option<(u8, u32, u64, bool, bool)>) -> bool {
+    match timers.fire(30) {
+        Some(
+            Fired {
+                place,
+                offset,
+                deadline,
+                level,
+                changed,
+            },
+        ) => wanted == Some((place, offset, deadline, level, changed)),
+        None => wanted.is_none(),
     }
-    assert_eq!(rt; timers.settled(1, 3), Some(true));
-    Ok(())
+}
+
+/// Whether each of these things is as it has to be, in this order.
+fn fire(alloc: Global) -> Result<[bool; 8], Errno> {
+    let mut timers = Timers::new(alloc)?;
+    let [before, settled] = start(&mut timers);
+    // Deadline, place and offset decide; line 7 is where it was.
+    Ok([
+        before,
+        settled,
+        fires(&mut timers, Some((2, 0, 10, true, true))),
+        fires(&mut timers, Some((0, 7, 20, false, false))),
+        fires(&mut timers, Some((0, 9, 20, true, true))),
+        fires(&mut timers, Some((1, 3, 20, true, true))),
+        fires(&mut timers, None),
+        timers.settled(1, 3) == Some(true),
+    ])
+}
+
+#[test]
+fn due_lines_fire_in_order(rt: HostRuntime) {
+    assert_eq!(rt; fire(rt.alloc()), Ok([true; 8]));
 }

@@ -1,14 +1,14 @@
 //! What no clause says: that the makers succeed where there is memory, and that a request comes out as is
 //! meant.
 
-ghost use Rattle.std.specs.Prelude.{◌≡◌, [], IfOk};
+ghost use Rattle.std.specs.Prelude.{◌≡◌, ◌<◌, [], IfOk};
+ghost use Rattle.gl_base.specs.declared.limits.TheConstants.{LINES_PER_REQUEST};
 
-use gl_base::{Lines, Resolved, Settings, flag};
+use gl_base::{Errno, Lines, Resolved, Settings, flag};
 use gl_request::{Claim, Requests};
 use gl_ring::EdgeRing;
-use gl_uapi::{Event, EventsRef};
+use gl_uapi::EventsRef;
 use std::alloc::Global;
-use std::test::Fail;
 
 /// A claim of two lines, 3 and 5, whose edges are monitored: both of the first, the falling ones of the
 /// second.
@@ -36,67 +36,122 @@ fn two_lines(fd: u32) -> Claim
     }
 }
 
-fn ring(alloc: Global) -> Result<EdgeRing, &'static str>
+fn ring(alloc: Global) -> Result<EdgeRing, Errno>
     ensures { IfOk result (λ ring. ring.items ≡ []) }
 {
-    EdgeRing::with_capacity(alloc, 2).ok().ok_or("memory")
+    EdgeRing::with_capacity(alloc, 2)
 }
 
-#[test]
-fn edges_are_numbered_when_they_happen(rt: HostRuntime) -> Result<(), Fail> {
-    let mut requests = Requests::new(rt.alloc()).ok().ok_or("memory")?;
-    assert_eq!(rt; requests.len(), 0);
-    requests.claim(two_lines(4), ring(rt.alloc())?);
-    assert_eq!(rt; requests.len(), 1);
-    assert_eq!(rt; (requests.pending(1), requests.pending(0)), (Some(4), None));
-    requests.settle(4);
-    assert_eq!(rt; (requests.pending(1), requests.place(4)), (None, Some(2)));
-
-    // Place in the request, the direction, and the numbers of the event, if it is one.
-    let edges = [
-        (0, true, Some((3, 1, 1))),
-        (1, true, None),
-        (1, false, Some((5, 2, 1))),
-        (0, false, Some((3, 3, 2))),
-    ];
-    for (i, rising, numbers) in edges {
-        let event = requests.edge(4, i, rising, 7);
-        assert!(rt; event.map(|e: Event| (e.offset, e.seqno, e.line_seqno)) == numbers);
+/// The offset and the numbers of the event that an edge at this place of request 4 makes, if it makes one.
+fn edge(requests: &mut Requests, i: u32, rising: bool) -> Option<(u32, u32, u32)>
+    requires { i < LINES_PER_REQUEST }
+{
+    match requests.edge(4, i, rising, 7) {
+        Some(event) => Some((event.offset, event.seqno, event.line_seqno)),
+        None => None,
     }
-    assert_eq!(rt; requests.waiting(4), 2);
+}
+
+/// Reads two events of request 4. How many were read, and the number of the first one.
+fn read(requests: &mut Requests) -> (u32, u32) {
     let mut out = [0u8; 96];
-    assert_eq!(rt; requests.read(4, 2, &mut out), 2);
-    assert_eq!(rt; EventsRef::of(&out).get(0).seqno, 2);
-    assert_eq!(rt; requests.waiting(4), 0);
-    Ok(())
+    let count = requests.read(4, 2, &mut out);
+    (count, EventsRef::of(&out).get(0).seqno)
+}
+
+/// Whether edges are numbered as they have to be, in this order.
+fn numbered(requests: &mut Requests) -> [bool; 7] {
+    [
+        // Place in the request, the direction, and the numbers of the event, if it is one.
+        edge(requests, 0, true) == Some((3, 1, 1)),
+        edge(requests, 1, true) == None,
+        edge(requests, 1, false) == Some((5, 2, 1)),
+        edge(requests, 0, false) == Some((3, 3, 2)),
+        requests.waiting(4) == 2,
+        read(requests) == (2, 2),
+        requests.waiting(4) == 0,
+    ]
+}
+
+/// Whether a request is settled as it has to be, and its edges are numbered so, in this order.
+fn settled(alloc: Global) -> Result<[bool; 5], Errno> {
+    let mut requests = Requests::new(alloc)?;
+    let ring = ring(alloc)?;
+    let none = requests.len() == 0;
+    requests.claim(two_lines(4), ring);
+    let one = requests.len() == 1;
+    let claimed = (requests.pending(1), requests.pending(0)) == (Some(4), None);
+    requests.settle(4);
+    let held = (requests.pending(1), requests.place(4)) == (None, Some(2));
+    Ok([
+        none,
+        one,
+        claimed,
+        held,
+        numbered(&mut requests) == [true; 7],
+    ])
 }
 
 #[test]
-fn requests_are_found_by_number(rt: HostRuntime) -> Result<(), Fail> {
-    let mut requests = Requests::new(rt.alloc()).ok().ok_or("memory")?;
-    requests.claim(two_lines(4), ring(rt.alloc())?);
-    requests.claim(two_lines(9), ring(rt.alloc())?);
-    let lines = requests.lines(9).ok_or("lines")?;
-    assert_eq!(rt; (lines.count, lines.offsets[1]), (2, 5));
-    assert_eq!(rt;
-        requests.settings(9, 1).map(|s: Settings| s.flags),
-        Some(0x24)
-    );
-    assert!(rt; requests.settings(9, 2).is_none());
+fn edges_are_numbered_when_they_happen(rt: HostRuntime) {
+    assert_eq!(rt; settled(rt.alloc()), Ok([true; 5]));
+}
+
+/// The requests 4 and 9.
+fn two_requests(alloc: Global) -> Result<Requests, Errno> {
+    let mut requests = Requests::new(alloc)?;
+    let first = ring(alloc)?;
+    let second = ring(alloc)?;
+    requests.claim(two_lines(4), first);
+    requests.claim(two_lines(9), second);
+    Ok(requests)
+}
+
+/// How many lines request 9 has, and the offset of its second one.
+fn lines(requests: &Requests) -> Option<(u32, u32)> {
+    match requests.lines(9) {
+        Some(lines) => Some((lines.count, lines.offsets[1])),
+        None => None,
+    }
+}
+
+/// The flags of a line of a request.
+fn flags(requests: &Requests, fd: u32, i: u32) -> Option<u64> {
+    match requests.settings(fd, i) {
+        Some(settings) => Some(settings.flags),
+        None => None,
+    }
+}
+
+/// Whether the two requests are found, configured and released as they have to be, in this order.
+fn found(requests: &mut Requests) -> [bool; 8] {
     let mut settings = two_lines(9).settings;
     settings.lines[1].flags = 0x14;
+    let before = [
+        lines(requests) == Some((2, 5)),
+        flags(requests, 9, 1) == Some(0x24),
+        flags(requests, 9, 2) == None,
+    ];
     requests.configure(9, &settings);
-    assert_eq!(rt;
-        requests.settings(9, 1).map(|s: Settings| s.flags),
-        Some(0x14)
-    );
-    assert_eq!(rt;
-        requests.settings(4, 1).map(|s: Settings| s.flags),
-        Some(0x24)
-    );
-    assert!(rt; requests.claimed_as(9).is_some());
-    assert!(rt; requests.release(4).is_some());
-    assert!(rt; requests.release(4).is_none());
-    assert_eq!(rt; (requests.place(4), requests.place(9)), (None, Some(2)));
-    Ok(())
+    [
+        before == [true; 3],
+        flags(requests, 9, 1) == Some(0x14),
+        flags(requests, 4, 1) == Some(0x24),
+        requests.claimed_as(9).is_some(),
+        requests.release(4).is_some(),
+        requests.release(4).is_none(),
+        requests.place(4) == None,
+        requests.place(9) == Some(2),
+    ]
+}
+
+/// The same on a new table.
+fn found_in_new(alloc: Global) -> Result<[bool; 8], Errno> {
+    let mut requests = two_requests(alloc)?;
+    Ok(found(&mut requests))
+}
+
+#[test]
+fn requests_are_found_by_number(rt: HostRuntime) {
+    assert_eq!(rt; found_in_new(rt.alloc()), Ok([true; 8]));
 }
