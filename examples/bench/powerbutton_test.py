@@ -1,0 +1,230 @@
+"""A test bench for powerbutton: the daemon runs as it is over a simulated board, and the bench is the world around it.
+
+README.md says what each test shows. `make check` runs them.
+"""
+import os
+import select
+import shutil
+import signal
+import subprocess
+import sys
+import tempfile
+import time
+import unittest
+from pathlib import Path
+from typing import List, Sequence
+
+HERE = Path(__file__).resolve().parent
+TOP = HERE.parent.parent
+sys.path.insert(0, str(TOP / "serve"))
+from waves import Dump, Reader  # noqa: E402
+
+TOOLS = TOP / "serve/out"
+DAEMON = HERE / "out/powerbutton"
+PATIENCE = 30.0
+# Says where the broker listens and which process this is, and then becomes the daemon.
+START = 'echo "$GPIOSERVE $$"; exec "$@"'
+
+
+class Bench:
+    """The daemon under gpioserve. Time stands still except where `clock` moves it, or with `system` it is the system's."""
+
+    def __init__(self, *board: str, clock: str = "manual") -> None:
+        self.folder = Path(tempfile.mkdtemp(prefix="powerbutton."))
+        given = self.folder / "board"
+        given.write_text((HERE / "board").read_text() + "".join(line + "\n" for line in board))
+        self.transcript, self.answers, self.waves = (self.folder / name for name in ("transcript", "answers", "waves.vcd"))
+        self._process = subprocess.Popen(
+            [TOOLS / "gpioserve", "--clock", clock, "-b", given, "-t", self.transcript, "-a", self.answers, "-w", self.waves, "--",
+             "sh", "-c", START, "sh", DAEMON, "/dev/gpiochip0", "POWER", "LED"],
+            stdout=subprocess.PIPE, stderr=subprocess.STDOUT)
+        self._unread = b""
+        words = self.line().split()
+        if len(words) != 2 or not words[1].isdecimal():
+            raise AssertionError(f"gpioserve doesn't begin: {' '.join(words)}")
+        self._socket, self._daemon = words[0], int(words[1])
+        self.now = 0
+
+    def line(self) -> str:
+        """The next line that the daemon writes; an empty one once it has ended."""
+        assert self._process.stdout is not None
+        until = time.monotonic() + PATIENCE
+        while b"\n" not in self._unread:
+            if not select.select([self._process.stdout], [], [], max(until - time.monotonic(), 0))[0]:
+                raise AssertionError(f"nothing came for {PATIENCE} s")
+            data = os.read(self._process.stdout.fileno(), 4096)
+            if not data:
+                return self._unread.decode()
+            self._unread += data
+        first, self._unread = self._unread.split(b"\n", 1)
+        return first.decode()
+
+    def say(self, *statements: str) -> str:
+        """What statements print, by gpiosay."""
+        given = {**os.environ, "GPIOSERVE": self._socket}
+        done = subprocess.run([TOOLS / "gpiosay", *statements], env=given, capture_output=True, text=True, timeout=PATIENCE)
+        return done.stdout
+
+    def button(self, down: bool) -> None:
+        """Pulls the button's line up, as a press does, or lets it go."""
+        self.say(f"write gpiochip0/sim_gpio0/pull {'pull-up' if down else 'pull-down'}")
+
+    def clock(self, microseconds: int) -> None:
+        """Moves the clocks on."""
+        self.now += microseconds
+        self.say(f"clock {self.now * 1000} {self.now * 1000}")
+
+    def press(self) -> None:
+        """Presses the button for half a second, without a bounce."""
+        self.button(True)
+        self.clock(500_000)
+        self.button(False)
+        self.clock(500_000)
+
+    def led(self) -> int:
+        """The level of the LED's line."""
+        return int(self.say("read gpiochip0/sim_gpio1/value"))
+
+    def stop(self) -> int:
+        """Ends the daemon as a service manager does: its status."""
+        os.kill(self._daemon, signal.SIGTERM)
+        return self.status()
+
+    def status(self) -> int:
+        """Waits for the end: the status of gpioserve, which is the daemon's."""
+        return self._process.wait(PATIENCE)
+
+    def close(self) -> None:
+        """Ends what still runs, and takes the folder away."""
+        self._process.terminate()
+        self._process.wait(PATIENCE)
+        if self._process.stdout is not None:
+            self._process.stdout.close()
+        shutil.rmtree(self.folder)
+
+
+class PowerButtonTest(unittest.TestCase):
+    def start(self, *board: str, clock: str = "manual") -> Bench:
+        """The daemon, which has its lines."""
+        bench = self.begin(*board, clock=clock)
+        self.assertEqual(bench.line(), "POWER switches LED")
+        return bench
+
+    def begin(self, *board: str, clock: str = "manual") -> Bench:
+        """The daemon, of which nothing is known yet."""
+        bench = Bench(*board, clock=clock)
+        self.addCleanup(bench.close)
+        return bench
+
+    def test_each_press_switches_the_led(self) -> None:
+        bench = self.start()
+        self.assertEqual(bench.led(), 0)
+        for level, said in ((1, "LED is on"), (0, "LED is off"), (1, "LED is on")):
+            bench.press()
+            self.assertEqual((bench.line(), bench.led()), (said, level))
+        self.assertEqual(bench.stop(), 0)
+        self.assertEqual(bench.line(), "")
+
+    def test_a_bounce_is_one_press(self) -> None:
+        bench = self.start()
+        for down in (True, False, True, False, True):
+            bench.clock(3_000)
+            bench.button(down)
+        bench.clock(9_999)
+        self.assertEqual(bench.led(), 0)
+        bench.clock(1)
+        self.assertEqual((bench.line(), bench.led()), ("LED is on", 1))
+        self.assertEqual(bench.stop(), 0)
+        self.assertEqual(bench.line(), "")
+
+    def test_a_knock_is_no_press(self) -> None:
+        bench = self.start()
+        bench.button(True)
+        bench.clock(9_999)
+        bench.button(False)
+        bench.clock(1_000_000)
+        bench.press()
+        self.assertEqual((bench.line(), bench.led()), ("LED is on", 1))
+
+    def test_with_the_clocks_of_the_system(self) -> None:
+        bench = self.start(clock="system")
+        begins = time.monotonic()
+        bench.button(True)
+        self.assertEqual((bench.line(), bench.led()), ("LED is on", 1))
+        self.assertGreaterEqual(time.monotonic() - begins, 0.010)
+
+    def test_nobody_else_gets_its_lines(self) -> None:
+        bench = self.start()
+        self.assertEqual(bench.say("gpioget POWER"), "gpioget: EBUSY\n")
+        self.assertEqual(bench.say("gpioset LED=on"), "gpioset: EBUSY\n")
+        self.assertEqual(bench.say("gpioinfo -c gpiochip0").count('consumer="powerbutton"'), 2)
+
+    def test_it_ends_when_the_chip_is_unplugged(self) -> None:
+        bench = self.start()
+        bench.press()
+        self.assertEqual(bench.line(), "LED is on")
+        bench.say("write panel/live 0")
+        self.assertEqual(bench.line(), "powerbutton: /dev/gpiochip0 is gone")
+        self.assertEqual((bench.status(), bench.line()), (3, ""))
+
+    def test_a_driver_that_fails_at_a_press(self) -> None:
+        bench = self.start()
+        bench.say("fault 1")
+        bench.press()
+        self.assertEqual((bench.line(), bench.led()), ("powerbutton: LED can't be switched: Input/output error", 0))
+        bench.press()
+        self.assertEqual((bench.line(), bench.led()), ("LED is on", 1))
+
+    def test_a_driver_that_fails_at_the_start(self) -> None:
+        for call, name in ((1, "POWER"), (2, "LED")):
+            bench = self.begin(f"fault {call}")
+            self.assertEqual(bench.line(), f"powerbutton: {name} can't be had: Input/output error")
+            self.assertEqual(bench.status(), 1)
+
+    def test_a_chip_that_is_not_there(self) -> None:
+        bench = self.begin("write panel/live 0")
+        self.assertEqual(bench.line(), "powerbutton: /dev/gpiochip0 can't be opened: No such file or directory")
+        self.assertEqual(bench.status(), 1)
+
+    def test_the_transcript_is_a_session(self) -> None:
+        bench = self.pressed_once()
+        lines = bench.transcript.read_text().splitlines()
+        self.assertEqual(lines[:2], ["session 1", "setup"])
+        for line in (HERE / "board").read_text().splitlines():
+            self.assertIn(line, lines)
+        wanted = ["write panel/live 1", "open ", "ioctl ", "write gpiochip0/sim_gpio0/pull pull-up", "events ", "ioctl ", "close "]
+        self.assert_in_this_order(wanted, lines)
+        program = TOP / "crates/gpiosess/out/gpiosess"
+        if program.exists():
+            again = subprocess.run([program], stdin=bench.transcript.open("rb"), capture_output=True, check=True)
+            self.assertEqual(again.stdout, bench.answers.read_bytes())
+
+    def assert_in_this_order(self, wanted: Sequence[str], lines: List[str]) -> None:
+        """Lines that begin so come one after another, with others between them."""
+        rest = iter(lines)
+        for beginning in wanted:
+            self.assertTrue(any(line.startswith(beginning) for line in rest), f"no {beginning} where it is due")
+
+    def pressed_once(self) -> Bench:
+        """A run of one press that has ended."""
+        bench = self.start()
+        bench.press()
+        self.assertEqual(bench.line(), "LED is on")
+        self.assertEqual(bench.stop(), 0)
+        return bench
+
+    def test_the_waves_show_who_did_what(self) -> None:
+        dump = Reader(self.pressed_once().waves.read_text()).read()
+        self.assertEqual([value for value in self.values(dump, "POWER") if value != "x"], ["0", "1", "0"])
+        self.assertEqual([value for value in self.values(dump, "LED") if value != "x"][:2], ["0", "1"])
+        for name in ("POWER:holder", "LED:holder"):
+            self.assertEqual([value for value in self.values(dump, name) if value], ["powerbutton"])
+
+    @staticmethod
+    def values(dump: Dump, name: str) -> List[str]:
+        """The values of the row of that name, in order."""
+        return [change.value for row in dump.rows if row.name == name for change in row.changes]
+
+
+if __name__ == "__main__":
+    unittest.main()
