@@ -1,0 +1,14 @@
+/* What is answered to a client's question. */
+#ifndef QUESTIONS_H
+#define QUESTIONS_H
+
+#include "broker.h"
+
+/* Answers the question in the broker's packet. False where the served program has ended; a client that doesn't take its
+ * answer is no fault of that kind, and its connection is at its end soon. */
+bool questions_answer(struct broker *broker, struct client *client);
+
+/* Waits for the end of a file's readers, once they have it. False, with errno, where that can't be waited for. */
+bool questions_watch(struct broker *broker, struct watch *watch, unsigned events);
+
+#endif
