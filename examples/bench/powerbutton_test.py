@@ -5,7 +5,6 @@ README.md says what each test shows. `make check` runs them.
 import os
 import select
 import shutil
-import signal
 import subprocess
 import sys
 import tempfile
@@ -22,27 +21,21 @@ from waves import Dump, Reader  # noqa: E402
 TOOLS = TOP / "serve/out"
 DAEMON = HERE / "out/powerbutton"
 PATIENCE = 30.0
-# Says where the broker listens and which process this is, and then becomes the daemon.
-START = 'echo "$GPIOSERVE $$"; exec "$@"'
 
 
 class Bench:
-    """The daemon under gpioserve. Time stands still except where `clock` moves it, or with `system` it is the system's."""
+    """The daemon under gpioserve. Time stands still except where `clock` moves it; with `system` it is the system's."""
 
     def __init__(self, *board: str, clock: str = "manual") -> None:
         self.folder = Path(tempfile.mkdtemp(prefix="powerbutton."))
-        given = self.folder / "board"
+        self.served, given = self.folder / "served", self.folder / "board"
         given.write_text((HERE / "board").read_text() + "".join(line + "\n" for line in board))
         self.transcript, self.answers, self.waves = (self.folder / name for name in ("transcript", "answers", "waves.vcd"))
         self._process = subprocess.Popen(
-            [TOOLS / "gpioserve", "--clock", clock, "-b", given, "-t", self.transcript, "-a", self.answers, "-w", self.waves, "--",
-             "sh", "-c", START, "sh", DAEMON, "/dev/gpiochip0", "POWER", "LED"],
+            [TOOLS / "gpioserve", "--clock", clock, "--folder", self.served, "-b", given, "-t", self.transcript, "-a", self.answers,
+             "-w", self.waves, "--", DAEMON, "/dev/gpiochip0", "POWER", "LED"],
             stdout=subprocess.PIPE, stderr=subprocess.STDOUT)
         self._unread = b""
-        words = self.line().split()
-        if len(words) != 2 or not words[1].isdecimal():
-            raise AssertionError(f"gpioserve doesn't begin: {' '.join(words)}")
-        self._socket, self._daemon = words[0], int(words[1])
         self.now = 0
 
     def line(self) -> str:
@@ -61,9 +54,8 @@ class Bench:
 
     def say(self, *statements: str) -> str:
         """What statements print, by gpiosay."""
-        given = {**os.environ, "GPIOSERVE": self._socket}
-        done = subprocess.run([TOOLS / "gpiosay", *statements], env=given, capture_output=True, text=True, timeout=PATIENCE)
-        return done.stdout
+        command = [TOOLS / "gpiosay", "--folder", self.served, *statements]
+        return subprocess.run(command, capture_output=True, text=True, timeout=PATIENCE).stdout
 
     def button(self, down: bool) -> None:
         """Pulls the button's line up, as a press does, or lets it go."""
@@ -87,7 +79,7 @@ class Bench:
 
     def stop(self) -> int:
         """Ends the daemon as a service manager does: its status."""
-        os.kill(self._daemon, signal.SIGTERM)
+        self._process.terminate()
         return self.status()
 
     def status(self) -> int:
