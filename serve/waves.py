@@ -436,7 +436,7 @@ def axis_marks(window: Window, bottom: int, start: Optional[int]) -> Iterator[st
         x = window.x(at)
         yield f'<line class="grid" x1="{x:g}" y1="{TOP - 6}" x2="{x:g}" y2="{bottom}"/>'
         yield f'<text class="small" x="{x:g}" y="{bottom + 14}" text-anchor="middle">{text}</text>'
-    if start is not None:
+    if start:
         clock = f"{start // 10 ** 9}.{start % 10 ** 9:09d}"
         yield f'<text class="small" x="{window.left:g}" y="{bottom + 30}">0 is {clock} s of the monotonic clock</text>'
 

@@ -1,98 +1,15 @@
-"""A test bench for powerbutton: the daemon runs as it is over a simulated board, and the bench is the world around it.
-
-README.md says what each test shows. `make check` runs them.
-"""
-import os
-import select
-import shutil
+"""Tests of powerbutton, which runs as it is. README.md says what each shows; `make check` runs them."""
 import subprocess
 import sys
-import tempfile
 import time
 import unittest
-from pathlib import Path
 from typing import List, Sequence
 
-HERE = Path(__file__).resolve().parent
-TOP = HERE.parent.parent
+import picture
+from bench import HERE, TOP, Bench
+
 sys.path.insert(0, str(TOP / "serve"))
 from waves import Dump, Reader  # noqa: E402
-
-TOOLS = TOP / "serve/out"
-DAEMON = HERE / "out/powerbutton"
-PATIENCE = 30.0
-
-
-class Bench:
-    """The daemon under gpioserve. Time stands still except where `clock` moves it; with `system` it is the system's."""
-
-    def __init__(self, *board: str, clock: str = "manual") -> None:
-        self.folder = Path(tempfile.mkdtemp(prefix="powerbutton."))
-        self.served, given = self.folder / "served", self.folder / "board"
-        given.write_text((HERE / "board").read_text() + "".join(line + "\n" for line in board))
-        self.transcript, self.answers, self.waves = (self.folder / name for name in ("transcript", "answers", "waves.vcd"))
-        self._process = subprocess.Popen(
-            [TOOLS / "gpioserve", "--clock", clock, "--folder", self.served, "-b", given, "-t", self.transcript, "-a", self.answers,
-             "-w", self.waves, "--", DAEMON, "/dev/gpiochip0", "POWER", "LED"],
-            stdout=subprocess.PIPE, stderr=subprocess.STDOUT)
-        self._unread = b""
-        self.now = 0
-
-    def line(self) -> str:
-        """The next line that the daemon writes; an empty one once it has ended."""
-        assert self._process.stdout is not None
-        until = time.monotonic() + PATIENCE
-        while b"\n" not in self._unread:
-            if not select.select([self._process.stdout], [], [], max(until - time.monotonic(), 0))[0]:
-                raise AssertionError(f"nothing came for {PATIENCE} s")
-            data = os.read(self._process.stdout.fileno(), 4096)
-            if not data:
-                return self._unread.decode()
-            self._unread += data
-        first, self._unread = self._unread.split(b"\n", 1)
-        return first.decode()
-
-    def say(self, *statements: str) -> str:
-        """What statements print, by gpiosay."""
-        command = [TOOLS / "gpiosay", "--folder", self.served, *statements]
-        return subprocess.run(command, capture_output=True, text=True, timeout=PATIENCE).stdout
-
-    def button(self, down: bool) -> None:
-        """Pulls the button's line up, as a press does, or lets it go."""
-        self.say(f"write gpiochip0/sim_gpio0/pull {'pull-up' if down else 'pull-down'}")
-
-    def clock(self, microseconds: int) -> None:
-        """Moves the clocks on."""
-        self.now += microseconds
-        self.say(f"clock {self.now * 1000} {self.now * 1000}")
-
-    def press(self) -> None:
-        """Presses the button for half a second, without a bounce."""
-        self.button(True)
-        self.clock(500_000)
-        self.button(False)
-        self.clock(500_000)
-
-    def led(self) -> int:
-        """The level of the LED's line."""
-        return int(self.say("read gpiochip0/sim_gpio1/value"))
-
-    def stop(self) -> int:
-        """Ends the daemon as a service manager does: its status."""
-        self._process.terminate()
-        return self.status()
-
-    def status(self) -> int:
-        """Waits for the end: the status of gpioserve, which is the daemon's."""
-        return self._process.wait(PATIENCE)
-
-    def close(self) -> None:
-        """Ends what still runs, and takes the folder away."""
-        self._process.terminate()
-        self._process.wait(PATIENCE)
-        if self._process.stdout is not None:
-            self._process.stdout.close()
-        shutil.rmtree(self.folder)
 
 
 class PowerButtonTest(unittest.TestCase):
@@ -184,7 +101,7 @@ class PowerButtonTest(unittest.TestCase):
         self.assertEqual(lines[:2], ["session 1", "setup"])
         for line in (HERE / "board").read_text().splitlines():
             self.assertIn(line, lines)
-        wanted = ["write panel/live 1", "open ", "ioctl ", "write gpiochip0/sim_gpio0/pull pull-up", "events ", "ioctl ", "close "]
+        wanted = ["write panel/live 1", "open ", "ioctl ", "write gpiochip0/sim_gpio0/pull pull-up", "events ", "ioctl "]
         self.assert_in_this_order(wanted, lines)
         program = TOP / "crates/gpiosess/out/gpiosess"
         if program.exists():
@@ -200,6 +117,7 @@ class PowerButtonTest(unittest.TestCase):
     def pressed_once(self) -> Bench:
         """A run of one press that has ended."""
         bench = self.start()
+        bench.clock(1_000_000)
         bench.press()
         self.assertEqual(bench.line(), "LED is on")
         self.assertEqual(bench.stop(), 0)
@@ -211,6 +129,9 @@ class PowerButtonTest(unittest.TestCase):
         self.assertEqual([value for value in self.values(dump, "LED") if value != "x"][:2], ["0", "1"])
         for name in ("POWER:holder", "LED:holder"):
             self.assertEqual([value for value in self.values(dump, name) if value], ["powerbutton"])
+
+    def test_the_picture_is_that_of_the_daemon(self) -> None:
+        self.assertEqual(picture.draw(), picture.PICTURE.read_text())
 
     @staticmethod
     def values(dump: Dump, name: str) -> List[str]:
