@@ -71,6 +71,8 @@ static bool hand_in(struct broker *broker, const char *path, unsigned number, co
         report("%s: line %u: `%s` was answered %s", path, number, line, broker->machine.text);
         return false;
     }
+    if (statement.clock)
+        broker->now = statement.now;
     return true;
 }
 

@@ -21,7 +21,7 @@ struct broker {
     struct waves waves;
     int poller;   /* what the loop waits on */
     bool manual;  /* the clock is moved by statements alone */
-    uint64_t now; /* the machine's monotonic clock, as it was last set by the broker */
+    uint64_t now; /* the machine's monotonic clock, as it was last set */
     bool has_due; /* a deadline is set in the machine, */
     uint64_t due; /* at this time of that clock */
     bool was_due; /* it has passed since the files were last looked at */

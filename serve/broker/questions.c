@@ -267,6 +267,8 @@ static bool answer_say(struct broker *broker, struct client *client) {
     /* (what follows the statement takes the place of its text) */
     struct answer answer = {.error = machine_error(&broker->machine), .length = (uint32_t)broker->machine.length};
     char *text = strdup(broker->machine.text);
+    if (statement.clock && answer.error == 0)
+        broker->now = statement.now;
     bool alive = turn_settle(broker, statement.effect);
     if (text)
         clients_reply(client, &answer, text, -1);

@@ -79,5 +79,6 @@ const char *statement_read(struct statement *statement, const char *line, size_t
     statement->tool = is_one_of(first, tools);
     statement->pulls = is(first, "write") && sscanf(second.at, "gpiochip%u/sim_gpio%" SCNu32 "/pull ", &statement->chip,
                                                  &statement->offset) == 2;
+    statement->clock = is(first, "clock") && sscanf(second.at, "%" SCNu64, &statement->now) == 1;
     return NULL;
 }
