@@ -19,7 +19,8 @@ struct broker {
     struct files files;
     struct clients clients;
     struct waves waves;
-    int poller;   /* what the loop waits on */
+    int poller;   /* what the loop waits on: all except files, and `ends` */
+    int ends;     /* shows the files that no client has any more */
     bool manual;  /* the clock is moved by statements alone */
     uint64_t now; /* the machine's monotonic clock, as it was last set */
     bool has_due; /* a deadline is set in the machine, */

@@ -12,13 +12,12 @@
 #include "report.h"
 #include "turn.h"
 
-/* All that can be waited for at once: files, connections and the others. A question is answered only after the ends of
- * all files that were closed before it, so that one look has to show both. */
-#define MOST_SHOWN 2048
+/* What is taken at one look. */
+#define MOST_SHOWN 64
 
 struct loop {
     struct broker *broker;
-    struct watch signals, served;
+    struct watch signals, served, ends;
     pid_t command;
     bool command_ended;
     int status; /* of the command, as waitpid gives it */
@@ -61,18 +60,19 @@ static void take_signals(struct loop *loop) {
 
 static void take_connection(struct broker *broker) {
     struct client *client = clients_accept(&broker->clients);
-    if (client && !questions_watch(broker, &client->watch, EPOLLIN))
+    if (client && !watch_by(broker->poller, &client->watch, EPOLLIN))
         clients_drop(&broker->clients, client);
 }
 
+/* Answers a question, once all files are closed that were so before it. */
 static bool take_question(struct broker *broker, struct client *client) {
     int got = clients_read(client, &broker->packet);
     if (got < 0)
         clients_drop(&broker->clients, client);
-    return got <= 0 || questions_answer(broker, client);
+    return got <= 0 || (turn_close_ended(broker) && questions_answer(broker, client));
 }
 
-/* Takes what was shown, except closed files. */
+/* Takes what was shown. */
 static void take_event(struct loop *loop, struct watch *watch) {
     switch (watch->kind) {
     case WATCH_SIGNALS:
@@ -82,7 +82,10 @@ static void take_event(struct loop *loop, struct watch *watch) {
         take_connection(loop->broker);
         break;
     case WATCH_CLIENT:
-        loop->alive = loop->alive && take_question(loop->broker, watch->owner);
+        loop->alive = take_question(loop->broker, watch->owner);
+        break;
+    case WATCH_ENDS:
+        loop->alive = turn_close_ended(loop->broker);
         break;
     case WATCH_SERVED:
         loop->alive = false;
@@ -99,16 +102,8 @@ static bool wait_once(struct loop *loop) {
     int count = epoll_wait(broker->poller, events, MOST_SHOWN, turn_wait(broker));
     if (count < 0)
         return errno == EINTR;
-    for (int i = 0; i < count && loop->alive; i++) {
-        struct watch *watch = events[i].data.ptr;
-        if (watch->kind != WATCH_FILE)
-            continue;
-        events[i].data.ptr = NULL; /* (the file is freed) */
-        loop->alive = turn_close(broker, watch->owner);
-    }
     for (int i = 0; i < count && loop->alive; i++)
-        if (events[i].data.ptr)
-            take_event(loop, events[i].data.ptr);
+        take_event(loop, events[i].data.ptr);
     if (count == 0 && loop->alive)
         loop->alive = turn_tick(broker);
     record_flush(&broker->record);
@@ -120,8 +115,10 @@ static bool prepare(struct loop *loop, const sigset_t *signals) {
     int number = signalfd(-1, signals, SFD_CLOEXEC | SFD_NONBLOCK);
     loop->signals = (struct watch){WATCH_SIGNALS, number, NULL};
     loop->served = (struct watch){WATCH_SERVED, broker->machine.from, NULL};
-    return number >= 0 && questions_watch(broker, &loop->signals, EPOLLIN) &&
-           questions_watch(broker, &loop->served, 0) && questions_watch(broker, &broker->clients.listener, EPOLLIN);
+    loop->ends = (struct watch){WATCH_ENDS, broker->ends, NULL};
+    return number >= 0 && watch_by(broker->poller, &loop->signals, EPOLLIN) &&
+           watch_by(broker->poller, &loop->served, 0) && watch_by(broker->poller, &loop->ends, EPOLLIN) &&
+           watch_by(broker->poller, &broker->clients.listener, EPOLLIN);
 }
 
 /* Ends a command that has nobody any more who answers. */

@@ -132,8 +132,11 @@ int main(int count, char **arguments) {
     }
     broker.manual = options.manual;
     broker.poller = epoll_create1(EPOLL_CLOEXEC);
-    if (broker.poller < 0 || !loop_take_signals(&signals))
+    broker.ends = epoll_create1(EPOLL_CLOEXEC);
+    if (broker.poller < 0 || broker.ends < 0 || !loop_take_signals(&signals)) {
+        report("nothing can be waited for: %s", strerror(errno));
         return STATUS_OWN;
+    }
     int status = STATUS_OWN;
     if (record_open(&broker.record, options.transcript, options.answers) &&
         waves_open(&broker.waves, options.waves, options.manual ? 1 : 1000) && home_make(&broker.home, options.folder))
@@ -143,5 +146,6 @@ int main(int count, char **arguments) {
     bool written = waves_close(&broker.waves, broker.now);
     written = record_close(&broker.record) && written;
     close(broker.poller);
+    close(broker.ends);
     return written || status != 0 ? status : STATUS_OWN;
 }

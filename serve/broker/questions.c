@@ -5,7 +5,6 @@
 #include <stdio.h>
 #include <stdlib.h>
 #include <string.h>
-#include <sys/epoll.h>
 #include <unistd.h>
 
 #include "items.h"
@@ -19,20 +18,15 @@
 #define MOST_CHANGES 9216
 #define MOST_EVENTS1 16384
 
-bool questions_watch(struct broker *broker, struct watch *watch, unsigned events) {
-    struct epoll_event event = {.events = events, .data.ptr = watch};
-    return epoll_ctl(broker->poller, EPOLL_CTL_ADD, watch->number, &event) == 0;
-}
-
 static void reply_error(struct client *client, int error) {
     struct answer answer = {.error = error};
     clients_reply(client, &answer, NULL, -1);
 }
 
-/* Makes a file that is waited for. NULL, with errno, where that can't be. */
+/* Makes a file whose end is waited for. NULL, with errno, where that can't be. */
 static struct file *make_file(struct broker *broker, enum file_kind kind, unsigned chip, int *reader) {
     struct file *file = files_make(&broker->files, kind, chip, reader);
-    if (!file || questions_watch(broker, &file->watch, 0))
+    if (!file || watch_by(broker->ends, &file->watch, 0))
         return file;
     int error = errno;
     close(*reader);

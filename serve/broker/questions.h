@@ -8,7 +8,4 @@
  * answer is no fault of that kind, and its connection is at its end soon. */
 bool questions_answer(struct broker *broker, struct client *client);
 
-/* Waits for the end of a file's readers, once they have it. False, with errno, where that can't be waited for. */
-bool questions_watch(struct broker *broker, struct watch *watch, unsigned events);
-
 #endif

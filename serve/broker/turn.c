@@ -4,6 +4,7 @@
 #include <stdio.h>
 #include <stdlib.h>
 #include <string.h>
+#include <sys/epoll.h>
 #include <time.h>
 
 static uint64_t clock_of(clockid_t which) {
@@ -123,7 +124,8 @@ bool turn_tick(struct broker *broker) {
     return machine_take(&broker->machine) && turn_settle(broker, TURN_NOTHING);
 }
 
-bool turn_close(struct broker *broker, struct file *file) {
+/* Closes a file that no client has any more. */
+static bool close_file(struct broker *broker, struct file *file) {
     char line[32];
     if (files_is_gone(file)) {
         files_drop(&broker->files, file);
@@ -135,6 +137,19 @@ bool turn_close(struct broker *broker, struct file *file) {
     bool watched = file->kind != FILE_CHIP;
     files_drop(&broker->files, file);
     return turn_say(broker, line, (size_t)length, true) && turn_settle(broker, watched ? TURN_EVENTS : TURN_NOTHING);
+}
+
+bool turn_close_ended(struct broker *broker) {
+    struct epoll_event events[64];
+    int count;
+    while ((count = epoll_wait(broker->ends, events, 64, 0)) > 0) {
+        for (int i = 0; i < count; i++) {
+            struct watch *watch = events[i].data.ptr;
+            if (!close_file(broker, watch->owner))
+                return false;
+        }
+    }
+    return true;
 }
 
 int turn_wait(const struct broker *broker) {

@@ -21,8 +21,9 @@ bool turn_settle(struct broker *broker, enum turn_effect effect);
 /* Sets the clock alone, and settles what came of it. */
 bool turn_tick(struct broker *broker);
 
-/* Closes a file that no client has any more, and settles what came of it. */
-bool turn_close(struct broker *broker, struct file *file);
+/* Closes the files that no client has any more, and settles what came of it. A file that was closed before a question
+ * was asked is closed by this once the question was read. */
+bool turn_close_ended(struct broker *broker);
 
 /* How long the loop may wait: milliseconds up to the next deadline, or -1. */
 int turn_wait(const struct broker *broker);

@@ -2,12 +2,18 @@
 #ifndef WATCH_H
 #define WATCH_H
 
-enum watch_kind { WATCH_LISTENER, WATCH_SIGNALS, WATCH_SERVED, WATCH_FILE, WATCH_CLIENT };
+#include <stdbool.h>
+
+enum watch_kind { WATCH_LISTENER, WATCH_SIGNALS, WATCH_SERVED, WATCH_ENDS, WATCH_FILE, WATCH_CLIENT };
 
 struct watch {
     enum watch_kind kind;
     int number;
     void *owner; /* the file or the client */
 };
+
+/* Waits from now on for these events, and for errors, by a poller of epoll. The watch has to stay. False, with errno,
+ * where that can't be. */
+bool watch_by(int poller, struct watch *watch, unsigned events);
 
 #endif
