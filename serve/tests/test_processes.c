@@ -24,7 +24,7 @@ static void test_fork(void) {
 }
 
 static int hold_for_a_while(int held) {
-    pause_for(100);
+    pause_for(1000);
     return values(held, 1) < 0;
 }
 

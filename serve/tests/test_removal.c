@@ -43,7 +43,7 @@ static void test_unplug(void) {
     struct epoll_event shown = {.events = EPOLLIN};
     test("the files of a chip that is gone say so");
     CHECK(edges >= 0 && epoll_ctl(waiter, EPOLL_CTL_ADD, edges, &shown) == 0);
-    CHECK(say("write gpiochip2/sim_gpio1/pull pull-up") && polled(edges, 1000) == POLLIN);
+    CHECK(say("write gpiochip2/sim_gpio1/pull pull-up") && polled(edges, 10000) == POLLIN);
     CHECK(read(edges, &event, sizeof event) == sizeof event);
     pid_t child = run_child(unplug_later, 2);
     CHECK_ERROR(read(edges, &event, sizeof event), ENODEV);
@@ -65,7 +65,7 @@ static void test_waiting_event(void) {
     CHECK(say("probe short 1"));
     int chip = open_chip(3);
     int edges = request_lines(chip, &line, 1, GPIO_V2_LINE_FLAG_INPUT | GPIO_V2_LINE_FLAG_EDGE_RISING, "edges");
-    CHECK(say("write gpiochip3/sim_gpio0/pull pull-up") && polled(edges, 1000) == POLLIN);
+    CHECK(say("write gpiochip3/sim_gpio0/pull pull-up") && polled(edges, 10000) == POLLIN);
     CHECK(say("unplug gpiochip3") && polled(edges, 0) == (POLLHUP | POLLERR));
     CHECK_ERROR(read(edges, &event, sizeof event), ENODEV);
     close(edges);

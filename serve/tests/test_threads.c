@@ -3,6 +3,7 @@
 #include <pthread.h>
 #include <signal.h>
 #include <string.h>
+#include <sys/time.h>
 #include <sys/wait.h>
 #include <unistd.h>
 
@@ -75,6 +76,7 @@ static void on_signal(int number) {
 
 static void test_signal(void) {
     struct gpio_v2_line_event event;
+    const struct itimerval often = {{0, 200000}, {0, 200000}}, never = {{0, 0}, {0, 0}};
     struct sigaction action, before;
     int held = request_edges(1);
     test("a signal ends a read that waits, and its handler may ask too");
@@ -82,8 +84,9 @@ static void test_signal(void) {
     action.sa_handler = on_signal;
     sigaction(SIGALRM, &action, &before);
     signal_file = held;
-    alarm(1);
+    setitimer(ITIMER_REAL, &often, NULL);
     CHECK_ERROR(read(held, &event, sizeof event), EINTR);
+    setitimer(ITIMER_REAL, &never, NULL);
     CHECK(signalled == 1);
     sigaction(SIGALRM, &before, NULL);
     close(held);

@@ -33,7 +33,7 @@ static void test_event(void) {
     int chip = open_chip(0);
     test("version 1: events are waited for and read");
     CHECK(ioctl(chip, GPIO_GET_LINEEVENT_IOCTL, &asked) == 0);
-    CHECK(polled(asked.fd, 0) == 0 && pull(4, true) && pull(4, false) && polled(asked.fd, 1000) == 1);
+    CHECK(polled(asked.fd, 0) == 0 && pull(4, true) && pull(4, false) && polled(asked.fd, 10000) == 1);
     CHECK(read(asked.fd, events, sizeof events) == 2 * sizeof *events);
     CHECK(events[0].id == GPIOEVENT_EVENT_RISING_EDGE && events[1].id == GPIOEVENT_EVENT_FALLING_EDGE);
     CHECK(events[0].timestamp > 0 && events[0].timestamp <= events[1].timestamp && polled(asked.fd, 0) == 0);
