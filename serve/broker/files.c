@@ -13,6 +13,8 @@
 
 /* Bytes that stand in a pipe at most. */
 #define MOST_MARKS 1024
+/* Numbers in names go up to this one, and then begin again: a name has at most 15 bytes. */
+#define MOST_NUMBER 9999999u
 
 /* How names begin: by the kind of the file, and last the chips' files of waves.c. */
 static const char *const kinds[] = {
@@ -43,6 +45,23 @@ static bool make_pipe(int ends[2], uint64_t *ino) {
     return false;
 }
 
+static bool is_named(const struct files *files, const char *name) {
+    for (const struct file *file = files->first; file; file = file->next)
+        if (strcmp(file->name, name) == 0)
+            return true;
+    return false;
+}
+
+/* Gives a file a name that no other one has. */
+static void name_file(struct files *files, struct file *file) {
+    char name[sizeof file->name];
+    do {
+        files->made = files->made % MOST_NUMBER + 1;
+        snprintf(name, sizeof name, "%s%u", kinds[file->kind], files->made);
+    } while (is_named(files, name));
+    memcpy(file->name, name, sizeof name);
+}
+
 struct file *files_make(struct files *files, enum file_kind kind, unsigned chip, int *reader) {
     int ends[2];
     uint64_t ino;
@@ -53,7 +72,7 @@ struct file *files_make(struct files *files, enum file_kind kind, unsigned chip,
     file->ino = ino;
     file->kind = kind;
     file->chip = chip;
-    snprintf(file->name, sizeof file->name, "%s%u", kinds[kind], ++files->made);
+    name_file(files, file);
     file->next = files->first;
     files->first = file;
     files->open++;

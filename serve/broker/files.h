@@ -27,7 +27,7 @@ struct file {
 
 struct files {
     struct file *first;
-    unsigned made;
+    unsigned made; /* the number of the last name */
     size_t open;
 };
 

@@ -104,7 +104,7 @@ static bool wait_once(struct loop *loop) {
         return errno == EINTR;
     for (int i = 0; i < count && loop->alive; i++)
         take_event(loop, events[i].data.ptr);
-    if (count == 0 && loop->alive)
+    if (loop->alive && turn_wait(broker) == 0)
         loop->alive = turn_tick(broker);
     record_flush(&broker->record);
     return true;

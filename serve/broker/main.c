@@ -37,8 +37,8 @@ static bool beside(char path[PATH_MAX], const char *name) {
     return snprintf(path, PATH_MAX, "%.*s/%s", (int)(slash - own), own, name) < PATH_MAX;
 }
 
-/* The words of the served program: those that are named, or the program beside this one, or the one that the repository
- * builds. `room` keeps their text. False, and reported, where there is none. */
+/* The words of the served program: the path or the words, divided by blanks, that are named, or the program beside this
+ * one, or the one that the repository builds. `room` keeps their text. False, and reported, where there is none. */
 static bool served_words(const char *named, char room[PATH_MAX], char *words[MOST_WORDS + 1]) {
     size_t count = 0;
     if (!named)
@@ -52,8 +52,14 @@ static bool served_words(const char *named, char room[PATH_MAX], char *words[MOS
         report("the served program isn't built: build it in crates/gpioserved by `rt run`, or name one by --served");
         return false;
     }
-    if (snprintf(room, PATH_MAX, "%s", named) >= PATH_MAX)
+    if (snprintf(room, PATH_MAX, "%s", named) >= PATH_MAX) {
+        report("the served program's path is too long");
         return false;
+    }
+    words[0] = room;
+    words[1] = NULL;
+    if (access(room, X_OK) == 0)
+        return true;
     for (char *word = strtok(room, " "); word && count < MOST_WORDS; word = strtok(NULL, " "))
         words[count++] = word;
     words[count] = NULL;
