@@ -63,6 +63,8 @@ void test_events(void);
 void test_processes(const char *own);
 void test_threads(void);
 void test_removal(void);
+/* Of which no short transcript can be kept. */
+void test_killed_midway(void);
 /* With the clock moved by statements. */
 void test_manual(void);
 /* The other end of a test of exec. */

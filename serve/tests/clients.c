@@ -11,6 +11,10 @@ int main(int count, char **arguments) {
         test_manual();
         return !test_end();
     }
+    if (count == 2 && strcmp(arguments[1], "--killed") == 0) {
+        test_killed_midway();
+        return !test_end();
+    }
     test_files();
     test_values();
     if (count < 2 || strcmp(arguments[1], "--version2") != 0)

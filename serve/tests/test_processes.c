@@ -156,6 +156,38 @@ static void test_at_once(void) {
     CHECK(good);
 }
 
+static int ask_for_ever(int line) {
+    for (;;) {
+        int held = request((uint32_t)line, GPIO_V2_LINE_FLAG_OUTPUT);
+        set_values(held, 1, 1);
+        pull((unsigned)line, true);
+        close(held);
+    }
+    return 0;
+}
+
+void test_killed_midway(void) {
+    pid_t children[4];
+    bool free = true;
+    test("processes that are killed in the midst of a question leave nothing behind");
+    for (int turn = 0; turn < 20; turn++) {
+        for (int i = 0; i < 4; i++)
+            children[i] = run_child(ask_for_ever, i);
+        pause_for(5 + (unsigned)turn % 7);
+        for (int i = 0; i < 4; i++)
+            kill(children[i], SIGKILL);
+        for (int i = 0; i < 4; i++)
+            end_of(children[i]);
+    }
+    for (uint32_t line = 0; line < 8; line++) {
+        int held = request(line, GPIO_V2_LINE_FLAG_INPUT);
+        free = free && held >= 0;
+        close(held);
+        pull(line, false);
+    }
+    CHECK(free);
+}
+
 static int close_all_and_go_on(int line) {
     int held = request((uint32_t)line, GPIO_V2_LINE_FLAG_OUTPUT);
     for (int file = 3; file < 1024; file++)
