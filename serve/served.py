@@ -9,6 +9,7 @@ The program is the one that GPIOSERVED names, with its arguments, or else the on
 """
 import os
 import shlex
+import shutil
 import subprocess
 from dataclasses import dataclass
 from pathlib import Path
@@ -46,7 +47,10 @@ def program() -> List[str]:
     """The command that serves: the words of GPIOSERVED, or the program that was built here. NotServed where there is neither."""
     named = os.environ.get("GPIOSERVED")
     if named:
-        return shlex.split(named)
+        words = shlex.split(named)
+        if shutil.which(words[0]) is None:
+            raise NotServed(f"{words[0]} isn't there, which GPIOSERVED names")
+        return words
     if not os.access(PROGRAM, os.X_OK):
         raise NotServed(f"{PROGRAM} isn't there: build it, or name another one in GPIOSERVED")
     return [str(PROGRAM)]

@@ -134,7 +134,7 @@ class BesideTest(unittest.TestCase):
     def test_without_the_file_or_the_program(self) -> None:
         shown = self.show(b"say a\n", command=["/no/such"])
         self.assertEqual((shown.returncode, shown.stdout), (1, ""))
-        self.assertEqual(shown.stderr, "beside: /no/such can't be started: No such file or directory\n")
+        self.assertEqual(shown.stderr, "beside: /no/such isn't there, which GPIOSERVED names\n")
         shown = self.show(b"say a\nend\n")
         self.assertEqual((shown.returncode, shown.stdout), (1, ""))
         self.assertEqual(shown.stderr, "beside: gpioserved ended with status 6 before it answered\n")
