@@ -1,6 +1,7 @@
 #include "waves.h"
 
 #include <errno.h>
+#include <fcntl.h>
 #include <inttypes.h>
 #include <stdlib.h>
 #include <string.h>
@@ -38,7 +39,7 @@ bool waves_open(struct waves *waves, const char *path, uint64_t unit) {
     }
     fclose(made);
     waves->changes = tmpfile();
-    if (!waves->changes) {
+    if (!waves->changes || fcntl(fileno(waves->changes), F_SETFD, FD_CLOEXEC)) {
         report("no temporary file for the waves: %s", strerror(errno));
         return false;
     }
