@@ -164,11 +164,9 @@ class MachineTest(unittest.TestCase):
                 self.assertEqual(text, expected.read_bytes())
 
     def test_the_listing_of_the_button(self) -> None:
-        lines = beside(str(TOP / "examples/button.session")).stdout.splitlines()
-        for line in ("step b 3                                  idle",
-                     'step b 3                                  1.005600000  rising  "BUTTON"',
-                     "gpioinfo -c gpiochip0                     gpiochip0 - 8 lines:"):
-            self.assertIn(line, lines)
+        shown = beside(str(TOP / "examples/button.session")).stdout
+        self.assertIn("\n".join(shown.splitlines()[:19]), (TOP / "README.md").read_text())
+        self.assertIn("gpioinfo -c gpiochip0                     gpiochip0 - 8 lines:\n", shown)
 
 
 if __name__ == "__main__":
