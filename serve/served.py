@@ -8,6 +8,7 @@
 The program is the one that GPIOSERVED names, with its arguments, or else the one that this repository builds.
 """
 import os
+import re
 import shlex
 import shutil
 import subprocess
@@ -83,8 +84,10 @@ class Served:
         text = answer.text.decode("utf-8", "backslashreplace")
         if answer.accepted:
             return text
-        _, row, column, kind = text.split()
-        raise Refused(int(row), int(column), kind, line)
+        found = re.fullmatch("refused ([0-9]+) ([0-9]+) ([a-z-]+)\n", text)
+        if not found:
+            raise NotServed(f"gpioserved wrote {text!r}, which is no refusal")
+        raise Refused(int(found[1]), int(found[2]), found[3], line)
 
     def answer(self, line: bytes) -> Answer:
         """The answer to one line, which has no line end in it."""
