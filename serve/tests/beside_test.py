@@ -121,10 +121,12 @@ class BesideTest(unittest.TestCase):
         self.assertEqual((shown.returncode, shown.stdout, shown.stderr), (3, "", f"beside: {self.name}:2:4: word\n  no tea\n     ^\n"))
 
     def test_sections_of_actors_are_refused_with_a_reason(self) -> None:
-        for word in ("actor a", "after", "  actor"):
-            shown = self.show(b"session 1\nsetup\n" + word.encode() + b"\nsay a\n")
+        for words, said in ((b"actor a\nsay a\nactor b", "the section `actor`: actors run beside each other"),
+                            (b"after", "the section `after`: gpioserved answers the statements of `setup` alone"),
+                            (b"  actor", "the section `actor`: gpioserved answers the statements of `setup` alone")):
+            shown = self.show(b"session 1\nsetup\n" + words + b"\nsay a\n")
             self.assertEqual((shown.returncode, shown.stdout), (3, ""))
-            self.assertIn(f"beside: {self.name}:3: the section `{word.split()[0]}`: only a session of `setup` alone", shown.stderr)
+            self.assertIn(f"beside: {self.name}:3: {said}", shown.stderr)
         self.assertEqual(self.show(b"say a\n# actor b\nsay actor\n").returncode, 0)
 
     def test_no_line_that_counts(self) -> None:
