@@ -7,6 +7,9 @@
 
 /* Runs of zeros from this length on are counted. */
 #define LEAST_RUN 8
+/* A line has at most 128 words, each of at most 1300 bytes. */
+#define MOST_WORDS 100
+#define LONGEST_WORD 512
 
 static size_t zeros_at(const unsigned char *bytes, size_t at, size_t length) {
     size_t end = at;
@@ -22,16 +25,18 @@ static size_t write_pair(char *text, unsigned char byte) {
     return 2;
 }
 
-size_t pieces_write(char *text, const unsigned char *bytes, size_t length) {
+/* Writes runs of zeros by their counts. How many words that makes; `length` becomes the text's. */
+static unsigned write_runs(char *text, const unsigned char *bytes, size_t *length) {
     size_t out = 0, at = 0;
+    unsigned words = 1;
     bool in_word = true;
-    if (length == 0)
-        text[out++] = '-';
-    while (at < length) {
-        size_t zeros = zeros_at(bytes, at, length);
+    while (at < *length) {
+        size_t zeros = zeros_at(bytes, at, *length);
         bool run = zeros >= LEAST_RUN;
-        if (at > 0 && (run || !in_word))
+        if (at > 0 && (run || !in_word)) {
             text[out++] = ' ';
+            words++;
+        }
         if (run)
             out += (size_t)sprintf(text + out, "00*%zu", zeros);
         else
@@ -39,6 +44,27 @@ size_t pieces_write(char *text, const unsigned char *bytes, size_t length) {
         at += run ? zeros : 1;
         in_word = !run;
     }
+    *length = out;
+    return words;
+}
+
+/* Writes pairs alone. */
+static size_t write_pairs(char *text, const unsigned char *bytes, size_t length) {
+    size_t out = 0;
+    for (size_t at = 0; at < length; at++) {
+        if (at > 0 && at % LONGEST_WORD == 0)
+            text[out++] = ' ';
+        out += write_pair(text + out, bytes[at]);
+    }
+    return out;
+}
+
+size_t pieces_write(char *text, const unsigned char *bytes, size_t length) {
+    size_t out = length;
+    if (length == 0)
+        text[out++] = '-';
+    else if (write_runs(text, bytes, &out) > MOST_WORDS)
+        out = write_pairs(text, bytes, length);
     text[out] = 0;
     return out;
 }

@@ -7,7 +7,8 @@
 /* Room for the text of so many bytes, its end included: at most two digits and a blank for each. */
 #define PIECES_ROOM(bytes) (3 * (bytes) + 8)
 
-/* Writes the text of the bytes, ended by a zero: runs of at least eight zeros as `00*N`, no bytes as `-`. `text` has
+/* Writes the text of the bytes, ended by a zero: runs of at least eight zeros as `00*N`, or all as pairs where that
+ * would be too many words for a line; no bytes as `-`. `text` has
  * PIECES_ROOM(length) bytes. The text's length. */
 size_t pieces_write(char *text, const unsigned char *bytes, size_t length);
 

@@ -84,6 +84,24 @@ static void test_hostile_bytes(void) {
     close(chip);
 }
 
+static void test_scattered_bytes(void) {
+    struct gpio_v2_line_request asked;
+    unsigned char *bytes = (unsigned char *)&asked;
+    int chip = open_chip(0);
+    test("bytes that nobody looks at may be any");
+    memset(&asked, 0, sizeof asked);
+    for (size_t i = 4; i < sizeof asked.offsets; i += 9)
+        bytes[i] = 1;
+    for (size_t i = 0; i < sizeof asked.config.attrs; i += 9)
+        ((unsigned char *)asked.config.attrs)[i] = 1;
+    asked.offsets[0] = 5;
+    asked.num_lines = 1;
+    asked.config.flags = GPIO_V2_LINE_FLAG_INPUT;
+    CHECK(ioctl(chip, GPIO_V2_GET_LINE_IOCTL, &asked) == 0 && values(asked.fd, 1) == 0);
+    close(asked.fd);
+    close(chip);
+}
+
 static void test_statements(void) {
     test("a statement that may not be said is refused, and says nothing else");
     CHECK(!say("clock 1 1") && strncmp(said(), "refused: the clock", 18) == 0);
@@ -101,5 +119,6 @@ void test_values(void) {
     test_config();
     test_fault();
     test_hostile_bytes();
+    test_scattered_bytes();
     test_statements();
 }

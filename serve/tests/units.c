@@ -31,6 +31,19 @@ static void test_texts(void) {
     count(has_text("\0\0\0\0\0\0\0\0\1", 9, "00*8 01"), "a run stands at the start");
 }
 
+static void test_many_runs(void) {
+    unsigned char bytes[1024] = {0}, read[1024];
+    char text[PIECES_ROOM(1024)];
+    size_t words = 1;
+    for (size_t i = 0; i < sizeof bytes; i += 9)
+        bytes[i] = 1;
+    pieces_write(text, bytes, sizeof bytes);
+    for (const char *at = text; (at = strchr(at, ' ')); at++)
+        words++;
+    count(words == 2 && pieces_read(text, read, sizeof read) == 1024 && memcmp(read, bytes, sizeof read) == 0,
+        "runs that would be too many words for a line are pairs");
+}
+
 static void test_refused(void) {
     static const char *const bad[] = {"1", "1g", "12*", "12*0", "12*9999999", "12 3", "AB", "--", "12-", "00*17"};
     unsigned char read[16];
@@ -90,6 +103,7 @@ static void test_items(void) {
 
 int main(void) {
     test_texts();
+    test_many_runs();
     test_refused();
     test_round_trip();
     test_items();
