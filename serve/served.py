@@ -53,7 +53,7 @@ def program() -> List[str]:
             raise NotServed(f"{words[0]} isn't there, which GPIOSERVED names")
         return words
     if not os.access(PROGRAM, os.X_OK):
-        raise NotServed(f"{PROGRAM} isn't there: build it, or name another one in GPIOSERVED")
+        raise NotServed(f"{PROGRAM} isn't there: build it in crates/gpioserved by `rt run`, or name one in GPIOSERVED")
     return [str(PROGRAM)]
 
 
