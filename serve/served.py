@@ -8,7 +8,9 @@
 The program is the one that GPIOSERVED names, with its arguments, or else the one that this repository builds.
 """
 import os
+import re
 import shlex
+import shutil
 import subprocess
 from dataclasses import dataclass
 from pathlib import Path
@@ -46,9 +48,12 @@ def program() -> List[str]:
     """The command that serves: the words of GPIOSERVED, or the program that was built here. NotServed where there is neither."""
     named = os.environ.get("GPIOSERVED")
     if named:
-        return shlex.split(named)
+        words = shlex.split(named)
+        if shutil.which(words[0]) is None:
+            raise NotServed(f"{words[0]} isn't there, which GPIOSERVED names")
+        return words
     if not os.access(PROGRAM, os.X_OK):
-        raise NotServed(f"{PROGRAM} isn't there: build it, or name another one in GPIOSERVED")
+        raise NotServed(f"{PROGRAM} isn't there: build it in crates/gpioserved by `rt run`, or name one in GPIOSERVED")
     return [str(PROGRAM)]
 
 
@@ -79,8 +84,10 @@ class Served:
         text = answer.text.decode("utf-8", "backslashreplace")
         if answer.accepted:
             return text
-        _, row, column, kind = text.split()
-        raise Refused(int(row), int(column), kind, line)
+        found = re.fullmatch("refused ([0-9]+) ([0-9]+) ([a-z-]+)\n", text)
+        if not found:
+            raise NotServed(f"gpioserved wrote {text!r}, which is no refusal")
+        raise Refused(int(found[1]), int(found[2]), found[3], line)
 
     def answer(self, line: bytes) -> Answer:
         """The answer to one line, which has no line end in it."""

@@ -33,6 +33,7 @@ TOP = 14
 AXIS = 40
 TICK_ROOM = 90
 NARROW = 0.5
+ROOM = 200
 PALETTE = ("#ddf4ff", "#dafbe1", "#fff8c5", "#ffeff7", "#fbefff", "#ffe7d6")
 STYLE = """
   text { font: 11px ui-monospace, monospace; fill: #24292f }
@@ -117,6 +118,16 @@ def unescaped(text: str) -> str:
     return re.sub(r"(?:\\x[0-9A-Fa-f]{2})+", bytes_at, text)
 
 
+def shown(text: str) -> str:
+    """A text without signs that can't be shown, which are spelled out."""
+    return "".join(sign if sign.isprintable() else ascii(sign)[1:-1] for sign in text)
+
+
+def is_number(text: str) -> bool:
+    """Whether a text is a decimal number that a dump can have."""
+    return re.fullmatch("[0-9]{1,40}", text) is not None
+
+
 def number_of(bits: str) -> str:
     """A vector's value: in hexadecimal digits where all its bits are known."""
     return hex(int(bits, 2)) if re.fullmatch("[01]+", bits) else bits
@@ -197,7 +208,7 @@ class Reader:
             self._scopes.pop()
         elif command == "$var":
             self._variable(body)
-        elif command == "$comment" and len(body) == 2 and body[0] == "start" and body[1].isdecimal():
+        elif command == "$comment" and len(body) == 2 and body[0] == "start" and is_number(body[1]):
             self._start = int(body[1])
 
     def _timescale(self, text: str) -> None:
@@ -207,10 +218,10 @@ class Reader:
         self._unit = int(found[1]) * 10 ** UNITS[found[2]]
 
     def _variable(self, body: List[str]) -> None:
-        if len(body) < 4 or not body[1].isdecimal():
+        if len(body) < 4 or not is_number(body[1]):
             self._fail("$var has a type, a number of bits, a code and a name")
         kind, size, code = body[:3]
-        row = Row(".".join(self._scopes), " ".join(body[3:]), kind not in TEXT_TYPES and size == "1")
+        row = Row(shown(".".join(self._scopes)), shown(" ".join(body[3:])), kind not in TEXT_TYPES and size == "1")
         self._rows.append(row)
         self._by_code.setdefault(code, []).append(row)
 
@@ -230,7 +241,7 @@ class Reader:
             self._fail(f"{word.text} is neither a time nor a value")
 
     def _time(self, text: str) -> None:
-        if not text.isdecimal():
+        if not is_number(text):
             self._fail(f"#{text} is no time")
         if self._unit is None:
             self._fail("there is a time, and no $timescale in the header")
@@ -247,7 +258,7 @@ class Reader:
             self._fail(f"{code or 'a value without a code'} is no code of the header")
         for row in self._by_code[code]:
             if not row.is_level:
-                row.set(self._at, number_of(value) if value else value)
+                row.set(self._at, shown(number_of(value)))
             elif value[-1:] in ("0", "1", "x", "z"):
                 row.set(self._at, value[-1])
             else:
@@ -442,9 +453,10 @@ def axis_marks(window: Window, bottom: int, start: Optional[int]) -> Iterator[st
 
 
 def picture(dump: Dump, begin: int, end: int, width: int) -> str:
-    """The dump from one time to another as an SVG of that width."""
+    """The dump from one time to another as an SVG of that width, or wider where the labels leave too little room."""
     made = tracks(dump.rows)
     left = round(max(len(track.label) for track in made) * SIGN + 20)
+    width = max(width, left + 30 + ROOM)
     window = Window(begin, end, left, width - left - 30)
     bottom = made[-1].top + made[-1].height + 8
     colours: Dict[str, str] = {}

@@ -1,11 +1,11 @@
 /* powerbutton [-d MILLISECONDS] CHIP BUTTON LED
  *
- * A power button: each press of the line BUTTON switches the line LED, on and off by turns. Lines are named. The button's edges count
- * once it has been still for 10 milliseconds, or as many as -d says.
+ * A power button: each press of the line BUTTON switches the line LED, on and off by turns. Lines are named. The
+ * button's edges count once it has been still for 10 milliseconds, or as many as -d says.
  *
- * It speaks to linux/gpio.h (uAPI v2) alone, and knows nothing of the board that it is tested on. It says on standard output what it
- * did, and on standard error what went wrong. Status 0 after SIGTERM or SIGINT, 1 where it can't begin, 2 for wrong arguments, 3 once
- * the chip is gone. */
+ * It speaks to linux/gpio.h (uAPI v2) alone, and knows nothing of the board that it is tested on. It says on standard
+ * output what it did, and on standard error what went wrong. Status 0 after SIGTERM or SIGINT, 1 where it can't begin,
+ * 2 for wrong arguments, 3 once the chip is gone. */
 #define _GNU_SOURCE
 #include <errno.h>
 #include <fcntl.h>
@@ -40,8 +40,7 @@ struct daemon {
 };
 
 /* Says on standard error what went wrong. */
-__attribute__((format(printf, 1, 2))) static void complain(const char *form, ...)
-{
+__attribute__((format(printf, 1, 2))) static void complain(const char *form, ...) {
     va_list values;
 
     fputs("powerbutton: ", stderr);
@@ -52,8 +51,7 @@ __attribute__((format(printf, 1, 2))) static void complain(const char *form, ...
 }
 
 /* The offset of the line of that name, or -1, and reported. */
-static int find_line(const struct daemon *daemon, const char *name)
-{
+static int find_line(const struct daemon *daemon, const char *name) {
     struct gpiochip_info chip = {0};
 
     if (ioctl(daemon->chip, GPIO_GET_CHIPINFO_IOCTL, &chip) < 0) {
@@ -75,8 +73,7 @@ static int find_line(const struct daemon *daemon, const char *name)
 }
 
 /* Requests the line of that name with this configuration: the request's file, or -1, and reported. */
-static int request_line(const struct daemon *daemon, const char *name, const struct gpio_v2_line_config *config)
-{
+static int request_line(const struct daemon *daemon, const char *name, const struct gpio_v2_line_config *config) {
     struct gpio_v2_line_request request = {.num_lines = 1, .consumer = CONSUMER, .config = *config};
     int offset = find_line(daemon, name);
 
@@ -91,28 +88,26 @@ static int request_line(const struct daemon *daemon, const char *name, const str
 }
 
 /* Requests the button, which reports a press and a release once it was still for that long. */
-static int request_button(const struct daemon *daemon, const char *name, uint32_t milliseconds)
-{
+static int request_button(const struct daemon *daemon, const char *name, uint32_t milliseconds) {
     struct gpio_v2_line_config config = {
         .flags = GPIO_V2_LINE_FLAG_INPUT | GPIO_V2_LINE_FLAG_EDGE_RISING | GPIO_V2_LINE_FLAG_EDGE_FALLING,
         .num_attrs = 1,
-        .attrs[0] = {.attr = {.id = GPIO_V2_LINE_ATTR_ID_DEBOUNCE, .debounce_period_us = milliseconds * 1000}, .mask = 1},
+        .attrs[0] = {.attr = {.id = GPIO_V2_LINE_ATTR_ID_DEBOUNCE, .debounce_period_us = milliseconds * 1000},
+            .mask = 1},
     };
 
     return request_line(daemon, name, &config);
 }
 
 /* Requests the LED, which is off. */
-static int request_led(const struct daemon *daemon, const char *name)
-{
+static int request_led(const struct daemon *daemon, const char *name) {
     struct gpio_v2_line_config config = {.flags = GPIO_V2_LINE_FLAG_OUTPUT};
 
     return request_line(daemon, name, &config);
 }
 
 /* Blocks SIGTERM and SIGINT, and makes the file that tells of them. -1 where it can't be made, and reported. */
-static int watch_signals(void)
-{
+static int watch_signals(void) {
     sigset_t set;
     int file;
 
@@ -127,8 +122,7 @@ static int watch_signals(void)
 }
 
 /* Switches the LED. Where that fails it stays as it is, and the next press tries again. False once the chip is gone. */
-static bool switch_led(struct daemon *daemon)
-{
+static bool switch_led(struct daemon *daemon) {
     struct gpio_v2_line_values values = {.bits = !daemon->on, .mask = 1};
 
     if (ioctl(daemon->led, GPIO_V2_LINE_SET_VALUES_IOCTL, &values) == 0) {
@@ -143,8 +137,7 @@ static bool switch_led(struct daemon *daemon)
 }
 
 /* Takes the event that waits. False once the chip is gone. */
-static bool take_event(struct daemon *daemon)
-{
+static bool take_event(struct daemon *daemon) {
     struct gpio_v2_line_event event;
     ssize_t length = read(daemon->button, &event, sizeof event);
 
@@ -158,8 +151,7 @@ static bool take_event(struct daemon *daemon)
 }
 
 /* Waits for the button, until a signal comes or the chip goes. */
-static enum status serve(struct daemon *daemon)
-{
+static enum status serve(struct daemon *daemon) {
     struct pollfd waits[] = {{.fd = daemon->button, .events = POLLIN}, {.fd = daemon->signals, .events = POLLIN}};
 
     for (;;) {
@@ -177,8 +169,7 @@ static enum status serve(struct daemon *daemon)
 }
 
 /* Opens all that the daemon needs. False where something can't be had, and reported. */
-static bool begin(struct daemon *daemon, const char *button, uint32_t milliseconds)
-{
+static bool begin(struct daemon *daemon, const char *button, uint32_t milliseconds) {
     daemon->signals = watch_signals();
     if (daemon->signals < 0)
         return false;
@@ -195,8 +186,7 @@ static bool begin(struct daemon *daemon, const char *button, uint32_t millisecon
 }
 
 /* Closes what is open. */
-static void end(const struct daemon *daemon)
-{
+static void end(const struct daemon *daemon) {
     const int files[] = {daemon->led, daemon->button, daemon->chip, daemon->signals};
 
     for (size_t at = 0; at < sizeof files / sizeof *files; at++)
@@ -205,16 +195,14 @@ static void end(const struct daemon *daemon)
 }
 
 /* A number of milliseconds from 0 to DEBOUNCE_MS_MAX, or -1. */
-static long milliseconds_of(const char *text)
-{
+static long milliseconds_of(const char *text) {
     char *rest;
     long number = strtol(text, &rest, 10);
 
     return *text >= '0' && *text <= '9' && *rest == '\0' && number <= DEBOUNCE_MS_MAX ? number : -1;
 }
 
-int main(int argc, char **argv)
-{
+int main(int argc, char **argv) {
     struct daemon daemon = {.chip = -1, .button = -1, .led = -1, .signals = -1};
     long milliseconds = DEBOUNCE_MS;
     enum status status = FAILED;
@@ -223,7 +211,8 @@ int main(int argc, char **argv)
     while ((option = getopt(argc, argv, "d:")) != -1)
         milliseconds = option == 'd' ? milliseconds_of(optarg) : -1;
     if (argc - optind != 3 || milliseconds < 0) {
-        fputs("usage: powerbutton [-d MILLISECONDS] CHIP BUTTON LED, as powerbutton /dev/gpiochip0 POWER LED\n", stderr);
+        fputs(
+            "usage: powerbutton [-d MILLISECONDS] CHIP BUTTON LED, as powerbutton /dev/gpiochip0 POWER LED\n", stderr);
         return USAGE;
     }
     setvbuf(stdout, NULL, _IOLBF, 0);

@@ -41,6 +41,7 @@ BROKEN: List[Tuple[str, int, str]] = [
     (HEAD, 4, "no time"),
     (HEAD + "0l0\n", 5, "before the first time"),
     (HEAD + "#0\n0l0\n#five\n", 7, "#five is no time"),
+    (HEAD + "#0\n0l0\n#" + "9" * 5000 + "\n", 7, "is no time"),
     (HEAD + "#9\n0l0\n\n#8\n", 8, "#8 is earlier"),
     (HEAD + "#0\n0l1\n", 6, "l1 is no code"),
     (HEAD + "#0\n0\n", 6, "a value without a code"),
@@ -161,6 +162,16 @@ class DrawingTest(unittest.TestCase):
     def test_signs_of_the_picture_are_escaped(self) -> None:
         picture = self.drawn(HEAD + "#0 0l0 s<&\"> h0 #9")
         self.assertIn("<&\">", self.texts(picture))
+
+    def test_what_cannot_stand_in_a_picture_is_spelled_out(self) -> None:
+        picture = self.drawn("$timescale 1 ns $end $var wire 1 l0 A\x01 $end $var string 1 h0 B $end $enddefinitions $end #0 s\x02 h0 #9")
+        self.assertEqual(self.texts(picture)[-3:], ["A\\x01", "B", "\\x02"])
+
+    def test_long_labels_make_the_picture_wider(self) -> None:
+        dump = read(HEAD.replace(" A ", " " + "A" * 99 + " ") + "#0 0l0 #9 1l0 #12")
+        picture = xml.fromstring(waves.picture(dump, dump.begin, dump.end, 300))
+        self.assertEqual(picture.get("width"), "913")
+        self.assertIn("V14H883", xml.tostring(picture, "unicode"))
 
     def test_a_dump_of_one_moment_is_drawn(self) -> None:
         self.assertIn("A", self.texts(self.drawn_at_once(HEAD + "#7 0l0")))
