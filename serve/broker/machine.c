@@ -99,22 +99,24 @@ static bool read_more(struct machine *machine) {
     }
 }
 
+/* The end of a head in what was read, or NULL where it isn't whole yet. */
+static char *head_end(const struct machine *machine) {
+    size_t length = machine->input_length - machine->input_at;
+    return length > 0 ? memchr(machine->input + machine->input_at, '\n', length) : NULL;
+}
+
 /* Reads a head, `= N` or `! N`, and takes it out. The text's length, or -1. */
 static long take_head(struct machine *machine) {
-    const char *head;
-    char *end, sign;
-    unsigned long length;
-    while (!(head = machine->input + machine->input_at,
-        end = machine->input_length > machine->input_at ? memchr(head, '\n', machine->input_length - machine->input_at)
-                                                        : NULL)) {
+    char *end;
+    while (!(end = head_end(machine)))
         if (machine->input_length - machine->input_at > MOST_HEAD || !read_more(machine))
             return -1;
-    }
-    sign = head[0];
+    const char *head = machine->input + machine->input_at;
+    char sign = head[0];
     if ((sign != '=' && sign != '!') || head[1] != ' ' || head[2] < '0' || head[2] > '9')
         return -1;
     *end = 0;
-    length = strtoul(head + 2, &end, 10);
+    unsigned long length = strtoul(head + 2, &end, 10);
     if (*end != 0 || length > MOST_TEXT)
         return -1;
     machine->refused = sign == '!';
