@@ -35,22 +35,39 @@ static int stat_file(int file, struct stat *status) {
     return result;
 }
 
-static int stat_any(int from, const char *path, struct stat *status, int flags) {
+/* The status of a name that may be a chip's or stand in the broker's folder; `*chip` is the chip's number, or -1. */
+static __attribute__((noinline)) int stat_concerned(
+    int from, const char *path, struct stat *status, int flags, int *chip) {
     char room[PATH_MAX];
-    if (path && *path == 0 && (flags & AT_EMPTY_PATH))
-        return stat_file(from, status);
-    int chip = names_chip(from, path);
     const char *moved = names_moved(path, room);
-    if (chip >= 0) {
-        names_node(chip, room);
+    *chip = names_chip(from, path);
+    if (*chip >= 0) {
+        names_node(*chip, room);
         moved = room;
     }
-    int result = (int)syscall(SYS_newfstatat, from, moved, status, flags);
-    if (result != 0 && errno == ENOENT && !(flags & AT_SYMLINK_NOFOLLOW) &&
-        (chip = names_linked_chip(from, path)) >= 0) {
-        names_node(chip, room);
-        result = (int)syscall(SYS_newfstatat, AT_FDCWD, room, status, flags);
-    }
+    return (int)syscall(SYS_newfstatat, from, moved, status, flags);
+}
+
+/* The status of what a link to a chip leads to; -1 with ENOENT where it leads elsewhere. */
+static __attribute__((noinline)) int stat_linked(int from, const char *path, struct stat *status, int *chip) {
+    char room[PATH_MAX];
+    *chip = names_linked_chip(from, path);
+    if (*chip < 0)
+        return -1;
+    names_node(*chip, room);
+    return (int)syscall(SYS_newfstatat, AT_FDCWD, room, status, 0);
+}
+
+static int stat_any(int from, const char *path, struct stat *status, int flags) {
+    int chip = -1, result;
+    if (path && *path == 0 && (flags & AT_EMPTY_PATH))
+        return stat_file(from, status);
+    if (names_concern(path))
+        result = stat_concerned(from, path, status, flags, &chip);
+    else
+        result = (int)syscall(SYS_newfstatat, from, path, status, flags);
+    if (result != 0 && errno == ENOENT && chip < 0 && !(flags & AT_SYMLINK_NOFOLLOW))
+        result = stat_linked(from, path, status, &chip);
     if (result == 0 && chip >= 0)
         show_chip(status, chip);
     return result;

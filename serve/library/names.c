@@ -81,6 +81,14 @@ static const char *name_in_dev(const char *path) {
     return begins(path, "/dev/") ? path + strlen("/dev/") : NULL;
 }
 
+bool names_concern(const char *path) {
+    if (!path || !ask_home())
+        return false;
+    const char *last = strrchr(path, '/');
+    return begins(last ? last + 1 : path, "gpiochip") || begins(path, "/dev") || begins(path, "/sys") ||
+           begins(path, "//") || begins(path, "/./");
+}
+
 int names_chip(int from, const char *path) {
     char folder[PATH_MAX], flat[PATH_MAX];
     if (!path || !ask_home())
@@ -100,11 +108,11 @@ int names_chip(int from, const char *path) {
 }
 
 int names_linked_chip(int from, const char *path) {
-    char to[PATH_MAX];
+    char to[64]; /* (what is longer leads to no chip) */
     int kept = errno;
     long length = path && ask_home() ? syscall(SYS_readlinkat, from, path, to, sizeof to - 1) : -1;
     errno = kept;
-    if (length <= 0)
+    if (length <= 0 || length == sizeof to - 1)
         return -1;
     to[length] = 0;
     return *to == '/' ? names_chip(AT_FDCWD, to) : -1;
@@ -136,7 +144,7 @@ static bool is_moved(const char *flat) {
 
 const char *names_moved(const char *path, char room[PATH_MAX]) {
     char flat[PATH_MAX];
-    if (!path || !ask_home() || *path != '/' || (!begins(path, "/dev") && !begins(path, "/sys") && !begins(path, "//")))
+    if (!names_concern(path) || *path != '/')
         return path;
     return flatten(path, flat) && is_moved(flat) && in_home(flat, room) ? room : path;
 }

@@ -3,6 +3,11 @@
 #define NAMES_H
 
 #include <limits.h>
+#include <stdbool.h>
+
+/* Whether a name may be a chip's or stand in the broker's folder, at a quick look. Of all other names the calls below
+ * have nothing to say; they take room on the stack, of which a program that opens another file may have little. */
+bool names_concern(const char *path);
 
 /* The number of the chip that a name is the name of, seen from the folder `from` (AT_FDCWD: the working directory); -1
  * where it is none. A link to such a name isn't followed. */

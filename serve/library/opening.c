@@ -31,17 +31,22 @@ static int open_chip(int chip, int flags) {
     return file;
 }
 
-/* Opens a name that may be a chip's. */
-static int open_any(int from, const char *path, int flags, mode_t mode) {
+/* Opens a name that may be a chip's or stand in the broker's folder. */
+static __attribute__((noinline)) int open_concerned(int from, const char *path, int flags, mode_t mode) {
     char room[PATH_MAX];
     int chip = names_chip(from, path);
     if (chip >= 0 && !(flags & (O_PATH | O_DIRECTORY)))
         return open_chip(chip, flags);
     const char *moved = flags & O_DIRECTORY ? names_moved_folder(path, room) : names_moved(path, room);
-    int file = REAL(openat)(from, moved, flags, mode);
+    return REAL(openat)(from, moved, flags, mode);
+}
+
+/* Opens any name. */
+static int open_any(int from, const char *path, int flags, mode_t mode) {
+    int file = names_concern(path) ? open_concerned(from, path, flags, mode) : REAL(openat)(from, path, flags, mode);
     if (file >= 0 || errno != ENOENT)
         return file;
-    chip = names_linked_chip(from, path);
+    int chip = names_linked_chip(from, path);
     return chip >= 0 ? open_chip(chip, flags) : file;
 }
 
