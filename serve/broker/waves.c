@@ -99,8 +99,12 @@ static bool take_state(struct machine *machine, struct wave *wave, struct state 
     return true;
 }
 
-/* Writes what differs from the last state of a line. */
+/* Writes what differs from the last state of a line. What the board did stands at time 0. */
 static void write_change(struct waves *waves, struct wave *wave, const struct state *state, uint64_t now) {
+    if (!waves->begun) {
+        wave->first = wave->now = *state;
+        return;
+    }
     bool level = state->level != wave->now.level, holder = strcmp(state->holder, wave->now.holder) != 0;
     uint64_t time = now > waves->start ? (now - waves->start) / waves->unit : 0;
     if (!level && !holder)
