@@ -42,8 +42,10 @@ static bool begin(struct broker *broker) {
     machine_putf(&broker->machine, "session 1");
     machine_putf(&broker->machine, "setup");
     for (int i = 0; i < 2; i++) {
-        if (!machine_take(&broker->machine) || broker->machine.refused) {
-            report("the served program doesn't answer as gpioserved does: is it the right one?");
+        if (!machine_take(&broker->machine))
+            return false;
+        if (broker->machine.refused) {
+            report("the served program doesn't take `session 1`: is it gpioserved?");
             return false;
         }
     }

@@ -156,5 +156,5 @@ int loop_run(struct broker *broker, const sigset_t *signals, pid_t command) {
         close(loop.signals.number);
     if (!good)
         return STATUS_OWN;
-    return loop.alive ? status_of(&loop) : STATUS_SERVED_DIED;
+    return loop.alive && !broker->machine.ended ? status_of(&loop) : STATUS_SERVED_DIED;
 }

@@ -144,8 +144,10 @@ bool machine_take(struct machine *machine) {
     if (!send_lines(machine))
         return false;
     long length = take_head(machine);
-    if (length < 0 || !take_text(machine, (size_t)length))
+    if (length < 0 || !take_text(machine, (size_t)length)) {
+        machine->garbled = !machine->ended;
         return end_of(machine);
+    }
     if (line->kept && !machine->refused) {
         record_line(machine->record, machine->lines + line->at, line->length);
         record_text(machine->record, machine->text, machine->length);

@@ -32,6 +32,7 @@ struct machine {
     size_t length, text_room;
     bool refused; /* the last line was no statement; the text is `refused LINE COLUMN KIND` */
     bool ended;   /* nobody answers any more */
+    bool garbled; /* what came last is no answer */
 };
 
 /* Starts the program with these words. False, and reported, where it can't be started. */

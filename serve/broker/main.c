@@ -87,12 +87,8 @@ static bool find_library(const struct broker *broker, char path[PATH_MAX]) {
 static int run_command(struct broker *broker, const struct options *options, const sigset_t *signals) {
     char library[PATH_MAX];
     pid_t command;
-    if (!board_hand_in(broker, options->board) || !clients_listen(&broker->clients, broker->home.path)) {
-        if (broker->machine.ended)
-            report("the served program ended before the command began");
-        return STATUS_OWN;
-    }
-    if (!turn_tick(broker) || !find_library(broker, library))
+    if (!board_hand_in(broker, options->board) || !clients_listen(&broker->clients, broker->home.path) ||
+        !turn_tick(broker) || !find_library(broker, library))
         return STATUS_OWN;
     waves_begin(&broker->waves, broker->now);
     int status = command_start(&command, options->command, library, broker->home.path);
@@ -102,13 +98,15 @@ static int run_command(struct broker *broker, const struct options *options, con
     return status;
 }
 
-/* Says how the served program ended, where that was its own doing. */
-static void report_served(int status, bool early) {
-    if (early && WIFSIGNALED(status))
-        report("the served program was ended by signal %d; the command was ended with it", WTERMSIG(status));
-    else if (early)
-        report(
-            "the served program ended with status %d before the command, which was ended with it", WEXITSTATUS(status));
+/* Says how the served program ended, where that was its own doing. `begun`: the command ran. */
+static void report_served(const struct machine *machine, int status, bool begun) {
+    const char *rest = begun ? "before the command, which was ended with it" : "before the command began";
+    if (machine->garbled)
+        report("what the served program wrote is no answer: is it gpioserved? It ended %s", rest);
+    else if (machine->ended && WIFSIGNALED(status))
+        report("the served program was ended by signal %d %s", WTERMSIG(status), rest);
+    else if (machine->ended)
+        report("the served program ended with status %d %s", WEXITSTATUS(status), rest);
     else if (!WIFEXITED(status) || WEXITSTATUS(status) != 0)
         report("the served program did not end well: status %d", status);
 }
@@ -118,10 +116,10 @@ static int run_broker(struct broker *broker, const struct options *options, cons
     if (!served_words(options->served, room, words) || !machine_start(&broker->machine, words, &broker->record))
         return STATUS_OWN;
     int status = run_command(broker, options, signals);
-    bool early = broker->machine.ended || status == STATUS_SERVED_DIED;
-    int ended = machine_end(&broker->machine);
-    report_served(ended, early);
-    return early && status != STATUS_OWN ? STATUS_SERVED_DIED : status;
+    if (status == STATUS_SERVED_DIED)
+        broker->machine.ended = true;
+    report_served(&broker->machine, machine_end(&broker->machine), status != STATUS_OWN);
+    return status;
 }
 
 int main(int count, char **arguments) {

@@ -53,6 +53,16 @@ static void test_nonblocking(void) {
     close(held);
 }
 
+static void test_bad_memory(void) {
+    void *volatile nowhere = (void *)16;
+    int held = request_edges(1);
+    test("a read into memory that isn't there is refused, and the next is answered");
+    CHECK(pull(1, true) && pull(1, false));
+    CHECK_ERROR(read(held, nowhere, sizeof(struct gpio_v2_line_event)), EFAULT);
+    CHECK(values(held, 1) == 0);
+    close(held);
+}
+
 static int pull_later(int line) {
     pause_for(50);
     return !pull((unsigned)line, true);
@@ -166,6 +176,7 @@ void test_events(void) {
     test_poll();
     test_timestamps();
     test_nonblocking();
+    test_bad_memory();
     test_blocking();
     test_readv();
     test_select();
