@@ -1,0 +1,118 @@
+#include "board.h"
+
+#include <errno.h>
+#include <stdio.h>
+#include <stdlib.h>
+#include <string.h>
+
+#include "../faults.h"
+#include "report.h"
+#include "statement.h"
+
+/* Reports a refused line, and shows it, or the part of it round the fault, with a caret under the column. */
+static void report_refusal(const struct machine *machine, const char *path, unsigned number, const char *line) {
+    unsigned long row, column;
+    char kind[16];
+    if (sscanf(machine->text, "refused %lu %lu %15s", &row, &column, kind) != 3) {
+        report("%s: line %u: %s", path, number, machine->text);
+        return;
+    }
+    size_t length = strlen(line), from = column > 60 ? column - 60 : 0;
+    report("%s: line %u, column %lu: %s", path, number, column, faults_words(kind));
+    if (from < length)
+        fprintf(stderr, "  %.100s\n  %*s^\n", line + from, (int)(column - from) - 1, "");
+    report("docs/FORMATS.md lists the statements; a board has those of a `setup`, as `probe LABEL N`");
+}
+
+/* Whether a line is passed over. */
+static bool is_blank(const char *line) {
+    line += strspn(line, " ");
+    return *line == 0 || *line == '#';
+}
+
+/* Whether a line has these two words, or one where `second` is NULL. */
+static bool has_words(const char *line, const char *first, const char *second) {
+    char words[3][16] = {"", "", ""};
+    int count = sscanf(line, "%15s %15s %15s", words[0], words[1], words[2]);
+    return count == (second ? 2 : 1) && strcmp(words[0], first) == 0 && (!second || strcmp(words[1], second) == 0);
+}
+
+/* Says `session 1` and `setup`. */
+static bool begin(struct broker *broker) {
+    machine_putf(&broker->machine, "session 1");
+    machine_putf(&broker->machine, "setup");
+    for (int i = 0; i < 2; i++) {
+        if (!machine_take(&broker->machine))
+            return false;
+        if (broker->machine.refused) {
+            report("the served program doesn't take `session 1`: is it gpioserved?");
+            return false;
+        }
+    }
+    return true;
+}
+
+/* Hands in one line. */
+static bool hand_in(struct broker *broker, const char *path, unsigned number, const char *line, size_t length) {
+    struct statement statement;
+    const char *refusal = statement_read(&statement, line, length, true);
+    if (refusal) {
+        report("%s: line %u: %.*s", path, number, (int)strcspn(refusal, "\n"), refusal);
+        return false;
+    }
+    if (statement.pulls)
+        waves_touch(&broker->waves, &broker->machine, broker->now, statement.chip, statement.offset);
+    machine_put(&broker->machine, line, length, statement.kept);
+    if (!machine_take(&broker->machine))
+        return false;
+    if (broker->machine.refused) {
+        report_refusal(&broker->machine, path, number, line);
+        return false;
+    }
+    if (machine_error(&broker->machine)) {
+        report("%s: line %u: `%s` was answered %s", path, number, line, broker->machine.text);
+        return false;
+    }
+    if (statement.clock)
+        broker->now = statement.now;
+    return true;
+}
+
+static bool hand_in_all(struct broker *broker, const char *path, FILE *file) {
+    char *line = NULL;
+    size_t room = 0;
+    ssize_t length;
+    unsigned number = 0, heads = 0; /* of `session 1` and `setup`, how many stood there */
+    bool good = true;
+    while (good && (length = getline(&line, &room, file)) >= 0) {
+        number++;
+        if (length > 0 && line[length - 1] == '\n')
+            line[--length] = 0;
+        if ((heads == 0 && has_words(line, "session", "1")) || (heads == 1 && has_words(line, "setup", NULL))) {
+            heads++;
+            continue;
+        }
+        if (!is_blank(line) && heads == 0)
+            heads = 2;
+        good = hand_in(broker, path, number, line, (size_t)length);
+    }
+    free(line);
+    if (good && ferror(file)) {
+        report("%s can't be read: %s", path, strerror(errno));
+        good = false;
+    }
+    return good;
+}
+
+bool board_hand_in(struct broker *broker, const char *path) {
+    FILE *file = path ? fopen(path, "re") : NULL;
+    if (path && !file) {
+        report("the board %s can't be read: %s", path, strerror(errno));
+        report("a board is a file of statements, as `probe demo 4` for a chip with 4 lines; serve/README.md has more");
+        return false;
+    }
+    bool good = begin(broker) && (!file || hand_in_all(broker, path, file));
+    if (file)
+        fclose(file);
+    return good && turn_settle(broker, TURN_CHIPS);
+}

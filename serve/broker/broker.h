@@ -1,0 +1,32 @@
+/* All that the broker knows while a command runs. */
+#ifndef BROKER_H
+#define BROKER_H
+
+#include <stdbool.h>
+#include <stdint.h>
+
+#include "clients.h"
+#include "files.h"
+#include "home.h"
+#include "machine.h"
+#include "record.h"
+#include "waves.h"
+
+struct broker {
+    struct record record;
+    struct machine machine;
+    struct home home;
+    struct files files;
+    struct clients clients;
+    struct waves waves;
+    int poller;   /* what the loop waits on: all except files, and `ends` */
+    int ends;     /* shows the files that no client has any more */
+    bool manual;  /* the clock is moved by statements alone */
+    uint64_t now; /* the machine's monotonic clock, as it was last set */
+    bool has_due; /* a deadline is set in the machine, */
+    uint64_t due; /* at this time of that clock */
+    bool was_due; /* it has passed since the files were last looked at */
+    struct packet packet;
+};
+
+#endif

@@ -1,0 +1,59 @@
+/* The files that clients have: each is the reading end of a pipe, and the broker has the writing end.
+ *
+ * The pipe holds bytes exactly while the machine says that something can be read. When its last reader is gone, the
+ * writing end shows an error. When the chip is gone the broker closes the writing end, so that the readers see it hung
+ * up. */
+#ifndef FILES_H
+#define FILES_H
+
+#include <stdbool.h>
+#include <stddef.h>
+#include <stdint.h>
+
+#include "../uapi.h"
+#include "watch.h"
+
+struct file {
+    struct watch watch; /* of the writing end; its number is -1 once the chip is gone */
+    struct file *next;
+    uint64_t ino;
+    enum file_kind kind;
+    unsigned chip;
+    bool awaits; /* something may come to be read: edges, or a watch */
+    char name[16];
+    size_t line_count; /* of a request */
+    uint32_t lines[UAPI_LINES];
+};
+
+struct files {
+    struct file *first;
+    unsigned made; /* the number of the last name */
+    size_t open;
+};
+
+/* Makes a file. `reader` gets the reading end, which the caller owns. NULL, with errno, where there is no pipe for it.
+ * The file is the list's, and freed by files_drop. */
+struct file *files_make(struct files *files, enum file_kind kind, unsigned chip, int *reader);
+
+/* The file with that number of its pipe, or NULL. */
+struct file *files_find(const struct files *files, uint64_t ino);
+
+/* Whether a word is of the form that the broker's names of files have. */
+bool files_is_name(const char *word, size_t length);
+
+/* Closes the writing end, takes the file off the list, and frees it. */
+void files_drop(struct files *files, struct file *file);
+
+/* Shows its readers that the chip is gone. The file stays, so that its questions are answered. */
+void files_hang_up(struct files *files, struct file *file);
+bool files_is_gone(const struct file *file);
+
+/* Shows its readers that there is something to read, or that there is nothing. `again`: more may have come since the
+ * last time, which an edge-triggered reader has to see. */
+void files_show(struct file *file, bool readable, bool again);
+/* Whether its readers see something to read. */
+bool files_shows(const struct file *file);
+
+void files_free(struct files *files);
+
+#endif

@@ -1,0 +1,200 @@
+#include "machine.h"
+
+#include <errno.h>
+#include <stdarg.h>
+#include <stdint.h>
+#include <stdio.h>
+#include <stdlib.h>
+#include <string.h>
+#include <sys/wait.h>
+#include <unistd.h>
+
+#include "process.h"
+#include "report.h"
+#include "room.h"
+
+/* The longest answer that is taken. */
+#define MOST_TEXT (64u << 20)
+/* The longest head of an answer. */
+#define MOST_HEAD 32
+
+bool machine_start(struct machine *machine, char *const *words, struct record *record) {
+    int in[2], out[2], error;
+    memset(machine, 0, sizeof *machine);
+    machine->record = record;
+    if (!process_pipes(in, out)) {
+        report("no pipe for the served program: %s", strerror(errno));
+        return false;
+    }
+    error = process_start(&machine->pid, words, in[0], out[1], NULL);
+    close(in[0]);
+    close(out[1]);
+    machine->to = in[1];
+    machine->from = out[0];
+    if (error == 0)
+        return true;
+    report("the served program %s can't be started: %s", words[0], strerror(error));
+    close(machine->to);
+    close(machine->from);
+    return false;
+}
+
+void machine_put(struct machine *machine, const char *line, size_t length, bool kept) {
+    if (machine->taken == machine->put)
+        machine->put = machine->taken = machine->lines_length = machine->lines_sent = 0;
+    if (machine->put == MACHINE_WAITING)
+        abort();
+    room_for(&machine->lines, &machine->lines_room, machine->lines_length + length + 1);
+    machine->waiting[machine->put++] = (struct machine_line){machine->lines_length, length, kept};
+    memcpy(machine->lines + machine->lines_length, line, length);
+    machine->lines_length += length;
+    machine->lines[machine->lines_length++] = '\n';
+}
+
+void machine_putf(struct machine *machine, const char *form, ...) {
+    char line[512];
+    va_list values;
+    va_start(values, form);
+    int length = vsnprintf(line, sizeof line, form, values);
+    va_end(values);
+    if (length < 0 || (size_t)length >= sizeof line)
+        abort();
+    machine_put(machine, line, (size_t)length, true);
+}
+
+static bool end_of(struct machine *machine) {
+    machine->ended = true;
+    machine->refused = false;
+    machine->length = 0;
+    return false;
+}
+
+static bool send_lines(struct machine *machine) {
+    while (machine->lines_sent < machine->lines_length) {
+        const char *rest = machine->lines + machine->lines_sent;
+        ssize_t sent = write(machine->to, rest, machine->lines_length - machine->lines_sent);
+        if (sent < 0 && errno == EINTR)
+            continue;
+        if (sent < 0)
+            return end_of(machine);
+        machine->lines_sent += (size_t)sent;
+    }
+    return true;
+}
+
+/* Reads more of the program's output. */
+static bool read_more(struct machine *machine) {
+    if (machine->input_at == machine->input_length)
+        machine->input_at = machine->input_length = 0;
+    room_for(&machine->input, &machine->input_room, machine->input_length + 4096);
+    for (;;) {
+        ssize_t got =
+            read(machine->from, machine->input + machine->input_length, machine->input_room - machine->input_length);
+        if (got < 0 && errno == EINTR)
+            continue;
+        if (got <= 0)
+            return end_of(machine);
+        machine->input_length += (size_t)got;
+        return true;
+    }
+}
+
+/* The end of a head in what was read, or NULL where it isn't whole yet. */
+static char *head_end(const struct machine *machine) {
+    size_t length = machine->input_length - machine->input_at;
+    return length > 0 ? memchr(machine->input + machine->input_at, '\n', length) : NULL;
+}
+
+/* Reads a head, `= N` or `! N`, and takes it out. The text's length, or -1. */
+static long take_head(struct machine *machine) {
+    char *end;
+    while (!(end = head_end(machine)))
+        if (machine->input_length - machine->input_at > MOST_HEAD || !read_more(machine))
+            return -1;
+    const char *head = machine->input + machine->input_at;
+    char sign = head[0];
+    if ((sign != '=' && sign != '!') || head[1] != ' ' || head[2] < '0' || head[2] > '9')
+        return -1;
+    *end = 0;
+    unsigned long length = strtoul(head + 2, &end, 10);
+    if (*end != 0 || length > MOST_TEXT)
+        return -1;
+    machine->refused = sign == '!';
+    machine->input_at = (size_t)(end - machine->input) + 1;
+    return (long)length;
+}
+
+static bool take_text(struct machine *machine, size_t length) {
+    while (machine->input_length - machine->input_at < length)
+        if (!read_more(machine))
+            return false;
+    room_for(&machine->text, &machine->text_room, length + 1);
+    memcpy(machine->text, machine->input + machine->input_at, length);
+    machine->text[length] = 0;
+    machine->length = length;
+    machine->input_at += length;
+    return true;
+}
+
+bool machine_take(struct machine *machine) {
+    const struct machine_line *line = &machine->waiting[machine->taken];
+    if (machine->ended || machine->taken == machine->put)
+        return end_of(machine);
+    machine->taken++;
+    if (!send_lines(machine))
+        return false;
+    long length = take_head(machine);
+    if (length < 0 || !take_text(machine, (size_t)length)) {
+        machine->garbled = !machine->ended;
+        return end_of(machine);
+    }
+    if (line->kept && !machine->refused) {
+        record_line(machine->record, machine->lines + line->at, line->length);
+        record_text(machine->record, machine->text, machine->length);
+    }
+    return true;
+}
+
+static const struct {
+    const char *name;
+    int number;
+} errors[] = {
+    {"EPERM", EPERM},
+    {"ENOENT", ENOENT},
+    {"EIO", EIO},
+    {"ENXIO", ENXIO},
+    {"EBADF", EBADF},
+    {"EAGAIN", EAGAIN},
+    {"ENOMEM", ENOMEM},
+    {"EFAULT", EFAULT},
+    {"EBUSY", EBUSY},
+    {"EEXIST", EEXIST},
+    {"ENODEV", ENODEV},
+    {"EINVAL", EINVAL},
+    {"EMFILE", EMFILE},
+    {"ENOSPC", ENOSPC},
+    {"EOPNOTSUPP", EOPNOTSUPP},
+};
+
+int machine_error(const struct machine *machine) {
+    if (machine->ended)
+        return ENODEV;
+    if (machine->refused)
+        return EINVAL;
+    for (size_t i = 0; i < sizeof errors / sizeof *errors; i++) {
+        size_t length = strlen(errors[i].name);
+        if (machine->length == length + 1 && memcmp(machine->text, errors[i].name, length) == 0)
+            return errors[i].number;
+    }
+    return 0;
+}
+
+int machine_end(struct machine *machine) {
+    close(machine->to);
+    int status = process_wait(machine->pid);
+    close(machine->from);
+    free(machine->lines);
+    free(machine->input);
+    free(machine->text);
+    return status;
+}

@@ -1,0 +1,56 @@
+/* The served program: lines go in, and each is answered. */
+#ifndef MACHINE_H
+#define MACHINE_H
+
+#include <stdbool.h>
+#include <stddef.h>
+#include <sys/types.h>
+
+#include "record.h"
+
+/* The longest line that is answered. */
+#define MACHINE_LINE 8192
+/* Lines that may wait for their answers. */
+#define MACHINE_WAITING 64
+
+struct machine_line {
+    size_t at, length; /* in `lines` */
+    bool kept;         /* in the record */
+};
+
+struct machine {
+    pid_t pid;
+    int to, from;
+    struct record *record;
+    char *lines; /* those that were put since all were answered */
+    size_t lines_length, lines_room, lines_sent;
+    struct machine_line waiting[MACHINE_WAITING];
+    size_t put, taken;
+    char *input; /* what was read and isn't taken yet */
+    size_t input_at, input_length, input_room;
+    char *text; /* the last answer, ended by a zero */
+    size_t length, text_room;
+    bool refused; /* the last line was no statement; the text is `refused LINE COLUMN KIND` */
+    bool ended;   /* nobody answers any more */
+    bool garbled; /* what came last is no answer */
+};
+
+/* Starts the program with these words. False, and reported, where it can't be started. */
+bool machine_start(struct machine *machine, char *const *words, struct record *record);
+
+/* Puts a line, which is copied; it has no line end. With `kept`, the record gets it where it is accepted, and its text.
+ * At most MACHINE_WAITING lines may wait. */
+void machine_put(struct machine *machine, const char *line, size_t length, bool kept);
+void machine_putf(struct machine *machine, const char *form, ...) __attribute__((format(printf, 2, 3)));
+
+/* Sends what was put, and takes the answer to the earliest line that waits. False where the program has ended. The text
+ * is valid up to the next call. */
+bool machine_take(struct machine *machine);
+
+/* The number of the error that the last text is, 0 where it is none; EINVAL for a refused line. */
+int machine_error(const struct machine *machine);
+
+/* Ends the input, waits for the program's end, and frees all. The program's status as waitpid gives it. */
+int machine_end(struct machine *machine);
+
+#endif

@@ -1,0 +1,155 @@
+/* gpioserve: runs a command that finds simulated GPIO chips in /dev. */
+#include <errno.h>
+#include <limits.h>
+#include <stdio.h>
+#include <stdlib.h>
+#include <string.h>
+#include <sys/epoll.h>
+#include <sys/wait.h>
+#include <time.h>
+#include <unistd.h>
+
+#include "board.h"
+#include "broker.h"
+#include "command.h"
+#include "loop.h"
+#include "options.h"
+#include "report.h"
+#include "turn.h"
+
+#define LIBRARY "libgpioserve.so"
+#define SERVED "gpioserved"
+/* Where the repository builds the served program, seen from the folder of this one. */
+#define SERVED_BUILT "../../crates/gpioserved/out/gpioserved"
+/* Words of the served program and its arguments. */
+#define MOST_WORDS 16
+
+/* The path of a file that is named from the folder of this program. False where it is too long. */
+static bool beside(char path[PATH_MAX], const char *name) {
+    char own[PATH_MAX];
+    ssize_t length = readlink("/proc/self/exe", own, sizeof own - 1);
+    if (length <= 0)
+        return false;
+    own[length] = 0;
+    char *slash = strrchr(own, '/');
+    if (!slash)
+        return false;
+    return snprintf(path, PATH_MAX, "%.*s/%s", (int)(slash - own), own, name) < PATH_MAX;
+}
+
+/* The words of the served program: the path or the words, divided by blanks, that are named, or the program beside this
+ * one, or the one that the repository builds. `room` keeps their text. False, and reported, where there is none. */
+static bool served_words(const char *named, char room[PATH_MAX], char *words[MOST_WORDS + 1]) {
+    size_t count = 0;
+    if (!named)
+        named = getenv("GPIOSERVED");
+    if (!named || !*named) {
+        words[0] = room;
+        words[1] = NULL;
+        if ((beside(room, SERVED) && access(room, X_OK) == 0) ||
+            (beside(room, SERVED_BUILT) && access(room, X_OK) == 0))
+            return true;
+        report("there is no served program: name one by --served");
+        return false;
+    }
+    if (snprintf(room, PATH_MAX, "%s", named) >= PATH_MAX) {
+        report("the served program's path is too long");
+        return false;
+    }
+    words[0] = room;
+    words[1] = NULL;
+    if (access(room, X_OK) == 0)
+        return true;
+    for (char *word = strtok(room, " "); word && count < MOST_WORDS; word = strtok(NULL, " "))
+        words[count++] = word;
+    words[count] = NULL;
+    return count > 0;
+}
+
+/* The path of the library that is preloaded. A path with a blank or a colon would be taken for two: then it is a link
+ * in the broker's folder. False, and reported, where there is none. */
+static bool find_library(const struct broker *broker, char path[PATH_MAX]) {
+    char real[PATH_MAX];
+    if (!beside(path, LIBRARY) || access(path, R_OK)) {
+        report("%s isn't beside gpioserve: run make in serve/", LIBRARY);
+        return false;
+    }
+    if (!strpbrk(path, " :"))
+        return true;
+    snprintf(real, sizeof real, "%s", path);
+    if (snprintf(path, PATH_MAX, "%s/%s", broker->home.path, LIBRARY) < PATH_MAX && symlink(real, path) == 0)
+        return true;
+    report("%s can't be linked to in %s: %s", real, broker->home.path, strerror(errno));
+    return false;
+}
+
+/* Runs the command, once all is there that it needs. */
+static int run_command(struct broker *broker, const struct options *options, const sigset_t *signals) {
+    char library[PATH_MAX];
+    pid_t command;
+    if (!board_hand_in(broker, options->board) || !clients_listen(&broker->clients, broker->home.path) ||
+        !turn_tick(broker) || !find_library(broker, library))
+        return STATUS_OWN;
+    waves_begin(&broker->waves, broker->now);
+    int status = command_start(&command, options->command, library, broker->home.path);
+    if (status == 0)
+        status = loop_run(broker, signals, command);
+    clients_end(&broker->clients);
+    return status;
+}
+
+/* Says how the served program ended, where that was its own doing. `begun`: the command ran. */
+static void report_served(const struct machine *machine, int status, bool begun) {
+    const char *rest = begun ? "before the command, which was ended with it" : "before the command began";
+    if (machine->garbled)
+        report("what the served program wrote is no answer: is it gpioserved? It ended %s", rest);
+    else if (machine->ended && WIFSIGNALED(status))
+        report("the served program was ended by signal %d %s", WTERMSIG(status), rest);
+    else if (machine->ended)
+        report("the served program ended with status %d %s", WEXITSTATUS(status), rest);
+    else if (!WIFEXITED(status) || WEXITSTATUS(status) != 0)
+        report("the served program did not end well: status %d", status);
+}
+
+static int run_broker(struct broker *broker, const struct options *options, const sigset_t *signals) {
+    char room[PATH_MAX], *words[MOST_WORDS + 1];
+    if (!served_words(options->served, room, words) || !machine_start(&broker->machine, words, &broker->record))
+        return STATUS_OWN;
+    int status = run_command(broker, options, signals);
+    if (status == STATUS_SERVED_DIED)
+        broker->machine.ended = true;
+    report_served(&broker->machine, machine_end(&broker->machine), status != STATUS_OWN);
+    return status;
+}
+
+int main(int count, char **arguments) {
+    static struct broker broker;
+    struct options options;
+    sigset_t signals;
+    switch (options_read(&options, count, arguments)) {
+    case OPTIONS_HELP:
+        return 0;
+    case OPTIONS_WRONG:
+        return STATUS_OWN;
+    case OPTIONS_RUN:
+        break;
+    }
+    broker.manual = options.manual;
+    broker.poller = epoll_create1(EPOLL_CLOEXEC);
+    broker.ends = epoll_create1(EPOLL_CLOEXEC);
+    if (broker.poller < 0 || broker.ends < 0 || !loop_take_signals(&signals)) {
+        report("nothing can be waited for: %s", strerror(errno));
+        return STATUS_OWN;
+    }
+    int status = STATUS_OWN;
+    if (record_open(&broker.record, options.transcript, options.answers) &&
+        waves_open(&broker.waves, options.waves, options.manual ? 1 : 1000) && home_make(&broker.home, options.folder))
+        status = run_broker(&broker, &options, &signals);
+    home_remove(&broker.home);
+    files_free(&broker.files);
+    bool written = waves_close(&broker.waves, broker.now);
+    written = record_close(&broker.record) && written;
+    close(broker.poller);
+    close(broker.ends);
+    return written || status != 0 ? status : STATUS_OWN;
+}

@@ -1,0 +1,68 @@
+#include "options.h"
+
+#include <getopt.h>
+#include <stdio.h>
+#include <string.h>
+
+#include "report.h"
+
+static const char help[] =
+    "gpioserve [OPTIONS] -- COMMAND [ARGUMENT ..]\n"
+    "\n"
+    "Runs COMMAND so that it, and what it starts, finds simulated GPIO chips at /dev/gpiochip0 and on.\n"
+    "\n"
+    "  -b, --board FILE        statements that describe the chips, as in a session's setup:\n"
+    "                          `probe demo 4` makes a chip with 4 lines\n"
+    "  -t, --transcript FILE   gets each statement that was accepted: a session, which gpiosess runs again\n"
+    "  -a, --answers FILE      gets all that the statements printed: what gpiosess prints for that session\n"
+    "  -w, --waves FILE        gets the lines' levels over time, as a value change dump\n"
+    "      --clock manual      time passes by `gpiosay \"clock MONOTONIC REAL\"` alone (system: as it does)\n"
+    "      --folder FOLDER     the folder of the socket and of the names; a new one in TMPDIR where none is given\n"
+    "      --served PROGRAM    the served program; else that of the variable GPIOSERVED, else that of this repository\n"
+    "  -h, --help              prints this\n"
+    "\n"
+    "The status is the command's, 128 and the number of the signal that ended it; 124: the served program ended\n"
+    "before the command; 125: gpioserve couldn't begin; 126: the command can't be run; 127: there is none.\n"
+    "While it runs, `gpiosay STATEMENT` moves the outside world: `gpiosay \"write gpiochip0/sim_gpio3/pull "
+    "pull-up\"`.\n";
+
+static bool take_clock(struct options *options, const char *word) {
+    options->manual = strcmp(word, "manual") == 0;
+    return options->manual || strcmp(word, "system") == 0;
+}
+
+enum options_next options_read(struct options *options, int count, char **words) {
+    static const struct option names[] = {{"board", required_argument, NULL, 'b'},
+        {"transcript", required_argument, NULL, 't'}, {"answers", required_argument, NULL, 'a'},
+        {"waves", required_argument, NULL, 'w'}, {"clock", required_argument, NULL, 'c'},
+        {"folder", required_argument, NULL, 'f'}, {"served", required_argument, NULL, 's'},
+        {"help", no_argument, NULL, 'h'}, {NULL, 0, NULL, 0}};
+    const char **places[] = {['a'] = &options->answers,
+        ['b'] = &options->board,
+        ['f'] = &options->folder,
+        ['s'] = &options->served,
+        ['t'] = &options->transcript,
+        ['w'] = &options->waves};
+    int option;
+    memset(options, 0, sizeof *options);
+    while ((option = getopt_long(count, words, "+b:t:a:w:h", names, NULL)) != -1) {
+        if (option == 'h') {
+            fputs(help, stdout);
+            return OPTIONS_HELP;
+        }
+        if (option == '?')
+            return OPTIONS_WRONG;
+        if (option != 'c') {
+            *places[option] = optarg;
+        } else if (!take_clock(options, optarg)) {
+            report("--clock is `system` or `manual`");
+            return OPTIONS_WRONG;
+        }
+    }
+    if (optind < count) {
+        options->command = words + optind;
+        return OPTIONS_RUN;
+    }
+    report("there is no command to run: gpioserve [OPTIONS] -- COMMAND ..; --help says more");
+    return OPTIONS_WRONG;
+}

@@ -1,0 +1,19 @@
+/* The arguments. */
+#ifndef OPTIONS_H
+#define OPTIONS_H
+
+#include <stdbool.h>
+
+struct options {
+    const char *board, *transcript, *answers, *waves, *folder, *served; /* or NULL */
+    bool manual;
+    char **command; /* and its arguments */
+};
+
+/* What to do after the arguments were read. */
+enum options_next { OPTIONS_RUN, OPTIONS_HELP, OPTIONS_WRONG };
+
+/* Reads the arguments, which the options refer to. What is wrong is reported; help is printed. */
+enum options_next options_read(struct options *options, int count, char **words);
+
+#endif

@@ -1,0 +1,309 @@
+#include "questions.h"
+
+#include <errno.h>
+#include <inttypes.h>
+#include <stdio.h>
+#include <stdlib.h>
+#include <string.h>
+#include <unistd.h>
+
+#include "items.h"
+#include "pieces.h"
+#include "statement.h"
+#include "turn.h"
+
+/* The most bytes that a statement gives to a command, and that `events` and `changes` read. */
+#define MOST_BYTES 1024
+#define MOST_EVENTS 49152
+#define MOST_CHANGES 9216
+#define MOST_EVENTS1 16384
+
+static void reply_error(struct client *client, int error) {
+    struct answer answer = {.error = error};
+    clients_reply(client, &answer, NULL, -1);
+}
+
+/* Makes a file whose end is waited for. NULL, with errno, where that can't be. */
+static struct file *make_file(struct broker *broker, enum file_kind kind, unsigned chip, int *reader) {
+    struct file *file = files_make(&broker->files, kind, chip, reader);
+    if (!file || watch_by(broker->ends, &file->watch, 0))
+        return file;
+    int error = errno;
+    close(*reader);
+    files_drop(&broker->files, file);
+    errno = error;
+    return NULL;
+}
+
+static bool answer_open(struct broker *broker, struct client *client) {
+    unsigned chip = broker->packet.question.command;
+    char line[64];
+    int reader;
+    if (chip >= WIRE_CHIPS) {
+        reply_error(client, ENOENT);
+        return true;
+    }
+    struct file *file = make_file(broker, FILE_CHIP, chip, &reader);
+    if (!file) {
+        reply_error(client, errno);
+        return true;
+    }
+    int length = snprintf(line, sizeof line, "open %s %u", file->name, chip);
+    bool alive = turn_say(broker, line, (size_t)length, true);
+    struct answer answer = {.error = machine_error(&broker->machine), .chip = chip + 1};
+    if (answer.error)
+        files_drop(&broker->files, file);
+    alive = alive && turn_settle(broker, TURN_NOTHING);
+    clients_reply(client, &answer, NULL, answer.error ? -1 : reader);
+    close(reader);
+    return alive;
+}
+
+/* Whether the statement of a command that this file doesn't have needs a name for a new file, as the number is that of
+ * one that makes files. */
+static bool wants_name(enum file_kind kind, uint32_t number, bool version1) {
+    const struct uapi_command *command = kind == FILE_CHIP ? NULL : uapi_find(FILE_CHIP, number);
+    return command && command->effect == UAPI_REQUESTS && command->version1 == version1;
+}
+
+/* Writes the statement of a command with its bytes; how long it is. */
+static size_t write_ioctl(char *line, const struct file *file, const struct uapi_command *command,
+    const struct packet *packet, const struct file *made) {
+    bool version1 = file->kind == FILE_HANDLE1 || file->kind == FILE_EVENT1 || (command && command->version1);
+    size_t count = packet->question.length < MOST_BYTES ? packet->question.length : MOST_BYTES;
+    size_t length = (size_t)sprintf(line, "%s %s ", version1 ? "ioctl1" : "ioctl", file->name);
+    if (command)
+        length += (size_t)sprintf(line + length, "%s ", command->word);
+    else
+        length += (size_t)sprintf(line + length, "0x%08" PRIx32 " ", packet->question.command);
+    length += pieces_write(line + length, packet->data, count);
+    if (made || wants_name(file->kind, packet->question.command, version1))
+        length += (size_t)sprintf(line + length, " as %s", made ? made->name : "none");
+    return length;
+}
+
+/* Marks the lines whose level or holder a command may change. */
+static void touch_lines(struct broker *broker, const struct file *file, const struct uapi_command *command) {
+    const struct packet *packet = &broker->packet;
+    uint32_t asked[UAPI_LINES];
+    size_t count = file->line_count;
+    const uint32_t *lines = file->lines;
+    if (!broker->waves.path || packet->question.length < command->length)
+        return;
+    if (command->effect == UAPI_REQUESTS) {
+        count = uapi_lines(command, packet->data, asked);
+        lines = asked;
+    } else if (command->effect != UAPI_SETS && command->effect != UAPI_CHANGES) {
+        return;
+    }
+    for (size_t i = 0; i < count; i++)
+        waves_touch(&broker->waves, &broker->machine, broker->now, file->chip, lines[i]);
+}
+
+/* Keeps what a command that was done has changed of its files. What it may have brought about. */
+static enum turn_effect take_effect(
+    struct file *file, struct file *made, const struct uapi_command *command, const struct packet *packet) {
+    switch (command->effect) {
+    case UAPI_WATCHES:
+        file->awaits = true;
+        return TURN_NOTHING;
+    case UAPI_REQUESTS:
+        made->line_count = uapi_lines(command, packet->data, made->lines);
+        made->awaits = made->kind == FILE_EVENT1 || (made->kind == FILE_LINES && uapi_wants_edges(packet->data + 288));
+        return TURN_EVENTS;
+    case UAPI_CHANGES:
+        file->awaits = file->awaits || (file->kind == FILE_LINES && uapi_wants_edges(packet->data));
+        return TURN_EVENTS;
+    default:
+        return TURN_NOTHING;
+    }
+}
+
+/* Answers a command that the machine has answered. */
+static bool finish_ioctl(struct broker *broker, struct client *client, struct file *file, struct file *made, int reader,
+    const struct uapi_command *command) {
+    unsigned char bytes[MOST_BYTES];
+    struct answer answer = {.error = machine_error(&broker->machine)};
+    enum turn_effect effect = TURN_NOTHING;
+    bool done = answer.error == 0 && command && broker->packet.question.length >= command->length;
+    if (done && command->gives) {
+        if (pieces_read(broker->machine.text, bytes, command->length) == (long)command->length)
+            answer.length = (uint32_t)command->length;
+        else
+            answer.error = EIO;
+    }
+    if (done)
+        effect = take_effect(file, made, command, &broker->packet);
+    if (made && done)
+        answer.fd_at = command->fd_at;
+    else if (made)
+        files_drop(&broker->files, made);
+    bool alive = turn_settle(broker, effect);
+    clients_reply(client, &answer, bytes, made && done ? reader : -1);
+    return alive;
+}
+
+static bool answer_ioctl(struct broker *broker, struct client *client, struct file *file) {
+    char line[PIECES_ROOM(MOST_BYTES) + 128];
+    const struct uapi_command *command = uapi_find(file->kind, broker->packet.question.command);
+    struct file *made = NULL;
+    int reader = -1;
+    if (command && command->effect == UAPI_REQUESTS) {
+        made = make_file(broker, command->makes, file->chip, &reader);
+        if (!made) {
+            reply_error(client, errno);
+            return true;
+        }
+    }
+    if (command)
+        touch_lines(broker, file, command);
+    size_t length = write_ioctl(line, file, command, &broker->packet, made);
+    bool alive = turn_say(broker, line, length, true) && finish_ioctl(broker, client, file, made, reader, command);
+    if (reader >= 0)
+        close(reader);
+    return alive;
+}
+
+/* The word and the most bytes of a file's reads, as a session has them. */
+static const char *read_word(enum file_kind kind, uint32_t *most) {
+    switch (kind) {
+    case FILE_CHIP:
+        *most = MOST_CHANGES;
+        return "changes";
+    case FILE_LINES:
+        *most = MOST_EVENTS;
+        return "events";
+    default:
+        *most = MOST_EVENTS1;
+        return "events1";
+    }
+}
+
+/* Keeps a `data` that was said as the `events` or `changes` that it stands for, and what those print. */
+static void record_data(struct broker *broker, const struct file *file, const char *line, size_t length, bool read,
+    const unsigned char *bytes, size_t count) {
+    FILE *answers = broker->record.answers;
+    record_line(&broker->record, line, length);
+    if (!read)
+        record_text(&broker->record, broker->machine.text, broker->machine.length);
+    else if (answers && file->kind == FILE_CHIP)
+        items_print_changes(answers, bytes, count);
+    else if (answers)
+        items_print_events(answers, bytes, count);
+}
+
+/* Reads by `data`, which gives the bytes. The error's number, or 0 and how many there are. */
+static int read_data(struct broker *broker, const struct file *file, const char *word, uint32_t room,
+    unsigned char *bytes, uint32_t *count) {
+    char line[64], kept[64];
+    int length = snprintf(line, sizeof line, "data %s %" PRIu32, file->name, room);
+    int kept_length = snprintf(kept, sizeof kept, "%s %s %" PRIu32, word, file->name, room);
+    if (!turn_say(broker, line, (size_t)length, false))
+        return ENODEV;
+    int error = machine_error(&broker->machine);
+    long got = error ? 0 : pieces_read(broker->machine.text, bytes, room);
+    if (!broker->machine.refused)
+        record_data(broker, file, kept, (size_t)kept_length, error == 0, bytes, got > 0 ? (size_t)got : 0);
+    *count = got > 0 ? (uint32_t)got : 0;
+    return got < 0 ? EIO : error;
+}
+
+/* Reads events of version 1, which have no `data`. */
+static int read_events1(struct broker *broker, const struct file *file, const char *word, uint32_t room,
+    unsigned char *bytes, uint32_t *count) {
+    char line[64];
+    int length = snprintf(line, sizeof line, "%s %s %" PRIu32, word, file->name, room);
+    if (!turn_say(broker, line, (size_t)length, true))
+        return ENODEV;
+    int error = machine_error(&broker->machine);
+    *count = error ? 0 : (uint32_t)items_read_events1(broker->machine.text, bytes, room);
+    return error;
+}
+
+static bool answer_read(struct broker *broker, struct client *client, struct file *file) {
+    static unsigned char bytes[MOST_EVENTS];
+    uint32_t room = broker->packet.question.command, most;
+    const char *word = read_word(file->kind, &most);
+    struct answer answer = {0};
+    if (room > most)
+        room = most;
+    if (file->kind == FILE_CHIP || file->kind == FILE_LINES)
+        answer.error = read_data(broker, file, word, room, bytes, &answer.length);
+    else
+        answer.error = read_events1(broker, file, word, room, bytes, &answer.length);
+    bool alive = !broker->machine.ended;
+    if (alive && files_shows(file)) {
+        machine_putf(&broker->machine, "poll %s", file->name);
+        alive = machine_take(&broker->machine);
+        files_show(file, alive && broker->machine.text[0] == 'I', false);
+    }
+    alive = alive && turn_settle(broker, TURN_NOTHING);
+    clients_reply(client, &answer, bytes, -1);
+    return alive;
+}
+
+static bool answer_say(struct broker *broker, struct client *client) {
+    struct statement statement;
+    const char *line = (const char *)broker->packet.data;
+    size_t length = broker->packet.question.length;
+    const char *refusal = statement_read(&statement, line, length, broker->manual);
+    if (refusal) {
+        struct answer answer = {.error = EINVAL, .length = (uint32_t)strlen(refusal)};
+        clients_reply(client, &answer, refusal, -1);
+        return true;
+    }
+    if (statement.pulls)
+        waves_touch(&broker->waves, &broker->machine, broker->now, statement.chip, statement.offset);
+    if (statement.tool)
+        waves_touch_all(&broker->waves);
+    if (!turn_say(broker, line, length, statement.kept))
+        return false;
+    /* (what follows the statement takes the place of its text) */
+    struct answer answer = {.error = machine_error(&broker->machine), .length = (uint32_t)broker->machine.length};
+    char *text = strdup(broker->machine.text);
+    if (statement.clock && answer.error == 0)
+        broker->now = statement.now;
+    bool alive = turn_settle(broker, statement.effect);
+    if (text)
+        clients_reply(client, &answer, text, -1);
+    else
+        reply_error(client, ENOMEM);
+    free(text);
+    return alive;
+}
+
+/* Answers a question about a file. */
+static bool answer_for_file(struct broker *broker, struct client *client) {
+    const struct question *question = &broker->packet.question;
+    struct file *file = files_find(&broker->files, question->ino);
+    struct answer answer = {0};
+    if (!file) {
+        answer.found = -1;
+    } else if (question->op == WIRE_WHOSE) {
+        answer.chip = file->kind == FILE_CHIP ? file->chip + 1 : 0;
+    } else if (files_is_gone(file)) {
+        answer.error = ENODEV;
+    } else if (question->op == WIRE_IOCTL) {
+        return answer_ioctl(broker, client, file);
+    } else {
+        return answer_read(broker, client, file);
+    }
+    clients_reply(client, &answer, NULL, -1);
+    return true;
+}
+
+bool questions_answer(struct broker *broker, struct client *client) {
+    switch (broker->packet.question.op) {
+    case WIRE_OPEN:
+        return answer_open(broker, client);
+    case WIRE_IOCTL:
+    case WIRE_READ:
+    case WIRE_WHOSE:
+        return answer_for_file(broker, client);
+    case WIRE_SAY:
+        return answer_say(broker, client);
+    default:
+        reply_error(client, EINVAL);
+        return true;
+    }
+}

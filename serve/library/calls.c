@@ -1,0 +1,172 @@
+/* Calls on open files: commands, reads and polls. */
+#include <errno.h>
+#include <fcntl.h>
+#include <limits.h>
+#include <poll.h>
+#include <stdarg.h>
+#include <stdint.h>
+#include <stdlib.h>
+#include <string.h>
+#include <sys/ioctl.h>
+#include <sys/syscall.h>
+#include <sys/uio.h>
+#include <unistd.h>
+
+#include "../uapi.h"
+#include "ask.h"
+#include "known.h"
+#include "real.h"
+
+static int fail(int error) {
+    errno = error;
+    return -1;
+}
+
+/* Writes the number of a file that came to its place in the program's structure. */
+static void give_number(int file, const struct answer *answer, size_t length, void *structure) {
+    known_keep(file, -1);
+    if (answer->fd_at + sizeof file <= length)
+        memcpy((char *)structure + answer->fd_at, &file, sizeof file);
+}
+
+/* A command on a file of the broker's. 1: the file turned out to be another one. */
+static int command(const struct known *known, uint32_t number, void *structure) {
+    struct question question = {.op = WIRE_IOCTL, .command = number, .ino = known->ino};
+    struct answer answer;
+    int made;
+    size_t length = uapi_length(number);
+    question.length = (uint32_t)length;
+    int error = ask(&question, structure, &answer, structure, length, &made, true);
+    if (error)
+        return fail(error);
+    if (answer.found < 0)
+        return 1;
+    if (answer.error)
+        return fail(answer.error);
+    if (made >= 0)
+        give_number(made, &answer, length, structure);
+    return 0;
+}
+
+TAKES_OVER int ioctl(int file, unsigned long number, ...) {
+    va_list values;
+    va_start(values, number);
+    void *structure = va_arg(values, void *);
+    va_end(values);
+    if (UAPI_TYPE(number) == UAPI_GPIO) {
+        struct known known = known_file(file);
+        int done = known.ours ? command(&known, (uint32_t)number, structure) : 1;
+        if (done <= 0)
+            return done;
+    }
+    return REAL(ioctl)(file, number, structure);
+}
+
+/* Waits until a file has something to read, or its chip is gone. */
+static bool wait_for(int file) {
+    struct pollfd wait = {.fd = file, .events = POLLIN};
+    return REAL(poll)(&wait, 1, -1) >= 0;
+}
+
+/* A read of a file of the broker's. -2: the file turned out to be another one. */
+static ssize_t read_ours(int file, const struct known *known, void *bytes, size_t room) {
+    struct question question = {.op = WIRE_READ, .ino = known->ino};
+    struct answer answer;
+    question.command = room < WIRE_DATA ? (uint32_t)room : WIRE_DATA;
+    for (;;) {
+        int error = ask(&question, NULL, &answer, bytes, question.command, NULL, true);
+        if (error)
+            return fail(error);
+        if (answer.found < 0)
+            return -2;
+        if (answer.error == 0)
+            return answer.length;
+        int flags = answer.error == EAGAIN ? fcntl(file, F_GETFL) : O_NONBLOCK;
+        if (flags < 0 || (flags & O_NONBLOCK))
+            return fail(answer.error);
+        if (!wait_for(file))
+            return -1;
+    }
+}
+
+TAKES_OVER ssize_t read(int file, void *bytes, size_t room) {
+    struct known known = known_file(file);
+    ssize_t got = known.ours ? read_ours(file, &known, bytes, room) : -2;
+    return got == -2 ? REAL(read)(file, bytes, room) : got;
+}
+
+ssize_t __read_chk(int file, void *bytes, size_t room, size_t size);
+TAKES_OVER ssize_t __read_chk(int file, void *bytes, size_t room, size_t size) {
+    if (room > size)
+        abort();
+    return read(file, bytes, room);
+}
+
+/* Gives out bytes over a list of places. */
+static void scatter(const struct iovec *parts, int count, const char *bytes, size_t length) {
+    for (int i = 0; i < count && length > 0; i++) {
+        size_t part = parts[i].iov_len < length ? parts[i].iov_len : length;
+        memcpy(parts[i].iov_base, bytes, part);
+        bytes += part;
+        length -= part;
+    }
+}
+
+static ssize_t readv_ours(int file, const struct known *known, const struct iovec *parts, int count) {
+    size_t room = 0;
+    for (int i = 0; i < count; i++)
+        room += parts[i].iov_len < WIRE_DATA ? parts[i].iov_len : WIRE_DATA;
+    if (room > WIRE_DATA)
+        room = WIRE_DATA;
+    char *bytes = malloc(room + 1);
+    if (!bytes)
+        return fail(ENOMEM);
+    ssize_t got = read_ours(file, known, bytes, room);
+    if (got > 0)
+        scatter(parts, count, bytes, (size_t)got);
+    free(bytes);
+    return got;
+}
+
+TAKES_OVER ssize_t readv(int file, const struct iovec *parts, int count) {
+    struct known known = known_file(file);
+    ssize_t got = known.ours && count > 0 && count <= IOV_MAX ? readv_ours(file, &known, parts, count) : -2;
+    return got == -2 ? REAL(readv)(file, parts, count) : got;
+}
+
+/* Of a chip that is gone the kernel says that there is an error too, a pipe that it is hung up alone. */
+static void add_errors(struct pollfd *files, nfds_t count) {
+    for (nfds_t i = 0; i < count; i++)
+        if ((files[i].revents & POLLHUP) && known_file(files[i].fd).ours)
+            files[i].revents |= POLLERR;
+}
+
+TAKES_OVER int poll(struct pollfd *files, nfds_t count, int timeout) {
+    int ready = REAL(poll)(files, count, timeout);
+    if (ready > 0)
+        add_errors(files, count);
+    return ready;
+}
+
+int __poll_chk(struct pollfd *files, nfds_t count, int timeout, size_t size);
+TAKES_OVER int __poll_chk(struct pollfd *files, nfds_t count, int timeout, size_t size) {
+    if (size / sizeof *files < count)
+        abort();
+    return poll(files, count, timeout);
+}
+
+TAKES_OVER int ppoll(struct pollfd *files, nfds_t count, const struct timespec *timeout, const sigset_t *signals) {
+    int ready = REAL(ppoll)(files, count, timeout, signals);
+    if (ready > 0)
+        add_errors(files, count);
+    return ready;
+}
+
+int __ppoll_chk(
+    struct pollfd *files, nfds_t count, const struct timespec *timeout, const sigset_t *signals, size_t size);
+TAKES_OVER int __ppoll_chk(
+    struct pollfd *files, nfds_t count, const struct timespec *timeout, const sigset_t *signals, size_t size) {
+    if (size / sizeof *files < count)
+        abort();
+    return ppoll(files, count, timeout, signals);
+}

@@ -1,0 +1,74 @@
+#include "uapi.h"
+
+static const struct uapi_command commands[] = {
+    {0x8044b401, 68, "GET_CHIPINFO", .of_chip = true, .gives = true},
+    {0xc100b405, 256, "GET_LINEINFO", .of_chip = true, .gives = true},
+    {0xc100b406, 256, "WATCH", .of_chip = true, .gives = true, .effect = UAPI_WATCHES},
+    {0xc004b40c, 4, "UNWATCH", .of_chip = true},
+    {0xc250b407, 592, "GET_LINE", .of_chip = true, .effect = UAPI_REQUESTS, .makes = FILE_LINES, .fd_at = 588},
+    {0xc110b40d, 272, "SET_CONFIG", .effect = UAPI_CHANGES},
+    {0xc010b40e, 16, "GET_VALUES", .gives = true},
+    {0xc010b40f, 16, "SET_VALUES", .effect = UAPI_SETS},
+    {0xc048b402, 72, "LINEINFO", .version1 = true, .of_chip = true, .gives = true},
+    {0xc16cb403, 364, "LINEHANDLE", .version1 = true, .of_chip = true, .effect = UAPI_REQUESTS, .makes = FILE_HANDLE1,
+        .fd_at = 360},
+    {0xc030b404, 48, "LINEEVENT", .version1 = true, .of_chip = true, .effect = UAPI_REQUESTS, .makes = FILE_EVENT1,
+        .fd_at = 44},
+    {0xc040b408, 64, "GET_VALUES", .version1 = true, .gives = true},
+    {0xc040b409, 64, "SET_VALUES", .version1 = true, .effect = UAPI_SETS},
+    {0xc054b40a, 84, "SET_CONFIG", .version1 = true, .effect = UAPI_CHANGES},
+};
+
+#define COMMANDS (sizeof commands / sizeof *commands)
+
+const struct uapi_command *uapi_find(enum file_kind kind, uint32_t number) {
+    for (size_t i = 0; i < COMMANDS; i++) {
+        const struct uapi_command *command = &commands[i];
+        bool fits =
+            kind == FILE_CHIP ? command->of_chip : !command->of_chip && command->version1 == (kind != FILE_LINES);
+        if (fits && command->number == number)
+            return command;
+    }
+    return NULL;
+}
+
+size_t uapi_length(uint32_t number) {
+    for (size_t i = 0; i < COMMANDS; i++)
+        if (commands[i].number == number)
+            return commands[i].length;
+    return 0;
+}
+
+uint32_t uapi_u32(const unsigned char *bytes, size_t at) {
+    return (uint32_t)bytes[at] | (uint32_t)bytes[at + 1] << 8 | (uint32_t)bytes[at + 2] << 16 |
+           (uint32_t)bytes[at + 3] << 24;
+}
+
+uint64_t uapi_u64(const unsigned char *bytes, size_t at) {
+    return uapi_u32(bytes, at) | (uint64_t)uapi_u32(bytes, at + 4) << 32;
+}
+
+/* Flags stand at the configuration's start, and in attributes of 24 bytes with the id 1. */
+bool uapi_wants_edges(const unsigned char *config) {
+    const uint64_t edges = 1 << 4 | 1 << 5;
+    size_t count = uapi_u32(config, 8);
+    bool wants = uapi_u64(config, 0) & edges;
+    for (size_t i = 0; i < count && i < UAPI_ATTRIBUTES; i++) {
+        const unsigned char *attribute = config + 32 + 24 * i;
+        wants = wants || (uapi_u32(attribute, 0) == 1 && uapi_u64(attribute, 8) & edges);
+    }
+    return wants;
+}
+
+size_t uapi_lines(const struct uapi_command *command, const unsigned char *bytes, uint32_t *offsets) {
+    size_t count = 1;
+    if (command->makes == FILE_LINES)
+        count = uapi_u32(bytes, 560);
+    else if (command->makes == FILE_HANDLE1)
+        count = uapi_u32(bytes, 356);
+    if (count > UAPI_LINES)
+        count = UAPI_LINES;
+    for (size_t i = 0; i < count; i++)
+        offsets[i] = uapi_u32(bytes, 4 * i);
+    return count;
+}
