@@ -21,7 +21,7 @@ crates_of_program() {
       seen[name] = 1
       count = split(uses[name], parts, " ")
       for (i = 1; i <= count; i++) if (parts[i] in uses) { visit(parts[i]); own = own " " parts[i] }
-      print name " " (name in seconds ? seconds[name] : 60) own
+      print name " " (name in seconds ? seconds[name] : 40) own
     }
     END { visit("gpiosess") }
   ' "$top/docs/PROOFS.md" "$top/crates.txt"
