@@ -2,6 +2,8 @@
 #![tactic(auto)]
 
 #[cfg(test)]
+mod talks;
+#[cfg(test)]
 mod tests;
 #[cfg(test)]
 mod tests_args;
@@ -13,3 +15,5 @@ mod tests_rows;
 mod tests_statements;
 #[cfg(test)]
 mod transcript;
+#[cfg(test)]
+mod turns;

@@ -1,11 +1,11 @@
 //! gpiodetect, gpioinfo, gpioget and gpioset over scripted results.
 
-use crate::transcript::{put_call, results_of};
-use gl_args::{ArgFault, Next, read_tool};
+use crate::transcript::results_of;
+use crate::turns::{Form, TURNS, Turn, all_taken, result_of, take_turn};
+use gl_args::{ArgFault, Tool, read_tool};
 use gl_base::{Errno, Got};
 use gl_values::Client;
 use std::alloc::Global;
-use std::test::Fail;
 
 /// A tool's words, as they stand in a statement.
 pub(crate) fn words_of(alloc: Global, text: &[u8]) -> Result<Vec<&[u8]>, Errno> {
@@ -16,70 +16,68 @@ pub(crate) fn words_of(alloc: Global, text: &[u8]) -> Result<Vec<&[u8]>, Errno> 
     Ok(words)
 }
 
-/// The result of the operation that was asked for, if one was. It is an error where no result is left.
-pub(crate) fn result_at(results: &[Got], at: usize, is_asked: bool) -> Result<Option<&Got>, Fail> {
-    if !is_asked {
-        return Ok(None);
-    }
-    match results.get(at) {
-        Some(got) => Ok(Some(got)),
-        None => Err(Fail::from("a result is missing")),
-    }
-}
-
-/// An error where not all results were taken.
-pub(crate) fn all_taken(results: &[Got], at: usize) -> Result<(), Fail> {
-    if at != results.len() {
-        return Err(Fail::from("results are left"));
-    }
-    Ok(())
-}
-
 /// Appends what a client asks and prints, up to its end, over just these results.
 fn drive(
     alloc: Global,
     client: &mut Client,
-    results: &[u8],
+    results: &[Got],
     out: &mut Vec<u8>,
-) -> Result<(), Fail> {
-    let results = results_of(alloc, results)?;
-    let mut at = 0;
-    let mut is_asked = false;
-    for _ in 0..1000u32 {
-        let got = result_at(&results, at, is_asked)?;
-        if is_asked && at < results.len() {
-            at += 1;
-        }
-        is_asked = false;
-        match client.next(alloc, got)? {
-            Next::Call(what) => {
-                put_call(&what, out)?;
-                is_asked = true;
-            }
-            Next::Print(text) => out.extend_from_slice(text.as_slice())?,
-            Next::End => return all_taken(&results, at),
+) -> Result<(), Errno> {
+    let mut left = results;
+    let mut turn = Turn::Printed;
+    for _ in 0..TURNS {
+        let got = result_of(&mut left, turn)?;
+        let next = client.next(alloc, got)?;
+        turn = take_turn(next, Form::Whole, out)?;
+        if turn == Turn::Ended {
+            return all_taken(left);
         }
     }
-    Err(Fail::from("too many steps"))
+    Err(Errno::Again)
 }
 
-/// What a statement of a tool asks and prints over these results.
-fn told(alloc: Global, words: &[u8], results: &[u8]) -> Result<Vec<u8>, Fail> {
-    let mut out = Vec::new(alloc);
-    let words = words_of(alloc, words)?;
-    match read_tool(alloc, &words) {
-        Ok(tool) => {
-            let mut client = Client::new(alloc, tool, 0);
-            drive(alloc, &mut client, results, &mut out)?;
+/// Appends what a tool asks and prints over these results.
+fn tell_tool(alloc: Global, tool: Tool, results: &[Got], out: &mut Vec<u8>) -> Result<(), Errno> {
+    let mut client = Client::new(alloc, tool, 0);
+    drive(alloc, &mut client, results, out)
+}
+
+/// Appends what words of a statement ask and print over these results.
+fn tell_words(
+    alloc: Global,
+    words: &[&[u8]],
+    results: &[Got],
+    out: &mut Vec<u8>,
+) -> Result<(), Errno> {
+    match read_tool(alloc, words) {
+        Ok(tool) => tell_tool(alloc, tool, results, out),
+        Err(ArgFault::Usage) => {
+            out.extend_from_slice(b"usage\n")?;
+            Ok(())
         }
-        Err(ArgFault::Usage) => out.extend_from_slice(b"usage\n")?,
-        Err(ArgFault::NoMemory) => return Err(Fail::from("memory")),
+        Err(ArgFault::NoMemory) => Err(Errno::NoMemory),
     }
-    Ok(out)
+}
+
+/// Appends what a statement of a tool asks and prints over these results.
+fn tell(alloc: Global, words: &[u8], results: &[u8], out: &mut Vec<u8>) -> Result<(), Errno> {
+    let words = words_of(alloc, words)?;
+    let results = results_of(alloc, results)?;
+    tell_words(alloc, &words, &results, out)
 }
 
 /// A tool's words, the results that it gets, and what it asks and prints.
 type Case = (&'static str, &'static str, &'static str);
+
+/// Whether a case asks and prints what it says.
+fn is_told(alloc: Global, case: &Case) -> bool {
+    let (words, results, text) = case;
+    let mut out = Vec::new(alloc);
+    match tell(alloc, words.as_bytes(), results.as_bytes(), &mut out) {
+        Ok(()) => out.as_slice() == text.as_bytes(),
+        Err(_) => false,
+    }
+}
 
 /// Lines that gpioget finds and requests, and its options.
 fn get_cases() -> [Case; 5] {
@@ -205,42 +203,34 @@ fn chip_cases() -> [Case; 5] {
 
 /// The operations and texts of gpioget: of the rows of a board and of options.
 #[test]
-fn gpioget_asks_and_prints(rt: HostRuntime) -> Result<(), Fail> {
-    for (words, results, text) in get_cases() {
-        let out = told(rt.alloc(), words.as_bytes(), results.as_bytes())?;
-        assert_eq!(rt; out.as_slice(), text.as_bytes(), "{words}");
+fn gpioget_asks_and_prints(rt: HostRuntime) {
+    for case in get_cases() {
+        assert!(rt; is_told(rt.alloc(), &case), "{}", case.0);
     }
-    Ok(())
 }
 
 /// gpioget that is refused prints the refusal, closes what it has open and ends, at each of its operations.
 #[test]
-fn a_refused_gpioget_closes_and_ends(rt: HostRuntime) -> Result<(), Fail> {
-    for (words, results, text) in refused_get_cases() {
-        let out = told(rt.alloc(), words.as_bytes(), results.as_bytes())?;
-        assert_eq!(rt; out.as_slice(), text.as_bytes(), "{words} over {results}");
+fn a_refused_gpioget_closes_and_ends(rt: HostRuntime) {
+    for case in refused_get_cases() {
+        assert!(rt; is_told(rt.alloc(), &case), "{} over {}", case.0, case.1);
     }
-    Ok(())
 }
 
 /// So do the other tools.
 #[test]
-fn a_refused_tool_closes_and_ends(rt: HostRuntime) -> Result<(), Fail> {
-    for (words, results, text) in refused_cases() {
-        let out = told(rt.alloc(), words.as_bytes(), results.as_bytes())?;
-        assert_eq!(rt; out.as_slice(), text.as_bytes(), "{words} over {results}");
+fn a_refused_tool_closes_and_ends(rt: HostRuntime) {
+    for case in refused_cases() {
+        assert!(rt; is_told(rt.alloc(), &case), "{} over {}", case.0, case.1);
     }
-    Ok(())
 }
 
 /// The operations and texts of gpiodetect, gpioinfo and gpioset: of the rows of a board, and of hogs and locks.
 #[test]
-fn chips_are_told(rt: HostRuntime) -> Result<(), Fail> {
-    for (words, results, text) in chip_cases() {
-        let out = told(rt.alloc(), words.as_bytes(), results.as_bytes())?;
-        assert_eq!(rt; out.as_slice(), text.as_bytes(), "{words}");
+fn chips_are_told(rt: HostRuntime) {
+    for case in chip_cases() {
+        assert!(rt; is_told(rt.alloc(), &case), "{}", case.0);
     }
-    Ok(())
 }
 
 /// Runs over all places: a whole one of each tool, and some with a refusal in their middle.
@@ -297,37 +287,56 @@ fn place_cases() -> [Case; 9] {
 /// Without words gpiodetect and gpioinfo try all places, and pass over those whose opening finds no chip. Another refusal
 /// ends them: what gpiodetect printed stays, and gpioinfo has printed whole chips alone.
 #[test]
-fn all_places_are_tried(rt: HostRuntime) -> Result<(), Fail> {
-    for (words, results, text) in place_cases() {
-        let out = told(rt.alloc(), words.as_bytes(), results.as_bytes())?;
-        assert_eq!(rt; out.as_slice(), text.as_bytes(), "{words} over {results}");
+fn all_places_are_tried(rt: HostRuntime) {
+    for case in place_cases() {
+        assert!(rt; is_told(rt.alloc(), &case), "{} over {}", case.0, case.1);
     }
+}
+
+/// Appends whether a client has ended, as a line.
+fn put_state(client: &Client, out: &mut Vec<u8>) -> Result<(), Errno> {
+    let state: &[u8] = if client.ended() {
+        b"ended\n"
+    } else {
+        b"holds\n"
+    };
+    out.extend_from_slice(state)?;
     Ok(())
+}
+
+/// Appends what a started tool asks and prints over these results, and then over one more when it is stopped.
+fn tell_held(alloc: Global, tool: Tool, results: &[Got], out: &mut Vec<u8>) -> Result<(), Errno> {
+    let mut client = Client::held(alloc, tool, 4);
+    drive(alloc, &mut client, results, out)?;
+    put_state(&client, out)?;
+    client.stop();
+    drive(alloc, &mut client, &[Got::Done], out)?;
+    put_state(&client, out)
+}
+
+/// Appends what a started gpioset asks and prints.
+fn tell_gpioset(alloc: Global, out: &mut Vec<u8>) -> Result<(), Errno> {
+    let words = words_of(alloc, b"gpioset -c 0 3=1")?;
+    let results = [Got::Done, Got::Done, Got::Done];
+    match read_tool(alloc, &words) {
+        Ok(tool) => tell_held(alloc, tool, &results, out),
+        Err(_) => Err(Errno::Inval),
+    }
+}
+
+/// Whether it asks and prints this.
+fn is_held(alloc: Global, text: &[u8]) -> bool {
+    let mut out = Vec::new(alloc);
+    match tell_gpioset(alloc, &mut out) {
+        Ok(()) => out.as_slice() == text,
+        Err(_) => false,
+    }
 }
 
 /// A started gpioset holds its request until it is stopped, and has ended where it met a refusal.
 #[test]
-fn a_started_gpioset_holds_its_request(rt: HostRuntime) -> Result<(), Fail> {
-    let alloc = rt.alloc();
-    let words = words_of(alloc, b"gpioset -c 0 3=1")?;
-    let tool = read_tool(alloc, &words).map_err(|_| "words")?;
-    let mut client = Client::held(alloc, tool, 4);
-    let mut out = Vec::new(alloc);
-    drive(alloc, &mut client, b"ok ok ok", &mut out)?;
-    out.extend_from_slice(if client.ended() {
-        b"ended\n"
-    } else {
-        b"holds\n"
-    })?;
-    client.stop();
-    drive(alloc, &mut client, b"ok", &mut out)?;
-    out.extend_from_slice(if client.ended() {
-        b"ended\n"
-    } else {
-        b"holds\n"
-    })?;
+fn a_started_gpioset_holds_its_request(rt: HostRuntime) {
     let text =
         b"open 4 0\nrequest 4 592 as 5 3 flags 8 by gpioset attribute 2 1 1\nclose 4 \nholds\nclose 5 \nended\n";
-    assert_eq!(rt; out.as_slice(), text.as_slice());
-    Ok(())
+    assert!(rt; is_held(rt.alloc(), text));
 }

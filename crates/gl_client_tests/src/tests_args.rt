@@ -2,17 +2,34 @@
 
 use crate::tests::words_of;
 use gl_args::{ArgFault, Opts, Tool, read_tool};
-use gl_base::{ByteList, Name};
+use gl_base::{ByteList, Errno, Name};
 use std::alloc::Global;
-use std::test::Fail;
 
-/// Whether words are those of a tool.
-fn is_tool(alloc: Global, text: &[u8]) -> Result<bool, Fail> {
-    let words = words_of(alloc, text)?;
-    match read_tool(alloc, &words) {
-        Ok(_) => Ok(true),
-        Err(ArgFault::Usage) => Ok(false),
-        Err(ArgFault::NoMemory) => Err("memory")?,
+/// What words are.
+#[derive(Clone, Copy, PartialEq, Eq)]
+enum Words {
+    /// Those of a tool.
+    Tool,
+    /// Those of no tool.
+    Usage,
+    /// It isn't known, without memory.
+    NoMemory,
+}
+
+/// What words are.
+fn read(alloc: Global, words: &[&[u8]]) -> Words {
+    match read_tool(alloc, words) {
+        Ok(_) => Words::Tool,
+        Err(ArgFault::Usage) => Words::Usage,
+        Err(ArgFault::NoMemory) => Words::NoMemory,
+    }
+}
+
+/// What the words of a text are.
+fn read_text(alloc: Global, text: &str) -> Words {
+    match words_of(alloc, text.as_bytes()) {
+        Ok(words) => read(alloc, &words),
+        Err(_) => Words::NoMemory,
     }
 }
 
@@ -222,73 +239,88 @@ fn taken_twice() -> [&'static str; 18] {
 
 /// Each option of each tool, right and wrong.
 #[test]
-fn words_are_those_of_a_tool_or_its_usage(rt: HostRuntime) -> Result<(), Fail> {
+fn words_are_those_of_a_tool_or_its_usage(rt: HostRuntime) {
     for text in right() {
-        assert!(rt; is_tool(rt.alloc(), text.as_bytes())?, "{text}");
+        assert!(rt; read_text(rt.alloc(), text) == Words::Tool, "{text}");
     }
     for text in wrong() {
-        assert!(rt; !is_tool(rt.alloc(), text.as_bytes())?, "{text}");
+        assert!(rt; read_text(rt.alloc(), text) == Words::Usage, "{text}");
     }
-    Ok(())
+}
+
+/// Whether these are the options of the text below, in this order.
+fn are_given(opts: &Opts) -> [bool; 8] {
+    [
+        opts.chip == Name::of(b"gpiochip2"),
+        (opts.active_low, opts.by_name, opts.strict) == (true, false, false),
+        (opts.bias, opts.drive, opts.edges) == (1024, 0, 16),
+        (opts.period_us, opts.count) == (5000, Some(7)),
+        is_format(&opts.format),
+        opts.consumer.as_bytes() == b"me".as_slice(),
+        opts.lines.len() == 2,
+        is_line(opts.lines.get(1)),
+    ]
+}
+
+/// Whether this is the format of the text below.
+fn is_format(format: &Option<ByteList>) -> bool {
+    match format {
+        Some(format) => format.as_slice() == b"%c:%o".as_slice(),
+        None => false,
+    }
+}
+
+/// Whether this is the second line of the text below.
+fn is_line(line: Option<&(Name, bool)>) -> bool {
+    match line {
+        Some((name, _)) => name.as_bytes() == b"-x".as_slice(),
+        None => false,
+    }
+}
+
+/// Whether the options of a gpiomon are given, in this order.
+fn given(alloc: Global) -> Result<[bool; 8], Errno> {
+    let text =
+        b"gpiomon 7 --chip=gpiochip2 -l -p 5 -e rising -n 7 -F %c:%o -C me -b disabled -- -x";
+    let words = words_of(alloc, text)?;
+    match read_tool(alloc, &words) {
+        Ok(Tool::Watch(opts)) => Ok(are_given(&opts)),
+        _ => Err(Errno::Inval),
+    }
 }
 
 /// The options of gpiomon, in any order.
 #[test]
-fn options_are_as_they_were_given(rt: HostRuntime) -> Result<(), Fail> {
-    let alloc = rt.alloc();
-    let text =
-        b"gpiomon 7 --chip=gpiochip2 -l -p 5 -e rising -n 7 -F %c:%o -C me -b disabled -- -x";
-    let words = words_of(alloc, text)?;
-    let opts: Opts = match read_tool(alloc, &words).map_err(|_| "words")? {
-        Tool::Watch(opts) => opts,
-        _ => Err("another tool")?,
-    };
-    let chip = opts.chip.ok_or("chip")?;
-    assert!(rt; chip == Name::of(b"gpiochip2").ok_or("name")?);
-    assert_eq!(rt;
-        (opts.active_low, opts.by_name, opts.strict),
-        (true, false, false)
-    );
-    assert_eq!(rt; (opts.bias, opts.drive, opts.edges), (1024, 0, 16));
-    assert_eq!(rt; (opts.period_us, opts.count), (5000, Some(7)));
-    let format: ByteList = opts.format.ok_or("format")?;
-    assert_eq!(rt; format.as_slice(), b"%c:%o".as_slice());
-    assert_eq!(rt; opts.consumer.as_bytes(), b"me".as_slice());
-    assert_eq!(rt; opts.lines.len(), 2);
-    assert_eq!(rt; opts.lines[1].0.as_bytes(), b"-x".as_slice());
-    Ok(())
+fn options_are_as_they_were_given(rt: HostRuntime) {
+    assert_eq!(rt; given(rt.alloc()), Ok([true; 8]));
 }
 
 #[test]
-fn the_longest_words_are_taken(rt: HostRuntime) -> Result<(), Fail> {
+fn the_longest_words_are_taken(rt: HostRuntime) {
     for text in longest() {
-        assert!(rt; is_tool(rt.alloc(), text.as_bytes())?, "{text}");
+        assert!(rt; read_text(rt.alloc(), text) == Words::Tool, "{text}");
     }
-    Ok(())
 }
 
 #[test]
-fn wrong_values_are_refused(rt: HostRuntime) -> Result<(), Fail> {
+fn wrong_values_are_refused(rt: HostRuntime) {
     for text in wrong_values() {
-        assert!(rt; !is_tool(rt.alloc(), text.as_bytes())?, "{text}");
+        assert!(rt; read_text(rt.alloc(), text) == Words::Usage, "{text}");
     }
-    Ok(())
 }
 
 #[test]
-fn options_that_a_tool_lacks_are_refused(rt: HostRuntime) -> Result<(), Fail> {
+fn options_that_a_tool_lacks_are_refused(rt: HostRuntime) {
     for text in lacking() {
-        assert!(rt; !is_tool(rt.alloc(), text.as_bytes())?, "{text}");
+        assert!(rt; read_text(rt.alloc(), text) == Words::Usage, "{text}");
     }
-    Ok(())
 }
 
 #[test]
-fn an_option_comes_at_most_once(rt: HostRuntime) -> Result<(), Fail> {
+fn an_option_comes_at_most_once(rt: HostRuntime) {
     for text in taken_twice() {
-        assert!(rt; !is_tool(rt.alloc(), text.as_bytes())?, "{text}");
+        assert!(rt; read_text(rt.alloc(), text) == Words::Usage, "{text}");
     }
-    Ok(())
 }
 
 /// A tool, a line or chip word of it, and how many of them it takes at most.
@@ -302,28 +334,31 @@ fn most_words() -> [(&'static str, &'static str, u32); 5] {
     ]
 }
 
-/// Whether a tool takes so many of these words.
-fn takes(alloc: Global, tool: &str, word: &str, count: u32) -> Result<bool, Fail> {
+/// What a tool with so many of these words is.
+fn read_many(alloc: Global, tool: &str, word: &str, count: u32) -> Result<Words, Errno> {
     let mut words = words_of(alloc, tool.as_bytes())?;
+    put_many(&mut words, word, count)?;
+    Ok(read(alloc, &words))
+}
+
+/// Appends a word so many times.
+fn put_many<'a>(words: &mut Vec<&'a [u8]>, word: &'a str, count: u32) -> Result<(), Errno> {
     for _ in 0..count {
         words.push(word.as_bytes())?;
     }
-    match read_tool(alloc, &words) {
-        Ok(_) => Ok(true),
-        Err(ArgFault::Usage) => Ok(false),
-        Err(ArgFault::NoMemory) => Err("memory")?,
-    }
+    Ok(())
+}
+
+/// Whether a tool takes so many of these words, and not one more.
+fn takes_at_most(alloc: Global, tool: &str, word: &str, most: u32) -> bool {
+    read_many(alloc, tool, word, most) == Ok(Words::Tool)
+        && read_many(alloc, tool, word, most.saturating_add(1)) == Ok(Words::Usage)
 }
 
 /// 64 lines are taken, and 65 aren't; 16 chips of gpiodetect, and not 17.
 #[test]
-fn a_tool_has_at_most_so_many_words(rt: HostRuntime) -> Result<(), Fail> {
+fn a_tool_has_at_most_so_many_words(rt: HostRuntime) {
     for (tool, word, most) in most_words() {
-        assert!(rt; takes(rt.alloc(), tool, word, most)?, "{tool}");
-        assert!(rt;
-            !takes(rt.alloc(), tool, word, most.saturating_add(1))?,
-            "{tool}"
-        );
+        assert!(rt; takes_at_most(rt.alloc(), tool, word, most), "{tool}");
     }
-    Ok(())
 }

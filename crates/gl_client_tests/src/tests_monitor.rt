@@ -1,41 +1,43 @@
 //! gpiomon and gpionotify over scripted results.
 
-use crate::tests::{all_taken, result_at, words_of};
-use crate::transcript::{put_call, results_of};
-use gl_args::{Next, Tool, read_tool};
+use crate::tests::words_of;
+use crate::transcript::results_of;
+use crate::turns::{Form, TURNS, Turn, all_taken, result_of, take_turn};
+use gl_args::{Tool, read_tool};
+use gl_base::{Errno, Got};
 use gl_monitor::Monitor;
 use std::alloc::Global;
-use std::test::Fail;
 
 /// Appends what a monitor asks and prints, up to its end, over just these results, and whether it has ended.
 fn drive(
     alloc: Global,
     monitor: &mut Monitor,
-    results: &[u8],
+    results: &[Got],
     out: &mut Vec<u8>,
-) -> Result<(), Fail> {
-    let results = results_of(alloc, results)?;
-    let mut at = 0;
-    let mut is_asked = false;
-    for _ in 0..1000u32 {
-        let got = result_at(&results, at, is_asked)?;
-        if is_asked && at < results.len() {
-            at += 1;
-        }
-        is_asked = false;
-        match monitor.next(alloc, got)? {
-            Next::Call(what) => {
-                put_call(&what, out)?;
-                is_asked = true;
-            }
-            Next::Print(text) => out.extend_from_slice(text.as_slice())?,
-            Next::End => {
-                out.extend_from_slice(state_of(monitor))?;
-                return all_taken(&results, at);
-            }
+) -> Result<(), Errno> {
+    let mut left = results;
+    let mut turn = Turn::Printed;
+    for _ in 0..TURNS {
+        let got = result_of(&mut left, turn)?;
+        let next = monitor.next(alloc, got)?;
+        turn = take_turn(next, Form::Whole, out)?;
+        if turn == Turn::Ended {
+            out.extend_from_slice(state_of(monitor))?;
+            return all_taken(left);
         }
     }
-    Err(Fail::from("too many steps"))
+    Err(Errno::Again)
+}
+
+/// The same over the results that a text tells.
+fn drive_over(
+    alloc: Global,
+    monitor: &mut Monitor,
+    results: &str,
+    out: &mut Vec<u8>,
+) -> Result<(), Errno> {
+    let results = results_of(alloc, results.as_bytes())?;
+    drive(alloc, monitor, &results, out)
 }
 
 /// Whether a monitor has ended, in a line.
@@ -47,12 +49,12 @@ fn state_of(monitor: &Monitor) -> &'static [u8] {
 }
 
 /// A monitor of these words.
-fn monitor_of(alloc: Global, text: &[u8]) -> Result<Monitor, Fail> {
-    let words = words_of(alloc, text)?;
-    match read_tool(alloc, &words).map_err(|_| "words")? {
-        Tool::Watch(opts) => Ok(Monitor::new(alloc, Tool::Watch(opts), 0)),
-        Tool::Notify(opts) => Ok(Monitor::new(alloc, Tool::Notify(opts), 0)),
-        _ => Err("no monitor")?,
+fn monitor_of(alloc: Global, text: &str) -> Result<Monitor, Errno> {
+    let words = words_of(alloc, text.as_bytes())?;
+    match read_tool(alloc, &words) {
+        Ok(Tool::Watch(opts)) => Ok(Monitor::new(alloc, Tool::Watch(opts), 0)),
+        Ok(Tool::Notify(opts)) => Ok(Monitor::new(alloc, Tool::Notify(opts), 0)),
+        _ => Err(Errno::Inval),
     }
 }
 
@@ -223,70 +225,112 @@ fn item_cases() -> [Case; 5] {
     ]
 }
 
-/// What a row's monitor asks and prints, by a start and then steps of three turns each.
-fn told(alloc: Global, case: &Case) -> Result<Vec<u8>, Fail> {
-    let (words, start, steps, _) = case;
-    let mut monitor = monitor_of(alloc, words.as_bytes())?;
-    let mut out = Vec::new(alloc);
-    drive(alloc, &mut monitor, start.as_bytes(), &mut out)?;
+/// Appends what a monitor asks and prints, by a start and then steps of three turns each.
+fn watch(
+    alloc: Global,
+    monitor: &mut Monitor,
+    case: &Case,
+    out: &mut Vec<u8>,
+) -> Result<(), Errno> {
+    let (_, start, steps, _) = case;
+    drive_over(alloc, monitor, *start, out)?;
     for results in steps {
         monitor.step(3);
-        drive(alloc, &mut monitor, results.as_bytes(), &mut out)?;
+        drive_over(alloc, monitor, *results, out)?;
     }
-    Ok(out)
+    Ok(())
+}
+
+/// Appends what a row's monitor asks and prints.
+fn tell(alloc: Global, case: &Case, out: &mut Vec<u8>) -> Result<(), Errno> {
+    let mut monitor = monitor_of(alloc, case.0)?;
+    watch(alloc, &mut monitor, case, out)
+}
+
+/// Whether a row's monitor asks and prints what it says.
+fn is_told(alloc: Global, case: &Case) -> bool {
+    let mut out = Vec::new(alloc);
+    match tell(alloc, case, &mut out) {
+        Ok(()) => out.as_slice() == case.3.as_bytes(),
+        Err(_) => false,
+    }
 }
 
 #[test]
-fn events_are_counted(rt: HostRuntime) -> Result<(), Fail> {
+fn events_are_counted(rt: HostRuntime) {
     for case in number_cases() {
-        let out = told(rt.alloc(), &case)?;
-        assert_eq!(rt; out.as_slice(), case.3.as_bytes(), "{}", case.0);
+        assert!(rt; is_told(rt.alloc(), &case), "{}", case.0);
     }
-    Ok(())
 }
 
 #[test]
-fn gpiomon_asks_and_prints(rt: HostRuntime) -> Result<(), Fail> {
+fn gpiomon_asks_and_prints(rt: HostRuntime) {
     for case in edge_cases() {
-        let out = told(rt.alloc(), &case)?;
-        assert_eq!(rt; out.as_slice(), case.3.as_bytes(), "{}", case.0);
+        assert!(rt; is_told(rt.alloc(), &case), "{}", case.0);
     }
-    Ok(())
 }
 
 #[test]
-fn gpionotify_asks_and_prints(rt: HostRuntime) -> Result<(), Fail> {
+fn gpionotify_asks_and_prints(rt: HostRuntime) {
     for case in change_cases() {
-        let out = told(rt.alloc(), &case)?;
-        assert_eq!(rt; out.as_slice(), case.3.as_bytes(), "{}", case.0);
+        assert!(rt; is_told(rt.alloc(), &case), "{}", case.0);
     }
-    Ok(())
 }
 
 #[test]
-fn items_are_printed_by_their_format(rt: HostRuntime) -> Result<(), Fail> {
+fn items_are_printed_by_their_format(rt: HostRuntime) {
     for case in item_cases() {
-        let out = told(rt.alloc(), &case)?;
-        assert_eq!(rt; out.as_slice(), case.3.as_bytes(), "{}", case.0);
+        assert!(rt; is_told(rt.alloc(), &case), "{}", case.0);
     }
-    Ok(())
+}
+
+/// Appends what a monitor asks and prints that is stopped after its start.
+fn stop(alloc: Global, words: &str, start: &str, out: &mut Vec<u8>) -> Result<(), Errno> {
+    let mut monitor = monitor_of(alloc, words)?;
+    start_and_stop(alloc, &mut monitor, start, out)
+}
+
+/// Appends what this monitor asks and prints.
+fn start_and_stop(
+    alloc: Global,
+    monitor: &mut Monitor,
+    start: &str,
+    out: &mut Vec<u8>,
+) -> Result<(), Errno> {
+    drive_over(alloc, monitor, start, out)?;
+    monitor.stop();
+    drive_over(alloc, monitor, "ok", out)
+}
+
+/// Whether a monitor that is stopped after its start asks and prints this.
+fn is_stopped(alloc: Global, words: &str, start: &str, text: &str) -> bool {
+    let mut out = Vec::new(alloc);
+    match stop(alloc, words, start, &mut out) {
+        Ok(()) => out.as_slice() == text.as_bytes(),
+        Err(_) => false,
+    }
+}
+
+/// Words of monitors, the results of their start, and what they ask and print that are then stopped.
+fn stopped() -> [(&'static str, &'static str, &'static str); 2] {
+    [
+        (
+            "gpiomon -c 0 1",
+            "ok ok ok",
+            "open 0 0\nrequest 0 592 as 1 1 flags 52 by gpiomon\nclose 0 \nwatches\nclose 1 \nended\n",
+        ),
+        (
+            "gpionotify -c 0 1",
+            "ok ok",
+            "open 0 0\nwatch 0 256 line 1 \nwatches\nclose 0 \nended\n",
+        ),
+    ]
 }
 
 /// A monitor that is stopped closes its file, and has ended then.
 #[test]
-fn a_stopped_monitor_closes_its_file(rt: HostRuntime) -> Result<(), Fail> {
-    let alloc = rt.alloc();
-    let mut out = Vec::new(alloc);
-    let mut monitor = monitor_of(alloc, b"gpiomon -c 0 1")?;
-    drive(alloc, &mut monitor, b"ok ok ok", &mut out)?;
-    monitor.stop();
-    drive(alloc, &mut monitor, b"ok", &mut out)?;
-    let mut notifier = monitor_of(alloc, b"gpionotify -c 0 1")?;
-    drive(alloc, &mut notifier, b"ok ok", &mut out)?;
-    notifier.stop();
-    drive(alloc, &mut notifier, b"ok", &mut out)?;
-    let text =
-        b"open 0 0\nrequest 0 592 as 1 1 flags 52 by gpiomon\nclose 0 \nwatches\nclose 1 \nended\nopen 0 0\nwatch 0 256 line 1 \nwatches\nclose 0 \nended\n";
-    assert_eq!(rt; out.as_slice(), text.as_slice());
-    Ok(())
+fn a_stopped_monitor_closes_its_file(rt: HostRuntime) {
+    for (words, start, text) in stopped() {
+        assert!(rt; is_stopped(rt.alloc(), words, start, text), "{words}");
+    }
 }

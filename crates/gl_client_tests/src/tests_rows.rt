@@ -1,76 +1,19 @@
 //! Whole talks over scripted results: rows of sessions with the operations that their statements ask for, beside what they
 //! print.
 
-use crate::tests::{all_taken, result_at};
+use crate::talks::{session_of, talk_in};
 use crate::transcript::{put_call, results_of};
-use gl_args::Next;
-use gl_base::Got;
+use crate::turns::Form;
+use gl_base::{Errno, Got};
 use gl_script::{Script, Statement};
-use gl_talk::{Talk, talk_over};
+use gl_talk::talk_over;
 use std::alloc::Global;
-use std::test::Fail;
 
-/// Goes on to the end of a statement, with the results from `at` on, and appends what it asks and prints. It answers how
-/// many results were taken.
-fn finish(
-    alloc: Global,
-    talk: &mut Talk<'_>,
-    results: &[Got],
-    at: usize,
-    out: &mut Vec<u8>,
-) -> Result<usize, Fail> {
-    let mut at = at;
-    let mut is_asked = false;
-    for _ in 0..1000u32 {
-        if talk.begun > 1000 {
-            return Err(Fail::from("too many statements"));
-        }
-        let got = result_at(results, at, is_asked)?;
-        if is_asked && at < results.len() {
-            at += 1;
-        }
-        is_asked = false;
-        match talk.next(alloc, got)? {
-            Next::Call(what) => {
-                put_call(&what, out)?;
-                is_asked = true;
-            }
-            Next::Print(text) => out.extend_from_slice(text.as_slice())?,
-            Next::End => return Ok(at),
-        }
-    }
-    Err(Fail::from("too many steps"))
-}
-
-/// What statements ask and print over these results, and what is closed at the end.
-fn talked(alloc: Global, statements: &[Statement<'_>], results: &[Got]) -> Result<Vec<u8>, Fail> {
-    let mut talk = Talk::new(alloc)?;
-    let mut out = Vec::new(alloc);
-    let mut at = 0;
-    for statement in statements {
-        if talk.begun < 1000 {
-            talk.begin(*statement);
-        }
-        at = finish(alloc, &mut talk, results, at, &mut out)?;
-    }
-    talk.quit();
-    at = finish(alloc, &mut talk, results, at, &mut out)?;
-    all_taken(results, at)?;
-    Ok(out)
-}
-
-/// The same for the statements of `setup`.
-fn told(alloc: Global, statements: &str, results: &str) -> Result<Vec<u8>, Fail> {
-    let mut text = b"session 1\nsetup\n".to_vec(alloc)?;
-    text.extend_from_slice(statements.as_bytes())?;
+/// Appends what the statements of `setup` ask and print over these results.
+fn tell(alloc: Global, statements: &str, results: &str, out: &mut Vec<u8>) -> Result<(), Errno> {
+    let text = session_of(alloc, statements)?;
     let results = results_of(alloc, results.as_bytes())?;
-    match Script::parse(alloc, &text) {
-        Ok(script) => match script.statements(0) {
-            Some(statements) => talked(alloc, statements, &results),
-            None => Err(Fail::from("no section")),
-        },
-        Err(_) => Err(Fail::from("no session")),
-    }
+    talk_in(alloc, &text, &results, Form::Whole, out)
 }
 
 /// Statements, their results, and what is asked and printed.
@@ -215,74 +158,115 @@ fn found_rows() -> [Row; 5] {
     ]
 }
 
-fn check(alloc: Global, row: &Row) -> Result<bool, Fail> {
-    let out = told(alloc, row.0, row.1)?;
-    Ok(out.as_slice() == row.2.as_bytes())
-}
-
-#[test]
-fn rows_ask_and_print(rt: HostRuntime) -> Result<(), Fail> {
-    for row in rows() {
-        assert!(rt; check(rt.alloc(), &row)?, "{}", row.0);
-    }
-    Ok(())
-}
-
-#[test]
-fn a_full_queue_keeps_the_first_changes(rt: HostRuntime) -> Result<(), Fail> {
-    let row = queue_row();
-    assert!(rt; check(rt.alloc(), &row)?, "{}", row.0);
-    Ok(())
-}
-
-#[test]
-fn a_refused_tool_closes_the_newest_first(rt: HostRuntime) -> Result<(), Fail> {
-    for row in refused_rows() {
-        assert!(rt; check(rt.alloc(), &row)?, "{}", row.0);
-    }
-    Ok(())
-}
-
-#[test]
-fn a_refused_start_or_stop_leaves_nothing_open(rt: HostRuntime) -> Result<(), Fail> {
-    for row in found_rows() {
-        assert!(rt; check(rt.alloc(), &row)?, "{}", row.0);
-    }
-    Ok(())
-}
-
-/// The operations of a talk over these results as lines, and behind them its text.
-fn over(alloc: Global, statements: &str, results: &str) -> Result<Vec<u8>, Fail> {
-    let mut text = b"session 1\nsetup\n".to_vec(alloc)?;
-    text.extend_from_slice(statements.as_bytes())?;
-    let results = results_of(alloc, results.as_bytes())?;
-    let script = Script::parse(alloc, &text).map_err(|_| "no session")?;
-    let statements = script.statements(0).ok_or("no section")?;
-    if statements.len() > 1000 {
-        return Err(Fail::from("too many statements"));
-    }
-    let talked = talk_over(alloc, statements, &results)?;
+/// Whether a row asks and prints what it says.
+fn is_told(alloc: Global, row: &Row) -> bool {
     let mut out = Vec::new(alloc);
+    match tell(alloc, row.0, row.1, &mut out) {
+        Ok(()) => out.as_slice() == row.2.as_bytes(),
+        Err(_) => false,
+    }
+}
+
+#[test]
+fn rows_ask_and_print(rt: HostRuntime) {
+    for row in rows() {
+        assert!(rt; is_told(rt.alloc(), &row), "{}", row.0);
+    }
+}
+
+#[test]
+fn a_full_queue_keeps_the_first_changes(rt: HostRuntime) {
+    assert!(rt; is_told(rt.alloc(), &queue_row()));
+}
+
+#[test]
+fn a_refused_tool_closes_the_newest_first(rt: HostRuntime) {
+    for row in refused_rows() {
+        assert!(rt; is_told(rt.alloc(), &row), "{}", row.0);
+    }
+}
+
+#[test]
+fn a_refused_start_or_stop_leaves_nothing_open(rt: HostRuntime) {
+    for row in found_rows() {
+        assert!(rt; is_told(rt.alloc(), &row), "{}", row.0);
+    }
+}
+
+/// Appends the operations of a talk over these results as lines, and behind them its text.
+fn put_talk(
+    alloc: Global,
+    statements: &[Statement<'_>],
+    results: &[Got],
+    out: &mut Vec<u8>,
+) -> Result<(), Errno> {
+    if statements.len() > 1000 {
+        return Err(Errno::Full);
+    }
+    let talked = talk_over(alloc, statements, results)?;
     for what in &talked.operations {
-        put_call(what, &mut out)?;
+        put_call(what, out)?;
     }
     out.extend_from_slice(&talked.text)?;
-    Ok(out)
+    Ok(())
+}
+
+/// The same for the statements of a session's first section.
+fn put_section(
+    alloc: Global,
+    text: &[u8],
+    results: &[Got],
+    out: &mut Vec<u8>,
+) -> Result<(), Errno> {
+    match Script::parse(alloc, text) {
+        Ok(script) => match script.statements(0) {
+            Some(statements) => put_talk(alloc, statements, results, out),
+            None => Err(Errno::Inval),
+        },
+        Err(_) => Err(Errno::Inval),
+    }
+}
+
+/// The same for the statements of `setup`.
+fn put_over(
+    alloc: Global,
+    statements: &str,
+    results: &str,
+    out: &mut Vec<u8>,
+) -> Result<(), Errno> {
+    let text = session_of(alloc, statements)?;
+    let results = results_of(alloc, results.as_bytes())?;
+    put_section(alloc, &text, &results, out)
+}
+
+/// Whether a talk over these results is this.
+fn is_over(alloc: Global, results: &str, wanted: &str) -> bool {
+    let statements = "open A 0\npoll A\nstart s gpioset -c 0 3=1\npoll B\n";
+    let mut out = Vec::new(alloc);
+    match put_over(alloc, statements, results, &mut out) {
+        Ok(()) => out.as_slice() == wanted.as_bytes(),
+        Err(_) => false,
+    }
+}
+
+/// Results, and the operations and the text of the talk over them.
+fn results_and_talks() -> [(&'static str, &'static str); 2] {
+    [
+        (
+            "number:3 ready:1 ok ok ok ok ok",
+            "open 2 0\npoll 2 \nopen 6 0\nrequest 6 592 as 7 3 flags 8 by gpioset attribute 2 1 1\nclose 6 \nclose 2 \nclose 7 \nIN\nEBADF\n",
+        ),
+        (
+            "number:3 ready:1 ok",
+            "open 2 0\npoll 2 \nopen 6 0\nrequest 6 592 as 7 3 flags 8 by gpioset attribute 2 1 1\nIN\n",
+        ),
+    ]
 }
 
 /// A talk over results goes on to its end, or to the first operation that has no result.
 #[test]
-fn a_talk_goes_as_far_as_its_results(rt: HostRuntime) -> Result<(), Fail> {
-    let statements = "open A 0\npoll A\nstart s gpioset -c 0 3=1\npoll B\n";
-    let whole = over(rt.alloc(), statements, "number:3 ready:1 ok ok ok ok ok")?;
-    assert_eq!(rt;
-        whole.as_slice(),
-        b"open 2 0\npoll 2 \nopen 6 0\nrequest 6 592 as 7 3 flags 8 by gpioset attribute 2 1 1\nclose 6 \nclose 2 \nclose 7 \nIN\nEBADF\n".as_slice()
-    );
-    let front = over(rt.alloc(), statements, "number:3 ready:1 ok")?;
-    assert_eq!(rt;
-        front.as_slice(),
-        b"open 2 0\npoll 2 \nopen 6 0\nrequest 6 592 as 7 3 flags 8 by gpioset attribute 2 1 1\nIN\n".as_slice()
-    );
-    Ok(())
+fn a_talk_goes_as_far_as_its_results(rt: HostRuntime) {
+    for (results, wanted) in results_and_talks() {
+        assert!(rt; is_over(rt.alloc(), results, wanted), "{results}");
+    }
 }

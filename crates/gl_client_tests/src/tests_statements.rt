@@ -1,11 +1,9 @@
 //! Statements over scripted results: what they ask and what they print.
 
-use gl_args::Next;
-use gl_base::{ByteList, Do, Errno, Got, Name};
-use gl_script::{Script, Statement};
-use gl_talk::Talk;
+use crate::talks::{session_of, talk_in};
+use crate::turns::Form;
+use gl_base::{ByteList, Errno, Got, Name};
 use std::alloc::Global;
-use std::test::Fail;
 
 /// A result of the script.
 #[derive(Clone, Copy)]
@@ -18,16 +16,17 @@ enum Answer {
     Refused(Errno),
 }
 
-fn got_of(alloc: Global, answer: Answer) -> Result<Got, Fail> {
+fn got_of(alloc: Global, answer: Answer) -> Result<Got, Errno> {
     match answer {
         Answer::Done => Ok(Got::Done),
         Answer::Number(number) => Ok(Got::Number(number)),
-        Answer::Text(text) => Ok(Got::Text(Name::of(text.as_bytes()).ok_or(text)?)),
+        Answer::Text(text) => match Name::of(text.as_bytes()) {
+            Some(name) => Ok(Got::Text(name)),
+            None => Err(Errno::Inval),
+        },
         Answer::Bytes(count) => {
             let mut bytes = ByteList::new(alloc);
-            for i in 0..count {
-                bytes.push_all(&[(i % 4) as u8])?;
-            }
+            put_bytes(count, &mut bytes)?;
             Ok(Got::Bytes(bytes))
         }
         Answer::Ready(bits) => Ok(Got::Ready(bits)),
@@ -35,103 +34,33 @@ fn got_of(alloc: Global, answer: Answer) -> Result<Got, Fail> {
     }
 }
 
-/// What is asked, in short.
-fn call_of(what: &Do) -> (&'static str, u32) {
-    match what {
-        Do::Probe { lines, .. } => ("probe", *lines),
-        Do::Unplug { place } => ("unplug", u32::from(*place)),
-        Do::MakeDir(_) => ("mkdir", 0),
-        Do::RemoveDir(_) => ("rmdir", 0),
-        Do::Write { .. } => ("write", 0),
-        Do::Read(_) => ("read", 0),
-        Do::Live { up, .. } => ("live", u32::from(*up)),
-        Do::Tick { real, .. } => ("tick", (*real % 1000) as u32),
-        Do::Pin { place, .. } => ("pin", u32::from(*place)),
-        Do::Irq { offset, .. } => ("irq", *offset),
-        Do::Pull { offset, .. } => ("pull", *offset),
-        Do::Level { offset, .. } => ("level", *offset),
-        Do::OpenChip { slot, .. } => ("open", *slot),
-        Do::Find { .. } => ("find", 0),
-        Do::Ioctl { slot, .. } => ("ioctl", *slot),
-        Do::ReadFile { len, .. } => ("readfile", *len),
-        Do::Poll { slot } => ("poll", *slot),
-        Do::Close { slot } => ("close", *slot),
-        Do::Plan { nth } => ("plan", *nth),
+/// Appends so many bytes: 0, 1, 2, 3, and again.
+fn put_bytes(count: usize, bytes: &mut ByteList) -> Result<(), Errno> {
+    for i in 0..count {
+        bytes.push_all(&[(i % 4) as u8])?;
     }
+    Ok(())
 }
 
-/// One step of a talk.
-fn step(alloc: Global, talk: &mut Talk<'_>, got: Option<&Got>) -> Result<Next, Fail> {
-    if talk.begun > 1000 {
-        return Err(Fail::from("too many statements"));
+/// The results of the script.
+fn gots_of(alloc: Global, answers: &[Answer]) -> Result<Vec<Got>, Errno> {
+    let mut gots = Vec::new(alloc);
+    for answer in answers {
+        gots.push(got_of(alloc, *answer)?)?;
     }
-    Ok(talk.next(alloc, got)?)
+    Ok(gots)
 }
 
-/// Goes on to the end of a statement, with these results, and appends what it asks and prints.
-fn run_one(
+/// Appends what the statements of `setup` ask and print, with these results, and what is closed at the end.
+fn tell(
     alloc: Global,
-    talk: &mut Talk<'_>,
-    answers: &mut &[Answer],
-    out: &mut Vec<u8>,
-) -> Result<(), Fail> {
-    let mut got = None;
-    for _ in 0..100 {
-        match step(alloc, talk, got.as_ref())? {
-            Next::Call(what) => {
-                let (name, number) = call_of(&what);
-                let text = format!(in alloc; "({name} {number})")?;
-                out.extend_from_slice(text.as_bytes())?;
-                let (first, rest) = answers.split_first().ok_or("no result is left")?;
-                got = Some(got_of(alloc, *first)?);
-                *answers = rest;
-            }
-            Next::Print(text) => {
-                out.extend_from_slice(text.as_slice())?;
-                got = None;
-            }
-            Next::End => return Ok(()),
-        }
-    }
-    Err(Fail::from("too many steps"))
-}
-
-/// What statements ask and print, with these results, and what is closed at the end.
-fn run_statements(
-    alloc: Global,
-    statements: &[Statement<'_>],
+    statements: &str,
     answers: &[Answer],
-) -> Result<Vec<u8>, Fail> {
-    let mut talk = Talk::new(alloc)?;
-    let mut out = Vec::new(alloc);
-    let mut answers = answers;
-    for statement in statements {
-        if talk.begun < 1000 {
-            talk.begin(*statement);
-        }
-        run_one(alloc, &mut talk, &mut answers, &mut out)?;
-    }
-    talk.quit();
-    run_one(alloc, &mut talk, &mut answers, &mut out)?;
-    Ok(out)
-}
-
-/// The same for the statements of a session's first section.
-fn run_text(alloc: Global, text: &[u8], answers: &[Answer]) -> Result<Vec<u8>, Fail> {
-    match Script::parse(alloc, text) {
-        Ok(script) => match script.statements(0) {
-            Some(statements) => run_statements(alloc, statements, answers),
-            None => Err(Fail::from("no section")),
-        },
-        Err(_) => Err(Fail::from("no session")),
-    }
-}
-
-/// The same for the statements of `setup`.
-fn run_all(alloc: Global, statements: &str, answers: &[Answer]) -> Result<Vec<u8>, Fail> {
-    let mut text = b"session 1\nsetup\n".to_vec(alloc)?;
-    text.extend_from_slice(statements.as_bytes())?;
-    run_text(alloc, &text, answers)
+    out: &mut Vec<u8>,
+) -> Result<(), Errno> {
+    let text = session_of(alloc, statements)?;
+    let gots = gots_of(alloc, answers)?;
+    talk_in(alloc, &text, &gots, Form::Short, out)
 }
 
 /// Statements of a section, the results that they get, and what they ask and print.
@@ -220,34 +149,39 @@ fn call_cases() -> [Case; 3] {
     ]
 }
 
-#[test]
-fn names_ask_and_print(rt: HostRuntime) -> Result<(), Fail> {
-    for (statements, answers, wanted) in name_cases() {
-        let printed = run_all(rt.alloc(), statements, answers)?;
-        assert_eq!(rt; printed.as_slice(), wanted.as_bytes(), "{statements}");
+/// Whether a case asks and prints what it says.
+fn is_told(alloc: Global, case: &Case) -> bool {
+    let mut out = Vec::new(alloc);
+    match tell(alloc, case.0, case.1, &mut out) {
+        Ok(()) => out.as_slice() == case.2.as_bytes(),
+        Err(_) => false,
     }
-    Ok(())
 }
 
 #[test]
-fn calls_ask_and_print(rt: HostRuntime) -> Result<(), Fail> {
-    for (statements, answers, wanted) in call_cases() {
-        let printed = run_all(rt.alloc(), statements, answers)?;
-        assert_eq!(rt; printed.as_slice(), wanted.as_bytes(), "{statements}");
+fn names_ask_and_print(rt: HostRuntime) {
+    for case in name_cases() {
+        assert!(rt; is_told(rt.alloc(), &case), "{}", case.0);
     }
-    Ok(())
 }
 
 #[test]
-fn changes_are_told_with_their_flags(rt: HostRuntime) -> Result<(), Fail> {
-    let printed = run_all(
-        rt.alloc(),
+fn calls_ask_and_print(rt: HostRuntime) {
+    for case in call_cases() {
+        assert!(rt; is_told(rt.alloc(), &case), "{}", case.0);
+    }
+}
+
+/// A change with its flags.
+fn change_case() -> Case {
+    (
         "open A 0\nchanges A 288",
         &[Answer::Number(3), Answer::Bytes(288), Answer::Done],
-    )?;
-    assert_eq!(rt;
-        printed.as_slice(),
-        b"(open 2)(readfile 288)216736831629295872 config 50462976 0x302010003020100\n(close 2)".as_slice()
-    );
-    Ok(())
+        "(open 2)(readfile 288)216736831629295872 config 50462976 0x302010003020100\n(close 2)",
+    )
+}
+
+#[test]
+fn changes_are_told_with_their_flags(rt: HostRuntime) {
+    assert!(rt; is_told(rt.alloc(), &change_case()));
 }

@@ -200,6 +200,42 @@ fn put_request(bytes: &[u8], out: &mut Vec<u8>) -> Result<(), Errno> {
     Ok(())
 }
 
+/// What is asked, in short.
+fn call_of(what: &Do) -> (&'static str, u32) {
+    match what {
+        Do::Probe { lines, .. } => ("probe", *lines),
+        Do::Unplug { place } => ("unplug", u32::from(*place)),
+        Do::MakeDir(_) => ("mkdir", 0),
+        Do::RemoveDir(_) => ("rmdir", 0),
+        Do::Write { .. } => ("write", 0),
+        Do::Read(_) => ("read", 0),
+        Do::Live { up, .. } => ("live", u32::from(*up)),
+        Do::Tick { real, .. } => ("tick", (*real % 1000) as u32),
+        Do::Pin { place, .. } => ("pin", u32::from(*place)),
+        Do::Irq { offset, .. } => ("irq", *offset),
+        Do::Pull { offset, .. } => ("pull", *offset),
+        Do::Level { offset, .. } => ("level", *offset),
+        Do::OpenChip { slot, .. } => ("open", *slot),
+        Do::Find { .. } => ("find", 0),
+        Do::Ioctl { slot, .. } => ("ioctl", *slot),
+        Do::ReadFile { len, .. } => ("readfile", *len),
+        Do::Poll { slot } => ("poll", *slot),
+        Do::Close { slot } => ("close", *slot),
+        Do::Plan { nth } => ("plan", *nth),
+    }
+}
+
+/// Appends what is asked, in short.
+pub fn put_short(what: &Do, out: &mut Vec<u8>) -> Result<(), Errno> {
+    let (name, number) = call_of(what);
+    out.push(b'(')?;
+    out.extend_from_slice(name.as_bytes())?;
+    out.push(b' ')?;
+    put_decimal(u64::from(number), out)?;
+    out.push(b')')?;
+    Ok(())
+}
+
 /// The results that words tell, one a word: `ok`, `number:N`, `text:VALUE`, `found:PLACE:OFFSET:COUNT`, `chip:NAME:LABEL:LINES`,
 /// `line:FLAGS:PERIOD:NAME:CONSUMER`, `values:BITS`, `ready:BITS`, `event:TIME:ID:OFFSET`, `change:TIME:KIND:OFFSET:FLAGS`,
 /// or the name of an error. An empty text tells none.

@@ -2,6 +2,5 @@ pub mod Adder
 pub mod AdderLaws
 pub mod House
 pub mod HouseLaws
-pub mod Free
 pub mod Noting
 pub mod CorePasses

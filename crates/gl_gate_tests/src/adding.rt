@@ -2,7 +2,8 @@
 ghost use Rattle.std.specs.Prelude.{◌≡◌, ℕ, ◌+◌, ◌≤◌, ◌<◌, ◌∷◌, [], ◌++◌, IfOk, IfErr};
 ghost use Rattle.gl_base.specs.declared.errno.Errno.TheVariants.{Full};
 ghost use Rattle.gl_world.specs.History.{entry};
-ghost use Rattle.gl_gate_tests.specs.Free.{OwesNothing};
+ghost use Rattle.gl_rule.specs.Turn.{owes};
+ghost use Rattle.gl_gate_tests.specs.contracts.adder.AdderMachine.TheImpl.{ghosts};
 ghost use Rattle.gl_gate.specs.Values.{IsPassOf};
 ghost use Rattle.gl_gate.specs.Calls.{SamePass};
 ghost use Rattle.gl_gate_tests.specs.declared.kind.Kind.TheVariants.{Alone, First, Second};
@@ -16,10 +17,10 @@ use std::sync::Wait;
 /// Adds 1 by a call alone.
 pub fn add<R: Wait>(rt: &R, gate: &Gate<Adder>, pass: &mut Pass<Adder>) -> Result<u64, Errno>
     requires gate { IsPassOf gate.now pass.old }
-    requires free { OwesNothing pass.old.view }
+    requires free { owes ghosts pass.old.view ≡ 0 }
     ensures gate { IsPassOf gate.now pass.new }
     ensures same { SamePass pass.old.view pass.new.view }
-    ensures free { OwesNothing pass.new.view }
+    ensures free { owes ghosts pass.new.view ≡ 0 }
     ensures mine { IfOk result (λ old. pass.new.view.mine ≡ pass.old.view.mine ++ entry pass.old.view.number Alone old ∷ []) }
     ensures full { IfErr result (λ e. (e ≡ Full) × (pass.new.view.mine ≡ pass.old.view.mine)) }
 {
@@ -34,10 +35,10 @@ pub fn add_many<R: Wait>(
     count: u32,
 ) -> (Pass<Adder>, u32)
     requires gate { IsPassOf gate.now pass }
-    requires free { OwesNothing pass.view }
+    requires free { owes ghosts pass.view ≡ 0 }
     ensures gate { IsPassOf gate.now result.0 }
     ensures same { SamePass pass.view result.0.view }
-    ensures free { OwesNothing result.0.view }
+    ensures free { owes ghosts result.0.view ≡ 0 }
 {
     let mut answered = 0;
     for _ in 0..count {
@@ -51,10 +52,10 @@ pub fn add_many<R: Wait>(
 /// Adds 1 by the first and then by the second of two calls. Where the first is answered, so is the second.
 pub fn add_two<R: Wait>(rt: &R, gate: &Gate<Adder>, pass: &mut Pass<Adder>) -> Option<(u64, u64)>
     requires gate { IsPassOf gate.now pass.old }
-    requires free { OwesNothing pass.old.view }
+    requires free { owes ghosts pass.old.view ≡ 0 }
     ensures gate { IsPassOf gate.now pass.new }
     ensures same { SamePass pass.old.view pass.new.view }
-    ensures free { OwesNothing pass.new.view }
+    ensures free { owes ghosts pass.new.view ≡ 0 }
 {
     let first = gate.act(rt, pass, Kind::First, &mut (), &mut []).ok()?;
     match gate.act(rt, pass, Kind::Second, &mut (), &mut []) {
@@ -71,10 +72,10 @@ pub fn add_pairs<R: Wait>(
     count: u32,
 ) -> (Pass<Adder>, u32)
     requires gate { IsPassOf gate.now pass }
-    requires free { OwesNothing pass.view }
+    requires free { owes ghosts pass.view ≡ 0 }
     ensures gate { IsPassOf gate.now result.0 }
     ensures same { SamePass pass.view result.0.view }
-    ensures free { OwesNothing result.0.view }
+    ensures free { owes ghosts result.0.view ≡ 0 }
 {
     let mut answered = 0;
     for _ in 0..count {

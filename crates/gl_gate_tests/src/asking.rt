@@ -3,7 +3,8 @@ ghost use Rattle.std.specs.Prelude.{◌≡◌, ℕ, ◌<◌, false, []};
 ghost use Rattle.gl_gate.specs.Values.{IsPassOf};
 ghost use Rattle.gl_gate.specs.Calls.{IsOutside, HoldsNoTurn};
 ghost use Rattle.gl_driver.specs.Calls.{FitsOp};
-ghost use Rattle.gl_gate_tests.specs.Free.{OwesNothing};
+ghost use Rattle.gl_rule.specs.Turn.{owes};
+ghost use Rattle.gl_gate_tests.specs.contracts.adder.AdderMachine.TheImpl.{ghosts};
 
 use crate::adder::Adder;
 use gl_base::{Lines, PLACES};
@@ -59,12 +60,12 @@ pub fn ask_for_entries<R: Wait, D: Driver<Adder>>(
 ) -> Option<Result<u64, DriverFault>>
     requires gate { IsPassOf gate.now pass.old }
     requires places { gate.now.places ≡ PLACES }
-    requires free { OwesNothing pass.old.view }
+    requires free { owes ghosts pass.old.view ≡ 0 }
     requires outside { pass.old.view.inside ≡ [] }
     requires no_turn { HoldsNoTurn pass.old.view }
     ensures gate { IsPassOf gate.now pass.new }
     ensures no_turn { HoldsNoTurn pass.new.view }
-    ensures free { OwesNothing pass.new.view }
+    ensures free { owes ghosts pass.new.view ≡ 0 }
     ensures outside { pass.new.view.inside ≡ [] }
     ensures number { pass.new.view.number ≡ pass.old.view.number }
 {

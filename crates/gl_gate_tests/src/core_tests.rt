@@ -15,32 +15,34 @@ use gl_uapi::layout::LINE_REQUEST_SIZE;
 use gl_world::Machine;
 use std::alloc::Global;
 use std::sync::Wait;
-use std::test::Fail;
 use std::thread::{Threads, join};
 
 #[test]
-fn a_chip_goes_when_nobody_is_inside_its_place(rt: HostRuntime) -> Result<(), Fail> {
-    let core = Core::new(rt.alloc())?;
+fn a_chip_goes_when_nobody_is_inside_its_place(rt: HostRuntime) {
+    let Ok(core) = Core::new(rt.alloc()) else {
+        panic!(rt; "no memory")
+    };
     let Ok((gate, mut first)) = Gate::new(rt.alloc(), core, PLACES, 10) else {
         panic!(rt; "no memory")
     };
     let mut remover = gate.split(&mut first);
     let mut late = gate.split(&mut first);
-    assert!(rt; probe(&rt, &gate, &mut first) == Ok(Reply::Number(0)));
+    let made = probe(&rt, &gate, &mut first) == Ok(Reply::Number(0));
     assert!(rt; gate.enter(&mut first, 0));
     assert!(rt; begin_unplug(&rt, &gate, &mut remover, 0));
     gate.close_place(&mut remover, 0);
-    assert!(rt; !gate.look(&mut remover, 0));
-    assert!(rt; !gate.enter(&mut late, 0));
-    assert!(rt; level(&rt, &gate, &mut first, 0, 1) == Ok(Reply::Number(0)));
+    let waits = !gate.look(&mut remover, 0);
+    let closed = !gate.enter(&mut late, 0);
+    assert!(rt; closed);
+    let low = level(&rt, &gate, &mut first, 0, 1) == Ok(Reply::Number(0));
     gate.leave(&mut first, 0);
     assert!(rt; gate.look(&mut remover, 0));
-    assert!(rt; end_unplug(&rt, &gate, &mut remover, 0) == Reply::Done);
+    let ended = end_unplug(&rt, &gate, &mut remover, 0) == Reply::Done;
     gate.join(&mut first, remover);
     gate.join(&mut first, late);
     let (core, history) = gate.finish(first);
+    assert!(rt; [made, waits, low, ended] == [true; 4]);
     assert!(rt; core.phase(0) == Phase::Gone && history.len() == 4);
-    Ok(())
 }
 
 /// A pass that requested lines, and whether it was answered that it holds them.
@@ -121,16 +123,20 @@ fn request_beside_a_removal<R: Threads + Wait + Sync>(
 }
 
 #[test]
-fn the_history_of_requests_beside_a_removal_is_legal(rt: HostRuntime) -> Result<(), Fail> {
-    let core = Core::new(rt.alloc())?;
+fn the_history_of_requests_beside_a_removal_is_legal(rt: HostRuntime) {
+    let Ok(core) = Core::new(rt.alloc()) else {
+        panic!(rt; "no memory")
+    };
+    let Some(word) = Path::of(b"gpiochip0") else {
+        panic!(rt; "no path")
+    };
     let Ok((gate, mut first)) = Gate::new(rt.alloc(), core, PLACES, 10) else {
         panic!(rt; "no memory")
     };
     let asker = gate.split(&mut first);
     let remover = gate.split(&mut first);
-    assert!(rt; probe(&rt, &gate, &mut first) == Ok(Reply::Number(0)));
-    let word = Path::of(b"gpiochip0").ok_or("a path")?;
-    assert!(rt; open(&rt, &gate, &mut first, word, rt.alloc()) == Ok(Reply::Number(3)));
+    let made = probe(&rt, &gate, &mut first) == Ok(Reply::Number(0));
+    let opened = open(&rt, &gate, &mut first, word, rt.alloc()) == Ok(Reply::Number(3));
     let ((asker, asked), ((remover, held), gone)) = request_beside_a_removal(
         &rt,
         &gate,
@@ -139,11 +145,10 @@ fn the_history_of_requests_beside_a_removal_is_legal(rt: HostRuntime) -> Result<
         3,
         rt.alloc(),
     );
-    assert!(rt; asked.is_ok() && held == Ok(true) && gone);
     gate.join(&mut first, asker);
     gate.join(&mut first, remover);
     let (core, history) = gate.finish(first);
+    assert!(rt; [made, opened, asked.is_ok(), held == Ok(true), gone] == [true; 5]);
     assert!(rt; core.phase(0) == Phase::Gone && history.len() <= 8);
     assert!(rt; first_bad(history.as_slice(), rt.alloc()) == Ok(None));
-    Ok(())
 }

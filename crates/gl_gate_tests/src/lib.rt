@@ -1,6 +1,7 @@
 //! Small machines and the core behind a gate, and threads that make calls on them.
 #![tactic(auto)]
 
+#[cfg(test)]
 mod adder;
 #[cfg(test)]
 mod adding;
@@ -15,6 +16,7 @@ mod core_passes;
 #[cfg(test)]
 mod core_tests;
 mod errand;
+#[cfg(test)]
 mod house;
 mod kind;
 #[cfg(test)]

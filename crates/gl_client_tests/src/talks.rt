@@ -1,0 +1,93 @@
+//! Whole talks over scripted results.
+
+use crate::turns::{Form, TURNS, Turn, all_taken, result_of, take_turn};
+use gl_args::Next;
+use gl_base::{Errno, Got};
+use gl_script::{Script, Statement};
+use gl_talk::Talk;
+use std::alloc::Global;
+
+/// Goes on to the end of a statement, with the results that are left, and appends what it asks and prints.
+fn finish(
+    alloc: Global,
+    talk: &mut Talk<'_>,
+    left: &mut &[Got],
+    form: Form,
+    out: &mut Vec<u8>,
+) -> Result<(), Errno> {
+    let mut turn = Turn::Printed;
+    for _ in 0..TURNS {
+        let got = result_of(left, turn)?;
+        let next = go_on(alloc, talk, got)?;
+        turn = take_turn(next, form, out)?;
+        if turn == Turn::Ended {
+            return Ok(());
+        }
+    }
+    Err(Errno::Again)
+}
+
+/// One step of a talk.
+fn go_on(alloc: Global, talk: &mut Talk<'_>, got: Option<&Got>) -> Result<Next, Errno> {
+    if talk.begun > 1000 {
+        return Err(Errno::Full);
+    }
+    talk.next(alloc, got)
+}
+
+/// Begins each statement and goes on to its end.
+fn finish_all<'a>(
+    alloc: Global,
+    talk: &mut Talk<'a>,
+    statements: &[Statement<'a>],
+    left: &mut &[Got],
+    form: Form,
+    out: &mut Vec<u8>,
+) -> Result<(), Errno> {
+    for statement in statements {
+        if talk.begun < 1000 {
+            talk.begin(*statement);
+        }
+        finish(alloc, talk, left, form, out)?;
+    }
+    talk.quit();
+    finish(alloc, talk, left, form, out)
+}
+
+/// Appends what statements ask and print over just these results, and what is closed at the end.
+fn talk_through(
+    alloc: Global,
+    statements: &[Statement<'_>],
+    results: &[Got],
+    form: Form,
+    out: &mut Vec<u8>,
+) -> Result<(), Errno> {
+    let mut talk = Talk::new(alloc)?;
+    let mut left = results;
+    finish_all(alloc, &mut talk, statements, &mut left, form, out)?;
+    all_taken(left)
+}
+
+/// The same for the statements of a session's first section.
+pub fn talk_in(
+    alloc: Global,
+    text: &[u8],
+    results: &[Got],
+    form: Form,
+    out: &mut Vec<u8>,
+) -> Result<(), Errno> {
+    match Script::parse(alloc, text) {
+        Ok(script) => match script.statements(0) {
+            Some(statements) => talk_through(alloc, statements, results, form, out),
+            None => Err(Errno::Inval),
+        },
+        Err(_) => Err(Errno::Inval),
+    }
+}
+
+/// The text of a session with these statements in `setup`.
+pub fn session_of(alloc: Global, statements: &str) -> Result<Vec<u8>, Errno> {
+    let mut text = b"session 1\nsetup\n".to_vec(alloc)?;
+    text.extend_from_slice(statements.as_bytes())?;
+    Ok(text)
+}
