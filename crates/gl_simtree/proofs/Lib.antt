@@ -1,3 +1,4 @@
+pub mod BankRows
 pub mod Banks
 pub mod Found
 pub mod Planning

@@ -1,3 +1,4 @@
+pub mod BankRows
 pub mod Calls
 pub mod Cuts
 pub mod Formed

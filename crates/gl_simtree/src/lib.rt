@@ -1,6 +1,7 @@
 //! The configuration tree of gpio-sim.
 #![tactic(auto)]
 
+mod bank_rows;
 mod cut;
 mod edit;
 mod form;

@@ -3,10 +3,11 @@ ghost use Rattle.std.specs.Prelude.{◌≡◌, ◌+◌, ◌<◌, ◌≤◌, [], 
 ghost use Rattle.gl_simtree.specs.Plans.{chip_label, line_name, line_hog, names_from, hogs_from, planned_label, planned_lines, planned_names, planned_hogs};
 ghost use Rattle.gl_simtree.specs.Forms.{is_device, is_bank};
 ghost use Rattle.gl_simtree.specs.Formed.{IsFormedRow};
+ghost use Rattle.gl_simtree.specs.BankRows.{AreFound};
+ghost use Rattle.gl_simtree.specs.declared.node.Directory.TheVariants.{Line, Hog as HogDirectory};
 
-use crate::node::Directory;
+use crate::bank_rows::{BankRows, LineRows, row_found};
 use crate::row::TreeRow;
-use crate::search;
 use gl_base::{Errno, LINES_MAX, Name, push_within};
 use gl_desc::Hog;
 use std::alloc::Global;
@@ -72,8 +73,9 @@ impl BankPlan {
             } => {
                 self.label = chip_label(device, bank, label);
                 self.lines = *lines;
-                fill_names(&mut self.names, rows, device, bank, *lines);
-                fill_hogs(&mut self.hogs, rows, device, bank, *lines);
+                let found = BankRows::of(rows, device, bank);
+                fill_names(&mut self.names, rows, device, bank, &found.lines, *lines);
+                fill_hogs(&mut self.hogs, rows, device, bank, &found.hogs, *lines);
             }
             TreeRow::Device { .. } | TreeRow::Line { .. } | TreeRow::Hog { .. } => self.clear(),
         }
@@ -109,32 +111,24 @@ fn chip_label(device: &Name, bank: &Name, label: &Name) -> Name
     }
 }
 
-/// The names of a bank's lines, in order of their offsets.
+/// The names of a bank's lines, in order of their offsets, from where the rows of these lines stand.
 fn fill_names(
     names: &mut Vec<(u32, Name)>,
     rows: &[TreeRow],
     device: &Name,
     bank: &Name,
+    found: &LineRows,
     lines: u32,
 )
     requires lines { lines ≤ LINES_MAX }
     requires room { LINES_MAX ≤ vec_capacity names.old }
+    requires found { AreFound (Line device.now bank.now) rows.now rows.now found.now }
     ensures names { names.new.items ≡ names_from device.now bank.now rows.now 0 lines }
     ensures room { vec_capacity names.new ≡ vec_capacity names.old }
 {
     names.clear();
     for offset in 0..lines {
-        push_name(
-            names,
-            search::row_at(
-                rows,
-                &Directory::Line {
-                    device: *device,
-                    bank: *bank,
-                    line: offset,
-                },
-            ),
-        );
+        push_name(names, row_found(rows, found, offset));
     }
 }
 
@@ -150,26 +144,24 @@ fn push_name(names: &mut Vec<(u32, Name)>, row: Option<&TreeRow>)
     }
 }
 
-/// The hogs of a bank's lines, in order of their offsets.
-fn fill_hogs(hogs: &mut Vec<Hog>, rows: &[TreeRow], device: &Name, bank: &Name, lines: u32)
+/// The hogs of a bank's lines, in order of their offsets, from where the rows of these hogs stand.
+fn fill_hogs(
+    hogs: &mut Vec<Hog>,
+    rows: &[TreeRow],
+    device: &Name,
+    bank: &Name,
+    found: &LineRows,
+    lines: u32,
+)
     requires lines { lines ≤ LINES_MAX }
     requires room { LINES_MAX ≤ vec_capacity hogs.old }
+    requires found { AreFound (HogDirectory device.now bank.now) rows.now rows.now found.now }
     ensures hogs { hogs.new.items ≡ hogs_from device.now bank.now rows.now 0 lines }
     ensures room { vec_capacity hogs.new ≡ vec_capacity hogs.old }
 {
     hogs.clear();
     for offset in 0..lines {
-        push_hog(
-            hogs,
-            search::row_at(
-                rows,
-                &Directory::Hog {
-                    device: *device,
-                    bank: *bank,
-                    line: offset,
-                },
-            ),
-        );
+        push_hog(hogs, row_found(rows, found, offset));
     }
 }
 
