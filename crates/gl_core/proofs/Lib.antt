@@ -2,6 +2,7 @@ pub mod Claims
 pub mod KeptEdges
 pub mod Bits
 pub mod Buffers
+pub mod ClearingDeadlines
 pub mod Closing
 pub mod FindingLines
 pub mod KeptRequests

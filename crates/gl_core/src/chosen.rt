@@ -1,9 +1,8 @@
 //! Changes at some of the places.
 
-ghost use Rattle.std.specs.Prelude.{◌≡◌, ◌<◌, ◌/◌, ◌*◌, if◌then◌else◌, vec_capacity};
+ghost use Rattle.std.specs.Prelude.{◌≡◌, ◌==◌, ◌<◌, if◌then◌else◌, vec_capacity};
 ghost use Rattle.gl_base.specs.Positions.{change_at};
-ghost use Rattle.gl_base.specs.declared.limits.TheConstants.{LINES_MAX, PLACES};
-ghost use Rattle.gl_debounce.specs.Timer.{with_timer, without_deadline};
+ghost use Rattle.gl_base.specs.declared.limits.TheConstants.{PLACES};
 ghost use Rattle.gl_registry.specs.Chips.{moved_on, no_chip};
 ghost use Rattle.gl_model.specs.Places.{no_origin};
 ghost use Rattle.gl_model.specs.Removal.{change_where, removed_by, without_deadlines};
@@ -57,32 +56,31 @@ pub(crate) fn set_remover(origins: &mut Vec<Origin>, places: &Chosen, actor: u8)
     }
 }
 
-/// No deadline of a line of the table runs any more, if it is one of those whose deadlines end.
-fn clear_if(timers: &mut Timers, place: u8, offset: u32, chosen: bool)
-    requires place { place < PLACES }
-    requires offset { offset < LINES_MAX }
-    ensures { timers.new ≡ (if chosen then with_timer without_deadline place offset timers.old else timers.old) }
+/// No deadline of a line of a place runs any more.
+fn clear_place(timers: &mut Timers, place: u8)
+    requires { place < PLACES }
+    ensures { timers.new ≡ without_deadlines (λ p. p == place) timers.old }
 {
-    if chosen {
+    for offset in 0..LINES_MAX {
         timers.clear(place, offset);
     }
 }
 
-/// The place of a line of the table of timers.
-fn place_of_line(line: u32) -> u8
-    requires { line < PLACES * LINES_MAX }
-    ensures place { result ≡ line / LINES_MAX }
-    ensures within { result < PLACES }
+/// No deadline of a line of a place runs any more, if it is one of those whose deadlines end.
+fn clear_place_if(timers: &mut Timers, place: u8, chosen: bool)
+    requires { place < PLACES }
+    ensures { timers.new ≡ (if chosen then without_deadlines (λ p. p == place) timers.old else timers.old) }
 {
-    (line / LINES_MAX) as u8
+    if chosen {
+        clear_place(timers, place);
+    }
 }
 
-/// No deadline of a line of some places runs any more.
+/// No deadline of a line of some places runs any more. The lines of other places aren't looked at.
 pub(crate) fn clear_deadlines(timers: &mut Timers, places: &Chosen)
     ensures { timers.new ≡ without_deadlines (is_chosen places.now) timers.old }
 {
-    for line in 0..u32::from(PLACES) * LINES_MAX {
-        let place = place_of_line(line);
-        clear_if(timers, place, line % LINES_MAX, places[usize::from(place)]);
+    for place in 0..PLACES {
+        clear_place_if(timers, place, places[usize::from(place)]);
     }
 }

@@ -1,25 +1,26 @@
-use Rattle.std.proofs.Common.{◌≡◌, ℕ, ◌+◌, ◌*◌, ◌/◌, ◌%◌, ap, ◌∙◌, arith, Bool, None}
-use Rattle.std.specs.Prelude.{if◌then◌else◌}
-use Rattle.std.specs.Option.{option_map}
-use Rattle.gl_base.specs.Positions.{change_at}
-use Rattle.gl_base.specs.declared.limits.TheConstants.{LINES_MAX}
-use Rattle.gl_debounce.specs.Timer.{with_timer, without_deadline}
+use Rattle.std.proofs.Common.{◌≡◌, ◌≤◌, length, ap, ◌∙◌, arith, rules}
+use Rattle.std.specs.Prelude.{◌==◌, if◌then◌else◌}
+use Rattle.gl_base.specs.declared.limits.TheConstants.{PLACES}
+use Rattle.gl_model.specs.Removal.{without_deadlines}
 use Rattle.gl_core.specs.Chosen.{is_chosen}
-use Rattle.gl_core.proofs.Choosing.{none_yet, one_more}
+use Rattle.gl_core.proofs.ClearingDeadlines.{all_places, no_place_yet, places_more}
 use Rattle.gl_core.proofs.chosen.clear_deadlines.Goals as goal
 
-number_again : (line place : ℕ) → place ≡ line / LINES_MAX → place * LINES_MAX + line % LINES_MAX ≡ line
-number_again line place is = Prim.omega arith
+pub loop-place-init : goal.loop-place-init
+loop-place-init c = no_place_yet (is_chosen c.args.places.now) c.args.timers.now
 
-pub loop-line-init : goal.loop-line-init
-loop-line-init c = none_yet (λ n. is_chosen c.args.places.now (n / LINES_MAX)) (option_map without_deadline) c.args.timers.now
+pub loop-place-preserved : goal.loop-place-preserved
+loop-place-preserved c =
+    let marks = c.args.places.now in
+    let timers = c.args.timers.now in
+    let place = c.loop-place.place in
+    c.clear_place_if.ensures
+    ∙ ap (λ n. if is_chosen marks n then without_deadlines (λ p. p == place) c.loop-place.timers else c.loop-place.timers) c.from.ensures
+    ∙ ap (λ now. if is_chosen marks place then without_deadlines (λ p. p == place) now else now) c.loop-place.invariant
+    ∙ places_more (is_chosen marks) place timers
 
-pub loop-line-preserved : goal.loop-line-preserved
-loop-line-preserved c =
-    let test : ℕ → Bool = λ n. is_chosen c.args.places.now (n / LINES_MAX) in
-    let line = c.loop-line.line in
-    let place : ℕ = c.place_of_line-place.result in
-    c.clear_if.ensures
-    ∙ ap (λ p. if is_chosen c.args.places.now p then with_timer without_deadline place (line % LINES_MAX) c.loop-line.timers else c.loop-line.timers) (c.from.ensures ∙ c.place_of_line-place.ensures.place)
-    ∙ ap (λ n. if test line then change_at None n (option_map without_deadline) c.loop-line.timers else c.loop-line.timers) (number_again line place c.place_of_line-place.ensures.place)
-    ∙ one_more test (option_map without_deadline) None line c.args.timers.now c.loop-line.timers c.loop-line.invariant
+pub returns : goal.returns
+returns c =
+    let size : length c.args.places.now ≡ PLACES = search rules in
+    let all : length c.args.places.now ≤ c.loop-place.place = omega (arith, size, c.loop-place-test.false) in
+    c.loop-place.invariant ∙ all_places c.args.places.now c.loop-place.place c.args.timers.now all
