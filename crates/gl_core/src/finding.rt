@@ -53,7 +53,7 @@ impl LinesFound {
         ensures found { self.new ≡ (if bytes_eq (desc_at descs.now offset).name name.now then with_line (place, offset) self.old else self.old) }
         ensures count { self.new.count ≤ self.old.count + 1 }
     {
-        if descs.name(offset) == *name {
+        if descs.is_named(offset, name) {
             self.add(place, offset);
         }
     }

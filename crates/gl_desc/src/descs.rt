@@ -1,6 +1,7 @@
 //! Who has the lines of one chip, by offset.
 ghost use Rattle.std.specs.Prelude.{◌≡◌, ◌<◌, ◌≤◌, length, take, replicate, IfOk, OnOk, OnErr, IsOkUnless};
 ghost use Rattle.std.specs.Result.{result_err};
+ghost use Rattle.std.specs.Str.{bytes_eq};
 ghost use Rattle.gl_base.specs.Lines.{IsLineCount, offsets_of};
 ghost use Rattle.gl_base.specs.declared.limits.TheConstants.{LINES_PER_REQUEST};
 ghost use Rattle.gl_base.specs.Positions.{change_at, change_each, first_fault};
@@ -126,6 +127,14 @@ impl Descs {
         ensures { result ≡ (desc_at self.now offset).name }
     {
         self.lines[offset as usize].name
+    }
+
+    /// Whether a line has this name.
+    pub fn is_named(&self, offset: u32, name: &Name) -> bool
+        requires { offset < length self.now }
+        ensures { result ≡ bytes_eq (desc_at self.now offset).name name.now }
+    {
+        self.lines[offset as usize].name == *name
     }
 
     /// Names a line. An offset past the lines changes nothing.
