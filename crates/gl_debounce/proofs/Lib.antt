@@ -2,5 +2,6 @@ pub mod Earliest
 pub mod Firing
 pub mod GoingOn
 pub mod Lookup
+pub mod Padding
 pub mod Ranks
 pub mod Slots

@@ -1,6 +1,6 @@
 -- The timers of the lines, after the kernel's software debouncing of the GPIO character device. A table has
 -- a row for each line of each place, by place and then by offset; a line that never was debounced has no timer.
-use Rattle.std.specs.Prelude.{ℕ, Bool, ◌+◌, ◌*◌, List, Option, Some, None, replicate, slice_index_or, slice_set}
+use Rattle.std.specs.Prelude.{ℕ, Bool, ◌+◌, ◌-◌, ◌*◌, List, ◌++◌, length, Option, Some, None, replicate, slice_index_or, slice_set}
 use Rattle.std.specs.Option.{option_map}
 use Rattle.gl_base.specs.Positions.{change_at}
 use Rattle.gl_base.specs.declared.limits.TheConstants.{LINES_MAX, PLACES}
@@ -17,6 +17,10 @@ timer_at lines place offset = slice_index_or lines (line_number place offset) No
 -- the table in which no line has a timer
 unfoldable pub no_timers : List (Option Timer)
 no_timers = replicate (PLACES * LINES_MAX) None
+
+-- the table of all lines, of which the first have a row; a line without a row has no timer
+unfoldable pub all_lines : List (Option Timer) → List (Option Timer)
+all_lines rows = rows ++ replicate (PLACES * LINES_MAX - length rows) None
 
 -- the table with the line's timer changed; a line without one stays without
 abbrev pub with_timer : (Timer → Timer) → ℕ → ℕ → List (Option Timer) → List (Option Timer)

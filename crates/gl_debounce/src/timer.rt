@@ -7,7 +7,7 @@ ghost use Rattle.gl_debounce.specs.Timer.{settled_at_raw, still, with_raw, witho
 use gl_base::{LINES_MAX, PLACES};
 
 /// How many lines there are: each place has room for `LINES_MAX`.
-pub(crate) const TABLE_SIZE: usize = PLACES as usize * LINES_MAX as usize;
+pub(crate) const TABLE_SIZE: u32 = PLACES as u32 * LINES_MAX;
 
 /// What is kept of a line that is debounced.
 #[derive(Clone, Copy, PartialEq, Eq, Debug)]
@@ -77,7 +77,7 @@ impl Timer {
 }
 
 /// The line with number `n`, if its deadline has come.
-pub(crate) fn fired_at(now: u64, n: usize, timer: Option<Timer>) -> Option<Fired>
+pub(crate) fn fired_at(now: u64, n: u32, timer: Option<Timer>) -> Option<Fired>
     requires { n < TABLE_SIZE }
     ensures { result ≡ fired_at now n timer }
 {
@@ -88,8 +88,8 @@ pub(crate) fn fired_at(now: u64, n: usize, timer: Option<Timer>) -> Option<Fired
             Some(deadline) => {
                 if deadline <= now {
                     Some(Fired {
-                        place: (n / LINES_MAX as usize) as u8,
-                        offset: (n % LINES_MAX as usize) as u32,
+                        place: (n / LINES_MAX) as u8,
+                        offset: n % LINES_MAX,
                         deadline,
                         level: timer.raw,
                         changed: timer.raw != timer.settled,
