@@ -1,5 +1,5 @@
 -- The tables of places that wait for a chip, and of one that has got its own.
-use Rattle.std.proofs.Common.{◌≡◌, ℕ, ◌-◌, ◌<◌, List, ap, ◌∙◌, [], ◌∷◌, ◌++◌, zero, suc, length, take, replicate, arith}
+use Rattle.std.proofs.Common.{◌≡◌, ℕ, ◌-◌, List, ap, ◌∙◌, [], ◌∷◌, ◌++◌, zero, suc, length, take, replicate, arith}
 use Rattle.std.proofs.Math.Seq.{take-nil}
 use Rattle.gl_bank.specs.Level.{first_levels}
 use Rattle.gl_bank.specs.declared.levels.Levels.{Levels}

@@ -1,6 +1,7 @@
 pub mod Earliest
 pub mod Firing
 pub mod GoingOn
+pub mod Joining
 pub mod Lookup
 pub mod Padding
 pub mod Ranks

@@ -1,5 +1,5 @@
 -- The deadlines of all lines, read off heap and table.
-use Rattle.std.proofs.Common.{ℕ, zero, suc, ◌≡◌, ◌+◌, ◌*◌, ◌<◌, ◌≤◌, List, [], ◌∷◌, ◌++◌, length, map, get_or, set, sum_by, Option, Some, None, refl, ap, sym, ◌∙◌, inl, inr, arith, length-set, get_or-set_same}
+use Rattle.std.proofs.Common.{ℕ, ◌≡◌, ◌+◌, ◌*◌, ◌<◌, ◌≤◌, List, [], ◌∷◌, ◌++◌, length, map, get_or, set, sum_by, Option, Some, None, refl, ap, sym, ◌∙◌, inl, inr, arith, length-set, get_or-set_same}
 use Rattle.std.proofs.lemmas.Bool.{cases_lt}
 use Rattle.std.proofs.lemmas.List.{get_or-map, get_or_past, length-map, map-append, map-set, set-get_or}
 use Rattle.gl_debounce.specs.declared.timer.TheConstants.{TABLE_SIZE}
@@ -10,7 +10,7 @@ use Rattle.gl_debounce.proofs.Ranks.{least}
 use Rattle.gl_debounce.proofs.Slots.{in_table}
 
 -- the deadline of a line, as the table tells it; a line past the end has none
-at_line : (heap : List Due) (slots : List (Option ℕ)) (n : ℕ) → get_or (deadlines_of heap slots) n None ≡ deadline_in heap (get_or slots n None)
+pub at_line : (heap : List Due) (slots : List (Option ℕ)) (n : ℕ) → get_or (deadlines_of heap slots) n None ≡ deadline_in heap (get_or slots n None)
 at_line heap slots n = elim (cases_lt n (length slots)) [
   | inl within ↦ get_or-map (deadline_in heap) slots n None None within
   | inr past ↦

@@ -1,6 +1,6 @@
 //! The deadlines of the lines, the first of them at hand.
 
-ghost use Rattle.std.specs.Prelude.{◌≡◌, ◌<◌, [], ◌∷◌, ◌++◌, IfOk, IsOkUnless, MatchOption, None, Some, length, slice_set, vec_capacity};
+ghost use Rattle.std.specs.Prelude.{◌≡◌, ◌<◌, [], ◌∷◌, ◌++◌, IfOk, IsOkUnless, MatchOption, None, Some, length, slice_index_or, slice_set, vec_capacity};
 ghost use Rattle.gl_debounce.specs.Order.{AreNone, IsFirst};
 
 use crate::due::Due;
@@ -62,6 +62,17 @@ impl Deadlines {
             return None;
         }
         Some(self.heap[0])
+    }
+
+    /// The deadline of a line, if it has one.
+    pub(crate) fn at(&self, line: u32) -> Option<u64>
+        requires { line < length self.now }
+        ensures { result ≡ slice_index_or self.now line None }
+    {
+        match self.slots[line as usize] {
+            None => None,
+            Some(at) => Some(self.heap[at as usize].deadline),
+        }
     }
 
     /// Takes the line's deadline away, if it has one.

@@ -1,36 +1,37 @@
 //! The timers of the lines, as far as lines have a row.
 
-ghost use Rattle.std.specs.Prelude.{◌≡◌, ◌*◌, ◌<◌, ◌≤◌, [], IfOk, IfSome, IsOkUnless, None, Some, length, map, slice_get, slice_index_or, slice_set, vec_capacity};
+ghost use Rattle.std.specs.Prelude.{◌≡◌, ◌<◌, ◌≤◌, [], IfOk, IfSome, IsOkUnless, None, Some, length, slice_get, slice_index_or, slice_set, vec_capacity};
 ghost use Rattle.gl_base.specs.declared.limits.TheConstants.{LINES_MAX, PLACES};
 ghost use Rattle.gl_debounce.specs.Fire.{fires};
-ghost use Rattle.gl_debounce.specs.Order.{deadline_of};
-ghost use Rattle.gl_debounce.specs.Timer.{all_lines};
+ghost use Rattle.gl_debounce.specs.Order.{AreRows};
+ghost use Rattle.gl_debounce.specs.Timer.{all_lines, timers_of};
 
 use crate::deadlines::Deadlines;
-use crate::timer::{Fired, TABLE_SIZE, Timer, fired_at};
+use crate::timer::{Fired, TABLE_SIZE, Timer, TimerLevels, fired_at};
 use gl_base::{Errno, push_within};
 use std::alloc::Global;
 use std::marker::Model;
 
 /// A row for each of the first lines, by place and then by offset: the line's timer, if it has one. Contracts
-/// see the list of them. There is room for the rows of all lines, and a row is made where it is wanted.
+/// see the list of them. There is room for the rows of all lines, and a row is made where it is wanted. A
+/// deadline is kept once, in the heap.
 #[derive(Drop)]
 pub(crate) struct Rows {
-    timers: Vec<Option<Timer>>,
+    levels: Vec<Option<TimerLevels>>,
     deadlines: Deadlines,
 }
 
 impl Model for Rows {
-    ghost use Rattle.std.specs.Prelude.{◌≡◌, ◌≤◌, List, Option, length, map, vec_capacity};
-    ghost use Rattle.gl_debounce.specs.Order.{deadline_of};
+    ghost use Rattle.std.specs.Prelude.{List, Option, vec_capacity};
+    ghost use Rattle.gl_debounce.specs.Order.{AreRows};
+    ghost use Rattle.gl_debounce.specs.Timer.{timers_of};
     ghost use Rattle.gl_debounce.specs.declared.timer.Timer.{Timer};
-    ghost use Rattle.gl_debounce.specs.declared.timer.TheConstants.{TABLE_SIZE};
 
     ghost Value = { List (Option Timer) };
 
-    ghost view = { λ r. r.timers.items };
+    ghost view = { λ r. timers_of r.levels.items r.deadlines };
 
-    ghost invariant = { λ r. (vec_capacity r.timers ≡ TABLE_SIZE) × (length r.timers.items ≤ TABLE_SIZE) × (r.deadlines ≡ map deadline_of r.timers.items) };
+    ghost invariant = { λ r. AreRows r.levels.items r.deadlines (vec_capacity r.levels) };
 }
 
 impl Rows {
@@ -39,16 +40,16 @@ impl Rows {
         ensures ok { IfOk result (λ rows. rows ≡ []) }
         ensures memory_alone { IsOkUnless result Errno.NoMemory }
     {
-        let timers = Vec::with_capacity(alloc, TABLE_SIZE as usize)?;
+        let levels = Vec::with_capacity(alloc, TABLE_SIZE as usize)?;
         let deadlines = Deadlines::new(alloc)?;
-        Ok(Rows { timers, deadlines })
+        Ok(Rows { levels, deadlines })
     }
 
     /// There are no more rows than lines. The call does nothing.
     pub(crate) fn are_within(&self)
         ensures { length self.now ≤ TABLE_SIZE }
     {
-        let _count = self.timers.len();
+        let _count = self.levels.len();
     }
 
     /// Each of the first lines, so many, has a row from now on. The new ones have no timer.
@@ -57,7 +58,7 @@ impl Rows {
         ensures same { all_lines self.new ≡ all_lines self.old }
         ensures enough { count ≤ length self.new }
     {
-        make_rows(&mut self.timers, &mut self.deadlines, count);
+        make_rows(&mut self.levels, &mut self.deadlines, count);
     }
 
     /// The timer of a line, if it has one.
@@ -65,7 +66,14 @@ impl Rows {
         ensures timer { result ≡ slice_index_or self.now line None }
         ensures within { IfSome result (λ timer. line < length self.now) }
     {
-        timer_at(&self.timers, line)
+        match levels_at(&self.levels, line) {
+            None => None,
+            Some(levels) => Some(Timer {
+                raw: levels.raw,
+                settled: levels.settled,
+                deadline: self.deadlines.at(line),
+            }),
+        }
     }
 
     /// The line has this timer from now on.
@@ -73,11 +81,17 @@ impl Rows {
         requires { line < length self.old }
         ensures { self.new ≡ slice_set self.old line (Some timer) }
     {
-        self.timers[line as usize] = Some(timer);
-        match timer.deadline {
-            None => self.deadlines.clear(line),
-            Some(deadline) => self.deadlines.set(line, deadline),
-        }
+        let levels = TimerLevels {
+            raw: timer.raw,
+            settled: timer.settled,
+        };
+        put(
+            &mut self.levels,
+            &mut self.deadlines,
+            line,
+            levels,
+            timer.deadline,
+        );
     }
 
     /// The first line whose deadline has come, by deadline, place and offset. None where no deadline has come.
@@ -86,50 +100,56 @@ impl Rows {
         ensures place { IfSome result (λ fired. fired.place < PLACES) }
         ensures offset { IfSome result (λ fired. fired.offset < LINES_MAX) }
     {
-        first_due(&self.timers, &self.deadlines, now)
+        match self.deadlines.first() {
+            None => None,
+            Some(due) => fired_at(now, due.line, self.timer(due.line)),
+        }
     }
 }
 
 /// Makes rows until there are so many.
-fn make_rows(timers: &mut Vec<Option<Timer>>, deadlines: &mut Deadlines, count: u32)
+fn make_rows(levels: &mut Vec<Option<TimerLevels>>, deadlines: &mut Deadlines, count: u32)
     requires count { count ≤ TABLE_SIZE }
-    requires room { vec_capacity timers.old ≡ TABLE_SIZE }
-    requires few { length timers.old.items ≤ TABLE_SIZE }
-    requires deadlines { deadlines.old ≡ map deadline_of timers.old.items }
-    ensures same { all_lines timers.new.items ≡ all_lines timers.old.items }
-    ensures enough { count ≤ length timers.new.items }
-    ensures few { length timers.new.items ≤ TABLE_SIZE }
-    ensures deadlines { deadlines.new ≡ map deadline_of timers.new.items }
-    ensures room { vec_capacity timers.new ≡ vec_capacity timers.old }
+    requires rows { AreRows levels.old.items deadlines.old (vec_capacity levels.old) }
+    ensures same { all_lines (timers_of levels.new.items deadlines.new) ≡ all_lines (timers_of levels.old.items deadlines.old) }
+    ensures enough { count ≤ length levels.new.items }
+    ensures rows { AreRows levels.new.items deadlines.new (vec_capacity levels.new) }
 {
-    while timers.len() < count as usize {
-        push_within(timers, None);
+    while levels.len() < count as usize {
+        push_within(levels, None);
         deadlines.add_row();
     }
 }
 
-/// The timer of a line, if it has one.
-fn timer_at(timers: &[Option<Timer>], line: u32) -> Option<Timer>
-    ensures timer { result ≡ slice_index_or timers.now line None }
-    ensures within { IfSome result (λ timer. line < length timers.now) }
+/// The line has these levels and this deadline from now on.
+fn put(
+    levels: &mut Vec<Option<TimerLevels>>,
+    deadlines: &mut Deadlines,
+    line: u32,
+    changed: TimerLevels,
+    deadline: Option<u64>,
+)
+    requires line { line < length levels.old.items }
+    requires rows { AreRows levels.old.items deadlines.old (vec_capacity levels.old) }
+    ensures levels { levels.new.items ≡ slice_set levels.old.items line (Some changed) }
+    ensures deadlines { deadlines.new ≡ slice_set deadlines.old line deadline }
+    ensures capacity { vec_capacity levels.new ≡ vec_capacity levels.old }
 {
-    if (line as usize) < timers.len() {
-        timers[line as usize]
-    } else {
-        None
+    levels[line as usize] = Some(changed);
+    match deadline {
+        None => deadlines.clear(line),
+        Some(deadline) => deadlines.set(line, deadline),
     }
 }
 
-/// The first line whose deadline has come.
-fn first_due(timers: &[Option<Timer>], deadlines: &Deadlines, now: u64) -> Option<Fired>
-    requires lines { length timers.now ≤ PLACES * LINES_MAX }
-    requires deadlines { deadlines.now ≡ map deadline_of timers.now }
-    ensures first { result ≡ slice_get (fires now timers.now) 0 }
-    ensures place { IfSome result (λ fired. fired.place < PLACES) }
-    ensures offset { IfSome result (λ fired. fired.offset < LINES_MAX) }
+/// The levels of a line, if it is debounced.
+fn levels_at(levels: &[Option<TimerLevels>], line: u32) -> Option<TimerLevels>
+    ensures levels { result ≡ slice_index_or levels.now line None }
+    ensures within { IfSome result (λ levels_there. line < length levels.now) }
 {
-    match deadlines.first() {
-        None => None,
-        Some(due) => fired_at(now, due.line, timers[due.line as usize]),
+    if (line as usize) < levels.len() {
+        levels[line as usize]
+    } else {
+        None
     }
 }

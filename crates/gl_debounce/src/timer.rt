@@ -20,6 +20,15 @@ pub struct Timer {
     pub deadline: Option<u64>,
 }
 
+/// The levels of a line that is debounced: its timer but for the deadline.
+#[derive(Clone, Copy, PartialEq, Eq, Debug)]
+pub(crate) struct TimerLevels {
+    /// The line's level.
+    pub(crate) raw: bool,
+    /// The level that it settled at last.
+    pub(crate) settled: bool,
+}
+
 /// A line whose level has settled.
 #[derive(Clone, Copy, PartialEq, Eq, Debug)]
 pub struct Fired {

@@ -1,29 +1,22 @@
-use Rattle.std.proofs.Common.{ℕ, ◌≡◌, ◌≤◌, List, length, set, Option, Some, None, ap, sym, ◌∙◌, arith, length-set}
+use Rattle.std.proofs.Common.{◌≡◌, List, length, set, Option, Some, ap, sym, ◌∙◌, arith, vec_capacity}
 use Rattle.gl_debounce.specs.declared.timer.Timer.{Timer}
-use Rattle.gl_debounce.specs.declared.timer.TheConstants.{TABLE_SIZE}
-use Rattle.gl_debounce.specs.Order.{deadline_of}
-use Rattle.gl_debounce.proofs.Lookup.{goes_with}
+use Rattle.gl_debounce.specs.declared.timer.TimerLevels.{TimerLevels}
+use Rattle.gl_debounce.proofs.Joining.{length-timers_of, rows_put, timer_put}
 use Rattle.gl_debounce.proofs.rows.Rows.put.Goals as goal
 
-few : (rows : List (Option Timer)) (n : ℕ) (timer : Option Timer) → length rows ≤ TABLE_SIZE → length (set rows n timer) ≤ TABLE_SIZE
-few rows n timer le = omega (arith, length-set rows n timer)
+pub put-requires-clause-line : goal.put-requires-clause-line
+put-requires-clause-line c =
+    let long : length c.args.self.now ≡ length c.self.inside.levels.items = sym (ap length c.self.view_is) ∙ length-timers_of c.self.inside.levels.items c.self.inside.deadlines c.self.invariant.as_many in
+    omega (arith, c.requires)
 
 pub invariant_of-self : goal.invariant_of-self
 invariant_of-self c =
-    let rows : List (Option Timer) = c.self.inside.timers.items in
-    let timer : Option Timer = Some c.args.timer in
-    let deadline : None ≡ deadline_of timer = sym c.in-None.is in (
-      c.self.invariant.0,
-      few rows c.args.line timer c.self.invariant.1,
-      goes_with rows c.self.inside.deadlines c.clear.new.self c.args.line timer c.self.invariant.2 (c.clear.ensures ∙ ap (set c.self.inside.deadlines c.args.line) deadline),
-    )
+    let levels : TimerLevels = record { raw = c.args.timer.raw; settled = c.args.timer.settled } in
+    rows_put c.self.inside.levels.items c.put.new.levels.items c.self.inside.deadlines c.put.new.deadlines (vec_capacity c.self.inside.levels) (vec_capacity c.put.new.levels) c.args.line levels c.args.timer.deadline
+    c.self.invariant c.put.ensures.levels c.put.ensures.deadlines c.put.ensures.capacity
 
-pub invariant_of-self-in-Some : goal.invariant_of-self-in-Some
-invariant_of-self-in-Some c =
-    let rows : List (Option Timer) = c.self.inside.timers.items in
-    let timer : Option Timer = Some c.args.timer in
-    let deadline : Some c.in-Some.deadline ≡ deadline_of timer = sym c.in-Some.is in (
-      c.self.invariant.0,
-      few rows c.args.line timer c.self.invariant.1,
-      goes_with rows c.self.inside.deadlines c.set.new.self c.args.line timer c.self.invariant.2 (c.set.ensures ∙ ap (set c.self.inside.deadlines c.args.line) deadline),
-    )
+pub returns : goal.returns
+returns c =
+    let levels : TimerLevels = record { raw = c.args.timer.raw; settled = c.args.timer.settled } in
+    timer_put c.self.inside.levels.items c.put.new.levels.items c.self.inside.deadlines c.put.new.deadlines c.args.line levels c.args.timer.deadline c.self.invariant.as_many c.put.ensures.levels c.put.ensures.deadlines
+    ∙ ap (λ (ts : List (Option Timer)). set ts c.args.line (Some c.args.timer)) c.self.view_is
