@@ -1,33 +1,51 @@
 //! The levels of the lines of one chip, by offset.
-ghost use Rattle.std.specs.Prelude.{◌≡◌, ◌<◌, length, take, replicate, IfOk, IsOkUnless};
+ghost use Rattle.std.specs.Prelude.{◌≡◌, ◌-◌, ◌<◌, ◌≤◌, ◌++◌, length, take, replicate, IfOk, IsOkUnless};
+ghost use Rattle.gl_base.specs.declared.limits.TheConstants.{LINES_MAX};
 ghost use Rattle.gl_base.specs.Positions.{change_at};
 ghost use Rattle.gl_bank.specs.Level.{first_levels, levels_at, level, logical, pulled, driven, change_between, configured, released};
 
 use crate::levels::{Change, Levels, change_between, configure, flip, level_of};
-use gl_base::{Errno, Settings};
+use gl_base::{Errno, LINES_MAX, Settings};
 use std::alloc::Global;
 use std::marker::Model;
 
-/// The levels of a chip's lines, by offset. Contracts see the list of them.
+/// The levels of a chip's lines, by offset. Contracts see the list of them. There is room for as many lines as a
+/// chip has at most.
 #[derive(Drop)]
 pub struct Bank {
     lines: Vec<Levels>,
 }
 
 impl Model for Bank {
-    ghost use Rattle.std.specs.Prelude.{List};
+    ghost use Rattle.std.specs.Prelude.{◌≤◌, List, vec_capacity};
+    ghost use Rattle.gl_base.specs.declared.limits.TheConstants.{LINES_MAX};
     ghost use Rattle.gl_bank.specs.declared.levels.Levels.{Levels};
 
     ghost Value = { List Levels };
 
     ghost view = { λ b. b.lines.items };
+
+    ghost invariant = { λ b. LINES_MAX ≤ vec_capacity b.lines };
 }
 
 impl Bank {
-    /// A bank of so many lines: inputs that nobody holds, pulled down.
+    /// A bank of so many lines: inputs that nobody holds, pulled down. It takes the memory of `LINES_MAX` lines, and
+    /// writes to that of its own alone.
     pub fn new(alloc: Global, lines: u32) -> Result<Bank, Errno>
+        requires { lines ≤ LINES_MAX }
         ensures ok { IfOk result (λ bank. bank ≡ replicate lines first_levels) }
         ensures memory_alone { IsOkUnless result Errno.NoMemory }
+    {
+        let rows = Vec::with_capacity(alloc, LINES_MAX as usize)?;
+        let mut bank = Bank { lines: rows };
+        bank.fit(lines);
+        Ok(bank)
+    }
+
+    /// Keeps the first lines, so many; where there are fewer, new ones come behind them. It takes no memory.
+    pub fn fit(&mut self, lines: u32)
+        requires { lines ≤ LINES_MAX }
+        ensures { self.new ≡ take lines self.old ++ replicate (lines - length self.old) first_levels }
     {
         let first = Levels {
             held: false,
@@ -37,15 +55,10 @@ impl Bank {
             flags: 0,
             debounce_us: 0,
         };
-        let lines = vec![in alloc; first; lines as usize]?;
-        Ok(Bank { lines })
-    }
-
-    /// Keeps the first lines, so many. It takes no memory.
-    pub fn fit(&mut self, lines: u32)
-        ensures { self.new ≡ take lines self.old }
-    {
-        self.lines.truncate(lines as usize);
+        match self.lines.resize(lines as usize, first) {
+            Ok(()) => {}
+            Err(_) => {}
+        }
     }
 
     /// How a line stands.

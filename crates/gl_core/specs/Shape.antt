@@ -1,13 +1,12 @@
 -- What is true of the core's tables at every moment: each chip has its origin, and tables of as many lines as it has. And the
 -- tables that wait for a chip.
-use Rattle.std.specs.Prelude.{◌≡◌, ℕ, ◌+◌, ◌^◌, ◌<◌, ◌≤◌, List, length, take, slice_index, slice_index_or}
+use Rattle.std.specs.Prelude.{◌≡◌, ℕ, ◌+◌, ◌^◌, ◌<◌, ◌≤◌, List, length, slice_index, slice_index_or}
 use Rattle.gl_base.specs.declared.lines.Lines.{Lines}
 use Rattle.gl_base.specs.declared.limits.TheConstants.{LINES_MAX, PLACES}
 use Rattle.gl_registry.specs.Chips.{chip_at}
 use Rattle.gl_registry.specs.declared.registry.Chip.{Chip}
 use Rattle.gl_model.specs.declared.place.Origin.{Origin}
 use Rattle.gl_model.specs.declared.place.Place.{Place}
-use Rattle.gl_model.specs.Chips.{new_place}
 use Rattle.gl_model.specs.Places.{no_place}
 use Rattle.gl_base.specs.Positions.{change_at}
 use Rattle.gl_base.specs.Refusals.{unless}
@@ -60,17 +59,9 @@ pub record HasPlace (lines : ℕ) (places : List Place) (place : ℕ) : Type 0 w
   pub place_within : place < length places
   pub within : HasLines lines (slice_index_or places place no_place)
 
--- how many lines the tables have that wait for a chip
-unfoldable pub lines_max : ℕ
-lines_max = LINES_MAX
-
--- the tables of a place, for so many lines of it
-abbrev pub fitted : ℕ → Place → Place
-fitted lines place = record place { descs = take lines place.descs; bank = take lines place.bank; irqs = take lines place.irqs }
-
--- tables that wait for a chip are new
+-- tables that wait for a chip have no lines
 abbrev pub AreNew : List Place → Type 0
-AreNew places = (k : ℕ) (d : Place) → k < length places → slice_index_or places k d ≡ new_place lines_max
+AreNew places = (k : ℕ) (d : Place) → k < length places → slice_index_or places k d ≡ no_place
 
 -- the tables that wait are new, and there is room for them among the others
 pub record IsSpare (used spare : List Place) (capacity : ℕ) : Type 0 where

@@ -19,13 +19,13 @@ ghost use Rattle.gl_model.specs.Values.{driven_with};
 ghost use Rattle.gl_core.specs.Live.{furnished};
 ghost use Rattle.gl_core.specs.Levels.{with_pull};
 ghost use Rattle.gl_model.specs.Pins.{pin_refusal};
-ghost use Rattle.gl_core.specs.Shape.{AreNew, HasLine, HasPlace, fitted, lines_max, with_irq_done, with_pin_done};
+ghost use Rattle.gl_core.specs.Shape.{AreNew, HasLine, HasPlace, with_irq_done, with_pin_done};
 
 use crate::pins::pin_at;
 use crate::plan::Plan;
 use gl_bank::{Bank, Change, flip};
 use gl_base::{
-    Errno, IrqDo, Kind, LINES_MAX, Lines, Name, PLACES, PinDo, Settings, flag, has_bit, push_within,
+    Errno, IrqDo, Kind, Lines, Name, PLACES, PinDo, Settings, flag, has_bit, push_within,
 };
 use gl_desc::{Descs, Holder};
 use gl_irq::{IrqLine, Irqs};
@@ -53,16 +53,15 @@ impl Model for Places {
     ghost invariant = { λ p. IsSpare p.used.items p.spare.items (vec_capacity p.used) };
 }
 
-/// The tables of a place that waits for its chip.
-#[tactic(auto, unfolding(crate::specs::Shape::lines_max))]
+/// The tables of a place that waits for its chip: without a line, and with room for as many as a chip can have.
 fn waiting_place(alloc: Global) -> Result<Place, Errno>
-    ensures ok { IfOk result (λ place. place ≡ new_place lines_max) }
+    ensures ok { IfOk result (λ place. place ≡ no_place) }
     ensures memory_alone { IsOkUnless result Errno.NoMemory }
 {
     Ok(Place {
-        descs: Descs::new(alloc, LINES_MAX)?,
-        bank: Bank::new(alloc, LINES_MAX)?,
-        irqs: Irqs::new(alloc, LINES_MAX)?,
+        descs: Descs::new(alloc, 0)?,
+        bank: Bank::new(alloc, 0)?,
+        irqs: Irqs::new(alloc, 0)?,
         pins: Pins::new(alloc)?,
     })
 }

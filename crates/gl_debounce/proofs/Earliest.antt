@@ -68,7 +68,7 @@ unfolding key
 key_le a b deadline n k an bk same le = omega arith
 
 -- none fires where no line has a deadline
-pub none_fires : (now : ℕ) (lines : List (Option Timer)) (ds : List (Option ℕ)) → length lines ≡ TABLE_SIZE → ds ≡ map deadline_of lines → AreNone ds → slice_get (fires now lines) 0 ≡ None
+pub none_fires : (now : ℕ) (lines : List (Option Timer)) (ds : List (Option ℕ)) → length lines ≤ TABLE_SIZE → ds ≡ map deadline_of lines → AreNone ds → slice_get (fires now lines) 0 ≡ None
 none_fires now lines ds whole is none = by_first (slice_get (fires now lines) 0) refl
   where
     by_first : (o : Option Fired) → slice_get (fires now lines) 0 ≡ o → o ≡ None
@@ -83,7 +83,7 @@ none_fires now lines ds whole is none = by_first (slice_get (fires now lines) 0)
         cc
 
 -- the line with the first of all deadlines fires first, if that has come
-pub first_fires : (now : ℕ) (lines : List (Option Timer)) (ds : List (Option ℕ)) (d : Due) → length lines ≡ TABLE_SIZE → ds ≡ map deadline_of lines → IsFirst ds d
+pub first_fires : (now : ℕ) (lines : List (Option Timer)) (ds : List (Option ℕ)) (d : Due) → length lines ≤ TABLE_SIZE → ds ≡ map deadline_of lines → IsFirst ds d
     → slice_get (fires now lines) 0 ≡ fired_at now d.line (get_or lines d.line None)
 first_fires now lines ds d whole is first = by_first (slice_get (fires now lines) 0) refl
   where
@@ -156,7 +156,7 @@ first_fires now lines ds d whole is first = by_first (slice_get (fires now lines
                   sym (ap (λ ls. get_or ls d.line None) g.split ∙ get_or-append_right g.before (Some g.timer ∷ g.behind) m d.line None refl (omega arith)
                   ∙ ap (λ k. get_or (Some g.timer ∷ g.behind) k None) over) in
                   let behind : (comes_before x y ≡ true) × (comes_before y x ≡ false) =
-                  due_at_position (λ w. (comes_before x w ≡ true) × (comes_before w x ≡ false)) now (0 + m + 1) g.behind j y g.later (omega arith)
+                  due_at_position (λ w. (comes_before x w ≡ true) × (comes_before w x ≡ false)) now (0 + m + 1) g.behind j y g.later (omega (arith, in_lines))
                   (ap (λ k. fired_at now k (get_or g.behind j None)) number ∙ ap (fired_at now d.line) line ∙ is_y) in
                   earlier_not x y 0 d.line le g.lies y_lies behind)
             ]

@@ -144,7 +144,7 @@ Each-append : (P : Fired → Type 0) (xs ys : List Fired) → Each P xs → Each
 Each-append P [] ys a b = b
 Each-append P (x ∷ xs) ys a b = (a.0, Each-append P xs ys a.1 b)
 
-due-append : (now n : ℕ) (before behind : List (Option Timer)) → due now n (before ++ behind) ≡ due now n before ++ due now (n + length before) behind
+pub due-append : (now n : ℕ) (before behind : List (Option Timer)) → due now n (before ++ behind) ≡ due now n before ++ due now (n + length before) behind
 due-append now n [] behind = let e : n ≡ n + 0 = omega arith in ap (λ k. due now k behind) e
 due-append now n (timer ∷ before) behind =
     let e : n + 1 + length before ≡ n + suc (length before) = omega arith in

@@ -1,8 +1,7 @@
 -- The deadlines of all lines, read off heap and table.
-use Rattle.std.proofs.Common.{ℕ, zero, suc, ◌≡◌, ◌+◌, ◌*◌, ◌<◌, ◌≤◌, List, [], ◌∷◌, length, map, get_or, set, replicate, sum_by, Option, Some, None, refl, ap, sym, ◌∙◌, inl, inr, arith, length-set, get_or-set_same}
+use Rattle.std.proofs.Common.{ℕ, ◌≡◌, ◌+◌, ◌*◌, ◌<◌, ◌≤◌, List, [], ◌∷◌, ◌++◌, length, map, get_or, set, sum_by, Option, Some, None, refl, ap, sym, ◌∙◌, inl, inr, arith, length-set, get_or-set_same}
 use Rattle.std.proofs.lemmas.Bool.{cases_lt}
-use Rattle.std.proofs.lemmas.List.{get_or-map, get_or_past, length-map, length-replicate, map-set, set-get_or}
-use Rattle.std.proofs.lemmas.List.Sums.{sum_by-cons}
+use Rattle.std.proofs.lemmas.List.{get_or-map, get_or_past, length-map, map-append, map-set, set-get_or}
 use Rattle.gl_debounce.specs.declared.timer.TheConstants.{TABLE_SIZE}
 use Rattle.gl_debounce.specs.declared.due.Due.{Due}
 use Rattle.gl_debounce.specs.declared.timer.Timer.{Timer}
@@ -11,7 +10,7 @@ use Rattle.gl_debounce.proofs.Ranks.{least}
 use Rattle.gl_debounce.proofs.Slots.{in_table}
 
 -- the deadline of a line, as the table tells it; a line past the end has none
-at_line : (heap : List Due) (slots : List (Option ℕ)) (n : ℕ) → get_or (deadlines_of heap slots) n None ≡ deadline_in heap (get_or slots n None)
+pub at_line : (heap : List Due) (slots : List (Option ℕ)) (n : ℕ) → get_or (deadlines_of heap slots) n None ≡ deadline_in heap (get_or slots n None)
 at_line heap slots n = elim (cases_lt n (length slots)) [
   | inl within ↦ get_or-map (deadline_in heap) slots n None None within
   | inr past ↦
@@ -48,13 +47,13 @@ first_due heap slots x agree order some is = record {
         let here : rank x ≡ rank_at heap 0 = ap rank is in
         omega (arith, stood.1)
 
--- no line stands in the table
-none_at : (heap : List Due) (n : ℕ) → map (deadline_in heap) (replicate n None) ≡ replicate n None
-none_at heap zero = refl
-none_at heap (suc n) = ap (λ (ds : List (Option ℕ)). None ∷ ds) (none_at heap n)
+-- a table without rows tells of none
+pub no_deadlines : (heap : List Due) (slots : List (Option ℕ)) → slots ≡ [] → deadlines_of heap slots ≡ []
+no_deadlines heap slots is = ap (map (deadline_in heap)) is
 
-pub no_deadlines : (heap : List Due) (slots : List (Option ℕ)) (n : ℕ) → slots ≡ replicate n None → deadlines_of heap slots ≡ replicate n None
-no_deadlines heap slots n is = ap (map (deadline_in heap)) is ∙ none_at heap n
+-- a row more tells of none
+pub deadlines_row : (heap : List Due) (slots : List (Option ℕ)) → deadlines_of heap (slots ++ None ∷ []) ≡ deadlines_of heap slots ++ None ∷ []
+deadlines_row heap slots = map-append (deadline_in heap) slots (None ∷ [])
 
 -- a line that has no place in the table has no deadline, so nothing is taken away
 pub nothing_cleared : (heap : List Due) (slots : List (Option ℕ)) (n : ℕ) → get_or slots n None ≡ None → set (deadlines_of heap slots) n None ≡ deadlines_of heap slots
@@ -70,41 +69,40 @@ free_since heap slots n none = by_slot (get_or slots n None) refl (sym (at_line 
     by_slot None at there = at
     by_slot (Some k) at there = cc
 
-pub free_cleared : (heap : List Due) (slots : List (Option ℕ)) (ds : List (Option ℕ)) (n : ℕ) → Agree heap slots → n < TABLE_SIZE → deadlines_of heap slots ≡ set ds n None → get_or slots n None ≡ None
-free_cleared heap slots ds n agree within is =
+pub free_cleared : (heap : List Due) (slots : List (Option ℕ)) (ds : List (Option ℕ)) (n : ℕ) → n < length ds → deadlines_of heap slots ≡ set ds n None → get_or slots n None ≡ None
+free_cleared heap slots ds n within is = free_since heap slots n (ap (λ es. get_or es n None) is ∙ get_or-set_same ds n None None within)
+
+-- the line has its row still
+pub row_stays : (heap : List Due) (slots : List (Option ℕ)) (ds : List (Option ℕ)) (n : ℕ) → n < length ds → deadlines_of heap slots ≡ set ds n None → n < length slots
+row_stays heap slots ds n within is =
     let long : length (set ds n None) ≡ length ds = length-set ds n None in
     let as_many : length (deadlines_of heap slots) ≡ length slots = length-map slots (deadline_in heap) in
     let same : length (deadlines_of heap slots) ≡ length (set ds n None) = ap length is in
-    free_since heap slots n (ap (λ es. get_or es n None) is ∙ get_or-set_same ds n None None (omega (arith, agree.size)))
+    omega arith
+
+-- as many lines have a row as deadlines are told
+pub rows_told : (heap : List Due) (slots : List (Option ℕ)) (ds : List (Option ℕ)) → deadlines_of heap slots ≡ ds → length ds ≡ length slots
+rows_told heap slots ds is = sym (ap length is) ∙ length-map slots (deadline_in heap)
 
 -- the deadlines go with the timers
 pub goes_with : (lines : List (Option Timer)) (ds after : List (Option ℕ)) (n : ℕ) (timer : Option Timer) → ds ≡ map deadline_of lines → after ≡ set ds n (deadline_of timer)
     → after ≡ map deadline_of (set lines n timer)
 goes_with lines ds after n timer is so = so ∙ ap (λ es. set es n (deadline_of timer)) is ∙ sym (map-set deadline_of lines n timer)
 
-none_of : (n : ℕ) → map deadline_of (replicate n None) ≡ replicate n None
-none_of zero = refl
-none_of (suc n) = ap (λ (ds : List (Option ℕ)). None ∷ ds) (none_of n)
+pub goes_with_none : (lines : List (Option Timer)) (ds : List (Option ℕ)) → lines ≡ [] → ds ≡ [] → ds ≡ map deadline_of lines
+goes_with_none lines ds are is = is ∙ sym (ap (map deadline_of) are)
 
-pub goes_with_none : (lines : List (Option Timer)) (ds : List (Option ℕ)) (n : ℕ) → lines ≡ replicate n None → ds ≡ replicate n None → ds ≡ map deadline_of lines
-goes_with_none lines ds n are is = is ∙ sym (ap (map deadline_of) are ∙ none_of n)
+-- and with a row more
+pub goes_with_row : (lines : List (Option Timer)) (ds : List (Option ℕ)) → ds ≡ map deadline_of lines → ds ++ None ∷ [] ≡ map deadline_of (lines ++ None ∷ [])
+goes_with_row lines ds is = ap (λ (es : List (Option ℕ)). es ++ None ∷ []) is ∙ sym (map-append deadline_of lines (None ∷ []))
 
 -- at first nothing stands in the heap
-none_read : (n m : ℕ) → get_or (replicate {A = Option ℕ} n None) m None ≡ None
-none_read zero m = refl
-none_read (suc n) zero = refl
-none_read (suc n) (suc m) = none_read n m
-
-no_ones : (n : ℕ) → sum_by one (replicate n None) ≡ 0
-no_ones zero = refl
-no_ones (suc n) = omega (arith, sum_by-cons one None (replicate n None), no_ones n)
-
-pub empty_agrees : (heap : List Due) (slots : List (Option ℕ)) (n : ℕ) → n ≡ TABLE_SIZE → heap ≡ [] → slots ≡ replicate n None → Agree heap slots
-empty_agrees heap slots n whole is are = record {
-  size = ap length are ∙ length-replicate n None ∙ whole;
+pub empty_agrees : (heap : List Due) (slots : List (Option ℕ)) → heap ≡ [] → slots ≡ [] → Agree heap slots
+empty_agrees heap slots is are = record {
+  size = omega (arith, ap length are);
   told = λ k below. absurd (omega (arith, ap length is));
-  stands = λ line k there. absurd (none_some k (sym (ap (λ es. get_or es line None) are ∙ none_read n line) ∙ there));
-  counted = ap length is ∙ sym (ap (sum_by one) are ∙ no_ones n);
+  stands = λ line k there. absurd (none_some k (sym (get_or_past slots line None (omega (arith, ap length are))) ∙ there));
+  counted = ap length is ∙ sym (ap (sum_by one) are);
 }
   where
     none_some : (k : ℕ) → None ≡ Some k → ⊥

@@ -1,10 +1,11 @@
 -- The timers of the lines, after the kernel's software debouncing of the GPIO character device. A table has
 -- a row for each line of each place, by place and then by offset; a line that never was debounced has no timer.
-use Rattle.std.specs.Prelude.{ℕ, Bool, ◌+◌, ◌*◌, List, Option, Some, None, replicate, slice_index_or, slice_set}
+use Rattle.std.specs.Prelude.{ℕ, Bool, ◌+◌, ◌-◌, ◌*◌, List, [], ◌∷◌, ◌++◌, length, Option, Some, None, replicate, slice_index_or, slice_set}
 use Rattle.std.specs.Option.{option_map}
 use Rattle.gl_base.specs.Positions.{change_at}
 use Rattle.gl_base.specs.declared.limits.TheConstants.{LINES_MAX, PLACES}
 use Rattle.gl_debounce.specs.declared.timer.Timer.{Timer}
+use Rattle.gl_debounce.specs.declared.timer.TimerLevels.{TimerLevels}
 
 -- where the line stands in the table
 abbrev pub line_number : ℕ → ℕ → ℕ
@@ -17,6 +18,21 @@ timer_at lines place offset = slice_index_or lines (line_number place offset) No
 -- the table in which no line has a timer
 unfoldable pub no_timers : List (Option Timer)
 no_timers = replicate (PLACES * LINES_MAX) None
+
+-- the timer of a line with these levels, if it is debounced, and this deadline
+abbrev pub timer_with : Option TimerLevels → Option ℕ → Option Timer
+timer_with None deadline = None
+timer_with (Some levels) deadline = Some (record { raw = levels.raw; settled = levels.settled; deadline = deadline })
+
+-- the timers of lines with these levels and these deadlines
+abbrev pub timers_of : List (Option TimerLevels) → List (Option ℕ) → List (Option Timer)
+timers_of [] deadlines = []
+timers_of (levels ∷ others) [] = []
+timers_of (levels ∷ others) (deadline ∷ deadlines) = timer_with levels deadline ∷ timers_of others deadlines
+
+-- the table of all lines, of which the first have a row; a line without a row has no timer
+unfoldable pub all_lines : List (Option Timer) → List (Option Timer)
+all_lines rows = rows ++ replicate (PLACES * LINES_MAX - length rows) None
 
 -- the table with the line's timer changed; a line without one stays without
 abbrev pub with_timer : (Timer → Timer) → ℕ → ℕ → List (Option Timer) → List (Option Timer)

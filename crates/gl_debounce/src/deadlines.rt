@@ -1,22 +1,22 @@
-//! The deadlines of all lines, the first of them at hand.
+//! The deadlines of the lines, the first of them at hand.
 
-ghost use Rattle.std.specs.Prelude.{◌≡◌, ◌<◌, IfOk, IsOkUnless, MatchOption, None, Some, length, replicate, slice_set, vec_capacity};
+ghost use Rattle.std.specs.Prelude.{◌≡◌, ◌<◌, [], ◌∷◌, ◌++◌, IfOk, IsOkUnless, MatchOption, None, Some, length, slice_index_or, slice_set, vec_capacity};
 ghost use Rattle.gl_debounce.specs.Order.{AreNone, IsFirst};
 
 use crate::due::Due;
 use crate::heap::{add, remove_at};
 use crate::timer::TABLE_SIZE;
-use gl_base::Errno;
+use gl_base::{Errno, push_within};
 use std::alloc::Global;
 use std::marker::Model;
 
-/// The deadline of each line, if it has one. Contracts see the list of them by line. They stand in a heap,
-/// and a table tells where each line stands in it: so the first is found at once, and a deadline comes and
-/// goes in as many steps as the heap is deep.
+/// The deadline of each line that has a row, if it has one. Contracts see the list of them by line. They stand
+/// in a heap, and a table tells where each line stands in it: so the first is found at once, and a deadline
+/// comes and goes in as many steps as the heap is deep.
 #[derive(Drop)]
 pub(crate) struct Deadlines {
     heap: Vec<Due>,
-    slots: Vec<Option<usize>>,
+    slots: Vec<Option<u32>>,
 }
 
 impl Model for Deadlines {
@@ -31,18 +31,27 @@ impl Model for Deadlines {
     ghost view = { λ d. deadlines_of d.heap.items d.slots.items };
 
     ghost invariant = { λ d. (vec_capacity d.heap ≡ TABLE_SIZE) × Agree d.heap.items d.slots.items
-        × IsOrdered (length d.heap.items) (rank_at d.heap.items) };
+        × IsOrdered (length d.heap.items) (rank_at d.heap.items) × (vec_capacity d.slots ≡ TABLE_SIZE) };
 }
 
 impl Deadlines {
-    /// No line has a deadline. `NoMemory` is its one refusal; no other call takes memory.
+    /// No line has a row, and there is room for those of all lines. `NoMemory` is its one refusal; no other
+    /// call takes memory.
     pub(crate) fn new(alloc: Global) -> Result<Deadlines, Errno>
-        ensures ok { IfOk result (λ deadlines. deadlines ≡ replicate TABLE_SIZE None) }
+        ensures ok { IfOk result (λ deadlines. deadlines ≡ []) }
         ensures memory_alone { IsOkUnless result Errno.NoMemory }
     {
-        let heap = Vec::with_capacity(alloc, TABLE_SIZE)?;
-        let slots = no_places(alloc, TABLE_SIZE)?;
+        let heap = Vec::with_capacity(alloc, TABLE_SIZE as usize)?;
+        let slots = Vec::with_capacity(alloc, TABLE_SIZE as usize)?;
         Ok(Deadlines { heap, slots })
+    }
+
+    /// The next line gets a row. It has no deadline.
+    pub(crate) fn add_row(&mut self)
+        requires { length self.old < TABLE_SIZE }
+        ensures { self.new ≡ self.old ++ None ∷ [] }
+    {
+        push_within(&mut self.slots, None);
     }
 
     /// The first of all deadlines, by moment and then by line, or None where no line has one.
@@ -55,32 +64,34 @@ impl Deadlines {
         Some(self.heap[0])
     }
 
+    /// The deadline of a line, if it has one.
+    pub(crate) fn at(&self, line: u32) -> Option<u64>
+        requires { line < length self.now }
+        ensures { result ≡ slice_index_or self.now line None }
+    {
+        match self.slots[line as usize] {
+            None => None,
+            Some(at) => Some(self.heap[at as usize].deadline),
+        }
+    }
+
     /// Takes the line's deadline away, if it has one.
-    pub(crate) fn clear(&mut self, line: usize)
-        requires { line < TABLE_SIZE }
+    pub(crate) fn clear(&mut self, line: u32)
+        requires { line < length self.old }
         ensures { self.new ≡ slice_set self.old line None }
     {
-        match self.slots[line] {
+        match self.slots[line as usize] {
             None => {}
             Some(at) => remove_at(&mut self.heap, &mut self.slots, at),
         }
     }
 
     /// The line has this deadline from now on, and no other.
-    pub(crate) fn set(&mut self, line: usize, deadline: u64)
-        requires { line < TABLE_SIZE }
+    pub(crate) fn set(&mut self, line: u32, deadline: u64)
+        requires { line < length self.old }
         ensures { self.new ≡ slice_set self.old line (Some deadline) }
     {
         self.clear(line);
         add(&mut self.heap, &mut self.slots, Due { deadline, line });
     }
-}
-
-/// The table of so many lines that don't stand in the heap.
-fn no_places(alloc: Global, count: usize) -> Result<Vec<Option<usize>>, Errno>
-    ensures ok { IfOk result (λ slots. slots.items ≡ replicate count None) }
-    ensures memory_alone { IsOkUnless result Errno.NoMemory }
-{
-    let slots = vec![in alloc; None; count]?;
-    Ok(slots)
 }

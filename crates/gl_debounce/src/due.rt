@@ -11,7 +11,7 @@ pub(crate) struct Due {
     /// When it is to settle, in nanoseconds of the monotonic clock.
     pub(crate) deadline: u64,
     /// Where the line stands in the table of all lines: by place and then by offset.
-    pub(crate) line: usize,
+    pub(crate) line: u32,
 }
 
 impl Due {

@@ -10,6 +10,7 @@ mod deadlines;
 mod due;
 mod heap;
 pub mod laws;
+mod rows;
 mod table;
 mod timer;
 

@@ -1,48 +1,41 @@
 //! The timers of all lines.
 
-ghost use Rattle.std.specs.Prelude.{◌≡◌, ◌*◌, ◌<◌, replicate, None, IfOk, IfSome, IsOkUnless, slice_get, length, map};
+ghost use Rattle.std.specs.Prelude.{◌≡◌, ◌*◌, ◌<◌, IfOk, IsOkUnless, length, slice_get};
 ghost use Rattle.std.specs.Option.{option_map};
 ghost use Rattle.gl_debounce.specs.Fire.{after_first, fires};
-ghost use Rattle.gl_debounce.specs.Order.{deadline_of};
-ghost use Rattle.gl_debounce.specs.Timer.{line_number, no_timers, still, timer_at, with_new_timer, with_raw, with_timer, without_deadline};
+ghost use Rattle.gl_debounce.specs.Timer.{line_number, no_timers, settled_at_raw, still, timer_at, with_new_timer, with_raw, with_timer, without_deadline};
 
-use crate::deadlines::Deadlines;
-use crate::timer::{Fired, TABLE_SIZE, Timer, fired_at};
+use crate::rows::Rows;
+use crate::timer::{Fired, TABLE_SIZE, Timer};
 use gl_base::{Errno, LINES_MAX, PLACES};
 use std::alloc::Global;
 use std::marker::Model;
 
 /// The timers of the lines of each place. Contracts see the list of them, by place and then by offset; a
-/// line that isn't debounced has none.
+/// line that isn't debounced has none. The lines up to the last that was ever debounced have a row.
 #[derive(Drop)]
 pub struct Timers {
-    lines: Vec<Option<Timer>>,
-    deadlines: Deadlines,
+    rows: Rows,
 }
 
 impl Model for Timers {
-    ghost use Rattle.std.specs.Prelude.{◌≡◌, List, Option, length, map};
-    ghost use Rattle.gl_debounce.specs.Order.{deadline_of};
+    ghost use Rattle.std.specs.Prelude.{List, Option};
+    ghost use Rattle.gl_debounce.specs.Timer.{all_lines};
     ghost use Rattle.gl_debounce.specs.declared.timer.Timer.{Timer};
-    ghost use Rattle.gl_debounce.specs.declared.timer.TheConstants.{TABLE_SIZE};
 
     ghost Value = { List (Option Timer) };
 
-    ghost view = { λ t. t.lines.items };
-
-    ghost invariant = { λ t. (length t.lines.items ≡ TABLE_SIZE) × (t.deadlines ≡ map deadline_of t.lines.items) };
+    ghost view = { λ t. all_lines t.rows };
 }
 
 impl Timers {
-    /// A table in which no line has a timer. `NoMemory` is its one refusal.
-    #[tactic(auto, unfolding(crate::specs::Timer::no_timers))]
+    /// A table in which no line has a timer. It takes the memory of all rows. `NoMemory` is its one refusal.
     pub fn new(alloc: Global) -> Result<Timers, Errno>
         ensures ok { IfOk result (λ timers. timers ≡ no_timers) }
         ensures memory_alone { IsOkUnless result Errno.NoMemory }
     {
-        let lines = without_timers(alloc, TABLE_SIZE)?;
-        let deadlines = Deadlines::new(alloc)?;
-        Ok(Timers { lines, deadlines })
+        let rows = Rows::new(alloc)?;
+        Ok(Timers { rows })
     }
 
     /// The line is debounced from now on, and has settled at this level.
@@ -52,8 +45,8 @@ impl Timers {
         ensures { self.new ≡ with_new_timer (still level) place offset self.old }
     {
         let line = number_of(place, offset);
-        self.lines[line] = Some(Timer::still(level));
-        self.deadlines.clear(line);
+        self.rows.make(line + 1);
+        self.rows.put(line, Timer::still(level));
     }
 
     /// Takes the line's deadline away. Its levels stay.
@@ -63,9 +56,9 @@ impl Timers {
         ensures { self.new ≡ with_timer without_deadline place offset self.old }
     {
         let line = number_of(place, offset);
-        if let Some(timer) = self.lines[line] {
-            self.lines[line] = Some(timer.without_deadline());
-            self.deadlines.clear(line);
+        match self.rows.timer(line) {
+            None => {}
+            Some(timer) => self.rows.put(line, timer.without_deadline()),
         }
     }
 
@@ -77,9 +70,9 @@ impl Timers {
         ensures { self.new ≡ with_timer (with_raw level deadline) place offset self.old }
     {
         let line = number_of(place, offset);
-        if let Some(timer) = self.lines[line] {
-            self.lines[line] = Some(timer.with_raw(level, deadline));
-            self.deadlines.set(line, deadline);
+        match self.rows.timer(line) {
+            None => {}
+            Some(timer) => self.rows.put(line, timer.with_raw(level, deadline)),
         }
     }
 
@@ -88,7 +81,8 @@ impl Timers {
         ensures len { result ≡ length self.now }
         ensures whole { result ≡ PLACES * LINES_MAX }
     {
-        self.lines.len()
+        self.rows.are_within();
+        TABLE_SIZE as usize
     }
 
     /// The level that the line settled at last, or None where it isn't debounced.
@@ -97,7 +91,7 @@ impl Timers {
         requires offset { offset < LINES_MAX }
         ensures { result ≡ option_map (λ timer. timer.settled) (timer_at self.now place offset) }
     {
-        match self.lines[number_of(place, offset)] {
+        match self.rows.timer(number_of(place, offset)) {
             Some(timer) => Some(timer.settled),
             None => None,
         }
@@ -110,49 +104,36 @@ impl Timers {
         ensures first { result ≡ slice_get (fires now self.old) 0 }
         ensures timers { self.new ≡ after_first result self.old }
     {
-        match first_due(&self.lines, &self.deadlines, now) {
+        self.rows.are_within();
+        match self.rows.first_due(now) {
             None => None,
             Some(fired) => {
-                let line = number_of(fired.place, fired.offset);
-                if let Some(timer) = self.lines[line] {
-                    self.lines[line] = Some(timer.settled_at_raw());
-                    self.deadlines.clear(line);
-                }
+                self.settle(fired.place, fired.offset);
                 Some(fired)
             }
         }
     }
-}
 
-/// So many lines without a timer.
-fn without_timers(alloc: Global, count: usize) -> Result<Vec<Option<Timer>>, Errno>
-    ensures ok { IfOk result (λ lines. lines.items ≡ replicate count None) }
-    ensures memory_alone { IsOkUnless result Errno.NoMemory }
-{
-    let lines = vec![in alloc; None; count]?;
-    Ok(lines)
+    /// The line has settled at the level that it has, and no deadline of it runs any more.
+    fn settle(&mut self, place: u8, offset: u32)
+        requires place { place < PLACES }
+        requires offset { offset < LINES_MAX }
+        ensures { self.new ≡ with_timer settled_at_raw place offset self.old }
+    {
+        let line = number_of(place, offset);
+        match self.rows.timer(line) {
+            None => {}
+            Some(timer) => self.rows.put(line, timer.settled_at_raw()),
+        }
+    }
 }
 
 /// Where a line stands in the table.
-fn number_of(place: u8, offset: u32) -> usize
+fn number_of(place: u8, offset: u32) -> u32
     requires place { place < PLACES }
     requires offset { offset < LINES_MAX }
     ensures number { result ≡ line_number place offset }
     ensures within { result < PLACES * LINES_MAX }
 {
-    usize::from(place) * LINES_MAX as usize + offset as usize
-}
-
-/// The first line whose deadline has come.
-fn first_due(lines: &[Option<Timer>], deadlines: &Deadlines, now: u64) -> Option<Fired>
-    requires lines { length lines.now ≡ PLACES * LINES_MAX }
-    requires deadlines { deadlines.now ≡ map deadline_of lines.now }
-    ensures first { result ≡ slice_get (fires now lines.now) 0 }
-    ensures place { IfSome result (λ fired. fired.place < PLACES) }
-    ensures offset { IfSome result (λ fired. fired.offset < LINES_MAX) }
-{
-    match deadlines.first() {
-        None => None,
-        Some(due) => fired_at(now, due.line, lines[due.line]),
-    }
+    u32::from(place) * LINES_MAX + offset
 }

@@ -7,7 +7,7 @@ ghost use Rattle.gl_debounce.specs.Timer.{settled_at_raw, still, with_raw, witho
 use gl_base::{LINES_MAX, PLACES};
 
 /// How many lines there are: each place has room for `LINES_MAX`.
-pub(crate) const TABLE_SIZE: usize = PLACES as usize * LINES_MAX as usize;
+pub(crate) const TABLE_SIZE: u32 = PLACES as u32 * LINES_MAX;
 
 /// What is kept of a line that is debounced.
 #[derive(Clone, Copy, PartialEq, Eq, Debug)]
@@ -18,6 +18,15 @@ pub struct Timer {
     pub settled: bool,
     /// When its level is to settle, in nanoseconds of the monotonic clock, if it isn't settled.
     pub deadline: Option<u64>,
+}
+
+/// The levels of a line that is debounced: its timer but for the deadline.
+#[derive(Clone, Copy, PartialEq, Eq, Debug)]
+pub(crate) struct TimerLevels {
+    /// The line's level.
+    pub(crate) raw: bool,
+    /// The level that it settled at last.
+    pub(crate) settled: bool,
 }
 
 /// A line whose level has settled.
@@ -77,7 +86,7 @@ impl Timer {
 }
 
 /// The line with number `n`, if its deadline has come.
-pub(crate) fn fired_at(now: u64, n: usize, timer: Option<Timer>) -> Option<Fired>
+pub(crate) fn fired_at(now: u64, n: u32, timer: Option<Timer>) -> Option<Fired>
     requires { n < TABLE_SIZE }
     ensures { result ≡ fired_at now n timer }
 {
@@ -88,8 +97,8 @@ pub(crate) fn fired_at(now: u64, n: usize, timer: Option<Timer>) -> Option<Fired
             Some(deadline) => {
                 if deadline <= now {
                     Some(Fired {
-                        place: (n / LINES_MAX as usize) as u8,
-                        offset: (n % LINES_MAX as usize) as u32,
+                        place: (n / LINES_MAX) as u8,
+                        offset: n % LINES_MAX,
                         deadline,
                         level: timer.raw,
                         changed: timer.raw != timer.settled,

@@ -1,52 +1,64 @@
 //! Who has the lines of one chip, by offset.
-ghost use Rattle.std.specs.Prelude.{◌≡◌, ◌<◌, ◌≤◌, length, take, replicate, IfOk, OnOk, OnErr, IsOkUnless};
+ghost use Rattle.std.specs.Prelude.{◌≡◌, ◌-◌, ◌<◌, ◌≤◌, ◌++◌, length, take, replicate, IfOk, OnOk, OnErr, IsOkUnless};
 ghost use Rattle.std.specs.Result.{result_err};
 ghost use Rattle.std.specs.Str.{bytes_eq};
 ghost use Rattle.gl_base.specs.Lines.{IsLineCount, offsets_of};
-ghost use Rattle.gl_base.specs.declared.limits.TheConstants.{LINES_PER_REQUEST};
+ghost use Rattle.gl_base.specs.declared.limits.TheConstants.{LINES_MAX, LINES_PER_REQUEST};
 ghost use Rattle.gl_base.specs.Positions.{change_at, change_each, first_fault};
 ghost use Rattle.gl_desc.specs.Desc.{first_desc, desc_at, stands_earlier, line_fault, claim_fault, claimed, settled, freed, named, hogged};
 
 use crate::desc::{Desc, Holder, LineFault, is_free, settled_holder};
-use gl_base::{Errno, Lines, Name};
+use gl_base::{Errno, LINES_MAX, Lines, Name};
 use std::alloc::Global;
 use std::marker::Model;
 
-/// The lines of a chip, by offset: each has at most one holder. Contracts see the list of them.
+/// The lines of a chip, by offset: each has at most one holder. Contracts see the list of them. There is room for
+/// as many lines as a chip has at most.
 #[derive(Drop)]
 pub struct Descs {
     lines: Vec<Desc>,
 }
 
 impl Model for Descs {
-    ghost use Rattle.std.specs.Prelude.{List};
+    ghost use Rattle.std.specs.Prelude.{◌≤◌, List, vec_capacity};
+    ghost use Rattle.gl_base.specs.declared.limits.TheConstants.{LINES_MAX};
     ghost use Rattle.gl_desc.specs.declared.desc.Desc.{Desc};
 
     ghost Value = { List Desc };
 
     ghost view = { λ d. d.lines.items };
+
+    ghost invariant = { λ d. LINES_MAX ≤ vec_capacity d.lines };
 }
 
 impl Descs {
-    /// So many lines, which nobody has and which have no name.
+    /// So many lines, which nobody has and which have no name. It takes the memory of `LINES_MAX` lines, and writes to
+    /// that of its own alone.
     pub fn new(alloc: Global, lines: u32) -> Result<Descs, Errno>
+        requires { lines ≤ LINES_MAX }
         ensures ok { IfOk result (λ descs. descs ≡ replicate lines first_desc) }
         ensures memory_alone { IsOkUnless result Errno.NoMemory }
+    {
+        let rows = Vec::with_capacity(alloc, LINES_MAX as usize)?;
+        let mut descs = Descs { lines: rows };
+        descs.fit(lines);
+        Ok(descs)
+    }
+
+    /// Keeps the first lines, so many; where there are fewer, new ones come behind them. It takes no memory.
+    pub fn fit(&mut self, lines: u32)
+        requires { lines ≤ LINES_MAX }
+        ensures { self.new ≡ take lines self.old ++ replicate (lines - length self.old) first_desc }
     {
         let first = Desc {
             name: Name::empty(),
             holder: Holder::Free,
             consumer: Name::empty(),
         };
-        let lines = vec![in alloc; first; lines as usize]?;
-        Ok(Descs { lines })
-    }
-
-    /// Keeps the first lines, so many. It takes no memory.
-    pub fn fit(&mut self, lines: u32)
-        ensures { self.new ≡ take lines self.old }
-    {
-        self.lines.truncate(lines as usize);
+        match self.lines.resize(lines as usize, first) {
+            Ok(()) => {}
+            Err(_) => {}
+        }
     }
 
     /// Claims the lines of a request. The first faulty line decides, and then nothing changes: `BadOffset`

@@ -1,49 +1,62 @@
 //! The interrupts of the lines of one chip, by offset.
-ghost use Rattle.std.specs.Prelude.{◌≡◌, ◌<◌, length, take, replicate, IfOk, IsOkUnless};
+ghost use Rattle.std.specs.Prelude.{◌≡◌, ◌-◌, ◌<◌, ◌≤◌, ◌++◌, length, take, replicate, IfOk, IsOkUnless};
+ghost use Rattle.gl_base.specs.declared.limits.TheConstants.{LINES_MAX};
 ghost use Rattle.gl_base.specs.Positions.{change_at};
 ghost use Rattle.gl_base.specs.Refusals.{answer, unless};
 ghost use Rattle.gl_irq.specs.Irq.{first_irq, irq_at, done, act_refusal};
 
 use crate::irq::{Irq, IrqLine, carry_out, refusal};
-use gl_base::{Errno, IrqDo};
+use gl_base::{Errno, IrqDo, LINES_MAX};
 use std::alloc::Global;
 use std::marker::Model;
 
-/// The interrupts of a chip's lines, by offset. Contracts see the list of them.
+/// The interrupts of a chip's lines, by offset. Contracts see the list of them. There is room for as many lines as a
+/// chip has at most.
 #[derive(Drop)]
 pub struct Irqs {
     lines: Vec<Irq>,
 }
 
 impl Model for Irqs {
-    ghost use Rattle.std.specs.Prelude.{List};
+    ghost use Rattle.std.specs.Prelude.{◌≤◌, List, vec_capacity};
+    ghost use Rattle.gl_base.specs.declared.limits.TheConstants.{LINES_MAX};
     ghost use Rattle.gl_irq.specs.declared.irq.Irq.{Irq};
 
     ghost Value = { List Irq };
 
     ghost view = { λ i. i.lines.items };
+
+    ghost invariant = { λ i. LINES_MAX ≤ vec_capacity i.lines };
 }
 
 impl Irqs {
-    /// The interrupts of so many lines. Each line has one, which isn't locked.
+    /// The interrupts of so many lines. Each line has one, which isn't locked. It takes the memory of `LINES_MAX` lines,
+    /// and writes to that of its own alone.
     pub fn new(alloc: Global, lines: u32) -> Result<Irqs, Errno>
+        requires { lines ≤ LINES_MAX }
         ensures ok { IfOk result (λ irqs. irqs ≡ replicate lines first_irq) }
         ensures memory_alone { IsOkUnless result Errno.NoMemory }
+    {
+        let rows = Vec::with_capacity(alloc, LINES_MAX as usize)?;
+        let mut irqs = Irqs { lines: rows };
+        irqs.fit(lines);
+        Ok(irqs)
+    }
+
+    /// Keeps the first lines, so many; where there are fewer, new ones come behind them. It takes no memory.
+    pub fn fit(&mut self, lines: u32)
+        requires { lines ≤ LINES_MAX }
+        ensures { self.new ≡ take lines self.old ++ replicate (lines - length self.old) first_irq }
     {
         let first = Irq {
             has: true,
             locked: false,
             enabled: false,
         };
-        let lines = vec![in alloc; first; lines as usize]?;
-        Ok(Irqs { lines })
-    }
-
-    /// Keeps the first lines, so many. It takes no memory.
-    pub fn fit(&mut self, lines: u32)
-        ensures { self.new ≡ take lines self.old }
-    {
-        self.lines.truncate(lines as usize);
+        match self.lines.resize(lines as usize, first) {
+            Ok(()) => {}
+            Err(_) => {}
+        }
     }
 
     /// Does something with the interrupt of a line, of which `line` tells how it stands. A refused call

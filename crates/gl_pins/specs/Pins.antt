@@ -1,9 +1,10 @@
 -- The pins of a chip. The refusals and their order are this project's choice.
-use Rattle.std.specs.Prelude.{◌≡◌, ℕ, ◌+◌, ◌^◌, ◌<◌, ◌≤◌, Bool, false, not, ◌==◌, nat_eq, nat_lt, nat_le, is_none, List, [], ◌∷◌, ◌++◌, length, Option, Some, None}
+use Rattle.std.specs.Prelude.{◌≡◌, ℕ, ◌+◌, ◌≤◌, Bool, true, false, not, ◌==◌, nat_eq, nat_lt, nat_le, is_none, is_some, List, [], ◌∷◌, ◌++◌, length, Option, Some, None}
 use Rattle.std.specs.List.{find, list_any, IsDistinct}
 use Rattle.std.specs.Option.{option_map}
 use Rattle.gl_base.specs.Refusals.{when, first_of}
 use Rattle.gl_base.specs.Rows.{Each, without_first}
+use Rattle.gl_base.specs.declared.limits.TheConstants.{LINES_MAX}
 use Rattle.gl_base.specs.declared.errno.Errno.{Errno}
 use Rattle.gl_base.specs.declared.errno.Errno.TheVariants.{Inval, Busy, NoSpc}
 use Rattle.gl_pins.specs.declared.pins.TheConstants.{PINS_MAX, RANGES_MAX}
@@ -74,15 +75,25 @@ drop_refusal pins pin = when (not (holds_pin pins.held pin)) Inval
 abbrev pub without_held : ℕ → PinTable → PinTable
 without_held pin pins = record pins { held = without_first (nat_eq pin) pins.held }
 
--- a range is within its numbers
+-- a range is within the lines that a chip can have, and within the pins
 abbrev pub IsWithin : PinRange → Type 0
-IsWithin range = (range.offset + range.count < 2 ^ 32) × (range.pin + range.count ≤ PINS_MAX)
+IsWithin range = (range.offset + range.count ≤ LINES_MAX) × (range.pin + range.count ≤ PINS_MAX)
 
--- what is kept true of the ranges and the held pins, and of the room for them
+-- no range overlaps an earlier one
+abbrev pub AreApart : List PinRange → Type 0
+AreApart [] = Unit {0}
+AreApart (range ∷ ranges) = Each (λ later. overlap later range ≡ false) ranges × AreApart ranges
+
+-- a range has the pin
+abbrev pub IsMapped : List PinRange → ℕ → Type 0
+IsMapped ranges pin = is_some (find (has_pin pin) ranges) ≡ true
+
+-- what is kept true of the ranges and the held pins, and of the room for them: each held pin is that of a line of its own
 pub record IsPinTable (ranges : List PinRange) (held : List ℕ) (range_room held_room : ℕ) : Type 0 where
   pub within : Each IsWithin ranges
   pub few_ranges : length ranges ≤ RANGES_MAX
   pub all_ranges : range_room ≡ RANGES_MAX
+  pub apart : AreApart ranges
+  pub mapped : Each (IsMapped ranges) held
   pub distinct : IsDistinct nat_eq held
-  pub below : Each (λ pin. pin < PINS_MAX) held
-  pub all_pins : held_room ≡ PINS_MAX
+  pub all_lines : held_room ≡ LINES_MAX

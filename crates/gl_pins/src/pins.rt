@@ -1,15 +1,16 @@
 //! The pins of one chip.
-ghost use Rattle.std.specs.Prelude.{◌≡◌, ◌+◌, ◌^◌, ◌<◌, ◌≤◌, ◌++◌, [], ◌∷◌, length, vec_capacity, IfOk, IfSome, OnOk, OnErr, IsOkUnless, IsTrue};
+ghost use Rattle.std.specs.Prelude.{◌≡◌, ◌<◌, ◌≤◌, [], false, length, vec_capacity, IfNone, IfOk, IfSome, OnOk, OnErr, IsOkUnless, IsTrue};
 ghost use Rattle.std.specs.List.{list_any, position};
 ghost use Rattle.std.specs.Option.{option_map};
 ghost use Rattle.std.specs.Result.{result_err};
 ghost use Rattle.std.specs.Prelude.{find, nat_eq};
 ghost use Rattle.gl_base.specs.Rows.{Each, without_first};
+ghost use Rattle.gl_base.specs.declared.limits.TheConstants.{LINES_MAX};
 ghost use Rattle.gl_pins.specs.PinRange.{has_pin, has_offset, overlap};
 ghost use Rattle.gl_pins.specs.Pins.{range_refusal, IsWithin};
 
 use crate::range::{PinRange, has_offset, has_pin, offset_in, overlap, pin_in};
-use gl_base::{Errno, push_within};
+use gl_base::{Errno, LINES_MAX, push_within};
 use std::alloc::Global;
 use std::marker::Model;
 
@@ -20,7 +21,8 @@ pub const RANGES_MAX: usize = 16;
 pub const PINS_MAX: usize = 4096;
 
 /// The pins of a chip. Contracts see the ranges in the order of their making, and the held pins in the
-/// order in which they were taken.
+/// order in which they were taken. A held pin is that of a line, so there is room for as many as a chip has
+/// lines at most.
 #[derive(Drop)]
 pub struct Pins {
     ranges: Vec<PinRange>,
@@ -47,15 +49,15 @@ impl Pins {
         ensures memory_alone { IsOkUnless result Errno.NoMemory }
     {
         let ranges = Vec::with_capacity(alloc, RANGES_MAX)?;
-        let held = Vec::with_capacity(alloc, PINS_MAX)?;
+        let held = Vec::with_capacity(alloc, LINES_MAX as usize)?;
         Ok(Pins { ranges, held })
     }
 
-    /// How many ranges and held pins there is room for. These are always `RANGES_MAX` and `PINS_MAX`, since no
+    /// How many ranges and held pins there is room for. These are always `RANGES_MAX` and `LINES_MAX`, since no
     /// call but `new` takes memory.
     pub fn capacity(&self) -> (usize, usize)
         ensures ranges { result.0 ≡ RANGES_MAX }
-        ensures held { result.1 ≡ PINS_MAX }
+        ensures held { result.1 ≡ LINES_MAX }
     {
         (self.ranges.capacity(), self.held.capacity())
     }
@@ -65,6 +67,7 @@ impl Pins {
     /// their end, or where the lines or the pins overlap those of another range; then `NoSpc` where the
     /// chip has as many ranges as it can.
     pub fn add_range(&mut self, lines: u32, offset: u32, pin: u32, count: u32) -> Result<(), Errno>
+        requires { lines ≤ LINES_MAX }
         ensures refusal { result_err result ≡ range_refusal self.old lines (record { offset = offset; pin = pin; count = count }) }
         ensures ok { OnOk result (self.new ≡ with_range (record { offset = offset; pin = pin; count = count }) self.old) }
         ensures err { OnErr result (self.new ≡ self.old) }
@@ -144,7 +147,11 @@ impl Pins {
 
 /// Why a new range is refused on a chip of so many lines, if it is.
 fn range_refusal(ranges: &[PinRange], lines: u32, range: &PinRange) -> Option<Errno>
-    ensures { result ≡ range_refusal (record { ranges = ranges.now; held = [] }) lines range.now }
+    requires { lines ≤ LINES_MAX }
+    ensures refusal { result ≡ range_refusal (record { ranges = ranges.now; held = [] }) lines range.now }
+    ensures within { IfNone result (IsWithin range.now) }
+    ensures apart { IfNone result (list_any (overlap range.now) ranges.now ≡ false) }
+    ensures room { IfNone result (length ranges.now < RANGES_MAX) }
 {
     let last_line = u64::from(range.offset) + u64::from(range.count);
     let last_pin = u64::from(range.pin) + u64::from(range.count);
@@ -168,13 +175,12 @@ fn overlaps_any(ranges: &[PinRange], range: &PinRange) -> bool
 }
 
 /// The range that has this pin.
-#[tactic(auto, using(crate::proofs::Table::within_at, crate::proofs::Table::below_in_range))]
+#[tactic(auto, using(crate::proofs::Table::within_at))]
 fn range_of_pin(ranges: &[PinRange], pin: u32) -> Option<PinRange>
     requires { Each IsWithin ranges.now }
     ensures found { result ≡ find (has_pin pin) ranges.now }
     ensures has { IfSome result (λ range. IsTrue (has_pin pin range)) }
     ensures within { IfSome result IsWithin }
-    ensures below { IfSome result (λ range. pin < PINS_MAX) }
 {
     for range in ranges {
         if has_pin(range, pin) {

@@ -21,7 +21,7 @@ const DOWN: u64 = 1 << flag::BIAS_PULL_DOWN;
 
 /// The level and the logical value of a line whose pull was this before it was given these flags and this value.
 fn shown(alloc: Global, flags: u64, value: bool, up: bool) -> Result<(bool, bool), Errno> {
-    let mut bank = Bank::new(alloc, 4)?;
+    let mut bank = Bank::new(alloc, 0)?;
     bank.fit(3);
     let _ = bank.set_pull(2, up);
     bank.apply(

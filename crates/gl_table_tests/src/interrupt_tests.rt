@@ -66,7 +66,7 @@ fn first_wrong(irqs: &mut Irqs, calls: &[Call]) -> Option<usize> {
 
 /// The same on a new table.
 fn wrong_lock(alloc: Global) -> Result<Option<usize>, Errno> {
-    let mut irqs = Irqs::new(alloc, 3)?;
+    let mut irqs = Irqs::new(alloc, 0)?;
     irqs.fit(2);
     Ok(first_wrong(&mut irqs, &calls()))
 }

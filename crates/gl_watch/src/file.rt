@@ -3,6 +3,7 @@
 ghost use Rattle.std.specs.Prelude.{◌≡◌, ◌<◌, length};
 ghost use Rattle.gl_base.specs.declared.limits.TheConstants.{LINES_MAX};
 
+use crate::lines::WatchedLines;
 use crate::queue::InfoQueue;
 use gl_base::LINES_MAX;
 use gl_uapi::Changed;
@@ -25,7 +26,7 @@ pub struct ChipFile {
     /// The place of its chip.
     pub place: u8,
     /// Whether it watches a line, by offset.
-    pub watched: [bool; LINES_MAX as usize],
+    pub watched: WatchedLines,
     /// The changes that wait, the oldest first.
     pub changes: InfoQueue,
 }
@@ -38,7 +39,7 @@ impl ChipFile {
         requires { offset < LINES_MAX }
         ensures { result ≡ is_watching offset self.now }
     {
-        self.watched[offset as usize]
+        self.watched.has(offset)
     }
 
     /// Sets whether the file watches a line.
@@ -46,7 +47,7 @@ impl ChipFile {
         requires { offset < LINES_MAX }
         ensures { self.new ≡ with_watch offset watch self.old }
     {
-        self.watched[offset as usize] = watch;
+        self.watched.set(offset, watch);
     }
 
     /// Tells the file of a change of a line of a place.

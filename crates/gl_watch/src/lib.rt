@@ -6,10 +6,12 @@
 
 mod file;
 pub mod laws;
+mod lines;
 mod queue;
 mod table;
 mod watches;
 
 pub use file::{ChipFile, FileAt};
+pub use lines::WatchedLines;
 pub use queue::{InfoQueue, QUEUE_CHANGES_MAX};
 pub use watches::Watches;

@@ -7,6 +7,7 @@ ghost use Rattle.gl_base.specs.Rows.{change_first, without_first};
 ghost use Rattle.gl_uapi.specs.InfoChanged.{changed_bytes};
 
 use crate::file::{ChipFile, FileAt};
+use crate::lines::WatchedLines;
 use crate::queue::InfoQueue;
 use crate::table::{
     file_at, notify_all, position_of, read_file, read_file_at, remove_file, set_watch, set_watch_at,
@@ -51,7 +52,6 @@ impl Watches {
     }
 
     /// Opens a file of a new number on the chip of a place, with an empty queue for its changes. It watches no line.
-    #[tactic(auto, unfolding(crate::specs::Files::no_lines))]
     pub fn add(&mut self, fd: u32, place: u8, queue: InfoQueue)
         requires room { length self.old < FILES_MAX }
         requires number { file_at fd self.old ≡ None }
@@ -61,7 +61,7 @@ impl Watches {
         let file = ChipFile {
             fd,
             place,
-            watched: [false; LINES_MAX as usize],
+            watched: WatchedLines::none(),
             changes: queue,
         };
         push_within(&mut self.files, file);

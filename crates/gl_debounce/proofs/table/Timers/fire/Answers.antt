@@ -1,15 +1,15 @@
-use Rattle.std.proofs.Common.{ℕ, ◌≡◌, List, set, Option, Some, None, ap, sym, ◌∙◌, length-set}
-use Rattle.gl_debounce.specs.declared.timer.Timer.{Timer}
-use Rattle.gl_debounce.specs.Order.{deadline_of}
-use Rattle.gl_debounce.proofs.Lookup.{goes_with}
+use Rattle.std.proofs.Common.{None, Some}
+use Rattle.gl_debounce.proofs.Padding.{first_told, size_told}
 use Rattle.gl_debounce.proofs.table.Timers.fire.Goals as goal
 
-pub invariant_of-self : goal.invariant_of-self
-invariant_of-self c =
-    let lines : List (Option Timer) = c.self.inside.lines.items in
-    let timer : Option Timer = Some c.settled_at_raw.result in
-    let line : ℕ = c.number_of-line.result in
-    let deadline : None ≡ deadline_of timer = sym (ap (λ (t : Timer). t.deadline) c.settled_at_raw.ensures) in (
-      length-set lines line timer ∙ c.self.invariant.0,
-      goes_with lines c.self.inside.deadlines c.clear.new.self line timer c.self.invariant.1 (c.clear.ensures ∙ ap (set c.self.inside.deadlines line) deadline),
-    )
+pub returns-in-None-clause-lines : goal.returns-in-None-clause-lines
+returns-in-None-clause-lines c = size_told c.self.inside.rows c.args.self.now c.self.view_is c.are_within.ensures
+
+pub returns-in-None-clause-first : goal.returns-in-None-clause-first
+returns-in-None-clause-first c = first_told c.args.now c.self.inside.rows c.args.self.now None c.self.view_is c.in-None.ensures.first
+
+pub returns-in-Some-clause-lines : goal.returns-in-Some-clause-lines
+returns-in-Some-clause-lines c = size_told c.self.inside.rows c.args.self.now c.self.view_is c.are_within.ensures
+
+pub returns-in-Some-clause-first : goal.returns-in-Some-clause-first
+returns-in-Some-clause-first c = first_told c.args.now c.self.inside.rows c.args.self.now (Some c.in-Some.fired) c.self.view_is c.in-Some.ensures.first

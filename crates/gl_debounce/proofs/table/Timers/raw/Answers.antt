@@ -1,15 +1,12 @@
-use Rattle.std.proofs.Common.{ℕ, ◌≡◌, List, set, Option, Some, ap, sym, ◌∙◌, length-set}
-use Rattle.gl_debounce.specs.declared.timer.Timer.{Timer}
-use Rattle.gl_debounce.specs.Order.{deadline_of}
-use Rattle.gl_debounce.proofs.Lookup.{goes_with}
+use Rattle.gl_debounce.specs.Timer.{with_raw}
+use Rattle.gl_debounce.proofs.Padding.{changed, unchanged}
 use Rattle.gl_debounce.proofs.table.Timers.raw.Goals as goal
 
-pub invariant_of-self : goal.invariant_of-self
-invariant_of-self c =
-    let lines : List (Option Timer) = c.self.inside.lines.items in
-    let timer : Option Timer = Some c.with_raw.result in
-    let line : ℕ = c.number_of-line.result in
-    let deadline : Some c.args.deadline ≡ deadline_of timer = sym (ap (λ (t : Timer). t.deadline) c.with_raw.ensures) in (
-      length-set lines line timer ∙ c.self.invariant.0,
-      goes_with lines c.self.inside.deadlines c.set.new.self line timer c.self.invariant.1 (c.set.ensures ∙ ap (set c.self.inside.deadlines line) deadline),
-    )
+pub returns-in-Some : goal.returns-in-Some
+returns-in-Some c =
+    changed (with_raw c.args.level c.args.deadline) c.self.inside.rows c.put.new.self c.args.self.now c.args.place c.args.offset c.number_of-line.result c.in-Some.timer c.with_raw.result
+    c.self.view_is c.number_of-line.ensures.number c.in-Some.ensures.within c.in-Some.ensures.timer c.with_raw.ensures c.put.ensures
+
+pub returns-in-None : goal.returns-in-None
+returns-in-None c =
+    unchanged (with_raw c.args.level c.args.deadline) c.self.inside.rows c.args.self.now c.args.place c.args.offset c.number_of-line.result c.self.view_is c.number_of-line.ensures.number c.in-None.ensures.timer

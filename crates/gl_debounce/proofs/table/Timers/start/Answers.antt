@@ -1,15 +1,10 @@
-use Rattle.std.proofs.Common.{ℕ, ◌≡◌, List, set, Option, Some, None, ap, sym, ◌∙◌, length-set}
-use Rattle.gl_debounce.specs.declared.timer.Timer.{Timer}
-use Rattle.gl_debounce.specs.Order.{deadline_of}
-use Rattle.gl_debounce.proofs.Lookup.{goes_with}
+use Rattle.std.proofs.Common.{◌<◌, length, arith}
+use Rattle.gl_debounce.specs.Timer.{still}
+use Rattle.gl_debounce.proofs.Padding.{started}
 use Rattle.gl_debounce.proofs.table.Timers.start.Goals as goal
 
-pub invariant_of-self : goal.invariant_of-self
-invariant_of-self c =
-    let lines : List (Option Timer) = c.self.inside.lines.items in
-    let timer : Option Timer = Some c.still.result in
-    let line : ℕ = c.number_of-line.result in
-    let deadline : None ≡ deadline_of timer = sym (ap (λ (t : Timer). t.deadline) c.still.ensures) in (
-      length-set lines line timer ∙ c.self.invariant.0,
-      goes_with lines c.self.inside.deadlines c.clear.new.self line timer c.self.invariant.1 (c.clear.ensures ∙ ap (set c.self.inside.deadlines line) deadline),
-    )
+pub returns : goal.returns
+returns c =
+    let within : c.number_of-line.result < length c.make.new.self = omega (arith, c.make.ensures.enough) in
+    started c.self.inside.rows c.make.new.self c.put.new.self c.args.self.now c.args.place c.args.offset c.number_of-line.result (still c.args.level) c.still.result
+    c.self.view_is c.make.ensures.same c.number_of-line.ensures.number within c.still.ensures c.put.ensures

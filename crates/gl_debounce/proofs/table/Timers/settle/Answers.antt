@@ -1,0 +1,12 @@
+use Rattle.gl_debounce.specs.Timer.{settled_at_raw}
+use Rattle.gl_debounce.proofs.Padding.{changed, unchanged}
+use Rattle.gl_debounce.proofs.table.Timers.settle.Goals as goal
+
+pub returns-in-Some : goal.returns-in-Some
+returns-in-Some c =
+    changed settled_at_raw c.self.inside.rows c.put.new.self c.args.self.now c.args.place c.args.offset c.number_of-line.result c.in-Some.timer c.settled_at_raw.result
+    c.self.view_is c.number_of-line.ensures.number c.in-Some.ensures.within c.in-Some.ensures.timer c.settled_at_raw.ensures c.put.ensures
+
+pub returns-in-None : goal.returns-in-None
+returns-in-None c =
+    unchanged settled_at_raw c.self.inside.rows c.args.self.now c.args.place c.args.offset c.number_of-line.result c.self.view_is c.number_of-line.ensures.number c.in-None.ensures.timer
