@@ -3,6 +3,7 @@ pub mod Opened
 pub mod Handed
 pub mod Files
 pub mod Asking
+pub mod Driving
 pub mod Rows
 pub mod Fitting
 pub mod Changes

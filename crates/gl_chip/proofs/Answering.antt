@@ -6,7 +6,7 @@ use Rattle.gl_base.specs.Count.{Rises}
 use Rattle.gl_base.specs.declared.errno.Errno.{Errno}
 use Rattle.gl_base.specs.declared.errno.Errno.TheVariants.{Io, NoDev}
 use Rattle.gl_driver.specs.Told.{Told}
-use Rattle.gl_driver.specs.declared.op.Op.{Op}
+use Rattle.gl_base.specs.declared.op.Op.{Op}
 use Rattle.gl_uapi.specs.Command.{command_of, size_of}
 use Rattle.gl_uapi.specs.declared.commands.Command.{Command}
 use Rattle.gl_uapi.specs.declared.commands.Command.TheVariants.{ChipInfo, LineInfo, Watch, Unwatch, GetLine, SetConfig, GetValues, SetValues}
@@ -38,7 +38,8 @@ use Rattle.gl_chip.specs.Answering.{AnswersInOrder, AtFirst, AtLast, ConfigRefus
 use Rattle.gl_chip.specs.Called.{HasCalled, first_entry, last_entry}
 use Rattle.gl_chip.specs.Commanding.{HasCommanded, PortOf, WasAsked, is_asked}
 use Rattle.gl_asking.specs.Results.{value_of}
-use Rattle.gl_chip.specs.Values.{ActorValue, IsIdle, OneEntry, OneView, core}
+use Rattle.gl_chip.specs.Values.{ActorValue, IsIdle, OneView}
+use Rattle.gl_core.specs.Device.{OneEntry, core}
 use Rattle.gl_chip.proofs.CommandCalls.{go_is, last_entry_on, last_reply_snoc}
 use Rattle.gl_chip.proofs.CommandResults.{entry_or}
 use Rattle.gl_chip.proofs.FaultyLines.{config_only, config_refused, error_of, not_refused, request_refused}

@@ -9,7 +9,7 @@ use Rattle.gl_base.specs.declared.errno.Errno.{Errno}
 use Rattle.gl_base.specs.declared.errno.Errno.TheVariants.{Full, Io, NoDev}
 use Rattle.gl_driver.specs.Calls.{FitsOp}
 use Rattle.gl_driver.specs.Told.{Told, faults_after, with_call}
-use Rattle.gl_driver.specs.declared.op.Op.{Op}
+use Rattle.gl_base.specs.declared.op.Op.{Op}
 use Rattle.gl_uapi.specs.Command.{command_of}
 use Rattle.gl_uapi.specs.declared.commands.Command.{Command}
 use Rattle.gl_uapi.specs.declared.commands.Command.TheVariants.{ChipInfo, LineInfo, Watch, Unwatch, GetLine, SetConfig, GetValues, SetValues}
@@ -46,13 +46,14 @@ use Rattle.gl_model.specs.Bounds.{HasBounds}
 use Rattle.gl_model.proofs.Bounds.{legal_worlds_have_bounds}
 use Rattle.gl_model.proofs.IoCauses.{io_has_cause}
 use Rattle.gl_model.proofs.Replies.{replies_have_form}
-use Rattle.gl_chip.specs.Called.{last_bytes, last_entry}
+use Rattle.gl_core.specs.Device.{OneDeed, OneEntry, core, last_bytes}
+use Rattle.gl_chip.specs.Called.{last_entry}
 use Rattle.gl_chip.specs.Commanding.{CommandedInside, HasCommanded, IoComesOf, IsOp, PortOf}
 use Rattle.gl_asking.specs.Handed.{command_in}
 use Rattle.gl_asking.proofs.HandedBytes.{handed_fits, handed_start}
 use Rattle.gl_base.specs.declared.limits.TheConstants.{PLACES}
 use Rattle.gl_chip.specs.Steps.{CalledOnce, Drove, EndsWith, IsAsk, IsTell, StoodFull, deed_of}
-use Rattle.gl_chip.specs.Values.{ActorValue, IsIdle, MayOwn, OneDeed, OneEntry, OneView, core}
+use Rattle.gl_chip.specs.Values.{ActorValue, IsIdle, MayOwn, OneView}
 use Rattle.gl_chip.proofs.GateSteps.{knows_on, knows_same}
 use Rattle.gl_chip.proofs.WholeCalls.{idle_called, idle_still, none_not_some, place_or}
 

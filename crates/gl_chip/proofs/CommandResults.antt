@@ -5,7 +5,7 @@ use Rattle.gl_base.specs.Count.{Rises}
 use Rattle.gl_base.specs.declared.errno.Errno.{Errno}
 use Rattle.gl_base.specs.declared.errno.Errno.TheVariants.{Full, Io, NoMemory}
 use Rattle.gl_driver.specs.Told.{Told}
-use Rattle.gl_driver.specs.declared.op.Op.{Op}
+use Rattle.gl_base.specs.declared.op.Op.{Op}
 use Rattle.gl_uapi.specs.Command.{command_of}
 use Rattle.gl_uapi.specs.declared.commands.Command.{Command}
 use Rattle.gl_uapi.specs.declared.commands.Command.TheVariants.{ChipInfo, LineInfo, Watch, Unwatch, GetLine, SetConfig, GetValues, SetValues}
@@ -29,7 +29,8 @@ use Rattle.gl_chip.specs.Called.{ComesOut, HasCalled, last_entry}
 use Rattle.gl_chip.specs.Commanding.{CommandsOut, HasCommanded, IoComesOf, PortOf, is_asked}
 use Rattle.gl_asking.specs.Results.{value_of}
 use Rattle.gl_chip.specs.Steps.{FoundNoRoom}
-use Rattle.gl_chip.specs.Values.{ActorValue, OneEntry, OneView, core}
+use Rattle.gl_chip.specs.Values.{ActorValue, OneView}
+use Rattle.gl_core.specs.Device.{OneEntry, core}
 use Rattle.gl_chip.proofs.CommandCalls.{not_gone_io}
 use Rattle.gl_chip.proofs.WholeCalls.{called_not_full, called_not_memory, errno_is_told, last_reply_is, reply_or}
 

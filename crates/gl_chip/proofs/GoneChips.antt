@@ -23,7 +23,8 @@ use Rattle.gl_model.specs.World.{World}
 use Rattle.gl_chip.specs.Opened.{LastFinds}
 use Rattle.gl_chip.specs.Removing.{HasEnded, is_gone_outside}
 use Rattle.gl_asking.specs.Results.{done_of}
-use Rattle.gl_chip.specs.Values.{OneEntry, OneView, core}
+use Rattle.gl_core.specs.Device.{OneEntry, core}
+use Rattle.gl_chip.specs.Values.{OneView}
 use Rattle.gl_chip.proofs.CommandCalls.{answered_last}
 use Rattle.gl_chip.proofs.OpenedChips.{found_last, is_no_dev}
 use Rattle.gl_chip.proofs.WholeCalls.{errno_is_told}

@@ -8,7 +8,8 @@ use Rattle.gl_model.specs.declared.gift.Gift.{Gift}
 use Rattle.gl_model.specs.declared.reply.Reply.{Reply}
 use Rattle.gl_model.specs.Fits.{Fits, FitsBytes}
 use Rattle.gl_chip.specs.Steps.{CalledGuarded}
-use Rattle.gl_chip.specs.Values.{OneView, core}
+use Rattle.gl_chip.specs.Values.{OneView}
+use Rattle.gl_core.specs.Device.{core}
 use Rattle.gl_asking.proofs.HandedBytes.{handed_fits, handed_start}
 use Rattle.gl_asking.specs.Handed.{handed_in}
 

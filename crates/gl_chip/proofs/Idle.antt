@@ -10,7 +10,8 @@ use Rattle.gl_model.specs.declared.call.Call.{Call}
 use Rattle.gl_model.specs.declared.gift.Gift.{Gift}
 use Rattle.gl_model.specs.declared.reply.Reply.{Reply}
 use Rattle.gl_model.specs.Calling.{AreOfCalls}
-use Rattle.gl_chip.specs.Values.{IsIdle, OneEntry, OneView, core}
+use Rattle.gl_chip.specs.Values.{IsIdle, OneView}
+use Rattle.gl_core.specs.Device.{OneEntry, core}
 
 abbrev pub OnePass : Type 0
 OnePass = PassValue Kept Call Reply Gift

@@ -30,7 +30,8 @@ use Rattle.gl_chip.proofs.WholeCalls.{errno_is_told}
 use Rattle.gl_chip.specs.Called.{HasCalled, last_entry}
 use Rattle.gl_asking.specs.Opened.{ChipFile, file_in, opened_of, place_named, place_or_first}
 use Rattle.gl_chip.specs.Opened.{LastFinds, is_leaving_at, names_leaving}
-use Rattle.gl_chip.specs.Values.{OneEntry, OneView, core}
+use Rattle.gl_core.specs.Device.{OneEntry, core}
+use Rattle.gl_chip.specs.Values.{OneView}
 
 abbrev pub is_no_dev : Reply → Bool
 is_no_dev (Refused NoDev) = true

@@ -5,7 +5,7 @@ use Rattle.std.proofs.lemmas.Bool.{true≢false}
 use Rattle.gl_base.specs.declared.errno.Errno.{Errno}
 use Rattle.gl_base.specs.declared.errno.Errno.TheVariants.{Full, NoMemory}
 use Rattle.gl_driver.specs.Told.{Told}
-use Rattle.gl_driver.specs.declared.op.Op.{Op}
+use Rattle.gl_base.specs.declared.op.Op.{Op}
 use Rattle.gl_uapi.specs.Command.{command_of}
 use Rattle.gl_model.specs.declared.device_call.CommandIn.{CommandIn}
 use Rattle.gl_model.specs.declared.device_call.DeviceCall.TheVariants.{Commanding, Removing}
@@ -21,7 +21,8 @@ use Rattle.gl_asking.specs.declared.kinds.FileKind.TheVariants.{Chip}
 use Rattle.gl_chip.specs.Orders.{CouldNot, HasDone}
 use Rattle.gl_chip.specs.Removing.{AllDrained}
 use Rattle.gl_chip.specs.Steps.{FoundNoRoom}
-use Rattle.gl_chip.specs.Values.{ActorValue, OneEntry, core}
+use Rattle.gl_chip.specs.Values.{ActorValue}
+use Rattle.gl_core.specs.Device.{OneEntry, core}
 use Rattle.gl_chip.proofs.CommandResults.{whole_commanded}
 use Rattle.gl_chip.proofs.GateSteps.{if_err, if_ok}
 use Rattle.gl_chip.proofs.RequestedLines.{whole_no_number}

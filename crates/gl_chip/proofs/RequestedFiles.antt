@@ -31,7 +31,8 @@ use Rattle.gl_model.proofs.Replies.{replies_have_form}
 use Rattle.gl_chip.specs.Called.{HasCalled, last_entry}
 use Rattle.gl_chip.specs.Commanding.{requested_of}
 use Rattle.gl_chip.specs.Files.{LineFile}
-use Rattle.gl_chip.specs.Values.{OneEntry, OneView, core}
+use Rattle.gl_core.specs.Device.{OneEntry, core}
+use Rattle.gl_chip.specs.Values.{OneView}
 use Rattle.gl_chip.proofs.CommandCalls.{last_entry_on}
 use Rattle.gl_chip.proofs.CommandResults.{called_last, entry_or}
 

@@ -9,7 +9,7 @@ use Rattle.gl_base.specs.Rows.{Each}
 use Rattle.gl_base.specs.declared.errno.Errno.{Errno}
 use Rattle.gl_base.specs.declared.lines.Lines.{Lines}
 use Rattle.gl_driver.specs.Calls.{FitsOp}
-use Rattle.gl_driver.specs.declared.op.Op.{Op}
+use Rattle.gl_base.specs.declared.op.Op.{Op}
 use Rattle.gl_uapi.specs.Command.{command_of, size_of}
 use Rattle.gl_uapi.specs.declared.commands.Command.{Command}
 use Rattle.gl_uapi.specs.declared.commands.Command.TheVariants.{ChipInfo, LineInfo, Watch, Unwatch, GetLine, SetConfig, GetValues, SetValues}
@@ -32,7 +32,8 @@ use Rattle.gl_model.specs.Replies.{numbered_form}
 use Rattle.gl_model.specs.World.{World, Request, has_number, request_at}
 use Rattle.gl_model.specs.Written.{number_answered}
 use Rattle.gl_model.proofs.Requests.{claim_by_any}
-use Rattle.gl_chip.specs.Commanding.{IsOp, IsOpAfterGo, TakesMemory, op_of, op_requested}
+use Rattle.gl_chip.specs.Commanding.{IsOp, IsOpAfterGo, TakesMemory}
+use Rattle.gl_asking.specs.Driving.{op_of, op_requested}
 use Rattle.gl_asking.specs.Handed.{command_in, handed_in}
 
 abbrev is_request : Option Request → Bool

@@ -4,7 +4,8 @@ use Rattle.std.proofs.lemmas.List.{append-nil}
 use Rattle.std.proofs.Common.{[], sym}
 use Rattle.gl_gate.specs.Calls.{KnowsAsMuch, KnowsTheSame, SamePass}
 use Rattle.gl_gate.specs.Grown.{Grew}
-use Rattle.gl_chip.specs.Values.{IsSameActor, OneDeed, OneView, core}
+use Rattle.gl_chip.specs.Values.{IsSameActor, OneView}
+use Rattle.gl_core.specs.Device.{OneDeed, core}
 
 pub same_grown : (v w : OneView) (did : List OneDeed) → Grew core v did w → KnowsAsMuch v w → IsSameActor v w
 same_grown v w did grew knows = record { number = grew.number; room = grew.room; made = grew.made; joined = grew.joined; seen = grew.seen; knows_as_much = knows }

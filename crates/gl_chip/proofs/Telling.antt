@@ -3,8 +3,8 @@ use Rattle.std.proofs.Common.{◌≡◌, ℕ, ◌≤◌, Bool, true, false, List
 use Rattle.std.proofs.lemmas.Bool.{true≢false}
 use Rattle.gl_uapi.specs.Command.{command_of}
 use Rattle.gl_world.specs.Deeds.{entries_in}
-use Rattle.gl_driver.specs.Told.{Told}
-use Rattle.gl_driver.specs.declared.op.Op.{Op}
+use Rattle.gl_driver.specs.Told.{PortAfter, Told}
+use Rattle.gl_base.specs.declared.op.Op.{Op}
 use Rattle.gl_model.specs.declared.call.Call.{Call}
 use Rattle.gl_model.specs.declared.call.Call.TheVariants.{Probe, Unplug, MakeDir, RemoveDir, Write, Read, Live, Remove, Tick, Pin, Irq, Pull, Level, Interrupt, OpenChip, Find, Ioctl, ReadEdges, ReadInfo, PollLine, PollChip, Close, Refused as RefusedCall}
 use Rattle.gl_model.specs.declared.device_call.CommandIn.{CommandIn}
@@ -17,10 +17,11 @@ use Rattle.gl_model.specs.Entries.{begins, last_call}
 use Rattle.gl_model.specs.Parts.{Makes, MakesAt, MakesCommand, MakesRest, first_call, guard_of, in_ask, in_tell, is_driver_asked, is_single}
 use Rattle.gl_asking.specs.declared.kinds.FileKind.{FileKind}
 use Rattle.gl_chip.specs.Called.{HasCalled}
-use Rattle.gl_chip.specs.Commanding.{HasCommanded, PortOf, is_asked, op_for}
+use Rattle.gl_chip.specs.Commanding.{HasCommanded, PortOf, is_asked}
+use Rattle.gl_asking.specs.Driving.{op_for}
 use Rattle.gl_chip.specs.Orders.{HasDone, lines_on, op_ordered}
-use Rattle.gl_chip.specs.Telling.{PortAfter, call_tells, tells_in}
-use Rattle.gl_chip.specs.Values.{ActorValue, OneEntry}
+use Rattle.gl_core.specs.Device.{OneEntry, call_tells, tells_in}
+use Rattle.gl_chip.specs.Values.{ActorValue}
 
 -- Calls that tell no answer of a driver
 

@@ -32,7 +32,8 @@ use Rattle.gl_model.proofs.Replies.{replies_have_form}
 use Rattle.gl_chip.specs.Called.{ComesOut, HasCalled, last_entry}
 use Rattle.gl_asking.specs.Results.{value_of}
 use Rattle.gl_chip.specs.Steps.{CalledGuarded, CalledOnce, EndsWith, FoundNoRoom, IsAnswered, IsWhole, Owes, StoodFull, deed_of}
-use Rattle.gl_chip.specs.Values.{ActorValue, IsIdle, MayOwn, OneEntry, OneView, core}
+use Rattle.gl_chip.specs.Values.{ActorValue, IsIdle, MayOwn, OneView}
+use Rattle.gl_core.specs.Device.{OneEntry, core}
 use Rattle.gl_chip.proofs.GateSteps.{is_free, knows_same}
 
 abbrev pub place_or : ℕ → Option ℕ → ℕ

@@ -20,7 +20,8 @@ use Rattle.gl_model.specs.declared.device_call.CommandIn.{CommandIn}
 use Rattle.gl_model.specs.Parts.{in_ask, in_tell}
 use Rattle.gl_model.specs.Places.{place_at}
 use Rattle.gl_model.specs.World.{World, Request, request_at}
-use Rattle.gl_chip.specs.Values.{OneEntry, OneView, core}
+use Rattle.gl_core.specs.Device.{OneEntry, core}
+use Rattle.gl_chip.specs.Values.{OneView}
 
 -- the worlds in which a call's entries were made
 

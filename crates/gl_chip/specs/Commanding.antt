@@ -1,6 +1,5 @@
 -- What a command on an open file did that may ask the driver: its entries, and what went through the actor's port.
 use Rattle.std.specs.Prelude.{◌≡◌, ◌≢◌, ◌⊎◌, ◌<◌, ◌≤◌, ◌^◌, ℕ, Bool, true, false, List, [], ◌∷◌, ◌++◌, length, take, drop, Option, Some, None, IfSome, Result, Err}
-use Rattle.gl_attrs.specs.Setting.{resolved_for}
 use Rattle.gl_base.specs.Count.{Rises, counted_up}
 use Rattle.gl_base.specs.Planned.{planned_answer}
 use Rattle.gl_base.specs.declared.errno.Errno.{Errno}
@@ -8,8 +7,7 @@ use Rattle.gl_base.specs.declared.errno.Errno.TheVariants.{Full, Io, NoMemory}
 use Rattle.gl_base.specs.declared.lines.Lines.{Lines}
 use Rattle.gl_driver.specs.Calls.{FitsOp}
 use Rattle.gl_driver.specs.Told.{Told, faults_after, with_call}
-use Rattle.gl_driver.specs.declared.op.Op.{Op}
-use Rattle.gl_driver.specs.declared.op.Op.TheVariants.{Get, Set, Apply}
+use Rattle.gl_base.specs.declared.op.Op.{Op}
 use Rattle.gl_uapi.specs.Command.{command_of, size_of}
 use Rattle.gl_uapi.specs.declared.commands.Command.{Command}
 use Rattle.gl_uapi.specs.declared.commands.Command.TheVariants.{GetLine, SetConfig, GetValues, SetValues}
@@ -20,7 +18,7 @@ use Rattle.gl_gate.specs.Grown.{Grew}
 use Rattle.gl_model.specs.declared.call.Call.{Call}
 use Rattle.gl_model.specs.declared.reply.Reply.{Reply}
 use Rattle.gl_model.specs.declared.reply.Reply.TheVariants.{Number, Go, Refused}
-use Rattle.gl_model.specs.Asked.{asked_in, lines_asked, request_fault}
+use Rattle.gl_model.specs.Asked.{request_fault}
 use Rattle.gl_model.specs.Entries.{begins}
 use Rattle.gl_model.specs.Machine.{reply_of}
 use Rattle.gl_model.specs.declared.device_call.CommandIn.{CommandIn}
@@ -29,33 +27,13 @@ use Rattle.gl_model.specs.Parts.{MakesTwo, in_ask, in_tell, is_driver_asked, las
 use Rattle.gl_model.specs.Places.{place_at}
 use Rattle.gl_model.specs.Replies.{AsksLockedOutput, SetsLockedOutput}
 use Rattle.gl_model.specs.Step.{guard_reply}
-use Rattle.gl_model.specs.Values.{bits_in, mask_in}
 use Rattle.gl_model.specs.World.{World}
-use Rattle.gl_chip.specs.Called.{EndsWithLast, HadRoom, HasCalled, last_bytes}
+use Rattle.gl_chip.specs.Called.{EndsWithLast, HadRoom, HasCalled}
+use Rattle.gl_core.specs.Device.{OneDeed, OneEntry, core, last_bytes}
 use Rattle.gl_chip.specs.Files.{LineFile}
 use Rattle.gl_asking.specs.Results.{value_of}
 use Rattle.gl_chip.specs.Steps.{FoundNoRoom}
-use Rattle.gl_chip.specs.Values.{ActorValue, MayOwn, OneDeed, OneEntry, OneView, core}
-
--- what the driver is asked for a request with these bytes, by what is wrong with the bytes alone: nothing where something is
-abbrev pub op_requested : Option Errno → List ℕ → Option Op
-op_requested None bytes = Some (Apply (lines_asked bytes) (asked_in bytes).settings)
-op_requested (Some errno) bytes = None
-
--- What the driver is asked for a command with this structure, on a request with these lines: SET_CONFIG applies the settings that
--- the structure gives to each of them, GET_VALUES gets them, SET_VALUES sets those of the mask to the bits. GET_LINE applies, to the lines
--- that its structure names, the settings that it gives to each. For no other command it is asked.
-abbrev pub op_of : Lines → Option Command → List ℕ → Option Op
-op_of lines None bytes = None
-op_of lines (Some GetLine) bytes = op_requested (request_fault (take (size_of GetLine) bytes)) (take (size_of GetLine) bytes)
-op_of lines (Some SetConfig) bytes = Some (Apply lines (resolved_for (take (size_of SetConfig) bytes) lines.count))
-op_of lines (Some GetValues) bytes = Some (Get lines)
-op_of lines (Some SetValues) bytes = Some (Set lines (mask_in (take (size_of SetValues) bytes)) (bits_in (take (size_of SetValues) bytes)))
-op_of lines (Some command) bytes = None
-
--- what the driver is asked for a command on a file of these lines, where it is asked
-abbrev pub op_for : Lines → CommandIn → Option Op
-op_for lines c = op_of lines (command_of c.cmd) c.bytes
+use Rattle.gl_chip.specs.Values.{ActorValue, MayOwn, OneView}
 
 -- there is an operation, on 1 to 64 lines
 abbrev pub IsOp : Option Op → Type 0

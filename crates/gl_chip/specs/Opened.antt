@@ -4,7 +4,7 @@ use Rattle.gl_registry.specs.Chips.{place_of_word}
 use Rattle.gl_world.specs.History.{fold}
 use Rattle.gl_model.specs.Chips.{is_leaving, phase_at}
 use Rattle.gl_model.specs.World.{World}
-use Rattle.gl_chip.specs.Values.{OneEntry, core}
+use Rattle.gl_core.specs.Device.{OneEntry, core}
 
 -- the chip of a place, if there is such a place, is leaving
 abbrev pub is_leaving_at : Option ℕ → World → Bool

@@ -4,7 +4,7 @@ use Rattle.gl_base.specs.declared.errno.Errno.{Errno}
 use Rattle.gl_base.specs.declared.errno.Errno.TheVariants.{Full, NoMemory}
 use Rattle.gl_base.specs.declared.lines.Lines.{Lines}
 use Rattle.gl_driver.specs.Told.{Told}
-use Rattle.gl_driver.specs.declared.op.Op.{Op}
+use Rattle.gl_base.specs.declared.op.Op.{Op}
 use Rattle.gl_uapi.specs.declared.layout.TheConstants.{LINE_REQUEST_SIZE}
 use Rattle.gl_model.specs.declared.device_call.CommandIn.{CommandIn}
 use Rattle.gl_model.specs.declared.device_call.DeviceCall.{DeviceCall}
@@ -21,10 +21,12 @@ use Rattle.gl_asking.specs.Handed.{command_in}
 use Rattle.gl_asking.specs.Rows.{HasLines, is_chip}
 use Rattle.gl_chip.specs.Called.{HasCalled}
 use Rattle.gl_chip.specs.Calling.{Answers}
-use Rattle.gl_chip.specs.Commanding.{HasCommanded, IsOp, op_for}
+use Rattle.gl_chip.specs.Commanding.{HasCommanded, IsOp}
+use Rattle.gl_asking.specs.Driving.{op_for}
 use Rattle.gl_chip.specs.Removing.{AllDrained}
 use Rattle.gl_chip.specs.Steps.{FoundNoRoom}
-use Rattle.gl_chip.specs.Values.{ActorValue, OneEntry, core}
+use Rattle.gl_chip.specs.Values.{ActorValue}
+use Rattle.gl_core.specs.Device.{OneEntry, core}
 
 -- the lines that a command is on: on a chip those that its structure names, on a request the request's
 abbrev pub lines_on : FileKind → CommandIn → Lines

@@ -25,7 +25,8 @@ use Rattle.gl_model.specs.World.{World}
 use Rattle.gl_chip.specs.Called.{IsMade}
 use Rattle.gl_asking.specs.Results.{done_of}
 use Rattle.gl_chip.specs.Steps.{EndsWith, FoundNoRoom, deed_of}
-use Rattle.gl_chip.specs.Values.{OneDeed, OneEntry, OneView, core}
+use Rattle.gl_core.specs.Device.{OneDeed, OneEntry, core}
+use Rattle.gl_chip.specs.Values.{OneView}
 
 -- the call is the first one of a removal
 abbrev pub is_first_call : Call → Bool

@@ -1,35 +1,22 @@
 -- What contracts see of the device and of its actors.
 use Rattle.std.specs.Prelude.{◌≡◌, ℕ, false, List}
 use Rattle.gl_base.specs.Rows.{Each}
-use Rattle.gl_world.specs.declared.machine.Machine.{Ghosts}
-use Rattle.gl_world.specs.declared.history.Entry.{Entry}
-use Rattle.gl_world.specs.Deeds.{Deed}
 use Rattle.gl_world.specs.Removal.{AllQuiet}
 use Rattle.gl_world.specs.History.{StartsWith}
 use Rattle.gl_rule.specs.declared.view.View.{View}
 use Rattle.gl_gate.specs.Values.{GateValue, PassValue, IsPassOf}
 use Rattle.gl_gate.specs.Calls.{KnowsAsMuch}
 use Rattle.gl_gate.specs.Grown.{IsFree}
-use Rattle.gl_driver.specs.declared.op.Op.{Op}
+use Rattle.gl_base.specs.declared.op.Op.{Op}
 use Rattle.gl_model.specs.declared.call.Call.{Call}
 use Rattle.gl_model.specs.declared.gift.Gift.{Gift}
 use Rattle.gl_model.specs.declared.reply.Reply.{Reply}
 use Rattle.gl_model.specs.Calling.{AreOfCalls}
 use Rattle.gl_model.specs.Entries.{is_get_line_call}
-use Rattle.gl_model.specs.Machine.{machine}
+use Rattle.gl_core.specs.Device.{OneEntry, core}
 use Rattle.gl_core.specs.Kept.{Kept, StandsFor}
 
--- the machine of every device
-abbrev pub core : Ghosts Kept Call Reply Gift
-core = machine StandsFor
-
--- an entry of its history, what an actor did there, and what a pass of its gate knows
-abbrev pub OneEntry : Type 0
-OneEntry = Entry Kept Call Reply Gift
-
-abbrev pub OneDeed : Type 0
-OneDeed = Deed Kept Call Reply Gift
-
+-- what a pass of its gate knows
 abbrev pub OneView : Type 0
 OneView = View Kept Call Reply Gift
 

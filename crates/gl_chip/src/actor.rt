@@ -30,7 +30,8 @@ impl<D: Driver<Core>> Actor<D> {
     ghost use Rattle.gl_rule.specs.Turn.{NoStrangers};
     ghost use Rattle.gl_gate.specs.Calls.{HasItsOwn};
     ghost use Rattle.gl_driver.specs.Told.{with_plan};
-    ghost use Rattle.gl_chip.specs.Values.{IsIdle, core};
+    ghost use Rattle.gl_core.specs.Device.{core};
+    ghost use Rattle.gl_chip.specs.Values.{IsIdle};
 
     /// The number of the actor: that of its entries. The first actor of a device has 0.
     ///

@@ -7,7 +7,7 @@ ghost use Rattle.gl_uapi.specs.Command.{command_of, size_of};
 ghost use Rattle.gl_uapi.specs.declared.layout.TheConstants.{LINE_REQUEST_SIZE};
 ghost use Rattle.gl_model.specs.Asked.{request_fault};
 ghost use Rattle.gl_model.specs.Parts.{is_driver_asked};
-ghost use Rattle.gl_chip.specs.Commanding.{op_of, op_requested};
+ghost use Rattle.gl_asking.specs.Driving.{op_of, op_requested};
 
 use gl_asking::lines_in;
 use gl_attrs::{resolve, settings_of};

@@ -14,7 +14,8 @@ ghost use Rattle.gl_model.specs.Parts.{in_ask, is_driver_asked};
 ghost use Rattle.gl_chip.specs.Commanding.{CommandedInside, IsOp, IsOpAfterGo, HasCommanded};
 ghost use Rattle.gl_asking.specs.Handed.{command_in};
 ghost use Rattle.gl_chip.specs.Steps.{FoundNoRoom, Owes, StoodFull};
-ghost use Rattle.gl_chip.specs.Values.{IsActorOf, IsSameActor, core};
+ghost use Rattle.gl_chip.specs.Values.{IsActorOf, IsSameActor};
+ghost use Rattle.gl_core.specs.Device.{core};
 
 use crate::actor::Actor;
 use crate::commands::OpenFile;

@@ -14,7 +14,8 @@ ghost use Rattle.gl_chip.specs.Called.{ComesOut, HasCalled};
 ghost use Rattle.gl_asking.specs.Handed.{command_in};
 ghost use Rattle.gl_asking.specs.Results.{done_of};
 ghost use Rattle.gl_chip.specs.Steps.{FoundNoRoom};
-ghost use Rattle.gl_chip.specs.Values.{IsActorOf, IsSameActor, core};
+ghost use Rattle.gl_chip.specs.Values.{IsActorOf, IsSameActor};
+ghost use Rattle.gl_core.specs.Device.{core};
 
 use crate::actor::Actor;
 use crate::gpio::Gpio;

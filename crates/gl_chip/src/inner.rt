@@ -14,7 +14,8 @@ ghost use Rattle.gl_model.specs.Written.{bytes_written};
 ghost use Rattle.gl_model.specs.Step.{guard_reply};
 ghost use Rattle.gl_chip.specs.Called.{HasCalled};
 ghost use Rattle.gl_chip.specs.Steps.{FoundNoRoom};
-ghost use Rattle.gl_chip.specs.Values.{IsActorOf, IsSameActor, core};
+ghost use Rattle.gl_chip.specs.Values.{IsActorOf, IsSameActor};
+ghost use Rattle.gl_core.specs.Device.{core};
 
 use crate::actor::Actor;
 use crate::gpio::Gpio;

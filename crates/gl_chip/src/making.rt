@@ -7,7 +7,8 @@ ghost use Rattle.gl_world.specs.History.{StartsWith, Legal, fold, entries_of};
 ghost use Rattle.gl_rule.specs.Views.{newcomer, with_one_more, taking_in};
 ghost use Rattle.gl_gate.specs.Calls.{HasItsOwn, HasAllOf, KnowsAsMuch};
 ghost use Rattle.gl_core.specs.Kept.{StandsFor};
-ghost use Rattle.gl_chip.specs.Values.{IsActorOf, IsQuietDriver, core};
+ghost use Rattle.gl_chip.specs.Values.{IsActorOf, IsQuietDriver};
+ghost use Rattle.gl_core.specs.Device.{core};
 
 use crate::actor::Actor;
 use crate::gpio::Gpio;

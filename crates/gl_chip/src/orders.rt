@@ -13,10 +13,12 @@ ghost use Rattle.gl_asking.specs.Fitting.{FitsDevice};
 ghost use Rattle.gl_asking.specs.Handed.{command_in};
 ghost use Rattle.gl_asking.specs.Rows.{HasLines, is_chip};
 ghost use Rattle.gl_chip.specs.Called.{HasCalled};
-ghost use Rattle.gl_chip.specs.Commanding.{HasCommanded, IsOp, op_for};
+ghost use Rattle.gl_chip.specs.Commanding.{HasCommanded, IsOp};
+ghost use Rattle.gl_asking.specs.Driving.{op_for};
 ghost use Rattle.gl_chip.specs.Orders.{AnswersOrder, CouldNot, FitsOrder, HasDone, WroteTo, lines_on, op_ordered};
 ghost use Rattle.gl_chip.specs.Removing.{is_first_call, removal_of};
-ghost use Rattle.gl_chip.specs.Telling.{PortAfter, tells_in};
+ghost use Rattle.gl_driver.specs.Told.{PortAfter};
+ghost use Rattle.gl_core.specs.Device.{tells_in};
 ghost use Rattle.gl_chip.specs.Values.{IsActorOf, IsSameActor};
 
 use crate::actor::Actor;

@@ -13,7 +13,8 @@ ghost use Rattle.gl_chip.specs.Called.{ComesOut};
 ghost use Rattle.gl_chip.specs.Opened.{LastFinds};
 ghost use Rattle.gl_chip.specs.Removing.{EndsAsBegun, RemovesOut, is_gone_outside};
 ghost use Rattle.gl_asking.specs.Results.{done_of};
-ghost use Rattle.gl_chip.specs.Values.{IsActorOf, IsSameActor, core};
+ghost use Rattle.gl_chip.specs.Values.{IsActorOf, IsSameActor};
+ghost use Rattle.gl_core.specs.Device.{core};
 
 use crate::actor::Actor;
 use crate::gpio::Gpio;

@@ -15,7 +15,8 @@ ghost use Rattle.gl_model.specs.Fits.{FitsGift};
 ghost use Rattle.gl_model.specs.Parts.{is_driver_asked};
 ghost use Rattle.gl_model.specs.Written.{number_answered};
 ghost use Rattle.gl_chip.specs.Answering.{AnswersInOrder, RequestsInOrder, WasLetIn};
-ghost use Rattle.gl_chip.specs.Commanding.{CommandsOut, TakesMemory, op_for, requested_of};
+ghost use Rattle.gl_chip.specs.Commanding.{CommandsOut, TakesMemory, requested_of};
+ghost use Rattle.gl_asking.specs.Driving.{op_for};
 ghost use Rattle.gl_asking.specs.Handed.{command_in};
 ghost use Rattle.gl_chip.specs.Values.{IsActorOf, IsSameActor};
 

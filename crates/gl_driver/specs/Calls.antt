@@ -8,8 +8,8 @@ use Rattle.gl_rule.specs.declared.view.View.{View}
 use Rattle.gl_rule.specs.Turn.{owes}
 use Rattle.gl_gate.specs.Values.{GateValue}
 use Rattle.gl_gate.specs.Calls.{IsInside, HoldsNoTurn, KnowsAsMuch}
-use Rattle.gl_driver.specs.declared.op.Op.{Op}
-use Rattle.gl_driver.specs.declared.op.Op.TheVariants.{Get, Set, Apply}
+use Rattle.gl_base.specs.declared.op.Op.{Op}
+use Rattle.gl_base.specs.declared.op.Op.TheVariants.{Apply, Get, Set}
 
 -- an operation on 1 to 64 lines, with as many settings
 abbrev pub FitsOp : Op → Type 0

@@ -1,8 +1,8 @@
 -- Levels of lines, as bits.
 use Rattle.std.specs.Prelude.{ℕ, ◌+◌, ◌*◌, cond, Bool, false, Option, Some, None, List, [], ◌∷◌, slice_get}
 use Rattle.gl_base.specs.Lines.{offsets_of}
-use Rattle.gl_driver.specs.declared.op.Op.{Op}
-use Rattle.gl_driver.specs.declared.op.Op.TheVariants.{Get, Set, Apply}
+use Rattle.gl_base.specs.declared.op.Op.{Op}
+use Rattle.gl_base.specs.declared.op.Op.TheVariants.{Apply, Get, Set}
 
 abbrev pub level_or_low : Option Bool → Bool
 level_or_low (Some level) = level

@@ -1,8 +1,8 @@
 -- What a port tells, and what calls make of it.
-use Rattle.std.specs.Prelude.{ℕ, if◌then◌else◌, Option, Some, None, Result, Ok, Err}
+use Rattle.std.specs.Prelude.{◌≡◌, ℕ, Bool, true, if◌then◌else◌, List, [], ◌∷◌, Option, Some, None, IfSome, Result, Ok, Err}
 use Rattle.gl_base.specs.Count.{counted_up}
-use Rattle.gl_base.specs.Planned.{planned_call, names_call}
-use Rattle.gl_driver.specs.declared.op.Op.{Op}
+use Rattle.gl_base.specs.Planned.{planned_answer, planned_call, names_call}
+use Rattle.gl_base.specs.declared.op.Op.{Op}
 use Rattle.gl_driver.specs.declared.op.Asked.{Asked}
 use Rattle.gl_driver.specs.declared.op.DriverFault.{DriverFault}
 
@@ -40,3 +40,11 @@ unless_planned answer None = answer
 abbrev pub faults_after : Option ℕ → ℕ → ℕ
 faults_after (Some bits) faults = faults
 faults_after None faults = counted_up faults
+
+-- What becomes of a port by the answers that a call told: none, or one, to just what the driver is asked for the call. A planned driver
+-- answers as the port plans.
+abbrev pub PortAfter : Bool → Option Op → List (Option ℕ) → Option Told → Option Told → Type 0
+PortAfter is_planned op [] before after = after ≡ before
+PortAfter is_planned op (answer ∷ answers) before after =
+    (asked : Op) × (op ≡ Some asked) × (after ≡ with_call asked answer before)
+    × (is_planned ≡ true → IfSome before (λ told. answer ≡ planned_answer told.plan (counted_up told.calls)))

@@ -5,13 +5,13 @@ ghost use Rattle.gl_gate.specs.Values.{IsPassOf};
 ghost use Rattle.gl_gate.specs.Calls.{IsInside, HoldsNoTurn};
 ghost use Rattle.gl_base.specs.Count.{counted_up, Rises};
 ghost use Rattle.gl_base.specs.Planned.{planned_answer};
-ghost use Rattle.gl_driver.specs.declared.op.Op.{Op};
+ghost use Rattle.gl_base.specs.declared.op.Op.{Op};
 ghost use Rattle.gl_driver.specs.Told.{with_call, answer_of, faults_after};
 ghost use Rattle.gl_driver.specs.Calls.{FitsOp, MayMakeEntries, IsBack};
 
-use crate::op::{DriverFault, Op};
+use crate::op::DriverFault;
 use crate::port::Port;
-use gl_base::PLACES;
+use gl_base::{Op, PLACES};
 use gl_gate::{Gate, Pass};
 use gl_world::Machine;
 use std::sync::Wait;

@@ -9,10 +9,10 @@ ghost use Rattle.gl_driver.specs.Calls.{FitsOp, IsBack};
 ghost use Rattle.gl_driver.specs.Levels.{level_at, bits_at, answer_from};
 
 use crate::driver::Driver;
-use crate::op::{DriverFault, Op};
+use crate::op::DriverFault;
 use crate::port::Port;
 use crate::sim::SimPort;
-use gl_base::LINES_PER_REQUEST;
+use gl_base::{LINES_PER_REQUEST, Op};
 use gl_gate::{Gate, Pass};
 use gl_world::Machine;
 use std::marker::Model;

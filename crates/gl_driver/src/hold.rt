@@ -8,10 +8,11 @@ ghost use Rattle.gl_driver.specs.Told.{with_call, answer_of, unless_planned, fau
 ghost use Rattle.gl_driver.specs.Calls.{FitsOp, IsBack};
 
 use crate::driver::Driver;
-use crate::op::{DriverFault, Op};
+use crate::op::DriverFault;
 use crate::port::Port;
 use crate::sim::SimPort;
 use crate::waiting::waits_for;
+use gl_base::Op;
 use gl_gate::{Gate, Pass};
 use gl_world::Machine;
 use std::marker::Model;

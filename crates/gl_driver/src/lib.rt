@@ -14,8 +14,9 @@ mod waiting;
 
 pub use driver::Driver;
 pub use fake::FakeDriver;
+pub use gl_base::Op;
 pub use hold::HoldDriver;
 pub use latch::{FirstCallDriver, KeepsFirstCall, Latch, LatchDriver};
-pub use op::{Asked, DriverFault, Op};
+pub use op::{Asked, DriverFault};
 pub use port::Port;
 pub use sim::{SimDriver, SimPort};

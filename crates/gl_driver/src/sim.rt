@@ -6,9 +6,9 @@ ghost use Rattle.gl_base.specs.Planned.{names_call};
 ghost use Rattle.gl_driver.specs.Told.{new_port, with_call, answer_of, unless_planned, faults_after};
 
 use crate::driver::Driver;
-use crate::op::{Asked, DriverFault, Op};
+use crate::op::{Asked, DriverFault};
 use crate::port::Port;
-use gl_base::count_up;
+use gl_base::{Op, count_up};
 use gl_gate::{Gate, Pass};
 use gl_world::Machine;
 use std::sync::Wait;

@@ -11,10 +11,13 @@ use Rattle.gl_args.specs.Program.{Program, done}
 use Rattle.gl_driver.specs.Told.{Told}
 use Rattle.gl_script.specs.Section.{SaidSection}
 use Rattle.gl_talk.specs.Open.{Names}
-use Rattle.gl_chip.specs.Values.{OneEntry, OneView, core}
-use Rattle.gl_session.specs.Alone.{setup_of}
-use Rattle.gl_session.specs.Many.{AllPlayed, CameToMany, Texts, actor_sections, program_of}
-use Rattle.gl_session.specs.Performed.{PlaysOn, carried}
+use Rattle.gl_core.specs.Device.{OneEntry, core}
+use Rattle.gl_chip.specs.Values.{OneView}
+use Rattle.gl_check.specs.Programs.{setup_of}
+use Rattle.gl_check.specs.Many.{AllPlayed, Texts, actor_sections, program_of}
+use Rattle.gl_session.specs.Many.{CameToMany}
+use Rattle.gl_session.specs.Performed.{PlaysOn}
+use Rattle.gl_check.specs.Turns.{carried}
 use Rattle.gl_session.specs.Ports.{AreAllThere}
 use Rattle.gl_session.specs.Workers.{AreKept, CameOut, HasCarriedOut, there_at, told_at}
 use Rattle.gl_session.proofs.Ends.{all_played}

@@ -8,7 +8,8 @@ use Rattle.gl_world.specs.History.{entries_of}
 use Rattle.gl_world.proofs.Deeds.{deeds_stay}
 use Rattle.gl_gate.specs.Calls.{HasItsOwn}
 use Rattle.gl_gate.proofs.Grown.{grown_has_its_own}
-use Rattle.gl_chip.specs.Values.{OneEntry, OneView, core}
+use Rattle.gl_core.specs.Device.{OneEntry, core}
+use Rattle.gl_chip.specs.Values.{OneView}
 use Rattle.gl_session.specs.Alone.{FirstActorIsAlone, FirstActorSeesItself}
 
 -- a history of actor 0 alone is its entries

@@ -13,8 +13,8 @@ use Rattle.gl_world.specs.Laws.{Laws}
 use Rattle.gl_world.proofs.Deeds.{entries_in_append}
 use Rattle.gl_args.specs.Program.{Program, done}
 use Rattle.gl_core.specs.Kept.{StandsFor}
-use Rattle.gl_driver.specs.Told.{Told, with_call, with_plan}
-use Rattle.gl_driver.specs.declared.op.Op.{Op}
+use Rattle.gl_driver.specs.Told.{PortAfter, Told, with_call, with_plan}
+use Rattle.gl_base.specs.declared.op.Op.{Op}
 use Rattle.gl_model.specs.declared.reply.Reply.{Reply}
 use Rattle.gl_model.specs.declared.reply.Reply.TheVariants.{Done as DoneReply, Refused as RefusedReply}
 use Rattle.gl_model.specs.declared.device_call.DeviceCall.{DeviceCall}
@@ -24,12 +24,16 @@ use Rattle.gl_script.specs.Section.{SaidSection}
 use Rattle.gl_script.specs.declared.section.SectionKind.TheVariants.{Setup, Actor, After}
 use Rattle.gl_talk.specs.Open.{Names, no_names}
 use Rattle.gl_talk.specs.Talk.{quits, says, talks}
-use Rattle.gl_chip.specs.Values.{OneDeed, OneEntry, core}
-use Rattle.gl_session.specs.Alone.{AnswersAsPlanned, IsAlone, Part, PlayedSession, PortTells, PrintsOne, TellsAfter, answered_last, calls_after, last_or}
-use Rattle.gl_session.specs.Asking.{Asking, Calls, Plans, Refuses, asking, files_behind, got_of, op_asked}
-use Rattle.gl_session.specs.Files.{OpenFile}
-use Rattle.gl_session.specs.One.{Answers, PlannedPort, Ran, Standing, TellingPort, came_to, comes_to, entry_count, first_of_list, from_list, from_plan, from_port, is_asked, performs, performs_as, rest_of_list, run, run_actor, run_session, run_setup, said_in_kind, told_behind, told_of, with_answer, with_entries}
-use Rattle.gl_session.specs.Turns.{Carried, Carries, Did, DidNothing, Exchange, Follows, HasMade, IsDone, PortAfter, Said, Turn, call_tells, did_by, said_by, tells_in}
+use Rattle.gl_core.specs.Device.{OneDeed, OneEntry, call_tells, core, tells_in}
+use Rattle.gl_session.specs.Alone.{AnswersAsPlanned, IsAlone, Part, PlayedSession, PortTells, PrintsOne}
+use Rattle.gl_check.specs.Tells.{TellsAfter, answered_last, calls_after, last_or}
+use Rattle.gl_asking.specs.declared.kinds.Asking.{Asking}
+use Rattle.gl_asking.specs.declared.kinds.Asking.TheVariants.{Calls, Plans, Refuses}
+use Rattle.gl_asking.specs.Asking.{asking, files_behind, got_of}
+use Rattle.gl_asking.specs.Driving.{op_asked}
+use Rattle.gl_asking.specs.Files.{OpenFile}
+use Rattle.gl_check.specs.One.{Answers, PlannedPort, Ran, Standing, TellingPort, came_to, comes_to, entry_count, first_of_list, from_list, from_plan, from_port, is_asked, performs, performs_as, rest_of_list, run, run_actor, run_session, run_setup, said_in_kind, told_behind, told_of, with_answer, with_entries}
+use Rattle.gl_check.specs.Turns.{Carried, Carries, Did, DidNothing, Exchange, Follows, HasMade, IsDone, Said, Turn, did_by, said_by}
 use Rattle.gl_session.proofs.OneCalls.{Came, Comes, comes}
 use Rattle.gl_session.proofs.OneHistories.{IsSteady, Rest, length_entries}
 

@@ -6,8 +6,9 @@ use Rattle.gl_driver.specs.Told.{Told}
 use Rattle.gl_script.specs.Section.{SaidSection}
 use Rattle.gl_trace.specs.EntryText.{HasText}
 use Rattle.gl_trace.proofs.Legal.{legal_entries_have_texts}
-use Rattle.gl_chip.specs.Values.{OneEntry}
-use Rattle.gl_session.specs.Many.{CameToMany, Texts}
+use Rattle.gl_core.specs.Device.{OneEntry}
+use Rattle.gl_session.specs.Many.{CameToMany}
+use Rattle.gl_check.specs.Many.{Texts}
 
 -- each entry has a text
 pub entries_told : (is_planned : Bool) (sections : List SaidSection) (before left : ℕ → Option Told) (history items : List OneEntry) (texts : Texts) → items ≡ history → CameToMany is_planned sections before left history texts

@@ -22,7 +22,7 @@ use Rattle.gl_world.proofs.Deeds.{deeds_entries}
 use Rattle.gl_world.proofs.Histories.{answered_prefix, answered_rest, entries_append, fold_append, placed_prefix}
 use Rattle.gl_args.specs.Program.{Program, done, print, ask, then_by}
 use Rattle.gl_driver.specs.Told.{Told}
-use Rattle.gl_driver.specs.declared.op.Op.{Op}
+use Rattle.gl_base.specs.declared.op.Op.{Op}
 use Rattle.gl_model.specs.Calling.{AreOfCalls, Called, IsCalled, made_by}
 use Rattle.gl_model.specs.Claiming.{is_claim_of}
 use Rattle.gl_model.specs.Holders.{HoldersAgree}
@@ -37,18 +37,20 @@ use Rattle.gl_model.proofs.HoldersLaw.{holders_always_agree}
 use Rattle.gl_core.specs.Kept.{Kept, StandsFor}
 use Rattle.gl_asking.specs.Handed.{command_in}
 use Rattle.gl_asking.specs.Opened.{place_named}
-use Rattle.gl_chip.specs.Values.{OneDeed, OneEntry, core}
+use Rattle.gl_core.specs.Device.{OneDeed, OneEntry, core}
 use Rattle.gl_talk.specs.Numbers.{CloseByNumber, Numbered, NumbersFiles, has_less, has_slot, numbered_behind, with_number}
 use Rattle.gl_talk.specs.Open.{Names, no_names, slots_in_order}
 use Rattle.gl_talk.specs.Talk.{closes_all, quits, says}
 use Rattle.gl_talk.proofs.FileNumbers.{files_close_by_number}
 use Rattle.gl_talk.proofs.InARow.{are_statements_and_the_end}
-use Rattle.gl_session.specs.Asking.{Asking, Calls, Plans, Refuses, asking, buffer_of, files_behind, got_of, lines_named, made_by as made_of_kind, made_on, on_file, once, op_asked, with_request}
+use Rattle.gl_asking.specs.declared.kinds.Asking.{Asking}
+use Rattle.gl_asking.specs.declared.kinds.Asking.TheVariants.{Calls, Plans, Refuses}
+use Rattle.gl_asking.specs.Asking.{asking, buffer_of, files_behind, got_of, lines_named, made_by as made_of_kind, made_on, on_file, once, with_request}
+use Rattle.gl_asking.specs.Driving.{op_asked}
 use Rattle.gl_session.specs.Closings.{ActorsCloseByNumber, AreKept, closed_by, closed_in, number_in, numbers_of}
-use Rattle.gl_session.specs.Files.{OpenFile, chip_file, file_in, is_in, line_file, without_file}
-use Rattle.gl_session.specs.Many.{actor_sections, no_section, words_of}
-use Rattle.gl_session.specs.Performed.{carried}
-use Rattle.gl_session.specs.Turns.{Carried, Did, Exchange, Follows, IsDone, Said, Turn, did_by}
+use Rattle.gl_asking.specs.Files.{OpenFile, chip_file, file_in, is_in, line_file, without_file}
+use Rattle.gl_check.specs.Many.{actor_sections, no_section, words_of}
+use Rattle.gl_check.specs.Turns.{Carried, Did, Exchange, Follows, IsDone, Said, Turn, carried, did_by}
 use Rattle.gl_session.proofs.Numbering.{ClaimsFrom, IsAnswer, IsMade, IsRefused, get_line_answers, next_after, open_answers}
 use Rattle.gl_session.proofs.Plays.{did_append}
 

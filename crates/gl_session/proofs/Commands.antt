@@ -13,19 +13,21 @@ use Rattle.gl_base.specs.declared.operation.Got.{Got}
 use Rattle.gl_base.specs.declared.operation.Got.TheVariants.{Bytes}
 use Rattle.gl_uapi.specs.declared.layout.TheConstants.{LINE_REQUEST_SIZE}
 use Rattle.gl_world.specs.Deeds.{entries_in}
-use Rattle.gl_driver.specs.Told.{Told}
-use Rattle.gl_driver.specs.declared.op.Op.{Op}
+use Rattle.gl_driver.specs.Told.{PortAfter, Told}
+use Rattle.gl_base.specs.declared.op.Op.{Op}
 use Rattle.gl_model.specs.declared.reply.Reply.{Reply}
 use Rattle.gl_model.specs.declared.reply.Reply.TheVariants.{Done, Number, Go, Found, Text, Ready, Refused}
 use Rattle.gl_model.specs.declared.device_call.CommandIn.{CommandIn}
 use Rattle.gl_model.specs.declared.device_call.DeviceCall.TheVariants.{Commanding}
 use Rattle.gl_model.specs.Parts.{Makes}
-use Rattle.gl_chip.specs.Commanding.{CommandsOut, IsCommanded, is_asked, op_for}
-use Rattle.gl_chip.specs.Commanding.{PortOf}
+use Rattle.gl_asking.specs.Driving.{lines_by, op_asked, op_for, op_on}
+use Rattle.gl_chip.specs.Commanding.{CommandsOut, IsCommanded, PortOf, is_asked}
 use Rattle.gl_chip.proofs.Telling.{at_port, none_own}
-use Rattle.gl_chip.specs.Values.{ActorValue, OneEntry, core}
+use Rattle.gl_chip.specs.Values.{ActorValue}
+use Rattle.gl_core.specs.Device.{OneEntry, core, tells_in}
 use Rattle.gl_session.specs.Answers.{came}
-use Rattle.gl_session.specs.Asking.{Calls, asking, buffer_of, files_behind, got_by, got_of, lines_by, lines_named, made_by, made_on, op_asked, op_on, written_over}
+use Rattle.gl_asking.specs.declared.kinds.Asking.TheVariants.{Calls}
+use Rattle.gl_asking.specs.Asking.{asking, buffer_of, files_behind, got_by, got_of, lines_named, made_by, made_on, written_over}
 use Rattle.gl_session.specs.Making.{IsCommanding, kept_with, none_made, request_of}
 use Rattle.gl_session.specs.Rows.{fd_of, files_of, is_chip, is_row, lines_of, place_of, row_file}
 use Rattle.gl_session.specs.declared.files.FileRow.{FileRow}
@@ -33,9 +35,9 @@ use Rattle.gl_chip.specs.Files.{LineFile}
 use Rattle.gl_asking.specs.Handed.{command_in}
 use Rattle.gl_asking.specs.Results.{done_of}
 use Rattle.gl_chip.specs.Steps.{FoundNoRoom}
-use Rattle.gl_session.specs.Files.{OpenFile, file_in}
-use Rattle.gl_session.specs.Performed.{Performs, carried}
-use Rattle.gl_session.specs.Turns.{PortAfter, tells_in}
+use Rattle.gl_asking.specs.Files.{OpenFile, file_in}
+use Rattle.gl_session.specs.Performed.{Performs}
+use Rattle.gl_check.specs.Turns.{carried}
 use Rattle.gl_session.proofs.Performing.{err_or, found_file, full_outcome, is_ok, made_outcome, on_found, unless_wanted}
 
 module _ {X P : Type 0} (told : P → Option Told) (faults : P → ℕ) (Own : P → ℕ → Op → List OneEntry → Type 0) (is_planned : Bool) (what : Do) (value : X → Got) (answer : Reply → Result X Errno)

@@ -18,12 +18,11 @@ use Rattle.gl_script.specs.declared.section.SectionKind.TheVariants.{Setup, Acto
 use Rattle.gl_talk.specs.Open.{Names, no_names}
 use Rattle.gl_talk.specs.Talk.{quits, talks}
 use Rattle.gl_talk.proofs.StatementCosts.{end_cost, says_cost}
-use Rattle.gl_chip.specs.Values.{OneDeed, OneEntry, core}
-use Rattle.gl_session.specs.Alone.{after_of, setup_of}
-use Rattle.gl_session.specs.Many.{AllPlayed, Texts, actor_sections, no_section, program_of, words_of}
-use Rattle.gl_session.specs.One.{is_kind, said_in_kind}
-use Rattle.gl_session.specs.Performed.{carried}
-use Rattle.gl_session.specs.Turns.{Carried, Played, did_by}
+use Rattle.gl_core.specs.Device.{OneDeed, OneEntry, core}
+use Rattle.gl_check.specs.Programs.{after_of, setup_of}
+use Rattle.gl_check.specs.Many.{AllPlayed, Texts, actor_sections, no_section, program_of, words_of}
+use Rattle.gl_check.specs.One.{is_kind, said_in_kind}
+use Rattle.gl_check.specs.Turns.{Carried, Played, carried, did_by}
 use Rattle.gl_session.specs.Within.{cost_in_kind}
 use Rattle.gl_session.proofs.Silence.{actor_at}
 use Rattle.gl_session.proofs.Within.{entries_within_cost, sessions_cost_their_parts}

@@ -15,11 +15,12 @@ use Rattle.gl_args.specs.Program.{done}
 use Rattle.gl_driver.specs.Told.{Told}
 use Rattle.gl_script.specs.Section.{SaidSection}
 use Rattle.gl_talk.specs.Open.{Names}
-use Rattle.gl_chip.specs.Values.{OneDeed, OneEntry, OneView, core}
-use Rattle.gl_session.specs.Alone.{after_of, setup_of}
-use Rattle.gl_session.specs.Many.{ActorsPlayed, AllPlayed, actor_sections, program_of}
-use Rattle.gl_session.specs.Performed.{PlaysOn, carried}
-use Rattle.gl_session.specs.Turns.{Carried, Follows, Played, did_by}
+use Rattle.gl_core.specs.Device.{OneDeed, OneEntry, core}
+use Rattle.gl_chip.specs.Values.{OneView}
+use Rattle.gl_check.specs.Programs.{after_of, setup_of}
+use Rattle.gl_check.specs.Many.{ActorsPlayed, AllPlayed, actor_sections, program_of}
+use Rattle.gl_session.specs.Performed.{PlaysOn}
+use Rattle.gl_check.specs.Turns.{Carried, Follows, Played, carried, did_by}
 use Rattle.gl_session.specs.Workers.{AreKept, HasJoined, HasSplit, IsKept}
 
 nothing_more : (xs ys : List OneEntry) → xs ++ ys ≡ xs → ys ≡ []

@@ -16,8 +16,8 @@ use Rattle.gl_script.specs.declared.refusal.Spot.{Spot}
 use Rattle.gl_script.specs.declared.section.SectionKind.{SectionKind}
 use Rattle.gl_script.specs.declared.section.SectionKind.TheVariants.{Setup, Actor, After}
 use Rattle.gl_script.proofs.Spelling.{spelled}
-use Rattle.gl_session.specs.Many.{actor_sections}
-use Rattle.gl_session.specs.One.{is_kind}
+use Rattle.gl_check.specs.Many.{actor_sections}
+use Rattle.gl_check.specs.One.{is_kind}
 
 same_test : (kind : SectionKind) → is_actor kind ≡ is_kind Actor kind
 same_test Setup = refl

@@ -15,7 +15,7 @@ use Rattle.gl_script.specs.declared.refusal.RefusalKind.TheVariants.{Cost, TooLo
 use Rattle.gl_script.specs.declared.section.SectionKind.{SectionKind}
 use Rattle.gl_script.specs.declared.section.SectionKind.TheVariants.{Setup, Actor, After}
 use Rattle.gl_session.specs.Figures.{statement_count}
-use Rattle.gl_session.specs.One.{is_kind, said_in_kind}
+use Rattle.gl_check.specs.One.{is_kind, said_in_kind}
 use Rattle.gl_session.specs.OneActor.{IsSized, count_in_kind}
 
 count_append : (xs ys : List SaidSection) → statement_count (xs ++ ys) ≡ statement_count xs + statement_count ys

@@ -9,7 +9,7 @@ use Rattle.gl_script.specs.declared.section.Statement.{Statement}
 use Rattle.gl_words.specs.declared.asked.Task.{Task}
 use Rattle.gl_words.specs.declared.asked.Task.TheVariants.{Session, Load}
 use Rattle.gl_session.specs.Figures.{statement_count}
-use Rattle.gl_session.specs.Many.{no_section}
+use Rattle.gl_check.specs.Many.{no_section}
 
 -- the statements of a section are as many as their lines
 pub as_many_lines : (statements : List Statement) (lines : List Span) → map line_in statements ≡ lines → length statements ≡ length lines

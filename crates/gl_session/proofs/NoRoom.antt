@@ -17,12 +17,13 @@ use Rattle.gl_script.specs.Cost.{session_cost}
 use Rattle.gl_script.specs.Section.{SaidSection}
 use Rattle.gl_script.specs.declared.section.SectionKind.TheVariants.{Actor, After, Setup}
 use Rattle.gl_talk.specs.Open.{Names}
-use Rattle.gl_chip.specs.Values.{OneDeed, OneEntry, OneView, core}
-use Rattle.gl_session.specs.Alone.{after_of, setup_of}
-use Rattle.gl_session.specs.Asking.{asking}
-use Rattle.gl_session.specs.Many.{actor_sections, program_of}
-use Rattle.gl_session.specs.Performed.{PlaysOn, StoppedFull, carried}
-use Rattle.gl_session.specs.Turns.{Carried, did_by}
+use Rattle.gl_core.specs.Device.{OneDeed, OneEntry, core}
+use Rattle.gl_chip.specs.Values.{OneView}
+use Rattle.gl_check.specs.Programs.{after_of, setup_of}
+use Rattle.gl_asking.specs.Asking.{asking}
+use Rattle.gl_check.specs.Many.{actor_sections, program_of}
+use Rattle.gl_session.specs.Performed.{PlaysOn, StoppedFull}
+use Rattle.gl_check.specs.Turns.{Carried, carried, did_by}
 use Rattle.gl_session.specs.Within.{cost_in_kind}
 use Rattle.gl_session.specs.Workers.{AreKept, CannotEnd, HasForked, HasForkedFull, IsKept, told_at}
 use Rattle.gl_session.proofs.Alone.{first_actor_is_alone}

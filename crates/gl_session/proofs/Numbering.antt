@@ -39,7 +39,7 @@ use Rattle.gl_model.proofs.HoldersLaw.{holders_stay_agreed}
 use Rattle.gl_model.proofs.Phases.{some_none}
 use Rattle.gl_model.proofs.Replies.{replies_have_form}
 use Rattle.gl_model.proofs.Requests.{world_keeps}
-use Rattle.gl_chip.specs.Values.{OneEntry, core}
+use Rattle.gl_core.specs.Device.{OneEntry, core}
 
 -- rows of which P is true
 

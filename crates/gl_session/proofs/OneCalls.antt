@@ -24,10 +24,8 @@ use Rattle.gl_model.specs.declared.device_call.RemovalOf.TheVariants.{OfChip, Of
 use Rattle.gl_model.specs.Parts.{Makes, MakesAt, MakesCommand, MakesOne, MakesRest, MakesTwo, first_call, in_ask, in_tell, in_whole, is_driver_asked, is_poll, is_single, last_reply}
 use Rattle.gl_model.specs.Step.{guard_reply, step}
 use Rattle.gl_model.specs.World.{World}
-use Rattle.gl_chip.specs.Called.{last_bytes}
-use Rattle.gl_chip.specs.Values.{OneDeed, OneEntry, core}
-use Rattle.gl_session.specs.One.{at_guard, comes_to, count_inside, entry_count, inside, is_asked, is_closed, is_gone, one_or_two, two}
-use Rattle.gl_session.specs.Turns.{call_tells, tells_in}
+use Rattle.gl_core.specs.Device.{OneDeed, OneEntry, call_tells, core, last_bytes, tells_in}
+use Rattle.gl_check.specs.One.{at_guard, comes_to, count_inside, entry_count, inside, is_asked, is_closed, is_gone, one_or_two, two}
 use Rattle.gl_session.proofs.OneHistories.{FirstDeed, IsSteady, Rest, first_deed, length_entries, one_deed, removal_steady, still_steady, two_deeds}
 
 -- a call that is whole by itself tells no answer of a driver, and begins no removal

@@ -14,7 +14,7 @@ use Rattle.gl_base.specs.declared.operation.Got.TheVariants.{Bytes as GotBytes, 
 use Rattle.gl_base.specs.declared.kind.Kind.TheVariants.{Simulated}
 use Rattle.gl_world.specs.Deeds.{deeds_of, entries_in}
 use Rattle.gl_gate.specs.Grown.{Grew}
-use Rattle.gl_driver.specs.Told.{Told, with_plan}
+use Rattle.gl_driver.specs.Told.{PortAfter, Told, with_plan}
 use Rattle.gl_gate.specs.Values.{PassValue}
 use Rattle.gl_core.specs.Kept.{Kept}
 use Rattle.gl_model.specs.declared.gift.Gift.{Gift}
@@ -32,16 +32,20 @@ use Rattle.gl_asking.specs.Opened.{ChipFile, opened_of}
 use Rattle.gl_chip.specs.Removing.{RemovesOut}
 use Rattle.gl_asking.specs.Results.{done_of, number_of}
 use Rattle.gl_chip.specs.Steps.{FoundNoRoom}
-use Rattle.gl_chip.specs.Values.{OneEntry, OneView, core}
+use Rattle.gl_core.specs.Device.{OneEntry, core, tells_in}
+use Rattle.gl_chip.specs.Values.{OneView}
 use Rattle.gl_chip.proofs.Telling.{none_own, once_tells, removal_tells}
 use Rattle.gl_session.specs.Answers.{came, refused_got}
-use Rattle.gl_session.specs.Asking.{Asking, Calls, Plans, Refuses, asking, at_place, files_behind, got_by, got_of, has_lines, on_file, op_asked, opened, probes, reads_from, written_over}
+use Rattle.gl_asking.specs.declared.kinds.Asking.{Asking}
+use Rattle.gl_asking.specs.declared.kinds.Asking.TheVariants.{Calls, Plans, Refuses}
+use Rattle.gl_asking.specs.Asking.{asking, at_place, files_behind, got_by, got_of, has_lines, on_file, opened, probes, reads_from, written_over}
+use Rattle.gl_asking.specs.Driving.{op_asked}
 use Rattle.gl_session.specs.declared.files.FileRow.{FileRow}
-use Rattle.gl_session.specs.Files.{OpenFile, file_in, is_in}
-use Rattle.gl_session.specs.Performed.{HasPerformed, IsCall, Performs, PerformsAlone, carried}
+use Rattle.gl_asking.specs.Files.{OpenFile, file_in, is_in}
+use Rattle.gl_session.specs.Performed.{HasPerformed, IsCall, Performs, PerformsAlone}
+use Rattle.gl_check.specs.Turns.{Carried, IsDone, carried}
 use Rattle.gl_session.specs.Rows.{files_of, is_row, row_file}
 use Rattle.gl_talk.proofs.NamedRows.{row_found, no_row_found}
-use Rattle.gl_session.specs.Turns.{Carried, IsDone, PortAfter, tells_in}
 
 -- An operation that is a call
 

@@ -7,15 +7,16 @@ use Rattle.gl_gate.specs.Grown.{Grew}
 use Rattle.gl_gate.proofs.Grown.{grows_on}
 use Rattle.gl_args.specs.Program.{Goes, Left, Program, done, given, goes_on, ask, then_by, waits}
 use Rattle.gl_args.specs.declared.next.Next.TheVariants.{Call, Print}
-use Rattle.gl_chip.specs.Values.{OneDeed, OneView, core}
+use Rattle.gl_core.specs.Device.{OneDeed, core}
+use Rattle.gl_chip.specs.Values.{OneView}
 use Rattle.gl_script.specs.declared.section.Statement.{Statement}
 use Rattle.gl_talk.specs.Open.{Names}
 use Rattle.gl_talk.specs.Over.{columns_in}
 use Rattle.gl_talk.specs.Talk.{does, says, slot_behind}
-use Rattle.gl_session.specs.Asking.{got_of}
+use Rattle.gl_asking.specs.Asking.{got_of}
 use Rattle.gl_session.specs.Performed.{HasPerformed, MetFull, PlaysOn, StoppedFull}
 use Rattle.gl_session.proofs.Performing.{unmoved}
-use Rattle.gl_session.specs.Turns.{Carried, Follows, Takes, Turn, Said, Did, did_by, said_by}
+use Rattle.gl_check.specs.Turns.{Carried, Did, Follows, Said, Takes, Turn, did_by, said_by}
 
 pub said_append : (first later : List Turn) → said_by (first ++ later) ≡ said_by first ++ said_by later
 said_append [] later = refl

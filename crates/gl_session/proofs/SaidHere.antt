@@ -9,7 +9,7 @@ use Rattle.gl_script.specs.declared.section.SectionKind.{SectionKind}
 use Rattle.gl_script.specs.declared.section.SectionKind.TheVariants.{Setup, Actor, After}
 use Rattle.gl_script.specs.declared.section.Statement.{Statement}
 use Rattle.gl_talk.specs.Over.{columns_in}
-use Rattle.gl_session.specs.One.{is_kind}
+use Rattle.gl_check.specs.One.{is_kind}
 use Rattle.gl_session.specs.OneActor.{said_of}
 
 titled_kind : (kind : SectionKind) (name : List ℕ) → (titled kind name).kind ≡ kind

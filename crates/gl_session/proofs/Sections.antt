@@ -14,11 +14,11 @@ use Rattle.gl_script.specs.declared.section.SectionKind.TheVariants.{Setup}
 use Rattle.gl_talk.specs.Open.{Names}
 use Rattle.gl_talk.specs.Talk.{does, quits, says, slot_behind}
 use Rattle.gl_talk.proofs.InARow.{come_in_parts}
-use Rattle.gl_session.specs.One.{is_kind, said_in_kind}
+use Rattle.gl_check.specs.One.{is_kind, said_in_kind}
 use Rattle.gl_session.specs.OneActor.{said_at, said_of}
-use Rattle.gl_session.specs.Files.{OpenFile}
-use Rattle.gl_session.specs.Performed.{PlaysOn, StoppedFull, carried}
-use Rattle.gl_session.specs.Turns.{Carried}
+use Rattle.gl_asking.specs.Files.{OpenFile}
+use Rattle.gl_session.specs.Performed.{PlaysOn, StoppedFull}
+use Rattle.gl_check.specs.Turns.{Carried, carried}
 use Rattle.gl_session.proofs.Plays.{plays_on, plays_then, stops_on, stops_then}
 
 -- The statements of a kind from one section on are those of this section, and those of the sections behind it.

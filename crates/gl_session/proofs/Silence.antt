@@ -12,8 +12,8 @@ use Rattle.gl_world.specs.History.{entries_of, entry, fold}
 use Rattle.gl_world.proofs.Deeds.{deeds_entries, entries_in_append}
 use Rattle.gl_world.proofs.Histories.{entries_append}
 use Rattle.gl_args.specs.Program.{Program, done}
-use Rattle.gl_driver.specs.Told.{Told, new_port, with_call, with_plan}
-use Rattle.gl_driver.specs.declared.op.Op.{Op}
+use Rattle.gl_driver.specs.Told.{PortAfter, Told, new_port, with_call, with_plan}
+use Rattle.gl_base.specs.declared.op.Op.{Op}
 use Rattle.gl_model.specs.Entries.{begins}
 use Rattle.gl_model.specs.declared.device_call.DeviceCall.{DeviceCall}
 use Rattle.gl_model.specs.declared.device_call.DeviceCall.TheVariants.{Commanding, Once, Removing}
@@ -23,12 +23,15 @@ use Rattle.gl_model.specs.declared.call.Call.{Call}
 use Rattle.gl_model.specs.declared.call.Call.TheVariants.{Remove, Unplug}
 use Rattle.gl_script.specs.Section.{SaidSection}
 use Rattle.gl_talk.specs.Open.{Names}
-use Rattle.gl_chip.specs.Values.{OneDeed, OneEntry, core}
-use Rattle.gl_session.specs.Alone.{TellsAfter, after_of, answered_last, calls_after, last_or, setup_of}
-use Rattle.gl_session.specs.Asking.{Asking, Calls, Plans, Refuses, asking, op_asked}
-use Rattle.gl_session.specs.Many.{ActorPlayed, ActorsPlayed, AllPlayed, Many, PlannedTells, PortsTell, Texts, actor_sections, all_new, program_of, silent}
-use Rattle.gl_session.specs.Performed.{carried}
-use Rattle.gl_session.specs.Turns.{Carried, Did, Exchange, Follows, IsDone, Played, PortAfter, Said, Takes, Turn, call_tells, did_by, tells_in}
+use Rattle.gl_core.specs.Device.{OneDeed, OneEntry, call_tells, core, tells_in}
+use Rattle.gl_check.specs.Tells.{TellsAfter, answered_last, calls_after, last_or}
+use Rattle.gl_check.specs.Programs.{after_of, setup_of}
+use Rattle.gl_asking.specs.declared.kinds.Asking.{Asking}
+use Rattle.gl_asking.specs.declared.kinds.Asking.TheVariants.{Calls, Plans, Refuses}
+use Rattle.gl_asking.specs.Asking.{asking}
+use Rattle.gl_asking.specs.Driving.{op_asked}
+use Rattle.gl_check.specs.Many.{ActorPlayed, ActorsPlayed, AllPlayed, Many, PlannedTells, PortsTell, Texts, actor_sections, all_new, program_of, silent}
+use Rattle.gl_check.specs.Turns.{Carried, Did, Exchange, Follows, IsDone, Played, Said, Takes, Turn, carried, did_by}
 use Rattle.gl_session.proofs.AloneRuns.{tells_append}
 use Rattle.gl_session.proofs.OneCalls.{single_is_plain}
 

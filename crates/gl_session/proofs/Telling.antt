@@ -28,8 +28,8 @@ use Rattle.gl_trace.specs.Words.{before}
 use Rattle.gl_trace.proofs.Entries.{unique}
 use Rattle.gl_trace.proofs.Fields.{both_true}
 use Rattle.gl_trace.proofs.Printed.{entries_are_printable}
-use Rattle.gl_chip.specs.Values.{OneEntry}
-use Rattle.gl_session.specs.Many.{Texts, actor_sections}
+use Rattle.gl_core.specs.Device.{OneEntry}
+use Rattle.gl_check.specs.Many.{Texts, actor_sections}
 use Rattle.gl_session.specs.Output.{AreTold, OutputTellsHistory, actors_text, entry_lines, history_text}
 use Rattle.gl_session.specs.Lines.{text_line}
 

@@ -19,9 +19,10 @@ use Rattle.gl_rule.specs.Views.{as_joined, newcomer, taking_in, with_one_more}
 use Rattle.gl_args.specs.Program.{Program, ask, done}
 use Rattle.gl_driver.specs.Told.{Told}
 use Rattle.gl_talk.specs.Open.{Names}
-use Rattle.gl_chip.specs.Values.{ActorValue, IsActorOf, OneDeed, OneView, core}
-use Rattle.gl_session.specs.Performed.{StoppedFull, carried}
-use Rattle.gl_session.specs.Turns.{Follows, did_by}
+use Rattle.gl_chip.specs.Values.{ActorValue, IsActorOf, OneView}
+use Rattle.gl_core.specs.Device.{OneDeed, core}
+use Rattle.gl_session.specs.Performed.{StoppedFull}
+use Rattle.gl_check.specs.Turns.{Follows, carried, did_by}
 use Rattle.gl_session.specs.Workers.{AreDone, AreFresh, AreKept, CameOut, HasJoined, HasSplit, HasWorked, IsFresh, IsKept, PlaysWhole, WorkDone, there_at, told_at}
 use Rattle.gl_session.proofs.PortPlaces.{get_other, get_set, not_there, there_got, there_same, told_got, told_same}
 

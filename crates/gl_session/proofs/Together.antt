@@ -14,12 +14,11 @@ use Rattle.gl_talk.specs.Open.{no_names}
 use Rattle.gl_talk.specs.Talk.{quits, talks}
 use Rattle.gl_talk.proofs.StatementCosts.{end_cost, says_cost}
 use Rattle.gl_driver.specs.Told.{Told}
-use Rattle.gl_chip.specs.Values.{OneDeed, OneEntry, core}
-use Rattle.gl_session.specs.Alone.{setup_of}
-use Rattle.gl_session.specs.Many.{actor_sections, no_section, program_of, words_of}
-use Rattle.gl_session.specs.Performed.{carried}
+use Rattle.gl_core.specs.Device.{OneDeed, OneEntry, core}
+use Rattle.gl_check.specs.Programs.{setup_of}
+use Rattle.gl_check.specs.Many.{actor_sections, no_section, program_of, words_of}
+use Rattle.gl_check.specs.Turns.{Turn, carried, did_by}
 use Rattle.gl_session.specs.Together.{ActorsAtWorkHaveRoom, AtWork, BeforeCall, SoFar}
-use Rattle.gl_session.specs.Turns.{Turn, did_by}
 use Rattle.gl_session.specs.Within.{cost_in_kind}
 use Rattle.gl_session.proofs.Counting.{actors_cost, count, count_all, count_costs, entries_length, played_within, section_costs}
 use Rattle.gl_session.proofs.Within.{calls_come_below_cost, entries_within_cost, sessions_cost_their_parts}

@@ -4,7 +4,7 @@ use Rattle.std.specs.Prelude.{get_or, nat_lt}
 use Rattle.std.proofs.lemmas.Bool.Decides.{nat_tests}
 use Rattle.gl_trace.specs.EntryText.{HasText}
 use Rattle.gl_trace.specs.Typed.{AreBytes, IsTyped}
-use Rattle.gl_chip.specs.Values.{OneEntry}
+use Rattle.gl_core.specs.Device.{OneEntry}
 use Rattle.gl_session.specs.Output.{AreTold}
 use Rattle.gl_session.specs.Run.{TextsTellHistory}
 use Rattle.gl_session.proofs.Telling.{output_tells_history}

@@ -9,18 +9,22 @@ use Rattle.gl_gate.specs.Grown.{Grew}
 use Rattle.gl_gate.proofs.Grown.{grows_on}
 use Rattle.gl_args.specs.Program.{Program, ask, done}
 use Rattle.gl_driver.specs.Told.{Told}
-use Rattle.gl_driver.specs.declared.op.Op.{Op}
+use Rattle.gl_base.specs.declared.op.Op.{Op}
 use Rattle.gl_model.specs.declared.device_call.DeviceCall.{DeviceCall}
 use Rattle.gl_script.specs.Cost.{session_cost}
 use Rattle.gl_script.specs.Section.{SaidSection}
 use Rattle.gl_talk.specs.Open.{Names}
-use Rattle.gl_chip.specs.Values.{IsQuietDriver, MayOwn, OneDeed, OneEntry, OneView, core}
-use Rattle.gl_session.specs.Alone.{Part, PlayedSession, actor_of, after_of, setup_of}
-use Rattle.gl_session.specs.Asking.{Asking, Calls, Plans, Refuses, asking}
-use Rattle.gl_session.specs.Files.{OpenFile}
+use Rattle.gl_chip.specs.Values.{IsQuietDriver, MayOwn, OneView}
+use Rattle.gl_core.specs.Device.{OneDeed, OneEntry, core, tells_in}
+use Rattle.gl_session.specs.Alone.{Part, PlayedSession}
+use Rattle.gl_check.specs.Programs.{actor_of, after_of, setup_of}
+use Rattle.gl_asking.specs.declared.kinds.Asking.{Asking}
+use Rattle.gl_asking.specs.declared.kinds.Asking.TheVariants.{Calls, Plans, Refuses}
+use Rattle.gl_asking.specs.Asking.{asking}
+use Rattle.gl_asking.specs.Files.{OpenFile}
 use Rattle.gl_session.specs.OneActor.{CameWithEntries, HasPlayed, StoppedBelow}
-use Rattle.gl_session.specs.Performed.{IsCall, PlaysOn, StoppedFull, carried}
-use Rattle.gl_session.specs.Turns.{Carried, did_by, said_by, tells_in}
+use Rattle.gl_session.specs.Performed.{IsCall, PlaysOn, StoppedFull}
+use Rattle.gl_check.specs.Turns.{Carried, carried, did_by, said_by}
 use Rattle.gl_session.specs.Within.{Stop}
 use Rattle.gl_session.proofs.Alone.{first_actor_is_alone, first_actor_sees_itself}
 use Rattle.gl_session.proofs.AloneRuns.{answers_as_planned, port_tells, prints_one}

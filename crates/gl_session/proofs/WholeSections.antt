@@ -17,10 +17,11 @@ use Rattle.gl_talk.specs.Open.{Names, no_names}
 use Rattle.gl_talk.specs.Over.{columns_in}
 use Rattle.gl_talk.specs.Talk.{quits, says, talks}
 use Rattle.gl_talk.proofs.InARow.{are_statements_and_the_end}
-use Rattle.gl_session.specs.Files.{OpenFile}
-use Rattle.gl_session.specs.Many.{actor_sections, no_section, program_of, words_of}
-use Rattle.gl_session.specs.One.{is_kind, said_in_kind}
-use Rattle.gl_session.specs.Performed.{PlaysOn, StoppedFull, carried}
+use Rattle.gl_asking.specs.Files.{OpenFile}
+use Rattle.gl_check.specs.Many.{actor_sections, no_section, program_of, words_of}
+use Rattle.gl_check.specs.One.{is_kind, said_in_kind}
+use Rattle.gl_session.specs.Performed.{PlaysOn, StoppedFull}
+use Rattle.gl_check.specs.Turns.{carried}
 use Rattle.gl_session.specs.Workers.{PlaysWhole, is_actor_head}
 use Rattle.gl_session.proofs.Plays.{plays_on, plays_then, stops_on, stops_then}
 

@@ -23,7 +23,7 @@ use Rattle.gl_args.specs.Entries.{command_made, entries_made}
 use Rattle.gl_args.specs.Program.{Program, done, ask}
 use Rattle.gl_base.specs.declared.lines.Lines.{Lines}
 use Rattle.gl_driver.specs.Told.{Told}
-use Rattle.gl_driver.specs.declared.op.Op.{Op}
+use Rattle.gl_base.specs.declared.op.Op.{Op}
 use Rattle.gl_model.specs.declared.call.Call.{Call}
 use Rattle.gl_model.specs.declared.call.Call.TheVariants.{Close}
 use Rattle.gl_model.specs.declared.reply.Reply.{Reply}
@@ -42,12 +42,16 @@ use Rattle.gl_talk.specs.Open.{Names, no_names}
 use Rattle.gl_talk.specs.Talk.{quits}
 use Rattle.gl_talk.proofs.StatementCosts.{end_cost, says_cost}
 use Rattle.gl_asking.specs.Opened.{ChipFile, opened_of}
-use Rattle.gl_chip.specs.Values.{OneDeed, OneEntry}
-use Rattle.gl_session.specs.Alone.{Part, actor_of, after_of, setup_of}
-use Rattle.gl_session.specs.Asking.{Asking, Calls, Plans, Refuses, asking, at_place, buffer_of, files_behind, has_lines, lines_named, made_by, made_on, on_file, once, op_asked, opened, with_request}
-use Rattle.gl_session.specs.Files.{OpenFile, chip_file, file_in, is_in, line_file, without_file}
-use Rattle.gl_session.specs.One.{is_kind, said_in_kind}
-use Rattle.gl_session.specs.Turns.{Carried, Did, Exchange, Follows, IsDone, Said, Turn, did_by}
+use Rattle.gl_core.specs.Device.{OneDeed, OneEntry}
+use Rattle.gl_session.specs.Alone.{Part}
+use Rattle.gl_check.specs.Programs.{actor_of, after_of, setup_of}
+use Rattle.gl_asking.specs.declared.kinds.Asking.{Asking}
+use Rattle.gl_asking.specs.declared.kinds.Asking.TheVariants.{Calls, Plans, Refuses}
+use Rattle.gl_asking.specs.Asking.{asking, at_place, buffer_of, files_behind, has_lines, lines_named, made_by, made_on, on_file, once, opened, with_request}
+use Rattle.gl_asking.specs.Driving.{op_asked}
+use Rattle.gl_asking.specs.Files.{OpenFile, chip_file, file_in, is_in, line_file, without_file}
+use Rattle.gl_check.specs.One.{is_kind, said_in_kind}
+use Rattle.gl_check.specs.Turns.{Carried, Did, Exchange, Follows, IsDone, Said, Turn, did_by}
 use Rattle.gl_session.specs.Within.{CallsComeBelowCost, CallsHaveRoom, EntriesWithinCost, SessionsCostTheirParts, SessionsKeepWithinCost, Stop, cost_in_kind}
 use Rattle.gl_session.proofs.OneHistories.{length_entries}
 

@@ -1,23 +1,22 @@
 -- A session of one actor as it was carried out on the device, and what follows of it: its text is One of the answers that the
 -- driver gave. This project's choice.
-use Rattle.std.specs.Prelude.{◌≡◌, ℕ, ◌≤◌, Bool, true, List, [], ◌∷◌, ◌++◌, length, Option, Some, None}
-use Rattle.gl_base.specs.Count.{counted_up}
+use Rattle.std.specs.Prelude.{◌≡◌, ℕ, ◌≤◌, Bool, true, List, [], ◌++◌, length, Option, Some}
 use Rattle.gl_world.specs.Deeds.{deeds_of, entries_in}
 use Rattle.gl_world.specs.History.{Legal, StartsWith, entries_of}
 use Rattle.gl_rule.specs.Turn.{NoStrangers}
 use Rattle.gl_rule.specs.Views.{newcomer}
 use Rattle.gl_gate.specs.Grown.{Grew}
-use Rattle.gl_args.specs.Program.{Program, done}
+use Rattle.gl_args.specs.Program.{Program}
 use Rattle.gl_driver.specs.Told.{Told}
-use Rattle.gl_driver.specs.declared.op.Asked.{Asked}
 use Rattle.gl_script.specs.Section.{SaidSection}
-use Rattle.gl_script.specs.declared.section.SectionKind.TheVariants.{Setup, Actor, After}
-use Rattle.gl_talk.specs.Open.{Names, no_names}
-use Rattle.gl_talk.specs.Talk.{quits, says, talks}
-use Rattle.gl_chip.specs.Values.{OneDeed, OneEntry, OneView, core}
-use Rattle.gl_session.specs.One.{entries_made, one, planned_over, said_in_kind, taken, told_behind}
-use Rattle.gl_session.specs.Files.{OpenFile}
-use Rattle.gl_session.specs.Turns.{Carried, Played, tells_in}
+use Rattle.gl_talk.specs.Open.{Names}
+use Rattle.gl_core.specs.Device.{OneDeed, OneEntry, core, tells_in}
+use Rattle.gl_chip.specs.Values.{OneView}
+use Rattle.gl_check.specs.Programs.{actor_of, after_of, setup_of}
+use Rattle.gl_check.specs.Tells.{TellsAfter}
+use Rattle.gl_check.specs.One.{entries_made, one, planned_over, taken, told_behind}
+use Rattle.gl_asking.specs.Files.{OpenFile}
+use Rattle.gl_check.specs.Turns.{Carried, Played}
 
 -- a program that was carried out to its end from these open files on: what it printed, what it did, and what it left
 pub record Part (is_planned : Bool) (program : Program Names) (files : List OpenFile) (told : Option Told) : Type 0 where
@@ -26,16 +25,6 @@ pub record Part (is_planned : Bool) (program : Program Names) (files : List Open
   pub names : Names
   pub behind : Carried
   pub played : Played is_planned 0 program (record { files = files; told = told }) text did names behind
-
--- the programs of a session's three parts, the last one by the names that the first gave
-abbrev pub setup_of : List SaidSection → Program Names
-setup_of sections = says 0 (said_in_kind Setup sections) done no_names
-
-abbrev pub actor_of : List SaidSection → Program Names
-actor_of sections = talks 0 (said_in_kind Actor sections) no_names
-
-abbrev pub after_of : List SaidSection → Names → Program Names
-after_of sections names = says (length (said_in_kind Setup sections)) (said_in_kind After sections) quits names
 
 -- The sections of a session, carried out by actor 0 one after another: `setup` and `after` are one talk, which waits in between
 -- with its files and names, and the actor's section is a talk of its own.
@@ -75,28 +64,6 @@ PrintsOne = (is_planned : Bool) (sections : List SaidSection) (before left : Opt
 abbrev pub AnswersAsPlanned : Type 0
 AnswersAsPlanned = (sections : List SaidSection) (t : Told) (left : Option Told) (text : List ℕ) (did : List OneDeed) (history : List OneEntry)
     → PlayedSession true sections (Some t) text did left → IsAlone history did → tells_in history ≡ planned_over t sections
-
--- how many calls went through a port after so many answers more
-abbrev pub calls_after : ℕ → List (Option ℕ) → ℕ
-calls_after calls [] = calls
-calls_after calls (answer ∷ answers) = calls_after (counted_up calls) answers
-
--- the answer of a port's last call
-abbrev pub answered_last : Option Asked → Option (Option ℕ)
-answered_last None = None
-answered_last (Some asked) = Some asked.answer
-
--- the last of these answers, or what was known before them
-abbrev pub last_or : Option (Option ℕ) → List (Option ℕ) → Option (Option ℕ)
-last_or known [] = known
-last_or known (answer ∷ answers) = last_or (Some answer) answers
-
--- a port that told t tells in the end as many calls more as there are answers, and as its last answer the last of these
-pub record TellsAfter (t : Told) (answers : List (Option ℕ)) (left : Option Told) : Type 0 where
-  pub told : Told
-  pub left_is : left ≡ Some told
-  pub calls : told.calls ≡ calls_after t.calls answers
-  pub last : answered_last told.last ≡ last_or (answered_last t.last) answers
 
 -- Every driver is asked through the port: it tells in the end all that the statements and the calls make of it over the answers of the
 -- history's tells. So where it told, it tells just these answers.

@@ -10,12 +10,11 @@ use Rattle.gl_driver.specs.Told.{Told}
 use Rattle.gl_script.specs.Section.{SaidSection}
 use Rattle.gl_talk.specs.Open.{Names, no_names}
 use Rattle.gl_talk.specs.Talk.{quits, says}
-use Rattle.gl_chip.specs.Values.{OneEntry, core}
-use Rattle.gl_session.specs.Asking.{files_behind, got_of}
-use Rattle.gl_session.specs.Files.{OpenFile, file_in}
-use Rattle.gl_session.specs.Many.{ActorPlayed, actor_sections, no_section, words_of}
-use Rattle.gl_session.specs.Performed.{carried}
-use Rattle.gl_session.specs.Turns.{Carried, Turn, Said, Did, Follows}
+use Rattle.gl_core.specs.Device.{OneEntry, core}
+use Rattle.gl_asking.specs.Asking.{files_behind, got_of}
+use Rattle.gl_asking.specs.Files.{OpenFile, file_in}
+use Rattle.gl_check.specs.Many.{ActorPlayed, actor_sections, no_section, words_of}
+use Rattle.gl_check.specs.Turns.{Carried, Did, Follows, Said, Turn, carried}
 
 -- the numbers of open files
 abbrev pub numbers_of : List OpenFile → List ℕ

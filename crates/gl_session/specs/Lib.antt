@@ -1,15 +1,11 @@
 pub mod Alone
 pub mod Answers
-pub mod Asking
 pub mod Closings
 pub mod Figures
-pub mod Files
 pub mod Lines
 pub mod Making
 pub mod Many
-pub mod One
 pub mod OneActor
-pub mod OneChip
 pub mod Output
 pub mod Performed
 pub mod Ports
@@ -19,6 +15,5 @@ pub mod Several
 pub mod Status
 pub mod Streams
 pub mod Together
-pub mod Turns
 pub mod Within
 pub mod Workers

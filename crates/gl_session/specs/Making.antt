@@ -4,16 +4,17 @@ use Rattle.gl_base.specs.declared.errno.Errno.{Errno}
 use Rattle.gl_base.specs.declared.lines.Lines.{Lines}
 use Rattle.gl_model.specs.declared.reply.Reply.{Reply}
 use Rattle.gl_driver.specs.Told.{Told}
-use Rattle.gl_driver.specs.declared.op.Op.{Op}
-use Rattle.gl_chip.specs.Commanding.{CommandsOut, op_for, requested_of}
+use Rattle.gl_base.specs.declared.op.Op.{Op}
+use Rattle.gl_chip.specs.Commanding.{CommandsOut, requested_of}
+use Rattle.gl_asking.specs.Driving.{lines_by, op_for}
 use Rattle.gl_chip.specs.Files.{LineFile}
 use Rattle.gl_asking.specs.Handed.{command_in}
 use Rattle.gl_asking.specs.Results.{value_of}
-use Rattle.gl_chip.specs.Values.{ActorValue, OneEntry}
-use Rattle.gl_session.specs.Asking.{lines_by}
+use Rattle.gl_chip.specs.Values.{ActorValue}
+use Rattle.gl_core.specs.Device.{OneEntry}
 use Rattle.gl_session.specs.Rows.{fd_of, is_chip, lines_of, place_of}
 use Rattle.gl_session.specs.declared.files.OpenFd.{OpenFd}
-use Rattle.gl_session.specs.Files.{OpenFile, line_file, with_file}
+use Rattle.gl_asking.specs.Files.{OpenFile, line_file, with_file}
 
 -- what a command on a file of this kind gives by its reply: the request of these lines that it made, if it made one, or why it was refused
 abbrev pub request_of : Bool → ℕ → Lines → Reply → Result (Option LineFile) Errno

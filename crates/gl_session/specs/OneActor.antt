@@ -10,9 +10,11 @@ use Rattle.gl_script.specs.Section.{SaidSection}
 use Rattle.gl_script.specs.declared.section.SectionKind.{SectionKind}
 use Rattle.gl_script.specs.declared.section.SectionKind.TheVariants.{Setup, Actor, After}
 use Rattle.gl_chip.specs.Steps.{FoundNoRoom}
-use Rattle.gl_chip.specs.Values.{OneDeed, OneView, core}
-use Rattle.gl_session.specs.Alone.{PlayedSession, TellsAfter}
-use Rattle.gl_session.specs.One.{entries_made, is_kind, one, planned_over, said_in_kind, taken, told_behind}
+use Rattle.gl_core.specs.Device.{OneDeed, core}
+use Rattle.gl_chip.specs.Values.{OneView}
+use Rattle.gl_session.specs.Alone.{PlayedSession}
+use Rattle.gl_check.specs.Tells.{TellsAfter}
+use Rattle.gl_check.specs.One.{entries_made, is_kind, one, planned_over, said_in_kind, taken, told_behind}
 
 -- What the session came to, over a port that told this before and tells that now: its text is One of just the answers that One
 -- takes, and it makes no more entries than the session costs. A planned driver gave those that the port's plan before and the statements

@@ -4,8 +4,8 @@ use Rattle.gl_base.specs.Decimal.{decimal}
 use Rattle.gl_script.specs.Section.{SaidSection}
 use Rattle.gl_trace.specs.EntryText.{HasText, entry_text}
 use Rattle.gl_trace.specs.Typed.{IsTyped}
-use Rattle.gl_chip.specs.Values.{OneEntry}
-use Rattle.gl_session.specs.Many.{Texts, actor_sections}
+use Rattle.gl_core.specs.Device.{OneEntry}
+use Rattle.gl_check.specs.Many.{Texts, actor_sections}
 use Rattle.gl_session.specs.Lines.{text_line}
 
 -- `== actor NAME` and the text, for each actor in order

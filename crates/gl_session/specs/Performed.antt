@@ -8,13 +8,13 @@ use Rattle.gl_gate.specs.Grown.{Grew}
 use Rattle.gl_args.specs.Program.{Program, ask}
 use Rattle.gl_driver.specs.Told.{Told}
 use Rattle.gl_chip.specs.Steps.{FoundNoRoom}
-use Rattle.gl_chip.specs.Values.{OneView, core}
-use Rattle.gl_session.specs.Asking.{Asking, Calls, Plans, Refuses, asking, got_of}
-use Rattle.gl_session.specs.Files.{OpenFile}
-use Rattle.gl_session.specs.Turns.{Carried, Carries, Exchange, Follows, Turn, did_by, said_by}
-
-abbrev pub carried : List OpenFile → Option Told → Carried
-carried files told = record { files = files; told = told }
+use Rattle.gl_chip.specs.Values.{OneView}
+use Rattle.gl_core.specs.Device.{core}
+use Rattle.gl_asking.specs.declared.kinds.Asking.{Asking}
+use Rattle.gl_asking.specs.declared.kinds.Asking.TheVariants.{Calls, Plans, Refuses}
+use Rattle.gl_asking.specs.Asking.{asking, got_of}
+use Rattle.gl_asking.specs.Files.{OpenFile}
+use Rattle.gl_check.specs.Turns.{Carried, Carries, Exchange, Follows, Turn, carried, did_by, said_by}
 
 -- An operation was carried out by the actor whose pass knew v and knows w then: it got this, and did just the deeds of the exchange.
 pub record HasPerformed (is_planned : Bool) (what : Do) (v : OneView) (s : Carried) (got : Got) (w : OneView) (r : Carried) : Type 0 where

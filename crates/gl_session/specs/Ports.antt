@@ -3,7 +3,7 @@ use Rattle.std.specs.Prelude.{◌≡◌, ◌<◌, ℕ, nat_lt, if◌then◌else�
 use Rattle.std.specs.List.{AllPass}
 use Rattle.gl_driver.specs.Told.{Told}
 use Rattle.gl_script.specs.Section.{SaidSection}
-use Rattle.gl_session.specs.Many.{actor_sections}
+use Rattle.gl_check.specs.Many.{actor_sections}
 
 -- 17 ports, and all of them are there: that of the first actor, and one for each of 16 further ones
 pub record AreAllThere {P : Type 0} (ports : List (Option P)) : Type 0 where

@@ -4,7 +4,7 @@ use Rattle.gl_base.specs.declared.lines.Lines.{Lines}
 use Rattle.gl_session.specs.declared.files.FileRow.{FileRow}
 use Rattle.gl_session.specs.declared.files.OpenFd.{OpenFd}
 use Rattle.gl_session.specs.declared.files.OpenFd.TheVariants.{Chip, Request}
-use Rattle.gl_session.specs.Files.{OpenFile, no_lines}
+use Rattle.gl_asking.specs.Files.{OpenFile, no_lines}
 
 abbrev pub place_of : OpenFd → ℕ
 place_of (Chip file) = file.place

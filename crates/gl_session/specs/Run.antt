@@ -9,9 +9,10 @@ use Rattle.gl_script.specs.Sentence.{Sentence, first_fault}
 use Rattle.gl_script.specs.declared.refusal.Refusal.{Refusal as RefusalOf}
 use Rattle.gl_session.specs.declared.status.Status.{Status}
 use Rattle.gl_session.specs.declared.status.Status.TheVariants.{Refused, ReadFault, WriteFault, NoMemory}
-use Rattle.gl_chip.specs.Values.{OneEntry}
+use Rattle.gl_core.specs.Device.{OneEntry}
 use Rattle.gl_session.specs.Lines.{text_line}
-use Rattle.gl_session.specs.Many.{CameToMany, Texts, actor_sections}
+use Rattle.gl_session.specs.Many.{CameToMany}
+use Rattle.gl_check.specs.Many.{Texts, actor_sections}
 use Rattle.gl_session.specs.OneActor.{CameToOne}
 use Rattle.gl_session.specs.Output.{AreTold, output}
 

@@ -10,12 +10,13 @@ use Rattle.gl_model.specs.declared.device_call.DeviceCall.{DeviceCall}
 use Rattle.gl_script.specs.Cost.{session_cost}
 use Rattle.gl_script.specs.Section.{SaidSection}
 use Rattle.gl_talk.specs.Open.{Names}
-use Rattle.gl_chip.specs.Values.{OneEntry, core}
-use Rattle.gl_session.specs.Alone.{Part, setup_of}
-use Rattle.gl_session.specs.Asking.{Calls, asking}
-use Rattle.gl_session.specs.Many.{actor_sections, program_of}
-use Rattle.gl_session.specs.Performed.{carried}
-use Rattle.gl_session.specs.Turns.{Carried, Follows, Turn, did_by}
+use Rattle.gl_core.specs.Device.{OneEntry, core}
+use Rattle.gl_session.specs.Alone.{Part}
+use Rattle.gl_check.specs.Programs.{setup_of}
+use Rattle.gl_asking.specs.declared.kinds.Asking.TheVariants.{Calls}
+use Rattle.gl_asking.specs.Asking.{asking}
+use Rattle.gl_check.specs.Many.{actor_sections, program_of}
+use Rattle.gl_check.specs.Turns.{Carried, Follows, Turn, carried, did_by}
 
 -- `before`: what the port of each actor told at the beginning.
 module _ (is_planned : Bool) (before : ℕ → Option Told) (sections : List SaidSection) (history : List OneEntry) where

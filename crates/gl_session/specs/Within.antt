@@ -11,12 +11,14 @@ use Rattle.gl_script.specs.Section.{SaidSection}
 use Rattle.gl_script.specs.declared.section.SectionKind.{SectionKind}
 use Rattle.gl_script.specs.declared.section.SectionKind.TheVariants.{Setup, Actor, After}
 use Rattle.gl_talk.specs.Open.{Names}
-use Rattle.gl_chip.specs.Values.{OneDeed}
-use Rattle.gl_session.specs.Alone.{Part, PlayedSession, actor_of, after_of, setup_of}
-use Rattle.gl_session.specs.Asking.{Calls, asking}
-use Rattle.gl_session.specs.Files.{OpenFile}
-use Rattle.gl_session.specs.One.{said_in_kind}
-use Rattle.gl_session.specs.Turns.{Carried, Follows, Turn, did_by}
+use Rattle.gl_core.specs.Device.{OneDeed}
+use Rattle.gl_session.specs.Alone.{Part, PlayedSession}
+use Rattle.gl_check.specs.Programs.{actor_of, after_of, setup_of}
+use Rattle.gl_asking.specs.declared.kinds.Asking.TheVariants.{Calls}
+use Rattle.gl_asking.specs.Asking.{asking}
+use Rattle.gl_asking.specs.Files.{OpenFile}
+use Rattle.gl_check.specs.One.{said_in_kind}
+use Rattle.gl_check.specs.Turns.{Carried, Follows, Turn, did_by}
 
 -- A program costs at most n and was carried out so far, by any actor. Its entries so far, a closing for each file that is open
 -- now, and what the rest costs come to n at most, with a closing for each file that was open before.

@@ -16,15 +16,16 @@ use Rattle.gl_driver.specs.Told.{Told}
 use Rattle.gl_script.specs.Section.{SaidHead, SaidSection}
 use Rattle.gl_script.specs.declared.section.SectionKind.TheVariants.{Actor}
 use Rattle.gl_talk.specs.Open.{Names}
-use Rattle.gl_chip.specs.Values.{ActorValue, IsActorOf, OneEntry, OneView, core}
-use Rattle.gl_session.specs.Alone.{after_of, setup_of}
-use Rattle.gl_session.specs.Asking.{asking}
-use Rattle.gl_session.specs.Files.{OpenFile}
-use Rattle.gl_session.specs.Many.{Texts, actor_sections, program_of}
-use Rattle.gl_session.specs.One.{is_kind}
-use Rattle.gl_session.specs.Performed.{IsCall, PlaysOn, carried}
+use Rattle.gl_chip.specs.Values.{ActorValue, IsActorOf, OneView}
+use Rattle.gl_core.specs.Device.{OneEntry, core}
+use Rattle.gl_check.specs.Programs.{after_of, setup_of}
+use Rattle.gl_asking.specs.Asking.{asking}
+use Rattle.gl_asking.specs.Files.{OpenFile}
+use Rattle.gl_check.specs.Many.{Texts, actor_sections, program_of}
+use Rattle.gl_check.specs.One.{is_kind}
+use Rattle.gl_session.specs.Performed.{IsCall, PlaysOn}
+use Rattle.gl_check.specs.Turns.{Carried, Follows, Played, Turn, carried, did_by}
 use Rattle.gl_session.specs.Ports.{told_by}
-use Rattle.gl_session.specs.Turns.{Carried, Follows, Played, Turn, did_by}
 
 -- the head of an actor's section
 abbrev pub is_actor_head : Option SaidHead → Bool

@@ -2,7 +2,7 @@
 ghost use Rattle.std.specs.Prelude.{◌≡◌, ◌≤◌, ◌<◌, ◌^◌, Ok, Err, take, length, OnErr};
 ghost use Rattle.gl_base.specs.declared.operation.Got.TheVariants.{Bytes, Done, Number, Text, Ready};
 ghost use Rattle.gl_session.specs.Answers.{came, refused_got};
-ghost use Rattle.gl_session.specs.Asking.{level_got, found_got};
+ghost use Rattle.gl_asking.specs.Asking.{found_got, level_got};
 
 use gl_base::{ByteList, Errno, Got, Name};
 

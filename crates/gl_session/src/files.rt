@@ -8,7 +8,7 @@ ghost use Rattle.gl_model.specs.declared.call.Call.TheVariants.{Close as CloseCa
 ghost use Rattle.gl_chip.specs.Called.{ComesOut};
 ghost use Rattle.gl_asking.specs.Results.{done_of, number_of, ready_of};
 ghost use Rattle.gl_chip.specs.Values.{IsActorOf};
-ghost use Rattle.gl_session.specs.Asking.{polls, reads_from};
+ghost use Rattle.gl_asking.specs.Asking.{polls, reads_from};
 ghost use Rattle.gl_session.specs.Making.{IsCommanding, none_made};
 ghost use Rattle.gl_session.specs.Rows.{fd_of, file_of, is_row, place_of};
 

@@ -7,8 +7,8 @@ ghost use Rattle.gl_rule.specs.Views.{taking_in, with_one_more};
 ghost use Rattle.gl_chip.specs.Values.{IsActorOf};
 ghost use Rattle.gl_script.specs.Script.{sections_of};
 ghost use Rattle.gl_script.specs.declared.section.SectionKind.TheVariants.{Actor as ActorKind};
-ghost use Rattle.gl_session.specs.One.{said_in_kind};
-ghost use Rattle.gl_session.specs.Many.{actor_sections, program_of};
+ghost use Rattle.gl_check.specs.One.{said_in_kind};
+ghost use Rattle.gl_check.specs.Many.{actor_sections, program_of};
 ghost use Rattle.gl_session.specs.Workers.{AreDone, AreFresh, AreKept, HasJoined, HasSplit, IsFresh, WorkDone, there_at, told_at};
 
 use crate::rendezvous::Rendezvous;

@@ -1,11 +1,9 @@
 //! What follows of a session that one actor carried out on the device. Each is a function with nothing to do: its contract is
 //! the law, and a caller gets it by the call.
 
-ghost use Rattle.std.specs.Prelude.{◌≡◌, []};
 ghost use Rattle.gl_session.specs.Alone.{AnswersAsPlanned, FirstActorIsAlone, FirstActorSeesItself, PortTells, PrintsOne};
 ghost use Rattle.gl_session.specs.Closings.{ActorsCloseByNumber};
 ghost use Rattle.gl_session.specs.Many.{AllPlayedCameToMany};
-ghost use Rattle.gl_session.specs.OneChip.{output, plans, printed, takes};
 ghost use Rattle.gl_session.specs.Output.{OutputTellsHistory};
 ghost use Rattle.gl_session.specs.Run.{TextsTellHistory};
 ghost use Rattle.gl_session.specs.Together.{ActorsAtWorkHaveRoom};
@@ -34,14 +32,6 @@ pub fn answers_as_planned()
 /// answer the last of these.
 pub fn port_tells()
     ensures { PortTells }
-{}
-
-/// One of a session that makes a chip and lists the chips is its one line, and no driver is asked for it. Computed from the
-/// definitions alone.
-pub fn one_chip()
-    ensures prints { printed ≡ output }
-    ensures asks_nothing { takes ≡ [] }
-    ensures plans_nothing { plans ≡ [] }
 {}
 
 /// Whatever it is answered, a program that an actor carries out on the device makes no more entries than it costs: each file that

@@ -7,7 +7,7 @@ ghost use Rattle.gl_chip.specs.Called.{ComesOut};
 ghost use Rattle.gl_asking.specs.Results.{level_of};
 ghost use Rattle.gl_base.specs.declared.operation.Do.TheVariants.{Find, Irq, Level, Live, MakeDir, Pin, Plan, Probe, Pull, Read, RemoveDir, Tick, Unplug, Write};
 ghost use Rattle.gl_chip.specs.Values.{IsActorOf};
-ghost use Rattle.gl_session.specs.Asking.{has_lines};
+ghost use Rattle.gl_asking.specs.Asking.{has_lines};
 ghost use Rattle.gl_session.specs.Performed.{PerformsAlone};
 
 use crate::answers;

@@ -6,9 +6,10 @@ ghost use Rattle.gl_base.specs.declared.operation.Got.TheVariants.{Bytes};
 ghost use Rattle.gl_uapi.specs.declared.layout.TheConstants.{LINE_REQUEST_SIZE};
 ghost use Rattle.gl_chip.specs.Values.{IsActorOf};
 ghost use Rattle.gl_session.specs.Answers.{came};
-ghost use Rattle.gl_session.specs.Asking.{buffer_of};
+ghost use Rattle.gl_asking.specs.Asking.{buffer_of};
 ghost use Rattle.gl_session.specs.Making.{kept_with};
-ghost use Rattle.gl_session.specs.Performed.{Performs, carried};
+ghost use Rattle.gl_session.specs.Performed.{Performs};
+ghost use Rattle.gl_check.specs.Turns.{carried};
 ghost use Rattle.gl_session.specs.Rows.{files_of};
 
 use crate::answers;

@@ -3,10 +3,11 @@ ghost use Rattle.std.specs.Prelude.{◌≡◌, ◌≢◌, ◌<◌, ◌≤◌, �
 ghost use Rattle.gl_base.specs.declared.errno.Errno.TheVariants.{NoMemory};
 ghost use Rattle.gl_base.specs.declared.operation.Got.TheVariants.{Number};
 ghost use Rattle.gl_session.specs.Answers.{came};
-ghost use Rattle.gl_session.specs.Asking.{opened};
+ghost use Rattle.gl_asking.specs.Asking.{opened};
 ghost use Rattle.gl_base.specs.declared.operation.Do.TheVariants.{Close, Find, OpenChip, Poll, ReadFile};
 ghost use Rattle.gl_chip.specs.Values.{IsActorOf};
-ghost use Rattle.gl_session.specs.Performed.{Performs, carried};
+ghost use Rattle.gl_session.specs.Performed.{Performs};
+ghost use Rattle.gl_check.specs.Turns.{carried};
 ghost use Rattle.gl_session.specs.Rows.{files_of};
 
 use crate::answers;

@@ -10,11 +10,12 @@ ghost use Rattle.gl_script.specs.Script.{sections_of};
 ghost use Rattle.gl_talk.specs.Open.{Names, no_names};
 ghost use Rattle.gl_talk.specs.Over.{columns_in};
 ghost use Rattle.gl_talk.specs.Talk.{names_in, quits, says};
-ghost use Rattle.gl_session.specs.Alone.{actor_of};
-ghost use Rattle.gl_session.specs.Files.{OpenFile};
-ghost use Rattle.gl_session.specs.One.{is_kind, said_in_kind};
+ghost use Rattle.gl_check.specs.Programs.{actor_of};
+ghost use Rattle.gl_asking.specs.Files.{OpenFile};
+ghost use Rattle.gl_check.specs.One.{is_kind, said_in_kind};
 ghost use Rattle.gl_session.specs.OneActor.{CameWithEntries, HasPlayed, IsSized, StoppedBelow, count_in_kind, said_at};
-ghost use Rattle.gl_session.specs.Performed.{PlaysOn, StoppedFull, carried};
+ghost use Rattle.gl_session.specs.Performed.{PlaysOn, StoppedFull};
+ghost use Rattle.gl_check.specs.Turns.{carried};
 ghost use Rattle.gl_session.specs.Rows.{files_of};
 
 use crate::files::FileRow;

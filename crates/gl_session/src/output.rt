@@ -6,8 +6,8 @@ ghost use Rattle.gl_script.specs.Script.{sections_of};
 ghost use Rattle.gl_script.specs.declared.section.SectionKind.TheVariants.{Actor as ActorKind};
 ghost use Rattle.gl_trace.specs.EntryText.{HasText, entry_text};
 ghost use Rattle.gl_trace.specs.Typed.{IsTyped};
-ghost use Rattle.gl_session.specs.Many.{actor_sections, no_section};
-ghost use Rattle.gl_session.specs.One.{is_kind};
+ghost use Rattle.gl_check.specs.Many.{actor_sections, no_section};
+ghost use Rattle.gl_check.specs.One.{is_kind};
 ghost use Rattle.gl_session.specs.Output.{AreTold, actors_text, entry_lines, history_text, output};
 ghost use Rattle.gl_session.specs.Lines.{text_line};
 

@@ -1,7 +1,8 @@
 //! One operation of a talk, carried out on the device.
 ghost use Rattle.std.specs.Prelude.{◌≡◌, Ok, Err};
 ghost use Rattle.gl_chip.specs.Values.{IsActorOf};
-ghost use Rattle.gl_session.specs.Performed.{Performs, carried};
+ghost use Rattle.gl_session.specs.Performed.{Performs};
+ghost use Rattle.gl_check.specs.Turns.{carried};
 ghost use Rattle.gl_session.specs.Rows.{files_of};
 
 use crate::files::FileRow;

@@ -5,7 +5,8 @@ ghost use Rattle.gl_args.specs.Program.{done, given};
 ghost use Rattle.gl_chip.specs.Values.{IsActorOf};
 ghost use Rattle.gl_talk.specs.Over.{columns_in};
 ghost use Rattle.gl_talk.specs.Talk.{left, names_in, says};
-ghost use Rattle.gl_session.specs.Performed.{PlaysOn, StoppedFull, carried};
+ghost use Rattle.gl_session.specs.Performed.{PlaysOn, StoppedFull};
+ghost use Rattle.gl_check.specs.Turns.{carried};
 ghost use Rattle.gl_session.specs.Rows.{files_of};
 
 use crate::files::FileRow;

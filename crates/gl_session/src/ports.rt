@@ -1,7 +1,7 @@
 //! The ports of a run.
 ghost use Rattle.std.specs.Prelude.{◌≡◌, ◌≤◌, drop, length, IfOk, OnOk, IsOkUnless};
 ghost use Rattle.gl_script.specs.Script.{sections_of};
-ghost use Rattle.gl_session.specs.Many.{actor_sections};
+ghost use Rattle.gl_check.specs.Many.{actor_sections};
 ghost use Rattle.gl_session.specs.OneActor.{CameWithEntries, IsSized};
 ghost use Rattle.gl_session.specs.Ports.{AreAllThere, OthersStay};
 ghost use Rattle.gl_session.specs.Run.{CameTo};

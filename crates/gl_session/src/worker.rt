@@ -7,8 +7,9 @@ ghost use Rattle.gl_script.specs.Script.{sections_of};
 ghost use Rattle.gl_talk.specs.Open.{no_names};
 ghost use Rattle.gl_talk.specs.Over.{columns_in};
 ghost use Rattle.gl_talk.specs.Talk.{talks};
-ghost use Rattle.gl_session.specs.Many.{actor_sections, no_section, words_of};
-ghost use Rattle.gl_session.specs.Performed.{StoppedFull, carried};
+ghost use Rattle.gl_check.specs.Many.{actor_sections, no_section, words_of};
+ghost use Rattle.gl_session.specs.Performed.{StoppedFull};
+ghost use Rattle.gl_check.specs.Turns.{carried};
 ghost use Rattle.gl_session.specs.Workers.{PlaysWhole, is_actor_head};
 
 use crate::play::{play, play_all};

@@ -3,8 +3,8 @@ use Rattle.std.proofs.Common.{◌≡◌, ◌<◌, ◌≤◌, ℕ, Bool, true, fa
 use Rattle.gl_driver.specs.Told.{Told, new_port}
 use Rattle.gl_script.specs.Section.{SaidSection}
 use Rattle.gl_script.specs.Sentence.{Sentence}
-use Rattle.gl_session.specs.Many.{actor_sections}
-use Rattle.gl_session.specs.One.{one}
+use Rattle.gl_check.specs.Many.{actor_sections}
+use Rattle.gl_check.specs.One.{one}
 use Rattle.gl_session.specs.Run.{CameBy, HasWritten}
 use Rattle.gl_session.proofs.FewActors.{few_actors}
 use Rattle.gpiosess.specs.Program.{HasPrinted, PrintsBy}

@@ -2,9 +2,9 @@
 use Rattle.std.specs.Prelude.{◌≡◌, ℕ, Bool, true, false, nat_lt, List, length, Option}
 use Rattle.std.specs.Io.KnownBytes.{Appends}
 use Rattle.gl_script.specs.Section.{SaidSection}
-use Rattle.gl_chip.specs.Values.{OneEntry}
-use Rattle.gl_session.specs.Many.{Many, PlannedTells, Texts, actor_sections}
-use Rattle.gl_session.specs.One.{one, planned}
+use Rattle.gl_core.specs.Device.{OneEntry}
+use Rattle.gl_check.specs.Many.{Many, PlannedTells, Texts, actor_sections}
+use Rattle.gl_check.specs.One.{one, planned}
 use Rattle.gl_session.specs.Output.{AreTold, output}
 
 -- Output of a session of several actors: of texts and a history with Many, whose tells are as planned, and no other history has it.

@@ -1,5 +1,5 @@
 use Rattle.gl_script.specs.Script.{sections_of}
-use Rattle.gl_session.specs.Many.{program_of}
+use Rattle.gl_check.specs.Many.{program_of}
 use Rattle.gl_session.proofs.Threads.{work_done}
 use Rattle.gl_session.proofs.WholeSections.{program_same, statements_few}
 use Rattle.gl_session.proofs.fork.work.Goals as goal

@@ -2,7 +2,7 @@ use Rattle.std.proofs.Common.{refl, [], None}
 use Rattle.gl_base.specs.declared.operation.Do.TheVariants.{Find as Asked}
 use Rattle.gl_model.specs.declared.call.Call.TheVariants.{Find as Made}
 use Rattle.gl_asking.specs.Results.{found_of}
-use Rattle.gl_session.specs.Asking.{found_got}
+use Rattle.gl_asking.specs.Asking.{found_got}
 use Rattle.gl_session.proofs.Performing.{once_outcome}
 use Rattle.gl_session.proofs.on_board.find.Goals as goal
 

@@ -5,7 +5,8 @@ use Rattle.gl_base.specs.declared.command.TheConstants.{GET_LINE}
 use Rattle.gl_base.specs.declared.operation.Do.TheVariants.{Ioctl as Asked}
 use Rattle.gl_model.specs.declared.device_call.DeviceCall.TheVariants.{Commanding}
 use Rattle.gl_asking.specs.Handed.{command_in}
-use Rattle.gl_session.specs.Asking.{Calls, buffer_of}
+use Rattle.gl_asking.specs.declared.kinds.Asking.TheVariants.{Calls}
+use Rattle.gl_asking.specs.Asking.{buffer_of}
 use Rattle.gl_session.specs.Rows.{files_of, is_row}
 use Rattle.gl_session.proofs.Commands.{ioctl_outcome, no_request_kept, none_kept, request_kept}
 use Rattle.gl_session.proofs.Performing.{no_file, no_slot_outcome, whole_again}

@@ -6,8 +6,8 @@ use Rattle.gl_model.specs.declared.device_call.DeviceCall.TheVariants.{Once}
 use Rattle.gl_model.specs.declared.call.Call.TheVariants.{Close as Made}
 use Rattle.gl_asking.specs.Results.{done_of}
 use Rattle.gl_talk.proofs.NamedRows.{row_removed, no_row_removed}
-use Rattle.gl_session.specs.Asking.{Calls}
-use Rattle.gl_session.specs.Files.{is_in}
+use Rattle.gl_asking.specs.declared.kinds.Asking.TheVariants.{Calls}
+use Rattle.gl_asking.specs.Files.{is_in}
 use Rattle.gl_session.specs.Rows.{is_row, row_file}
 use Rattle.gl_session.proofs.Performing.{no_slot_outcome, slot_outcome}
 use Rattle.gl_session.proofs.on_files.close.Goals as goal

@@ -4,7 +4,8 @@ use Rattle.gl_model.specs.declared.device_call.DeviceCall.TheVariants.{Once}
 use Rattle.gl_model.specs.declared.call.Call.TheVariants.{Find as Made}
 use Rattle.gl_chip.specs.Called.{ComesOut}
 use Rattle.gl_asking.specs.Results.{found_of}
-use Rattle.gl_session.specs.Asking.{Calls, found_got}
+use Rattle.gl_asking.specs.declared.kinds.Asking.TheVariants.{Calls}
+use Rattle.gl_asking.specs.Asking.{found_got}
 use Rattle.gl_session.specs.Rows.{place_of}
 use Rattle.gl_session.specs.declared.files.FileRow.{FileRow}
 use Rattle.gl_session.proofs.Performing.{no_slot_outcome, slot_outcome}

@@ -7,7 +7,8 @@ use Rattle.gl_base.specs.declared.operation.Do.TheVariants.{Poll as Asked}
 use Rattle.gl_base.specs.declared.operation.Got.TheVariants.{Ready}
 use Rattle.gl_model.specs.declared.device_call.DeviceCall.TheVariants.{Once}
 use Rattle.gl_asking.specs.Results.{ready_of}
-use Rattle.gl_session.specs.Asking.{Calls, polls}
+use Rattle.gl_asking.specs.declared.kinds.Asking.TheVariants.{Calls}
+use Rattle.gl_asking.specs.Asking.{polls}
 use Rattle.gl_session.proofs.Performing.{no_slot_outcome, slot_outcome}
 use Rattle.gl_session.proofs.on_files.poll.Goals as goal
 

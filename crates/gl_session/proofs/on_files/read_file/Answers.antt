@@ -6,7 +6,8 @@ use Rattle.gl_session.specs.Rows.{row_file}
 use Rattle.gl_session.specs.declared.files.FileRow.{FileRow}
 use Rattle.gl_base.specs.declared.operation.Do.TheVariants.{ReadFile as Asked}
 use Rattle.gl_model.specs.declared.device_call.DeviceCall.TheVariants.{Once}
-use Rattle.gl_session.specs.Asking.{Calls, reads_from}
+use Rattle.gl_asking.specs.declared.kinds.Asking.TheVariants.{Calls}
+use Rattle.gl_asking.specs.Asking.{reads_from}
 use Rattle.gl_session.proofs.Performing.{no_slot_outcome, read_outcome, whole_again}
 use Rattle.gl_session.proofs.on_files.read_file.Goals as goal
 

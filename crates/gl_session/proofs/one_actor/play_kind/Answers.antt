@@ -4,7 +4,7 @@ use Rattle.gl_base.specs.Words.{Span}
 use Rattle.gl_script.specs.Script.{sections_of}
 use Rattle.gl_talk.specs.Over.{columns_in}
 use Rattle.gl_talk.specs.Talk.{names_in}
-use Rattle.gl_session.specs.One.{said_in_kind}
+use Rattle.gl_check.specs.One.{said_in_kind}
 use Rattle.gl_session.proofs.Plays.{plays_nothing, plays_on, stops_on}
 use Rattle.gl_session.proofs.Sections.{said_next, section_count, section_step, section_stops}
 use Rattle.gl_session.proofs.one_actor.play_kind.Goals as goal

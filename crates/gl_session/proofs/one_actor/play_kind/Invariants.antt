@@ -3,9 +3,10 @@ use Rattle.gl_args.specs.Program.{done}
 use Rattle.gl_chip.specs.Values.{IsActorOf}
 use Rattle.gl_script.specs.Script.{sections_of}
 use Rattle.gl_talk.specs.Talk.{names_in, says}
-use Rattle.gl_session.specs.One.{said_in_kind}
+use Rattle.gl_check.specs.One.{said_in_kind}
 use Rattle.gl_session.specs.OneActor.{count_in_kind}
-use Rattle.gl_session.specs.Performed.{PlaysOn, carried}
+use Rattle.gl_session.specs.Performed.{PlaysOn}
+use Rattle.gl_check.specs.Turns.{carried}
 use Rattle.gl_session.specs.Rows.{files_of}
 use Rattle.gl_session.proofs.one_actor.play_kind.Given as goal
 

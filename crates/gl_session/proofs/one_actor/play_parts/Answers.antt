@@ -4,10 +4,11 @@ use Rattle.gl_script.specs.Script.{sections_of}
 use Rattle.gl_script.specs.declared.section.SectionKind.TheVariants.{After, Setup}
 use Rattle.gl_talk.specs.Open.{no_names}
 use Rattle.gl_talk.specs.Talk.{names_in, quits}
-use Rattle.gl_session.specs.Alone.{after_of, setup_of}
-use Rattle.gl_session.specs.One.{said_in_kind}
+use Rattle.gl_check.specs.Programs.{after_of, setup_of}
+use Rattle.gl_check.specs.One.{said_in_kind}
 use Rattle.gl_session.specs.OneActor.{count_in_kind}
-use Rattle.gl_session.specs.Performed.{PlaysOn, StoppedFull, carried}
+use Rattle.gl_session.specs.Performed.{PlaysOn, StoppedFull}
+use Rattle.gl_check.specs.Turns.{carried}
 use Rattle.gl_session.specs.Rows.{files_of}
 use Rattle.gl_session.proofs.Sections.{begins_so, stops_so}
 use Rattle.gl_session.proofs.Whole.{has_played, stops_in_actor, stops_in_after, stops_in_setup}

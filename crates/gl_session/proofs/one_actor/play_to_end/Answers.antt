@@ -2,7 +2,7 @@ use Rattle.std.proofs.Common.{inl, inr, ⊎_elim, ap, None}
 use Rattle.gl_args.specs.Program.{given}
 use Rattle.gl_script.specs.Script.{sections_of}
 use Rattle.gl_talk.specs.Talk.{names_in}
-use Rattle.gl_session.specs.One.{said_in_kind}
+use Rattle.gl_check.specs.One.{said_in_kind}
 use Rattle.gl_session.proofs.Sections.{ends_behind, stops_at_end, stops_before_end}
 use Rattle.gl_session.proofs.one_actor.play_to_end.Goals as goal
 

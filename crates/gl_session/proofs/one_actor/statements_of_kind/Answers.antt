@@ -1,6 +1,6 @@
 use Rattle.std.proofs.Common.{rules, ◌≡◌, true}
 use Rattle.gl_script.specs.Meaning.{head_in}
-use Rattle.gl_session.specs.One.{is_kind}
+use Rattle.gl_check.specs.One.{is_kind}
 use Rattle.gl_session.proofs.SaidHere.{said_here}
 use Rattle.gl_session.proofs.one_actor.statements_of_kind.Goals as goal
 

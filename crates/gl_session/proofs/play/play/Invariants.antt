@@ -2,7 +2,8 @@ use Rattle.std.proofs.Common.{◌≡◌, None}
 use Rattle.gl_args.specs.Program.{given}
 use Rattle.gl_chip.specs.Values.{IsActorOf}
 use Rattle.gl_talk.specs.Talk.{left}
-use Rattle.gl_session.specs.Performed.{PlaysOn, carried}
+use Rattle.gl_session.specs.Performed.{PlaysOn}
+use Rattle.gl_check.specs.Turns.{carried}
 use Rattle.gl_session.specs.Rows.{files_of}
 use Rattle.gl_session.proofs.play.play.Given as goal
 

@@ -3,7 +3,8 @@ use Rattle.gl_args.specs.Program.{done}
 use Rattle.gl_chip.specs.Values.{IsActorOf}
 use Rattle.gl_talk.specs.Over.{columns_in}
 use Rattle.gl_talk.specs.Talk.{names_in, says}
-use Rattle.gl_session.specs.Performed.{PlaysOn, carried}
+use Rattle.gl_session.specs.Performed.{PlaysOn}
+use Rattle.gl_check.specs.Turns.{carried}
 use Rattle.gl_session.specs.Rows.{files_of}
 use Rattle.gl_session.proofs.play.play_all.Given as goal
 

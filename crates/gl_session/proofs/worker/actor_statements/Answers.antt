@@ -1,6 +1,6 @@
 use Rattle.std.proofs.Common.{◌<◌, ◌+◌, ◌-◌, length, drop, get_or, ap, ◌∙◌, arith}
 use Rattle.gl_script.specs.Script.{sections_of}
-use Rattle.gl_session.specs.Many.{actor_sections, no_section}
+use Rattle.gl_check.specs.Many.{actor_sections, no_section}
 use Rattle.gl_session.proofs.WholeSections.{none_counted, one_counted, section_elsewhere, section_found, section_later}
 use Rattle.gl_session.proofs.worker.actor_statements.Goals.{then-is_actor_head+else-missing-eq0, else-is_actor_head}
 use Rattle.gl_session.proofs.worker.actor_statements.Goals as goal

@@ -1,6 +1,6 @@
 use Rattle.std.proofs.Common.{◌≡◌, ◌≤◌, ◌-◌, drop, get_or, length}
 use Rattle.gl_script.specs.Script.{sections_of}
-use Rattle.gl_session.specs.Many.{actor_sections, no_section}
+use Rattle.gl_check.specs.Many.{actor_sections, no_section}
 use Rattle.gl_session.proofs.worker.actor_statements.Given as goal
 
 -- the section is the one of the actors that are missing, from here on

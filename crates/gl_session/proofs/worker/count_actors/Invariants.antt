@@ -1,6 +1,6 @@
 use Rattle.std.proofs.Common.{◌≡◌, ◌+◌, drop, length}
 use Rattle.gl_script.specs.Script.{sections_of}
-use Rattle.gl_session.specs.Many.{actor_sections}
+use Rattle.gl_check.specs.Many.{actor_sections}
 use Rattle.gl_session.proofs.worker.count_actors.Given as goal
 
 -- those so far, and those behind them, are all

@@ -3,7 +3,8 @@ use Rattle.gl_base.specs.declared.lines.Lines.{Lines}
 use Rattle.gl_uapi.specs.declared.layout.TheConstants.{LINE_REQUEST_SIZE}
 use Rattle.gl_model.specs.Asked.{lines_asked}
 use Rattle.gl_chip.specs.Answering.{AnswersInOrder}
-use Rattle.gl_chip.specs.Commanding.{CommandsOut, op_for, request_in, requested_of}
+use Rattle.gl_chip.specs.Commanding.{CommandsOut, request_in, requested_of}
+use Rattle.gl_asking.specs.Driving.{op_for}
 use Rattle.gl_asking.specs.Opened.{ChipFile}
 use Rattle.gl_chip.specs.Files.{LineFile}
 use Rattle.gl_asking.specs.Handed.{command_in, handed_in}

@@ -4,7 +4,7 @@ use Rattle.gl_model.specs.declared.call.Part.TheVariants.{Ask, Tell}
 use Rattle.gl_model.specs.Fits.{Fits}
 use Rattle.gl_asking.specs.Handed.{command_in}
 use Rattle.gl_chip.specs.Steps.{CalledOnce}
-use Rattle.gl_chip.specs.Values.{core}
+use Rattle.gl_core.specs.Device.{core}
 use Rattle.gl_chip.proofs.CommandCalls.{asked_and_told, fits_after_go, fits_ask, fits_tell, go_left_buffer, not_asked}
 use Rattle.gl_chip.proofs.gpio.Gpio.command_inside.Goals as goal
 

@@ -3,7 +3,7 @@ use Rattle.std.proofs.lemmas.Bool.{true≢false}
 use Rattle.gl_rule.specs.Sums.{without}
 use Rattle.gl_chip.specs.Commanding.{HasCommanded}
 use Rattle.gl_asking.specs.Handed.{command_in}
-use Rattle.gl_chip.specs.Values.{core}
+use Rattle.gl_core.specs.Device.{core}
 use Rattle.gl_chip.proofs.CommandCalls.{called_command, idle_commanded, inside_after, left_place, refused_no_number, turned_away}
 use Rattle.gl_chip.proofs.GateSteps.{came_in, found_closed, if_err, if_ok, is_free, no_room, no_room_left, owes_moved, went_out}
 use Rattle.gl_chip.specs.Values.{IsSameActor}

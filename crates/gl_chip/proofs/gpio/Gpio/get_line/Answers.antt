@@ -1,12 +1,13 @@
 use Rattle.std.proofs.Common.{◌≡◌, ℕ, List, [], length, take, true, refl, ap, ◌∙◌, Option, sym, subst}
 use Rattle.gl_base.specs.declared.errno.Errno.TheVariants.{NoMemory}
 use Rattle.gl_base.specs.declared.lines.Lines.{Lines}
-use Rattle.gl_driver.specs.declared.op.Op.{Op}
+use Rattle.gl_base.specs.declared.op.Op.{Op}
 use Rattle.gl_uapi.specs.Command.{command_of}
 use Rattle.gl_uapi.specs.declared.layout.TheConstants.{LINE_REQUEST_SIZE}
 use Rattle.gl_model.specs.Asked.{lines_asked}
 use Rattle.gl_model.specs.declared.device_call.DeviceCall.TheVariants.{Commanding}
-use Rattle.gl_chip.specs.Commanding.{HasCommanded, IsOp, op_for, request_in, requested_of}
+use Rattle.gl_chip.specs.Commanding.{HasCommanded, IsOp, request_in, requested_of}
+use Rattle.gl_asking.specs.Driving.{op_for}
 use Rattle.gl_chip.specs.Files.{LineFile}
 use Rattle.gl_asking.specs.Handed.{command_in, handed_in}
 use Rattle.gl_chip.proofs.Answering.{answers_in_order, requests_in_order}

@@ -1,10 +1,11 @@
 use Rattle.std.proofs.Common.{◌≡◌, ℕ, List, [], ◌++◌, length, drop, false, Option, Some, sym, refl, subst, ◌∙◌}
 use Rattle.std.proofs.lemmas.Bool.{true≢false}
-use Rattle.gl_driver.specs.declared.op.Op.{Op}
+use Rattle.gl_base.specs.declared.op.Op.{Op}
 use Rattle.gl_uapi.specs.Command.{command_of}
 use Rattle.gl_base.specs.Count.{Rises}
 use Rattle.gl_chip.specs.Answering.{AnswersInOrder, ConfiguresInOrder}
-use Rattle.gl_chip.specs.Commanding.{CommandsOut, HasCommanded, op_for, op_of}
+use Rattle.gl_chip.specs.Commanding.{CommandsOut, HasCommanded}
+use Rattle.gl_asking.specs.Driving.{op_for, op_of}
 use Rattle.gl_chip.specs.Files.{LineFile}
 use Rattle.gl_asking.specs.Handed.{command_in}
 use Rattle.gl_asking.specs.Results.{done_of}

@@ -2,7 +2,7 @@ use Rattle.std.proofs.Common.{◌≡◌, Bool, refl, ap, ◌∙◌, subst}
 use Rattle.gl_asking.specs.declared.kinds.FileKind.{FileKind}
 use Rattle.gl_asking.specs.Handed.{command_in}
 use Rattle.gl_asking.specs.Rows.{HasLines, is_chip}
-use Rattle.gl_chip.specs.Commanding.{op_for}
+use Rattle.gl_asking.specs.Driving.{op_for}
 use Rattle.gl_chip.specs.Orders.{lines_on}
 use Rattle.gl_chip.proofs.OrderedCalls.{as_ordered, number_ordered}
 use Rattle.gl_chip.proofs.gpio.Gpio.order_command.Goals as goal

@@ -6,7 +6,7 @@ use Rattle.gl_model.specs.Fits.{FitsGift}
 use Rattle.gl_model.specs.Parts.{in_ask, is_driver_asked}
 use Rattle.gl_asking.specs.declared.kinds.FileKind.TheVariants.{Chip}
 use Rattle.gl_asking.specs.Handed.{command_in, handed_in}
-use Rattle.gl_chip.specs.Commanding.{op_for}
+use Rattle.gl_asking.specs.Driving.{op_for}
 use Rattle.gl_chip.specs.Orders.{lines_on}
 use Rattle.gl_chip.proofs.OrderedCalls.{as_ordered, number_ordered, wanted, was_full, was_full_alone, whole_numbers, whole_ordered}
 use Rattle.gl_chip.proofs.RequestedLines.{only_get_line, op_goes, op_is_for}

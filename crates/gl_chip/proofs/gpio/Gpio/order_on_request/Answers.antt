@@ -5,7 +5,7 @@ use Rattle.gl_uapi.specs.Command.{command_of}
 use Rattle.gl_model.specs.declared.device_call.CommandIn.{CommandIn}
 use Rattle.gl_model.specs.Parts.{is_driver_asked}
 use Rattle.gl_asking.specs.Handed.{command_in}
-use Rattle.gl_chip.specs.Commanding.{op_for}
+use Rattle.gl_asking.specs.Driving.{op_for}
 use Rattle.gl_chip.proofs.Answering.{no_get_line}
 use Rattle.gl_chip.proofs.OrderedCalls.{as_ordered, number_ordered, was_full, was_full_alone, whole_numbers, whole_ordered}
 use Rattle.gl_chip.proofs.gpio.Gpio.order_on_request.Goals as goal

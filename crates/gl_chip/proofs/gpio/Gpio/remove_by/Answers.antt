@@ -7,7 +7,7 @@ use Rattle.gl_chip.proofs.GoneChips.{ended_not_gone, refused_as_gone}
 use Rattle.gl_chip.proofs.RemovalCalls.{done_not_undone, first_is_refused, full_removal, unplug_drains, has_begun, not_begun, refused_idle, refused_removal, removed_at_first, removed_whole, two_are, whole_removal}
 use Rattle.gl_chip.proofs.WholeCalls.{idle_called, seen_from}
 use Rattle.gl_chip.specs.Steps.{FoundNoRoom}
-use Rattle.gl_chip.specs.Values.{core}
+use Rattle.gl_core.specs.Device.{core}
 use Rattle.gl_chip.proofs.SameActors.{same_grown}
 use Rattle.gl_chip.proofs.gpio.Gpio.remove_by.Goals as goal
 

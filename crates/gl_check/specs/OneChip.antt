@@ -1,7 +1,7 @@
 -- A session of two statements, which makes a chip and lists the chips, and what One makes of it. (`examples/one-chip.session`)
 use Rattle.std.specs.Prelude.{ℕ, List, [], ◌∷◌, ◌++◌, Option, codes}
 use Rattle.gl_script.specs.Sentence.{sections_said}
-use Rattle.gl_session.specs.One.{one, planned, taken}
+use Rattle.gl_check.specs.One.{one, planned, taken}
 
 abbrev ended : List ℕ → List ℕ → List ℕ
 ended line rest = line ++ 10 ∷ rest

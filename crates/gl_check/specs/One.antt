@@ -12,7 +12,7 @@ use Rattle.gl_base.specs.declared.phase.Phase.TheVariants.{Absent, Up, Leaving, 
 use Rattle.gl_uapi.specs.Command.{command_of}
 use Rattle.gl_args.specs.Program.{Program, done, print, ask}
 use Rattle.gl_driver.specs.Told.{Told, new_port, with_call, with_plan}
-use Rattle.gl_driver.specs.declared.op.Op.{Op}
+use Rattle.gl_base.specs.declared.op.Op.{Op}
 use Rattle.gl_script.specs.Columns.{columns}
 use Rattle.gl_script.specs.Section.{SaidSection}
 use Rattle.gl_script.specs.declared.section.SectionKind.{SectionKind}
@@ -31,8 +31,11 @@ use Rattle.gl_model.specs.declared.reply.Reply.{Reply}
 use Rattle.gl_model.specs.declared.reply.Reply.TheVariants.{Done as DoneReply, Refused as RefusedReply}
 use Rattle.gl_talk.specs.Open.{Names, no_names}
 use Rattle.gl_talk.specs.Talk.{quits, says, talks}
-use Rattle.gl_session.specs.Asking.{Asking, Calls, Plans, Refuses, asking, files_behind, got_of, op_asked}
-use Rattle.gl_session.specs.Files.{OpenFile}
+use Rattle.gl_asking.specs.declared.kinds.Asking.{Asking}
+use Rattle.gl_asking.specs.declared.kinds.Asking.TheVariants.{Calls, Plans, Refuses}
+use Rattle.gl_asking.specs.Asking.{asking, files_behind, got_of}
+use Rattle.gl_asking.specs.Driving.{op_asked}
+use Rattle.gl_asking.specs.Files.{OpenFile}
 
 abbrev pub is_gone : Phase → Bool
 is_gone Absent = false

@@ -5,18 +5,18 @@ use Rattle.gl_base.specs.declared.operation.Do.{Do}
 use Rattle.gl_base.specs.declared.operation.Got.{Got}
 use Rattle.gl_world.specs.Deeds.{entries_in}
 use Rattle.gl_args.specs.Program.{Program, done, print, ask}
-use Rattle.gl_driver.specs.Told.{Told, with_plan}
-use Rattle.gl_driver.specs.declared.op.Op.{Op}
+use Rattle.gl_driver.specs.Told.{PortAfter, Told, with_plan}
+use Rattle.gl_base.specs.declared.op.Op.{Op}
 use Rattle.gl_model.specs.declared.device_call.DeviceCall.{DeviceCall}
 use Rattle.gl_model.specs.Parts.{Makes, last_reply}
 use Rattle.gl_model.specs.declared.reply.Reply.{Reply}
 use Rattle.gl_model.specs.declared.reply.Reply.TheVariants.{Done, Refused}
-use Rattle.gl_chip.specs.Called.{last_bytes}
-use Rattle.gl_chip.specs.Values.{OneDeed}
-use Rattle.gl_session.specs.Asking.{Asking, Calls, Plans, Refuses, asking, files_behind, got_of, op_asked}
-use Rattle.gl_session.specs.Files.{OpenFile}
--- the answers of the driver that entries tell, and what becomes of a port by them
-pub use Rattle.gl_chip.specs.Telling.{PortAfter, call_tells, part_tells, tells_in}
+use Rattle.gl_core.specs.Device.{OneDeed, last_bytes, tells_in}
+use Rattle.gl_asking.specs.declared.kinds.Asking.{Asking}
+use Rattle.gl_asking.specs.declared.kinds.Asking.TheVariants.{Calls, Plans, Refuses}
+use Rattle.gl_asking.specs.Asking.{asking, files_behind, got_of}
+use Rattle.gl_asking.specs.Driving.{op_asked}
+use Rattle.gl_asking.specs.Files.{OpenFile}
 
 -- an operation as it was carried out: whether the guard of its place was closed, what the driver answered where it was asked,
 -- what the actor did, and the last reply and what was written there
@@ -32,6 +32,9 @@ pub record Exchange : Type 0 where
 pub record Carried : Type 0 where
   pub files : List OpenFile
   pub told : Option Told
+
+abbrev pub carried : List OpenFile → Option Told → Carried
+carried files told = record { files = files; told = told }
 
 module _ (is_planned : Bool) (actor : ℕ) where
   -- a call of the device was made, for which the driver is asked this: its deeds are parts of the call, and reply and bytes are the last one's

@@ -1,0 +1,103 @@
+-- Many: what a session with two or more actors did, by its history and its texts. Each actor carries its section out as a talk of
+-- its own; the history has its entries in order, with other actors' between them. Actor 0 has `setup` in front of all other
+-- actors' entries, and `after` behind them. This project's choice.
+use Rattle.std.specs.Prelude.{◌≡◌, ℕ, ◌+◌, ◌-◌, ◌<◌, ◌≤◌, Bool, true, false, if◌then◌else◌, List, [], ◌∷◌, ◌++◌, length, map, get_or, Option, Some, None}
+use Rattle.gl_base.specs.Words.{Span}
+use Rattle.gl_world.specs.Deeds.{deeds_from, deeds_of}
+use Rattle.gl_world.specs.History.{Legal, entries_of, fold}
+use Rattle.gl_args.specs.Program.{Program}
+use Rattle.gl_driver.specs.Told.{Told, new_port}
+use Rattle.gl_script.specs.Columns.{columns}
+use Rattle.gl_script.specs.Section.{SaidSection}
+use Rattle.gl_script.specs.declared.section.SectionKind.TheVariants.{Actor}
+use Rattle.gl_talk.specs.Open.{Names, no_names}
+use Rattle.gl_talk.specs.Talk.{talks}
+use Rattle.gl_core.specs.Device.{OneEntry, core, tells_in}
+use Rattle.gl_check.specs.Tells.{TellsAfter}
+use Rattle.gl_check.specs.Programs.{after_of, setup_of}
+use Rattle.gl_check.specs.One.{is_kind}
+use Rattle.gl_check.specs.Turns.{Carried, Played, carried}
+
+-- the sections of actors, in order: actor n, counted from 1, has the nth
+abbrev pub actor_sections : List SaidSection → List SaidSection
+actor_sections [] = []
+actor_sections (section ∷ sections) = if is_kind Actor section.kind then section ∷ actor_sections sections else actor_sections sections
+
+abbrev pub no_section : SaidSection
+no_section = record { kind = Actor; name = []; statements = [] }
+
+-- the words of a section's statements
+abbrev pub words_of : SaidSection → List (List Span)
+words_of section = map (λ line. columns line.text) section.statements
+
+-- what actor n carries out: the statements of its section, and then the closing of its files
+abbrev pub program_of : List SaidSection → ℕ → Program Names
+program_of sections n = talks 0 (words_of (get_or (actor_sections sections) (n - 1) no_section)) no_names
+
+-- the texts of `setup`, of each actor in order, and of `after`
+pub record Texts : Type 0 where
+  pub setup : List ℕ
+  pub actors : List (List ℕ)
+  pub last : List ℕ
+
+-- A port for each actor by its number, which may tell what went through it.
+-- `is_planned`: the driver answers as these plan. `before`: what each told at the beginning. `left`: what it tells at the end.
+module _ (is_planned : Bool) (before left : ℕ → Option Told) (sections : List SaidSection) (history : List OneEntry) where
+  -- Actor n carried its section out: its entries in the history are just those of the operations of its talk, in order, each result that
+  -- of the history's reply, and this is its text.
+  pub record ActorPlayed (n : ℕ) (text : List ℕ) : Type 0 where
+    pub names : Names
+    pub behind : Carried
+    pub played : Played is_planned n (program_of sections n) (carried [] (before n)) text (deeds_of core n history) names behind
+    pub left_is : behind.told ≡ left n
+
+  -- the actors from n on, with their texts
+  abbrev pub ActorsPlayed : ℕ → List (List ℕ) → Type 0
+  ActorsPlayed n [] = Unit {0}
+  ActorsPlayed n (text ∷ texts) = ActorPlayed n text × ActorsPlayed (n + 1) texts
+
+  -- All actors carried out their parts. The history is that of `setup`, then that of the actors' sections, and then that of `after`.
+  pub record AllPlayed (texts : Texts) : Type 0 where
+    pub legal : Legal core history
+    pub first : List OneEntry
+    pub middle : List OneEntry
+    pub last : List OneEntry
+    pub is : history ≡ (first ++ middle) ++ last
+    pub others_not_first : (n : ℕ) → 1 ≤ n → entries_of n first ≡ []
+    pub zero_not_between : entries_of 0 middle ≡ []
+    pub others_not_last : (n : ℕ) → 1 ≤ n → entries_of n last ≡ []
+    -- `setup` and `after` are one talk, which waits in between with its files and names
+    pub names : Names
+    pub waiting : Carried
+    pub setup : Played is_planned 0 (setup_of sections) (carried [] (before 0)) texts.setup (deeds_of core 0 first) names waiting
+    pub end : Names
+    pub behind : Carried
+    pub after : Played is_planned 0 (after_of sections names) waiting texts.last (deeds_from core (fold core (first ++ middle)) 0 last) end behind
+    pub left_is : behind.told ≡ left 0
+    pub actors : ActorsPlayed 1 texts.actors
+    pub as_many : length texts.actors ≡ length (actor_sections sections)
+    -- and nobody else has an entry
+    pub nobody_else : (n : ℕ) → length (actor_sections sections) < n → entries_of n history ≡ []
+
+-- ports that tell nothing, and new ports
+abbrev pub silent : ℕ → Option Told
+silent n = None
+
+abbrev pub all_new : ℕ → Option Told
+all_new n = Some new_port
+
+-- Many: the history is legal, each actor's entries in it are parts of the operations of its talk, in order, with the history's replies as
+-- results, and its text is that talk's. No word on ports.
+abbrev pub Many : List SaidSection → List OneEntry → Texts → Type 0
+Many sections history texts = AllPlayed false silent silent sections history texts
+
+-- Each actor's tells have, in order, the answers that a planned driver gives through a new port to that actor's statements about its port
+-- and to its driver calls, in the order of its section, or for actor 0 of `setup` and then `after`.
+abbrev pub PlannedTells : List SaidSection → List OneEntry → Texts → Type 0
+PlannedTells sections history texts = (left : ℕ → Option Told) × AllPlayed true all_new left sections history texts
+
+-- Where an actor's port told, it tells in the end as many driver calls more as the actor has tells in the history, and as its last answer
+-- that of the last of them.
+abbrev pub PortsTell : (ℕ → Option Told) → (ℕ → Option Told) → List SaidSection → List OneEntry → Type 0
+PortsTell before left sections history =
+    (n : ℕ) (t : Told) → n ≤ length (actor_sections sections) → before n ≡ Some t → TellsAfter t (tells_in (entries_of n history)) (left n)

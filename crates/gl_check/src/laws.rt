@@ -1,0 +1,13 @@
+//! What follows of the definitions alone. Each is a function with nothing to do: its contract is the law, and a caller gets it by
+//! the call.
+
+ghost use Rattle.std.specs.Prelude.{◌≡◌, []};
+ghost use Rattle.gl_check.specs.OneChip.{output, plans, printed, takes};
+
+/// One of a session that makes a chip and lists the chips is its one line, and no driver is asked for it. Computed from the
+/// definitions alone.
+pub fn one_chip()
+    ensures prints { printed ≡ output }
+    ensures asks_nothing { takes ≡ [] }
+    ensures plans_nothing { plans ≡ [] }
+{}

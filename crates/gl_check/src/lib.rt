@@ -1,0 +1,4 @@
+//! What a session does, by its sections and its history alone: who ran it, and by what code, is not said.
+#![tactic(auto)]
+
+pub mod laws;
