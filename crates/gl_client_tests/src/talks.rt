@@ -10,7 +10,7 @@ use std::alloc::Global;
 /// Goes on to the end of a statement, with the results that are left, and appends what it asks and prints.
 fn finish(
     alloc: Global,
-    talk: &mut Talk<'_>,
+    talk: &mut Talk,
     left: &mut &[Got],
     form: Form,
     out: &mut Vec<u8>,
@@ -28,7 +28,7 @@ fn finish(
 }
 
 /// One step of a talk.
-fn go_on(alloc: Global, talk: &mut Talk<'_>, got: Option<&Got>) -> Result<Next, Errno> {
+fn go_on(alloc: Global, talk: &mut Talk, got: Option<&Got>) -> Result<Next, Errno> {
     if talk.begun > 1000 {
         return Err(Errno::Full);
     }
@@ -36,17 +36,17 @@ fn go_on(alloc: Global, talk: &mut Talk<'_>, got: Option<&Got>) -> Result<Next, 
 }
 
 /// Begins each statement and goes on to its end.
-fn finish_all<'a>(
+fn finish_all(
     alloc: Global,
-    talk: &mut Talk<'a>,
-    statements: &[Statement<'a>],
+    talk: &mut Talk,
+    statements: &[Statement<'_>],
     left: &mut &[Got],
     form: Form,
     out: &mut Vec<u8>,
 ) -> Result<(), Errno> {
     for statement in statements {
         if talk.begun < 1000 {
-            talk.begin(*statement);
+            talk.begin(alloc, statement.line())?;
         }
         finish(alloc, talk, left, form, out)?;
     }

@@ -2,5 +2,6 @@ pub mod Back
 pub mod Blaming
 pub mod Loads
 pub mod Missing
+pub mod ServingLines
 pub mod Spelling
 pub mod Sums

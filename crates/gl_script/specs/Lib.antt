@@ -10,5 +10,7 @@ pub mod Refusal
 pub mod Script
 pub mod Section
 pub mod Sentence
+pub mod Served
+pub mod ServedLines
 pub mod Spelled
 pub mod Table

@@ -4,6 +4,7 @@ ghost use Rattle.gl_script.specs.Blame.{FaultsAreOfTheText};
 ghost use Rattle.gl_script.specs.Gen.{IsSession, load_text};
 ghost use Rattle.gl_script.specs.Section.{SaidSection};
 ghost use Rattle.gl_script.specs.Sentence.{Sentence};
+ghost use Rattle.gl_script.specs.ServedLines.{AcceptedLinesHaveNoFault, AcceptedTextsAreSessions, RefusedLinesHaveTheirFault};
 ghost use Rattle.gl_script.specs.Spelled.{Spelled};
 ghost use Rattle.gl_script.specs.Table.{StatementsHaveTheirWords};
 
@@ -37,6 +38,14 @@ pub fn loads_are_sessions()
 /// Each statement is the one that its word begins: the table of statements has a row for each.
 pub fn statements_have_their_words()
     ensures { StatementsHaveTheirWords }
+{}
+
+/// Lines that are accepted one after the other (`line_kind`) are together a session with its statements in `setup`, unless it is too
+/// long or costs too much. A line that is refused would be refused there too, by the same fault, unless it is refused as a section.
+pub fn served_lines_are_sessions()
+    ensures accepted { AcceptedLinesHaveNoFault }
+    ensures refused { RefusedLinesHaveTheirFault }
+    ensures whole { AcceptedTextsAreSessions }
 {}
 
 /// The limits are these numbers.

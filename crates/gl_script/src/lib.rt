@@ -13,6 +13,7 @@ mod reading;
 mod refusal;
 mod script;
 mod section;
+mod served;
 mod table;
 
 pub use faults::text_at;
@@ -20,11 +21,13 @@ pub use feed::Feed;
 pub use forms::number_within;
 pub use laws::{
     faults_are_of_the_text, limits_by_value, loads_are_sessions, sentence_is_single,
-    sentences_are_spelled, spelled_are_sentences, statements_have_their_words,
+    sentences_are_spelled, served_lines_are_sessions, spelled_are_sentences,
+    statements_have_their_words,
 };
 pub use limits::{SESSION_MAX, TURNS_MAX};
 pub use load::generate;
-pub use refusal::{Refusal, RefusalKind};
+pub use refusal::{Refusal, RefusalKind, Spot};
 pub use script::Script;
 pub use section::{Head, SectionKind, Statement};
+pub use served::{LineKind, Stage, line_kind};
 pub use table::{Keyword, keyword_of};

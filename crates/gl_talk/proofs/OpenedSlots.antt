@@ -35,7 +35,7 @@ use Rattle.gl_talk.specs.Open.{File, MonitorTool, Names, SetTool, has_tool, held
 use Rattle.gl_talk.specs.Plans.{planned}
 use Rattle.gl_talk.specs.Talk.{acts, does, does_by, file, keeps_monitor, keeps_set, replied_by, runs, starts, starts_said, starts_tool, steps, stops}
 use Rattle.gl_talk.specs.ToolWords.{kind_of, word_texts}
-use Rattle.gl_talk.specs.Words.{behind_three, behind_two, bytes_said, made_name, turns_word}
+use Rattle.gl_talk.specs.Words.{behind_three, behind_two, bytes_said, made_name, name_word, turns_word}
 use Rattle.gl_talk.proofs.TalkNames.{PlanFits, file_times, monitor_more, one_more, open_times, planned_at, set_more}
 use Rattle.gl_values.specs.Client.{held_program, tool_program}
 use Rattle.gl_values.specs.Set.{Held}
@@ -283,13 +283,13 @@ module _ (slot : ℕ) where
   one_set : (name : List ℕ) (names : Names) (held : Held) → own_open names ≤ 0 → Gives IsOneMore (keeps_set name names held)
   one_set name names None none = omega (arith, none)
   one_set name names (Some x) none =
-      let tool : SetTool = record { name = name; held = Some x } in
+      let tool : SetTool = record { name = name_word name; held = Some x } in
       omega (arith, none, set_more slot names.sets tool, set_more (slot + 1) names.sets tool, counts_two slot (Some x))
 
   one_monitor : (name : List ℕ) (names : Names) (watched : Watched) → own_open names ≤ 0 → Gives IsOneMore (keeps_monitor name names watched)
   one_monitor name names None none = omega (arith, none)
   one_monitor name names (Some w) none =
-      let tool : MonitorTool = record { name = name; watched = Some w } in
+      let tool : MonitorTool = record { name = name_word name; watched = Some w } in
       omega (arith, none, monitor_more slot names.monitors tool, monitor_more (slot + 1) names.monitors tool, counts_two slot (watched_slot (Some w)))
 
   module _ (names : Names) (words : List Span) (none : own_open names ≤ 0) where

@@ -33,7 +33,7 @@ use Rattle.gl_talk.specs.Plans.{planned}
 use Rattle.gl_talk.specs.Slots.{OpenPass, SlotsAreOwn}
 use Rattle.gl_talk.specs.Talk.{acts, does_by, file, keeps_monitor, keeps_set, replied_by, runs, starts, starts_said, starts_tool, steps, stops}
 use Rattle.gl_talk.specs.ToolWords.{kind_of, word_texts}
-use Rattle.gl_talk.specs.Words.{behind_three, behind_two, bytes_said, made_name, turns_word}
+use Rattle.gl_talk.specs.Words.{behind_three, behind_two, bytes_said, made_name, name_word, turns_word}
 use Rattle.gl_values.specs.Client.{held_program, tool_program}
 use Rattle.gl_values.specs.Set.{Held}
 use Rattle.gl_values.specs.Set.{stops as stops_holding}
@@ -53,14 +53,14 @@ module _ (test : ℕ → Bool) where
   keeps_set_pass : (names : Names) (name : List ℕ) (held : Held) → OpenPass test names → SlotPasses test held → Gives (OpenPass test) (keeps_set name names held)
   keeps_set_pass names name None held_open h = held_open
   keeps_set_pass names name (Some slot) held_open h =
-      record { files = held_open.files; sets = Each-push (λ (tool : SetTool). SlotPasses test tool.held) names.sets (record { name = name; held = Some slot }) held_open.sets h; monitors = held_open.monitors }
+      record { files = held_open.files; sets = Each-push (λ (tool : SetTool). SlotPasses test tool.held) names.sets (record { name = name_word name; held = Some slot }) held_open.sets h; monitors = held_open.monitors }
 
   keeps_monitor_pass : (names : Names) (name : List ℕ) (watched : Watched) → OpenPass test names → WatchedPasses test watched → Gives (OpenPass test) (keeps_monitor name names watched)
   keeps_monitor_pass names name None held_open h = held_open
   keeps_monitor_pass names name (Some w) held_open h = record {
     files = held_open.files;
     sets = held_open.sets;
-    monitors = Each-push (λ (tool : MonitorTool). WatchedPasses test tool.watched) names.monitors (record { name = name; watched = Some w }) held_open.monitors h;
+    monitors = Each-push (λ (tool : MonitorTool). WatchedPasses test tool.watched) names.monitors (record { name = name_word name; watched = Some w }) held_open.monitors h;
   }
 
   without_set_pass : (names : Names) (name : List ℕ) → OpenPass test names → OpenPass test (without_set name names)

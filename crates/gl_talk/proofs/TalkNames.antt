@@ -38,7 +38,7 @@ use Rattle.gl_talk.specs.Paths.{line_file, live_device}
 use Rattle.gl_talk.specs.Plans.{asks_for, closes, command_reply, ioctls, ioctls_bytes, irqs, lives, old_ioctls, opens, pins, planned, polls, pulls, reads, reads_file, takes_name, unplugs, writes, writes_tree}
 use Rattle.gl_talk.specs.Talk.{acts, does_by, file, keeps_monitor, keeps_set, replied_by, runs, starts, starts_said, starts_tool, steps, stops}
 use Rattle.gl_talk.specs.ToolWords.{word_texts}
-use Rattle.gl_talk.specs.Words.{behind_two, bytes_said, behind_three, command_word, live_word, made_name, place_word, pull_word, turns_word}
+use Rattle.gl_talk.specs.Words.{behind_two, bytes_said, behind_three, command_word, live_word, made_name, name_word, place_word, pull_word, turns_word}
 use Rattle.gl_values.specs.Client.{held_program, tool_program}
 use Rattle.gl_values.specs.Set.{Held}
 use Rattle.gl_values.specs.Set.{stops as stops_holding}
@@ -117,11 +117,11 @@ module _ (s k : ℕ) where
   -- what a statement keeps of its tool
   keeps_set_at : (names : Names) (name : List ℕ) (held : Held) → Keeps (counts s held + open_times s names) (keeps_set name names held)
   keeps_set_at names name None = omega arith
-  keeps_set_at names name (Some slot) = omega (arith, set_more s names.sets (record { name = name; held = Some slot }))
+  keeps_set_at names name (Some slot) = omega (arith, set_more s names.sets (record { name = name_word name; held = Some slot }))
 
   keeps_monitor_at : (names : Names) (name : List ℕ) (watched : Watched) → Keeps (counts s (watched_slot watched) + open_times s names) (keeps_monitor name names watched)
   keeps_monitor_at names name None = omega arith
-  keeps_monitor_at names name (Some w) = omega (arith, monitor_more s names.monitors (record { name = name; watched = Some w }))
+  keeps_monitor_at names name (Some w) = omega (arith, monitor_more s names.monitors (record { name = name_word name; watched = Some w }))
 
   -- what a plan's operation does to files is what its reply tells of
   module _ (names : Names) (slot : ℕ) (words : List Span) where

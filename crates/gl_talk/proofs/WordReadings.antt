@@ -16,7 +16,7 @@ use Rattle.gl_base.specs.declared.pin.PinDo.TheVariants.{Range, Hold, Release}
 use Rattle.gl_script.specs.Forms.{is_path_byte, is_there, number_within}
 use Rattle.gl_v1.specs.Words.{old_number_of}
 use Rattle.gl_talk.specs.Plans.{small_word}
-use Rattle.gl_talk.specs.Readings.{CanStart, CommandsAreRead, HeldToolsAreRead, IrqsAreRead, LabelsAreRead, NumbersAreRead, OldCommandsAreRead, PathsAreRead, PinsAreRead, WordsAreRead, irq_name, pin_name}
+use Rattle.gl_talk.specs.Readings.{CanStart, CommandsAreRead, HeldToolsAreRead, IrqsAreRead, LabelsAreRead, NamesAreRead, NumbersAreRead, OldCommandsAreRead, PathsAreRead, PinsAreRead, WordsAreRead, irq_name, pin_name}
 use Rattle.gl_talk.specs.Words.{or_else}
 
 both : (a b : Bool) → (a && b) ≡ true → (a ≡ true) × (b ≡ true)
@@ -46,6 +46,15 @@ labels_are_read word e =
     let parts = both (is_nonempty word) (nat_le (length word) 31 && list_all is_label_byte word) e in
     let more = both (nat_le (length word) 31) (list_all is_label_byte word) parts.1 in
     itself (is_name word) word (and_true (nat_le (length word) 31) (list_all is_nonzero word) more.0 (label_bytes word more.1))
+
+fewer_than : (n : ℕ) → nat_le n 15 ≡ true → nat_le n 31 ≡ true
+fewer_than n e = grind (arith, nat_tests)
+
+pub names_are_read : NamesAreRead
+names_are_read word e =
+    let parts = both (is_nonempty word) (nat_le (length word) 15 && list_all is_label_byte word) e in
+    let more = both (nat_le (length word) 15) (list_all is_label_byte word) parts.1 in
+    itself (is_name word) word (and_true (nat_le (length word) 31) (list_all is_nonzero word) (fewer_than (length word) more.0) (label_bytes word more.1))
 
 pub paths_are_read : PathsAreRead
 paths_are_read word e =

@@ -13,6 +13,7 @@ use Rattle.gl_talk.specs.declared.files.FileKind.TheVariants.{Chip, Request, Old
 use Rattle.gl_talk.specs.declared.files.FileRow.{FileRow}
 use Rattle.gl_talk.specs.declared.held.MonitorRow.{MonitorRow}
 use Rattle.gl_talk.specs.declared.held.SetRow.{SetRow}
+use Rattle.gl_talk.specs.Words.{name_word}
 
 -- an open file: its name, the slot that its operations name, and what kind of file it is
 pub record File : Type 0 where
@@ -76,7 +77,7 @@ watched_of_name name tools = option_map (λ tool. tool.watched) (find (is_monito
 abbrev pub has_tool : List ℕ → Names → Bool
 has_tool name names = is_some (held_of_name name names.sets) || is_some (watched_of_name name names.monitors)
 
--- a file more, and a file less
+-- A file more, and a file less. Names of files and tools are kept as names: of a word that is none no byte is kept.
 abbrev pub with_file : File → Names → Names
 with_file file names = record names { files = names.files ++ file ∷ [] }
 
@@ -86,11 +87,11 @@ without_file name names = record names { files = without_first (is_file name) na
 -- a tool more, where it holds or watches something; where it doesn't it has ended, and its name is free
 abbrev pub with_set : List ℕ → Held → Names → Names
 with_set name None names = names
-with_set name (Some slot) names = record names { sets = names.sets ++ record { name = name; held = Some slot } ∷ [] }
+with_set name (Some slot) names = record names { sets = names.sets ++ record { name = name_word name; held = Some slot } ∷ [] }
 
 abbrev pub with_monitor : List ℕ → Watched → Names → Names
 with_monitor name None names = names
-with_monitor name (Some watching) names = record names { monitors = names.monitors ++ record { name = name; watched = Some watching } ∷ [] }
+with_monitor name (Some watching) names = record names { monitors = names.monitors ++ record { name = name_word name; watched = Some watching } ∷ [] }
 
 -- a tool less
 abbrev pub without_set : List ℕ → Names → Names
@@ -118,19 +119,19 @@ slots_in_order names = ordered nat_lt (open_slots names)
 
 -- the rows of the code stand for these
 abbrev pub file_in : FileRow → File
-file_in row = record { name = row.name.now; slot = row.slot; kind = row.kind }
+file_in row = record { name = row.name; slot = row.slot; kind = row.kind }
 
 abbrev pub set_in : SetRow → SetTool
-set_in row = record { name = row.name.now; held = held_by row.client }
+set_in row = record { name = row.name; held = held_by row.client }
 
 abbrev pub monitor_in : MonitorRow → MonitorTool
-monitor_in row = record { name = row.name.now; watched = watched_by row.monitor }
+monitor_in row = record { name = row.name; watched = watched_by row.monitor }
 
 abbrev pub is_row : List ℕ → FileRow → Bool
-is_row name row = bytes_eq row.name.now name
+is_row name row = bytes_eq row.name name
 
 abbrev pub is_set_row : List ℕ → SetRow → Bool
-is_set_row name row = bytes_eq row.name.now name
+is_set_row name row = bytes_eq row.name name
 
 abbrev pub is_monitor_row : List ℕ → MonitorRow → Bool
-is_monitor_row name row = bytes_eq row.name.now name
+is_monitor_row name row = bytes_eq row.name name

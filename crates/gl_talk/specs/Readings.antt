@@ -10,7 +10,7 @@ use Rattle.gl_base.specs.declared.irq.IrqDo.TheVariants.{Lock, Unlock, Enable, D
 use Rattle.gl_base.specs.declared.pin.PinDo.{PinDo}
 use Rattle.gl_base.specs.declared.pin.PinDo.TheVariants.{Range, Hold, Release}
 use Rattle.gl_script.specs.Forms.{meets, number_within}
-use Rattle.gl_script.specs.declared.table.Form.TheVariants.{Label, Path, Word, Number, Command, OldCommand, PinWord, IrqWord, HeldTool}
+use Rattle.gl_script.specs.declared.table.Form.TheVariants.{FileName, Label, Path, Word, Number, Command, OldCommand, PinWord, IrqWord, HeldTool}
 use Rattle.gl_v1.specs.Words.{old_number_of}
 use Rattle.gl_talk.specs.Old.{old_command_word}
 use Rattle.gl_talk.specs.Plans.{pin_said}
@@ -39,6 +39,10 @@ CanStart _ = ⊥
 -- a label, a path, a chip's word, a number and a command are read as what they are
 abbrev pub LabelsAreRead : Type 0
 LabelsAreRead = (word : List ℕ) → meets Label word ≡ true → name_word word ≡ word
+
+-- so is the name of a file or a tool
+abbrev pub NamesAreRead : Type 0
+NamesAreRead = (word : List ℕ) → meets FileName word ≡ true → name_word word ≡ word
 
 abbrev pub PathsAreRead : Type 0
 PathsAreRead = (word : List ℕ) → meets Path word ≡ true → path_word word ≡ word

@@ -37,7 +37,7 @@ use Rattle.gl_talk.specs.Open.{File, Names, no_names, file_in, set_in, monitor_i
 use Rattle.gl_talk.specs.Plans.{planned}
 use Rattle.gl_talk.specs.Replies.{number_of, text_of, level_text, ready_text, structure_text, fd_text, edges_text, infos_text}
 use Rattle.gl_talk.specs.ToolWords.{kind_of, usage_text, word_texts}
-use Rattle.gl_talk.specs.Words.{behind_three, behind_two, bytes_said, command_word, made_name, turns_word}
+use Rattle.gl_talk.specs.Words.{behind_three, behind_two, bytes_said, command_word, made_name, name_word, turns_word}
 
 -- a statement gives the names behind it
 abbrev pub Does : Type 0
@@ -51,8 +51,9 @@ refused errno names = print (line (errno_name errno)) (done names)
 abbrev pub shows : List ℕ → Names → Does
 shows text names = print text (done names)
 
+-- an open file of this name
 abbrev pub file : List ℕ → ℕ → FileKind → File
-file name slot kind = record { name = name; slot = slot; kind = kind }
+file name slot kind = record { name = name_word name; slot = slot; kind = kind }
 
 -- how a result that is no refusal is told
 abbrev pub told : Reply → Names → ℕ → List Span → Got → Does
@@ -214,7 +215,7 @@ abbrev pub slot_in : Talk → ℕ
 slot_in t = 2 * t.begun
 
 abbrev pub words_in : Talk → List Span
-words_in t = columns t.line.now
+words_in t = columns t.line.items
 
 abbrev pub left : Talk → Left Names
 left t = left_at t (names_in t) (slot_in t) (words_in t) t.stage
@@ -227,7 +228,7 @@ talk_left t statements = then_left (left t) (talks t.begun statements)
 pub record StaysLeft (old new : Talk) : Type 0 where
   pub stage : new.stage ≡ old.stage
   pub begun : new.begun ≡ old.begun
-  pub line : new.line.now ≡ old.line.now
+  pub line : new.line.items ≡ old.line.items
   pub names : names_in new ≡ names_in old
   pub client : client_left new.client ≡ client_left old.client
   pub monitor : some_left new.monitor ≡ some_left old.monitor
@@ -237,5 +238,5 @@ pub record StaysLeft (old new : Talk) : Type 0 where
 pub record StaysBegun (old new : Talk) : Type 0 where
   pub stage : new.stage ≡ old.stage
   pub begun : new.begun ≡ old.begun
-  pub line : new.line.now ≡ old.line.now
+  pub line : new.line.items ≡ old.line.items
   pub names : names_in new ≡ names_in old

@@ -4,6 +4,7 @@ ghost use Rattle.std.specs.List.{position};
 ghost use Rattle.gl_base.specs.Rows.{without_first};
 ghost use Rattle.gl_talk.specs.Open.{file_in, file_of, is_chip, is_file, is_old_event, is_request, is_row};
 
+use gl_base::Name;
 use gl_v1::KindV1;
 
 /// What kind of file it is.
@@ -48,11 +49,11 @@ pub fn is_old_event(kind: FileKind) -> bool
     }
 }
 
-/// An open file: its name as it stands in the source, and the slot that its operations name.
+/// An open file: its name, and the slot that its operations name.
 #[derive(Clone, Copy, Debug)]
-pub struct FileRow<'a> {
+pub struct FileRow {
     /// Its name.
-    pub name: &'a [u8],
+    pub name: Name,
     /// Its slot.
     pub slot: u32,
     /// What kind of file it is.
@@ -60,11 +61,11 @@ pub struct FileRow<'a> {
 }
 
 /// The file of a name, if there is one.
-pub fn file_of<'a>(files: &[FileRow<'a>], name: &[u8]) -> Option<FileRow<'a>>
+pub fn file_of(files: &[FileRow], name: &[u8]) -> Option<FileRow>
     ensures { option_map file_in result ≡ file_of name.now (map file_in files.now) }
 {
     for file in files {
-        if file.name == name {
+        if file.name.as_bytes() == name {
             return Some(*file);
         }
     }
@@ -72,21 +73,21 @@ pub fn file_of<'a>(files: &[FileRow<'a>], name: &[u8]) -> Option<FileRow<'a>>
 }
 
 /// Whether there is a file of a name.
-pub fn has_file(files: &[FileRow<'_>], name: &[u8]) -> bool
+pub fn has_file(files: &[FileRow], name: &[u8]) -> bool
     ensures { result ≡ is_some (file_of name.now (map file_in files.now)) }
 {
     file_of(files, name).is_some()
 }
 
 /// Where the file of a name stands.
-fn position_of(files: &[FileRow<'_>], name: &[u8]) -> Option<usize>
+fn position_of(files: &[FileRow], name: &[u8]) -> Option<usize>
     ensures { result ≡ position (is_row name.now) files.now }
 {
-    files.iter().position(|file| file.name == name)
+    files.iter().position(|file| file.name.as_bytes() == name)
 }
 
 /// Takes out the file of a name.
-pub fn remove_file(files: &mut Vec<FileRow<'_>>, name: &[u8])
+pub fn remove_file(files: &mut Vec<FileRow>, name: &[u8])
     ensures { map file_in files.new.items ≡ without_first (is_file name.now) (map file_in files.old.items) }
 {
     match position_of(files, name) {

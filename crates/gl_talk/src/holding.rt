@@ -13,19 +13,19 @@ ghost use Rattle.gl_talk.specs.Words.{behind_two};
 
 use crate::held::{MonitorRow, SetRow, has_monitor, has_set, take_monitor, take_set};
 use crate::talk::{Stage, Talk};
-use crate::tools::{started_words, usage_text};
-use crate::words::{turns_word, word};
-use gl_args::{ArgFault, Next, Tool, read_tool};
+use crate::tools::{started_tool_of, usage_text};
+use crate::words::{name_word, turns_word, word};
+use gl_args::{ArgFault, Next, Tool};
 use gl_base::{Errno, Got};
 use gl_monitor::Monitor;
 use gl_values::Client;
 use std::alloc::Global;
 use std::mem;
 
-impl<'a> Talk<'a> {
+impl Talk {
     /// The first step of a `start`.
     pub(crate) fn start_held(&mut self, alloc: Global) -> Result<Next, Errno>
-        requires { self.old.begun ≤ 1048576 }
+        requires { self.old.begun ≤ 2147483647 }
         ensures goes { IfOk result (λ next. Goes (starts (has_tool (text_at 1 (words_in self.old)) (names_in self.old)) (names_in self.old) (slot_in self.old) (words_in self.old)) next (left self.new)) }
         ensures rests { IfOk result (λ next. MatchNext next (Unit {0}) (left self.new ≡ goes_on (done (names_in self.new)))) }
         ensures counted { OnOk result (self.new.begun ≡ self.old.begun) }
@@ -42,24 +42,23 @@ impl<'a> Talk<'a> {
     fn has_tool(&self) -> bool
         ensures { result ≡ has_tool (text_at 1 (words_in self.now)) (names_in self.now) }
     {
-        let name = word(1, self.line);
+        let name = word(1, &self.line);
         has_set(&self.sets, name) || has_monitor(&self.monitors, name)
     }
 
     /// The first step of a `start` whose name is free.
     fn start_free(&mut self, alloc: Global) -> Result<Next, Errno>
-        requires { self.old.begun ≤ 1048576 }
+        requires { self.old.begun ≤ 2147483647 }
         ensures goes { IfOk result (λ next. Goes (starts_said (tool_said (word_texts (behind_two (words_in self.old)))) (names_in self.old) (slot_in self.old) (words_in self.old)) next (left self.new)) }
         ensures rests { IfOk result (λ next. MatchNext next (Unit {0}) (left self.new ≡ goes_on (done (names_in self.new)))) }
         ensures counted { OnOk result (self.new.begun ≡ self.old.begun) }
         ensures kept { OnErr result (StaysBegun self.old self.new) }
         ensures memory_alone { IsOkUnless result Errno.NoMemory }
     {
-        let words = started_words(alloc, self.line)?;
-        match read_tool(alloc, &words) {
+        match started_tool_of(alloc, &self.line) {
             Ok(tool) => self.start_said(alloc, tool),
             Err(ArgFault::Usage) => {
-                let text = usage_text(alloc, word(2, self.line))?;
+                let text = usage_text(alloc, word(2, &self.line))?;
                 Ok(self.show(text))
             }
             Err(ArgFault::NoMemory) => Err(Errno::NoMemory),
@@ -68,7 +67,7 @@ impl<'a> Talk<'a> {
 
     /// The first step of a tool that is started.
     fn start_said(&mut self, alloc: Global, tool: Tool) -> Result<Next, Errno>
-        requires { self.old.begun ≤ 1048576 }
+        requires { self.old.begun ≤ 2147483647 }
         ensures goes { IfOk result (λ next. Goes (starts_tool (tool_in tool) (names_in self.old) (slot_in self.old) (text_at 1 (words_in self.old))) next (left self.new)) }
         ensures rests { IfOk result (λ next. MatchNext next (Unit {0}) (left self.new ≡ goes_on (done (names_in self.new)))) }
         ensures counted { OnOk result (self.new.begun ≡ self.old.begun) }
@@ -101,11 +100,11 @@ impl<'a> Talk<'a> {
         ensures kept { left self.old ≡ goes_on (steps (watched_of_name (text_at 1 (words_in self.old)) (names_in self.old).monitors) (held_of_name (text_at 1 (words_in self.old)) (names_in self.old).sets) (names_in self.old) (words_in self.old)) → OnErr result ((left self.new ≡ left self.old) × (self.new.begun ≡ self.old.begun)) }
         ensures memory_alone { IsOkUnless result Errno.NoMemory }
     {
-        let name = word(1, self.line);
+        let name = word(1, &self.line);
         match take_monitor(&mut self.monitors, name) {
             Some(monitor) => {
                 let mut monitor = monitor;
-                monitor.step(turns_word(word(2, self.line)));
+                monitor.step(turns_word(word(2, &self.line)));
                 self.monitor = Some(monitor);
                 self.stage = Stage::Watching;
                 self.watch(alloc, None)
@@ -127,7 +126,7 @@ impl<'a> Talk<'a> {
         ensures kept { left self.old ≡ goes_on (stops (watched_of_name (text_at 1 (words_in self.old)) (names_in self.old).monitors) (held_of_name (text_at 1 (words_in self.old)) (names_in self.old).sets) (names_in self.old) (words_in self.old)) → OnErr result ((left self.new ≡ left self.old) × (self.new.begun ≡ self.old.begun)) }
         ensures memory_alone { IsOkUnless result Errno.NoMemory }
     {
-        match take_monitor(&mut self.monitors, word(1, self.line)) {
+        match take_monitor(&mut self.monitors, word(1, &self.line)) {
             Some(monitor) => {
                 let mut monitor = monitor;
                 monitor.stop();
@@ -147,7 +146,7 @@ impl<'a> Talk<'a> {
         ensures kept { left self.old ≡ goes_on (stops None (held_of_name (text_at 1 (words_in self.old)) (names_in self.old).sets) (names_in self.old) (words_in self.old)) → OnErr result ((left self.new ≡ left self.old) × (self.new.begun ≡ self.old.begun)) }
         ensures memory_alone { IsOkUnless result Errno.NoMemory }
     {
-        match take_set(&mut self.sets, word(1, self.line)) {
+        match take_set(&mut self.sets, word(1, &self.line)) {
             Some(client) => {
                 let mut client = client;
                 client.stop();
@@ -192,7 +191,7 @@ impl<'a> Talk<'a> {
         match client.held_slot() {
             Some(_) => {
                 let row = SetRow {
-                    name: word(1, self.line),
+                    name: name_word(word(1, &self.line)),
                     client,
                 };
                 match self.sets.push(row) {
@@ -257,7 +256,7 @@ impl<'a> Talk<'a> {
         match monitor.watched_slot() {
             Some(_) => {
                 let row = MonitorRow {
-                    name: word(1, self.line),
+                    name: name_word(word(1, &self.line)),
                     monitor,
                 };
                 match self.monitors.push(row) {

@@ -5,7 +5,7 @@ ghost use Rattle.gl_talk.specs.Slots.{SlotsAreOwn};
 ghost use Rattle.gl_talk.specs.Files.{EndClosesAll, EndMakesAtMost, NoneIsOpenBefore, StatementsFindTheirFiles, StatementsLeaveEntries, TalksFindTheirFiles};
 ghost use Rattle.gl_talk.specs.Numbers.{FilesCloseByNumber};
 ghost use Rattle.gl_talk.specs.InParts.{StatementsComeInParts, TalksAreStatementsAndTheEnd};
-ghost use Rattle.gl_talk.specs.Readings.{CommandsAreRead, HeldToolsAreRead, IrqsAreRead, LabelsAreRead, NumbersAreRead, OldCommandsAreRead, PathsAreRead, PinsAreRead, WordsAreRead};
+ghost use Rattle.gl_talk.specs.Readings.{CommandsAreRead, HeldToolsAreRead, IrqsAreRead, LabelsAreRead, NamesAreRead, NumbersAreRead, OldCommandsAreRead, PathsAreRead, PinsAreRead, WordsAreRead};
 
 /// A statement makes at most as many entries of a history as it costs. The closing of a file is
 /// counted where the file is opened.
@@ -66,6 +66,7 @@ pub fn talks_are_statements_and_the_end()
 /// A word that is of its form is read as what it is: no statement of a session is read with a default in a word's place.
 pub fn words_are_read_as_they_are()
     ensures labels { LabelsAreRead }
+    ensures names { NamesAreRead }
     ensures paths { PathsAreRead }
     ensures words { WordsAreRead }
     ensures numbers { NumbersAreRead }

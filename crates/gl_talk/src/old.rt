@@ -96,7 +96,7 @@ pub fn old_reply(kind: FileKind, number: u32) -> Reply
 }
 
 /// Whether the name after `as` is one that the actor has.
-pub fn takes_old_name(files: &[FileRow<'_>], line: &[u8]) -> bool
+pub fn takes_old_name(files: &[FileRow], line: &[u8]) -> bool
     ensures { result ≡ takes_old_name (columns line.now) (map file_in files.now) }
 {
     gl_v1::makes_file(gl_v1::command_number(word(2, line))) && has_file(files, made_name(line))

@@ -22,9 +22,9 @@ pub struct TalkedOver {
 
 /// The operations and the text of an actor's statements over these results, in order, with the closing of what is open
 /// at the end. Where the results are too few it ends with the first operation that has none.
-pub fn talk_over<'a>(
+pub fn talk_over(
     alloc: Global,
-    statements: &[Statement<'a>],
+    statements: &[Statement<'_>],
     results: &[Got],
 ) -> Result<TalkedOver, Errno>
     requires { length statements.now ≤ 1048576 }
@@ -38,7 +38,7 @@ pub fn talk_over<'a>(
     let mut talk = Talk::new(alloc)?;
     let mut at = 0;
     for statement in statements {
-        talk.begin(*statement);
+        talk.begin(alloc, statement.line())?;
         match finish(alloc, &mut talk, results, at, &mut over)? {
             Some(next) => at = next,
             None => return Ok(over),
@@ -53,12 +53,12 @@ pub fn talk_over<'a>(
 /// it begin, or None where they were too few.
 fn finish(
     alloc: Global,
-    talk: &mut Talk<'_>,
+    talk: &mut Talk,
     results: &[Got],
     at: usize,
     over: &mut TalkedOver,
 ) -> Result<Option<usize>, Errno>
-    requires { talk.old.begun ≤ 1048576 }
+    requires { talk.old.begun ≤ 2147483647 }
     ensures over { (f : Names → Does) → IfOk result (λ rest. MatchOption rest
         (joined over.new nothing_talked ≡ joined over.old (talked (given (then_left (left talk.old) f) None) (drop at results.now)))
         (λ next. joined over.new (talked (f (names_in talk.new)) (drop next results.now)) ≡ joined over.old (talked (given (then_left (left talk.old) f) None) (drop at results.now)))) }

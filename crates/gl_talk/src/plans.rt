@@ -70,7 +70,7 @@ const MOST: u64 = 0xFFFF_FFFF_FFFF_FFFF;
 pub fn planned(
     alloc: Global,
     keyword: Option<Keyword>,
-    files: &[FileRow<'_>],
+    files: &[FileRow],
     slot: u32,
     line: &[u8],
 ) -> Result<Plan, Errno>
@@ -298,7 +298,7 @@ fn opens(is_taken: bool, slot: u32, word: &[u8]) -> Plan
 }
 
 /// Whether the name behind `as` is one that the actor has.
-fn takes_name(files: &[FileRow<'_>], line: &[u8]) -> bool
+fn takes_name(files: &[FileRow], line: &[u8]) -> bool
     ensures { result ≡ takes_name (columns line.now) (map file_in files.now) }
 {
     command_word(word(2, line)) == GET_LINE && has_file(files, made_name(line))
@@ -315,7 +315,7 @@ fn command_reply(number: u32) -> Reply
     }
 }
 
-fn commands(alloc: Global, files: &[FileRow<'_>], slot: u32, line: &[u8]) -> Result<Plan, Errno>
+fn commands(alloc: Global, files: &[FileRow], slot: u32, line: &[u8]) -> Result<Plan, Errno>
     ensures ok { IfOk result (λ what. what ≡ ioctls (file_of (text_at 1 (columns line.now)) (map file_in files.now)) (takes_name (columns line.now) (map file_in files.now)) slot (columns line.now)) }
     ensures memory_alone { IsOkUnless result Errno.NoMemory }
 {
@@ -325,12 +325,12 @@ fn commands(alloc: Global, files: &[FileRow<'_>], slot: u32, line: &[u8]) -> Res
 
 fn ioctls(
     alloc: Global,
-    file: Option<FileRow<'_>>,
+    file: Option<FileRow>,
     is_taken: bool,
     slot: u32,
     line: &[u8],
 ) -> Result<Plan, Errno>
-    ensures ok { IfOk result (λ what. what ≡ ioctls (option_map file_in file.entry) is_taken slot (columns line.now)) }
+    ensures ok { IfOk result (λ what. what ≡ ioctls (option_map file_in file) is_taken slot (columns line.now)) }
     ensures memory_alone { IsOkUnless result Errno.NoMemory }
 {
     let Some(file) = file else {
@@ -343,7 +343,7 @@ fn ioctls(
     Ok(ioctls_bytes(&file, slot, command_word(word(2, line)), &bytes))
 }
 
-fn ioctls_bytes(file: &FileRow<'_>, slot: u32, command: u32, bytes: &[u8]) -> Plan
+fn ioctls_bytes(file: &FileRow, slot: u32, command: u32, bytes: &[u8]) -> Plan
     ensures { result ≡ ioctls_bytes (file_in file.now) slot command bytes.now }
 {
     let sent = sent_new(file.kind, command, bytes);
@@ -351,7 +351,7 @@ fn ioctls_bytes(file: &FileRow<'_>, slot: u32, command: u32, bytes: &[u8]) -> Pl
 }
 
 /// A call of v2 on a file.
-fn asks_for(file: &FileRow<'_>, slot: u32, sent: &Sent, reply: Reply) -> Plan
+fn asks_for(file: &FileRow, slot: u32, sent: &Sent, reply: Reply) -> Plan
     ensures { result ≡ asks_for (file_in file.now) slot sent.now reply }
 {
     Plan::Ask(
@@ -366,7 +366,7 @@ fn asks_for(file: &FileRow<'_>, slot: u32, sent: &Sent, reply: Reply) -> Plan
     )
 }
 
-fn old_commands(alloc: Global, files: &[FileRow<'_>], slot: u32, line: &[u8]) -> Result<Plan, Errno>
+fn old_commands(alloc: Global, files: &[FileRow], slot: u32, line: &[u8]) -> Result<Plan, Errno>
     ensures ok { IfOk result (λ what. what ≡ old_ioctls (file_of (text_at 1 (columns line.now)) (map file_in files.now)) (takes_old_name (columns line.now) (map file_in files.now)) slot (columns line.now)) }
     ensures memory_alone { IsOkUnless result Errno.NoMemory }
 {
@@ -376,12 +376,12 @@ fn old_commands(alloc: Global, files: &[FileRow<'_>], slot: u32, line: &[u8]) ->
 
 fn old_ioctls(
     alloc: Global,
-    file: Option<FileRow<'_>>,
+    file: Option<FileRow>,
     is_taken: bool,
     slot: u32,
     line: &[u8],
 ) -> Result<Plan, Errno>
-    ensures ok { IfOk result (λ what. what ≡ old_ioctls (option_map file_in file.entry) is_taken slot (columns line.now)) }
+    ensures ok { IfOk result (λ what. what ≡ old_ioctls (option_map file_in file) is_taken slot (columns line.now)) }
     ensures memory_alone { IsOkUnless result Errno.NoMemory }
 {
     let Some(file) = file else {
@@ -394,15 +394,15 @@ fn old_ioctls(
     Ok(old_ioctls_bytes(&file, slot, old_command_word(word(2, line)), &bytes))
 }
 
-fn old_ioctls_bytes(file: &FileRow<'_>, slot: u32, command: u32, bytes: &[u8]) -> Plan
+fn old_ioctls_bytes(file: &FileRow, slot: u32, command: u32, bytes: &[u8]) -> Plan
     ensures { result ≡ old_ioctls_bytes (file_in file.now) slot command bytes.now }
 {
     let sent = sent_old(file.kind, command, bytes);
     asks_for(file, slot, &sent, old_reply(file.kind, sent.cmd))
 }
 
-fn events(file: Option<FileRow<'_>>, len: &[u8]) -> Plan
-    ensures { result ≡ reads_file (option_map file_in file.entry) is_request (number_word 0 49152 len.now) Reply.Edges }
+fn events(file: Option<FileRow>, len: &[u8]) -> Plan
+    ensures { result ≡ reads_file (option_map file_in file) is_request (number_word 0 49152 len.now) Reply.Edges }
 {
     match file {
         Some(file) => read_if(
@@ -415,8 +415,8 @@ fn events(file: Option<FileRow<'_>>, len: &[u8]) -> Plan
     }
 }
 
-fn old_events(file: Option<FileRow<'_>>, len: &[u8]) -> Plan
-    ensures { result ≡ reads_file (option_map file_in file.entry) is_old_event (48 * (number_word 0 16384 len.now / 16)) Reply.OldEdges }
+fn old_events(file: Option<FileRow>, len: &[u8]) -> Plan
+    ensures { result ≡ reads_file (option_map file_in file) is_old_event (48 * (number_word 0 16384 len.now / 16)) Reply.OldEdges }
 {
     match file {
         Some(file) => read_if(
@@ -429,8 +429,8 @@ fn old_events(file: Option<FileRow<'_>>, len: &[u8]) -> Plan
     }
 }
 
-fn changes(file: Option<FileRow<'_>>, len: &[u8]) -> Plan
-    ensures { result ≡ reads_file (option_map file_in file.entry) is_chip (number_word 0 9216 len.now) Reply.Infos }
+fn changes(file: Option<FileRow>, len: &[u8]) -> Plan
+    ensures { result ≡ reads_file (option_map file_in file) is_chip (number_word 0 9216 len.now) Reply.Infos }
 {
     match file {
         Some(file) => read_if(
@@ -453,8 +453,8 @@ fn read_if(can_be_read: bool, slot: u32, len: u32, reply: Reply) -> Plan
     }
 }
 
-fn polls(file: Option<FileRow<'_>>) -> Plan
-    ensures { result ≡ polls (option_map file_in file.entry) }
+fn polls(file: Option<FileRow>) -> Plan
+    ensures { result ≡ polls (option_map file_in file) }
 {
     match file {
         Some(file) => Plan::Ask(Do::Poll { slot: file.slot }, Reply::Ready),
@@ -462,8 +462,8 @@ fn polls(file: Option<FileRow<'_>>) -> Plan
     }
 }
 
-fn closes(file: Option<FileRow<'_>>) -> Plan
-    ensures { result ≡ closes (option_map file_in file.entry) }
+fn closes(file: Option<FileRow>) -> Plan
+    ensures { result ≡ closes (option_map file_in file) }
 {
     match file {
         Some(file) => Plan::Ask(Do::Close { slot: file.slot }, Reply::Closed),

@@ -20,15 +20,15 @@ use crate::replies::{
     value_line,
 };
 use crate::talk::{Stage, Talk};
-use crate::tools::{Kind, kind_of, usage_text, words_of};
-use crate::words::{command_word, made_name, word};
-use gl_args::{ArgFault, Next, read_tool};
+use crate::tools::{Kind, kind_of, tool_of, usage_text};
+use crate::words::{command_word, made_name, name_word, word};
+use gl_args::{ArgFault, Next};
 use gl_base::{ByteList, Do, Errno, Got};
 use gl_script::keyword_of;
 use gl_values::Client;
 use std::alloc::Global;
 
-impl<'a> Talk<'a> {
+impl Talk {
     /// The statement is done.
     pub(crate) fn end(&mut self) -> Next
         ensures goes { Goes (done (names_in self.old)) result (left self.new) }
@@ -64,7 +64,7 @@ impl<'a> Talk<'a> {
     /// The first step of the statement that was begun.
     #[tactic(auto, using(crate::proofs::Staying::begun_stays))]
     pub(crate) fn start(&mut self, alloc: Global) -> Result<Next, Errno>
-        requires begun { self.old.begun ≤ 1048576 }
+        requires begun { self.old.begun ≤ 2147483647 }
         requires stage { self.old.stage ≡ Stage.Begun }
         ensures goes { IfOk result (λ next. Goes (does (names_in self.old) (slot_in self.old) (words_in self.old)) next (left self.new)) }
         ensures rests { IfOk result (λ next. MatchNext next (Unit {0}) (left self.new ≡ goes_on (done (names_in self.new)))) }
@@ -72,10 +72,10 @@ impl<'a> Talk<'a> {
         ensures kept { OnErr result ((left self.new ≡ left self.old) × (self.new.begun ≡ self.old.begun)) }
         ensures memory_alone { IsOkUnless result Errno.NoMemory }
     {
-        let keyword = keyword_of(word(0, self.line));
+        let keyword = keyword_of(word(0, &self.line));
         match kind_of(keyword) {
             Kind::Plain => {
-                let plan = planned(alloc, keyword, &self.files, 2 * self.begun, self.line)?;
+                let plan = planned(alloc, keyword, &self.files, 2 * self.begun, &self.line)?;
                 self.act(alloc, &plan)
             }
             Kind::ToolAlone => self.start_tool(alloc),
@@ -105,21 +105,20 @@ impl<'a> Talk<'a> {
 
     /// The first step of a tool.
     fn start_tool(&mut self, alloc: Global) -> Result<Next, Errno>
-        requires { self.old.begun ≤ 1048576 }
+        requires { self.old.begun ≤ 2147483647 }
         ensures goes { IfOk result (λ next. Goes (runs (tool_said (word_texts (words_in self.old))) (names_in self.old) (slot_in self.old) (words_in self.old)) next (left self.new)) }
         ensures rests { IfOk result (λ next. MatchNext next (Unit {0}) (left self.new ≡ goes_on (done (names_in self.new)))) }
         ensures counted { OnOk result (self.new.begun ≡ self.old.begun) }
         ensures kept { OnErr result (StaysBegun self.old self.new) }
         ensures memory_alone { IsOkUnless result Errno.NoMemory }
     {
-        let words = words_of(alloc, self.line)?;
-        match read_tool(alloc, &words) {
+        match tool_of(alloc, &self.line) {
             Ok(tool) => {
                 self.client = Client::new(alloc, tool, 2 * self.begun);
                 self.run(alloc, None)
             }
             Err(ArgFault::Usage) => {
-                let text = usage_text(alloc, word(0, self.line))?;
+                let text = usage_text(alloc, word(0, &self.line))?;
                 Ok(self.show(text))
             }
             Err(ArgFault::NoMemory) => Err(Errno::NoMemory),
@@ -154,7 +153,7 @@ impl<'a> Talk<'a> {
         reply: Reply,
         got: Option<&Got>,
     ) -> Result<Next, Errno>
-        requires { self.old.begun ≤ 1048576 }
+        requires { self.old.begun ≤ 2147483647 }
         ensures goes { IfOk result (λ next. Goes (given (waits (λ got. replied reply (names_in self.old) (slot_in self.old) (words_in self.old) got)) (option_copied got.entry)) next (left self.new)) }
         ensures rests { IfOk result (λ next. MatchNext next (Unit {0}) (left self.new ≡ goes_on (done (names_in self.new)))) }
         ensures counted { OnOk result (self.new.begun ≡ self.old.begun) }
@@ -174,7 +173,7 @@ impl<'a> Talk<'a> {
 
     /// Tells a result that is no refusal.
     fn tell(&mut self, alloc: Global, reply: Reply, got: &Got) -> Result<Next, Errno>
-        requires { self.old.begun ≤ 1048576 }
+        requires { self.old.begun ≤ 2147483647 }
         ensures goes { IfOk result (λ next. Goes (told reply (names_in self.old) (slot_in self.old) (words_in self.old) got.now) next (left self.new)) }
         ensures rests { IfOk result (λ next. MatchNext next (Unit {0}) (left self.new ≡ goes_on (done (names_in self.new)))) }
         ensures counted { OnOk result (self.new.begun ≡ self.old.begun) }
@@ -185,16 +184,16 @@ impl<'a> Talk<'a> {
             Reply::Silent => return Ok(self.end()),
             Reply::Opened => return self.opened(),
             Reply::Closed => {
-                remove_file(&mut self.files, word(1, self.line));
+                remove_file(&mut self.files, word(1, &self.line));
                 return Ok(self.end());
             }
             Reply::Made => return self.made(alloc, got.bytes()),
             Reply::OldMade => return self.old_made(alloc, got.bytes()),
-            Reply::OldBytes(kind) => old_structure_line(alloc, kind, self.line, got.bytes())?,
+            Reply::OldBytes(kind) => old_structure_line(alloc, kind, &self.line, got.bytes())?,
             Reply::OldEdges => old_edges_text(alloc, got.bytes())?,
             Reply::Value => value_line(alloc, got)?,
             Reply::Level(is_pull) => line_of(alloc, level_text(is_pull, number_of(got)))?,
-            Reply::Bytes => structure_text(alloc, command_word(word(2, self.line)), got.bytes())?,
+            Reply::Bytes => structure_text(alloc, command_word(word(2, &self.line)), got.bytes())?,
             Reply::Edges => edges_text(alloc, got.bytes())?,
             Reply::Infos => infos_text(alloc, got.bytes())?,
             Reply::Ready => line_of(alloc, ready_text(got.ready()))?,
@@ -204,7 +203,7 @@ impl<'a> Talk<'a> {
 
     /// A chip's file was opened.
     fn opened(&mut self) -> Result<Next, Errno>
-        requires { self.old.begun ≤ 1048576 }
+        requires { self.old.begun ≤ 2147483647 }
         ensures goes { IfOk result (λ next. Goes (done (with_file (file (text_at 1 (words_in self.old)) (slot_in self.old) FileKind.Chip) (names_in self.old))) next (left self.new)) }
         ensures rests { IfOk result (λ next. MatchNext next (Unit {0}) (left self.new ≡ goes_on (done (names_in self.new)))) }
         ensures counted { OnOk result (self.new.begun ≡ self.old.begun) }
@@ -212,7 +211,7 @@ impl<'a> Talk<'a> {
         ensures memory_alone { IsOkUnless result Errno.NoMemory }
     {
         self.files.push(FileRow {
-            name: word(1, self.line),
+            name: name_word(word(1, &self.line)),
             slot: 2 * self.begun,
             kind: FileKind::Chip,
         })?;
@@ -221,7 +220,7 @@ impl<'a> Talk<'a> {
 
     /// A request was made.
     fn made(&mut self, alloc: Global, bytes: &[u8]) -> Result<Next, Errno>
-        requires { self.old.begun ≤ 1048576 }
+        requires { self.old.begun ≤ 2147483647 }
         ensures goes { IfOk result (λ next. Goes (told Reply.Made (names_in self.old) (slot_in self.old) (words_in self.old) (Got.Bytes bytes.now)) next (left self.new)) }
         ensures rests { IfOk result (λ next. MatchNext next (Unit {0}) (left self.new ≡ goes_on (done (names_in self.new)))) }
         ensures counted { OnOk result (self.new.begun ≡ self.old.begun) }
@@ -230,7 +229,7 @@ impl<'a> Talk<'a> {
     {
         let text = fd_text(alloc, bytes)?;
         self.files.push(FileRow {
-            name: made_name(self.line),
+            name: name_word(made_name(&self.line)),
             slot: 2 * self.begun,
             kind: FileKind::Request,
         })?;
@@ -239,7 +238,7 @@ impl<'a> Talk<'a> {
 
     /// A file of the first uAPI was made.
     fn old_made(&mut self, alloc: Global, bytes: &[u8]) -> Result<Next, Errno>
-        requires { self.old.begun ≤ 1048576 }
+        requires { self.old.begun ≤ 2147483647 }
         ensures goes { IfOk result (λ next. Goes (told Reply.OldMade (names_in self.old) (slot_in self.old) (words_in self.old) (Got.Bytes bytes.now)) next (left self.new)) }
         ensures rests { IfOk result (λ next. MatchNext next (Unit {0}) (left self.new ≡ goes_on (done (names_in self.new)))) }
         ensures counted { OnOk result (self.new.begun ≡ self.old.begun) }
@@ -247,9 +246,9 @@ impl<'a> Talk<'a> {
         ensures memory_alone { IsOkUnless result Errno.NoMemory }
     {
         let text = fd_text(alloc, bytes)?;
-        let kind = made_kind_of(alloc, self.line)?;
+        let kind = made_kind_of(alloc, &self.line)?;
         self.files.push(FileRow {
-            name: made_name(self.line),
+            name: name_word(made_name(&self.line)),
             slot: 2 * self.begun,
             kind,
         })?;

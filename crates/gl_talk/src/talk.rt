@@ -12,7 +12,6 @@ use crate::plans::Reply;
 use gl_args::Next;
 use gl_base::{Errno, Got};
 use gl_monitor::Monitor;
-use gl_script::Statement;
 use gl_values::Client;
 use std::alloc::Global;
 
@@ -40,15 +39,15 @@ pub enum Stage {
 /// The statements of an actor one after the other, as a client of the device: each has slots of its own, and the names
 /// of files and of started tools live from one to the next.
 #[derive(Drop)]
-pub struct Talk<'a> {
+pub struct Talk {
     /// The line of the statement that is under way.
-    pub line: &'a [u8],
+    pub line: Vec<u8>,
     /// The open files, in the order in which they were opened.
-    pub files: Vec<FileRow<'a>>,
+    pub files: Vec<FileRow>,
     /// The gpiosets that were started and hold their requests.
-    pub sets: Vec<SetRow<'a>>,
+    pub sets: Vec<SetRow>,
     /// The monitors that were started and watch their lines.
-    pub monitors: Vec<MonitorRow<'a>>,
+    pub monitors: Vec<MonitorRow>,
     /// How many statements were begun.
     pub begun: u32,
     /// Where it stands.
@@ -61,14 +60,14 @@ pub struct Talk<'a> {
     pub closing: Vec<u32>,
 }
 
-impl<'a> Talk<'a> {
+impl Talk {
     /// No statement was begun, and no file is open.
-    pub fn new(alloc: Global) -> Result<Talk<'a>, Errno>
+    pub fn new(alloc: Global) -> Result<Talk, Errno>
         ensures ok { IfOk result (λ talk. (names_in talk ≡ no_names) × (talk.begun ≡ 0) × (left talk ≡ goes_on (done no_names))) }
         ensures memory_alone { IsOkUnless result Errno.NoMemory }
     {
         Ok(Talk {
-            line: &[],
+            line: Vec::new(alloc),
             files: Vec::new(alloc),
             sets: Vec::new(alloc),
             monitors: Vec::new(alloc),
@@ -80,17 +79,22 @@ impl<'a> Talk<'a> {
         })
     }
 
-    /// Begins a statement, which has two slots of its own. It takes no memory.
-    pub fn begin(&mut self, statement: Statement<'a>)
-        requires { self.old.begun < 1048576 }
-        ensures begun { left self.new ≡ goes_on (does (names_in self.old) (slot_behind self.old.begun) (columns statement.entry.line.now)) }
-        ensures counted { self.new.begun ≡ self.old.begun + 1 }
+    /// Begins the statement of a line, which has two slots of its own. The line is copied; `NoMemory` alone is refused, and then all
+    /// is as it was.
+    pub fn begin(&mut self, alloc: Global, line: &[u8]) -> Result<(), Errno>
+        requires { self.old.begun < 2147483647 }
+        ensures begun { OnOk result (left self.new ≡ goes_on (does (names_in self.old) (slot_behind self.old.begun) (columns line.now))) }
+        ensures counted { OnOk result (self.new.begun ≡ self.old.begun + 1) }
         ensures whole { (statements : List (List Span)) →
-            talk_left self.new statements ≡ goes_on (talks self.old.begun (columns statement.entry.line.now ∷ statements) (names_in self.old)) }
+            OnOk result (talk_left self.new statements ≡ goes_on (talks self.old.begun (columns line.now ∷ statements) (names_in self.old))) }
+        ensures kept { OnErr result (self.new ≡ self.old) }
+        ensures memory_alone { IsOkUnless result Errno.NoMemory }
     {
-        self.line = statement.line();
+        let line = line.to_vec(alloc)?;
+        self.line = line;
         self.begun += 1;
         self.stage = Stage::Begun;
+        Ok(())
     }
 
     /// From now on `next` closes the files that are open.
@@ -108,7 +112,7 @@ impl<'a> Talk<'a> {
     /// Where memory is wanted, what is left is what was left: no tool and no file is lost, and it may be called again with the same
     /// result. (`quit` gives up a statement that is under way: let it come to its end before.)
     pub fn next(&mut self, alloc: Global, got: Option<&Got>) -> Result<Next, Errno>
-        requires { self.old.begun ≤ 1048576 }
+        requires { self.old.begun ≤ 2147483647 }
         ensures goes { IfOk result (λ next. Goes (given (left self.old) (option_copied got.entry)) next (left self.new)) }
         ensures rests { IfOk result (λ next. MatchNext next (Unit {0}) (left self.new ≡ goes_on (done (names_in self.new)))) }
         ensures in_front { (behind : Names → Does) → IfOk result (λ next. MatchNext next
@@ -127,7 +131,7 @@ impl<'a> Talk<'a> {
     /// What the statement or the end does next.
     #[tactic(auto, using(crate::proofs::Staying::left_stays))]
     fn advance(&mut self, alloc: Global, got: Option<&Got>) -> Result<Next, Errno>
-        requires { self.old.begun ≤ 1048576 }
+        requires { self.old.begun ≤ 2147483647 }
         ensures goes { IfOk result (λ next. Goes (given (left self.old) (option_copied got.entry)) next (left self.new)) }
         ensures rests { IfOk result (λ next. MatchNext next (Unit {0}) (left self.new ≡ goes_on (done (names_in self.new)))) }
         ensures counted { OnOk result (self.new.begun ≡ self.old.begun) }

@@ -1,12 +1,15 @@
 //! The words of a tool's statement.
-ghost use Rattle.std.specs.Prelude.{◌≡◌, ◌+◌, ◌<◌, ◌^◌, ◌++◌, length, IfOk, OnOk, IsOkUnless, map};
+ghost use Rattle.std.specs.Prelude.{Some, None, IsErrOf, ◌≡◌, ◌+◌, ◌<◌, ◌^◌, ◌++◌, length, IfOk, OnOk, IsOkUnless, map};
 ghost use Rattle.gl_args.specs.Items.{texts};
+ghost use Rattle.gl_args.specs.Options.{tool_in};
+ghost use Rattle.gl_args.specs.Tools.{tool_said};
 ghost use Rattle.gl_base.specs.Words.{words_at};
 ghost use Rattle.gl_script.specs.Columns.{columns};
 ghost use Rattle.gl_talk.specs.ToolWords.{kind_of, usage_text, word_texts};
 ghost use Rattle.gl_talk.specs.Words.{behind_two};
 
 use crate::words::behind_two;
+use gl_args::{ArgFault, Tool, read_tool};
 use gl_base::{ByteList, Errno, next_word};
 use gl_script::Keyword;
 use std::alloc::Global;
@@ -71,8 +74,30 @@ pub fn usage_text(alloc: Global, tool: &[u8]) -> Result<ByteList, Errno>
     Ok(text)
 }
 
+/// The tool that a line's words are.
+pub fn tool_of(alloc: Global, line: &[u8]) -> Result<Tool, ArgFault>
+    ensures ok { IfOk result (λ tool. tool_said (word_texts (columns line.now)) ≡ Some (tool_in tool)) }
+    ensures usage { IsErrOf result ArgFault.Usage → tool_said (word_texts (columns line.now)) ≡ None }
+{
+    match words_of(alloc, line) {
+        Ok(words) => read_tool(alloc, &words),
+        Err(_) => Err(ArgFault::NoMemory),
+    }
+}
+
+/// The tool that the words of a `start` after its name are.
+pub fn started_tool_of(alloc: Global, line: &[u8]) -> Result<Tool, ArgFault>
+    ensures ok { IfOk result (λ tool. tool_said (word_texts (behind_two (columns line.now))) ≡ Some (tool_in tool)) }
+    ensures usage { IsErrOf result ArgFault.Usage → tool_said (word_texts (behind_two (columns line.now))) ≡ None }
+{
+    match started_words(alloc, line) {
+        Ok(words) => read_tool(alloc, &words),
+        Err(_) => Err(ArgFault::NoMemory),
+    }
+}
+
 /// The words of a line.
-pub fn words_of(alloc: Global, line: &[u8]) -> Result<Vec<&[u8]>, Errno>
+fn words_of(alloc: Global, line: &[u8]) -> Result<Vec<&[u8]>, Errno>
     ensures ok { IfOk result (λ words. texts words.items ≡ word_texts (columns line.now)) }
     ensures memory_alone { IsOkUnless result Errno.NoMemory }
 {
@@ -80,7 +105,7 @@ pub fn words_of(alloc: Global, line: &[u8]) -> Result<Vec<&[u8]>, Errno>
 }
 
 /// The words of a `start` behind its name: the tool's.
-pub fn started_words(alloc: Global, line: &[u8]) -> Result<Vec<&[u8]>, Errno>
+fn started_words(alloc: Global, line: &[u8]) -> Result<Vec<&[u8]>, Errno>
     ensures ok { IfOk result (λ words. texts words.items ≡ word_texts (behind_two (columns line.now))) }
     ensures memory_alone { IsOkUnless result Errno.NoMemory }
 {
