@@ -73,15 +73,15 @@ fn statements_of_kind<'a>(
 }
 
 /// Carries out the statements of all sections of a kind, in a talk that may go on behind them.
-pub fn play_kind<'a, R: Wait, D: Driver<Core>>(
+pub fn play_kind<R: Wait, D: Driver<Core>>(
     rt: &R,
     alloc: Global,
     device: &Gpio<D>,
     actor: &mut Actor<D>,
-    talk: &mut Talk<'a>,
+    talk: &mut Talk,
     rows: &mut Vec<FileRow>,
     text: &mut Vec<u8>,
-    script: &'a Script<'_>,
+    script: &Script<'_>,
     kind: SectionKind,
 ) -> Result<(), Errno>
     requires none { D.ENTRIES ≡ 0 }
@@ -107,15 +107,15 @@ pub fn play_kind<'a, R: Wait, D: Driver<Core>>(
 }
 
 /// Carries out the statements of all sections of a kind, and then closes the files that are open in the talk.
-pub fn play_to_end<'a, R: Wait, D: Driver<Core>>(
+pub fn play_to_end<R: Wait, D: Driver<Core>>(
     rt: &R,
     alloc: Global,
     device: &Gpio<D>,
     actor: &mut Actor<D>,
-    talk: &mut Talk<'a>,
+    talk: &mut Talk,
     rows: &mut Vec<FileRow>,
     text: &mut Vec<u8>,
-    script: &'a Script<'_>,
+    script: &Script<'_>,
     kind: SectionKind,
 ) -> Result<(), Errno>
     requires none { D.ENTRIES ≡ 0 }
@@ -183,14 +183,14 @@ fn play_actor<R: Wait, D: Driver<Core>>(
 
 /// Carries out the three parts of a session. The talk of `setup` waits with its files and names while the actor's section is
 /// carried out, and goes on with `after`.
-fn play_parts<'a, R: Wait, D: Driver<Core>>(
+fn play_parts<R: Wait, D: Driver<Core>>(
     rt: &R,
     alloc: Global,
     device: &Gpio<D>,
     actor: &mut Actor<D>,
-    talk: &mut Talk<'a>,
+    talk: &mut Talk,
     text: &mut Vec<u8>,
-    script: &'a Script<'_>,
+    script: &Script<'_>,
 ) -> Result<(), Errno>
     requires none { D.ENTRIES ≡ 0 }
     requires actor { IsActorOf device.now actor.old }

@@ -27,7 +27,7 @@ fn turn<R: Wait, D: Driver<Core>>(
     alloc: Global,
     device: &Gpio<D>,
     actor: &mut Actor<D>,
-    talk: &mut Talk<'_>,
+    talk: &mut Talk,
     rows: &mut Vec<FileRow>,
     text: &mut Vec<u8>,
     got: &mut Option<Got>,
@@ -71,7 +71,7 @@ pub fn play<R: Wait, D: Driver<Core>>(
     alloc: Global,
     device: &Gpio<D>,
     actor: &mut Actor<D>,
-    talk: &mut Talk<'_>,
+    talk: &mut Talk,
     rows: &mut Vec<FileRow>,
     text: &mut Vec<u8>,
 ) -> Result<(), Errno>
@@ -97,15 +97,15 @@ pub fn play<R: Wait, D: Driver<Core>>(
 }
 
 /// Carries out statements one after the other.
-pub fn play_all<'a, R: Wait, D: Driver<Core>>(
+pub fn play_all<R: Wait, D: Driver<Core>>(
     rt: &R,
     alloc: Global,
     device: &Gpio<D>,
     actor: &mut Actor<D>,
-    talk: &mut Talk<'a>,
+    talk: &mut Talk,
     rows: &mut Vec<FileRow>,
     text: &mut Vec<u8>,
-    statements: &[Statement<'a>],
+    statements: &[Statement<'_>],
 ) -> Result<(), Errno>
     requires none { D.ENTRIES ≡ 0 }
     requires actor { IsActorOf device.now actor.old }
@@ -120,7 +120,7 @@ pub fn play_all<'a, R: Wait, D: Driver<Core>>(
         actor.old.pass.view (carried (files_of rows.old.items) (D.Port.told actor.old.port)) actor.new.pass.view)) }
 {
     for statement in statements {
-        talk.begin(*statement);
+        talk.begin(alloc, statement.line())?;
         match play(rt, alloc, device, actor, talk, rows, text) {
             Ok(()) => {}
             Err(errno) => return Err(errno),

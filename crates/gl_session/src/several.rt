@@ -84,14 +84,14 @@ fn fork<R: Threads + Wait + Sync, D: Driver<Core>>(
 
 /// Carries the parts of a session out. The talk of `setup` waits with its files and names while the actors are at work, and goes on
 /// with `after`.
-fn carry_parts<'a, R: Threads + Wait + Sync, D: Driver<Core>>(
+fn carry_parts<R: Threads + Wait + Sync, D: Driver<Core>>(
     rt: &R,
     alloc: Global,
     device: &Gpio<D>,
     first: &mut Actor<D>,
-    talk: &mut Talk<'a>,
+    talk: &mut Talk,
     ports: &mut [Option<D::Port>],
-    script: &'a Script<'_>,
+    script: &Script<'_>,
     count: usize,
 ) -> Result<Printed, Errno>
     requires none { D.ENTRIES ≡ 0 }

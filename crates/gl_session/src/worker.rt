@@ -24,12 +24,12 @@ use std::alloc::Global;
 use std::sync::Wait;
 
 /// Carries the statements of a section out as a talk of its own, and then closes what is open. Gives what it printed.
-pub fn play_section<'a, R: Wait, D: Driver<Core>>(
+pub fn play_section<R: Wait, D: Driver<Core>>(
     rt: &R,
     alloc: Global,
     device: &Gpio<D>,
     actor: &mut Actor<D>,
-    statements: &[Statement<'a>],
+    statements: &[Statement<'_>],
 ) -> Result<ByteList, Errno>
     requires none { D.ENTRIES ≡ 0 }
     requires actor { IsActorOf device.now actor.old }
@@ -60,13 +60,13 @@ pub fn play_section<'a, R: Wait, D: Driver<Core>>(
 }
 
 /// Waits for the other actors, and then carries the section out.
-pub fn play_beside<'a, R: Wait, D: Driver<Core>>(
+pub fn play_beside<R: Wait, D: Driver<Core>>(
     rt: &R,
     alloc: Global,
     device: &Gpio<D>,
     start: &Rendezvous,
     actor: &mut Actor<D>,
-    statements: &[Statement<'a>],
+    statements: &[Statement<'_>],
 ) -> Result<ByteList, Errno>
     requires none { D.ENTRIES ≡ 0 }
     requires actor { IsActorOf device.now actor.old }
