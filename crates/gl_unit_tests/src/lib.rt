@@ -1,4 +1,4 @@
-//! The tables with ample memory: what is known of them from the documents and the headers.
+//! What structures, texts and tables are known for from headers and documents, with ample memory.
 #![tactic(auto)]
 
 #[cfg(test)]
@@ -6,7 +6,11 @@ mod attribute_tests;
 #[cfg(test)]
 mod bank_tests;
 #[cfg(test)]
+mod base_tests;
+#[cfg(test)]
 mod debounce_tests;
+#[cfg(test)]
+mod entry_tests;
 #[cfg(test)]
 mod flag_tests;
 #[cfg(test)]
@@ -24,6 +28,14 @@ mod request_tests;
 #[cfg(test)]
 mod ring_tests;
 #[cfg(test)]
+mod script_tests;
+#[cfg(test)]
+mod stream_tests;
+#[cfg(test)]
+mod structure_tests;
+#[cfg(test)]
 mod tree_tests;
 #[cfg(test)]
 mod watch_tests;
+#[cfg(test)]
+mod words_tests;
