@@ -1,5 +1,5 @@
 -- The end of an actor's section closes its files in the order of their numbers.
-use Rattle.std.proofs.Common.{◌≡◌, ◌≤◌, ◌<◌, ◌-◌, inl, inr, ℕ, Bool, true, false, cond, List, [], ◌∷◌, ◌++◌, length, map, get_or, Option, None, Some, refl, sym, ◌∙◌, ap, subst, arith, eq-eqb}
+use Rattle.std.proofs.Common.{◌≡◌, ◌≤◌, ◌<◌, ◌+◌, ◌-◌, inl, inr, ℕ, Bool, true, false, cond, List, [], ◌∷◌, ◌++◌, length, map, get_or, Option, None, Some, refl, sym, ◌∙◌, ap, subst, arith, eq-eqb}
 use Rattle.std.specs.Prelude.{◌==◌, nat_eq, nat_lt}
 use Rattle.std.specs.List.{filter}
 use Rattle.std.proofs.lemmas.Bool.{true≢false}
@@ -18,7 +18,7 @@ use Rattle.gl_base.specs.declared.operation.Got.{Got}
 use Rattle.gl_uapi.specs.Command.{command_of}
 use Rattle.gl_world.specs.Deeds.{deed_in, deeds_from, deeds_of, entries_in}
 use Rattle.gl_world.specs.History.{AnsweredFrom, Legal, entries_of, fold, fold_from}
-use Rattle.gl_world.proofs.Deeds.{deeds_entries}
+use Rattle.gl_world.proofs.Deeds.{deeds_append, deeds_entries}
 use Rattle.gl_world.proofs.Histories.{answered_prefix, answered_rest, entries_append, fold_append, placed_prefix}
 use Rattle.gl_args.specs.Program.{Program, done, print, ask, then_by}
 use Rattle.gl_driver.specs.Told.{Told}
@@ -38,21 +38,27 @@ use Rattle.gl_core.specs.Kept.{Kept, StandsFor}
 use Rattle.gl_asking.specs.Handed.{command_in}
 use Rattle.gl_asking.specs.Opened.{place_named}
 use Rattle.gl_core.specs.Device.{OneDeed, OneEntry, core}
+use Rattle.gl_script.specs.Section.{SaidSection}
+use Rattle.gl_script.specs.declared.section.SectionKind.TheVariants.{Setup, Actor, After}
 use Rattle.gl_talk.specs.Numbers.{CloseByNumber, Numbered, NumbersFiles, has_less, has_slot, numbered_behind, with_number}
 use Rattle.gl_talk.specs.Open.{Names, no_names, slots_in_order}
 use Rattle.gl_talk.specs.Talk.{closes_all, quits, says}
 use Rattle.gl_talk.proofs.FileNumbers.{files_close_by_number}
-use Rattle.gl_talk.proofs.InARow.{are_statements_and_the_end}
+use Rattle.gl_talk.proofs.InARow.{are_statements_and_the_end, come_in_parts}
 use Rattle.gl_asking.specs.declared.kinds.Asking.{Asking}
 use Rattle.gl_asking.specs.declared.kinds.Asking.TheVariants.{Calls, Plans, Refuses}
 use Rattle.gl_asking.specs.Asking.{asking, buffer_of, files_behind, got_of, lines_named, made_by as made_of_kind, made_on, on_file, once, with_request}
 use Rattle.gl_asking.specs.Driving.{op_asked}
-use Rattle.gl_session.specs.Closings.{ActorsCloseByNumber, AreKept, closed_by, closed_in, number_in, numbers_of}
+use Rattle.gl_session.specs.Alone.{IsAlone, PlayedSession}
+use Rattle.gl_check.specs.Programs.{actor_of, after_of, setup_of}
+use Rattle.gl_session.specs.Closings.{ActorsCloseByNumber, AreKept, ClosesByNumber, OneActorClosesByNumber, after_statements, section_statements, closed_by, closed_in, number_in, numbers_of}
 use Rattle.gl_asking.specs.Files.{OpenFile, chip_file, file_in, is_in, line_file, without_file}
-use Rattle.gl_check.specs.Many.{actor_sections, no_section, words_of}
+use Rattle.gl_check.specs.Many.{ActorPlayed, AllPlayed, Texts, actor_sections, no_section, words_of}
+use Rattle.gl_check.specs.One.{said_in_kind}
 use Rattle.gl_check.specs.Turns.{Carried, Did, Exchange, Follows, IsDone, Said, Turn, carried, did_by}
 use Rattle.gl_session.proofs.Numbering.{ClaimsFrom, IsAnswer, IsMade, IsRefused, get_line_answers, next_after, open_answers}
-use Rattle.gl_session.proofs.Plays.{did_append}
+use Rattle.gl_session.proofs.Plays.{did_append, follows_then}
+use Rattle.gl_session.proofs.Sections.{says_then}
 
 -- files by their numbers
 
@@ -365,39 +371,72 @@ claims_none a low (x ∷ rows) none = by (is_claim_of a x) refl none (λ rest. c
     by true same h later = let n : length (x ∷ filter (is_claim_of a) rows) ≡ 0 = ap (λ (l : List Request). length l) h in absurd (omega arith)
     by false same h later = ((λ is. absurd (true≢false (sym is ∙ same))), later h)
 
--- Turns one after another, over the entries of a legal history behind what the actor has seen.
-module _ {A : Type 0} (is_planned : Bool) (actor : ℕ) (P : A → List Numbered → Type 0) where
-  walk : (turns : List Turn) (p : Program A) (s r : Carried) (value : A) (seen es : List OneEntry) (more : List OneDeed) → Legal core (seen ++ es) → Stands actor seen s.files
-      → deeds_from core (fold core seen) actor es ≡ did_by turns ++ more → NumbersFiles P (numbered s.files) p → AreKept turns → Follows is_planned actor p s turns (done value) r
-      → P value (numbered r.files) × Rises r.files
-  walk [] p s r value seen es more legal stands deeds numbers kept (is, same) =
-      (subst (λ (c : Carried). P value (numbered c.files)) same (subst (λ q. NumbersFiles P (numbered s.files) q) is numbers), subst (λ (c : Carried). Rises c.files) same stands.rises)
-  walk (Said text ∷ turns) p s r value seen es more legal stands deeds numbers kept (next, then, (is, same), follows) =
-      walk turns next then r value seen es more legal (subst (λ (c : Carried). Stands actor seen c.files) (sym same) stands) deeds
-      (subst (λ (c : Carried). NumbersFiles P (numbered c.files) next) (sym same) (subst (λ q. NumbersFiles P (numbered s.files) q) is numbers)) kept follows
-  walk (Did e ∷ turns) p s r value seen es more legal stands deeds numbers kept (next, then, (rest, is, goes, carries), follows) =
+-- Turns one after another, over the entries of a legal history behind what the actor has seen: how the actor stands behind them, and what
+-- is left of the program and of the entries.
+module _ {A : Type 0} (is_planned : Bool) (actor : ℕ) (P : A → List Numbered → Type 0) (history : List OneEntry) (legal : Legal core history) where
+  record Went (p q : Program A) (s r : Carried) (turns : List Turn) (low : ℕ) (more : List OneDeed) : Type 0 where
+    pub seen : List OneEntry
+    pub behind : List OneEntry
+    pub whole : history ≡ seen ++ behind
+    pub stands : Stands actor seen r.files
+    pub later : deeds_from core (fold core seen) actor behind ≡ more
+    pub no_fewer : low ≤ (fold core seen).next
+    pub numbers : NumbersFiles P (numbered s.files) p → AreKept turns → NumbersFiles P (numbered r.files) q
+
+  walk : (turns : List Turn) (p q : Program A) (s r : Carried) (seen es : List OneEntry) (more : List OneDeed) → history ≡ seen ++ es → Stands actor seen s.files
+      → deeds_from core (fold core seen) actor es ≡ did_by turns ++ more → Follows is_planned actor p s turns q r → Went p q s r turns (fold core seen).next more
+  walk [] p q s r seen es more whole stands deeds (is, same) = record {
+    seen = seen;
+    behind = es;
+    whole = whole;
+    stands = subst (λ (c : Carried). Stands actor seen c.files) same stands;
+    later = deeds;
+    no_fewer = omega arith;
+    numbers = λ numbers kept. subst (λ (x : Program A × Carried). NumbersFiles P (numbered x.1.files) x.0) (λ i. (is i, same i)) numbers;
+  }
+  walk (Said text ∷ turns) p q s r seen es more whole stands deeds (next, then, (is, same), follows) =
+      let on = walk turns next q then r seen es more whole (subst (λ (c : Carried). Stands actor seen c.files) (sym same) stands) deeds follows in record {
+        seen = on.seen;
+        behind = on.behind;
+        whole = on.whole;
+        stands = on.stands;
+        later = on.later;
+        no_fewer = on.no_fewer;
+        numbers = λ numbers kept. on.numbers (subst (λ (c : Carried). NumbersFiles P (numbered c.files) next) (sym same) (subst (λ o. NumbersFiles P (numbered s.files) o) is numbers)) kept;
+      }
+  walk (Did e ∷ turns) p q s r seen es more whole stands deeds (next, then, (rest, is, goes, carries), follows) =
       let w : World = fold core seen in
       let part = parted actor w es e.did (did_by turns ++ more) (deeds ∙ append_assoc e.did (did_by turns) more) in
       let own : entries_of actor part.before ≡ entries_in e.did = sym (deeds_entries core w actor part.before) ∙ ap (λ (l : List OneDeed). entries_in l) part.first in
-      let legal_seen : Legal core seen = (answered_prefix core core.opening seen es legal.0, placed_prefix core core.opening seen es legal.1) in
-      let answered : AnsweredFrom core w (part.before ++ part.behind) = subst (λ l. AnsweredFrom core w l) part.at (answered_rest core core.opening seen es legal.0) in
+      let legal_here : Legal core (seen ++ es) = subst (λ l. Legal core l) whole legal in
+      let legal_seen : Legal core seen = (answered_prefix core core.opening seen es legal_here.0, placed_prefix core core.opening seen es legal_here.1) in
+      let answered : AnsweredFrom core w (part.before ++ part.behind) = subst (λ l. AnsweredFrom core w l) part.at (answered_rest core core.opening seen es legal_here.0) in
       let claims : ClaimsFrom actor w.next w.requests = claims_none actor w.next w.requests ((calls_finish_claims StandsFor).between_calls seen legal_seen actor stands.calls) in
       let fresh = made_fresh is_planned actor w part.before s.files (holders_always_agree StandsFor seen legal_seen) claims (answered_prefix core w part.before part.behind answered) stands.below stands.rises e s.told then.told own e.what carries.is_done in
       let got : Got = got_of e.what e.reply e.wrote in
       let below : Each (λ (file : Numbered). file.number < fresh.number) (numbered s.files) = numbered_below fresh.number s.files (below_more w.next fresh.number s.files fresh.above stands.below) in
-      let asked : NumbersFiles P (numbered s.files) (ask e.what rest) = subst (λ q. NumbersFiles P (numbered s.files) q) is numbers in
-      let on : NumbersFiles P (numbered (files_behind e.what e.reply s.files)) (rest got) = subst (λ l. NumbersFiles P l (rest got)) (sym fresh.is) (asked got fresh.number kept.0 below) in
       let world : fold core (seen ++ part.before) ≡ fold_from core w part.before = fold_append core core.opening seen part.before in
-      let whole : seen ++ es ≡ (seen ++ part.before) ++ part.behind = ap (λ (l : List OneEntry). seen ++ l) part.at ∙ sym (append_assoc seen part.before part.behind) in
-      walk turns next then r value (seen ++ part.before) part.behind more (subst (λ l. Legal core l) whole legal)
+      let on = walk turns next q then r (seen ++ part.before) part.behind more
+      (whole ∙ ap (λ (l : List OneEntry). seen ++ l) part.at ∙ sym (append_assoc seen part.before part.behind))
       (record {
         calls = subst (λ l. AreOfCalls StandsFor actor l) (sym (entries_append actor seen part.before ∙ ap (λ (l : List OneEntry). entries_of actor seen ++ l) own))
             (of_calls is_planned actor (entries_of actor seen) (asking s.files e.what) (op_asked s.files e.what) e s.told then.told stands.calls carries.is_done);
         below = subst (λ (x : World × List OpenFile). AreBelow x.0.next x.1) (λ i. (sym world i, sym carries.files i)) fresh.below;
         rises = subst (λ l. Rises l) (sym carries.files) fresh.rises;
       })
-      (ap (λ (u : World). deeds_from core u actor part.behind) world ∙ part.later)
-      (subst (λ q. NumbersFiles P (numbered then.files) q) (sym goes) (subst (λ l. NumbersFiles P (numbered l) (rest got)) (sym carries.files) on)) kept.1 follows
+      (ap (λ (u : World). deeds_from core u actor part.behind) world ∙ part.later) follows in record {
+        seen = on.seen;
+        behind = on.behind;
+        whole = on.whole;
+        stands = on.stands;
+        later = on.later;
+        no_fewer = (let here = next_after w part.before in let same : (fold core (seen ++ part.before)).next ≡ (fold_from core w part.before).next = ap (λ (u : World). u.next) world in
+            let later = on.no_fewer in omega (arith, here, same, later));
+        numbers = λ numbers kept.
+            let asked : NumbersFiles P (numbered s.files) (ask e.what rest) = subst (λ o. NumbersFiles P (numbered s.files) o) is numbers in
+            let then_numbers : NumbersFiles P (numbered (files_behind e.what e.reply s.files)) (rest got) = subst (λ l. NumbersFiles P l (rest got)) (sym fresh.is) (asked got fresh.number kept.0 below) in
+            on.numbers (subst (λ o. NumbersFiles P (numbered then.files) o) (sym goes) (subst (λ l. NumbersFiles P (numbered l) (rest got)) (sym carries.files) then_numbers)) kept.1;
+      }
 
 -- One program, and then another: the turns of both are those of the one, and then those of the other.
 
@@ -487,26 +526,121 @@ end_closes is_planned actor (Did e ∷ turns) (f ∷ fs) s r last open_are (next
       k.1,
     )
 
-pub actors_close_by_number : ActorsCloseByNumber
-actors_close_by_number is_planned before left sections history legal n text actor =
+-- the last turns of a talk, by an actor that stands so behind its earlier ones
+module _ (is_planned : Bool) (actor : ℕ) (history : List OneEntry) (legal : Legal core history) where
+  closes : (earlier turns : List Turn) (statements : Program Names) (s r : Carried) (last : Names) (seen es : List OneEntry) (more : List OneDeed) → history ≡ seen ++ es → Stands actor seen s.files
+      → deeds_from core (fold core seen) actor es ≡ did_by turns ++ more → (AreKept earlier → NumbersFiles CloseByNumber (numbered s.files) statements)
+      → Follows is_planned actor (then_by statements quits) s turns (done last) r → ClosesByNumber is_planned actor earlier statements s turns last r
+  closes earlier turns statements s r last seen es more whole stands deeds numbers follows =
+      let two = in_two is_planned actor quits r last turns statements s follows in
+      let did : did_by turns ++ more ≡ did_by two.begun ++ (did_by two.ending ++ more) =
+      ap (λ (l : List Turn). did_by l ++ more) two.turns_are ∙ ap (λ (l : List OneDeed). l ++ more) (did_append two.begun two.ending) ∙ append_assoc (did_by two.begun) (did_by two.ending) more in
+      let went = walk is_planned actor CloseByNumber history legal two.begun statements (done two.value) s two.between seen es (did_by two.ending ++ more) whole stands (deeds ∙ did) two.follows in
+      let end : AreKept earlier → AreKept two.begun → (closed_in two.between.files two.ending ≡ numbers_of two.between.files) × (r.files ≡ [])
+      = λ before kept. end_closes is_planned actor two.ending two.between.files two.between r last refl
+      (subst (λ slots. Follows is_planned actor (closes_all slots) two.between two.ending (done last) r) (in_table_order two.value two.between.files went.stands.rises (went.numbers (numbers before) kept)) two.ends) in record {
+        begun = two.begun;
+        ending = two.ending;
+        turns_are = two.turns_are;
+        names = two.value;
+        between = two.between;
+        follows = two.follows;
+        ends = two.ends;
+        in_order = λ before kept. (end before kept).0 ∙ sym (ordered_numbers two.between.files went.stands.rises);
+        leaves_none = λ before kept. (end before kept).1;
+      }
+
+nothing_yet : (actor : ℕ) → Stands actor [] []
+nothing_yet actor = record { calls = record { calls = []; each = tt; are = refl }; below = tt; rises = tt }
+
+-- the statements of `setup`, and then those of `after`
+module _ (sections : List SaidSection) where
+  abbrev in_setup : List (List Span)
+  in_setup = said_in_kind Setup sections
+
+  abbrev behind_setup : Names → Program Names
+  behind_setup = says (length in_setup) (said_in_kind After sections) done
+
+  abbrev both : Program Names
+  both = then_by (says 0 in_setup done no_names) behind_setup
+
+  none_before : 0 + length in_setup ≡ length in_setup
+  none_before = omega arith
+
+  number_both : NumbersFiles CloseByNumber [] both
+  number_both = subst (λ (p : Program Names). NumbersFiles CloseByNumber [] p)
+      (come_in_parts 0 in_setup (said_in_kind After sections) done no_names ∙ (λ i. says 0 in_setup (says (none_before i) (said_in_kind After sections) done) no_names) ∙ says_then 0 in_setup behind_setup no_names)
+      (files_close_by_number (in_setup ++ said_in_kind After sections))
+
+  to_the_end : (names : Names) → after_of sections names ≡ then_by (behind_setup names) quits
+  to_the_end names = says_then (length in_setup) (said_in_kind After sections) quits names
+
+no_deeds : (did : List OneDeed) → entries_in did ≡ [] → did ≡ []
+no_deeds [] none = refl
+no_deeds (d ∷ did) none = let n : length (d.entry ∷ entries_in did) ≡ 0 = ap (λ (l : List OneEntry). length l) none in absurd (omega arith)
+
+section_closes_by_number : (is_planned : Bool) (before left : ℕ → Option Told) (sections : List SaidSection) (history : List OneEntry) → Legal core history → (n : ℕ) (text : List ℕ) (actor : ActorPlayed is_planned before left sections history n text)
+    → ClosesByNumber is_planned n [] (section_statements sections n) (carried [] (before n)) actor.played.turns actor.names actor.behind
+section_closes_by_number is_planned before left sections history legal n text actor =
     let words : List (List Span) = words_of (get_or (actor_sections sections) (n - 1) no_section) in
-    let p : Program Names = says 0 words done no_names in
-    let two = in_two is_planned n quits actor.behind actor.names actor.played.turns p (carried [] (before n))
-    (subst (λ (q : Program Names). Follows is_planned n q (carried [] (before n)) actor.played.turns (done actor.names) actor.behind) (are_statements_and_the_end 0 words no_names) actor.played.follows) in
-    let did : deeds_of core n history ≡ did_by two.begun ++ did_by two.ending = actor.played.did_is ∙ ap (λ (l : List Turn). did_by l) two.turns_are ∙ did_append two.begun two.ending in
-    let numbers : AreKept two.begun → CloseByNumber two.value (numbered two.between.files) × Rises two.between.files
-    = λ kept. walk is_planned n CloseByNumber two.begun p (carried [] (before n)) two.between two.value [] history (did_by two.ending) legal
-    (record { calls = record { calls = []; each = tt; are = refl }; below = tt; rises = tt }) did (files_close_by_number words) kept two.follows in
-    let closes : AreKept two.begun → (closed_in two.between.files two.ending ≡ numbers_of two.between.files) × (actor.behind.files ≡ [])
-    = λ kept. let k = numbers kept in end_closes is_planned n two.ending two.between.files two.between actor.behind actor.names refl
-    (subst (λ slots. Follows is_planned n (closes_all slots) two.between two.ending (done actor.names) actor.behind) (in_table_order two.value two.between.files k.1 k.0) two.ends) in record {
-      begun = two.begun;
-      ending = two.ending;
-      turns_are = two.turns_are;
-      names = two.value;
-      between = two.between;
-      follows = two.follows;
-      ends = two.ends;
-      in_order = λ kept. (closes kept).0 ∙ sym (ordered_numbers two.between.files (numbers kept).1);
-      leaves_none = λ kept. (closes kept).1;
-    }
+    closes is_planned n history legal [] actor.played.turns (says 0 words done no_names) (carried [] (before n)) actor.behind actor.names [] history [] refl (nothing_yet n)
+    (actor.played.did_is ∙ sym (append-nil (did_by actor.played.turns))) (λ none. files_close_by_number words)
+    (subst (λ (q : Program Names). Follows is_planned n q (carried [] (before n)) actor.played.turns (done actor.names) actor.behind) (are_statements_and_the_end 0 words no_names) actor.played.follows)
+
+after_closes_by_number : (is_planned : Bool) (before left : ℕ → Option Told) (sections : List SaidSection) (history : List OneEntry) (texts : Texts) (all : AllPlayed is_planned before left sections history texts)
+    → ClosesByNumber is_planned 0 all.setup.turns (after_statements sections all.names) all.waiting all.after.turns all.end all.behind
+after_closes_by_number is_planned before left sections history texts all =
+    let front : List OneEntry = all.first ++ all.middle in
+    let between : deeds_from core (fold core all.first) 0 all.middle ≡ [] = no_deeds (deeds_from core (fold core all.first) 0 all.middle) (deeds_entries core (fold core all.first) 0 all.middle ∙ all.zero_not_between) in
+    let setup_did : deeds_of core 0 front ≡ did_by all.setup.turns = deeds_append core core.opening 0 all.first all.middle ∙ (λ i. deeds_of core 0 all.first ++ between i) ∙ append-nil (deeds_of core 0 all.first) ∙ all.setup.did_is in
+    let deeds : deeds_of core 0 history ≡ did_by all.setup.turns ++ did_by all.after.turns =
+    ap (λ (l : List OneEntry). deeds_of core 0 l) all.is ∙ deeds_append core core.opening 0 front all.last ∙ (λ i. setup_did i ++ all.after.did_is i) in
+    let went = walk is_planned 0 CloseByNumber history all.legal all.setup.turns (both sections) (behind_setup sections all.names) (carried [] (before 0)) all.waiting [] history (did_by all.after.turns) refl (nothing_yet 0) deeds
+    (follows_then is_planned 0 (behind_setup sections) (setup_of sections) (carried [] (before 0)) all.setup.turns (done all.names) all.waiting all.setup.follows) in
+    closes is_planned 0 history all.legal all.setup.turns all.after.turns (behind_setup sections all.names) all.waiting all.behind all.end went.seen went.behind [] went.whole went.stands
+    (went.later ∙ sym (append-nil (did_by all.after.turns))) (went.numbers (number_both sections))
+    (subst (λ (q : Program Names). Follows is_planned 0 q all.waiting all.after.turns (done all.end) all.behind) (to_the_end sections all.names) all.after.follows)
+
+pub actors_close_by_number : ActorsCloseByNumber
+actors_close_by_number = record { sections = section_closes_by_number; after = after_closes_by_number }
+
+-- one actor alone
+module _ (is_planned : Bool) (sections : List SaidSection) (before left : Option Told) (text : List ℕ) (did : List OneDeed) (history : List OneEntry) (played : PlayedSession is_planned sections before text did left) (alone : IsAlone history did) where
+  abbrev setup_turns : List Turn
+  setup_turns = played.setup.played.turns
+
+  abbrev actor_turns : List Turn
+  actor_turns = played.actor.played.turns
+
+  abbrev last_turns : List Turn
+  last_turns = played.last.played.turns
+
+  deeds : deeds_of core 0 history ≡ did_by setup_turns ++ (did_by actor_turns ++ did_by last_turns)
+  deeds = alone.deeds ∙ played.did_is ∙ (λ i. played.setup.played.did_is i ++ (played.actor.played.did_is i ++ played.last.played.did_is i))
+
+  behind_setup_stands : Went is_planned 0 CloseByNumber history alone.legal (both sections) (behind_setup sections played.setup.names) (carried [] before) played.setup.behind setup_turns (fold core []).next (did_by actor_turns ++ did_by last_turns)
+  behind_setup_stands = walk is_planned 0 CloseByNumber history alone.legal setup_turns (both sections) (behind_setup sections played.setup.names) (carried [] before) played.setup.behind [] history (did_by actor_turns ++ did_by last_turns) refl (nothing_yet 0) deeds
+      (follows_then is_planned 0 (behind_setup sections) (setup_of sections) (carried [] before) setup_turns (done played.setup.names) played.setup.behind played.setup.played.follows)
+
+  abbrev went : Went is_planned 0 CloseByNumber history alone.legal (both sections) (behind_setup sections played.setup.names) (carried [] before) played.setup.behind setup_turns (fold core []).next (did_by actor_turns ++ did_by last_turns)
+  went = behind_setup_stands
+
+  -- the section begins with no file of its own
+  none_open : Stands 0 went.seen []
+  none_open = record { calls = went.stands.calls; below = tt; rises = tt }
+
+  section_closes : ClosesByNumber is_planned 0 [] (says 0 (said_in_kind Actor sections) done no_names) (carried [] played.setup.behind.told) actor_turns played.actor.names played.actor.behind
+  section_closes = closes is_planned 0 history alone.legal [] actor_turns (says 0 (said_in_kind Actor sections) done no_names) (carried [] played.setup.behind.told) played.actor.behind played.actor.names
+      went.seen went.behind (did_by last_turns) went.whole none_open went.later (λ none. files_close_by_number (said_in_kind Actor sections))
+      (subst (λ (q : Program Names). Follows is_planned 0 q (carried [] played.setup.behind.told) actor_turns (done played.actor.names) played.actor.behind) (are_statements_and_the_end 0 (said_in_kind Actor sections) no_names) played.actor.played.follows)
+
+  after_closes : ClosesByNumber is_planned 0 setup_turns (behind_setup sections played.setup.names) (carried played.setup.behind.files played.actor.behind.told) last_turns played.last.names played.last.behind
+  after_closes =
+      let on = walk is_planned 0 CloseByNumber history alone.legal actor_turns (actor_of sections) (done played.actor.names) (carried [] played.setup.behind.told) played.actor.behind went.seen went.behind (did_by last_turns) went.whole none_open went.later played.actor.played.follows in
+      closes is_planned 0 history alone.legal setup_turns last_turns (behind_setup sections played.setup.names) (carried played.setup.behind.files played.actor.behind.told) played.last.behind played.last.names on.seen on.behind [] on.whole
+      (record { calls = on.stands.calls; below = below_more (fold core went.seen).next (fold core on.seen).next played.setup.behind.files on.no_fewer went.stands.below; rises = went.stands.rises })
+      (on.later ∙ sym (append-nil (did_by last_turns))) (went.numbers (number_both sections))
+      (subst (λ (q : Program Names). Follows is_planned 0 q (carried played.setup.behind.files played.actor.behind.told) last_turns (done played.last.names) played.last.behind) (to_the_end sections played.setup.names) played.last.played.follows)
+
+pub one_actor_closes_by_number : OneActorClosesByNumber
+one_actor_closes_by_number = record { section = section_closes; after = after_closes }

@@ -1,5 +1,5 @@
 -- Which files the end of a talk closes on the device, and in which order. This project's choice.
-use Rattle.std.specs.Prelude.{◌≡◌, ℕ, ◌-◌, Bool, nat_lt, List, [], ◌∷◌, ◌++◌, map, get_or, Option, None, Some}
+use Rattle.std.specs.Prelude.{◌≡◌, ℕ, ◌-◌, Bool, nat_lt, List, [], ◌∷◌, ◌++◌, length, map, get_or, Option, None, Some}
 use Rattle.gl_base.specs.Ordered.{ordered}
 use Rattle.gl_base.specs.declared.operation.Do.{Do}
 use Rattle.gl_base.specs.declared.operation.Do.TheVariants.{Close}
@@ -8,12 +8,15 @@ use Rattle.gl_args.specs.Entries.{IsKept}
 use Rattle.gl_args.specs.Program.{Program, done}
 use Rattle.gl_driver.specs.Told.{Told}
 use Rattle.gl_script.specs.Section.{SaidSection}
+use Rattle.gl_script.specs.declared.section.SectionKind.TheVariants.{Setup, Actor, After}
 use Rattle.gl_talk.specs.Open.{Names, no_names}
 use Rattle.gl_talk.specs.Talk.{quits, says}
-use Rattle.gl_core.specs.Device.{OneEntry, core}
+use Rattle.gl_core.specs.Device.{OneDeed, OneEntry, core}
+use Rattle.gl_session.specs.Alone.{IsAlone, PlayedSession}
 use Rattle.gl_asking.specs.Asking.{files_behind, got_of}
 use Rattle.gl_asking.specs.Files.{OpenFile, file_in}
-use Rattle.gl_check.specs.Many.{ActorPlayed, actor_sections, no_section, words_of}
+use Rattle.gl_check.specs.Many.{ActorPlayed, AllPlayed, Texts, actor_sections, no_section, words_of}
+use Rattle.gl_check.specs.One.{said_in_kind}
 use Rattle.gl_check.specs.Turns.{Carried, Did, Follows, Said, Turn, carried}
 
 -- the numbers of open files
@@ -41,9 +44,10 @@ AreKept [] = Unit {0}
 AreKept (Said text ∷ turns) = AreKept turns
 AreKept (Did e ∷ turns) = IsKept e.what (got_of e.what e.reply e.wrote) × AreKept turns
 
--- The turns of a talk, which leaves the actor so: first those of its statements, then those of its end. Where no closing among the
--- statements was refused, the end closes just the files that are open then, each once, in the order of their numbers, and leaves none.
-pub record ClosesByNumber (is_planned : Bool) (actor : ℕ) (statements : Program Names) (s : Carried) (turns : List Turn) (last : Names) (r : Carried) : Type 0 where
+-- The last turns of a talk, which leave the actor so: first those of its statements, then those of its end; `earlier` are the turns of the
+-- same talk before these. Where no closing among all statements of the talk was refused, the end closes just the files that are open then,
+-- each once, in the order of their numbers, and leaves none.
+pub record ClosesByNumber (is_planned : Bool) (actor : ℕ) (earlier : List Turn) (statements : Program Names) (s : Carried) (turns : List Turn) (last : Names) (r : Carried) : Type 0 where
   pub begun : List Turn
   pub ending : List Turn
   pub turns_are : turns ≡ begun ++ ending
@@ -51,11 +55,33 @@ pub record ClosesByNumber (is_planned : Bool) (actor : ℕ) (statements : Progra
   pub between : Carried
   pub follows : Follows is_planned actor statements s begun (done names) between
   pub ends : Follows is_planned actor (quits names) between ending (done last) r
-  pub in_order : AreKept begun → closed_in between.files ending ≡ ordered nat_lt (numbers_of between.files)
-  pub leaves_none : AreKept begun → r.files ≡ []
+  pub in_order : AreKept earlier → AreKept begun → closed_in between.files ending ≡ ordered nat_lt (numbers_of between.files)
+  pub leaves_none : AreKept earlier → AreKept begun → r.files ≡ []
 
--- So each actor's section ends in a legal history of several actors.
-abbrev pub ActorsCloseByNumber : Type 0
-ActorsCloseByNumber = (is_planned : Bool) (before left : ℕ → Option Told) (sections : List SaidSection) (history : List OneEntry) → Legal core history
-    → (n : ℕ) (text : List ℕ) (actor : ActorPlayed is_planned before left sections history n text)
-    → ClosesByNumber is_planned n (says 0 (words_of (get_or (actor_sections sections) (n - 1) no_section)) done no_names) (carried [] (before n)) actor.played.turns actor.names actor.behind
+-- the statements of an actor's section, and those of `after` by the names that `setup` gave
+abbrev pub section_statements : List SaidSection → ℕ → Program Names
+section_statements sections n = says 0 (words_of (get_or (actor_sections sections) (n - 1) no_section)) done no_names
+
+abbrev pub after_statements : List SaidSection → Names → Program Names
+after_statements sections names = says (length (said_in_kind Setup sections)) (said_in_kind After sections) done names
+
+-- So each actor's section ends in a legal history of several actors, and so does the talk of `setup` and `after`: of these the end
+-- closes what either left open, and it stands behind `after`.
+pub record ActorsCloseByNumber : Type 0 where
+  pub sections : (is_planned : Bool) (before left : ℕ → Option Told) (sections : List SaidSection) (history : List OneEntry) → Legal core history
+      → (n : ℕ) (text : List ℕ) (actor : ActorPlayed is_planned before left sections history n text)
+      → ClosesByNumber is_planned n [] (section_statements sections n) (carried [] (before n)) actor.played.turns actor.names actor.behind
+  pub after : (is_planned : Bool) (before left : ℕ → Option Told) (sections : List SaidSection) (history : List OneEntry) (texts : Texts)
+      (all : AllPlayed is_planned before left sections history texts)
+      → ClosesByNumber is_planned 0 all.setup.turns (after_statements sections all.names) all.waiting all.after.turns all.end all.behind
+
+-- The same of the two talks of a session of one actor: its section closes its own files alone, while those of `setup` stay open.
+pub record OneActorClosesByNumber : Type 0 where
+  pub section : (is_planned : Bool) (sections : List SaidSection) (before left : Option Told) (text : List ℕ) (did : List OneDeed) (history : List OneEntry)
+      (played : PlayedSession is_planned sections before text did left) → IsAlone history did
+      → ClosesByNumber is_planned 0 [] (says 0 (said_in_kind Actor sections) done no_names) (carried [] played.setup.behind.told)
+      played.actor.played.turns played.actor.names played.actor.behind
+  pub after : (is_planned : Bool) (sections : List SaidSection) (before left : Option Told) (text : List ℕ) (did : List OneDeed) (history : List OneEntry)
+      (played : PlayedSession is_planned sections before text did left) → IsAlone history did
+      → ClosesByNumber is_planned 0 played.setup.played.turns (after_statements sections played.setup.names) (carried played.setup.behind.files played.actor.behind.told)
+      played.last.played.turns played.last.names played.last.behind

@@ -2,7 +2,7 @@
 //! the law, and a caller gets it by the call.
 
 ghost use Rattle.gl_session.specs.Alone.{AnswersAsPlanned, FirstActorIsAlone, FirstActorSeesItself, PortTells, PrintsOne};
-ghost use Rattle.gl_session.specs.Closings.{ActorsCloseByNumber};
+ghost use Rattle.gl_session.specs.Closings.{ActorsCloseByNumber, OneActorClosesByNumber};
 ghost use Rattle.gl_session.specs.Many.{AllPlayedCameToMany};
 ghost use Rattle.gl_session.specs.Output.{OutputTellsHistory};
 ghost use Rattle.gl_session.specs.Run.{TextsTellHistory};
@@ -69,8 +69,9 @@ pub fn output_tells_history()
     ensures of_runs { TextsTellHistory }
 {}
 
-/// In the history of several actors the end of each actor's section closes just the files that are open then, in the order of their
-/// numbers, and leaves none, unless the device refused a closing of one of its statements.
+/// The end of each actor's section closes just the files that are open in it then, in the order of their numbers, and leaves none, unless
+/// the device refused a closing of one of its statements. So does the end of `after`, of the files that `setup` and `after` left open.
 pub fn actors_close_by_number()
-    ensures { ActorsCloseByNumber }
+    ensures several { ActorsCloseByNumber }
+    ensures one_actor { OneActorClosesByNumber }
 {}

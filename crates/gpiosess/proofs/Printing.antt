@@ -3,11 +3,12 @@ use Rattle.std.proofs.Common.{◌≡◌, ◌<◌, ◌≤◌, ℕ, Bool, true, fa
 use Rattle.gl_driver.specs.Told.{Told, new_port}
 use Rattle.gl_script.specs.Section.{SaidSection}
 use Rattle.gl_script.specs.Sentence.{Sentence}
+use Rattle.gl_session.specs.Figures.{CameToLoad, HasWrittenLoad, figures}
 use Rattle.gl_check.specs.Many.{actor_sections}
-use Rattle.gl_check.specs.One.{one}
+use Rattle.gl_check.specs.One.{entries_made, one, planned}
 use Rattle.gl_session.specs.Run.{CameBy, HasWritten}
 use Rattle.gl_session.proofs.FewActors.{few_actors}
-use Rattle.gpiosess.specs.Program.{HasPrinted, PrintsBy}
+use Rattle.gpiosess.specs.Program.{HasPrinted, HasPrintedLoad, PrintsBy, PrintsLoad}
 
 module _ (before left : ℕ → Option Told) (new : (n : ℕ) → n < 17 → before n ≡ Some new_port) where
   prints_by : (alone : Bool) (sections : List SaidSection) (text : List ℕ) → length (actor_sections sections) ≤ 16 → CameBy alone true sections before left text → PrintsBy alone sections text
@@ -29,3 +30,16 @@ module _ (before left : ℕ → Option Told) (new : (n : ℕ) → n < 17 → bef
       → IfSome input (λ bytes. (sections : List SaidSection) → Sentence bytes sections → Ends × HasPrinted sections old then)
   printed None Ends old then h = tt
   printed (Some bytes) Ends old then h = λ sections said. ((h sections said).0, has_printed sections (few_actors bytes sections said) old then (h sections said).1)
+
+-- a load, over the new port of the first actor
+prints_load : (turns : ℕ) (before left : Option Told) (text : List ℕ) → before ≡ Some new_port → CameToLoad true turns before left text → PrintsLoad turns text
+prints_load turns before left text new load =
+    let answers : load.came.came.answers ≡ planned load.sections = load.came.came.as_planned refl new_port new in record {
+      sections = load.sections;
+      sentence = load.sentence;
+      prints = load.is ∙ (λ i. figures load.sections (load.came.makes i) (load.came.came.prints i))
+          ∙ ap (λ given. figures load.sections (entries_made load.sections given) (one load.sections given)) answers;
+    }
+
+pub printed_load : (turns : ℕ) (before left : Option Told) (old then : Option (List ℕ)) → before ≡ Some new_port → HasWrittenLoad true turns before left old then → HasPrintedLoad turns old then
+printed_load turns before left old then new w = (w.0, w.1, prints_load turns before left w.0 new w.2)

@@ -1,10 +1,13 @@
 -- What the program writes for a session: over the simulated driver, whose answers are planned, and a new port for each actor.
 use Rattle.std.specs.Prelude.{◌≡◌, ℕ, Bool, true, false, nat_lt, List, length, Option}
 use Rattle.std.specs.Io.KnownBytes.{Appends}
+use Rattle.gl_script.specs.Gen.{load_text}
 use Rattle.gl_script.specs.Section.{SaidSection}
+use Rattle.gl_script.specs.Sentence.{Sentence}
 use Rattle.gl_core.specs.Device.{OneEntry}
+use Rattle.gl_session.specs.Figures.{figures}
 use Rattle.gl_check.specs.Many.{Many, PlannedTells, Texts, actor_sections}
-use Rattle.gl_check.specs.One.{one, planned}
+use Rattle.gl_check.specs.One.{entries_made, one, planned}
 use Rattle.gl_session.specs.Output.{AreTold, output}
 
 -- Output of a session of several actors: of texts and a history with Many, whose tells are as planned, and no other history has it.
@@ -27,3 +30,13 @@ Prints sections text = PrintsBy (nat_lt (length (actor_sections sections)) 2) se
 -- the text of a session was written
 abbrev pub HasPrinted : List SaidSection → Option (List ℕ) → Option (List ℕ) → Type 0
 HasPrinted sections old new = (text : List ℕ) × Appends old new text × Prints sections text
+
+-- The four lines on the load of a number: on its text as a session, which is One over the answers of Planned.
+pub record PrintsLoad (turns : ℕ) (text : List ℕ) : Type 0 where
+  pub sections : List SaidSection
+  pub sentence : Sentence (load_text turns) sections
+  pub prints : text ≡ figures sections (entries_made sections (planned sections)) (one sections (planned sections))
+
+-- they were written
+abbrev pub HasPrintedLoad : ℕ → Option (List ℕ) → Option (List ℕ) → Type 0
+HasPrintedLoad turns old new = (text : List ℕ) × Appends old new text × PrintsLoad turns text

@@ -7,10 +7,11 @@ ghost use Rattle.gl_script.specs.declared.refusal.Refusal.{Refusal};
 ghost use Rattle.gl_script.specs.Section.{SaidSection};
 ghost use Rattle.gl_script.specs.Sentence.{Sentence, first_fault};
 ghost use Rattle.gl_words.specs.Words.{asks, texts};
+ghost use Rattle.gl_words.specs.declared.asked.Task.TheVariants.{Load};
 ghost use Rattle.gl_session.specs.Ports.{AreAllThere};
 ghost use Rattle.gl_session.specs.Run.{IsRefusal, refused_line, usage_line};
 ghost use Rattle.gl_session.specs.Workers.{told_at};
-ghost use Rattle.gpiosess.specs.Program.{HasPrinted};
+ghost use Rattle.gpiosess.specs.Program.{HasPrinted, HasPrintedLoad};
 
 use gl_driver::{Port, SimDriver, SimPort};
 use gl_io::{Sink, Source};
@@ -31,7 +32,8 @@ fn new_ports() -> [Option<SimPort>; 17]
 /// Carries out what the words ask for, over the simulated driver and a new port for each actor, and writes what comes of it.
 ///
 /// Without words a session is read from the source, and its text is written: of fewer than two actors that is one text, which the session
-/// alone decides. What else comes of words and streams, and when, is what `run` of `gl_session` says.
+/// alone decides. The words of a load write its four lines, which its number alone decides. What else comes of words and streams, and when,
+/// is what `run` of `gl_session` says.
 pub fn carry_out<R: Threads + Wait + Sync, S: Source, K: Sink>(
     rt: &R,
     alloc: Global,
@@ -44,6 +46,9 @@ pub fn carry_out<R: Threads + Wait + Sync, S: Source, K: Sink>(
     ensures complete { words.now ≡ [] → IfSome (S.left source.old) (λ input. (sections : List SaidSection) → Sentence input sections →
         ¬ Rises (S.fault_count source.old) (S.fault_count source.new) → ¬ Rises (K.fault_count sink.old) (K.fault_count sink.new) →
         (result ≡ Status.Ran) ⊎ (result ≡ Status.NoMemory)) }
+    ensures load { result ≡ Status.Ran → (n : ℕ) → asks (texts words.now) ≡ Some (Load n) → HasPrintedLoad n (K.held sink.old) (K.held sink.new) }
+    ensures load_complete { (n : ℕ) → asks (texts words.now) ≡ Some (Load n) → ¬ Rises (K.fault_count sink.old) (K.fault_count sink.new) →
+        (result ≡ Status.Ran) ⊎ (result ≡ Status.NoMemory) }
 
     // Words that ask for nothing are answered first, and where there are words nothing is read.
     ensures usage { asks (texts words.now) ≡ None → (result ≡ Status.Usage) ⊎ (result ≡ Status.WriteFault) }
