@@ -3,7 +3,7 @@
 # The words of each statement, and what they are, as docs/FORMATS.md has them.
 forms() {
   cat <<'FORMS'
-probe|probe LABEL N: LABEL has 1 to 31 letters, digits, _, - or ., and N is from 1 to 128
+probe|probe LABEL N: LABEL has 1 to 31 letters, digits, _, - or ., and N is from 1 to 512
 unplug|unplug CHIP: CHIP is gpiochipN, N or /dev/gpiochipN, with N from 0 to 63
 mkdir|mkdir PATH: one directory a statement and no options; PATH has letters, digits, _, -, . and /
 rmdir|rmdir PATH: one directory a statement and no options; PATH has letters, digits, _, -, . and /
@@ -11,11 +11,14 @@ read|read PATH: PATH has 1 to 127 letters, digits, _, -, . and /
 write|write PATH VALUE: VALUE has 1 to 31 letters, digits, _, - or ., and no blanks
 clock|clock MONOTONIC REAL: two decimal numbers of nanoseconds
 fault|fault N: a decimal number from 1 to 1000000
+accept|accept N: a decimal number below 2^64
 pin|pin range CHIP OFFSET PIN COUNT, pin hold CHIP PIN or pin drop CHIP PIN
 irq|irq lock CHIP OFFSET, and so unlock, enable, disable and none
 open|open NAME CHIP: NAME has 1 to 15 letters, digits, _, - or .
-ioctl|ioctl NAME COMMAND BYTES..: pairs of hexadecimal digits, HH*N for a byte N times, or - alone for none; behind GET_LINE's stands as NAME
+ioctl|ioctl NAME COMMAND BYTES..: pairs of hexadecimal digits, HH*N for a byte N times, or - alone for none; after GET_LINE's stands as NAME
+ioctl1|ioctl1 NAME COMMAND BYTES..: a command of the first uAPI, with bytes as those of ioctl; after LINEHANDLE's and LINEEVENT's stands as NAME
 events|events NAME N: N bytes, at most 49152
+events1|events1 NAME N: N bytes, at most 16384
 changes|changes NAME N: N bytes, at most 9216
 poll|poll NAME
 close|close NAME
@@ -48,6 +51,7 @@ about_statement() {
   case $word in
   gpiomon | gpionotify) echo "$word goes on until it is stopped: start NAME $word .., then step NAME N, and stop NAME" ;;
   GET_* | SET_* | WATCH | UNWATCH | 0x*) echo "a command stands behind ioctl and the name of a file: ioctl NAME $word .." ;;
+  accept) echo "a session that begins with session 1 has no accept: begin it with session 2" ;;
   echo | tee | printf) echo "a file of the tree is written by write PATH VALUE" ;;
   cat) echo "a file of the tree is read by read PATH" ;;
   sleep | wait) echo "time moves by clock MONOTONIC REAL, in nanoseconds, alone" ;;
@@ -61,7 +65,7 @@ about_words() {
   case $line in
   *[\"\']*) echo "quotes mean nothing here: a word ends at a blank, and has no blanks" ;;
   *\ \#*) echo "a comment stands on a line of its own, which begins with #" ;;
-  *GET_LINE*) echo "behind GET_LINE's bytes stands as NAME, which names the request that it makes" ;;
+  *GET_LINE*) echo "after GET_LINE's bytes stands as NAME, which names the request that it makes" ;;
   esac
   form_of "$first"
 }
@@ -70,7 +74,7 @@ about_words() {
 about() {
   case $kind in
   byte) about_byte ;;
-  header) echo "the first line that is no comment has to be: session 1" ;;
+  header) echo "the first line that is no comment has to be: session 1 (or session 2, which has the statement accept besides)" ;;
   section)
     case $word in
     setup | actor | after) echo "the sections are one setup, then at most 16 of actor NAME, then one after" ;;
@@ -82,7 +86,7 @@ about() {
   name) echo "each actor has a name of its own" ;;
   limit) echo "a word has at most 1300 bytes, a line 128 words, a session 16 actors, and a command 1024 bytes" ;;
   too-long) echo "a session has at most 1,048,576 bytes" ;;
-  cost) echo "it could make more than 100,000 calls: name the chip (gpiodetect 0 costs 3 and not 48, gpioinfo -c 0 131 and not 2096)" ;;
+  cost) echo "it could make more than 300,000 calls: name the chip (gpiodetect 0 costs 3 and not 192, gpioinfo -c 0 515 and not 32960)" ;;
   esac
 }
 
@@ -122,7 +126,7 @@ explain_refusal() {
 meaning() {
   case $kind in
   byte) echo "a byte that is no printable ASCII" ;;
-  header) echo "no 'session 1'" ;;
+  header) echo "neither 'session 1' nor 'session 2'" ;;
   section) echo "a section out of order, or a line before the first" ;;
   statement) echo "no statement begins with this word" ;;
   words) [ -n "$word" ] && echo "a word too many" || echo "a word is missing" ;;

@@ -9,19 +9,43 @@
 #include "report.h"
 #include "statement.h"
 
-/* Reports a refused line, and shows it, or the part of it round the fault, with a caret under the column. */
+/* What to do about a line with a fault at `at`. */
+static const char *remedy(const char *line, const char *at) {
+    if (*at == '\r')
+        return "the lines end with CR and LF: sed -i 's/\\r$//' FILE takes the CRs away";
+    if (*at == '\t')
+        return "it is a tab: write a blank in its place";
+    if (*at & 0x80)
+        return "it is no ASCII, as a dash, a quotation mark or a letter with an accent: write it in ASCII, in comments "
+               "too";
+    if (strpbrk(line, "\"'"))
+        return "quotes mean nothing here: a word ends at a blank, and has no blanks";
+    return "docs/FORMATS.md lists the statements; a board has those of a `setup`, as `probe LABEL N`, N from 1 to 512";
+}
+
+/* Shows a line, or the part of it round the fault, with a caret under the column. */
+static void show_line(const char *line, size_t column) {
+    size_t length = strlen(line), from = column > 60 ? column - 60 : 0;
+    if (from >= length)
+        return;
+    fputs("  ", stderr);
+    for (size_t i = from; i < length && i < from + 100; i++)
+        fputc(line[i] >= ' ' && line[i] <= '~' ? line[i] : '?', stderr);
+    fprintf(stderr, "\n  %*s^\n", (int)(column - from) - 1, "");
+}
+
+/* Reports a refused line. */
 static void report_refusal(const struct machine *machine, const char *path, unsigned number, const char *line) {
     unsigned long row, column;
     char kind[16];
-    if (sscanf(machine->text, "refused %lu %lu %15s", &row, &column, kind) != 3) {
+    if (sscanf(machine->text, "refused %lu %lu %15s", &row, &column, kind) != 3 || column == 0) {
         report("%s: line %u: %s", path, number, machine->text);
         return;
     }
-    size_t length = strlen(line), from = column > 60 ? column - 60 : 0;
+    size_t length = strlen(line);
     report("%s: line %u, column %lu: %s", path, number, column, faults_words(kind));
-    if (from < length)
-        fprintf(stderr, "  %.100s\n  %*s^\n", line + from, (int)(column - from) - 1, "");
-    report("docs/FORMATS.md lists the statements; a board has those of a `setup`, as `probe LABEL N`");
+    show_line(line, column);
+    report("%s", remedy(line, line + (column <= length ? column - 1 : length)));
 }
 
 /* Whether a line is passed over. */

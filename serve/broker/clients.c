@@ -1,6 +1,7 @@
 #include "clients.h"
 
 #include <errno.h>
+#include <fcntl.h>
 #include <stdio.h>
 #include <stdlib.h>
 #include <string.h>
@@ -15,6 +16,7 @@ bool clients_listen(struct clients *clients, const char *folder) {
     struct sockaddr_un address = {.sun_family = AF_UNIX};
     memset(clients, 0, sizeof *clients);
     clients->listener = (struct watch){WATCH_LISTENER, -1, NULL};
+    clients->spare = open("/dev/null", O_RDONLY | O_CLOEXEC);
     int length = snprintf(address.sun_path, sizeof address.sun_path, "%s/%s", folder, WIRE_SOCKET);
     if (length < 0 || (size_t)length >= sizeof address.sun_path) {
         report("the path %s/%s is too long for a socket", folder, WIRE_SOCKET);
@@ -32,8 +34,21 @@ bool clients_listen(struct clients *clients, const char *folder) {
     return false;
 }
 
+/* Takes a connection for which there is no number left by that of the spare file, and ends it: the listener would show
+ * it without end. */
+static void turn_away(struct clients *clients) {
+    if (clients->spare >= 0)
+        close(clients->spare);
+    int number = accept4(clients->listener.number, NULL, NULL, SOCK_CLOEXEC | SOCK_NONBLOCK);
+    if (number >= 0)
+        close(number);
+    clients->spare = open("/dev/null", O_RDONLY | O_CLOEXEC);
+}
+
 struct client *clients_accept(struct clients *clients) {
     int number = accept4(clients->listener.number, NULL, NULL, SOCK_CLOEXEC | SOCK_NONBLOCK);
+    if (number < 0 && (errno == EMFILE || errno == ENFILE))
+        turn_away(clients);
     if (number < 0)
         return NULL;
     struct client *client = clients->count < CLIENTS_MOST ? malloc(sizeof *client) : NULL;
@@ -81,7 +96,8 @@ static bool send_packet(int number, struct answer *answer, const void *data, siz
     return sendmsg(number, &message, MSG_NOSIGNAL | MSG_DONTWAIT) == (ssize_t)(sizeof *answer + length);
 }
 
-/* A file without a name that has these bytes, read from its start; -1 where there can be none. */
+/* A file without a name that has these bytes, read from its start, for the caller to close; -1 where there can be none.
+ */
 static int file_with(const char *data, size_t length) {
     int file = memfd_create("answer", MFD_CLOEXEC);
     while (file >= 0 && length > 0) {
@@ -102,16 +118,23 @@ static int file_with(const char *data, size_t length) {
     return file;
 }
 
-bool clients_reply(struct client *client, struct answer *answer, const void *data, int file) {
-    if (answer->length <= WIRE_DATA)
-        return send_packet(client->watch.number, answer, data, answer->length, file);
+/* Sends an answer whose bytes a packet has no room for. */
+static bool send_in_file(int number, struct answer *answer, const void *data) {
     int whole = file_with(data, answer->length);
     if (whole < 0)
         return false;
     answer->in_file = 1;
-    bool sent = send_packet(client->watch.number, answer, NULL, 0, whole);
+    bool sent = send_packet(number, answer, NULL, 0, whole);
     close(whole);
     return sent;
+}
+
+void clients_reply(struct client *client, struct answer *answer, const void *data, int file) {
+    int number = client->watch.number;
+    bool sent = answer->length <= WIRE_DATA ? send_packet(number, answer, data, answer->length, file)
+                                            : send_in_file(number, answer, data);
+    if (!sent)
+        shutdown(number, SHUT_RDWR);
 }
 
 void clients_drop(struct clients *clients, struct client *client) {
@@ -131,4 +154,7 @@ void clients_end(struct clients *clients) {
     if (clients->listener.number >= 0)
         close(clients->listener.number);
     clients->listener.number = -1;
+    if (clients->spare >= 0)
+        close(clients->spare);
+    clients->spare = -1;
 }

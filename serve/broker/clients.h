@@ -18,6 +18,7 @@ struct client {
 
 struct clients {
     struct watch listener;
+    int spare; /* a file for which there is no use but its number */
     struct client *first;
     size_t count;
 };
@@ -28,18 +29,20 @@ struct packet {
     unsigned char data[WIRE_DATA + 1];
 };
 
-/* Listens at the socket of a folder. False, and reported, where it can't. */
+/* Listens at the socket of a folder. False, and reported, where it can't; clients_end frees what was taken. */
 bool clients_listen(struct clients *clients, const char *folder);
 
-/* Takes a new connection. NULL where there is none, or too many, or memory is short. The client is the list's. */
+/* Takes a new connection. NULL where there is none, or it was ended, since there are too many or memory is short. The
+ * client is the list's. */
 struct client *clients_accept(struct clients *clients);
 
 /* Reads one question. 1; 0 where none is there; -1 where the connection is at its end or what came is no question. */
 int clients_read(struct client *client, struct packet *packet);
 
 /* Sends an answer with `answer->length` bytes, and a file where `file` isn't -1, which stays the caller's. Bytes for
- * which a packet has no room are handed over in a file. False where the client doesn't take it. */
-bool clients_reply(struct client *client, struct answer *answer, const void *data, int file);
+ * which a packet has no room are handed over in a file. A client that doesn't take its answer, or for which there is no
+ * memory, would wait for it without end: its connection is ended, which clients_read then says. */
+void clients_reply(struct client *client, struct answer *answer, const void *data, int file);
 
 /* Ends a connection, and frees the client. */
 void clients_drop(struct clients *clients, struct client *client);

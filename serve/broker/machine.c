@@ -82,7 +82,7 @@ static bool send_lines(struct machine *machine) {
     return true;
 }
 
-/* Reads more of the program's output. */
+/* Reads more of the program's output, for which it takes memory that machine_end frees. */
 static bool read_more(struct machine *machine) {
     if (machine->input_at == machine->input_length)
         machine->input_at = machine->input_length = 0;

@@ -49,7 +49,7 @@ static bool served_words(const char *named, char room[PATH_MAX], char *words[MOS
         if ((beside(room, SERVED) && access(room, X_OK) == 0) ||
             (beside(room, SERVED_BUILT) && access(room, X_OK) == 0))
             return true;
-        report("there is no served program: name one by --served");
+        report("gpioserved isn't built: run `rt run` in crates/gpioserved, or name a program by --served");
         return false;
     }
     if (snprintf(room, PATH_MAX, "%s", named) >= PATH_MAX) {
@@ -87,15 +87,31 @@ static bool find_library(const struct broker *broker, char path[PATH_MAX]) {
 static int run_command(struct broker *broker, const struct options *options, const sigset_t *signals) {
     char library[PATH_MAX];
     pid_t command;
-    if (!board_hand_in(broker, options->board) || !clients_listen(&broker->clients, broker->home.path) ||
-        !turn_tick(broker) || !find_library(broker, library))
+    int status = STATUS_OWN;
+    if (!board_hand_in(broker, options->board))
         return STATUS_OWN;
-    waves_begin(&broker->waves, broker->now);
-    int status = command_start(&command, options->command, library, broker->home.path);
-    if (status == 0)
-        status = loop_run(broker, signals, command);
+    if (clients_listen(&broker->clients, broker->home.path) && turn_tick(broker) && find_library(broker, library)) {
+        waves_begin(&broker->waves, broker->now);
+        status = command_start(&command, options->command, library, broker->home.path);
+        if (status == 0)
+            status = loop_run(broker, signals, command);
+    }
     clients_end(&broker->clients);
     return status;
+}
+
+/* What a status of gpioserved means. */
+static const char *meaning(int status) {
+    switch (status) {
+    case 4:
+        return ", it could not read,";
+    case 5:
+        return ", it could not write,";
+    case 6:
+        return ", out of memory,";
+    default:
+        return "";
+    }
 }
 
 /* Says how the served program ended, where that was its own doing. `begun`: the command ran. */
@@ -106,7 +122,7 @@ static void report_served(const struct machine *machine, int status, bool begun)
     else if (machine->ended && WIFSIGNALED(status))
         report("the served program was ended by signal %d %s", WTERMSIG(status), rest);
     else if (machine->ended)
-        report("the served program ended with status %d %s", WEXITSTATUS(status), rest);
+        report("the served program ended with status %d%s %s", WEXITSTATUS(status), meaning(WEXITSTATUS(status)), rest);
     else if (!WIFEXITED(status) || WEXITSTATUS(status) != 0)
         report("the served program did not end well: status %d", status);
 }

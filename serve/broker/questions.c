@@ -23,7 +23,7 @@ static void reply_error(struct client *client, int error) {
     clients_reply(client, &answer, NULL, -1);
 }
 
-/* Makes a file whose end is waited for. NULL, with errno, where that can't be. */
+/* Makes a file whose end is waited for; `*reader` is the caller's to close. NULL, with errno, where that can't be. */
 static struct file *make_file(struct broker *broker, enum file_kind kind, unsigned chip, int *reader) {
     struct file *file = files_make(&broker->files, kind, chip, reader);
     if (!file || watch_by(broker->ends, &file->watch, 0))
@@ -119,7 +119,8 @@ static enum turn_effect take_effect(
     }
 }
 
-/* Answers a command that the machine has answered. */
+/* Answers a command that the machine has answered. A file that it should have made is freed where it wasn't done;
+ * `reader`, of which the client gets a copy, stays the caller's. */
 static bool finish_ioctl(struct broker *broker, struct client *client, struct file *file, struct file *made, int reader,
     const struct uapi_command *command) {
     unsigned char bytes[MOST_BYTES];

@@ -124,7 +124,7 @@ bool turn_tick(struct broker *broker) {
     return machine_take(&broker->machine) && turn_settle(broker, TURN_NOTHING);
 }
 
-/* Closes a file that no client has any more. */
+/* Closes a file that no client has any more, and frees it. */
 static bool close_file(struct broker *broker, struct file *file) {
     char line[32];
     if (files_is_gone(file)) {

@@ -9,6 +9,7 @@
 #include <sys/stat.h>
 #include <sys/syscall.h>
 #include <sys/sysmacros.h>
+#include <sys/xattr.h>
 #include <unistd.h>
 
 #include "../wire.h"
@@ -39,13 +40,8 @@ static int stat_file(int file, struct stat *status) {
 static __attribute__((noinline)) int stat_concerned(
     int from, const char *path, struct stat *status, int flags, int *chip) {
     char room[PATH_MAX];
-    const char *moved = names_moved(path, room);
     *chip = names_chip(from, path);
-    if (*chip >= 0) {
-        names_node(*chip, room);
-        moved = room;
-    }
-    return (int)syscall(SYS_newfstatat, from, moved, status, flags);
+    return (int)syscall(SYS_newfstatat, from, names_moved(from, path, room), status, flags);
 }
 
 /* The status of what a link to a chip leads to; -1 with ENOENT where it leads elsewhere. */
@@ -151,7 +147,7 @@ TAKES_OVER int statx(int from, const char *path, int flags, unsigned mask, struc
     int chip = names_chip(from, path);
     if (chip < 0 && (flags & AT_EMPTY_PATH) && *path == 0)
         chip = known_file(from).chip;
-    int result = (int)syscall(SYS_statx, from, names_moved(path, room), flags, mask, status);
+    int result = (int)syscall(SYS_statx, from, names_moved(from, path, room), flags, mask, status);
     if (result == 0 && chip >= 0) {
         status->stx_mode = S_IFCHR | 0660;
         status->stx_rdev_major = WIRE_MAJOR;
@@ -163,28 +159,49 @@ TAKES_OVER int statx(int from, const char *path, int flags, unsigned mask, struc
 
 TAKES_OVER int access(const char *path, int mode) {
     char room[PATH_MAX];
-    return REAL(access)(names_moved(path, room), mode);
+    return REAL(access)(names_moved(AT_FDCWD, path, room), mode);
 }
 
 TAKES_OVER int faccessat(int from, const char *path, int mode, int flags) {
     char room[PATH_MAX];
-    return REAL(faccessat)(from, names_moved(path, room), mode, flags);
+    return REAL(faccessat)(from, names_moved(from, path, room), mode, flags);
 }
 
 TAKES_OVER int euidaccess(const char *path, int mode) {
     char room[PATH_MAX];
-    return REAL(euidaccess)(names_moved(path, room), mode);
+    return REAL(euidaccess)(names_moved(AT_FDCWD, path, room), mode);
 }
 
 TAKES_OVER int eaccess(const char *path, int mode) {
     char room[PATH_MAX];
-    return REAL(eaccess)(names_moved(path, room), mode);
+    return REAL(eaccess)(names_moved(AT_FDCWD, path, room), mode);
+}
+
+/* `ls -l` asks of each name whether it has an access list. */
+TAKES_OVER ssize_t getxattr(const char *path, const char *name, void *value, size_t size) {
+    char room[PATH_MAX];
+    return REAL(getxattr)(names_moved(AT_FDCWD, path, room), name, value, size);
+}
+
+TAKES_OVER ssize_t lgetxattr(const char *path, const char *name, void *value, size_t size) {
+    char room[PATH_MAX];
+    return REAL(lgetxattr)(names_moved(AT_FDCWD, path, room), name, value, size);
+}
+
+TAKES_OVER ssize_t listxattr(const char *path, char *list, size_t size) {
+    char room[PATH_MAX];
+    return REAL(listxattr)(names_moved(AT_FDCWD, path, room), list, size);
+}
+
+TAKES_OVER ssize_t llistxattr(const char *path, char *list, size_t size) {
+    char room[PATH_MAX];
+    return REAL(llistxattr)(names_moved(AT_FDCWD, path, room), list, size);
 }
 
 /* A link's text as the program knows it: without the broker's folder. */
 static ssize_t read_link(int from, const char *path, char *text, size_t room) {
     char moved_room[PATH_MAX], whole[PATH_MAX];
-    const char *moved = names_moved(path, moved_room);
+    const char *moved = names_moved(from, path, moved_room);
     if (moved == path)
         return syscall(SYS_readlinkat, from, path, text, room);
     ssize_t length = syscall(SYS_readlinkat, from, moved, whole, sizeof whole - 1);
@@ -216,7 +233,7 @@ TAKES_OVER ssize_t __readlink_chk(const char *path, char *text, size_t room, siz
 
 TAKES_OVER char *realpath(const char *path, char *text) {
     char room[PATH_MAX];
-    const char *moved = names_moved(path, room);
+    const char *moved = names_moved(AT_FDCWD, path, room);
     int kept = errno, chip = path && moved == path ? names_linked_chip(AT_FDCWD, path) : -1;
     if (chip >= 0) {
         names_node(chip, room);
@@ -262,6 +279,32 @@ TAKES_OVER int scandir64(const char *path, struct dirent64 ***list, int (*filter
     int (*order)(const struct dirent64 **, const struct dirent64 **)) {
     char room[PATH_MAX];
     return REAL(scandir64)(names_moved_folder(path, room), list, filter, order);
+}
+
+/* Whether a folder is the one that is listed for /dev. */
+static __attribute__((noinline)) bool is_dev(DIR *folder) {
+    char room[PATH_MAX];
+    struct stat shown, listed;
+    int kept = errno;
+    bool is = names_moved_folder("/dev", room) == room && syscall(SYS_newfstatat, AT_FDCWD, room, &shown, 0) == 0 &&
+              syscall(SYS_newfstatat, dirfd(folder), "", &listed, AT_EMPTY_PATH) == 0 &&
+              shown.st_ino == listed.st_ino && shown.st_dev == listed.st_dev;
+    errno = kept;
+    return is;
+}
+
+/* Chips that are listed are devices. */
+TAKES_OVER struct dirent *readdir(DIR *folder) {
+    struct dirent *entry = REAL(readdir)(folder);
+    if (entry && strncmp(entry->d_name, "gpiochip", strlen("gpiochip")) == 0 && is_dev(folder))
+        entry->d_type = DT_CHR;
+    return entry;
+}
+
+_Static_assert(sizeof(struct dirent) == sizeof(struct dirent64), "the entry of a folder has one form");
+
+TAKES_OVER struct dirent64 *readdir64(DIR *folder) {
+    return (struct dirent64 *)readdir(folder);
 }
 
 static void *glob_open(const char *path) {

@@ -142,8 +142,13 @@ static bool is_moved(const char *flat) {
     return begins(flat, by_number) || (name && begins(name, "gpiochip"));
 }
 
-const char *names_moved(const char *path, char room[PATH_MAX]) {
+const char *names_moved(int from, const char *path, char room[PATH_MAX]) {
     char flat[PATH_MAX];
+    int chip = names_concern(path) ? names_chip(from, path) : -1;
+    if (chip >= 0) {
+        names_node(chip, room);
+        return room;
+    }
     if (!names_concern(path) || *path != '/')
         return path;
     return flatten(path, flat) && is_moved(flat) && in_home(flat, room) ? room : path;
@@ -151,11 +156,14 @@ const char *names_moved(const char *path, char room[PATH_MAX]) {
 
 const char *names_moved_folder(const char *path, char room[PATH_MAX]) {
     char flat[PATH_MAX];
-    if (!path || !ask_home() || *path != '/' || !flatten(path, flat))
+    if (!path || !ask_home())
+        return path;
+    bool is_here = strcmp(path, ".") == 0;
+    if (is_here ? !folder_path(AT_FDCWD, flat) : *path != '/' || !flatten(path, flat))
         return path;
     if ((strcmp(flat, "/dev") == 0 || strcmp(flat, "/dev/") == 0) && in_home("/dev", room))
         return room;
-    return names_moved(path, room);
+    return is_here ? path : names_moved(AT_FDCWD, path, room);
 }
 
 void names_move_back(char *path) {

@@ -16,10 +16,11 @@ int names_chip(int from, const char *path);
 /* The number of the chip that a link leads to; -1 where it leads elsewhere. */
 int names_linked_chip(int from, const char *path);
 
-/* The path in the broker's folder that stands for this one, written to `room`; the path itself where none does. */
-const char *names_moved(const char *path, char room[PATH_MAX]);
+/* The path in the broker's folder that stands for this one, seen from the folder `from`, written to `room`; the path
+ * itself where none does. */
+const char *names_moved(int from, const char *path, char room[PATH_MAX]);
 
-/* The same of a folder that is to be listed, where /dev is one of them. */
+/* The same of a folder that is to be listed, where /dev is one of them, also as the working directory. */
 const char *names_moved_folder(const char *path, char room[PATH_MAX]);
 
 /* Takes the broker's folder off the front of a path, in place, so that it is the one that the program knows. */

@@ -37,7 +37,7 @@ static __attribute__((noinline)) int open_concerned(int from, const char *path, 
     int chip = names_chip(from, path);
     if (chip >= 0 && !(flags & (O_PATH | O_DIRECTORY)))
         return open_chip(chip, flags);
-    const char *moved = flags & O_DIRECTORY ? names_moved_folder(path, room) : names_moved(path, room);
+    const char *moved = flags & O_DIRECTORY ? names_moved_folder(path, room) : names_moved(from, path, room);
     return REAL(openat)(from, moved, flags, mode);
 }
 
@@ -109,10 +109,10 @@ TAKES_OVER int __openat64_2(int from, const char *path, int flags) {
 
 TAKES_OVER FILE *fopen(const char *path, const char *mode) {
     char room[PATH_MAX];
-    return REAL(fopen)(names_moved(path, room), mode);
+    return REAL(fopen)(names_moved(AT_FDCWD, path, room), mode);
 }
 
 TAKES_OVER FILE *fopen64(const char *path, const char *mode) {
     char room[PATH_MAX];
-    return REAL(fopen64)(names_moved(path, room), mode);
+    return REAL(fopen64)(names_moved(AT_FDCWD, path, room), mode);
 }

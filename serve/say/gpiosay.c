@@ -39,10 +39,11 @@ static void explain(const char *statement, const char *text) {
         fprintf(stderr, "  %s\n  %*s^\n", statement, (int)column - 1, "");
 }
 
-/* Whether a tool's text ends with the line of a refusal, as `gpioget: EBUSY`. */
+/* Whether a tool's text is one line that says why it was refused, as `gpioget: EBUSY`. */
 static bool tool_failed(const char *text) {
     const char *tool = strncmp(text, "gpio", 4) == 0 ? strchr(text, ':') : NULL;
-    return tool && (strcmp(tool, ": usage\n") == 0 || (strncmp(tool, ": E", 3) == 0 && strchr(tool, '\n')[1] == 0));
+    const char *end = tool ? strchr(tool, '\n') : NULL;
+    return end && end[1] == 0 && (strcmp(tool, ": usage\n") == 0 || strncmp(tool, ": E", 3) == 0);
 }
 
 static int say_one(struct say *say, const char *statement) {

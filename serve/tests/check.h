@@ -63,10 +63,15 @@ void test_events(void);
 void test_processes(const char *own);
 void test_threads(void);
 void test_removal(void);
+void test_hostile(void);
 /* Of which no short transcript can be kept. */
 void test_killed_midway(void);
 /* With the clock moved by statements. */
 void test_manual(void);
+/* With few numbers of files. */
+void test_crowd(void);
+/* A program that waits for an event. */
+int test_waiting(void);
 /* The other end of a test of exec. */
 int test_inherited(const char *number);
 

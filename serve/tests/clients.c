@@ -4,24 +4,31 @@
 
 #include "check.h"
 
+/* Tests that want a broker of their own, each by the argument that asks for it. */
+static const struct {
+    const char *argument;
+    void (*run)(void);
+} alone[] = {{"--manual", test_manual}, {"--killed", test_killed_midway}, {"--crowd", test_crowd}};
+
 int main(int count, char **arguments) {
-    if (count == 3 && strcmp(arguments[1], "--inherited") == 0)
+    const char *argument = count > 1 ? arguments[1] : "";
+    if (count == 3 && strcmp(argument, "--inherited") == 0)
         return test_inherited(arguments[2]);
-    if (count == 2 && strcmp(arguments[1], "--manual") == 0) {
-        test_manual();
-        return !test_end();
-    }
-    if (count == 2 && strcmp(arguments[1], "--killed") == 0) {
-        test_killed_midway();
-        return !test_end();
+    if (strcmp(argument, "--waits") == 0)
+        return test_waiting();
+    for (size_t i = 0; i < sizeof alone / sizeof *alone; i++) {
+        if (strcmp(argument, alone[i].argument) == 0) {
+            alone[i].run();
+            return !test_end();
+        }
     }
     test_files();
     test_values();
-    if (count < 2 || strcmp(arguments[1], "--version2") != 0)
-        test_version1();
+    test_version1();
     test_events();
     test_processes(arguments[0]);
     test_threads();
+    test_hostile();
     test_removal();
     return !test_end();
 }

@@ -1,7 +1,5 @@
 /* Sends packets of all kinds to the broker's socket: fuzz [PACKETS [SEED]]. What comes back has to be an answer of its
  * form, and at the end the broker has to serve as before. */
-#include <errno.h>
-#include <fcntl.h>
 #include <stdbool.h>
 #include <stdint.h>
 #include <stdio.h>
@@ -9,10 +7,9 @@
 #include <string.h>
 #include <sys/socket.h>
 #include <sys/stat.h>
-#include <sys/un.h>
 #include <unistd.h>
 
-#include "../wire.h"
+#include "raw.h"
 
 #define FILES 64
 
@@ -21,7 +18,7 @@ static const uint32_t commands[] = {0x8044b401, 0xc100b405, 0xc100b406, 0xc004b4
 static const uint32_t lengths[] = {68, 256, 256, 4, 592, 272, 16, 16, 72, 364, 48, 64, 64, 84};
 
 static const char *const statements[] = {"write gpiochip0/sim_gpio1/pull pull-up",
-    "write gpiochip0/sim_gpio1/pull pull-down", "read gpiochip0/sim_gpio1/value", "gpioinfo", "gpioget -c 0 5",
+    "write gpiochip0/sim_gpio1/pull pull-down", "read gpiochip0/sim_gpio1/value", "gpioinfo -c 0", "gpioget -c 0 5",
     "fault 2", "poll chip.1", "close chip.1", "probe x 1", "open mine 0", "close mine", "start m gpiomon -c 0 6",
     "step m 1", "stop m", "irq lock 0 7", "irq unlock 0 7", "clock 1 1", "data chip.1 100", "due", "#", "",
     "write board/live 0", "write board/live 1", "unplug gpiochip0", "setup", "session 1"};
@@ -38,18 +35,6 @@ static uint32_t random_below(uint32_t bound) {
 static void random_bytes(unsigned char *bytes, size_t length) {
     for (size_t i = 0; i < length; i++)
         bytes[i] = (unsigned char)random_below(256);
-}
-
-static int connect_anew(void) {
-    struct sockaddr_un address = {.sun_family = AF_UNIX};
-    const char *folder = getenv(WIRE_VARIABLE);
-    snprintf(address.sun_path, sizeof address.sun_path, "%.90s/" WIRE_SOCKET, folder ? folder : "");
-    int connection = socket(AF_UNIX, SOCK_SEQPACKET | SOCK_CLOEXEC, 0);
-    if (connection >= 0 && connect(connection, (struct sockaddr *)&address, sizeof address) == 0)
-        return connection;
-    if (connection >= 0)
-        close(connection);
-    return -1;
 }
 
 /* Files that came with answers, so that questions can be of them. */
@@ -76,27 +61,16 @@ static void keep_file(int file) {
 
 /* Takes an answer. 0; or -1 where the connection is at its end, and 1 where what came is no answer. */
 static int take_answer(int connection) {
-    static unsigned char data[WIRE_DATA];
-    struct answer answer;
-    union {
-        char bytes[CMSG_SPACE(sizeof(int))];
-        struct cmsghdr aligned;
-    } control;
-    struct iovec parts[] = {{&answer, sizeof answer}, {data, sizeof data}};
-    struct msghdr message = {
-        .msg_iov = parts, .msg_iovlen = 2, .msg_control = control.bytes, .msg_controllen = sizeof control.bytes};
-    ssize_t got = recvmsg(connection, &message, MSG_CMSG_CLOEXEC);
-    int file = -1;
-    if (got <= 0)
+    static struct raw raw;
+    raw_receive(connection, &raw);
+    if (raw.length <= 0)
         return -1;
-    if (CMSG_FIRSTHDR(&message))
-        memcpy(&file, CMSG_DATA(CMSG_FIRSTHDR(&message)), sizeof file);
-    if (file >= 0 && answer.in_file)
-        close(file);
-    else if (file >= 0)
-        keep_file(file);
-    bool whole = answer.in_file || (size_t)got == sizeof answer + answer.length;
-    return got >= (ssize_t)sizeof answer && whole && answer.error >= 0 && answer.error < 200 ? 0 : 1;
+    if (raw.file >= 0 && raw.head.in_file)
+        close(raw.file);
+    else if (raw.file >= 0)
+        keep_file(raw.file);
+    bool whole = raw.head.in_file || (size_t)raw.length == sizeof raw.head + raw.head.length;
+    return raw.length >= (long)sizeof raw.head && whole && raw.head.error >= 0 && raw.head.error < 200 ? 0 : 1;
 }
 
 /* Makes a command on a file: often one that is right, of which some bytes are changed. */
@@ -175,7 +149,7 @@ static bool send_one(int connection, unsigned char *packet, bool *sent) {
 static bool turn(int *connection, unsigned char *packet) {
     bool sent;
     if (*connection < 0)
-        *connection = connect_anew();
+        *connection = raw_connect();
     if (*connection < 0)
         return false;
     bool right = send_one(*connection, packet, &sent);
@@ -189,13 +163,9 @@ static bool turn(int *connection, unsigned char *packet) {
 
 static bool still_serves(void) {
     static const char statement[] = "gpiodetect";
-    struct question question = {.op = WIRE_SAY, .length = sizeof statement - 1};
-    unsigned char packet[64];
-    int connection = connect_anew();
-    memcpy(packet, &question, sizeof question);
-    memcpy(packet + sizeof question, statement, sizeof statement - 1);
-    bool serves = connection >= 0 &&
-                  send(connection, packet, sizeof question + sizeof statement - 1, MSG_NOSIGNAL) > 0 &&
+    const struct question question = {.op = WIRE_SAY, .length = sizeof statement - 1};
+    int connection = raw_connect();
+    bool serves = connection >= 0 && raw_send(connection, &question, statement, sizeof statement - 1) &&
                   take_answer(connection) == 0;
     if (connection >= 0)
         close(connection);

@@ -10,6 +10,7 @@
 #include <sys/ioctl.h>
 #include <sys/stat.h>
 #include <sys/sysmacros.h>
+#include <sys/xattr.h>
 #include <unistd.h>
 
 #include "check.h"
@@ -30,15 +31,17 @@ static void test_status(void) {
     CHECK_ERROR(stat("/dev/gpiochip7", &status), ENOENT);
     CHECK_ERROR(open("/dev/gpiochip7", O_RDWR), ENOENT);
     CHECK_ERROR(open("/dev/gpiochip07", O_RDWR), ENOENT);
+    CHECK(lgetxattr("/dev/gpiochip0", "system.posix_acl_access", NULL, 0) >= 0 || errno != ENOENT);
     CHECK(stat("/dev/null", &status) == 0 && status.st_rdev == makedev(1, 3));
     close(chip);
 }
 
+/* Whether a folder has an entry of that name and, where it is a chip's, of the kind of a device. */
 static bool folder_has(DIR *folder, const char *name) {
     struct dirent *entry;
     bool has = false;
     while (folder && (entry = readdir(folder)))
-        has = has || strcmp(entry->d_name, name) == 0;
+        has = has || (strcmp(entry->d_name, name) == 0 && (*name != 'g' || entry->d_type == DT_CHR));
     return has;
 }
 
@@ -56,6 +59,19 @@ static void test_folders(void) {
     glob_t found;
     CHECK(glob("/dev/gpiochip*", 0, NULL, &found) == 0 && found.gl_pathc == 2);
     globfree(&found);
+}
+
+static void test_working_folder(void) {
+    struct stat status;
+    glob_t found;
+    int before = open(".", O_RDONLY | O_DIRECTORY);
+    test("chips are found from /dev as the working directory");
+    CHECK(before >= 0 && chdir("/dev") == 0);
+    CHECK(glob("gpiochip*", 0, NULL, &found) == 0 && found.gl_pathc == 2);
+    globfree(&found);
+    CHECK(access("gpiochip0", R_OK | W_OK) == 0 && stat("gpiochip0", &status) == 0 && is_chip(&status));
+    CHECK(fchdir(before) == 0);
+    close(before);
 }
 
 static void test_sysfs(void) {
@@ -132,6 +148,7 @@ static void test_refusals(void) {
 void test_files(void) {
     test_status();
     test_folders();
+    test_working_folder();
     test_sysfs();
     test_links();
     test_flags();

@@ -6,6 +6,7 @@
 #include <string.h>
 #include <sys/epoll.h>
 #include <sys/ioctl.h>
+#include <sys/select.h>
 #include <sys/stat.h>
 #include <unistd.h>
 
@@ -58,6 +59,68 @@ static void test_unplug(void) {
     close(chip);
 }
 
+static int wait_by_poll(int file) {
+    return polled(file, 10000) != (POLLHUP | POLLERR);
+}
+
+static int wait_by_select(int file) {
+    struct timeval ten = {10, 0};
+    fd_set files;
+    FD_ZERO(&files);
+    FD_SET(file, &files);
+    return select(file + 1, &files, NULL, NULL, &ten) != 1;
+}
+
+static int wait_by_epoll(int file, uint32_t events) {
+    struct epoll_event shown = {.events = events};
+    int waiter = epoll_create1(0);
+    return epoll_ctl(waiter, EPOLL_CTL_ADD, file, &shown) || epoll_wait(waiter, &shown, 1, 10000) != 1 ||
+           !(shown.events & EPOLLHUP);
+}
+
+static int wait_by_level(int file) {
+    return wait_by_epoll(file, EPOLLIN);
+}
+
+static int wait_by_edge(int file) {
+    return wait_by_epoll(file, EPOLLIN | EPOLLET);
+}
+
+static int wait_by_read(int file) {
+    struct gpio_v2_line_event event;
+    return read(file, &event, sizeof event) >= 0 || errno != ENODEV;
+}
+
+/* Whoever waits by whatever call has a copy of the request. */
+static void test_held(void) {
+    int (*const waits[])(int) = {wait_by_poll, wait_by_select, wait_by_level, wait_by_edge, wait_by_read};
+    struct gpio_v2_line_config config = {.flags = GPIO_V2_LINE_FLAG_INPUT};
+    const uint32_t line = 0;
+    pid_t children[sizeof waits / sizeof *waits];
+    bool woken = true;
+    test("a request that is held over a removal ends every wait, and stays that of the old chip");
+    CHECK(say("probe held 1"));
+    int chip = open_chip(4);
+    int edges = request_lines(chip, &line, 1, GPIO_V2_LINE_FLAG_INPUT | GPIO_V2_LINE_FLAG_EDGE_RISING, "held");
+    for (size_t i = 0; i < sizeof waits / sizeof *waits; i++)
+        children[i] = run_child(waits[i], edges);
+    pause_for(50);
+    CHECK(edges >= 0 && say("unplug gpiochip4") && say("probe held 1"));
+    for (size_t i = 0; i < sizeof waits / sizeof *waits; i++)
+        woken = end_of(children[i]) == 0 && woken;
+    CHECK(woken);
+    check_gone(edges);
+    CHECK_ERROR(set_values(edges, 1, 1), ENODEV);
+    CHECK_ERROR(ioctl(edges, GPIO_V2_LINE_SET_CONFIG_IOCTL, &config), ENODEV);
+    int again = open_chip(5), held = request_lines(again, &line, 1, GPIO_V2_LINE_FLAG_INPUT, "again");
+    CHECK(held >= 0 && values(held, 1) == 0);
+    close(edges);
+    CHECK(values(held, 1) == 0 && say("unplug gpiochip5"));
+    close(held);
+    close(again);
+    close(chip);
+}
+
 static void test_waiting_event(void) {
     const uint32_t line = 0;
     struct gpio_v2_line_event event;
@@ -76,7 +139,7 @@ static void test_device(void) {
     int chip = open_chip(1);
     test("a device that is taken down takes its chip with it");
     CHECK(chip >= 0 && say("write board/live 0") && polled(chip, 0) == (POLLHUP | POLLERR));
-    CHECK(say("write board/live 1") && close(open_chip(4)) == 0);
+    CHECK(say("write board/live 1") && close(open_chip(6)) == 0);
     close(chip);
 }
 
@@ -84,5 +147,6 @@ void test_removal(void) {
     test_arrival();
     test_unplug();
     test_waiting_event();
+    test_held();
     test_device();
 }
