@@ -10,7 +10,8 @@ from pathlib import Path
 from typing import Dict, Iterable, List, Tuple
 
 TEXT_MAX = 1_048_576
-CHIPS = 16
+CHIPS = 64
+LINES = 512
 FILES = 256
 GROUPS = 16
 ROUNDS = 400
@@ -67,16 +68,16 @@ def request(chip: str, offsets: List[int], name: str, flags: int = INPUT, deboun
     return f"ioctl {chip} GET_LINE {pieces(data)} as {name}"
 
 
-def probes(lines: int) -> List[str]:
-    return [f"probe c{chip} {lines}" for chip in range(CHIPS)]
+def probes(lines: int, chips: int = CHIPS) -> List[str]:
+    return [f"probe c{chip} {lines}" for chip in range(chips)]
 
 
-def opened_chips() -> List[str]:
-    return [f"open A{chip} {chip}" for chip in range(CHIPS)]
+def opened_chips(chips: int) -> List[str]:
+    return [f"open A{chip} {chip}" for chip in range(chips)]
 
 
 def opened_files() -> List[str]:
-    return ["probe c 128", *(f"open f{file} 0" for file in range(FILES))]
+    return [f"probe c {LINES}", *(f"open f{file} 0" for file in range(FILES))]
 
 
 def group(number: int) -> List[str]:
@@ -100,12 +101,12 @@ def by_actors(actors: int) -> Load:
 
 
 def tree() -> Tuple[List[str], List[str]]:
-    """A full tree, of 16 devices that have a bank of 62 named lines each; and the paths of the lines' names."""
+    """A full tree, of 64 devices that have a bank of 14 named lines each; and the paths of the lines' names."""
     made, names = [], []
     for device in range(CHIPS):
         bank = f"d{device}/b0"
-        made += [f"mkdir d{device}", f"mkdir {bank}", f"write {bank}/num_lines 128", f"write {bank}/label l{device}"]
-        for line in range(62):
+        made += [f"mkdir d{device}", f"mkdir {bank}", f"write {bank}/num_lines {LINES}", f"write {bank}/label l{device}"]
+        for line in range(14):
             made += [f"mkdir {bank}/line{line}", f"write {bank}/line{line}/name N{device}.{line}"]
             names.append(f"{bank}/line{line}/name")
     return made, names
@@ -114,21 +115,22 @@ def tree() -> Tuple[List[str], List[str]]:
 def requests() -> Tuple[List[str], List[str]]:
     """A file of each chip, and 240 requests of a line; each request alone."""
     asked = [request(f"A{line // 16}", [line % 16], f"R{line}") for line in range(240)]
-    return [*probes(16), *opened_chips(), *asked], asked
+    return [*probes(16, 15), *opened_chips(15), *asked], asked
 
 
 def debounced() -> List[str]:
-    """All lines of all chips debounced, in requests of 64, and pulled: 2,048 deadlines are waited for."""
-    asked = [request(f"A{chip}", list(range(half, half + 64)), f"R{chip}.{half}", INPUT | BOTH_EDGES, 1000) for chip in range(CHIPS) for half in (0, 64)]
-    pulled = [f"write gpiochip{chip}/sim_gpio{line}/pull pull-up" for chip in range(CHIPS) for line in range(128)]
-    return [*probes(128), *opened_chips(), *asked, *pulled]
+    """All lines of eight chips debounced, in requests of 64, and pulled: 4,096 deadlines are waited for."""
+    chips, firsts = range(8), range(0, LINES, 64)
+    asked = [request(f"A{chip}", list(range(first, first + 64)), f"R{chip}.{first}", INPUT | BOTH_EDGES, 1000) for chip in chips for first in firsts]
+    pulled = [f"write gpiochip{chip}/sim_gpio{line}/pull pull-up" for chip in chips for line in range(LINES)]
+    return [*probes(LINES, len(chips)), *opened_chips(len(chips)), *asked, *pulled]
 
 
 def watched() -> List[str]:
     """250 files that watch four lines each."""
     files = [f"open W{file} 0" for file in range(250)]
     watches = [f"ioctl W{file} WATCH 00*64 {line:02x} 00*191" for file in range(250) for line in range(4)]
-    return ["probe c 128", *files, *watches, "open A 0"]
+    return [f"probe c {LINES}", *files, *watches, "open A 0"]
 
 
 def filled(name: str, line: str) -> Load:
@@ -141,21 +143,28 @@ def loads() -> List[Load]:
     """The loads of one actor."""
     made, names = tree()
     live = [f"write d{device}/live 1" for device in range(CHIPS)]
+    off = [f"write d{device}/live 0" for device in range(CHIPS)]
+    removed = [f"unplug {chip}" for chip in range(CHIPS)]
     asked, alone = requests()
     closed = [statement for k in range(12_000) for statement in (f"close R{k % 240}", alone[k % 240])]
     reopened = [statement for k in range(30_000) for statement in (f"close f{k % FILES}", f"open f{k % FILES} 0")]
-    ticks = [f"clock {time} 0" for time in range(60_000)]
+    ticks = [f"clock {time} 0" for time in range(50_000)]
     return [
         by_actors(1),
-        in_setup("gpiodetect", ["gpiodetect"] * 2083),
-        in_setup("gpioinfo", probes(128), ["gpioinfo"] * 47),
-        in_setup("gpioget by name", made, live, ["gpioget N15.61"] * 11_000),
+        in_setup("gpiodetect", ["gpiodetect"] * 1562),
+        in_setup("gpioinfo", probes(LINES), ["gpioinfo"] * 9),
+        in_setup("gpioget by name", made, live, ["gpioget N63.13"] * 30_000),
         in_setup("256 files, poll", opened_files(), (f"poll f{k % FILES}" for k in range(60_000))),
         in_setup("256 files, reopen", opened_files(), reopened),
         in_setup("240 requests, again", asked, closed),
         in_setup("240 requests, values", asked, (f"ioctl R{k % 240} GET_VALUES 00*8 01 00*7" for k in range(25_000))),
         in_setup("ticks", ticks),
-        in_setup("ticks, 2048 deadlines", debounced(), ticks),
+        in_setup("ticks, 4096 deadlines", debounced(), ticks),
+        in_setup("full tree", made),
+        in_setup("full tree, live", made, live),
+        in_setup("full tree, live and off", made, live, off),
+        in_setup("64 chips", probes(LINES)),
+        in_setup("64 chips, unplugged", probes(LINES), removed),
         in_setup("250 watching files", watched(), [request("A", [3], "R"), "close R"] * 3000),
         in_setup("full tree, names read", made, (f"read {name}" for _ in range(20) for name in names)),
         filled("1 MB of comments", "# a line that is passed over"),

@@ -6,11 +6,12 @@ use crate::wire::*;
 use std::fmt::{self, Display, Formatter};
 use std::sync::{Condvar, Mutex, MutexGuard};
 
-/// An actor's way to the driver, which fails at the call that was planned.
+/// An actor's way to the driver, which fails at the call that was planned, and answers that it debounces the accepted lines.
 #[derive(Default)]
 pub struct Port {
     calls: u64,
     planned: u64,
+    bits: u64,
 }
 
 impl Port {
@@ -18,9 +19,13 @@ impl Port {
         self.planned = self.calls + nth;
     }
 
-    fn call(&mut self) -> Option<u64> {
+    pub fn accept(&mut self, bits: u64) {
+        self.bits = bits;
+    }
+
+    fn call(&mut self, configures: bool) -> Option<u64> {
         self.calls += 1;
-        (self.calls != self.planned).then_some(0)
+        (self.calls != self.planned).then_some(if configures { self.bits } else { 0 })
     }
 }
 
@@ -41,8 +46,8 @@ pub struct Handle {
 struct State {
     machine: Machine,
     history: Vec<Entry>,
-    inside: [u32; 16],
-    closed: [bool; 16],
+    inside: [u32; PLACES],
+    closed: [bool; PLACES],
 }
 
 impl State {
@@ -66,7 +71,7 @@ type Answer = Result<(Reply, Vec<u8>), Errno>;
 
 impl Device {
     pub fn new() -> Device {
-        let state = State { machine: Machine::new(), history: vec![], inside: [0; 16], closed: [false; 16] };
+        let state = State { machine: Machine::new(), history: vec![], inside: [0; PLACES], closed: [false; PLACES] };
         Device { state: Mutex::new(state), left: Condvar::new() }
     }
 
@@ -115,7 +120,7 @@ impl Device {
         state.act(actor, call(Part::Ask))?;
         state.inside[guard] += 1;
         drop(state);
-        let answer = port.call();
+        let answer = port.call([GET_LINE, SET_CONFIG].contains(&cmd));
         let mut state = self.lock();
         let told = state.act(actor, call(Part::Tell(answer)));
         state.inside[guard] -= 1;
@@ -265,7 +270,7 @@ impl Actor<'_> {
     pub fn open(&self, word: &str) -> Result<Handle, Errno> {
         match self.call(Call::OpenChip(word.into()))?.0 {
             Reply::Number(fd) => {
-                let place = chip_number(word, 15).unwrap() as u8;
+                let place = chip_number(word, PLACES as u64 - 1).unwrap() as u8;
                 Ok(Handle { chip: true, place, fd: fd as u32 })
             }
             _ => unreachable!(),

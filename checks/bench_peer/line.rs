@@ -17,6 +17,7 @@ pub struct Line {
     pub consumer: Vec<u8>,
     pub flags: u64,
     pub period: u32,
+    pub hard: bool,
     pub output: bool,
     pub drive: bool,
     pub pull: bool,
@@ -53,6 +54,7 @@ impl Line {
             consumer: vec![],
             flags: 0,
             period: 0,
+            hard: false,
             output: false,
             drive: false,
             pull: false,
@@ -81,7 +83,12 @@ impl Line {
     }
 
     pub fn value(&self) -> bool {
-        self.inverted(if self.period != 0 { self.settled } else { self.level() })
+        self.inverted(if self.is_debounced() { self.settled } else { self.level() })
+    }
+
+    /// The library debounces it, and not the driver.
+    pub fn is_debounced(&self) -> bool {
+        self.period != 0 && !self.hard
     }
 
     pub fn info(&self, offset: u32) -> Vec<u8> {

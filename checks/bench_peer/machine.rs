@@ -213,7 +213,7 @@ impl Machine {
     }
 
     fn probe(&mut self, label: &str, lines: u32) -> Answer {
-        if self.chips.len() == 16 {
+        if self.chips.len() == PLACES {
             return Err(Errno::NoSpc);
         }
         let place = self.chips.len() as u64;
@@ -228,7 +228,7 @@ impl Machine {
     }
 
     fn live(&mut self, device: &str) -> Answer {
-        let plans = self.tree.check_live(device, 16 - self.chips.len())?;
+        let plans = self.tree.check_live(device, PLACES - self.chips.len())?;
         self.tree.set(device, Device::Live(self.chips.len() as u8));
         for plan in plans {
             let lines = plan.lines.into_iter().map(|(name, hog)| hogged(Line::new(&name), hog)).collect();
@@ -321,7 +321,7 @@ impl Machine {
     fn event(&mut self, place: u8, offset: u32, time: u64) {
         let real = self.real;
         let line = self.at(place, offset);
-        let rising = line.inverted(if line.period != 0 { line.settled } else { line.level() });
+        let rising = line.inverted(if line.is_debounced() { line.settled } else { line.level() });
         let monitored = line.flags & (if rising { RISING } else { FALLING }) != 0;
         let time = if line.flags & REALTIME != 0 { real } else { time };
         let Holder::Held(fd) = line.holder else { return };
@@ -348,7 +348,7 @@ impl Machine {
         if line.level() == before || !is_input {
             return done();
         }
-        if line.period == 0 {
+        if !line.is_debounced() {
             self.event(place, offset, mono);
             return done();
         }
@@ -396,7 +396,7 @@ impl Machine {
     }
 
     fn open_chip(&mut self, word: &str) -> Answer {
-        let place = chip_number(word, 15).ok_or(Errno::NoEnt)? as u8;
+        let place = chip_number(word, PLACES as u64 - 1).ok_or(Errno::NoEnt)? as u8;
         match self.chip(place)?.phase {
             Phase::Gone => return Err(Errno::NoEnt),
             Phase::Leaving => return Err(Errno::NoDev),
@@ -443,6 +443,7 @@ impl Machine {
         line.consumer.clear();
         line.flags = 0;
         line.period = 0;
+        line.hard = false;
     }
 
     fn notify(&mut self, place: u8, offsets: &[u32], kind: u32) {
@@ -585,17 +586,17 @@ impl Machine {
     fn get_line_tell(&mut self, actor: u8, place: u8, bytes: &[u8], answer: Option<u64>) -> Answer {
         let fd = self.pending(actor).filter(|fd| self.requests[fd].place == place).ok_or(Errno::Inval)?;
         let offsets = self.requests[&fd].offsets.clone();
-        if answer.is_none() {
+        let Some(bits) = answer else {
             self.requests.remove(&fd);
             offsets.iter().for_each(|&offset| self.free(place, offset));
             return Err(Errno::Io);
-        }
+        };
         let request = self.requests.get_mut(&fd).unwrap();
         request.held = true;
         let settings = request.settings.clone();
-        for (&offset, setting) in offsets.iter().zip(&settings) {
+        for (i, (&offset, setting)) in offsets.iter().zip(&settings).enumerate() {
             self.at(place, offset).holder = Holder::Held(fd);
-            self.configure(place, offset, setting);
+            self.configure(place, offset, setting, bits >> i & 1 == 1);
         }
         self.notify(place, &offsets, 1);
         let mut out = bytes[..592].to_vec();
@@ -603,11 +604,12 @@ impl Machine {
         Ok((Reply::Number(u64::from(fd)), out))
     }
 
-    fn configure(&mut self, place: u8, offset: u32, setting: &Setting) {
+    fn configure(&mut self, place: u8, offset: u32, setting: &Setting, accepted: bool) {
         let line = self.at(place, offset);
-        let period = line.period;
+        let before = (line.period, line.hard);
         line.flags = setting.flags;
         line.period = setting.period;
+        line.hard = setting.period != 0 && accepted;
         if setting.flags & (PULL_UP | PULL_DOWN) != 0 {
             line.pull = setting.flags & PULL_UP != 0;
         }
@@ -619,7 +621,7 @@ impl Machine {
         } else if line.output {
             line.drive = line.pull;
         }
-        if setting.period != period {
+        if before != (line.period, line.hard) {
             line.raw = line.level();
             line.settled = line.level();
             self.stop_timer(place, offset);
@@ -631,17 +633,18 @@ impl Machine {
         let (place, offsets) = (request.place, request.offsets.clone());
         let settings = resolve(&bytes[..272], offsets.len())?;
         let directed = |s: &Setting| s.flags & (INPUT | OUTPUT) != 0;
-        let changed: Vec<(u32, Setting)> = offsets.into_iter().zip(settings).filter(|(_, s)| directed(s)).collect();
-        for (offset, setting) in &changed {
+        let changed: Vec<(usize, (u32, Setting))> = offsets.into_iter().zip(settings).enumerate().filter(|(_, (_, s))| directed(s)).collect();
+        for (_, (offset, setting)) in &changed {
             self.at(place, *offset).interrupt_fault(setting)?;
         }
         if let Some(go) = go_or_fault(part) {
             return go;
         }
-        for (offset, setting) in &changed {
-            self.configure(place, *offset, setting);
+        let bits = if let Part::Tell(Some(bits)) = part { bits } else { 0 };
+        for (i, (offset, setting)) in &changed {
+            self.configure(place, *offset, setting, bits >> i & 1 == 1);
         }
-        let offsets: Vec<u32> = changed.iter().map(|c| c.0).collect();
+        let offsets: Vec<u32> = changed.iter().map(|c| c.1.0).collect();
         self.notify(place, &offsets, 3);
         done()
     }

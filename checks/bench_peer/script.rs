@@ -72,12 +72,13 @@ pub fn command(word: &str) -> Option<u32> {
 fn forms(word: &str, second: Option<&str>) -> Option<&'static [Form]> {
     const PIN: Form = Form::OneOf(&["range", "hold", "drop"]);
     Some(match word {
-        "probe" => &[VALUE, Form::Number(1, 128)],
+        "probe" => &[VALUE, Form::Number(1, LINES_MAX)],
         "unplug" => &[Form::Chip],
         "mkdir" | "rmdir" | "read" => &[Form::Path],
         "write" => &[Form::Path, VALUE],
         "clock" => &[U64, U64],
         "fault" => &[Form::Number(1, 1_000_000)],
+        "accept" => &[U64],
         "pin" if second == Some("range") => &[PIN, Form::Chip, U32, U32, U32],
         "pin" => &[PIN, Form::Chip, U32],
         "irq" => &[Form::OneOf(&["lock", "unlock", "enable", "disable", "none"]), Form::Chip, U32],
@@ -221,21 +222,32 @@ fn open_section<'a>(words: &[Placed<'a>], sections: &mut Vec<Section<'a>>) -> Re
     Ok(())
 }
 
-fn take_line<'a>(line: &'a [u8], header: &mut bool, sections: &mut Vec<Section<'a>>) -> Result<(), Fault> {
+/// Which header a session has.
+#[derive(Clone, Copy, PartialEq)]
+enum Version {
+    One,
+    Two,
+}
+
+fn take_line<'a>(line: &'a [u8], header: &mut Option<Version>, sections: &mut Vec<Section<'a>>) -> Result<(), Fault> {
     let words = split(line)?;
     if words.is_empty() || words[0].1.starts_with('#') {
         return Ok(());
     }
     let (column, word) = words[0];
-    if !*header {
-        *header = words.len() == 2 && word == "session" && words[1].1 == "1";
-        return if *header { Ok(()) } else { Err((column, "header")) };
-    }
+    let Some(version) = *header else {
+        *header = match words[..] {
+            [(_, "session"), (_, "1")] => Some(Version::One),
+            [(_, "session"), (_, "2")] => Some(Version::Two),
+            _ => return Err((column, "header")),
+        };
+        return Ok(());
+    };
     if rank(word).is_some() {
         return open_section(&words, sections);
     }
     let Some(section) = sections.last_mut() else { return Err((column, "section")) };
-    if !begins_statement(word) {
+    if !begins_statement(word) || (word == "accept" && version == Version::One) {
         return Err((column, "statement"));
     }
     fit_statement(&words)?;
@@ -249,14 +261,14 @@ pub fn parse(bytes: &[u8]) -> Result<Vec<Section<'_>>, Refusal> {
         return Err(Refusal { line: 0, column: 0, kind: "too-long" });
     }
     let mut sections = vec![];
-    let mut header = false;
+    let mut header = None;
     for (i, line) in bytes.split(|&b| b == b'\n').enumerate() {
         take_line(line, &mut header, &mut sections).map_err(|(column, kind)| Refusal { line: i + 1, column, kind })?;
     }
-    if !header {
+    if header.is_none() {
         return Err(Refusal { line: 1, column: 1, kind: "header" });
     }
-    if sections.iter().flat_map(|s| &s.statements).map(|s| cost(s)).sum::<u64>() > 100_000 {
+    if sections.iter().flat_map(|s| &s.statements).map(|s| cost(s)).sum::<u64>() > 300_000 {
         return Err(Refusal { line: 0, column: 0, kind: "cost" });
     }
     Ok(sections)
@@ -266,13 +278,13 @@ pub fn parse(bytes: &[u8]) -> Result<Vec<Section<'_>>, Refusal> {
 pub fn cost(words: &Statement) -> u64 {
     let more = words.len() as u64 - 1;
     match words[0] {
-        "fault" | "close" | "stop" => 0,
+        "fault" | "accept" | "close" | "stop" => 0,
         "write" | "unplug" | "open" => 2,
         "ioctl" | "ioctl1" => 2 + u64::from(gives(words[0], words[2]) == Some(true)),
-        "gpiodetect" if more == 0 || words[1..] == ["--"] => 48,
+        "gpiodetect" if more == 0 || words[1..] == ["--"] => 3 * PLACES as u64,
         "gpiodetect" => 3 * more,
-        "gpioinfo" if words[1..].iter().any(|w| *w == "-c" || w.starts_with("--chip")) => 131,
-        "gpioinfo" => 2096,
+        "gpioinfo" if words[1..].iter().any(|w| *w == "-c" || w.starts_with("--chip")) => LINES_MAX + 3,
+        "gpioinfo" => PLACES as u64 * (LINES_MAX + 3),
         "gpioget" => more + 7,
         "gpioset" => more + 5,
         "start" if words[2] == "gpionotify" => 2 * (more - 2) + 2,

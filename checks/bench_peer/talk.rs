@@ -35,20 +35,12 @@ pub struct Talk {
 }
 
 /// A line's file of a chip: the number of the chip, the offset, and the file's name.
-fn line_file(path: &str) -> Option<(u64, u32, &str)> {
+fn line_file(path: &str) -> Option<(u8, u32, &str)> {
     let (chip, rest) = path.strip_prefix("gpiochip")?.split_once('/')?;
     let (line, file) = rest.strip_prefix("sim_gpio")?.split_once('/')?;
     let is_file = file == "pull" || file == "value";
     let (chip, offset) = (plain_decimal(chip, 63)?, plain_decimal(line, 9999)?);
-    is_file.then_some((chip, offset as u32, file))
-}
-
-fn place_of(chip: u64) -> Result<u8, Errno> {
-    if chip < 16 {
-        Ok(chip as u8)
-    } else {
-        Err(Errno::NoEnt)
-    }
+    is_file.then_some((chip as u8, offset as u32, file))
 }
 
 fn number(word: &str) -> u64 {
@@ -283,9 +275,8 @@ impl Talk {
                 _ => unreachable!(),
             };
         };
-        let place = place_of(chip)?;
         let pull = file == "pull";
-        let Reply::Number(level) = actor.guarded(place, Call::Level { place, offset, pull })?.0 else { unreachable!() };
+        let Reply::Number(level) = actor.guarded(chip, Call::Level { place: chip, offset, pull })?.0 else { unreachable!() };
         self.out.extend_from_slice(match (pull, level) {
             (false, 0) => b"0\n",
             (false, _) => b"1\n",
@@ -307,11 +298,11 @@ fn buffer_of(words: &Statement, makes: bool) -> Vec<u8> {
 /// A statement that neither opens nor uses a file.
 fn plain(actor: &mut Actor, words: &Statement) -> Said {
     let word = |i: usize| words[i].to_string();
-    let chip = |i: usize| place_of(chip_number(words[i], 63).unwrap());
+    let chip = |i: usize| chip_number(words[i], 63).unwrap() as u8;
     match words[0] {
         "probe" => actor.call(Call::Probe { label: word(1), lines: small(words[2]) }).map(|_| ()),
         "unplug" => {
-            let place = chip(1)?;
+            let place = chip(1);
             let call = |last| Call::Unplug { place, last };
             actor.device.removal(actor.number, call(false), call(true))
         }
@@ -323,8 +314,12 @@ fn plain(actor: &mut Actor, words: &Statement) -> Said {
             actor.port.plan(number(words[1]));
             Ok(())
         }
+        "accept" => {
+            actor.port.accept(number(words[1]));
+            Ok(())
+        }
         "pin" => {
-            let place = chip(2)?;
+            let place = chip(2);
             let what = match words[1] {
                 "range" => Pin::Range(small(words[3]), small(words[4]), small(words[5])),
                 "hold" => Pin::Hold(small(words[3])),
@@ -333,7 +328,7 @@ fn plain(actor: &mut Actor, words: &Statement) -> Said {
             actor.guarded(place, Call::Pin(place, what)).map(|_| ())
         }
         _ => {
-            let place = chip(2)?;
+            let place = chip(2);
             let what = match words[1] {
                 "lock" => Irq::Lock,
                 "unlock" => Irq::Unlock,
@@ -348,14 +343,13 @@ fn plain(actor: &mut Actor, words: &Statement) -> Said {
 
 fn write(actor: &Actor, path: &str, value: &str) -> Said {
     if let Some((chip, offset, file)) = line_file(path) {
-        let place = place_of(chip)?;
         if file == "value" {
             return Err(Errno::Perm);
         }
         if value != "pull-up" && value != "pull-down" {
             return Err(Errno::Inval);
         }
-        return actor.guarded(place, Call::Pull { place, offset, up: value == "pull-up" }).map(|_| ());
+        return actor.guarded(chip, Call::Pull { place: chip, offset, up: value == "pull-up" }).map(|_| ());
     }
     let Some(device) = live_device(path).map(String::from) else {
         return actor.call(Call::Write(path.into(), value.into())).map(|_| ());

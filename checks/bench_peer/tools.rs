@@ -107,7 +107,7 @@ fn each_chip(
     out: &mut Vec<u8>,
 ) -> Result<(), Errno> {
     let all = words.is_empty();
-    let words = if all { (0..16).map(|place| place.to_string()).collect() } else { words };
+    let words = if all { (0..PLACES).map(|place| place.to_string()).collect() } else { words };
     for word in words {
         let chip = match actor.open(&word) {
             Err(Errno::NoEnt | Errno::NoDev) if all => continue,

@@ -154,7 +154,7 @@ impl Tree {
         }
         let is_name = (1..=31).contains(&value.len());
         let good = match file {
-            "num_lines" => plain_decimal(value, 128).is_some_and(|n| n > 0),
+            "num_lines" => plain_decimal(value, LINES_MAX).is_some_and(|n| n > 0),
             "direction" => ["input", "output-high", "output-low"].contains(&value),
             _ => is_name,
         };

@@ -3,6 +3,12 @@
 use std::fmt;
 use std::io::Write;
 
+/// How many places there are.
+pub const PLACES: usize = 64;
+
+/// How many lines a chip has at most.
+pub const LINES_MAX: u64 = 512;
+
 #[derive(Clone, Copy, PartialEq, Eq)]
 pub enum Errno {
     Perm,

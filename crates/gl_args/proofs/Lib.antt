@@ -6,5 +6,6 @@ pub mod Entries
 pub mod Fronts
 pub mod LineCounts
 pub mod OpenSlots
+pub mod Printing
 pub mod Programs
 pub mod SameOptions

@@ -8,7 +8,7 @@ use Rattle.gl_base.specs.Rows.{without_first}
 use Rattle.gl_base.specs.declared.command.TheConstants.{GET_LINE}
 use Rattle.gl_base.specs.declared.errno.Errno.{Errno}
 use Rattle.gl_base.specs.declared.operation.Do.{Do}
-use Rattle.gl_base.specs.declared.operation.Do.TheVariants.{Probe, Unplug, MakeDir, RemoveDir, Write, Read, Live, Tick, Pin, Irq, Pull, Level, OpenChip, Find, Ioctl, ReadFile, Poll, Close, Plan}
+use Rattle.gl_base.specs.declared.operation.Do.TheVariants.{Probe, Unplug, MakeDir, RemoveDir, Write, Read, Live, Tick, Pin, Irq, Pull, Level, OpenChip, Find, Ioctl, ReadFile, Poll, Close, Plan, Accept}
 use Rattle.gl_base.specs.declared.operation.Got.{Got}
 use Rattle.gl_args.specs.Entries.{IsKept}
 use Rattle.gl_args.specs.OpenSlots.{MayAsk, NamesOpenSlots, Where, is_open, one_if, slots_behind, times, with_opened, with_slot}
@@ -145,6 +145,7 @@ may_ask k slots le (ReadFile slot len) h = there_by slot slots (h slot)
 may_ask k slots le (Poll slot) h = there_by slot slots (h slot)
 may_ask k slots le (Close slot) h = there_by slot slots (h slot)
 may_ask k slots le (Plan nth) h = tt
+may_ask k slots le (Accept bits) h = tt
 
 -- how often a slot is open behind an operation
 opened_times : (s : ℕ) (fault : Option Errno) (slot : ℕ) (slots : List ℕ) → times s (with_opened fault slot slots) ≡ with_one s 0 fault slot (times s slots)
@@ -175,6 +176,7 @@ behind_times s k slots (ReadFile slot len) got = refl
 behind_times s k slots (Poll slot) got = refl
 behind_times s k slots (Close slot) got = times_without s slot slots
 behind_times s k slots (Plan nth) got = refl
+behind_times s k slots (Accept bits) got = refl
 
 -- it is open at most k times
 one_bound : (s k n : ℕ) (fault : Option Errno) (slot : ℕ) → n ≤ k → n + one_if (nat_eq s slot) ≤ k → with_one s k fault slot n ≤ k
@@ -205,6 +207,7 @@ behind_bound s k n (ReadFile slot len) got le h = le
 behind_bound s k n (Poll slot) got le h = le
 behind_bound s k n (Close slot) got le h = omega (arith, le)
 behind_bound s k n (Plan nth) got le h = le
+behind_bound s k n (Accept bits) got le h = le
 
 -- a program that each slot follows names open slots alone
 pub names_open : {A : Type 0} (k : ℕ → ℕ) (count : ℕ → A → ℕ) (P : A → List ℕ → Type 0) (p : Program A) (slots : List ℕ) → ((s : ℕ) → k s ≤ 1) → ((s : ℕ) → times s slots ≤ k s)

@@ -3,7 +3,7 @@
 use Rattle.std.specs.Prelude.{ℕ, ◌-◌, ◌≤◌, nat_eq, if◌then◌else◌}
 use Rattle.gl_base.specs.declared.command.TheConstants.{GET_LINE, LINE_SET_CONFIG, LINE_GET_VALUES, LINE_SET_VALUES}
 use Rattle.gl_base.specs.declared.operation.Do.{Do}
-use Rattle.gl_base.specs.declared.operation.Do.TheVariants.{Unplug, Live, OpenChip, Ioctl, Close, Plan}
+use Rattle.gl_base.specs.declared.operation.Do.TheVariants.{Unplug, Live, OpenChip, Ioctl, Close, Plan, Accept}
 use Rattle.gl_base.specs.declared.operation.Got.{Got}
 use Rattle.gl_args.specs.Program.{Program, done, print, ask}
 
@@ -24,6 +24,7 @@ entries_of (OpenChip slot word) = 2
 entries_of (Ioctl slot command len bytes made) = command_entries command
 entries_of (Close slot) = 0
 entries_of (Plan nth) = 0
+entries_of (Accept bits) = 0
 entries_of _ = 1
 
 -- a program's operations make at most so many entries, whatever it is answered

@@ -3,7 +3,7 @@ use Rattle.std.specs.Prelude.{◌≡◌, ℕ, ◌-◌, ◌≤◌, nat_eq, if◌t
 use Rattle.gl_base.specs.Operation.{refusal}
 use Rattle.gl_base.specs.declared.command.TheConstants.{GET_LINE, LINE_SET_CONFIG, LINE_GET_VALUES, LINE_SET_VALUES}
 use Rattle.gl_base.specs.declared.operation.Do.{Do}
-use Rattle.gl_base.specs.declared.operation.Do.TheVariants.{Unplug, Live, Ioctl, Close, Plan}
+use Rattle.gl_base.specs.declared.operation.Do.TheVariants.{Unplug, Live, Ioctl, Close, Plan, Accept}
 use Rattle.gl_base.specs.declared.operation.Got.{Got}
 use Rattle.gl_args.specs.Program.{Program, done, print, ask}
 
@@ -22,6 +22,7 @@ entries_made (Unplug place) = 2
 entries_made (Live device up) = 2
 entries_made (Ioctl slot command len bytes made) = command_made command
 entries_made (Plan nth) = 0
+entries_made (Accept bits) = 0
 entries_made _ = 1
 
 -- a closing is not refused; no device here refuses one

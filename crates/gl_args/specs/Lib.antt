@@ -8,6 +8,7 @@ pub mod LookUps
 pub mod Names
 pub mod OpenSlots
 pub mod Options
+pub mod Printing
 pub mod Program
 pub mod Tools
 pub mod Values

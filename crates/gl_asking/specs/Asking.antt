@@ -9,7 +9,7 @@ use Rattle.gl_base.specs.declared.kind.Kind.TheVariants.{Simulated}
 use Rattle.gl_base.specs.declared.lines.Lines.{Lines}
 use Rattle.gl_base.specs.declared.limits.TheConstants.{LINES_MAX, PLACES}
 use Rattle.gl_base.specs.declared.operation.Do.{Do}
-use Rattle.gl_base.specs.declared.operation.Do.TheVariants.{Probe as DoProbe, Unplug as DoUnplug, MakeDir as DoMakeDir, RemoveDir as DoRemoveDir, Write as DoWrite, Read as DoRead, Live as DoLive, Tick as DoTick, Pin as DoPin, Irq as DoIrq, Pull as DoPull, Level as DoLevel, OpenChip as DoOpenChip, Find as DoFind, Ioctl as DoIoctl, ReadFile, Poll, Close as DoClose, Plan}
+use Rattle.gl_base.specs.declared.operation.Do.TheVariants.{Probe as DoProbe, Unplug as DoUnplug, MakeDir as DoMakeDir, RemoveDir as DoRemoveDir, Write as DoWrite, Read as DoRead, Live as DoLive, Tick as DoTick, Pin as DoPin, Irq as DoIrq, Pull as DoPull, Level as DoLevel, OpenChip as DoOpenChip, Find as DoFind, Ioctl as DoIoctl, ReadFile, Poll, Close as DoClose, Plan, Accept}
 use Rattle.gl_base.specs.declared.operation.Got.{Got}
 use Rattle.gl_base.specs.declared.operation.Got.TheVariants.{Done as GotDone, Number as GotNumber, Found as GotFound, Text as GotText, Bytes, Ready as GotReady, Refused as GotRefused}
 use Rattle.gl_uapi.specs.declared.layout.TheConstants.{LINE_REQUEST_SIZE}
@@ -21,7 +21,7 @@ use Rattle.gl_model.specs.declared.call.Call.TheVariants.{Probe, MakeDir, Remove
 use Rattle.gl_model.specs.declared.reply.Reply.{Reply}
 use Rattle.gl_model.specs.declared.reply.Reply.TheVariants.{Number}
 use Rattle.gl_asking.specs.declared.kinds.Asking.{Asking}
-use Rattle.gl_asking.specs.declared.kinds.Asking.TheVariants.{Calls, Plans, Refuses}
+use Rattle.gl_asking.specs.declared.kinds.Asking.TheVariants.{Calls, Plans, Accepts, Refuses}
 use Rattle.gl_asking.specs.Files.{OpenFile, chip_file, file_in, line_file, with_file, without_file}
 use Rattle.gl_asking.specs.Handed.{command_in, handed_in}
 use Rattle.gl_asking.specs.Opened.{ChipFile, opened_of}
@@ -89,6 +89,7 @@ asking files (ReadFile slot len) = on_file (file_in slot files) (λ file. once (
 asking files (Poll slot) = on_file (file_in slot files) (λ file. once (polls file))
 asking files (DoClose slot) = on_file (file_in slot files) (λ file. once (Close file.fd))
 asking files (Plan nth) = Plans nth
+asking files (Accept bits) = Accepts bits
 
 -- the lines that the structure in a buffer names
 abbrev pub lines_named : List ℕ → Lines

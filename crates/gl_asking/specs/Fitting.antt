@@ -7,7 +7,7 @@ use Rattle.gl_model.specs.declared.device_call.RemovalOf.TheVariants.{OfChip, Of
 use Rattle.gl_model.specs.Fits.{FitsBytes, FitsCall}
 use Rattle.gl_model.specs.Parts.{is_single}
 use Rattle.gl_asking.specs.declared.kinds.Asking.{Asking}
-use Rattle.gl_asking.specs.declared.kinds.Asking.TheVariants.{Calls, Plans, Refuses}
+use Rattle.gl_asking.specs.declared.kinds.Asking.TheVariants.{Calls, Plans, Accepts, Refuses}
 
 -- one call of the machine is whole by itself; of a command, the bytes past the buffer's length are zero
 abbrev pub FitsDevice : DeviceCall → Type 0
@@ -20,4 +20,5 @@ FitsDevice (Commanding c) = (c.place < PLACES) × FitsBytes c.len c.bytes
 abbrev pub FitsAsking : Asking → Type 0
 FitsAsking (Calls call) = FitsDevice call
 FitsAsking (Plans nth) = Unit {0}
+FitsAsking (Accepts bits) = Unit {0}
 FitsAsking (Refuses errno) = Unit {0}

@@ -32,6 +32,8 @@ pub enum Asking {
     Calls(DeviceCall),
     /// A plan of the actor's port: the number of the driver call that is to fail, counted from 1; 0 takes a plan away.
     Plans(u32),
+    /// Bits that the actor's port accepts.
+    Accepts(u64),
     /// Refused without a call.
     Refuses(Errno),
 }

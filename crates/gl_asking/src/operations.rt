@@ -185,7 +185,7 @@ fn once(call: Call) -> Asking
 ///
 /// An operation on a slot without a file is refused with `BadF`; `NoEnt` where it names a place that no device has; a chip of no line,
 /// or of more than `LINES_MAX`, with `Inval`. These are refused without a call (this project's choice). Every other operation is a call that
-/// may be made, or a plan.
+/// may be made, or speaks to the actor's port.
 pub fn asking_of(what: &Do, row: Option<FileRow>) -> Asking
     requires row { IsSomeRow row }
     ensures told { (files : List OpenFile) → file_for what.now files ≡ file_of row → result ≡ asking files what.now }
@@ -221,6 +221,7 @@ pub fn asking_of(what: &Do, row: Option<FileRow>) -> Asking
             name: *name,
         }),
         Do::Plan { nth } => Asking::Plans(*nth),
+        Do::Accept { bits } => Asking::Accepts(*bits),
         _ => match row {
             Some(row) => on_file(&row, what),
             None => Asking::Refuses(Errno::BadF),

@@ -10,3 +10,4 @@ pub mod Padding
 pub mod Runs
 pub mod Seen
 pub mod Sizes
+pub mod TextLines

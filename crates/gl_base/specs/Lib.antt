@@ -19,4 +19,5 @@ pub mod Refusals
 pub mod Rows
 pub mod Seconds
 pub mod Settings
+pub mod TextLines
 pub mod Words

@@ -15,11 +15,11 @@ use crate::path::Path;
 
 /// The limits are these numbers.
 pub fn limits_by_value()
-    ensures places { PLACES ≡ 16 }
-    ensures lines { LINES_MAX ≡ 128 }
+    ensures places { PLACES ≡ 64 }
+    ensures lines { LINES_MAX ≡ 512 }
     ensures lines_of_a_request { LINES_PER_REQUEST ≡ 64 }
     ensures files { FILES_MAX ≡ 256 }
-    ensures cost { COST_MAX ≡ 100000 }
+    ensures cost { COST_MAX ≡ 300000 }
     ensures digits { DIGITS_MAX ≡ 20 }
     ensures name { Name.LONGEST ≡ 31 }
     ensures name_field { Name.FIELD ≡ 32 }

@@ -13,7 +13,7 @@ use crate::pin::PinDo;
 /// operations out keeps the files by their slots.
 #[derive(Clone, Copy, Debug)]
 pub enum Do {
-    /// Makes a simulated chip of this label with so many lines, 1 to 128. Its result is the chip's place.
+    /// Makes a simulated chip of this label with so many lines, 1 to 512. Its result is the chip's place.
     Probe {
         /// The chip's label.
         label: Name,
@@ -135,6 +135,12 @@ pub enum Do {
     Plan {
         /// Which call it is, counted from 1.
         nth: u32,
+    },
+    /// From now on a planned driver answers with these bits where it configures lines: bit `i` says that it debounces the
+    /// `i`-th of them by itself.
+    Accept {
+        /// The bits.
+        bits: u64,
     },
 }
 

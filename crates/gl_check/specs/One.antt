@@ -3,7 +3,7 @@
 -- project's choice.
 use Rattle.std.specs.Prelude.{ℕ, ◌+◌, Bool, true, false, ◌&&◌, not, if◌then◌else◌, List, [], ◌∷◌, ◌++◌, length, map, Option, Some, None}
 use Rattle.gl_base.specs.Count.{counted_up}
-use Rattle.gl_base.specs.Planned.{planned_answer, planned_call}
+use Rattle.gl_base.specs.Planned.{bits_for, planned_answer, planned_call}
 use Rattle.gl_base.specs.Words.{Span}
 use Rattle.gl_base.specs.declared.operation.Do.{Do}
 use Rattle.gl_base.specs.declared.operation.Got.{Got}
@@ -11,7 +11,7 @@ use Rattle.gl_base.specs.declared.phase.Phase.{Phase}
 use Rattle.gl_base.specs.declared.phase.Phase.TheVariants.{Absent, Up, Leaving, Gone}
 use Rattle.gl_uapi.specs.Command.{command_of}
 use Rattle.gl_args.specs.Program.{Program, done, print, ask}
-use Rattle.gl_driver.specs.Told.{Told, new_port, with_call, with_plan}
+use Rattle.gl_driver.specs.Told.{Told, new_port, with_bits, with_call, with_plan}
 use Rattle.gl_base.specs.declared.op.Op.{Op}
 use Rattle.gl_script.specs.Columns.{columns}
 use Rattle.gl_script.specs.Section.{SaidSection}
@@ -32,7 +32,7 @@ use Rattle.gl_model.specs.declared.reply.Reply.TheVariants.{Done as DoneReply, R
 use Rattle.gl_talk.specs.Open.{Names, no_names}
 use Rattle.gl_talk.specs.Talk.{quits, says, talks}
 use Rattle.gl_asking.specs.declared.kinds.Asking.{Asking}
-use Rattle.gl_asking.specs.declared.kinds.Asking.TheVariants.{Calls, Plans, Refuses}
+use Rattle.gl_asking.specs.declared.kinds.Asking.TheVariants.{Calls, Plans, Accepts, Refuses}
 use Rattle.gl_asking.specs.Asking.{asking, files_behind, got_of}
 use Rattle.gl_asking.specs.Driving.{op_asked}
 use Rattle.gl_asking.specs.Files.{OpenFile}
@@ -91,12 +91,13 @@ is_asked w (Removing removal) = false
 is_asked w (Commanding c) = is_driver_asked c.of_chip c.len (command_of c.cmd)
     && (not (is_gone (phase_at w c.place)) && goes_on w (in_ask c))
 
--- Where a driver's answers come from: what it answers next, what is left behind an answer to what it was asked, and behind a plan of its
--- port.
+-- Where a driver's answers come from: what it answers next to what it is asked, what is left behind such an answer, behind a plan of its
+-- port, and behind bits that its port accepted.
 pub record Answers (X : Type 0) : Type 0 where
-  pub next : X → Option ℕ
+  pub next : Option Op → X → Option ℕ
   pub behind : Option Op → X → X
   pub planned : ℕ → X → X
+  pub accepted : ℕ → X → X
 
 -- answers in the order of a list; none that is left is a failure
 abbrev pub first_of_list : List (Option ℕ) → Option ℕ
@@ -108,7 +109,12 @@ rest_of_list [] = []
 rest_of_list (answer ∷ answers) = answers
 
 abbrev pub from_list : Answers (List (Option ℕ))
-from_list = record { next = first_of_list; behind = λ op answers. rest_of_list answers; planned = λ nth answers. answers }
+from_list = record {
+  next = λ op answers. first_of_list answers;
+  behind = λ op answers. rest_of_list answers;
+  planned = λ nth answers. answers;
+  accepted = λ bits answers. answers;
+}
 
 -- answers in the order of a list, through a port that may tell
 pub record TellingPort : Type 0 where
@@ -121,21 +127,29 @@ told_of (Some op) answer told = with_call op answer told
 
 abbrev pub from_port : Answers TellingPort
 from_port = record {
-  next = λ port. first_of_list port.left;
+  next = λ op port. first_of_list port.left;
   behind = λ op port. record { left = rest_of_list port.left; told = told_of op (first_of_list port.left) port.told };
   planned = λ nth port. record { left = port.left; told = with_plan nth port.told };
+  accepted = λ bits port. record { left = port.left; told = with_bits bits port.told };
 }
 
--- answers of a planned driver, by how many calls went through its port, and by the call that the port's plan names
+-- answers of a planned driver, by how many calls went through its port, the call that the port's plan names, and the accepted bits
 pub record PlannedPort : Type 0 where
   pub calls : ℕ
   pub plan : Option ℕ
+  pub bits : ℕ
+
+-- what a planned driver answers where it doesn't fail; where it is asked nothing no answer counts
+abbrev pub bits_asked : Option Op → ℕ → ℕ
+bits_asked None bits = bits
+bits_asked (Some op) bits = bits_for op bits
 
 abbrev pub from_plan : Answers PlannedPort
 from_plan = record {
-  next = λ port. planned_answer port.plan (counted_up port.calls);
-  behind = λ op port. record { calls = counted_up port.calls; plan = port.plan };
-  planned = λ nth port. record { calls = port.calls; plan = planned_call port.calls nth };
+  next = λ op port. planned_answer (bits_asked op port.bits) port.plan (counted_up port.calls);
+  behind = λ op port. record { calls = counted_up port.calls; plan = port.plan; bits = port.bits };
+  planned = λ nth port. record { calls = port.calls; plan = planned_call port.calls nth; bits = port.bits };
+  accepted = λ bits port. record { calls = port.calls; plan = port.plan; bits = bits };
 }
 
 -- how a session stands: the world, the open files of the talk, where the next answers come from, those that were taken, and how many
@@ -164,7 +178,7 @@ module _ {X : Type 0} (answers : Answers X) where
   -- an answer to this is taken, or none
   abbrev pub with_answer : Option Op → Bool → Standing X → Standing X
   with_answer op false s = s
-  with_answer op true s = record s { source = answers.behind op s.source; took = s.took ++ answers.next s.source ∷ [] }
+  with_answer op true s = record s { source = answers.behind op s.source; took = s.took ++ answers.next op s.source ∷ [] }
 
   -- an operation with this reply and these bytes
   abbrev pub answered : Do → Reply → List ℕ → Standing X → Got × Standing X
@@ -176,8 +190,9 @@ module _ {X : Type 0} (answers : Answers X) where
   -- an operation, and how the session stands behind it
   abbrev pub performs_as : Asking → Option Op → Do → Standing X → Got × Standing X
   performs_as (Calls call) op what s =
-      came_to what (comes_to s.world call (answers.next s.source)) (with_entries (entry_count s.world call) (with_answer op (is_asked s.world call) s))
+      came_to what (comes_to s.world call (answers.next op s.source)) (with_entries (entry_count s.world call) (with_answer op (is_asked s.world call) s))
   performs_as (Plans nth) op what s = answered what DoneReply [] (record s { source = answers.planned nth s.source })
+  performs_as (Accepts bits) op what s = answered what DoneReply [] (record s { source = answers.accepted bits s.source })
   performs_as (Refuses errno) op what s = answered what (RefusedReply errno) [] s
 
   abbrev pub performs : Do → Standing X → Got × Standing X
@@ -239,7 +254,7 @@ told_behind sections answers before = (run_session from_port sections (record { 
 
 -- the answers that a planned driver gives to a session through a port that told this
 abbrev pub planned_over : Told → List SaidSection → List (Option ℕ)
-planned_over t sections = (run_session from_plan sections (record { calls = t.calls; plan = t.plan })).behind.took
+planned_over t sections = (run_session from_plan sections (record { calls = t.calls; plan = t.plan; bits = t.bits })).behind.took
 
 -- Planned: those that it gives through a new port
 abbrev pub planned : List SaidSection → List (Option ℕ)

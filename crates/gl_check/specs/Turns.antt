@@ -5,7 +5,7 @@ use Rattle.gl_base.specs.declared.operation.Do.{Do}
 use Rattle.gl_base.specs.declared.operation.Got.{Got}
 use Rattle.gl_world.specs.Deeds.{entries_in}
 use Rattle.gl_args.specs.Program.{Program, done, print, ask}
-use Rattle.gl_driver.specs.Told.{PortAfter, Told, with_plan}
+use Rattle.gl_driver.specs.Told.{PortAfter, Told, with_bits, with_plan}
 use Rattle.gl_base.specs.declared.op.Op.{Op}
 use Rattle.gl_model.specs.declared.device_call.DeviceCall.{DeviceCall}
 use Rattle.gl_model.specs.Parts.{Makes, last_reply}
@@ -13,7 +13,7 @@ use Rattle.gl_model.specs.declared.reply.Reply.{Reply}
 use Rattle.gl_model.specs.declared.reply.Reply.TheVariants.{Done, Refused}
 use Rattle.gl_core.specs.Device.{OneDeed, last_bytes, tells_in}
 use Rattle.gl_asking.specs.declared.kinds.Asking.{Asking}
-use Rattle.gl_asking.specs.declared.kinds.Asking.TheVariants.{Calls, Plans, Refuses}
+use Rattle.gl_asking.specs.declared.kinds.Asking.TheVariants.{Calls, Plans, Accepts, Refuses}
 use Rattle.gl_asking.specs.Asking.{asking, files_behind, got_of}
 use Rattle.gl_asking.specs.Driving.{op_asked}
 use Rattle.gl_asking.specs.Files.{OpenFile}
@@ -53,6 +53,7 @@ module _ (is_planned : Bool) (actor : ℕ) where
   abbrev pub IsDone : Asking → Option Op → Exchange → Option Told → Option Told → Type 0
   IsDone (Calls call) op e before after = HasMade call op e before after
   IsDone (Plans nth) op e before after = DidNothing e Done × (after ≡ with_plan nth before)
+  IsDone (Accepts bits) op e before after = DidNothing e Done × (after ≡ with_bits bits before)
   IsDone (Refuses errno) op e before after = DidNothing e (Refused errno) × (after ≡ before)
 
   -- an operation was carried out

@@ -3,12 +3,11 @@ use Rattle.std.proofs.Common.{◌≡◌, ◌≢◌, ℕ, ◌<◌, ◌≤◌, Lis
 use Rattle.std.specs.Prelude.{IfSome}
 use Rattle.std.proofs.lemmas.Bool.{true≢false}
 use Rattle.std.proofs.lemmas.List.{append_assoc, append-nil}
-use Rattle.gl_base.specs.Count.{Rises, counted_up}
-use Rattle.gl_base.specs.Planned.{planned_answer}
+use Rattle.gl_base.specs.Count.{Rises}
 use Rattle.gl_base.specs.declared.errno.Errno.{Errno}
 use Rattle.gl_base.specs.declared.errno.Errno.TheVariants.{Full, Io, NoDev}
 use Rattle.gl_driver.specs.Calls.{FitsOp}
-use Rattle.gl_driver.specs.Told.{Told, faults_after, with_call}
+use Rattle.gl_driver.specs.Told.{Told, faults_after, planned_for, with_call}
 use Rattle.gl_base.specs.declared.op.Op.{Op}
 use Rattle.gl_uapi.specs.Command.{command_of}
 use Rattle.gl_uapi.specs.declared.commands.Command.{Command}
@@ -202,7 +201,7 @@ module _ {P : Type 0} (told : P → Option Told) (faults : P → ℕ) (Own : P �
   -- it was asked, and the machine told
   pub asked_and_told : (op : Option Op) (asked_for : Op) (v w u x : OneView) (p q : P) (c : CommandIn) (first : Reply) (answer : Option ℕ) (own : List OneEntry) (did : List OneDeed) (reply : Reply) (old mid new : List ℕ)
       → CalledOnce core v (in_ask c) first old mid w → is_go first ≡ true → op ≡ Some asked_for → FitsOp asked_for → Own p c.place asked_for own → MayOwn own → Drove core limit w own did u → CalledOnce core u (in_tell answer c) reply mid new x
-      → told q ≡ with_call asked_for answer (told p) → faults p ≤ faults q → (answer ≡ None → Rises (faults p) (faults q)) → faults q ≡ faults_after answer (faults p) → (planned ≡ true → IfSome (told p) (λ t. answer ≡ planned_answer t.plan (counted_up t.calls)))
+      → told q ≡ with_call asked_for answer (told p) → faults p ≤ faults q → (answer ≡ None → Rises (faults p) (faults q)) → faults q ≡ faults_after answer (faults p) → (planned ≡ true → IfSome (told p) (λ t. answer ≡ planned_for asked_for t))
       → CommandedInside told faults Own limit planned op v p c reply old new x q
   asked_and_told op asked_for v w u x p q c first answer own did reply old mid new step go this fits its may drove last told_then never counted after plan =
       let number : u.number ≡ v.number = drove.grew.number ∙ step.grew.number in

@@ -209,7 +209,7 @@ module _ (w : World) (place fd len : ℕ) (bytes : List ℕ) (part : Part) (e : 
   faults request = directed_fault (place_at w place) request.lines (resolved_for its request.lines.count)
 
   abbrev doing : Request → ℕ → World → World
-  doing request bits v = reconfigure place fd request.lines request.settings (resolved_for its request.lines.count) v
+  doing request bits v = reconfigure place fd request.lines request.settings (resolved_for its request.lines.count) bits v
 
   lines_told : (o : Option Request) (request : Request) → o ≡ Some request → (on_request (set_config place fd its part) o w).reply ≡ Refused e → LinesRefused place request its e w ⊎ ((part ≡ Tell None) × (e ≡ Io))
   lines_told o request is h =

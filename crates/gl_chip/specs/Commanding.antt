@@ -1,12 +1,11 @@
 -- What a command on an open file did that may ask the driver: its entries, and what went through the actor's port.
 use Rattle.std.specs.Prelude.{◌≡◌, ◌≢◌, ◌⊎◌, ◌<◌, ◌≤◌, ◌^◌, ℕ, Bool, true, false, List, [], ◌∷◌, ◌++◌, length, take, drop, Option, Some, None, IfSome, Result, Err}
-use Rattle.gl_base.specs.Count.{Rises, counted_up}
-use Rattle.gl_base.specs.Planned.{planned_answer}
+use Rattle.gl_base.specs.Count.{Rises}
 use Rattle.gl_base.specs.declared.errno.Errno.{Errno}
 use Rattle.gl_base.specs.declared.errno.Errno.TheVariants.{Full, Io, NoMemory}
 use Rattle.gl_base.specs.declared.lines.Lines.{Lines}
 use Rattle.gl_driver.specs.Calls.{FitsOp}
-use Rattle.gl_driver.specs.Told.{Told, faults_after, with_call}
+use Rattle.gl_driver.specs.Told.{Told, faults_after, planned_for, with_call}
 use Rattle.gl_base.specs.declared.op.Op.{Op}
 use Rattle.gl_uapi.specs.Command.{command_of, size_of}
 use Rattle.gl_uapi.specs.declared.commands.Command.{Command}
@@ -75,15 +74,15 @@ IsOpAfterGo call op = (w : World) (actor n : ℕ) → reply_of w actor call ≡ 
 -- call, how many at most, and whether its answers are planned.
 module _ {P : Type 0} (told : P → Option Told) (faults : P → ℕ) (Own : P → ℕ → Op → List OneEntry → Type 0) (limit : ℕ) (planned : Bool) where
   -- The driver was asked once, through this port: for just that operation, and it answered so. It made these entries of its own.
-  -- Where it failed, the port has counted that, and nothing else changes its count. A planned driver fails just where the port's plan
-  -- says.
+  -- Where it failed, the port has counted that, and nothing else changes its count. A planned driver answered as the port plans and
+  -- accepts.
   pub record WasAsked (op : Option Op) (place : ℕ) (answer : Option ℕ) (own : List OneEntry) (p q : P) : Type 0 where
     pub asked_for : Op
     pub is_this : op ≡ Some asked_for
     pub told_then : told q ≡ with_call asked_for answer (told p)
     pub own_entries : Own p place asked_for own
     pub counted : answer ≡ None → Rises (faults p) (faults q)
-    pub as_planned : planned ≡ true → IfSome (told p) (λ t. answer ≡ planned_answer t.plan (counted_up t.calls))
+    pub as_planned : planned ≡ true → IfSome (told p) (λ t. answer ≡ planned_for asked_for t)
     pub count_after : faults q ≡ faults_after answer (faults p)
 
   -- the port after a command that asked the driver, or didn't

@@ -29,7 +29,7 @@ impl<D: Driver<Core>> Actor<D> {
     ghost use Rattle.gl_world.specs.History.{Legal};
     ghost use Rattle.gl_rule.specs.Turn.{NoStrangers};
     ghost use Rattle.gl_gate.specs.Calls.{HasItsOwn};
-    ghost use Rattle.gl_driver.specs.Told.{with_plan};
+    ghost use Rattle.gl_driver.specs.Told.{with_bits, with_plan};
     ghost use Rattle.gl_core.specs.Device.{core};
     ghost use Rattle.gl_chip.specs.Values.{IsIdle};
 
@@ -55,5 +55,15 @@ impl<D: Driver<Core>> Actor<D> {
         ensures faults { D.Port.faults self.new.port ≡ D.Port.faults self.old.port }
     {
         self.port.plan(nth);
+    }
+
+    /// Makes these the accepted bits of this actor's port: from now on a planned driver answers with them where it configures
+    /// lines and doesn't fail.
+    pub fn accept(&mut self, bits: u64)
+        ensures pass { self.new.pass ≡ self.old.pass }
+        ensures port { D.Port.told self.new.port ≡ with_bits bits (D.Port.told self.old.port) }
+        ensures faults { D.Port.faults self.new.port ≡ D.Port.faults self.old.port }
+    {
+        self.port.accept(bits);
     }
 }

@@ -3,15 +3,14 @@
 ghost use Rattle.std.specs.Prelude.{◌≡◌, ℕ, ◌≤◌, cond, true, false, List, None, IfOk, IfErr, IfSome};
 ghost use Rattle.gl_base.specs.declared.errno.Errno.TheVariants.{Full};
 ghost use Rattle.gl_base.specs.declared.limits.TheConstants.{PLACES};
-ghost use Rattle.gl_base.specs.Count.{counted_up, Rises};
-ghost use Rattle.gl_base.specs.Planned.{planned_answer};
+ghost use Rattle.gl_base.specs.Count.{Rises};
 ghost use Rattle.gl_world.specs.declared.history.Entry.{Entry};
 ghost use Rattle.gl_world.specs.Deeds.{Deed};
 ghost use Rattle.gl_world.specs.Removal.{AllQuiet};
 ghost use Rattle.gl_gate.specs.Values.{IsPassOf};
 ghost use Rattle.gl_gate.specs.Calls.{IsInside, MayName};
 ghost use Rattle.gl_driver.specs.Calls.{FitsOp};
-ghost use Rattle.gl_driver.specs.Told.{faults_after, with_call};
+ghost use Rattle.gl_driver.specs.Told.{faults_after, planned_for, with_call};
 ghost use Rattle.gl_chip.specs.Steps.{CalledOnce, Drove, IsAsk, IsTell, Owes, StoodFull};
 
 use gl_base::Errno;
@@ -75,7 +74,7 @@ pub(crate) fn drive<M: Machine, D: Driver<M>, R: Wait>(
     ensures never_falls { D.Port.faults port.old ≤ D.Port.faults port.new }
     ensures fault { result ≡ None → Rises (D.Port.faults port.old) (D.Port.faults port.new) }
     ensures planned { D.is_planned ≡ true
-        → IfSome (D.Port.told port.old) (λ t. result ≡ planned_answer t.plan (counted_up t.calls)) }
+        → IfSome (D.Port.told port.old) (λ t. result ≡ planned_for op.now t) }
 {
     quiet_entries_keep_removals::<M>();
     // What holds of every pass is known once it has told its number.

@@ -25,7 +25,7 @@ pub enum Step {
     Read(&'static [u8]),
     /// Makes the chips of a device, or removes them.
     Live(&'static [u8], bool),
-    /// Removes the chip of a place below 16.
+    /// Removes the chip of a place below 64.
     Unplug(u8),
     /// Opens the chip of a word.
     Open(&'static [u8]),
@@ -33,7 +33,7 @@ pub enum Step {
     Tick(u64, u64),
     /// Looks for the lines of a name on all chips.
     Find(&'static [u8]),
-    /// Looks for the lines of a name on the chip of a place below 16.
+    /// Looks for the lines of a name on the chip of a place below 64.
     FindAt(u8, &'static [u8]),
 }
 

@@ -1,11 +1,8 @@
-//! Tables of calls on the open files of a device.
+//! Tables of calls on the open files of a device. `checks/rows` has more of them, as the sessions `chip-file` and `request-file`.
 
 use crate::files::{FileAnswer, OnFile, Row};
 use gl_base::Errno;
-use gl_base::command::{
-    GET_CHIPINFO, GET_LINE, GET_LINEINFO, GET_LINEINFO_UNWATCH, GET_LINEINFO_WATCH,
-    LINE_GET_VALUES, LINE_SET_CONFIG, LINE_SET_VALUES,
-};
+use gl_base::command::{GET_LINE, GET_LINEINFO_WATCH, LINE_GET_VALUES, LINE_SET_CONFIG};
 
 /// A request of line 0 as an output and line 1 as an input.
 const OUT_AND_IN: &[u8] =
@@ -15,112 +12,20 @@ const OUT_AND_IN: &[u8] =
 const OUT_AND_IN_MADE: &[u8] =
     b"00*4 01 00*283 04 00*7 01000000 00*20 0100000000000000 0800000000000000 0100000000000000 00*216 02000000 00*24 04000000";
 
-/// A request of line 2 as an input.
-const LINE_TWO: &[u8] = b"02 00*287 04 00*271 01000000 00*28";
-
-/// Information, watching, and the changes that come of a request, on a chip `demo` of four lines whose file has the number 3.
-pub fn rows_of_chip_files() -> [Row; 22] {
-    let info = OnFile::ChipCommand(GET_CHIPINFO);
-    let line_info = OnFile::ChipCommand(GET_LINEINFO);
-    let watch = OnFile::ChipCommand(GET_LINEINFO_WATCH);
-    let unwatch = OnFile::ChipCommand(GET_LINEINFO_UNWATCH);
-    let request = OnFile::ChipCommand(GET_LINE);
+/// The changes that come of a request, on a chip of four lines whose file has the number 3.
+pub fn rows_of_chip_files() -> [Row; 7] {
     [
         Row {
-            what: info,
-            given: b"00*68 ee",
-            answer: FileAnswer::Done,
-            left: b"6770696f6368697030 00*23 64656d6f 00*28 04000000 ee",
-        },
-        Row {
-            what: info,
-            given: b"00*67",
-            answer: FileAnswer::Refused(Errno::Fault),
-            left: b"00*67",
-        },
-        Row {
-            what: OnFile::ChipCommand(0x0000_B401),
-            given: b"00*68",
-            answer: FileAnswer::Refused(Errno::Inval),
-            left: b"00*68",
-        },
-        Row {
-            what: OnFile::ChipCommand(LINE_GET_VALUES),
-            given: b"00*16",
-            answer: FileAnswer::Refused(Errno::Inval),
-            left: b"00*16",
-        },
-        Row {
-            what: line_info,
-            given: b"00*64 03000000 00*188",
-            answer: FileAnswer::Done,
-            left: b"00*64 030000000000000004 00*183",
-        },
-        Row {
-            what: line_info,
-            given: b"00*64 04000000 00*188",
-            answer: FileAnswer::Refused(Errno::Inval),
-            left: b"00*64 04000000 00*188",
-        },
-        Row {
-            what: line_info,
-            given: b"00*255",
-            answer: FileAnswer::Refused(Errno::Fault),
-            left: b"00*255",
-        },
-        Row {
-            what: watch,
+            what: OnFile::ChipCommand(GET_LINEINFO_WATCH),
             given: b"00*256",
             answer: FileAnswer::Done,
             left: b"00*72 04 00*183",
         },
         Row {
-            what: watch,
-            given: b"00*256",
-            answer: FileAnswer::Refused(Errno::Busy),
-            left: b"00*256",
-        },
-        Row {
-            what: unwatch,
-            given: b"01000000",
-            answer: FileAnswer::Refused(Errno::Busy),
-            left: b"01000000",
-        },
-        Row {
-            what: OnFile::PollChip,
-            given: b"-",
-            answer: FileAnswer::Ready(0),
-            left: b"-",
-        },
-        Row {
-            what: OnFile::ReadChip,
-            given: b"00*288",
-            answer: FileAnswer::Refused(Errno::Again),
-            left: b"00*288",
-        },
-        Row {
-            what: OnFile::ReadChip,
-            given: b"00*287",
-            answer: FileAnswer::Refused(Errno::Inval),
-            left: b"00*287",
-        },
-        Row {
-            what: request,
-            given: b"00*591",
-            answer: FileAnswer::Refused(Errno::Fault),
-            left: b"00*591",
-        },
-        Row {
-            what: request,
+            what: OnFile::ChipCommand(GET_LINE),
             given: OUT_AND_IN,
             answer: FileAnswer::Made(4),
             left: OUT_AND_IN_MADE,
-        },
-        Row {
-            what: request,
-            given: OUT_AND_IN,
-            answer: FileAnswer::Refused(Errno::Busy),
-            left: OUT_AND_IN,
         },
         Row {
             what: OnFile::PollChip,
@@ -152,99 +57,23 @@ pub fn rows_of_chip_files() -> [Row; 22] {
             answer: FileAnswer::Bytes(288),
             left: b"00*72 08 00*183 05 00*7 02 00*35",
         },
-        Row {
-            what: unwatch,
-            given: b"00*4",
-            answer: FileAnswer::Done,
-            left: b"00*4",
-        },
     ]
 }
 
-/// Values, configurations, events and failures of the driver, on a chip of four lines whose file has the number 3.
-pub fn rows_of_requests() -> [Row; 29] {
-    let request = OnFile::ChipCommand(GET_LINE);
-    let config = OnFile::RequestCommand(LINE_SET_CONFIG);
-    let get = OnFile::RequestCommand(LINE_GET_VALUES);
-    let set = OnFile::RequestCommand(LINE_SET_VALUES);
+/// Events, and a failure of the driver, on a chip of four lines whose file has the number 3.
+pub fn rows_of_requests() -> [Row; 9] {
     [
         Row {
-            what: request,
+            what: OnFile::ChipCommand(GET_LINE),
             given: OUT_AND_IN,
             answer: FileAnswer::Made(4),
             left: OUT_AND_IN_MADE,
         },
         Row {
-            what: set,
-            given: b"03 00*7 03 00*7",
-            answer: FileAnswer::Refused(Errno::Perm),
-            left: b"03 00*7 03 00*7",
-        },
-        Row {
-            what: set,
-            given: b"04 00*7 04 00*7",
-            answer: FileAnswer::Refused(Errno::Inval),
-            left: b"04 00*7 04 00*7",
-        },
-        Row {
-            what: get,
-            given: b"00*16",
-            answer: FileAnswer::Refused(Errno::Inval),
-            left: b"00*16",
-        },
-        Row {
-            what: set,
-            given: b"01 00*7 01 00*7",
-            answer: FileAnswer::Done,
-            left: b"01 00*7 01 00*7",
-        },
-        Row {
-            what: get,
-            given: b"00*8 03 00*7",
-            answer: FileAnswer::Done,
-            left: b"01 00*7 03 00*7",
-        },
-        Row {
-            what: get,
-            given: b"00*15",
-            answer: FileAnswer::Refused(Errno::Fault),
-            left: b"00*15",
-        },
-        Row {
-            what: OnFile::RequestCommand(GET_CHIPINFO),
-            given: b"00*68",
-            answer: FileAnswer::Refused(Errno::Inval),
-            left: b"00*68",
-        },
-        Row {
-            what: config,
-            given: b"34 00*270",
-            answer: FileAnswer::Refused(Errno::Fault),
-            left: b"34 00*270",
-        },
-        Row {
-            what: config,
-            given: b"01 00*271",
-            answer: FileAnswer::Refused(Errno::Inval),
-            left: b"01 00*271",
-        },
-        Row {
-            what: config,
-            given: b"0010 00*270",
-            answer: FileAnswer::Refused(Errno::OpNotSupp),
-            left: b"0010 00*270",
-        },
-        Row {
-            what: config,
+            what: OnFile::RequestCommand(LINE_SET_CONFIG),
             given: b"34 00*271",
             answer: FileAnswer::Done,
             left: b"34 00*271",
-        },
-        Row {
-            what: OnFile::PollRequest,
-            given: b"-",
-            answer: FileAnswer::Ready(0),
-            left: b"-",
         },
         Row {
             what: OnFile::Pull(0, true),
@@ -277,70 +106,16 @@ pub fn rows_of_requests() -> [Row; 29] {
             left: b"00*8 01000000 00000000 01000000 01000000 00*24 05 00*7 01000000 01000000 02000000 01000000 00*24",
         },
         Row {
-            what: OnFile::ReadRequest,
-            given: b"00*48",
-            answer: FileAnswer::Refused(Errno::Again),
-            left: b"00*48",
-        },
-        Row {
-            what: OnFile::ReadRequest,
-            given: b"00*47",
-            answer: FileAnswer::Refused(Errno::Inval),
-            left: b"00*47",
-        },
-        Row {
             what: OnFile::Plan(1),
             given: b"-",
             answer: FileAnswer::Done,
             left: b"-",
         },
         Row {
-            what: get,
+            what: OnFile::RequestCommand(LINE_GET_VALUES),
             given: b"00*8 03 00*7",
             answer: FileAnswer::Refused(Errno::Io),
             left: b"00*8 03 00*7",
-        },
-        Row {
-            what: get,
-            given: b"00*8 03 00*7",
-            answer: FileAnswer::Done,
-            left: b"03 00*7 03 00*7",
-        },
-        Row {
-            what: OnFile::CloseRequest,
-            given: b"-",
-            answer: FileAnswer::Done,
-            left: b"-",
-        },
-        Row {
-            what: OnFile::CloseRequest,
-            given: b"-",
-            answer: FileAnswer::NoRequest,
-            left: b"-",
-        },
-        Row {
-            what: OnFile::Plan(1),
-            given: b"-",
-            answer: FileAnswer::Done,
-            left: b"-",
-        },
-        Row {
-            what: request,
-            given: LINE_TWO,
-            answer: FileAnswer::Refused(Errno::Io),
-            left: LINE_TWO,
-        },
-        Row {
-            what: request,
-            given: LINE_TWO,
-            answer: FileAnswer::Made(6),
-            left: b"02 00*287 04 00*271 01000000 00*24 06000000",
-        },
-        Row {
-            what: get,
-            given: b"00*8 01 00*7",
-            answer: FileAnswer::Done,
-            left: b"00*8 01 00*7",
         },
     ]
 }

@@ -76,7 +76,7 @@ fn calls_on_a_chip_file_are_answered_with_their_bytes(rt: HostRuntime) {
 #[test]
 fn calls_on_a_request_are_answered_with_their_bytes(rt: HostRuntime) {
     let told = told_of(&rt, rt.alloc(), &rows_of_requests());
-    assert_eq!(rt; told, Ok(right(2)));
+    assert_eq!(rt; told, Ok(right(1)));
 }
 
 /// The first wrong row, where there is one, of a device, of another one, and of the files of the first on the other.

@@ -1,10 +1,11 @@
-//! Whole talks over scripted results.
+//! Whole talks over scripted results: the operations that statements ask for, beside what they print.
 
+use crate::transcript::{put_call, results_of};
 use crate::turns::{Form, TURNS, Turn, all_taken, result_of, take_turn};
 use gl_args::Next;
 use gl_base::{Errno, Got};
 use gl_script::{Script, Statement};
-use gl_talk::Talk;
+use gl_talk::{Talk, talk_over};
 use std::alloc::Global;
 
 /// Goes on to the end of a statement, with the results that are left, and appends what it asks and prints.
@@ -69,7 +70,7 @@ fn talk_through(
 }
 
 /// The same for the statements of a session's first section.
-pub fn talk_in(
+fn talk_in(
     alloc: Global,
     text: &[u8],
     results: &[Got],
@@ -85,9 +86,70 @@ pub fn talk_in(
     }
 }
 
-/// The text of a session with these statements in `setup`.
-pub fn session_of(alloc: Global, statements: &str) -> Result<Vec<u8>, Errno> {
-    let mut text = b"session 1\nsetup\n".to_vec(alloc)?;
-    text.extend_from_slice(statements.as_bytes())?;
+/// The text of a session with these statements in `setup`, which `;` divides.
+fn session_of(alloc: Global, statements: &[u8]) -> Result<Vec<u8>, Errno> {
+    let mut text = b"session 2\nsetup\n".to_vec(alloc)?;
+    for byte in statements {
+        text.push(if *byte == b';' { b'\n' } else { *byte })?;
+    }
     Ok(text)
+}
+
+/// Appends what the statements of `setup` ask and print over these results.
+pub fn put(
+    alloc: Global,
+    statements: &[u8],
+    results: &[u8],
+    form: Form,
+    out: &mut Vec<u8>,
+) -> Result<(), Errno> {
+    let text = session_of(alloc, statements)?;
+    let results = results_of(alloc, results)?;
+    talk_in(alloc, &text, &results, form, out)
+}
+
+/// Appends the operations of a talk over these results as lines, and behind them its text.
+fn put_talk(
+    alloc: Global,
+    statements: &[Statement<'_>],
+    results: &[Got],
+    out: &mut Vec<u8>,
+) -> Result<(), Errno> {
+    if statements.len() > 1000 {
+        return Err(Errno::Full);
+    }
+    let talked = talk_over(alloc, statements, results)?;
+    for what in &talked.operations {
+        put_call(what, out)?;
+    }
+    out.extend_from_slice(&talked.text)?;
+    Ok(())
+}
+
+/// The same for the statements of a session's first section.
+fn put_section(
+    alloc: Global,
+    text: &[u8],
+    results: &[Got],
+    out: &mut Vec<u8>,
+) -> Result<(), Errno> {
+    match Script::parse(alloc, text) {
+        Ok(script) => match script.statements(0) {
+            Some(statements) => put_talk(alloc, statements, results, out),
+            None => Err(Errno::Inval),
+        },
+        Err(_) => Err(Errno::Inval),
+    }
+}
+
+/// The same for the statements of `setup`.
+pub fn put_over(
+    alloc: Global,
+    statements: &[u8],
+    results: &[u8],
+    out: &mut Vec<u8>,
+) -> Result<(), Errno> {
+    let text = session_of(alloc, statements)?;
+    let results = results_of(alloc, results)?;
+    put_section(alloc, &text, &results, out)
 }

@@ -69,6 +69,10 @@ fn put_board_call(what: &Do, out: &mut Vec<u8>) -> Result<(), Errno> {
             out.extend_from_slice(b"plan ")?;
             put_decimal(u64::from(*nth), out)?;
         }
+        Do::Accept { bits } => {
+            out.extend_from_slice(b"accept ")?;
+            put_decimal(*bits, out)?;
+        }
         _ => put_chip_call(what, out)?,
     }
     Ok(())
@@ -222,6 +226,7 @@ fn call_of(what: &Do) -> (&'static str, u32) {
         Do::Poll { slot } => ("poll", *slot),
         Do::Close { slot } => ("close", *slot),
         Do::Plan { nth } => ("plan", *nth),
+        Do::Accept { .. } => ("accept", 0),
     }
 }
 
@@ -238,7 +243,7 @@ pub fn put_short(what: &Do, out: &mut Vec<u8>) -> Result<(), Errno> {
 
 /// The results that words tell, one a word: `ok`, `number:N`, `text:VALUE`, `found:PLACE:OFFSET:COUNT`, `chip:NAME:LABEL:LINES`,
 /// `line:FLAGS:PERIOD:NAME:CONSUMER`, `values:BITS`, `ready:BITS`, `event:TIME:ID:OFFSET`, `change:TIME:KIND:OFFSET:FLAGS`,
-/// or the name of an error. An empty text tells none.
+/// `bytes:N` (the bytes 0, 1, 2, 3, and again), or the name of an error. An empty text tells none.
 pub fn results_of(alloc: Global, text: &[u8]) -> Result<Vec<Got>, Errno> {
     let mut results = Vec::new(alloc);
     for word in text.split(|byte| *byte == b' ') {
@@ -307,6 +312,14 @@ fn put_structure(piece: &[u8], bytes: &mut ByteList) -> Result<(), Errno> {
         let mut out = [0; 288];
         write_info_changed(&mut out, &changed(piece));
         return bytes.push_all(&out);
+    }
+    put_bytes(number(piece, 1), bytes)
+}
+
+/// Appends so many bytes: 0, 1, 2, 3, and again.
+fn put_bytes(count: u32, bytes: &mut ByteList) -> Result<(), Errno> {
+    for i in 0..count {
+        bytes.push_all(&[(i % 4) as u8])?;
     }
     Ok(())
 }

@@ -24,7 +24,7 @@ use Rattle.gl_uapi.specs.declared.layout.TheConstants.{CHANGED_RELEASED}
 use Rattle.gl_model.specs.declared.place.Origin.{Origin}
 use Rattle.gl_model.specs.declared.place.Place.{Place}
 use Rattle.gl_model.specs.Notify.{notify_each}
-use Rattle.gl_model.specs.Opening.{close, close_request, is_open, with_lines_freed, without_deadlines_at, without_request}
+use Rattle.gl_model.specs.Opening.{close, close_request, is_open, with_lines_freed, with_timers_let_go, without_request}
 use Rattle.gl_model.specs.Outcome.{done, refused_or}
 use Rattle.gl_model.specs.Places.{no_place}
 use Rattle.gl_model.specs.declared.reply.Reply.TheVariants.{Done, Refused}
@@ -74,7 +74,7 @@ found_number w fd request found = let passes : has_number fd request ≡ true = 
 
 request_gone : (w : World) (fd : ℕ) (request : Request) (requests : List RequestRow) (timers : List (Option Timer)) (places : List Place) → StandsFor (kept_of w) w → request_at w.requests fd ≡ Some request
     → requests ≡ without_first (is_number fd) (map kept_request w.requests)
-    → timers ≡ without_deadlines_at request.place (offsets_of request.lines) w.timers
+    → timers ≡ with_timers_let_go request.place (offsets_of request.lines) w.timers
     → places ≡ change_at no_place request.place (with_lines_freed (offsets_of request.lines)) w.places
     → StandsFor (record (kept_of w) { places = places; timers = timers; requests = requests }) (without_request request w)
 request_gone w fd request requests timers places s found gone cleared left = record {
@@ -91,7 +91,7 @@ request_gone w fd request requests timers places s found gone cleared left = rec
 closed_found : (w : World) (fd : ℕ) (request : Option Request) (claim : Claim) (requests : List RequestRow) (timers : List (Option Timer)) (places : List Place) (new : Kept) → StandsFor (kept_of w) w → request_at w.requests fd ≡ request
     → option_map claim_of (option_map kept_request request) ≡ Some claim
     → requests ≡ without_first (is_number fd) (map kept_request w.requests)
-    → timers ≡ without_deadlines_at claim.place (offsets_of claim.lines) w.timers
+    → timers ≡ with_timers_let_go claim.place (offsets_of claim.lines) w.timers
     → places ≡ change_at no_place claim.place (with_lines_freed (offsets_of claim.lines)) w.places
     → Follows (notify_each claim.place (offsets_of claim.lines) CHANGED_RELEASED) (record (kept_of w) { places = places; timers = timers; requests = requests }) new
     → StandsFor new (close_request request w)
@@ -99,7 +99,7 @@ closed_found w fd None claim requests timers places new s found is = let no : �
 closed_found w fd (Some request) claim requests timers places new s found is =
     let same : claim_of (kept_request request) ≡ claim = cc in
     subst (λ (claim : Claim). requests ≡ without_first (is_number fd) (map kept_request w.requests)
-    → timers ≡ without_deadlines_at claim.place (offsets_of claim.lines) w.timers
+    → timers ≡ with_timers_let_go claim.place (offsets_of claim.lines) w.timers
     → places ≡ change_at no_place claim.place (with_lines_freed (offsets_of claim.lines)) w.places
     → Follows (notify_each claim.place (offsets_of claim.lines) CHANGED_RELEASED) (record (kept_of w) { places = places; timers = timers; requests = requests }) new
     → StandsFor new (close_request (Some request) w)) same
@@ -109,14 +109,14 @@ closed_found w fd (Some request) claim requests timers places new s found is =
 pub closed_stands : (k : Kept) (w : World) (fd : ℕ) (claim : Claim) (requests : List RequestRow) (timers : List (Option Timer)) (places : List Place) (new : Kept) → StandsFor k w
     → option_map claim_of (row_at k.requests fd) ≡ Some claim
     → requests ≡ without_first (is_number fd) k.requests
-    → timers ≡ without_deadlines_at claim.place (offsets_of claim.lines) k.timers
+    → timers ≡ with_timers_let_go claim.place (offsets_of claim.lines) k.timers
     → places ≡ change_at no_place claim.place (with_lines_freed (offsets_of claim.lines)) k.places
     → Follows (notify_each claim.place (offsets_of claim.lines) CHANGED_RELEASED) (record k { places = places; timers = timers; requests = requests }) new
     → StandsFor new (close_request (request_at w.requests fd) w)
 closed_stands k w fd claim requests timers places new s =
     subst (λ (k : Kept). option_map claim_of (row_at k.requests fd) ≡ Some claim
     → requests ≡ without_first (is_number fd) k.requests
-    → timers ≡ without_deadlines_at claim.place (offsets_of claim.lines) k.timers
+    → timers ≡ with_timers_let_go claim.place (offsets_of claim.lines) k.timers
     → places ≡ change_at no_place claim.place (with_lines_freed (offsets_of claim.lines)) k.places
     → Follows (notify_each claim.place (offsets_of claim.lines) CHANGED_RELEASED) (record k { places = places; timers = timers; requests = requests }) new
     → StandsFor new (close_request (request_at w.requests fd) w)) s.kept_so

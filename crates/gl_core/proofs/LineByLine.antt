@@ -31,17 +31,17 @@ pub drive_end : (place mask bits : ℕ) (lines : Lines) (i : ℕ) (v : World) �
 drive_end place mask bits lines i v past = ap (λ offsets. drive_from place mask bits i offsets v) (offsets_end lines i past)
 
 -- one line more is configured
-pub configure_more : (place : ℕ) (settings : Resolved) (lines : Lines) (i : ℕ) (v : World) → i < lines.count → lines.count ≤ length lines.offsets
-    → configure_from place settings i (drop i (offsets_of lines)) v ≡ configure_from place settings (i + 1) (drop (i + 1) (offsets_of lines)) (configure_at place lines settings i v)
-configure_more place settings lines i v lt few = ap (λ offsets. configure_from place settings i offsets v) (offsets_more lines i lt few)
+pub configure_more : (place : ℕ) (settings : Resolved) (bits : ℕ) (lines : Lines) (i : ℕ) (v : World) → i < lines.count → lines.count ≤ length lines.offsets
+    → configure_from place settings bits i (drop i (offsets_of lines)) v ≡ configure_from place settings bits (i + 1) (drop (i + 1) (offsets_of lines)) (configure_at place lines settings bits i v)
+configure_more place settings bits lines i v lt few = ap (λ offsets. configure_from place settings bits i offsets v) (offsets_more lines i lt few)
 
-pub configure_end : (place : ℕ) (settings : Resolved) (lines : Lines) (i : ℕ) (v : World) → lines.count ≤ i → configure_from place settings i (drop i (offsets_of lines)) v ≡ v
-configure_end place settings lines i v past = ap (λ offsets. configure_from place settings i offsets v) (offsets_end lines i past)
+pub configure_end : (place : ℕ) (settings : Resolved) (bits : ℕ) (lines : Lines) (i : ℕ) (v : World) → lines.count ≤ i → configure_from place settings bits i (drop i (offsets_of lines)) v ≡ v
+configure_end place settings bits lines i v past = ap (λ offsets. configure_from place settings bits i offsets v) (offsets_end lines i past)
 
 -- one line more is configured and told of
-pub reconfigure_more : (place : ℕ) (settings : Resolved) (lines : Lines) (i : ℕ) (v : World) → i < lines.count → lines.count ≤ length lines.offsets
-    → reconfigure_from place settings i (drop i (offsets_of lines)) v ≡ reconfigure_from place settings (i + 1) (drop (i + 1) (offsets_of lines)) (reconfigure_at place lines settings i v)
-reconfigure_more place settings lines i v lt few = ap (λ offsets. reconfigure_from place settings i offsets v) (offsets_more lines i lt few)
+pub reconfigure_more : (place : ℕ) (settings : Resolved) (bits : ℕ) (lines : Lines) (i : ℕ) (v : World) → i < lines.count → lines.count ≤ length lines.offsets
+    → reconfigure_from place settings bits i (drop i (offsets_of lines)) v ≡ reconfigure_from place settings bits (i + 1) (drop (i + 1) (offsets_of lines)) (reconfigure_at place lines settings bits i v)
+reconfigure_more place settings bits lines i v lt few = ap (λ offsets. reconfigure_from place settings bits i offsets v) (offsets_more lines i lt few)
 
-pub reconfigure_end : (place : ℕ) (settings : Resolved) (lines : Lines) (i : ℕ) (v : World) → lines.count ≤ i → reconfigure_from place settings i (drop i (offsets_of lines)) v ≡ v
-reconfigure_end place settings lines i v past = ap (λ offsets. reconfigure_from place settings i offsets v) (offsets_end lines i past)
+pub reconfigure_end : (place : ℕ) (settings : Resolved) (bits : ℕ) (lines : Lines) (i : ℕ) (v : World) → lines.count ≤ i → reconfigure_from place settings bits i (drop i (offsets_of lines)) v ≡ v
+reconfigure_end place settings bits lines i v past = ap (λ offsets. reconfigure_from place settings bits i offsets v) (offsets_end lines i past)

@@ -3,7 +3,7 @@ use Rattle.std.proofs.Common.{drop, ◌++◌, ◌/◌, ◌≡◌, ◌≢◌, ℕ
 use Rattle.std.specs.Prelude.{◌==◌, ◌&&◌, nat_lt, if◌then◌else◌, replicate, slice_index_or, slice_set, Result}
 use Rattle.std.specs.List.{filter}
 use Rattle.std.specs.Option.{option_map}
-use Rattle.std.proofs.lemmas.Bool.{cases_eq, cases_lt}
+use Rattle.std.proofs.lemmas.Bool.{cases_eq, cases_lt, le-ltb}
 use Rattle.std.proofs.lemmas.List.{get_or_past, get_or-set_other, get_or-set_same, length-replicate}
 use Rattle.std.specs.Result.{result_err}
 use Rattle.gl_base.specs.Refusals.{answer, when}
@@ -25,7 +25,7 @@ use Rattle.gl_model.specs.Places.{no_origin, no_place}
 use Rattle.gl_model.specs.Outcome.{refused_or}
 use Rattle.gl_model.specs.Removal.{begin_remove, begin_unplug, change_where, end_at, end_remove, is_device_named, is_removing, is_removing_of, is_up_of, leave_at, remove_begun, remove_ended, removed_by, removed_places, unplug_begun, unplug_refusal, up_places, without_deadlines}
 use Rattle.gl_model.specs.World.{World}
-use Rattle.gl_model.specs.declared.reply.Reply.TheVariants.{Done}
+use Rattle.gl_model.specs.declared.reply.Reply.TheVariants.{Done, Refused}
 use Rattle.gl_core.specs.Chosen.{is_chosen, is_in_removal}
 use Rattle.gl_core.specs.Kept.{Kept, StandsFor}
 use Rattle.gl_core.specs.Shape.{HasLines, IsShaped}
@@ -86,6 +86,10 @@ pub none_marked : (n p : ℕ) → slice_index_or (replicate n false) p false ≡
 none_marked zero p = refl
 none_marked (suc n) zero = refl
 none_marked (suc n) (suc p) = none_marked n p
+
+-- before the first place nothing is marked
+pub none_marked_yet : (n p : ℕ) (b : Bool) → slice_index_or (replicate n false) p false ≡ (nat_lt p 0 && b)
+none_marked_yet n p b = none_marked n p ∙ sym (ap (λ t. t && b) (le-ltb p 0 (omega arith)))
 
 pub one_marked : (n at p : ℕ) → at < n → slice_index_or (slice_set (replicate n false) at true) p false ≡ (p == at)
 one_marked n at p lt = elim (cases_eq p at) as (λ _. slice_index_or (slice_set (replicate n false) at true) p false ≡ (p == at)) [
@@ -177,6 +181,20 @@ remove_ends w new actor device marks count used same all many some s =
     ap (λ (n : ℕ). when (n == 0) Busy) (sym (many ∙ ap (λ (ps : List ℕ). length ps) removed)) ∙ ap (λ b. when b Busy) (nat_eq_other count 0 some) in
     subst (λ r. StandsFor new (refused_or r w (remove_ended actor device w)).world × (Done ≡ (refused_or r w (remove_ended actor device w)).reply)) (sym free)
     (subst (StandsFor new) (end_same (is_chosen marks) (is_removing_of device actor w) (record w { tree = with_state device Off w.tree }) same) s, refl)
+
+-- no chip is being removed by this actor
+pub remove_refused : (w : World) (new : Kept) (actor : ℕ) (device : List ℕ) (marks : List Bool) (count used : ℕ)
+    → ((p : ℕ) → is_chosen marks p ≡ is_removing_of device actor w p) → used ≡ length w.chips
+    → count ≡ length (filter (is_chosen marks) (places_from 0 used)) → count ≡ 0
+    → StandsFor new w
+    → StandsFor new (end_remove actor device w).world × (Refused Busy ≡ (end_remove actor device w).reply)
+remove_refused w new actor device marks count used same all many none s =
+    let removed : filter (is_chosen marks) (places_from 0 used) ≡ removed_places device actor w =
+    ap (λ n. filter (is_chosen marks) (places_from 0 n)) all ∙ filter_same (is_chosen marks) (is_removing_of device actor w) (places_from 0 (length w.chips)) same in
+    let busy : when (length (removed_places device actor w) == 0) Busy ≡ Some Busy =
+    ap (λ (n : ℕ). when (n == 0) Busy) (sym (many ∙ ap (λ (ps : List ℕ). length ps) removed) ∙ none) in
+    subst (λ r. StandsFor new (refused_or r w (remove_ended actor device w)).world × (Refused Busy ≡ (refused_or r w (remove_ended actor device w)).reply)) (sym busy)
+    (s, refl)
 
 -- the refusal of a call that was refused by it, or done
 pub refusal_again : (r : Option Errno) (told : Result (Unit {0}) Errno) → told ≡ answer r tt → result_err told ≡ r

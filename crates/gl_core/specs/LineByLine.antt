@@ -17,14 +17,14 @@ abbrev pub drive_masked : ℕ → Lines → ℕ → ℕ → ℕ → World → Wo
 drive_masked place lines mask bits i w =
     if has_bit mask i then with_place place (with_levels (slice_index lines.offsets i) (driven_with (has_bit bits i))) w else w
 
--- the world with the line at position i of a request configured with its settings
-abbrev pub configure_at : ℕ → Lines → Resolved → ℕ → World → World
-configure_at place lines settings i w = configure place (settings_of settings i) (slice_index lines.offsets i) w
+-- the world with the line at position i of a request configured with its settings, and with its bit in the driver's answer
+abbrev pub configure_at : ℕ → Lines → Resolved → ℕ → ℕ → World → World
+configure_at place lines settings bits i w = configure place (settings_of settings i) (has_bit bits i) (slice_index lines.offsets i) w
 
 -- the same with new settings, of which is told; without a direction the line is left as it is
-abbrev pub reconfigure_at : ℕ → Lines → Resolved → ℕ → World → World
-reconfigure_at place lines settings i w =
-    if is_directed settings i then notify place (slice_index lines.offsets i) CHANGED_CONFIG (configure_at place lines settings i w) else w
+abbrev pub reconfigure_at : ℕ → Lines → Resolved → ℕ → ℕ → World → World
+reconfigure_at place lines settings bits i w =
+    if is_directed settings i then notify place (slice_index lines.offsets i) CHANGED_CONFIG (configure_at place lines settings bits i w) else w
 
 -- the settings of the line at position i of a request after new ones came
 abbrev pub line_after : Resolved → Resolved → ℕ → Settings

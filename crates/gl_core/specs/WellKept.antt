@@ -3,6 +3,7 @@ use Rattle.std.specs.Prelude.{◌≡◌, ℕ, ◌*◌, ◌<◌, ◌≤◌, ◌^�
 use Rattle.std.specs.List.{IsDistinct}
 use Rattle.gl_base.specs.Rows.{Each}
 use Rattle.gl_base.specs.declared.limits.TheConstants.{LINES_MAX, PLACES}
+use Rattle.gl_debounce.specs.Timer.{HardLinesAreStill}
 use Rattle.gl_request.specs.Request.{HasLines as HasLimits}
 use Rattle.gl_model.specs.Holders.{HasItsLines, HoldersAgree, file_numbers}
 use Rattle.gl_model.specs.Names.{HasAllNames}
@@ -17,6 +18,8 @@ pub record HasItsTables (k : Kept) : Type 0 where
   pub shape : IsShaped k.chips k.origins k.places
   -- each line of each place has its timer
   pub timers : length k.timers ≡ PLACES * LINES_MAX
+  -- a line that its driver debounces has no deadline
+  pub hard_lines : HardLinesAreStill k.timers
   -- the monotonic clock is below 2^63
   pub clock : k.mono < 2 ^ 63
   -- a request has 1 to 64 lines, and room for 1 to 1024 events

@@ -220,23 +220,25 @@ impl State {
         self.places.settle(place, lines);
     }
 
-    /// Finishes the claim that was found: its lines are held, configured, and told of as requested, each in order.
-    fn hold_claim(&mut self, found: RequestAt)
+    /// Finishes the claim that was found: its lines are held, configured behind the driver's answer, and told of as requested,
+    /// each in order.
+    fn hold_claim(&mut self, found: RequestAt, bits: u64)
         requires stands { StandsAt found self.old.requests }
         requires lines { (row : RequestRow) → row_at self.old.requests found.fd ≡ Some row → Each (HasLine self.old.places row.place) (offsets_of row.lines) }
-        ensures { (request : Request) → row_at self.old.requests found.fd ≡ Some (kept_request request) → Follows (hold_claim request) self.old self.new }
+        ensures { (request : Request) → row_at self.old.requests found.fd ≡ Some (kept_request request) → Follows (hold_claim bits request) self.old self.new }
     {
         let row = self.requests.row(found);
         let place = row.place;
         let lines = row.lines;
         self.settle_claim(place, &lines, found);
-        self.configure_each(place, &lines, found);
+        self.configure_each(place, &lines, found, bits);
         self.notify_each(place, &lines, CHANGED_REQUESTED);
     }
 
     /// GET_LINE is told what the driver answered, `None` where it failed. The actor's unfinished claim at this place alone
     /// decides: `Inval` without one; `Io` where the driver failed, and then the claim is given up, so that this is the one
-    /// refusal that changes the machine. Else the lines are held, the request is written with the number of its file, as far as
+    /// refusal that changes the machine. Else the lines are held, the driver debounces those with a period whose bit it answered,
+    /// the request is written with the number of its file, as far as
     /// the buffer goes, and the answer is this number.
     pub(crate) fn get_line_tell(
         &mut self,
@@ -256,8 +258,8 @@ impl State {
                     self.drop_claim(found);
                     Reply::Refused(Errno::Io)
                 }
-                Some(_) => {
-                    self.hold_claim(found);
+                Some(bits) => {
+                    self.hold_claim(found, bits);
                     write_with_fd(out, bytes, found.fd);
                     Reply::Number(u64::from(found.fd))
                 }

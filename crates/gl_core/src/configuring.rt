@@ -7,7 +7,7 @@ ghost use Rattle.gl_base.specs.Lines.{IsLineCount, offsets_of};
 ghost use Rattle.gl_base.specs.Positions.{first_fault};
 ghost use Rattle.gl_base.specs.declared.limits.TheConstants.{LINES_PER_REQUEST};
 ghost use Rattle.gl_uapi.specs.declared.layout.TheConstants.{LINE_CONFIG_SIZE};
-ghost use Rattle.gl_model.specs.Configuring.{config_refusal, configure, configure_each, directed_fault, interrupt_fault, is_directed, needs_interrupt, reconfigure, reconfigure_from, set_config, settings_after, with_period};
+ghost use Rattle.gl_model.specs.Configuring.{config_refusal, configure, configure_each, directed_fault, interrupt_fault, is_debounced_hard, is_directed, needs_interrupt, reconfigure, reconfigure_from, set_config, settings_after, with_period};
 ghost use Rattle.gl_model.specs.OpenFiles.{in_parts, on_request};
 ghost use Rattle.gl_model.specs.Outcome.{done};
 ghost use Rattle.gl_model.specs.Places.{no_place, place_at};
@@ -37,6 +37,13 @@ fn needs_interrupt(settings: &Settings) -> bool
     has_bit(settings.flags, flag::EDGE_RISING)
         || has_bit(settings.flags, flag::EDGE_FALLING)
         || settings.debounce_us != 0
+}
+
+/// The driver debounces a line with these settings: they have a debounce period, and the driver's answer has the line's bit.
+fn is_debounced_hard(settings: &Settings, answered: bool) -> bool
+    ensures { result ≡ is_debounced_hard settings.now answered }
+{
+    settings.debounce_us != 0 && answered
 }
 
 /// What is wrong with these settings for a line with this interrupt, first case first: `NxIo` where they need one and it has
@@ -87,71 +94,80 @@ fn settings_after(before: &Resolved, after: &Resolved, count: u32) -> Resolved
 }
 
 impl State {
-    /// Where the debounce period of a line is another one than before, the line has settled at the level that it has now, and
-    /// no deadline runs.
-    fn set_period(&mut self, place: u8, offset: u32, before: &Levels)
+    /// The line is hard from now on, or isn't. Where that is another thing than before, or its debounce period is, the line has
+    /// settled at the level that it has now, and no deadline runs.
+    fn set_period(&mut self, place: u8, offset: u32, before: &Levels, hard: bool)
         requires { HasLine self.old.places place offset }
-        ensures { self.new ≡ record self.old { timers = with_period place offset before.now (levels_at (slice_index_or self.old.places place no_place).bank offset) self.old.timers } }
+        ensures { self.new ≡ record self.old { timers = with_period place offset before.now (levels_at (slice_index_or self.old.places place no_place).bank offset) hard self.old.timers } }
     {
         let bank = &self.places.at(place).bank;
-        if before.debounce_us != bank.line(offset).debounce_us {
+        let same_period = before.debounce_us == bank.line(offset).debounce_us;
+        if !(same_period && self.timers.is_hard(place, offset) == hard) {
             let level = bank.level(offset);
-            self.timers.start(place, offset, level);
+            self.timers.start(place, offset, level, hard);
         }
     }
 
-    /// Configures a line.
-    pub(crate) fn configure(&mut self, place: u8, settings: &Settings, offset: u32)
+    /// Configures a line, of which the driver's answer has the bit, or hasn't.
+    pub(crate) fn configure(&mut self, place: u8, settings: &Settings, answered: bool, offset: u32)
         requires { HasLine self.old.places place offset }
-        ensures follows { Follows (configure place settings.now offset) self.old self.new }
+        ensures follows { Follows (configure place settings.now answered offset) self.old self.new }
         ensures lines { KeepsLines self.old.places self.new.places }
         ensures requests { self.new.requests ≡ self.old.requests }
     {
         let before = self.places.at(place).bank.line(offset);
         let kind = self.kind(place);
         self.places.configure(place, offset, kind, settings);
-        self.set_period(place, offset, &before);
+        self.set_period(
+            place,
+            offset,
+            &before,
+            is_debounced_hard(settings, answered),
+        );
     }
 
-    /// Configures the line at position `i` of a request with its settings.
-    fn configure_at(&mut self, place: u8, lines: &Lines, settings: &Resolved, i: u32)
+    /// Configures the line at position `i` of a request with its settings, and with its bit in the driver's answer.
+    fn configure_at(&mut self, place: u8, lines: &Lines, settings: &Resolved, bits: u64, i: u32)
         requires i { i < lines.now.count }
         requires count { IsLineCount lines.now.count }
         requires line { HasLine self.old.places place (slice_index lines.now.offsets i) }
-        ensures follows { Follows (configure_at place lines.now settings.now i) self.old self.new }
+        ensures follows { Follows (configure_at place lines.now settings.now bits i) self.old self.new }
         ensures lines { KeepsLines self.old.places self.new.places }
     {
         self.configure(
             place,
             &settings.lines[i as usize],
+            has_bit(bits, i),
             lines.offsets[i as usize],
         );
     }
 
-    /// Configures the line at position `i` of the request that was found with its settings.
-    fn configure_found(&mut self, place: u8, lines: &Lines, found: RequestAt, i: u32)
+    /// Configures the line at position `i` of the request that was found with its settings, and with its bit in the driver's
+    /// answer.
+    fn configure_found(&mut self, place: u8, lines: &Lines, found: RequestAt, bits: u64, i: u32)
         requires i { i < lines.now.count }
         requires count { IsLineCount lines.now.count }
         requires line { HasLine self.old.places place (slice_index lines.now.offsets i) }
         requires stands { StandsAt found self.old.requests }
-        ensures follows { (row : RequestRow) → row_at self.old.requests found.fd ≡ Some row → Follows (configure_at place lines.now row.settings i) self.old self.new }
+        ensures follows { (row : RequestRow) → row_at self.old.requests found.fd ≡ Some row → Follows (configure_at place lines.now row.settings bits i) self.old self.new }
         ensures lines { KeepsLines self.old.places self.new.places }
         ensures requests { self.new.requests ≡ self.old.requests }
     {
         let settings = self.requests.row(found).settings.lines[i as usize];
-        self.configure(place, &settings, lines.offsets[i as usize]);
+        let answered = has_bit(bits, i);
+        self.configure(place, &settings, answered, lines.offsets[i as usize]);
     }
 
-    /// Configures the lines of the request that was found, in order, each with its settings.
-    pub(crate) fn configure_each(&mut self, place: u8, lines: &Lines, found: RequestAt)
+    /// Configures the lines of the request that was found, in order, each with its settings and its bit in the driver's answer.
+    pub(crate) fn configure_each(&mut self, place: u8, lines: &Lines, found: RequestAt, bits: u64)
         requires count { IsLineCount lines.now.count }
         requires lines { HasEachLine self.old.places place lines.now }
         requires stands { StandsAt found self.old.requests }
-        ensures follows { (row : RequestRow) → row_at self.old.requests found.fd ≡ Some row → Follows (configure_each place lines.now row.settings) self.old self.new }
+        ensures follows { (row : RequestRow) → row_at self.old.requests found.fd ≡ Some row → Follows (configure_each place lines.now row.settings bits) self.old self.new }
         ensures lines { KeepsLines self.old.places self.new.places }
     {
         for i in 0..lines.count {
-            self.configure_found(place, lines, found, i);
+            self.configure_found(place, lines, found, bits, i);
         }
     }
 
@@ -186,27 +202,27 @@ impl State {
     }
 
     /// Configures the line at position `i` of a request with new settings, and tells of it, where they give it a direction.
-    fn reconfigure_at(&mut self, place: u8, lines: &Lines, settings: &Resolved, i: u32)
+    fn reconfigure_at(&mut self, place: u8, lines: &Lines, settings: &Resolved, bits: u64, i: u32)
         requires i { i < lines.now.count }
         requires count { IsLineCount lines.now.count }
         requires line { HasLine self.old.places place (slice_index lines.now.offsets i) }
-        ensures follows { Follows (reconfigure_at place lines.now settings.now i) self.old self.new }
+        ensures follows { Follows (reconfigure_at place lines.now settings.now bits i) self.old self.new }
         ensures lines { KeepsLines self.old.places self.new.places }
     {
         if is_directed(settings, i) {
-            self.configure_at(place, lines, settings, i);
+            self.configure_at(place, lines, settings, bits, i);
             self.notify(place, lines.offsets[i as usize], CHANGED_CONFIG);
         }
     }
 
     /// Configures the lines of a request with new settings, in order, and tells of each.
-    fn reconfigure_each(&mut self, place: u8, lines: &Lines, settings: &Resolved)
+    fn reconfigure_each(&mut self, place: u8, lines: &Lines, settings: &Resolved, bits: u64)
         requires count { IsLineCount lines.now.count }
         requires lines { HasEachLine self.old.places place lines.now }
-        ensures { Follows (reconfigure_from place settings.now 0 (offsets_of lines.now)) self.old self.new }
+        ensures { Follows (reconfigure_from place settings.now bits 0 (offsets_of lines.now)) self.old self.new }
     {
         for i in 0..lines.count {
-            self.reconfigure_at(place, lines, settings, i);
+            self.reconfigure_at(place, lines, settings, bits, i);
         }
     }
 
@@ -219,17 +235,17 @@ impl State {
         self.requests.configure_at(found, settings);
     }
 
-    /// Configures the lines of a request anew. Its events and their numbers go on.
-    fn reconfigure(&mut self, place: u8, found: RequestAt, after: &Resolved)
+    /// Configures the lines of a request anew, behind the driver's answer. Its events and their numbers go on.
+    fn reconfigure(&mut self, place: u8, found: RequestAt, after: &Resolved, bits: u64)
         requires stands { StandsAt found self.old.requests }
         requires lines { (row : RequestRow) → row_at self.old.requests found.fd ≡ Some row → HasEachLine self.old.places place row.lines }
-        ensures { (row : RequestRow) → row_at self.old.requests found.fd ≡ Some row → Follows (reconfigure place found.fd row.lines row.settings after.now) self.old self.new }
+        ensures { (row : RequestRow) → row_at self.old.requests found.fd ≡ Some row → Follows (reconfigure place found.fd row.lines row.settings after.now bits) self.old self.new }
     {
         let row = self.requests.row(found);
         let lines = row.lines;
         let settings = settings_after(&row.settings, after, lines.count);
         self.keep_settings(found, &settings);
-        self.reconfigure_each(place, &lines, after);
+        self.reconfigure_each(place, &lines, after, bits);
     }
 
     /// The settings that a configuration asks for, or why it is refused for these lines: what is wrong with its bytes, and then
@@ -256,7 +272,7 @@ impl State {
     }
 
     /// New settings of a request, once nothing is wrong with them: they go to the driver; `Io` where the driver failed; else the
-    /// lines are configured.
+    /// lines are configured, and those whose bit it answered are debounced by it.
     fn take_settings(
         &mut self,
         place: u8,
@@ -266,14 +282,14 @@ impl State {
     ) -> Reply
         requires stands { StandsAt found self.old.requests }
         requires lines { (row : RequestRow) → row_at self.old.requests found.fd ≡ Some row → HasEachLine self.old.places place row.lines }
-        ensures { (row : RequestRow) → row_at self.old.requests found.fd ≡ Some row → Steps (in_parts part.now (λ bits v. done (reconfigure place found.fd row.lines row.settings settings.now v))) self.old self.new result }
+        ensures { (row : RequestRow) → row_at self.old.requests found.fd ≡ Some row → Steps (in_parts part.now (λ bits v. done (reconfigure place found.fd row.lines row.settings settings.now bits v))) self.old self.new result }
     {
         match *part {
             Part::Whole => Reply::Refused(Errno::Inval),
             Part::Ask => Reply::Go(0),
             Part::Tell(None) => Reply::Refused(Errno::Io),
-            Part::Tell(Some(_)) => {
-                self.reconfigure(place, found, settings);
+            Part::Tell(Some(bits)) => {
+                self.reconfigure(place, found, settings, bits);
                 Reply::Done
             }
         }

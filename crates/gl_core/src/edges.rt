@@ -118,7 +118,8 @@ impl State {
         }
     }
 
-    /// The line has another physical level: an edge at once where it isn't debounced, else a level that is to settle.
+    /// The line has another physical level: an edge at once where it isn't debounced, or by its driver, else a level that is to
+    /// settle.
     fn raw_edge_to(&mut self, place: u8, offset: u32, up: bool)
         requires { HoldersHaveLines self.old.places self.old.requests }
         ensures { Follows (λ w. raw_edge_for (input_holder (place_at w place) offset) place offset up w) self.old self.new }
@@ -127,7 +128,7 @@ impl State {
             None => {}
             Some(_) => {
                 let line = self.places.at(place).bank.line(offset);
-                if line.debounce_us == 0 {
+                if line.debounce_us == 0 || self.timers.is_hard(place, offset) {
                     self.edge(place, offset, up, self.mono);
                 } else {
                     let deadline = deadline_of(&line, self.mono);

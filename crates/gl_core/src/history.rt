@@ -1,13 +1,13 @@
 //! Histories, made again.
 
-ghost use Rattle.std.specs.Prelude.{◌≡◌, ◌<◌, ◌≤◌, ◌^◌, true, length, IfOk, IfSome, IsOkUnless};
+ghost use Rattle.std.specs.Prelude.{◌≡◌, ◌<◌, ◌≤◌, ◌^◌, ◌++◌, true, drop, length, IfOk, IfSome, IsOkUnless};
 ghost use Rattle.std.specs.Bool.{Decides};
 ghost use Rattle.gl_world.specs.Ranks.{IsClosing, IsNotGone, rank};
 ghost use Rattle.gl_model.specs.Chips.{phase_at};
 ghost use Rattle.gl_model.specs.World.{World};
 ghost use Rattle.gl_core.specs.Kept.{StandsFor};
-ghost use Rattle.gl_model.specs.Fits.{FitsCall};
-ghost use Rattle.gl_model.specs.Machine.{world_after};
+ghost use Rattle.gl_model.specs.Fits.{FitsBuffer, FitsCall};
+ghost use Rattle.gl_model.specs.Machine.{bytes_of, world_after};
 ghost use Rattle.gl_model.specs.Step.{step};
 ghost use Rattle.gl_core.specs.Legal.{FindsPlace, GoesOn, IsFirstBad};
 ghost use Rattle.gl_core.specs.Steps.{Steps};
@@ -41,6 +41,30 @@ pub fn first_bad(history: &[Entry<Core>], alloc: Global) -> Result<Option<u32>, 
 }
 
 impl Core {
+    /// Whether a history that led to the core may go on with an entry. If so, the core makes the entry's call, and what the machine writes
+    /// there stands at the start of the call's buffer; behind that the buffer stays. It fails only for want of memory. After `false` or a
+    /// failure nothing is said of the core and of the buffer any more.
+    pub fn goes_on_into(
+        &mut self,
+        entry: &Entry<Core>,
+        out: &mut [u8],
+        alloc: Global,
+    ) -> Result<bool, Errno>
+        requires { FitsBuffer entry.now.call out.old }
+        ensures told { IfOk result (λ good. (w : World) → StandsFor self.old w → Decides good (GoesOn w entry.now.actor entry.now.call entry.now.reply)) }
+        ensures world { IfOk result (λ good. (w : World) → StandsFor self.old w → good ≡ true → StandsFor self.new (world_after w entry.now.actor entry.now.call)) }
+        ensures bytes { IfOk result (λ good. (w : World) → StandsFor self.old w → good ≡ true
+            → let bytes = bytes_of w entry.now.actor entry.now.call in out.new ≡ bytes ++ drop (length bytes) out.old) }
+        ensures memory_alone { IsOkUnless result Errno.NoMemory }
+    {
+        if !fits_call(&entry.call) || !self.state.finds_place(&entry.call) {
+            return Ok(false);
+        }
+        let mut gift = gift_for(&entry.call, alloc)?;
+        let reply = self.step(entry.actor, &entry.call, &mut gift, out);
+        Ok(reply == entry.reply)
+    }
+
     /// Whether a history that led to the core may go on with an entry. If so, the core makes the entry's call.
     fn goes_on(
         &mut self,

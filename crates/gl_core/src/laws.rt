@@ -17,7 +17,8 @@ pub fn kept_requests_keep_edges()
 {}
 
 /// What is true of a core at every moment. Chips, origins and places are as many, each place's tables have its chip's lines, and each
-/// line of each place has its timer; the monotonic clock is below 2^63; a request has 1 to 64 lines and room for 1 to 1024 events.
+/// line of each place has its timer; a line that its driver debounces has no deadline; the monotonic clock is below 2^63; a request
+/// has 1 to 64 lines and room for 1 to 1024 events.
 /// A line has one holder; requests and files have different numbers, below the next one, which is at most 2^31; an actor has one
 /// unfinished claim at most; and names are names.
 pub fn core_is_well_kept(core: &Core)

@@ -1,6 +1,7 @@
 //! The core as a machine.
 
 ghost use Rattle.std.specs.Prelude.{◌≡◌, ◌++◌, IfOk, IsOkUnless, drop, length};
+ghost use Rattle.gl_debounce.specs.Earliest.{earliest};
 ghost use Rattle.gl_model.specs.Chips.{phase_at};
 ghost use Rattle.gl_model.specs.Entries.{awaited_call, begins, begun_places, ends, guarded_place, is_last_removal, last_call, refused_place};
 ghost use Rattle.gl_model.specs.Fits.{Fits, FitsCall, Leaves};
@@ -12,6 +13,7 @@ ghost use Rattle.gl_model.specs.World.{World, opening};
 ghost use Rattle.gl_model.proofs.MachineLaws.{machine_laws};
 ghost use Rattle.gl_model.proofs.PhaseLaws.{never_both};
 ghost use Rattle.gl_core.specs.Kept.{StandsFor};
+ghost use Rattle.gl_core.specs.Steps.{Tells};
 
 use crate::entries;
 use crate::state::State;
@@ -160,5 +162,12 @@ impl Core {
     {
         let state = State::new(alloc)?;
         Ok(Core { state })
+    }
+
+    /// The earliest deadline of all lines, in nanoseconds of the monotonic clock, or None where no line has one.
+    pub fn due(&self) -> Option<u64>
+        ensures { Tells (λ w. earliest w.timers) self.now result }
+    {
+        self.state.timers.earliest()
     }
 }

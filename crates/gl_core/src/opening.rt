@@ -9,7 +9,7 @@ ghost use Rattle.gl_request.specs.declared.row.RequestRow.{RequestRow};
 ghost use Rattle.gl_watch.specs.Files.{file_at};
 ghost use Rattle.gl_model.specs.declared.call.Call.TheVariants.{OpenChip};
 ghost use Rattle.gl_model.specs.Fits.{FitsGift, Leaves};
-ghost use Rattle.gl_model.specs.Opening.{close, close_request, open_chip, open_refusal, with_file, without_deadlines_at};
+ghost use Rattle.gl_model.specs.Opening.{close, close_request, open_chip, open_refusal, with_file, with_timers_let_go};
 ghost use Rattle.gl_model.specs.World.{request_at};
 ghost use Rattle.gl_core.specs.Reached.{IsReached};
 ghost use Rattle.gl_core.specs.Shape.{HasLine, IsInRange};
@@ -113,18 +113,18 @@ impl State {
         ensures { Follows (λ w. close_request (request_at w.requests found.fd) w) self.old self.new }
     {
         let row = self.requests.take_at(found);
-        clear_each(&mut self.timers, row.place, row.lines.offsets());
+        let_go_each(&mut self.timers, row.place, row.lines.offsets());
         self.places.free(row.place, &row.lines);
         self.notify_each(row.place, &row.lines, CHANGED_RELEASED);
     }
 }
 
-/// Stops the deadlines of the lines at these offsets of a place.
-fn clear_each(timers: &mut Timers, place: u8, offsets: &[u32])
+/// Lets go of the timers of the lines at these offsets of a place.
+fn let_go_each(timers: &mut Timers, place: u8, offsets: &[u32])
     requires { Each (IsInRange place) offsets.now }
-    ensures { timers.new ≡ without_deadlines_at place offsets.now timers.old }
+    ensures { timers.new ≡ with_timers_let_go place offsets.now timers.old }
 {
     for offset in offsets {
-        timers.clear(place, *offset);
+        timers.let_go(place, *offset);
     }
 }

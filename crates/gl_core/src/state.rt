@@ -83,6 +83,7 @@ impl State {
         ensures { HasItsTables self.now }
     {
         let _timers = self.timers.len();
+        self.timers.hard_lines_are_still();
         self.requests.have_limits();
     }
 

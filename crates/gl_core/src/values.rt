@@ -40,8 +40,8 @@ fn has_bit_below(count: u32, word: u64) -> bool
 }
 
 impl State {
-    /// The value of the line at position `i` of a request: where it is debounced, the level at which it has settled, inverted
-    /// where it is active low; else its logical value on a simulated chip, and what the driver answered on a remote one.
+    /// The value of the line at position `i` of a request: where it is debounced, and not by its driver, the level at which it
+    /// has settled, inverted where it is active low; else its logical value on a simulated chip, and what the driver answered on a remote one.
     fn value_of(&self, place: u8, lines: &Lines, answered: u64, i: u32) -> bool
         requires i { i < lines.now.count }
         requires count { IsLineCount lines.now.count }
@@ -51,17 +51,17 @@ impl State {
         let offset = lines.offsets[i as usize];
         let bank = &self.places.at(place).bank;
         let line = bank.line(offset);
-        if line.debounce_us != 0 {
-            let settled = match self.timers.settled(place, offset) {
-                Some(level) => level,
-                None => bank.level(offset),
+        if line.debounce_us == 0 || self.timers.is_hard(place, offset) {
+            return match self.kind(place) {
+                Kind::Simulated => bank.logical(offset),
+                Kind::Remote => has_bit(answered, i),
             };
-            return flip(line.flags, settled);
         }
-        match self.kind(place) {
-            Kind::Simulated => bank.logical(offset),
-            Kind::Remote => has_bit(answered, i),
-        }
+        let settled = match self.timers.settled(place, offset) {
+            Some(level) => level,
+            None => bank.level(offset),
+        };
+        flip(line.flags, settled)
     }
 
     /// The bit of the line at position `i` of a request: its value where it is masked, else 0.

@@ -6,3 +6,4 @@ pub mod Lookup
 pub mod Padding
 pub mod Ranks
 pub mod Slots
+pub mod SoonestOf

@@ -1,5 +1,5 @@
 -- The table of all lines, of which the first have a row.
-use Rattle.std.proofs.Common.{ℕ, zero, suc, ◌≡◌, ◌+◌, ◌-◌, ◌*◌, ◌<◌, ◌≤◌, List, [], ◌∷◌, ◌++◌, length, get_or, set, replicate, Option, Some, None, ap, refl, sym, ◌∙◌, inl, inr, arith, length-set, length-append}
+use Rattle.std.proofs.Common.{Bool, true, false, not, ℕ, zero, suc, ◌≡◌, ◌+◌, ◌-◌, ◌*◌, ◌<◌, ◌≤◌, List, [], ◌∷◌, ◌++◌, length, get_or, set, replicate, Option, Some, None, ap, refl, sym, ◌∙◌, inl, inr, arith, length-set, length-append}
 use Rattle.std.specs.List.{slice_get}
 use Rattle.std.specs.Option.{option_map}
 use Rattle.std.proofs.lemmas.Bool.{cases_lt}
@@ -11,7 +11,7 @@ use Rattle.gl_debounce.specs.declared.timer.TheConstants.{TABLE_SIZE}
 use Rattle.gl_debounce.specs.declared.timer.Fired.{Fired}
 use Rattle.gl_debounce.specs.declared.timer.Timer.{Timer}
 use Rattle.gl_debounce.specs.Fire.{comes_before, due, fires}
-use Rattle.gl_debounce.specs.Timer.{all_lines, line_number, no_timers, timer_at, with_new_timer, with_timer}
+use Rattle.gl_debounce.specs.Timer.{HardLinesAreStill, all_lines, hard_at, is_hard, is_still_if_hard, line_number, no_timers, timer_at, with_new_timer, with_raw, with_timer}
 use Rattle.gl_debounce.proofs.GoingOn.{due-append}
 
 -- without rows there are no timers
@@ -118,3 +118,13 @@ first_told now rows lines first view is =
 
 pub size_told : (rows lines : List (Option Timer)) → all_lines rows ≡ lines → length rows ≤ TABLE_SIZE → length lines ≡ TABLE_SIZE
 size_told rows lines view few = sym (ap (λ (ts : List (Option Timer)). length ts) view) ∙ as_many rows few
+
+-- no hard line has a deadline, nor has one that has no row
+pub still_told : (rows now : List (Option Timer)) → all_lines rows ≡ now → HardLinesAreStill rows → HardLinesAreStill now
+still_told rows now view still n = ap (λ (ts : List (Option Timer)). is_still_if_hard (get_or ts n None)) (sym view) ∙ ap is_still_if_hard (timer_read rows n) ∙ still n
+
+-- a line that isn't hard may wait
+pub raw_is_still : (rows now : List (Option Timer)) (place offset n : ℕ) (timer new : Timer) (level : Bool) (deadline : ℕ) → all_lines rows ≡ now → n ≡ line_number place offset
+    → Some timer ≡ get_or rows n None → hard_at now place offset ≡ false → new ≡ with_raw level deadline timer → is_still_if_hard (Some new) ≡ true
+raw_is_still rows now place offset n timer new level deadline view number is soft so =
+    ap (λ (t : Timer). is_still_if_hard (Some t)) so ∙ ap not (ap is_hard (is ∙ timer_told rows now place offset n view number) ∙ soft)

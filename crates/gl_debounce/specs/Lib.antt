@@ -1,3 +1,4 @@
+pub mod Earliest
 pub mod Fire
 pub mod Order
 pub mod Timer

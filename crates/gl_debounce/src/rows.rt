@@ -1,10 +1,11 @@
 //! The timers of the lines, as far as lines have a row.
 
-ghost use Rattle.std.specs.Prelude.{◌≡◌, ◌<◌, ◌≤◌, [], IfOk, IfSome, IsOkUnless, None, Some, length, slice_get, slice_index_or, slice_set, vec_capacity};
+ghost use Rattle.std.specs.Prelude.{◌≡◌, ◌<◌, ◌≤◌, [], IfOk, IfSome, IsOkUnless, None, true, Some, length, slice_get, slice_index_or, slice_set, vec_capacity};
 ghost use Rattle.gl_base.specs.declared.limits.TheConstants.{LINES_MAX, PLACES};
+ghost use Rattle.gl_debounce.specs.Earliest.{earliest};
 ghost use Rattle.gl_debounce.specs.Fire.{fires};
 ghost use Rattle.gl_debounce.specs.Order.{AreRows};
-ghost use Rattle.gl_debounce.specs.Timer.{all_lines, timers_of};
+ghost use Rattle.gl_debounce.specs.Timer.{HardLinesAreStill, all_lines, is_still_if_hard, timers_of};
 
 use crate::deadlines::Deadlines;
 use crate::timer::{Fired, TABLE_SIZE, Timer, TimerLevels, fired_at};
@@ -52,6 +53,13 @@ impl Rows {
         let _count = self.levels.len();
     }
 
+    /// A hard line has no deadline. The call does nothing.
+    pub(crate) fn are_still(&self)
+        ensures { HardLinesAreStill self.now }
+    {
+        let _count = self.levels.len();
+    }
+
     /// Each of the first lines, so many, has a row from now on. The new ones have no timer.
     pub(crate) fn make(&mut self, count: u32)
         requires { count ≤ TABLE_SIZE }
@@ -71,6 +79,7 @@ impl Rows {
             Some(levels) => Some(Timer {
                 raw: levels.raw,
                 settled: levels.settled,
+                hard: levels.hard,
                 deadline: self.deadlines.at(line),
             }),
         }
@@ -78,12 +87,14 @@ impl Rows {
 
     /// The line has this timer from now on.
     pub(crate) fn put(&mut self, line: u32, timer: Timer)
-        requires { line < length self.old }
+        requires line { line < length self.old }
+        requires still { is_still_if_hard (Some timer) ≡ true }
         ensures { self.new ≡ slice_set self.old line (Some timer) }
     {
         let levels = TimerLevels {
             raw: timer.raw,
             settled: timer.settled,
+            hard: timer.hard,
         };
         put(
             &mut self.levels,
@@ -92,6 +103,16 @@ impl Rows {
             levels,
             timer.deadline,
         );
+    }
+
+    /// The earliest deadline, or None where no line has one.
+    pub(crate) fn earliest(&self) -> Option<u64>
+        ensures { result ≡ earliest self.now }
+    {
+        match self.deadlines.first() {
+            None => None,
+            Some(due) => Some(due.deadline),
+        }
     }
 
     /// The first line whose deadline has come, by deadline, place and offset. None where no deadline has come.

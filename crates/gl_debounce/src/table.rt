@@ -1,9 +1,10 @@
 //! The timers of all lines.
 
-ghost use Rattle.std.specs.Prelude.{◌≡◌, ◌*◌, ◌<◌, IfOk, IsOkUnless, length, slice_get};
+ghost use Rattle.std.specs.Prelude.{◌≡◌, ◌*◌, ◌<◌, false, IfOk, IsOkUnless, length, slice_get};
 ghost use Rattle.std.specs.Option.{option_map};
+ghost use Rattle.gl_debounce.specs.Earliest.{earliest};
 ghost use Rattle.gl_debounce.specs.Fire.{after_first, fires};
-ghost use Rattle.gl_debounce.specs.Timer.{line_number, no_timers, settled_at_raw, still, timer_at, with_new_timer, with_raw, with_timer, without_deadline};
+ghost use Rattle.gl_debounce.specs.Timer.{HardLinesAreStill, hard_at, let_go, line_number, no_timers, settled_at_raw, still, timer_at, with_new_timer, with_raw, with_timer, without_deadline};
 
 use crate::rows::Rows;
 use crate::timer::{Fired, TABLE_SIZE, Timer};
@@ -38,18 +39,31 @@ impl Timers {
         Ok(Timers { rows })
     }
 
-    /// The line is debounced from now on, and has settled at this level.
-    pub fn start(&mut self, place: u8, offset: u32, level: bool)
+    /// The line is debounced from now on, by its driver where it is hard, and has settled at this level.
+    pub fn start(&mut self, place: u8, offset: u32, level: bool, hard: bool)
         requires place { place < PLACES }
         requires offset { offset < LINES_MAX }
-        ensures { self.new ≡ with_new_timer (still level) place offset self.old }
+        ensures { self.new ≡ with_new_timer (still level hard) place offset self.old }
     {
         let line = number_of(place, offset);
         self.rows.make(line + 1);
-        self.rows.put(line, Timer::still(level));
+        self.rows.put(line, Timer::still(level, hard));
     }
 
-    /// Takes the line's deadline away. Its levels stay.
+    /// The line is let go of: no deadline of it runs, and it isn't hard any more. Its levels stay.
+    pub fn let_go(&mut self, place: u8, offset: u32)
+        requires place { place < PLACES }
+        requires offset { offset < LINES_MAX }
+        ensures { self.new ≡ with_timer let_go place offset self.old }
+    {
+        let line = number_of(place, offset);
+        match self.rows.timer(line) {
+            None => {}
+            Some(timer) => self.rows.put(line, timer.let_go()),
+        }
+    }
+
+    /// Takes the line's deadline away. Its levels stay, and so does whether it is hard.
     pub fn clear(&mut self, place: u8, offset: u32)
         requires place { place < PLACES }
         requires offset { offset < LINES_MAX }
@@ -63,10 +77,11 @@ impl Timers {
     }
 
     /// An edge has come to the line, which has this level now and is to settle at the deadline, in
-    /// nanoseconds of the monotonic clock. A line that isn't debounced stays as it is.
+    /// nanoseconds of the monotonic clock. A line that isn't debounced stays as it is; a hard one doesn't wait.
     pub fn raw(&mut self, place: u8, offset: u32, level: bool, deadline: u64)
         requires place { place < PLACES }
         requires offset { offset < LINES_MAX }
+        requires soft { hard_at self.old place offset ≡ false }
         ensures { self.new ≡ with_timer (with_raw level deadline) place offset self.old }
     {
         let line = number_of(place, offset);
@@ -95,6 +110,32 @@ impl Timers {
             Some(timer) => Some(timer.settled),
             None => None,
         }
+    }
+
+    /// Whether the driver debounces the line. A line that isn't debounced isn't hard.
+    pub fn is_hard(&self, place: u8, offset: u32) -> bool
+        requires place { place < PLACES }
+        requires offset { offset < LINES_MAX }
+        ensures { result ≡ hard_at self.now place offset }
+    {
+        match self.rows.timer(number_of(place, offset)) {
+            Some(timer) => timer.hard,
+            None => false,
+        }
+    }
+
+    /// A hard line has no deadline. The call does nothing.
+    pub fn hard_lines_are_still(&self)
+        ensures { HardLinesAreStill self.now }
+    {
+        self.rows.are_still();
+    }
+
+    /// The earliest deadline of all lines, in nanoseconds, or None where no line has one.
+    pub fn earliest(&self) -> Option<u64>
+        ensures { result ≡ earliest self.now }
+    {
+        self.rows.earliest()
     }
 
     /// The first line whose deadline has come, by deadline, place and offset: its level has settled now.

@@ -2,7 +2,7 @@
 
 ghost use Rattle.std.specs.Prelude.{◌≡◌, ◌<◌};
 ghost use Rattle.gl_debounce.specs.Fire.{fired_at};
-ghost use Rattle.gl_debounce.specs.Timer.{settled_at_raw, still, with_raw, without_deadline};
+ghost use Rattle.gl_debounce.specs.Timer.{let_go, settled_at_raw, still, with_raw, without_deadline};
 
 use gl_base::{LINES_MAX, PLACES};
 
@@ -16,6 +16,8 @@ pub struct Timer {
     pub raw: bool,
     /// The level that it settled at last.
     pub settled: bool,
+    /// Whether the driver debounces the line, so that its levels count at once.
+    pub hard: bool,
     /// When its level is to settle, in nanoseconds of the monotonic clock, if it isn't settled.
     pub deadline: Option<u64>,
 }
@@ -27,6 +29,8 @@ pub(crate) struct TimerLevels {
     pub(crate) raw: bool,
     /// The level that it settled at last.
     pub(crate) settled: bool,
+    /// Whether the driver debounces the line.
+    pub(crate) hard: bool,
 }
 
 /// A line whose level has settled.
@@ -45,13 +49,14 @@ pub struct Fired {
 }
 
 impl Timer {
-    /// The timer of a line that has settled at this level.
-    pub(crate) fn still(level: bool) -> Timer
-        ensures { result ≡ still level }
+    /// The timer of a line that has settled at this level, and that is hard, or isn't.
+    pub(crate) fn still(level: bool, hard: bool) -> Timer
+        ensures { result ≡ still level hard }
     {
         Timer {
             raw: level,
             settled: level,
+            hard,
             deadline: None,
         }
     }
@@ -61,6 +66,17 @@ impl Timer {
         ensures { result ≡ without_deadline self }
     {
         Timer {
+            deadline: None,
+            ..self
+        }
+    }
+
+    /// The timer of a line that is let go of.
+    pub(crate) fn let_go(self) -> Timer
+        ensures { result ≡ let_go self }
+    {
+        Timer {
+            hard: false,
             deadline: None,
             ..self
         }
@@ -81,7 +97,7 @@ impl Timer {
     pub(crate) fn settled_at_raw(self) -> Timer
         ensures { result ≡ settled_at_raw self }
     {
-        Timer::still(self.raw)
+        Timer::still(self.raw, self.hard)
     }
 }
 

@@ -3,10 +3,9 @@ ghost use Rattle.std.specs.Prelude.{◌≡◌, ◌≢◌, ℕ, ◌≤◌, Bool, 
 ghost use Rattle.gl_world.specs.declared.history.Entry.{Entry};
 ghost use Rattle.gl_gate.specs.Values.{IsPassOf};
 ghost use Rattle.gl_gate.specs.Calls.{IsInside, HoldsNoTurn};
-ghost use Rattle.gl_base.specs.Count.{counted_up, Rises};
-ghost use Rattle.gl_base.specs.Planned.{planned_answer};
+ghost use Rattle.gl_base.specs.Count.{Rises};
 ghost use Rattle.gl_base.specs.declared.op.Op.{Op};
-ghost use Rattle.gl_driver.specs.Told.{with_call, answer_of, faults_after};
+ghost use Rattle.gl_driver.specs.Told.{with_call, answer_of, planned_for, faults_after};
 ghost use Rattle.gl_driver.specs.Calls.{FitsOp, MayMakeEntries, IsBack};
 
 use crate::op::DriverFault;
@@ -28,14 +27,16 @@ pub trait Driver<M: Machine>: Sync + Drop {
     /// How many entries of its own one call makes at most.
     ghost ENTRIES: { ℕ };
 
-    /// Whether its answers are planned: a failure at exactly the call that the port's plan names, else 0.
+    /// Whether its answers are planned: a failure at exactly the call that the port's plan names, else the port's accepted
+    /// bits to an `Apply`, and 0 to a `Get` and a `Set`.
     ghost is_planned: { Bool };
 
     /// The entries of its own that a call may make: of the port as it was, the place, the operation, and the
     /// entries with their replies.
     ghost OwnEntries: { Self.Port → ℕ → Op → List (Entry M M.Call M.Reply M.Gift) → Type 0 };
 
-    /// Asks the driver of the chip at a place. The answer of a `Get` is the bits of its lines.
+    /// Asks the driver of the chip at a place. The answer of a `Get` is the bits of its lines; bit `i` of the answer of an
+    /// `Apply` says that the driver debounces the `i`-th of its lines by itself.
     ///
     /// A fault comes only where the port counted one in this call, and the port's count is changed by nothing
     /// else.
@@ -61,7 +62,7 @@ pub trait Driver<M: Machine>: Sync + Drop {
         ensures never_falls { Self.Port.faults port.old ≤ Self.Port.faults port.new }
         ensures fault { IfErr result (λ _. Rises (Self.Port.faults port.old) (Self.Port.faults port.new)) }
         ensures planned { Self.is_planned ≡ true
-            → IfSome (Self.Port.told port.old) (λ t. answer_of result ≡ planned_answer t.plan (counted_up t.calls)) };
+            → IfSome (Self.Port.told port.old) (λ t. answer_of result ≡ planned_for op.now t) };
 
     /// A driver that makes no entries owns none.
     ghost owns_none: { Self.ENTRIES ≡ 0 → (port : Self.Port) (place : ℕ) (op : Op) (own : List (Entry M M.Call M.Reply M.Gift))

@@ -2,7 +2,7 @@
 ghost use Rattle.std.specs.Prelude.{◌≡◌, ◌≢◌, ℕ, ◌≤◌, ◌^◌, true, false, [], Some, None, IsTrue, IfErr};
 ghost use Rattle.std.proofs.Common.{refl};
 ghost use Rattle.gl_base.specs.Count.{counted_up, Rises};
-ghost use Rattle.gl_base.specs.Planned.{names_call};
+ghost use Rattle.gl_base.specs.Planned.{bits_for, names_call};
 ghost use Rattle.gl_driver.specs.Told.{new_port, with_call, answer_of, unless_planned, faults_after};
 
 use crate::driver::Driver;
@@ -19,12 +19,14 @@ pub struct SimPort {
     calls: u64,
     /// The call that fails, by its number among all calls, counted from 1.
     plan: Option<u128>,
+    /// The accepted bits.
+    bits: u64,
     last: Option<Asked>,
     faults: u64,
 }
 
 impl Port for SimPort {
-    ghost told = { λ p. Some record { calls = p.calls; plan = p.plan; last = p.last } };
+    ghost told = { λ p. Some record { calls = p.calls; plan = p.plan; bits = p.bits; last = p.last } };
 
     ghost faults = { λ p. p.faults };
 
@@ -39,10 +41,14 @@ impl Port for SimPort {
             Some(u128::from(self.calls) + u128::from(nth))
         };
     }
+
+    fn accept(&mut self, bits: u64) {
+        self.bits = bits;
+    }
 }
 
 impl SimPort {
-    /// A port through which no call went, with no plan.
+    /// A port through which no call went, with no plan and accepted bits 0.
     pub fn new() -> SimPort
         ensures told { ⟦<SimPort as Port>⟧.told result ≡ Some new_port }
         ensures faults { ⟦<SimPort as Port>⟧.faults result ≡ 0 }
@@ -50,8 +56,20 @@ impl SimPort {
         SimPort {
             calls: 0,
             plan: None,
+            bits: 0,
             last: None,
             faults: 0,
+        }
+    }
+
+    /// What a planned driver answers to this where it doesn't fail.
+    fn bits_for(&self, op: &Op) -> u64
+        ensures { result ≡ bits_for op.now self.now.bits }
+    {
+        match op {
+            Op::Get { .. } => 0,
+            Op::Set { .. } => 0,
+            Op::Apply { .. } => self.bits,
         }
     }
 
@@ -98,7 +116,8 @@ impl SimPort {
     }
 }
 
-/// A driver without hardware: it never waits, answers 0, and fails as its port plans.
+/// A driver without hardware: it never waits, answers an `Apply` with its port's accepted bits and all else with 0, and
+/// fails as its port plans.
 #[derive(Clone, Copy, Debug)]
 pub struct SimDriver;
 
@@ -129,7 +148,8 @@ impl<M: Machine> Driver<M> for SimDriver {
         _place: u8,
         op: &Op,
     ) -> Result<u64, DriverFault> {
-        port.answer(op, Some(0))
+        let bits = port.bits_for(op);
+        port.answer(op, Some(bits))
     }
 
     ghost owns_none = { λ _ _ _ _ _ is. is };

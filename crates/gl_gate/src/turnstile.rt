@@ -6,7 +6,8 @@ use atomic_table::Table;
 use gl_rule::{Commit, FindTurn, GateRule, Held, PassOn, Plan, TakeTicket, View};
 use gl_world::Machine;
 use std::alloc::Global;
-use std::sync::{Mutex, Wait};
+use std::hint::spin_loop;
+use std::sync::{Mutex, MutexGuard, Wait};
 use std::thread;
 
 /// The word from which tickets are drawn.
@@ -15,12 +16,27 @@ const TICKET: usize = 0;
 /// The word that shows whose turn it is.
 const SERVING: usize = 1;
 
+/// How often who comes to a closed door looks at it before it sleeps there. A turn is over in a microsecond or two,
+/// and who sleeps may take fifty to wake up; so it looks for as long as some turns take, thirty microseconds or more.
+const LOOKS: u32 = 200;
+
+/// How often it pauses between two looks, since each look takes the door's word from the processor that has the turn.
+const PAUSES: u32 = 32;
+
+// Lets a moment go by.
+fn pause() {
+    for _ in 0..PAUSES {
+        spin_loop();
+    }
+}
+
 /// The shared words, the slot with the machine, and the views of all passes.
 #[derive(Drop)]
 pub(crate) struct Turnstile<M: Machine> {
     pub(crate) table: Table<Held<M>, View<M>, Plan, GateRule<M>, Global>,
     /// Who has it locked may draw a ticket, so that the ticket drawn is the one that is served next. The others
-    /// sleep at the door instead of looking again and again whether it is their turn.
+    /// look for a moment whether the door is open and then sleep at it, instead of looking again and again whether
+    /// it is their turn.
     pub(crate) door: Mutex<()>,
     pub ghost words: { table.shared.table_id.words ≡ table.shared.key.places + 2 },
     pub ghost slots: { table.shared.table_id.slots ≡ 1 },
@@ -35,6 +51,17 @@ impl<M: Machine> Turnstile<M> {
     ghost use Rattle.gl_gate.specs.Rests.{AtRest, Keeps};
     ghost use Rattle.gl_gate.specs.Calls.{SamePass, MayCall, MayName, MayEndRemoval, Acts, Refuses};
     ghost use Rattle.gl_gate.specs.Turns.{Waits, Drew, FoundTurn, HasTurn, Made, MayCommitSeat};
+
+    // Goes through the door.
+    fn pass_door<R: Wait>(&self, rt: &R) -> MutexGuard<'_, ()> {
+        for _ in 0..LOOKS {
+            if let Some(inside) = self.door.try_lock() {
+                return inside;
+            }
+            pause();
+        }
+        self.door.lock(rt)
+    }
 
     // Draws a ticket.
     fn draw(&self, seat: &mut GateSeat<M>) -> u64
@@ -156,7 +183,7 @@ impl<M: Machine> Turnstile<M> {
         ensures refuses { IfNone result (Refuses M.Machine seat.old.me.0 call seat.new.me.0) }
         ensures untouched { IfNone result ((gift.new ≡ gift.old) × (out.new ≡ out.old)) }
     {
-        let _inside = self.door.lock(rt);
+        let _inside = self.pass_door(rt);
         let ticket = self.draw(seat);
         self.wait(rt, seat, ticket);
         if self.refuses(seat, &call) {

@@ -40,6 +40,8 @@ impl Port for QuietPort {
     }
 
     fn plan(&mut self, _nth: u32) {}
+
+    fn accept(&mut self, _bits: u64) {}
 }
 
 /// A driver that notes each of its calls in the history, by an addition, and answers the number that stood there.

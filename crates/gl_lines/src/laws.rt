@@ -1,5 +1,5 @@
-//! What finding lines costs, and which files it opens and closes, whatever it is answered. Each law stands as the contract of a function that does
-//! nothing.
+//! What finding lines costs, which files it opens and closes, and that it prints whole lines, whatever it is answered. Each law
+//! stands as the contract of a function that does nothing.
 ghost use Rattle.std.specs.Prelude.{◌≡◌, ℕ, ◌+◌, true, false, List, ◌∷◌, length};
 ghost use Rattle.gl_args.specs.declared.names.ToolName.{ToolName};
 ghost use Rattle.gl_args.specs.Options.{Options};
@@ -7,6 +7,7 @@ ghost use Rattle.gl_args.specs.Costs.{CostsAtMost};
 ghost use Rattle.gl_args.specs.OpenSlots.{AreApart, NamesOpenSlots, SameSlots, with_slot};
 ghost use Rattle.gl_lines.specs.FoundSlot.{found_slot};
 ghost use Rattle.gl_args.specs.Names.{requests_lines};
+ghost use Rattle.gl_args.specs.Printing.{PrintsLines};
 ghost use Rattle.gl_lines.specs.Finding.{finds};
 
 /// To find lines makes at most an entry a line and two for the chip, and to request them three more.
@@ -21,4 +22,9 @@ pub fn finding_costs()
 pub fn finding_names_open_slots()
     ensures { (slots : List ℕ) (tool : ToolName) (base made : ℕ) (opts : Options) → AreApart (base ∷ made ∷ slots)
         → NamesOpenSlots (λ found now. SameSlots now (with_slot (found_slot tool base made found) slots)) slots (finds tool base made opts) }
+{}
+
+/// Each text that finding prints is whole lines: its last byte is 0x0A.
+pub fn finding_prints_lines()
+    ensures { (tool : ToolName) (base made : ℕ) (opts : Options) → PrintsLines (finds tool base made opts) }
 {}

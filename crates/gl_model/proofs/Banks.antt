@@ -1,5 +1,5 @@
 -- The levels of lines agree with their holders.
-use Rattle.std.proofs.Common.{◌≡◌, ◌<◌, ◌≤◌, ℕ, zero, suc, Bool, true, false, List, [], ◌∷◌, length, refl, sym, ap, ◌∙◌, subst, arith, inl, inr, ◌+◌, cond, Option, Some, None, ◌++◌, map, take, not}
+use Rattle.std.proofs.Common.{◌||◌, ◌≡◌, ◌<◌, ◌≤◌, ℕ, zero, suc, Bool, true, false, List, [], ◌∷◌, length, refl, sym, ap, ◌∙◌, subst, arith, inl, inr, ◌+◌, cond, Option, Some, None, ◌++◌, map, take, not}
 use Rattle.std.specs.Prelude.{◌||◌, nat_eq, slice_index_or, ◌==◌, ◌⊎◌, replicate, ◌&&◌, Result, Ok, Err, nat_le, nat_lt, flat_map}
 use Rattle.std.specs.List.{list_any, find}
 use Rattle.std.proofs.lemmas.Bool.{cases_eq, cases_lt, true≢false}
@@ -15,7 +15,7 @@ use Rattle.gl_model.specs.declared.place.Place.{Place}
 use Rattle.gl_model.specs.Banks.{BanksAgree, LineAgrees, PlaceAgrees, is_held_by, BanksAlwaysAgree, BanksStayAgreed}
 use Rattle.gl_model.specs.Claiming.{with_descs, claim_lines, claim_refusal, drop_claim, held, hold_claim, new_claim, claim, claim_at, claim_by, is_claim_of, told_claim}
 use Rattle.gl_model.specs.Configuring.{with_levels, configure, configure_from, configured_on, is_directed, reconfigure_from, settings_of, configure_each, config_refusal, reconfigure, set_config, settings_after, with_settings}
-use Rattle.gl_model.specs.Opening.{with_lines_freed, close_request, without_deadlines_at, without_request, found, is_open, named_at, open_at, open_refusal, searched}
+use Rattle.gl_model.specs.Opening.{with_lines_freed, close_request, with_timers_let_go, without_request, found, is_open, named_at, open_at, open_refusal, searched}
 use Rattle.gl_model.specs.Places.{no_place, place_at, with_place, kind_at, lines_at}
 use Rattle.gl_model.specs.World.{World, Request, request_at, has_number, opening}
 use Rattle.gl_model.proofs.Ledger.{differs, Ledger, holder_in, ledger, none_some, some_is}
@@ -53,7 +53,7 @@ use Rattle.gl_base.specs.declared.errno.Errno.TheVariants.{BadF, Busy, NoSpc, Fa
 use Rattle.gl_base.specs.declared.lines.Lines.{Lines}
 use Rattle.gl_base.specs.declared.limits.TheConstants.{PLACES}
 use Rattle.gl_debounce.specs.Fire.{fires}
-use Rattle.gl_debounce.specs.Timer.{settled_at_raw, with_raw, with_timer}
+use Rattle.gl_debounce.specs.Timer.{hard_at, settled_at_raw, with_raw, with_timer}
 use Rattle.gl_debounce.specs.declared.timer.Fired.{Fired}
 use Rattle.gl_irq.specs.Irq.{act_refusal, done as irq_done, first_irq}
 use Rattle.gl_registry.specs.Chips.{place_of_word}
@@ -299,8 +299,8 @@ configured_at place n left f x held holder p =
       | false ↦ (λ _ e. e)
     ] refl any
 
-configured_line : (place : ℕ) (settings : Settings) (n : ℕ) (left : List ℕ) (w : World) → is_held_by (holder_at w place n) ≡ true → Pending place (n ∷ left) w → Pending place left (configure place settings n w)
-configured_line place settings n left w holder pending p =
+configured_line : (place : ℕ) (settings : Settings) (answered : Bool) (n : ℕ) (left : List ℕ) (w : World) → is_held_by (holder_at w place n) ≡ true → Pending place (n ∷ left) w → Pending place left (configure place settings answered n w)
+configured_line place settings answered n left w holder pending p =
     let f : Place → Place = with_levels n (configured_on (kind_at w place) settings) in
     elim (cases_eq p place) as (λ _. PendingAt place left p (slice_index_or (change_at no_place place f w.places) p no_place)) [
       | inl same ↦ (elim (cases_lt place (length w.places)) as (λ _. PendingAt place left p (slice_index_or (change_at no_place place f w.places) p no_place)) [
@@ -346,24 +346,24 @@ others_held place n ns w v same held o any = ap is_held_by (same o) ∙ held o (
     behind true = refl
     behind false = any
 
-configured_lines : (place : ℕ) (settings : Resolved) (i : ℕ) (offsets : List ℕ) (w : World) → AreHeld place offsets w → Pending place offsets w → Pending place [] (configure_from place settings i offsets w)
-configured_lines place settings i [] w held pending = pending
-configured_lines place settings i (n ∷ offsets) w held pending =
-    let v : World = configure place (settings_of settings i) n w in
-    configured_lines place settings (i + 1) offsets v
-    (others_held place n offsets w v (holders_kept w v (configure_same place (settings_of settings i) n w) place) held)
-    (configured_line place (settings_of settings i) n offsets w (first_held place n offsets w held) pending)
+configured_lines : (place : ℕ) (settings : Resolved) (bits i : ℕ) (offsets : List ℕ) (w : World) → AreHeld place offsets w → Pending place offsets w → Pending place [] (configure_from place settings bits i offsets w)
+configured_lines place settings bits i [] w held pending = pending
+configured_lines place settings bits i (n ∷ offsets) w held pending =
+    let v : World = configure place (settings_of settings i) (has_bit bits i) n w in
+    configured_lines place settings bits (i + 1) offsets v
+    (others_held place n offsets w v (holders_kept w v (configure_same place (settings_of settings i) (has_bit bits i) n w) place) held)
+    (configured_line place (settings_of settings i) (has_bit bits i) n offsets w (first_held place n offsets w held) pending)
 
-reconfigured_lines : (place : ℕ) (settings : Resolved) (i : ℕ) (offsets : List ℕ) (w : World) → AreHeld place offsets w → BanksAgree w → BanksAgree (reconfigure_from place settings i offsets w)
-reconfigured_lines place settings i [] w held a = a
-reconfigured_lines place settings i (n ∷ offsets) w held a =
-    let set : World = configure place (settings_of settings i) n w in
+reconfigured_lines : (place : ℕ) (settings : Resolved) (bits i : ℕ) (offsets : List ℕ) (w : World) → AreHeld place offsets w → BanksAgree w → BanksAgree (reconfigure_from place settings bits i offsets w)
+reconfigured_lines place settings bits i [] w held a = a
+reconfigured_lines place settings bits i (n ∷ offsets) w held a =
+    let set : World = configure place (settings_of settings i) (has_bit bits i) n w in
     let told : World = notify place n CHANGED_CONFIG set in
-    elim (is_directed settings i) as (λ b. BanksAgree (reconfigure_from place settings (i + 1) offsets (cond b told w))) [
-      | true ↦ reconfigured_lines place settings (i + 1) offsets told
-          (others_held place n offsets w told (holders_kept w set (configure_same place (settings_of settings i) n w) place) held)
-          (none_pending place set (configured_line place (settings_of settings i) n [] w (first_held place n offsets w held) (all_agree place (n ∷ []) w a)))
-      | false ↦ reconfigured_lines place settings (i + 1) offsets w (others_held place n offsets w w (λ o. refl) held) a
+    elim (is_directed settings i) as (λ b. BanksAgree (reconfigure_from place settings bits (i + 1) offsets (cond b told w))) [
+      | true ↦ reconfigured_lines place settings bits (i + 1) offsets told
+          (others_held place n offsets w told (holders_kept w set (configure_same place (settings_of settings i) (has_bit bits i) n w) place) held)
+          (none_pending place set (configured_line place (settings_of settings i) (has_bit bits i) n [] w (first_held place n offsets w held) (all_agree place (n ∷ []) w a)))
+      | false ↦ reconfigured_lines place settings bits (i + 1) offsets w (others_held place n offsets w w (λ o. refl) held) a
     ]
 
 -- new places
@@ -477,7 +477,7 @@ close_agrees None w a = a
 close_agrees (Some request) w a =
     let offsets : List ℕ = offsets_of request.lines in
     same_places (without_request request w) (close_request (Some request) w) (notify_places request.place offsets CHANGED_RELEASED (without_request request w))
-    (with_places request.place (with_lines_freed offsets) (record w { requests = without_first (has_number request.fd) w.requests; timers = without_deadlines_at request.place offsets w.timers })
+    (with_places request.place (with_lines_freed offsets) (record w { requests = without_first (has_number request.fd) w.requests; timers = with_timers_let_go request.place offsets w.timers })
     (lines_freed offsets (place_at w request.place)) a)
 
 -- the lines of a claim, held
@@ -511,16 +511,16 @@ settled_holders request w has unheld o any =
     nothing_there : length w.places ≤ request.place → o < length (place_at w request.place).descs → ⊥
     nothing_there past lt = let none : length (place_at w request.place).descs ≡ 0 = ap (λ (x : Place). length x.descs) (get_or_past w.places request.place no_place past) in omega (arith, none, lt)
 
-hold_agrees : (fd : ℕ) (request : Request) (w : World) → HoldersAgree w → request_at w.requests fd ≡ Some request → request.held ≡ false → BanksAgree w → BanksAgree (hold_claim request w)
-hold_agrees fd request w agree is unheld a =
+hold_agrees : (bits fd : ℕ) (request : Request) (w : World) → HoldersAgree w → request_at w.requests fd ≡ Some request → request.held ≡ false → BanksAgree w → BanksAgree (hold_claim bits request w)
+hold_agrees bits fd request w agree is unheld a =
     let offsets : List ℕ = offsets_of request.lines in
     let place : ℕ = request.place in
     let has : HasItsLines w request = found_each (HasItsLines w) fd w.requests request agree.requests_have is in
     let lines_held : World = with_place place (with_descs offsets settled) (record w { requests = change_first (has_number request.fd) held w.requests }) in
-    let set : World = configure_each place request.lines request.settings lines_held in
+    let set : World = configure_each place request.lines request.settings bits lines_held in
     let pending : Pending place offsets lines_held = each_at no_place (λ p x. PendingAt place offsets p x) place (with_descs offsets settled) w.places (λ _. settled_at place offsets (place_at w place) (a place)) (all_agree place offsets w a) in
-    same_places set (hold_claim request w) (notify_places place offsets CHANGED_REQUESTED set)
-    (none_pending place set (configured_lines place request.settings 0 offsets lines_held (settled_holders request w has unheld) pending))
+    same_places set (hold_claim bits request w) (notify_places place offsets CHANGED_REQUESTED set)
+    (none_pending place set (configured_lines place request.settings bits 0 offsets lines_held (settled_holders request w has unheld) pending))
 
 -- each call
 
@@ -543,7 +543,7 @@ raw_edge_for_places : (o : Option ℕ) (place offset : ℕ) (up : Bool) (w : Wor
 raw_edge_for_places None place offset up w = refl
 raw_edge_for_places (Some fd) place offset up w =
     let line : Levels = levels_at (place_at w place).bank offset in
-    either_places (line.debounce_us == 0) (edge place offset up w.mono w) (record w { timers = with_timer (with_raw up (deadline_of line w.mono)) place offset w.timers }) w (edge_places place offset up w.mono w) refl
+    either_places (line.debounce_us == 0 || hard_at w.timers place offset) (edge place offset up w.mono w) (record w { timers = with_timer (with_raw up (deadline_of line w.mono)) place offset w.timers }) w (edge_places place offset up w.mono w) refl
 
 raw_edge_places : (place offset : ℕ) (o : Option Change) (w : World) → (raw_edge place offset o w).places ≡ w.places
 raw_edge_places place offset None w = refl
@@ -592,7 +592,7 @@ told_agrees : (actor place : ℕ) (answer : Option ℕ) (len : ℕ) (bytes : Lis
     → BanksAgree (told_claim answer len bytes o w).world
 told_agrees actor place answer len bytes None w agree e a = a
 told_agrees actor place None len bytes (Some request) w agree e a = let c = claim_is actor place request w agree e in drop_agrees request.fd request w agree c.0 c.1 a
-told_agrees actor place (Some bits) len bytes (Some request) w agree e a = let c = claim_is actor place request w agree e in hold_agrees request.fd request w agree c.0 c.1 a
+told_agrees actor place (Some bits) len bytes (Some request) w agree e a = let c = claim_is actor place request w agree e in hold_agrees bits request.fd request w agree c.0 c.1 a
 
 in_parts_agree : (part : Part) (act : ℕ → World → Outcome) (w : World) → BanksAgree w → ((bits : ℕ) → BanksAgree (act bits w).world) → BanksAgree (in_parts part act w).world
 in_parts_agree Whole act w a h = a
@@ -610,9 +610,9 @@ config_agrees : (place fd : ℕ) (bytes : List ℕ) (part : Part) (request : Req
 config_agrees place fd bytes part request w agree is held here a =
     let after : Resolved = resolved_for bytes request.lines.count in
     let set : World = record w { requests = change_first (has_number fd) (with_settings (settings_after request.settings after request.lines.count)) w.requests } in
-    let act : ℕ → World → Outcome = λ bits v. done (reconfigure place fd request.lines request.settings after v) in
+    let act : ℕ → World → Outcome = λ bits v. done (reconfigure place fd request.lines request.settings after bits v) in
     agree_unless (config_refusal place request.lines bytes w) w (in_parts part act w) a
-    (λ _. in_parts_agree part act w a (λ bits. reconfigured_lines place after 0 (offsets_of request.lines) set (subst (λ p. AreHeld p (offsets_of request.lines) w) here (held_request w fd request agree is held)) a))
+    (λ _. in_parts_agree part act w a (λ bits. reconfigured_lines place after bits 0 (offsets_of request.lines) set (subst (λ p. AreHeld p (offsets_of request.lines) w) here (held_request w fd request agree is held)) a))
 
 -- the request of a number is held, of this place
 held_here : (place : ℕ) (o : Option Request) (request : Request) → (is_hold o && is_place place (request_place o)) ≡ true → o ≡ Some request → (request.held ≡ true) × (request.place ≡ place)

@@ -79,15 +79,15 @@ notify_each-board : (place : ℕ) (offsets : List ℕ) (kind : ℕ) (w : World) 
 notify_each-board place [] kind w = refl
 notify_each-board place (offset ∷ offsets) kind w = notify_each-board place offsets kind (notify place offset kind w)
 
-configure_from-board : (place : ℕ) (settings : Resolved) (i : ℕ) (offsets : List ℕ) (w : World) → board (configure_from place settings i offsets w) ≡ board w
-configure_from-board place settings i [] w = refl
-configure_from-board place settings i (offset ∷ offsets) w = configure_from-board place settings (i + 1) offsets (configure place (settings_of settings i) offset w)
+configure_from-board : (place : ℕ) (settings : Resolved) (bits i : ℕ) (offsets : List ℕ) (w : World) → board (configure_from place settings bits i offsets w) ≡ board w
+configure_from-board place settings bits i [] w = refl
+configure_from-board place settings bits i (offset ∷ offsets) w = configure_from-board place settings bits (i + 1) offsets (configure place (settings_of settings i) (has_bit bits i) offset w)
 
-reconfigure_from-board : (place : ℕ) (settings : Resolved) (i : ℕ) (offsets : List ℕ) (w : World) → board (reconfigure_from place settings i offsets w) ≡ board w
-reconfigure_from-board place settings i [] w = refl
-reconfigure_from-board place settings i (offset ∷ offsets) w =
-    let next : World = cond (is_directed settings i) (notify place offset CHANGED_CONFIG (configure place (settings_of settings i) offset w)) w in
-    reconfigure_from-board place settings (i + 1) offsets next ∙ either (is_directed settings i) _ _ w refl refl
+reconfigure_from-board : (place : ℕ) (settings : Resolved) (bits i : ℕ) (offsets : List ℕ) (w : World) → board (reconfigure_from place settings bits i offsets w) ≡ board w
+reconfigure_from-board place settings bits i [] w = refl
+reconfigure_from-board place settings bits i (offset ∷ offsets) w =
+    let next : World = cond (is_directed settings i) (notify place offset CHANGED_CONFIG (configure place (settings_of settings i) (has_bit bits i) offset w)) w in
+    reconfigure_from-board place settings bits (i + 1) offsets next ∙ either (is_directed settings i) _ _ w refl refl
 
 drive_from-board : (place mask bits i : ℕ) (offsets : List ℕ) (w : World) → board (drive_from place mask bits i offsets w) ≡ board w
 drive_from-board place mask bits i [] w = refl
@@ -109,7 +109,7 @@ set_config-board : (place fd : ℕ) (bytes : List ℕ) (part : Part) (lines : Li
 set_config-board place fd bytes part lines settings w =
     let after : Resolved = resolved_for bytes lines.count in
     let set : World = record w { requests = change_first (has_number fd) (with_settings (settings_after settings after lines.count)) w.requests } in
-    keeps _ w _ (in_parts-board part _ w (λ bits. reconfigure_from-board place after 0 (offsets_of lines) set))
+    keeps _ w _ (in_parts-board part _ w (λ bits. reconfigure_from-board place after bits 0 (offsets_of lines) set))
 
 get_values-board : (place : ℕ) (bytes : List ℕ) (part : Part) (lines : Lines) (settings : Resolved) (w : World) → board (get_values place bytes part lines settings w).world ≡ board w
 get_values-board place bytes part lines settings w = keeps _ w _ (in_parts-board part _ w (λ bits. refl))
@@ -123,8 +123,8 @@ told_claim-board None len bytes (Some request) w = refl
 told_claim-board (Some bits) len bytes (Some request) w =
     let offsets : List ℕ = offsets_of request.lines in
     let lines_held : World = with_place request.place (with_descs offsets settled) (record w { requests = change_first (has_number request.fd) held w.requests }) in
-    notify_each-board request.place offsets CHANGED_REQUESTED (configure_each request.place request.lines request.settings lines_held)
-    ∙ configure_from-board request.place request.settings 0 offsets lines_held
+    notify_each-board request.place offsets CHANGED_REQUESTED (configure_each request.place request.lines request.settings bits lines_held)
+    ∙ configure_from-board request.place request.settings bits 0 offsets lines_held
 
 get_line_ask-board : (place actor : ℕ) (bytes : List ℕ) (w : World) → board (get_line_ask place actor bytes w).world ≡ board w
 get_line_ask-board place actor bytes w = keeps _ w _ (keeps _ w _ refl)

@@ -159,8 +159,8 @@ module _ (Q : ℕ → Type 0) (more : (n : ℕ) → n + 1 ≤ 2 ^ 31 → Q n →
   low_told (Some bits) len bytes (Some request) w low =
       let offsets : List ℕ = offsets_of request.lines in
       let lines_held : World = with_place request.place (with_descs offsets settled) (record w { requests = change_first (has_number request.fd) held w.requests }) in
-      let set : World = configure_each request.place request.lines request.settings lines_held in
-      same_ledger lines_held (hold_claim request w) (notify_each_same request.place offsets CHANGED_REQUESTED set ∙ configure_from_same request.place request.settings 0 offsets lines_held) low
+      let set : World = configure_each request.place request.lines request.settings bits lines_held in
+      same_ledger lines_held (hold_claim bits request w) (notify_each_same request.place offsets CHANGED_REQUESTED set ∙ configure_from_same request.place request.settings bits 0 offsets lines_held) low
 
   low_closed : (o : Option Request) (w : World) → Low w → Low (close_request o w)
   low_closed None w low = low

@@ -55,6 +55,7 @@ use Rattle.gl_model.proofs.Ledger.{file_number}
 use Rattle.gl_model.proofs.Leading.{Leads as LeadsBy}
 use Rattle.gl_model.proofs.Phases.{same_number, some_none}
 use Rattle.gl_model.proofs.Requests.{world_keeps}
+use Rattle.gl_base.specs.Bits.{has_bit}
 
 -- P holds of each row that passes
 
@@ -424,21 +425,21 @@ notify_requests : (place : ℕ) (offsets : List ℕ) (kind : ℕ) (w : World) �
 notify_requests place [] kind w = refl
 notify_requests place (offset ∷ offsets) kind w = notify_requests place offsets kind (notify place offset kind w)
 
-configure_requests : (place : ℕ) (settings : Resolved) (i : ℕ) (offsets : List ℕ) (w : World) → (configure_from place settings i offsets w).requests ≡ w.requests
-configure_requests place settings i [] w = refl
-configure_requests place settings i (offset ∷ offsets) w = configure_requests place settings (i + 1) offsets (configure place (settings_of settings i) offset w)
+configure_requests : (place : ℕ) (settings : Resolved) (bits i : ℕ) (offsets : List ℕ) (w : World) → (configure_from place settings bits i offsets w).requests ≡ w.requests
+configure_requests place settings bits i [] w = refl
+configure_requests place settings bits i (offset ∷ offsets) w = configure_requests place settings bits (i + 1) offsets (configure place (settings_of settings i) (has_bit bits i) offset w)
 
-hold_requests : (request : Request) (w : World) → (hold_claim request w).requests ≡ change_first (has_number request.fd) held w.requests
-hold_requests request w =
+hold_requests : (bits : ℕ) (request : Request) (w : World) → (hold_claim bits request w).requests ≡ change_first (has_number request.fd) held w.requests
+hold_requests bits request w =
     let offsets : List ℕ = offsets_of request.lines in
     let lines_held : World = with_place request.place (with_descs offsets settled) (record w { requests = change_first (has_number request.fd) held w.requests }) in
-    notify_requests request.place offsets CHANGED_REQUESTED (configure_each request.place request.lines request.settings lines_held)
-    ∙ configure_requests request.place request.settings 0 offsets lines_held
+    notify_requests request.place offsets CHANGED_REQUESTED (configure_each request.place request.lines request.settings bits lines_held)
+    ∙ configure_requests request.place request.settings bits 0 offsets lines_held
 
 told_ends : (a : ℕ) (answer : Option ℕ) (len : ℕ) (bytes : List ℕ) (c : Request) (w : World) → Differ w.requests → length (claims_of a w) ≤ 1 → find (is_claim_of a) w.requests ≡ Some c
     → ClaimsAt a None (told_claim answer len bytes (Some c) w).world.requests
 told_ends a None len bytes c w differ one e = none_without (is_claim_of a) w.requests c differ one e
-told_ends a (Some bits) len bytes c w differ one e = subst (λ rows. ClaimsAt a None rows) (sym (hold_requests c w))
+told_ends a (Some bits) len bytes c w differ one e = subst (λ rows. ClaimsAt a None rows) (sym (hold_requests bits c w))
     (none_changed (is_claim_of a) held (λ x. refl) w.requests c differ one e)
 
 untold : (a : ℕ) (answer : Option ℕ) (len : ℕ) (bytes : List ℕ) (w : World) → ClaimsAt a None w.requests → ClaimsAt a None (told_claim answer len bytes None w).world.requests

@@ -156,9 +156,9 @@ told_claim_keeps place actor (Some bits) len bytes (Some request) w e = λ a.
     let at = number_is w.requests (claim_number w.requests actor) request (claim_is place (claim_by w.requests actor) request e) in
     let offsets : List ℕ = offsets_of request.lines in
     let lines_held : World = with_place request.place (with_descs offsets settled) (record w { requests = change_first (has_number request.fd) held w.requests }) in
-    let set : World = configure_each request.place request.lines request.settings lines_held in
+    let set : World = configure_each request.place request.lines request.settings bits lines_held in
     let told : ledger (told_claim (Some bits) len bytes (Some request) w).world ≡ ledger lines_held =
-    notify_each_same request.place offsets CHANGED_REQUESTED set ∙ configure_from_same request.place request.settings 0 offsets lines_held in
+    notify_each_same request.place offsets CHANGED_REQUESTED set ∙ configure_from_same request.place request.settings bits 0 offsets lines_held in
     let is : ledger lines_held ≡ with_hold (seat request) (ledger w) =
     ap (λ ss. made_of ss (map file_number w.files) w.next (map descs_of lines_held.places)) (seats_held request.fd w.requests)
     ∙ ap (λ ts. made_of (change_first (is_seat request.fd) seat_held (map seat w.requests)) (map file_number w.files) w.next ts)

@@ -79,7 +79,7 @@ none_same o (x ∷ os) (suc n) apart = (
   none_same o os n (λ j lt e. apart (suc j) (omega arith) e),
 )
 
-offsets_differ : (os : List ℕ) (n : ℕ) → ((i j : ℕ) → i < n → j < n → slice_index os i ≡ slice_index os j → i ≡ j) → IsDistinct nat_eq (take n os)
+pub offsets_differ : (os : List ℕ) (n : ℕ) → ((i j : ℕ) → i < n → j < n → slice_index os i ≡ slice_index os j → i ≡ j) → IsDistinct nat_eq (take n os)
 unfolding IsDistinct
 offsets_differ [] zero differ = tt
 offsets_differ [] (suc n) differ = tt

@@ -119,7 +119,7 @@ module _ (actor place fd len : ℕ) (whole : List ℕ) (part : Part) (w : World)
       let C : Type 0 = IoCause w place fd (Some SetConfig) whole part in
       on_request_causes C (set_config place fd bytes part) (request_at w.requests fd) w
       (λ request is.
-      let act : ℕ → World → Outcome = λ bits v. done (reconfigure place fd request.lines request.settings (resolved_for bytes request.lines.count) v) in
+      let act : ℕ → World → Outcome = λ bits v. done (reconfigure place fd request.lines request.settings (resolved_for bytes request.lines.count) bits v) in
       causes C (config_refusal place request.lines bytes w) w (in_parts part act w)
       (of_new_config (Cause C) (others C) place request.lines bytes w (λ locked _. inr (request, is, locked)))
       (in_parts_causes C part act w (λ failed. inl failed) (λ bits. answered_causes C (act bits w) refl)))

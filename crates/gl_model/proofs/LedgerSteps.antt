@@ -146,21 +146,21 @@ notify_each_same place (offset ∷ offsets) kind w = notify_each_same place offs
 levels_same : (place offset : ℕ) (f : Levels → Levels) (w : World) → ledger (with_place place (with_levels offset f) w) ≡ ledger w
 levels_same place offset f w = place_changed w place (with_levels offset f) (λ x. refl)
 
-pub configure_same : (place : ℕ) (settings : Settings) (offset : ℕ) (w : World) → ledger (configure place settings offset w) ≡ ledger w
-configure_same place settings offset w = levels_same place offset (configured_on (kind_at w place) settings) w
+pub configure_same : (place : ℕ) (settings : Settings) (answered : Bool) (offset : ℕ) (w : World) → ledger (configure place settings answered offset w) ≡ ledger w
+configure_same place settings answered offset w = levels_same place offset (configured_on (kind_at w place) settings) w
 
-pub configure_from_same : (place : ℕ) (settings : Resolved) (i : ℕ) (offsets : List ℕ) (w : World) → ledger (configure_from place settings i offsets w) ≡ ledger w
-configure_from_same place settings i [] w = refl
-configure_from_same place settings i (offset ∷ offsets) w =
-    configure_from_same place settings (i + 1) offsets (configure place (settings_of settings i) offset w) ∙ configure_same place (settings_of settings i) offset w
+pub configure_from_same : (place : ℕ) (settings : Resolved) (bits i : ℕ) (offsets : List ℕ) (w : World) → ledger (configure_from place settings bits i offsets w) ≡ ledger w
+configure_from_same place settings bits i [] w = refl
+configure_from_same place settings bits i (offset ∷ offsets) w =
+    configure_from_same place settings bits (i + 1) offsets (configure place (settings_of settings i) (has_bit bits i) offset w) ∙ configure_same place (settings_of settings i) (has_bit bits i) offset w
 
-reconfigure_from_same : (place : ℕ) (settings : Resolved) (i : ℕ) (offsets : List ℕ) (w : World) → ledger (reconfigure_from place settings i offsets w) ≡ ledger w
-reconfigure_from_same place settings i [] w = refl
-reconfigure_from_same place settings i (offset ∷ offsets) w =
-    let set : World = configure place (settings_of settings i) offset w in
+reconfigure_from_same : (place : ℕ) (settings : Resolved) (bits i : ℕ) (offsets : List ℕ) (w : World) → ledger (reconfigure_from place settings bits i offsets w) ≡ ledger w
+reconfigure_from_same place settings bits i [] w = refl
+reconfigure_from_same place settings bits i (offset ∷ offsets) w =
+    let set : World = configure place (settings_of settings i) (has_bit bits i) offset w in
     let next : World = cond (is_directed settings i) (notify place offset CHANGED_CONFIG set) w in
-    reconfigure_from_same place settings (i + 1) offsets next
-    ∙ either (is_directed settings i) _ _ w (notify_same place offset CHANGED_CONFIG set ∙ configure_same place (settings_of settings i) offset w) refl
+    reconfigure_from_same place settings bits (i + 1) offsets next
+    ∙ either (is_directed settings i) _ _ w (notify_same place offset CHANGED_CONFIG set ∙ configure_same place (settings_of settings i) (has_bit bits i) offset w) refl
 
 drive_from_same : (place mask bits i : ℕ) (offsets : List ℕ) (w : World) → ledger (drive_from place mask bits i offsets w) ≡ ledger w
 drive_from_same place mask bits i [] w = refl
@@ -184,7 +184,7 @@ pub set_config_same : (place fd : ℕ) (bytes : List ℕ) (part : Part) (lines :
 set_config_same place fd bytes part lines settings w =
     let after : Resolved = resolved_for bytes lines.count in
     let set : World = record w { requests = change_first (has_number fd) (with_settings (settings_after settings after lines.count)) w.requests } in
-    unless_same _ w _ (in_parts_same part _ w (λ bits. reconfigure_from_same place after 0 (offsets_of lines) set ∙ rows_changed w (has_number fd) (with_settings (settings_after settings after lines.count)) (λ x. refl)))
+    unless_same _ w _ (in_parts_same part _ w (λ bits. reconfigure_from_same place after bits 0 (offsets_of lines) set ∙ rows_changed w (has_number fd) (with_settings (settings_after settings after lines.count)) (λ x. refl)))
 
 pub get_values_same : (place : ℕ) (bytes : List ℕ) (part : Part) (lines : Lines) (settings : Resolved) (w : World) → ledger (get_values place bytes part lines settings w).world ≡ ledger w
 get_values_same place bytes part lines settings w = unless_same _ w _ (in_parts_same part _ w (λ bits. refl))

@@ -35,3 +35,4 @@ pub mod Bounds
 pub mod EndingRemovals
 pub mod Rings
 pub mod Banks
+pub mod Marks

@@ -109,13 +109,13 @@ settled_keeps offsets tables named = each_keeps Named first_desc offsets settled
 freed_keeps : (offsets : List ℕ) (tables : Place) → NamedPlace tables → NamedPlace (with_lines_freed offsets tables)
 freed_keeps offsets tables named = each_keeps Named first_desc offsets freed tables.descs (λ line h. (h.0, refl)) named
 
-configure_line : (place : ℕ) (settings : Settings) (offset : ℕ) (w : World) → NamedLines w → NamedLines (configure place settings offset w)
-configure_line place settings offset w lines = lines_kept place (with_levels offset (configured_on (kind_at w place) settings)) w (λ tables h. h) lines
+configure_line : (place : ℕ) (settings : Settings) (answered : Bool) (offset : ℕ) (w : World) → NamedLines w → NamedLines (configure place settings answered offset w)
+configure_line place settings answered offset w lines = lines_kept place (with_levels offset (configured_on (kind_at w place) settings)) w (λ tables h. h) lines
 
-configure_lines : (place : ℕ) (settings : Resolved) (i : ℕ) (offsets : List ℕ) (w : World) → NamedLines w → NamedLines (configure_from place settings i offsets w)
-configure_lines place settings i [] w lines = lines
-configure_lines place settings i (offset ∷ offsets) w lines =
-    configure_lines place settings (i + 1) offsets (configure place (settings_of settings i) offset w) (configure_line place (settings_of settings i) offset w lines)
+configure_lines : (place : ℕ) (settings : Resolved) (bits i : ℕ) (offsets : List ℕ) (w : World) → NamedLines w → NamedLines (configure_from place settings bits i offsets w)
+configure_lines place settings bits i [] w lines = lines
+configure_lines place settings bits i (offset ∷ offsets) w lines =
+    configure_lines place settings bits (i + 1) offsets (configure place (settings_of settings i) (has_bit bits i) offset w) (configure_line place (settings_of settings i) (has_bit bits i) offset w lines)
 
 -- what is told
 
@@ -182,9 +182,9 @@ settle_each-files : (lines : List Fired) (w : World) → (settle_each lines w).f
 settle_each-files [] w = refl
 settle_each-files (line ∷ lines) w = settle_each-files lines (settle line w) ∙ settle-files line w
 
-configure_from-files : (place : ℕ) (settings : Resolved) (i : ℕ) (offsets : List ℕ) (w : World) → (configure_from place settings i offsets w).files ≡ w.files
-configure_from-files place settings i [] w = refl
-configure_from-files place settings i (offset ∷ offsets) w = configure_from-files place settings (i + 1) offsets (configure place (settings_of settings i) offset w)
+configure_from-files : (place : ℕ) (settings : Resolved) (bits i : ℕ) (offsets : List ℕ) (w : World) → (configure_from place settings bits i offsets w).files ≡ w.files
+configure_from-files place settings bits i [] w = refl
+configure_from-files place settings bits i (offset ∷ offsets) w = configure_from-files place settings bits (i + 1) offsets (configure place (settings_of settings i) (has_bit bits i) offset w)
 
 drive_from-files : (place mask bits i : ℕ) (offsets : List ℕ) (w : World) → (drive_from place mask bits i offsets w).files ≡ w.files
 drive_from-files place mask bits i [] w = refl
@@ -220,20 +220,20 @@ keeps_on_request : (act : Lines → Resolved → World → Outcome) (o : Option 
 keeps_on_request act None w h = λ lines all. all
 keeps_on_request act (Some request) w h = h request.lines request.settings
 
-reconfigure_keeps : (place : ℕ) (settings : Resolved) (i : ℕ) (offsets : List ℕ) (w : World) → Keeps w (reconfigure_from place settings i offsets w)
-reconfigure_keeps place settings i [] w = λ lines all. all
-reconfigure_keeps place settings i (offset ∷ offsets) w = λ lines all.
-    let configured : World = configure place (settings_of settings i) offset w in
-    let configured_lines : NamedLines configured = configure_line place (settings_of settings i) offset w lines in
+reconfigure_keeps : (place : ℕ) (settings : Resolved) (bits i : ℕ) (offsets : List ℕ) (w : World) → Keeps w (reconfigure_from place settings bits i offsets w)
+reconfigure_keeps place settings bits i [] w = λ lines all. all
+reconfigure_keeps place settings bits i (offset ∷ offsets) w = λ lines all.
+    let configured : World = configure place (settings_of settings i) (has_bit bits i) offset w in
+    let configured_lines : NamedLines configured = configure_line place (settings_of settings i) (has_bit bits i) offset w lines in
     let told_of : World = notify place offset CHANGED_CONFIG configured in
     let next : World = cond (is_directed settings i) told_of w in
-    reconfigure_keeps place settings (i + 1) offsets next
+    reconfigure_keeps place settings bits (i + 1) offsets next
     (either NamedLines (is_directed settings i) told_of w configured_lines lines)
     (either HasNamedChanges (is_directed settings i) told_of w (notify_named place offset CHANGED_CONFIG configured configured_lines all) all)
 
 set_config_keeps : (place fd : ℕ) (bytes : List ℕ) (part : Part) (lines : Lines) (settings : Resolved) (w : World) → Keeps w (set_config place fd bytes part lines settings w).world
 set_config_keeps place fd bytes part lines settings w =
-    keeps_unless _ w _ (keeps_in_parts part _ w (λ bits. reconfigure_keeps place (resolved_for bytes lines.count) 0 (offsets_of lines) _))
+    keeps_unless _ w _ (keeps_in_parts part _ w (λ bits. reconfigure_keeps place (resolved_for bytes lines.count) bits 0 (offsets_of lines) _))
 
 told_keeps : (answer : Option ℕ) (len : ℕ) (bytes : List ℕ) (o : Option Request) (w : World) → Keeps w (told_claim answer len bytes o w).world
 told_keeps answer len bytes None w = λ lines all. all
@@ -242,9 +242,9 @@ told_keeps (Some bits) len bytes (Some request) w = λ lines all.
     let offsets : List ℕ = offsets_of request.lines in
     let lines_held : World = with_place request.place (with_descs offsets settled) (record w { requests = change_first (has_number request.fd) held w.requests }) in
     let held_lines : NamedLines lines_held = lines_kept request.place (with_descs offsets settled) w (settled_keeps offsets) lines in
-    let set : World = configure_each request.place request.lines request.settings lines_held in
-    notify_each_named request.place offsets CHANGED_REQUESTED set (configure_lines request.place request.settings 0 offsets lines_held held_lines)
-    (same lines_held set (configure_from-files request.place request.settings 0 offsets lines_held) all)
+    let set : World = configure_each request.place request.lines request.settings bits lines_held in
+    notify_each_named request.place offsets CHANGED_REQUESTED set (configure_lines request.place request.settings bits 0 offsets lines_held held_lines)
+    (same lines_held set (configure_from-files request.place request.settings bits 0 offsets lines_held) all)
 
 act_keeps : (actor place fd : ℕ) (command : Command) (bytes : List ℕ) (part : Part) (w : World) → Keeps w (act_on actor place fd command bytes part w).world
 act_keeps actor place fd ChipInfo bytes part w = λ lines all. all

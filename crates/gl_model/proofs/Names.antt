@@ -1,5 +1,5 @@
 -- Each call keeps what are names in a world names.
-use Rattle.std.proofs.Common.{◌≡◌, ◌+◌, ℕ, zero, suc, List, [], ◌∷◌, ◌++◌, length, map, replicate, take, refl, sym, ◌∙◌, subst, Bool, true, false, cond, Option, Some, None, IsTrue, arith}
+use Rattle.std.proofs.Common.{◌||◌, ◌≡◌, ◌+◌, ℕ, zero, suc, List, [], ◌∷◌, ◌++◌, length, map, replicate, take, refl, sym, ◌∙◌, subst, Bool, true, false, cond, Option, Some, None, IsTrue, arith}
 use Rattle.std.specs.Prelude.{◌==◌, ◌&&◌, Result, Ok, Err, codes, nat_le, not, slice_index_or, unwrap_or}
 use Rattle.std.specs.List.{filter, find, list_all}
 use Rattle.std.specs.Option.{option_map}
@@ -30,7 +30,7 @@ use Rattle.gl_base.specs.declared.limits.TheConstants.{PLACES}
 use Rattle.gl_base.specs.declared.pin.PinDo.{PinDo}
 use Rattle.gl_base.specs.declared.settings.Resolved.{Resolved}
 use Rattle.gl_debounce.specs.Fire.{fires}
-use Rattle.gl_debounce.specs.Timer.{settled_at_raw, with_raw, with_timer}
+use Rattle.gl_debounce.specs.Timer.{hard_at, settled_at_raw, with_raw, with_timer}
 use Rattle.gl_debounce.specs.declared.timer.Fired.{Fired}
 use Rattle.gl_desc.specs.Desc.{claimed, first_desc, freed, hogged, named, settled}
 use Rattle.gl_desc.specs.declared.desc.Desc.{Desc}
@@ -74,13 +74,13 @@ use Rattle.gl_model.specs.Asked.{asked_in, request_fault}
 use Rattle.gl_model.specs.Chips.{new_place, place_refusal, places_left}
 use Rattle.gl_model.specs.Claiming.{claim_at, claim_by, claim_refusal, held, hold_claim, new_claim, told_claim, with_descs}
 use Rattle.gl_model.specs.Clock.{clock_refusal, fire, settle, settle_each, tick}
-use Rattle.gl_model.specs.Configuring.{configure, configure_each, configure_from, configured_on, settings_of, with_levels, with_period, config_refusal, is_directed, reconfigure_from, set_config, settings_after, with_settings}
+use Rattle.gl_model.specs.Configuring.{configure, configure_each, configure_from, configured_on, settings_of, with_levels, with_period, config_refusal, is_debounced_hard, is_directed, reconfigure_from, set_config, settings_after, with_settings}
 use Rattle.gl_model.specs.Edges.{deadline_of, edge, edge_for, raw_edge, raw_edge_for, input_holder}
 use Rattle.gl_model.specs.Ioctl.{act_on, by_number, checked, in_part}
 use Rattle.gl_model.specs.Machine.{machine, world_of}
 use Rattle.gl_model.specs.Names.{HasAllNames, HasNamedLines, HasNamedTexts, HasNames, IsNamedChip, IsNamedLine, LegalWorldsHaveNames, NamesStay}
 use Rattle.gl_model.specs.Notify.{notify, notify_each}
-use Rattle.gl_model.specs.Opening.{close, close_request, found, is_open, open_at, without_deadlines_at, with_lines_freed, without_request}
+use Rattle.gl_model.specs.Opening.{close, close_request, found, is_open, open_at, with_timers_let_go, with_lines_freed, without_request}
 use Rattle.gl_model.specs.OpenFiles.{command_refusal, in_parts, on_request}
 use Rattle.gl_model.specs.Outcome.{Outcome, done, refused_or}
 use Rattle.gl_model.specs.Interrupts.{irq, irq_line}
@@ -398,7 +398,7 @@ raw_edge_for_keep None place offset up w = as_was w
 raw_edge_for_keep (Some fd) place offset up w =
     let line : Levels = levels_at (place_at w place).bank offset in
     let later : World = record w { timers = with_timer (with_raw up (deadline_of line w.mono)) place offset w.timers } in
-    either (line.debounce_us == 0) (edge place offset up w.mono w) later w (edge_keep place offset up w.mono w) (as_was w)
+    either (line.debounce_us == 0 || hard_at w.timers place offset) (edge place offset up w.mono w) later w (edge_keep place offset up w.mono w) (as_was w)
 
 raw_edge_keep : (place offset : ℕ) (o : Option Change) (w : World) → Keeps w (raw_edge place offset o w)
 raw_edge_keep place offset None w = as_was w
@@ -444,26 +444,26 @@ notify_each_keep place (offset ∷ offsets) kind w = notify_each_keep place offs
 levels_keep : (place offset : ℕ) (f : Levels → Levels) (w : World) → Keeps w (with_place place (with_levels offset f) w)
 levels_keep place offset f w = with_place_keep place (with_levels offset f) w (λ tables s. s)
 
-configure_keep : (place : ℕ) (settings : Resolved) (i offset : ℕ) (w : World) → Keeps w (configure place (settings_of settings i) offset w)
-configure_keep place settings i offset w =
+configure_keep : (place : ℕ) (settings : Resolved) (bits i offset : ℕ) (w : World) → Keeps w (configure place (settings_of settings i) (has_bit bits i) offset w)
+configure_keep place settings bits i offset w =
     let before : Levels = levels_at (place_at w place).bank offset in
     let change : Levels → Levels = configured_on (kind_at w place) (settings_of settings i) in
-    levels_keep place offset change (record w { timers = with_period place offset before (change before) w.timers })
+    levels_keep place offset change (record w { timers = with_period place offset before (change before) (is_debounced_hard (settings_of settings i) (has_bit bits i)) w.timers })
 
-configure_from_keep : (place : ℕ) (settings : Resolved) (i : ℕ) (offsets : List ℕ) (w : World) → Keeps w (configure_from place settings i offsets w)
-configure_from_keep place settings i [] w = as_was w
-configure_from_keep place settings i (offset ∷ offsets) w =
-    let next : World = configure place (settings_of settings i) offset w in
-    then w next (configure_from place settings (i + 1) offsets next) (configure_keep place settings i offset w) (configure_from_keep place settings (i + 1) offsets next)
+configure_from_keep : (place : ℕ) (settings : Resolved) (bits i : ℕ) (offsets : List ℕ) (w : World) → Keeps w (configure_from place settings bits i offsets w)
+configure_from_keep place settings bits i [] w = as_was w
+configure_from_keep place settings bits i (offset ∷ offsets) w =
+    let next : World = configure place (settings_of settings i) (has_bit bits i) offset w in
+    then w next (configure_from place settings bits (i + 1) offsets next) (configure_keep place settings bits i offset w) (configure_from_keep place settings bits (i + 1) offsets next)
 
-reconfigure_from_keep : (place : ℕ) (settings : Resolved) (i : ℕ) (offsets : List ℕ) (w : World) → Keeps w (reconfigure_from place settings i offsets w)
-reconfigure_from_keep place settings i [] w = as_was w
-reconfigure_from_keep place settings i (offset ∷ offsets) w =
-    let set : World = notify place offset CHANGED_CONFIG (configure place (settings_of settings i) offset w) in
+reconfigure_from_keep : (place : ℕ) (settings : Resolved) (bits i : ℕ) (offsets : List ℕ) (w : World) → Keeps w (reconfigure_from place settings bits i offsets w)
+reconfigure_from_keep place settings bits i [] w = as_was w
+reconfigure_from_keep place settings bits i (offset ∷ offsets) w =
+    let set : World = notify place offset CHANGED_CONFIG (configure place (settings_of settings i) (has_bit bits i) offset w) in
     let next : World = cond (is_directed settings i) set w in
-    then w next (reconfigure_from place settings (i + 1) offsets next)
-    (either (is_directed settings i) set w w (configure_keep place settings i offset w) (as_was w))
-    (reconfigure_from_keep place settings (i + 1) offsets next)
+    then w next (reconfigure_from place settings bits (i + 1) offsets next)
+    (either (is_directed settings i) set w w (configure_keep place settings bits i offset w) (as_was w))
+    (reconfigure_from_keep place settings bits (i + 1) offsets next)
 
 drive_from_keep : (place mask bits i : ℕ) (offsets : List ℕ) (w : World) → Keeps w (drive_from place mask bits i offsets w)
 drive_from_keep place mask bits i [] w = as_was w
@@ -491,7 +491,7 @@ set_config_keep : (place fd : ℕ) (bytes : List ℕ) (part : Part) (lines : Lin
 set_config_keep place fd bytes part lines settings w =
     let after : Resolved = resolved_for bytes lines.count in
     let set : World = record w { requests = change_first (has_number fd) (with_settings (settings_after settings after lines.count)) w.requests } in
-    keeps_else (config_refusal place lines bytes w) w _ (in_parts_keep part _ w (λ bits. reconfigure_from_keep place after 0 (offsets_of lines) set))
+    keeps_else (config_refusal place lines bytes w) w _ (in_parts_keep part _ w (λ bits. reconfigure_from_keep place after bits 0 (offsets_of lines) set))
 
 get_values_keep : (place : ℕ) (bytes : List ℕ) (part : Part) (lines : Lines) (settings : Resolved) (w : World) → Keeps w (get_values place bytes part lines settings w).world
 get_values_keep place bytes part lines settings w = keeps_else _ w _ (in_parts_keep part _ w (λ bits. as_was w))
@@ -514,9 +514,9 @@ told_claim_keep (Some bits) len bytes (Some request) w =
     let offsets : List ℕ = offsets_of request.lines in
     let kept : World = record w { requests = change_first (has_number request.fd) held w.requests } in
     let lines_held : World = with_place request.place (with_descs offsets settled) kept in
-    let set : World = configure_each request.place request.lines request.settings lines_held in
-    then w lines_held (hold_claim request w) (lines_keep request.place offsets settled kept settled_named)
-    (then lines_held set (hold_claim request w) (configure_from_keep request.place request.settings 0 offsets lines_held) (notify_each_keep request.place offsets CHANGED_REQUESTED set))
+    let set : World = configure_each request.place request.lines request.settings bits lines_held in
+    then w lines_held (hold_claim bits request w) (lines_keep request.place offsets settled kept settled_named)
+    (then lines_held set (hold_claim bits request w) (configure_from_keep request.place request.settings bits 0 offsets lines_held) (notify_each_keep request.place offsets CHANGED_REQUESTED set))
 
 act_on_keep : (actor place fd : ℕ) (command : Command) (bytes : List ℕ) (part : Part) (w : World) → Keeps w (act_on actor place fd command bytes part w).world
 act_on_keep actor place fd ChipInfo bytes part w = as_was w
@@ -571,7 +571,7 @@ close_request_keep (Some request) w =
     let offsets : List ℕ = offsets_of request.lines in
     let gone : World = record w {
       requests = without_first (has_number request.fd) w.requests;
-      timers = without_deadlines_at request.place offsets w.timers;
+      timers = with_timers_let_go request.place offsets w.timers;
     } in
     then w (without_request request w) (close_request (Some request) w)
     (with_place_keep request.place (with_lines_freed offsets) gone (λ tables s. Each-change_each IsNamedLine first_desc offsets freed tables.descs freed_named s))

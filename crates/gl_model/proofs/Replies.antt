@@ -170,7 +170,7 @@ acts actor place fd len GetLine bytes Ask w isnt e = claims actor place bytes w
 acts actor place fd len GetLine bytes (Tell answer) w isnt e = absurd (true≢false isnt)
 acts actor place fd len SetConfig bytes part w isnt e = on_its_request SetConfig part (set_config place fd bytes part) (request_at w.requests fd) w
     (λ lines settings. answers part (Some SetConfig) (config_refusal place lines bytes w) w _ (of_new_config (May part) (ok part) place lines bytes w (λ _. refl))
-    (λ _. asks_and_tells SetConfig part (λ bits v. done (reconfigure place fd lines settings (resolved_for bytes lines.count) v)) w refl (λ answer bits. (refl, λ g. not_go g))))
+    (λ _. asks_and_tells SetConfig part (λ bits v. done (reconfigure place fd lines settings (resolved_for bytes lines.count) bits v)) w refl (λ answer bits. (refl, λ g. not_go g))))
 acts actor place fd len GetValues bytes part w isnt e = on_its_request GetValues part (get_values place bytes part) (request_at w.requests fd) w
     (λ lines settings. answers part (Some GetValues) (when (not (has_bit_below lines.count (mask_in bytes))) Inval) w _ (of_mask (May part) (ok part) lines (mask_in bytes))
     (λ _. asks_and_tells GetValues part (λ answered v. writes (values_bytes (values_of place lines (mask_in bytes) answered v) (mask_in bytes)) v) w refl (λ answer bits. (refl, λ g. not_go g))))

@@ -1,5 +1,5 @@
 -- What stays true of the requests of a world, whatever call is made: it has to stay true of each change that a call makes.
-use Rattle.std.proofs.Common.{◌≡◌, ◌+◌, ℕ, List, [], ◌∷◌, ◌++◌, length, refl, sym, Bool, true, false, cond, Option, Some, None, subst}
+use Rattle.std.proofs.Common.{◌||◌, ◌≡◌, ◌+◌, ℕ, List, [], ◌∷◌, ◌++◌, length, refl, sym, Bool, true, false, cond, Option, Some, None, subst}
 use Rattle.std.specs.Prelude.{◌/◌, Result, Ok, Err, flat_map, not, take, ◌==◌}
 use Rattle.gl_attrs.specs.Setting.{resolved_for}
 use Rattle.gl_bank.specs.Level.{first_levels, flipped, levels_at, pulled}
@@ -15,7 +15,7 @@ use Rattle.gl_base.specs.declared.errno.Errno.TheVariants.{BadF, Inval}
 use Rattle.gl_base.specs.declared.lines.Lines.{Lines}
 use Rattle.gl_base.specs.declared.settings.Resolved.{Resolved}
 use Rattle.gl_debounce.specs.Fire.{fires}
-use Rattle.gl_debounce.specs.Timer.{settled_at_raw, with_raw, with_timer}
+use Rattle.gl_debounce.specs.Timer.{hard_at, settled_at_raw, with_raw, with_timer}
 use Rattle.gl_debounce.specs.declared.timer.Fired.{Fired}
 use Rattle.gl_desc.specs.Desc.{settled}
 use Rattle.gl_registry.specs.Chips.{place_of_word}
@@ -124,7 +124,7 @@ module _
     raw_edge_for_keep None place offset up w = as_was w
     raw_edge_for_keep (Some fd) place offset up w =
         let line : Levels = levels_at (place_at w place).bank offset in
-        either (line.debounce_us == 0) (edge place offset up w.mono w) (record w { timers = with_timer (with_raw up (deadline_of line w.mono)) place offset w.timers }) w (edge_keep place offset up w.mono w) (as_was w)
+        either (line.debounce_us == 0 || hard_at w.timers place offset) (edge place offset up w.mono w) (record w { timers = with_timer (with_raw up (deadline_of line w.mono)) place offset w.timers }) w (edge_keep place offset up w.mono w) (as_was w)
 
     raw_edge_keep : (place offset : ℕ) (o : Option Change) (w : World) → Keeps w (raw_edge place offset o w)
     raw_edge_keep place offset None w = as_was w
@@ -148,15 +148,15 @@ module _
     notify_each_keep place [] kind w = as_was w
     notify_each_keep place (offset ∷ offsets) kind w = notify_each_keep place offsets kind (notify place offset kind w)
 
-    configure_from_keep : (place : ℕ) (settings : Resolved) (i : ℕ) (offsets : List ℕ) (w : World) → Keeps w (configure_from place settings i offsets w)
-    configure_from_keep place settings i [] w = as_was w
-    configure_from_keep place settings i (offset ∷ offsets) w = configure_from_keep place settings (i + 1) offsets (configure place (settings_of settings i) offset w)
+    configure_from_keep : (place : ℕ) (settings : Resolved) (bits i : ℕ) (offsets : List ℕ) (w : World) → Keeps w (configure_from place settings bits i offsets w)
+    configure_from_keep place settings bits i [] w = as_was w
+    configure_from_keep place settings bits i (offset ∷ offsets) w = configure_from_keep place settings bits (i + 1) offsets (configure place (settings_of settings i) (has_bit bits i) offset w)
 
-    reconfigure_from_keep : (place : ℕ) (settings : Resolved) (i : ℕ) (offsets : List ℕ) (w : World) → Keeps w (reconfigure_from place settings i offsets w)
-    reconfigure_from_keep place settings i [] w = as_was w
-    reconfigure_from_keep place settings i (offset ∷ offsets) w =
-        let next : World = cond (is_directed settings i) (notify place offset CHANGED_CONFIG (configure place (settings_of settings i) offset w)) w in
-        then w next (reconfigure_from place settings (i + 1) offsets next) (either (is_directed settings i) (notify place offset CHANGED_CONFIG (configure place (settings_of settings i) offset w)) w w (as_was w) (as_was w)) (reconfigure_from_keep place settings (i + 1) offsets next)
+    reconfigure_from_keep : (place : ℕ) (settings : Resolved) (bits i : ℕ) (offsets : List ℕ) (w : World) → Keeps w (reconfigure_from place settings bits i offsets w)
+    reconfigure_from_keep place settings bits i [] w = as_was w
+    reconfigure_from_keep place settings bits i (offset ∷ offsets) w =
+        let next : World = cond (is_directed settings i) (notify place offset CHANGED_CONFIG (configure place (settings_of settings i) (has_bit bits i) offset w)) w in
+        then w next (reconfigure_from place settings bits (i + 1) offsets next) (either (is_directed settings i) (notify place offset CHANGED_CONFIG (configure place (settings_of settings i) (has_bit bits i) offset w)) w w (as_was w) (as_was w)) (reconfigure_from_keep place settings bits (i + 1) offsets next)
 
     drive_from_keep : (place mask bits i : ℕ) (offsets : List ℕ) (w : World) → Keeps w (drive_from place mask bits i offsets w)
     drive_from_keep place mask bits i [] w = as_was w
@@ -180,10 +180,10 @@ module _
     set_config_keep place fd bytes part lines settings w =
         let after : Resolved = resolved_for bytes lines.count in
         let set : World = record w { requests = change_first (has_number fd) (with_settings (settings_after settings after lines.count)) w.requests } in
-        let act : ℕ → World → Outcome = λ bits v. done (reconfigure place fd lines settings after v) in
-        keeps_else (config_refusal place lines bytes w) w (in_parts part act w) (in_parts_keep part act w (λ bits. then w set (reconfigure_from place after 0 (offsets_of lines) set)
+        let act : ℕ → World → Outcome = λ bits v. done (reconfigure place fd lines settings after bits v) in
+        keeps_else (config_refusal place lines bytes w) w (in_parts part act w) (in_parts_keep part act w (λ bits. then w set (reconfigure_from place after bits 0 (offsets_of lines) set)
         (settings_set fd (λ before. settings_after settings after lines.count) w.requests)
-        (reconfigure_from_keep place after 0 (offsets_of lines) set)))
+        (reconfigure_from_keep place after bits 0 (offsets_of lines) set)))
 
     get_values_keep : (place : ℕ) (bytes : List ℕ) (part : Part) (lines : Lines) (settings : Resolved) (w : World) → Keeps w (get_values place bytes part lines settings w).world
     get_values_keep place bytes part lines settings w =
@@ -202,9 +202,9 @@ module _
     told_claim_keep actor place (Some bits) len bytes (Some request) w before may e =
         let offsets : List ℕ = offsets_of request.lines in
         let lines_held : World = with_place request.place (with_descs offsets settled) (record w { requests = change_first (has_number request.fd) held w.requests }) in
-        let set : World = configure_each request.place request.lines request.settings lines_held in
-        then w lines_held (hold_claim request w) (finished w actor request before may (claim_by_any place (claim_by w.requests actor) request e))
-        (then lines_held set (hold_claim request w) (configure_from_keep request.place request.settings 0 offsets lines_held) (notify_each_keep request.place offsets CHANGED_REQUESTED set))
+        let set : World = configure_each request.place request.lines request.settings bits lines_held in
+        then w lines_held (hold_claim bits request w) (finished w actor request before may (claim_by_any place (claim_by w.requests actor) request e))
+        (then lines_held set (hold_claim bits request w) (configure_from_keep request.place request.settings bits 0 offsets lines_held) (notify_each_keep request.place offsets CHANGED_REQUESTED set))
 
     act_on_keeps : (actor place fd : ℕ) (command : Command) (bytes : List ℕ) (part : Part) (w : World) → Before w → (is_get_line (Some command) ≡ true → May actor)
         → Keeps w (act_on actor place fd command bytes part w).world

@@ -106,11 +106,12 @@ drop_claim request w =
     with_place request.place (with_descs (offsets_of request.lines) freed)
     (record w { requests = without_first (has_number request.fd) w.requests })
 
--- the world in which the claim is a hold: its lines are held, configured, and told of as requested, each in order
-abbrev pub hold_claim : Request → World → World
-hold_claim request w =
+-- the world in which the claim is a hold: its lines are held, configured behind the driver's answer, and told of as requested,
+-- each in order
+abbrev pub hold_claim : ℕ → Request → World → World
+hold_claim bits request w =
     notify_each request.place (offsets_of request.lines) CHANGED_REQUESTED
-    (configure_each request.place request.lines request.settings
+    (configure_each request.place request.lines request.settings bits
     (with_place request.place (with_descs (offsets_of request.lines) settled)
     (record w { requests = change_first (has_number request.fd) held w.requests })))
 
@@ -129,7 +130,7 @@ abbrev pub told_claim : Option ℕ → ℕ → List ℕ → Option Request → W
 told_claim answer len bytes None w = refused Inval w
 told_claim None len bytes (Some request) w = refused Io (drop_claim request w)
 told_claim (Some bits) len bytes (Some request) w =
-    record { world = hold_claim request w; reply = Number request.fd; bytes = with_fd len request.fd bytes }
+    record { world = hold_claim bits request w; reply = Number request.fd; bytes = with_fd len request.fd bytes }
 
 -- GET_LINE is told what the driver answered: this actor's unfinished claim at this place alone decides
 abbrev pub get_line_tell : ℕ → ℕ → Option ℕ → ℕ → List ℕ → World → Outcome

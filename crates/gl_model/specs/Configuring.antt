@@ -1,7 +1,9 @@
 -- How the lines of a request are configured, and SET_CONFIG: from `linux/gpio.h` and the kernel's documents on the GPIO
--- character device (directions, biases, debouncing) and on GPIO drivers (interrupt locks). That events and their numbers go
+-- character device (directions, biases, debouncing) and on GPIO drivers (interrupt locks, and a debounce period that a controller
+-- takes). That events and their numbers go
 -- on, and which refusal comes first, is this project's choice.
 use Rattle.std.specs.Prelude.{ℕ, ◌+◌, not, ◌==◌, ◌&&◌, ◌||◌, Bool, if◌then◌else◌, List, [], ◌∷◌, slice_index_or, Option, None, slice_index}
+use Rattle.std.specs.Bool.{beq}
 use Rattle.gl_attrs.specs.ConfigFault.{config_fault}
 use Rattle.gl_attrs.specs.Setting.{resolved_for}
 use Rattle.gl_bank.specs.Level.{configured, first_levels, level, levels_at, pulled}
@@ -21,7 +23,7 @@ use Rattle.gl_base.specs.declared.kind.Kind.TheVariants.{Simulated, Remote}
 use Rattle.gl_base.specs.declared.lines.Lines.{Lines}
 use Rattle.gl_base.specs.declared.settings.Resolved.{Resolved}
 use Rattle.gl_base.specs.declared.settings.Settings.{Settings}
-use Rattle.gl_debounce.specs.Timer.{still, with_new_timer}
+use Rattle.gl_debounce.specs.Timer.{hard_at, still, with_new_timer}
 use Rattle.gl_debounce.specs.declared.timer.Timer.{Timer}
 use Rattle.gl_flags.specs.FlagFault.{has_edge, has_direction}
 use Rattle.gl_irq.specs.Irq.{irq_at}
@@ -57,32 +59,40 @@ abbrev pub configured_on : Kind → Settings → Levels → Levels
 configured_on Simulated settings line = configured settings line
 configured_on Remote settings line = pulled line.pull (configured settings line)
 
--- The timers after a line was configured. Where its debounce period is another one than before, the line has settled at
--- the level that it has now, and no deadline runs.
-abbrev pub with_period : ℕ → ℕ → Levels → Levels → List (Option Timer) → List (Option Timer)
-with_period place offset before after timers =
-    if before.debounce_us == after.debounce_us then timers else with_new_timer (still (level after)) place offset timers
+-- the driver debounces a line with these settings: they have a debounce period, and the driver's answer has the line's bit
+abbrev pub is_debounced_hard : Settings → Bool → Bool
+is_debounced_hard settings answered = not (settings.debounce_us == 0) && answered
+
+-- The timers after a line was configured, to be hard or not. Where its debounce period is another one than before, or whether
+-- it is hard is, the line has settled at the level that it has now, and no deadline runs.
+abbrev pub with_period : ℕ → ℕ → Levels → Levels → Bool → List (Option Timer) → List (Option Timer)
+with_period place offset before after hard timers =
+    if before.debounce_us == after.debounce_us && beq (hard_at timers place offset) hard
+    then timers
+    else with_new_timer (still (level after) hard) place offset timers
 
 -- the levels of a line, set
 abbrev pub with_levels : ℕ → (Levels → Levels) → Place → Place
 with_levels offset f place = record place { bank = change_at first_levels offset f place.bank }
 
--- the world with one line configured
-abbrev pub configure : ℕ → Settings → ℕ → World → World
-configure place settings offset w =
+-- the world with one line configured, of which the driver's answer has the bit, or hasn't
+abbrev pub configure : ℕ → Settings → Bool → ℕ → World → World
+configure place settings answered offset w =
     let before = levels_at (place_at w place).bank offset in
     let change = configured_on (kind_at w place) settings in
-    with_place place (with_levels offset change) (record w { timers = with_period place offset before (change before) w.timers })
+    with_place place (with_levels offset change)
+    (record w { timers = with_period place offset before (change before) (is_debounced_hard settings answered) w.timers })
 
--- the world with some lines configured, in order, each with the settings of its position in the request, from position i on
-abbrev pub configure_from : ℕ → Resolved → ℕ → List ℕ → World → World
-configure_from place settings i [] w = w
-configure_from place settings i (offset ∷ offsets) w =
-    configure_from place settings (i + 1) offsets (configure place (settings_of settings i) offset w)
+-- the world with some lines configured, in order, each with the settings of its position in the request, from position i on,
+-- and with the bit of that position in the driver's answer
+abbrev pub configure_from : ℕ → Resolved → ℕ → ℕ → List ℕ → World → World
+configure_from place settings bits i [] w = w
+configure_from place settings bits i (offset ∷ offsets) w =
+    configure_from place settings bits (i + 1) offsets (configure place (settings_of settings i) (has_bit bits i) offset w)
 
--- the world with all lines of a request configured
-abbrev pub configure_each : ℕ → Lines → Resolved → World → World
-configure_each place lines settings w = configure_from place settings 0 (offsets_of lines) w
+-- the world with all lines of a request configured, behind the driver's answer
+abbrev pub configure_each : ℕ → Lines → Resolved → ℕ → World → World
+configure_each place lines settings bits w = configure_from place settings bits 0 (offsets_of lines) w
 
 -- SET_CONFIG
 
@@ -111,24 +121,24 @@ settings_after before after count = record {
 
 -- the world with some lines of a request configured and told of, in order, from position i of the request on; a line without
 -- a direction is left as it is
-abbrev pub reconfigure_from : ℕ → Resolved → ℕ → List ℕ → World → World
-reconfigure_from place settings i [] w = w
-reconfigure_from place settings i (offset ∷ offsets) w =
-    reconfigure_from place settings (i + 1) offsets
-    (if is_directed settings i then notify place offset CHANGED_CONFIG (configure place (settings_of settings i) offset w) else w)
+abbrev pub reconfigure_from : ℕ → Resolved → ℕ → ℕ → List ℕ → World → World
+reconfigure_from place settings bits i [] w = w
+reconfigure_from place settings bits i (offset ∷ offsets) w =
+    reconfigure_from place settings bits (i + 1) offsets
+    (if is_directed settings i then notify place offset CHANGED_CONFIG (configure place (settings_of settings i) (has_bit bits i) offset w) else w)
 
 -- the request with other settings
 abbrev pub with_settings : Resolved → Request → Request
 with_settings settings request = record request { settings = settings }
 
--- the world with the lines of a request configured anew
-abbrev pub reconfigure : ℕ → ℕ → Lines → Resolved → Resolved → World → World
-reconfigure place fd lines before after w =
-    reconfigure_from place after 0 (offsets_of lines)
+-- the world with the lines of a request configured anew, behind the driver's answer
+abbrev pub reconfigure : ℕ → ℕ → Lines → Resolved → Resolved → ℕ → World → World
+reconfigure place fd lines before after bits w =
+    reconfigure_from place after bits 0 (offsets_of lines)
     (record w { requests = change_first (has_number fd) (with_settings (settings_after before after lines.count)) w.requests })
 
 -- SET_CONFIG on a request with these lines and these settings
 abbrev pub set_config : ℕ → ℕ → List ℕ → Part → Lines → Resolved → World → Outcome
 set_config place fd bytes part lines settings w =
     refused_or (config_refusal place lines bytes w) w
-    (in_parts part (λ bits v. done (reconfigure place fd lines settings (resolved_for bytes lines.count) v)) w)
+    (in_parts part (λ bits v. done (reconfigure place fd lines settings (resolved_for bytes lines.count) bits v)) w)

@@ -1,5 +1,5 @@
 -- Edges of lines, from the kernel's document on the GPIO character device (edge detection, event clocks, debouncing).
-use Rattle.std.specs.Prelude.{ℕ, ◌+◌, ◌*◌, Bool, ◌==◌, nat_eq, if◌then◌else◌, Option, Some, None}
+use Rattle.std.specs.Prelude.{ℕ, ◌+◌, ◌*◌, Bool, ◌==◌, ◌||◌, nat_eq, if◌then◌else◌, Option, Some, None}
 use Rattle.std.specs.List.{position_or_len}
 use Rattle.gl_bank.specs.Level.{flipped, levels_at}
 use Rattle.gl_bank.specs.declared.levels.Change.{Change}
@@ -9,7 +9,7 @@ use Rattle.gl_base.specs.Lines.{offsets_of}
 use Rattle.gl_base.specs.Rows.{change_first}
 use Rattle.gl_base.specs.declared.flag.TheConstants.{EVENT_CLOCK_REALTIME}
 use Rattle.gl_base.specs.declared.lines.Lines.{Lines}
-use Rattle.gl_debounce.specs.Timer.{with_raw, with_timer}
+use Rattle.gl_debounce.specs.Timer.{hard_at, with_raw, with_timer}
 use Rattle.gl_desc.specs.Desc.{desc_at}
 use Rattle.gl_desc.specs.declared.desc.Holder.{Holder}
 use Rattle.gl_desc.specs.declared.desc.Holder.TheVariants.{Free, Claimed, Held, Hog}
@@ -67,12 +67,12 @@ edge place offset up moment w =
 abbrev pub deadline_of : Levels → ℕ → ℕ
 deadline_of line moment = moment + 1000 * line.debounce_us
 
--- a raw edge: an edge at once where the line isn't debounced, else a level that is to settle at the deadline
+-- a raw edge: an edge at once where the line isn't debounced, or by its driver, else a level that is to settle at the deadline
 abbrev pub raw_edge_for : Option ℕ → ℕ → ℕ → Bool → World → World
 raw_edge_for None place offset up w = w
 raw_edge_for (Some fd) place offset up w =
     let line = levels_at (place_at w place).bank offset in
-    if line.debounce_us == 0
+    if line.debounce_us == 0 || hard_at w.timers place offset
     then edge place offset up w.mono w
     else record w { timers = with_timer (with_raw up (deadline_of line w.mono)) place offset w.timers }
 

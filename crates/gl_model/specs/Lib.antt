@@ -43,3 +43,4 @@ pub mod Rings
 pub mod Banks
 pub mod SoundRequests
 pub mod Names
+pub mod Marks

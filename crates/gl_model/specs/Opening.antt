@@ -9,7 +9,7 @@ use Rattle.gl_base.specs.Refusals.{first_of, when}
 use Rattle.gl_base.specs.Rows.{without_first}
 use Rattle.gl_base.specs.declared.errno.Errno.{Errno}
 use Rattle.gl_base.specs.declared.errno.Errno.TheVariants.{BadF, NoDev, NoEnt}
-use Rattle.gl_debounce.specs.Timer.{with_timer, without_deadline}
+use Rattle.gl_debounce.specs.Timer.{let_go, with_timer}
 use Rattle.gl_debounce.specs.declared.timer.Timer.{Timer}
 use Rattle.gl_desc.specs.Desc.{first_desc, freed}
 use Rattle.gl_desc.specs.declared.desc.Desc.{Desc}
@@ -57,18 +57,18 @@ with_lines_freed offsets place = record place {
   bank = change_each first_levels offsets released place.bank;
 }
 
--- the timers with no deadline of some lines of a place running
-abbrev pub without_deadlines_at : ℕ → List ℕ → List (Option Timer) → List (Option Timer)
-without_deadlines_at place [] timers = timers
-without_deadlines_at place (offset ∷ offsets) timers =
-    without_deadlines_at place offsets (with_timer without_deadline place offset timers)
+-- the timers with some lines of a place let go of: no deadline of them runs, and none is hard
+abbrev pub with_timers_let_go : ℕ → List ℕ → List (Option Timer) → List (Option Timer)
+with_timers_let_go place [] timers = timers
+with_timers_let_go place (offset ∷ offsets) timers =
+    with_timers_let_go place offsets (with_timer let_go place offset timers)
 
 -- the world without a request, whose lines are let go of
 abbrev pub without_request : Request → World → World
 without_request request w =
     with_place request.place (with_lines_freed (offsets_of request.lines)) (record w {
       requests = without_first (has_number request.fd) w.requests;
-      timers = without_deadlines_at request.place (offsets_of request.lines) w.timers;
+      timers = with_timers_let_go request.place (offsets_of request.lines) w.timers;
     })
 
 -- a request is closed: its lines are let go of, and each is told of as released, in the order of the request

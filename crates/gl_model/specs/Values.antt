@@ -1,6 +1,6 @@
 -- GET_VALUES and SET_VALUES, from `struct gpio_v2_line_values` of `linux/gpio.h` and the kernel's document on the GPIO
 -- character device. Which refusal comes first is this project's choice.
-use Rattle.std.specs.Prelude.{ℕ, ◌+◌, ◌==◌, ◌&&◌, Bool, not, if◌then◌else◌, List, [], ◌∷◌, slice_index, Option}
+use Rattle.std.specs.Prelude.{ℕ, ◌+◌, ◌==◌, ◌&&◌, ◌||◌, Bool, not, if◌then◌else◌, List, [], ◌∷◌, slice_index, Option}
 use Rattle.std.specs.Option.{option_map_or}
 use Rattle.gl_bank.specs.Level.{driven, flipped, level, levels_at, logical}
 use Rattle.gl_bank.specs.declared.levels.Levels.{Levels}
@@ -14,7 +14,7 @@ use Rattle.gl_base.specs.declared.kind.Kind.{Kind}
 use Rattle.gl_base.specs.declared.kind.Kind.TheVariants.{Simulated, Remote}
 use Rattle.gl_base.specs.declared.lines.Lines.{Lines}
 use Rattle.gl_base.specs.declared.settings.Resolved.{Resolved}
-use Rattle.gl_debounce.specs.Timer.{timer_at}
+use Rattle.gl_debounce.specs.Timer.{hard_at, timer_at}
 use Rattle.gl_debounce.specs.declared.timer.Timer.{Timer}
 use Rattle.gl_uapi.specs.Fields.{number_at}
 use Rattle.gl_uapi.specs.LineValues.{values_bytes}
@@ -43,17 +43,17 @@ levels_of place lines w i = levels_at (place_at w place).bank (slice_index lines
 abbrev pub settled_level : Option Timer → Levels → Bool
 settled_level timer line = option_map_or (λ t. t.settled) timer (level line)
 
--- the value of a line that isn't debounced: its logical value on a simulated chip, what the driver answered on a remote one
+-- the value of a line that isn't debounced here: its logical value on a simulated chip, what the driver answered on a remote one
 abbrev pub value_on : Kind → Levels → Bool → Bool
 value_on Simulated line answered = logical line
 value_on Remote line answered = answered
 
--- the value of the line at position i of a request: where it is debounced, the level at which it has settled, inverted where
--- it is active low
+-- the value of the line at position i of a request: where it is debounced, and not by its driver, the level at which it has
+-- settled, inverted where it is active low
 abbrev pub value_of : ℕ → Lines → ℕ → World → ℕ → Bool
 value_of place lines answered w i =
     let line = levels_of place lines w i in
-    if line.debounce_us == 0 then value_on (kind_at w place) line (has_bit answered i)
+    if line.debounce_us == 0 || hard_at w.timers place (slice_index lines.offsets i) then value_on (kind_at w place) line (has_bit answered i)
     else flipped line.flags (settled_level (timer_at w.timers place (slice_index lines.offsets i)) line)
 
 -- the values of the masked lines, a bit a line; the other bits are 0

@@ -20,7 +20,7 @@ pub enum Part {
 ///
 /// `place` is below `PLACES` wherever it stands, and `offset` is a line's offset on the chip there. `fd` is
 /// the number of an open file.
-#[derive(Clone, Copy)]
+#[derive(Clone, Copy, PartialEq, Eq)]
 pub enum Call {
     /// Makes a chip outside the tree, with 1 to `LINES_MAX` lines.
     Probe {

@@ -8,6 +8,7 @@ ghost use Rattle.gl_model.specs.EndingRemovals.{LastCallsAreDone};
 ghost use Rattle.gl_model.specs.Holders.{HoldersAlwaysAgree, HoldersStayAgreed, NoLineIsShared};
 ghost use Rattle.gl_model.specs.Holds.{OneHolder};
 ghost use Rattle.gl_model.specs.Machine.{CallLaws, machine};
+ghost use Rattle.gl_model.specs.Marks.{TellsMarkLines};
 ghost use Rattle.gl_model.specs.Names.{LegalWorldsHaveNames, NamesStay};
 ghost use Rattle.gl_model.specs.OneClaim.{CallsFinishClaims, OneClaim};
 ghost use Rattle.gl_model.specs.OneRemoval.{BeginsOnce, OneRemoval};
@@ -121,4 +122,12 @@ pub fn worlds_have_bounds<K: Image>()
 /// with removals: behind every legal history, whatever happens.
 pub fn last_calls_are_done<K: Image>()
     ensures { LastCallsAreDone K.Image.stands_for }
+{}
+
+/// Which lines their driver debounces. A tell of GET_LINE makes the i-th line of the request hard exactly where the line has a
+/// debounce period and bit i of the driver's answer is set. A tell of SET_CONFIG does so with each line that it gives a direction,
+/// and the others of the request stay as they were. No line of a request that is let go of is hard. And lines of no such request
+/// stay as they were.
+pub fn tells_mark_lines()
+    ensures { TellsMarkLines }
 {}

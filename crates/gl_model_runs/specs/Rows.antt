@@ -10,6 +10,7 @@ pub mod DeviceCalls
 pub mod Directions
 pub mod FirstAttribute
 pub mod Histories
+pub mod HardDebounce
 pub mod HogAndLocks
 pub mod InterruptLocks
 pub mod InterruptTable

@@ -13,6 +13,7 @@ ghost use Rattle.gl_model_runs.specs.Rows.Debounce.{given as debounce_given, run
 ghost use Rattle.gl_model_runs.specs.Rows.DeviceCalls.{given as device_calls_given, run as device_calls_run};
 ghost use Rattle.gl_model_runs.specs.Rows.Directions.{given as directions_given, run as directions_run};
 ghost use Rattle.gl_model_runs.specs.Rows.FirstAttribute.{given as first_attribute_given, run as first_attribute_run};
+ghost use Rattle.gl_model_runs.specs.Rows.HardDebounce.{given as hard_debounce_given, run as hard_debounce_run};
 ghost use Rattle.gl_model_runs.specs.Rows.HogAndLocks.{given as hog_and_locks_given, run as hog_and_locks_run};
 ghost use Rattle.gl_model_runs.specs.Rows.InterruptLocks.{given as interrupt_locks_given, run as interrupt_locks_run};
 ghost use Rattle.gl_model_runs.specs.Rows.InterruptTable.{given as interrupt_table_given, run as interrupt_table_run};
@@ -171,6 +172,11 @@ pub fn hog_and_locks()
 /// The information on a debounced line has its period as an attribute, and its event comes at the deadline.
 pub fn soft_debounce()
     ensures { answers soft_debounce_run ≡ soft_debounce_given }
+{}
+
+/// Lines that their driver debounces: which of a request they are, when they tell of an edge, and how long.
+pub fn hard_debounce()
+    ensures { answers hard_debounce_run ≡ hard_debounce_given }
 {}
 
 /// The monotonic and the real clock: which one an event has, what clocks are refused, and in which order debounced lines settle.

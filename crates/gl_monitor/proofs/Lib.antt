@@ -1,5 +1,6 @@
 pub mod MonitorCosts
 pub mod MonitorNames
+pub mod MonitorPrints
 pub mod MonitorSlots
 pub mod Staying
 pub mod Turns

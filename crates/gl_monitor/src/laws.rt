@@ -1,9 +1,11 @@
-//! What the monitors cost, and which files they open and close, whatever they are answered. Each law stands as the contract of a function that does nothing.
+//! What the monitors cost, which files they open and close, and that they print whole lines, whatever they are answered. Each law
+//! stands as the contract of a function that does nothing.
 ghost use Rattle.std.specs.Prelude.{◌≡◌, ℕ, ◌+◌, Bool, true, List, ◌∷◌};
 ghost use Rattle.gl_args.specs.Options.{SaidTool};
 ghost use Rattle.gl_args.specs.Costs.{CostsAtMost};
 ghost use Rattle.gl_args.specs.Gives.{Gives};
 ghost use Rattle.gl_args.specs.OpenSlots.{AreApart, NamesOpenSlots, SameSlots, with_slot};
+ghost use Rattle.gl_args.specs.Printing.{PrintsLines};
 ghost use Rattle.gl_monitor.specs.Costs.{monitor_cost};
 ghost use Rattle.gl_monitor.specs.Monitor.{Watched, monitor_program, steps_held, stops, watched_slot};
 ghost use Rattle.gl_monitor.specs.WatchedSlots.{WatchedPasses};
@@ -34,4 +36,11 @@ pub fn monitors_watch_their_own_slot()
     ensures started { (test : ℕ → Bool) (tool : SaidTool) (base : ℕ) → test base ≡ true → test (base + 1) ≡ true → Gives (WatchedPasses test) (monitor_program tool base) }
     ensures stepped { (test : ℕ → Bool) (watched : Watched) (turns : ℕ) → WatchedPasses test watched → Gives (WatchedPasses test) (steps_held watched turns) }
     ensures stopped { (test : ℕ → Bool) (watched : Watched) → Gives (WatchedPasses test) (stops watched) }
+{}
+
+/// Each text that a monitor prints is whole lines: its last byte is 0x0A.
+pub fn monitors_print_lines()
+    ensures started { (tool : SaidTool) (base : ℕ) → PrintsLines (monitor_program tool base) }
+    ensures stepped { (watched : Watched) (turns : ℕ) → PrintsLines (steps_held watched turns) }
+    ensures stopped { (watched : Watched) → PrintsLines (stops watched) }
 {}

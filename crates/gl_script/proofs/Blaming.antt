@@ -1,6 +1,6 @@
 -- The faults of a text are of the text: none of them is want of memory.
 use Rattle.std.proofs.Common.{◌≡◌, ◌≢◌, ℕ, ◌+◌, Bool, true, false, not, ◌&&◌, ◌||◌, nat_le, nat_lt, List, [], ◌∷◌, length, Option, None, Some, refl, subst}
-use Rattle.std.specs.Prelude.{IsTrue, if◌then◌else◌, codes}
+use Rattle.std.specs.Prelude.{IsTrue, if◌then◌else◌, codes, is_some}
 use Rattle.std.specs.Option.{option_or}
 use Rattle.std.specs.Str.{bytes_eq}
 use Rattle.gl_base.specs.declared.limits.TheConstants.{COST_MAX}
@@ -18,14 +18,15 @@ use Rattle.gl_script.specs.declared.table.Form.TheVariants.{FileName}
 use Rattle.gl_script.specs.declared.table.Tail.{Tail}
 use Rattle.gl_script.specs.declared.table.Tail.TheVariants.{NoMore, Anything, Pieces}
 use Rattle.gl_script.specs.declared.table.Keyword.{Keyword}
+use Rattle.gl_script.specs.declared.version.Version.{Version}
 use Rattle.gl_script.specs.Blame.{FaultsAreOfTheText}
 use Rattle.gl_script.specs.Columns.{columns}
 use Rattle.gl_script.specs.Cost.{session_cost}
 use Rattle.gl_script.specs.Faults.{spot, is_printable, byte_fault, size_fault, more_fault, forms_fault, name_fault, as_fault, size_of, piece_fault, pieces_fault, bytes_fault, tail_fault, makes_file, statement_fault}
 use Rattle.gl_script.specs.Forms.{meets}
 use Rattle.gl_script.specs.Section.{SaidSection}
-use Rattle.gl_script.specs.Sentence.{Before, nothing, is_counted, is_header, kind_of, is_actor, is_out_of_order, is_used, actor_count, actor_fault, head_fault, in_section_fault, section_fault, counted_fault, line_fault, behind, refusal_at, fault_from, sections_said, cost_fault, first_fault}
-use Rattle.gl_script.specs.Table.{keyword_of, wanted}
+use Rattle.gl_script.specs.Sentence.{Before, nothing, is_counted, kind_of, is_actor, is_out_of_order, is_used, actor_count, actor_fault, head_fault, in_section_fault, section_fault, header_fault, version_of, versioned_fault, counted_fault, line_fault, behind, refusal_at, fault_from, sections_said, cost_fault, first_fault}
+use Rattle.gl_script.specs.Table.{keyword_in, wanted}
 
 abbrev is_of_text : RefusalKind → Bool
 is_of_text NoMemory = false
@@ -122,12 +123,13 @@ fine_head Setup before end words = fine_more words
 fine_head Actor before end words = fine_actor before end words
 fine_head After before end words = fine_more words
 
-fine_in_section : (current : Option SaidSection) (first : Span) (words : List Span) → Fine (in_section_fault current first words)
-fine_in_section None first words = refl
-fine_in_section (Some section) first words = fine_statement (keyword_of first.text) first words
+fine_in_section : (version : Option Version) (current : Option SaidSection) (first : Span) (words : List Span) → Fine (in_section_fault version current first words)
+fine_in_section None current first words = refl
+fine_in_section (Some version) None first words = refl
+fine_in_section (Some version) (Some section) first words = fine_statement (keyword_in version first.text) first words
 
 fine_section : (kind : Option SectionKind) (before : Before) (first : Span) (words : List Span) → Fine (section_fault kind before first words)
-fine_section None before first words = fine_in_section before.current first words
+fine_section None before first words = fine_in_section before.version before.current first words
 fine_section (Some kind) before first words =
     let order = when (is_out_of_order kind before.current) (spot first.at Section) in
     let many = when (is_actor kind && nat_le 16 (actor_count before)) (spot first.at Limit) in
@@ -136,11 +138,17 @@ fine_section (Some kind) before first words =
     (fine_or many (first_of (head ∷ [])) (fine_when (is_actor kind && nat_le 16 (actor_count before)) (spot first.at Limit) refl)
     (fine_or head None (fine_head kind before (end_of first) words) tt))
 
+fine_header : (version : Option Version) (first : Span) → Fine (header_fault version first)
+fine_header None first = refl
+fine_header (Some version) first = tt
+
+fine_versioned : (version : Option Version) (before : Before) (first : Span) (words : List Span) → Fine (versioned_fault version before first words)
+fine_versioned None before first words = fine_header (version_of (first ∷ words)) first
+fine_versioned (Some version) before first words = fine_section (kind_of first.text) before first words
+
 fine_counted : (before : Before) (words : List Span) → Fine (counted_fault before words)
 fine_counted before [] = tt
-fine_counted before (first ∷ words) =
-    fine_if before.has_header (section_fault (kind_of first.text) before first words) (when (not (is_header (first ∷ words))) (spot first.at Header))
-    (fine_section (kind_of first.text) before first words) (fine_when (not (is_header (first ∷ words))) (spot first.at Header) refl)
+fine_counted before (first ∷ words) = fine_versioned before.version before first words
 
 fine_line : (before : Before) (text : List ℕ) → Fine (line_fault before text)
 fine_line before text =
@@ -166,7 +174,7 @@ when_fine true refusal p = p
 when_fine false refusal p = tt
 
 fine_from : (before : Before) (number : ℕ) (lines : List Span) → FineRefusal (fault_from before number lines)
-fine_from before number [] = when_fine (not before.has_header) (record { line = 1; column = 1; kind = Header }) refl
+fine_from before number [] = when_fine (not (is_some before.version)) (record { line = 1; column = 1; kind = Header }) refl
 fine_from before number (line ∷ lines) =
     either (refusal_at number (line_fault before line.text)) (fault_from (behind before line) (number + 1) lines)
     (fine_at number (line_fault before line.text) (fine_line before line.text)) (fine_from (behind before line) (number + 1) lines)

@@ -25,7 +25,8 @@ use Rattle.gl_script.specs.Gen.{IsSession, clock_line, events_at, events_line, g
 use Rattle.gl_script.specs.Section.{SaidSection}
 use Rattle.gl_script.specs.Sentence.{Sentence, is_counted}
 use Rattle.gl_script.specs.Spelled.{AreStatement, IsHeaded, IsLine, IsStatement, Spelled, counted}
-use Rattle.gl_script.specs.Table.{keyword_of}
+use Rattle.gl_script.specs.Table.{keyword_in}
+use Rattle.gl_script.specs.declared.version.Version.TheVariants.{One}
 use Rattle.gl_script.specs.declared.refusal.RefusalKind.TheVariants.{Limit, Word}
 use Rattle.gl_script.specs.declared.section.SectionKind.TheVariants.{Setup}
 use Rattle.gl_script.specs.declared.table.Form.TheVariants.{Number, Path}
@@ -166,7 +167,7 @@ pub record IsGood (text : List ℕ) : Type 0 where
   pub printable : list_all is_printable text ≡ true
   pub fits : size_fault 0 (columns text) ≡ None
   pub counts : is_counted (columns text) ≡ true
-  pub statement : AreStatement (columns text)
+  pub statement : AreStatement One (columns text)
 
 line_cost : List ℕ → ℕ
 line_cost text = words_cost (columns text)
@@ -228,7 +229,7 @@ clock_good b bs is number =
       printable = both_pass is_printable (b ∷ bs) (codes " 0") (digits_pass is_printable (b ∷ bs) digit_printable is.digits) refl;
       fits = ap (size_fault 0) cols ∙ ap (λ t. cond t (Some (spot 7 Limit)) None) short;
       counts = ap is_counted cols;
-      statement = subst AreStatement (sym cols) (refl, ap (λ t. cond t None (Some (spot 7 Word))) number);
+      statement = subst (AreStatement One) (sym cols) (refl, ap (λ t. cond t None (Some (spot 7 Word))) number);
     }
 
 clock_cost : (b : ℕ) (bs : List ℕ) → IsDigits (b ∷ bs) → words_cost (columns (codes "clock " ++ ((b ∷ bs) ++ codes " 0"))) ≡ 1
@@ -267,7 +268,7 @@ pull_good ds up is =
       printable = both_pass is_printable ds (pull_end up) (digits_pass is_printable ds digit_printable is.digits) (end_printable up);
       fits = ap (size_fault 0) cols ∙ fits up path short;
       counts = ap is_counted cols;
-      statement = subst AreStatement (sym cols) (refl, statement up path (path_meets ds is.digits is.few));
+      statement = subst (AreStatement One) (sym cols) (refl, statement up path (path_meets ds is.digits is.few));
     }
   where
     end_printable : (up : Bool) → list_all is_printable (pull_end up) ≡ true
@@ -280,7 +281,7 @@ pull_good ds up is =
     fits false path short = ap (λ t. cond t (Some (spot 7 Limit)) None) short
 
     statement : (up : Bool) (path : List ℕ) → meets Path path ≡ true
-        → statement_fault (keyword_of (codes "write")) (span 1 (codes "write")) (span 7 path ∷ span (7 + length path + 1) (pull_word up) ∷ []) ≡ None
+        → statement_fault (keyword_in One (codes "write")) (span 1 (codes "write")) (span 7 path ∷ span (7 + length path + 1) (pull_word up) ∷ []) ≡ None
     statement true path is_path = ap (λ t. cond t None (Some (spot 7 Word))) is_path
     statement false path is_path = ap (λ t. cond t None (Some (spot 7 Word))) is_path
 
@@ -303,7 +304,7 @@ get_good b bs is =
       printable = digits_pass is_printable (b ∷ bs) digit_printable is.digits;
       fits = ap (size_fault 0) cols ∙ ap (λ t. cond t (Some (spot 14 Limit)) None) short;
       counts = ap is_counted cols;
-      statement = subst AreStatement (sym cols) (refl, refl);
+      statement = subst (AreStatement One) (sym cols) (refl, refl);
     }
 
 get_cost : (b : ℕ) (bs : List ℕ) → IsDigits (b ∷ bs) → words_cost (columns (codes "gpioget -c 0 " ++ (b ∷ bs))) ≡ 10
@@ -418,7 +419,7 @@ all_count at (line ∷ lines) each =
     let rest = all_count (at + length line + 1) lines each.1 in
     rw each.0.counts (ap (λ spans. span at line ∷ spans) rest)
 
-are_statements : (at : ℕ) (lines : List (List ℕ)) → Each IsGood lines → Each IsStatement (placed at lines)
+are_statements : (at : ℕ) (lines : List (List ℕ)) → Each IsGood lines → Each (IsStatement One) (placed at lines)
 are_statements at [] each = tt
 are_statements at (line ∷ lines) each = (each.0.statement, are_statements (at + length line + 1) lines each.1)
 
@@ -447,7 +448,7 @@ load_spelled n few =
       size = omega (arith, part.size);
       lines = subst Lines (sym are) (record { printable = refl; fits = refl }, (record { printable = refl; fits = refl }, lines_are 16 (statement_lines n) part.each));
       headed = subst Heads (sym counted_so)
-          (refl, ((refl, refl, refl), [], sym (append-nil (placed 16 (statement_lines n))), are_statements 16 (statement_lines n) part.each, refl));
+          (One, refl, ((refl, refl, refl), [], sym (append-nil (placed 16 (statement_lines n))), are_statements 16 (statement_lines n) part.each, refl));
       cost = omega (arith, part.cost, sum_by-cons section_cost (load_section n) []);
     }
 

@@ -7,7 +7,7 @@ use Rattle.gl_base.specs.declared.limits.TheConstants.{COST_MAX}
 use Rattle.gl_base.specs.Refusals.{when}
 use Rattle.gl_base.specs.Words.{Span, lines_of}
 use Rattle.gl_script.specs.declared.limits.TheConstants.{SESSION_MAX}
-use Rattle.gl_script.specs.declared.refusal.RefusalKind.TheVariants.{Header as HeaderFault, Section as SectionFault}
+use Rattle.gl_script.specs.declared.refusal.RefusalKind.TheVariants.{Section as SectionFault}
 use Rattle.gl_script.specs.declared.refusal.Spot.{Spot}
 use Rattle.gl_script.specs.declared.refusal.Refusal.{Refusal}
 use Rattle.gl_script.specs.declared.section.SectionKind.{SectionKind}
@@ -16,13 +16,15 @@ use Rattle.gl_script.specs.declared.served.LineKind.{LineKind}
 use Rattle.gl_script.specs.declared.served.LineKind.TheVariants.{Passed, Header, Setup, Statement}
 use Rattle.gl_script.specs.declared.served.Stage.{Stage}
 use Rattle.gl_script.specs.declared.served.Stage.TheVariants.{Opening, Headed, Open}
+use Rattle.gl_script.specs.declared.version.Version.{Version}
 use Rattle.gl_script.specs.Columns.{columns}
 use Rattle.gl_script.specs.Cost.{session_cost}
 use Rattle.gl_script.specs.Faults.{byte_fault, more_fault, size_fault, spot, statement_fault}
-use Rattle.gl_script.specs.Sentence.{Before, behind, behind_all, behind_counted, behind_head, cost_fault, counted_fault, end_fault, fault_from, is_comment, is_counted, is_header, kind_of, line_fault, nothing, refusal_at, section_fault, sections_in, sections_said}
+use Rattle.gl_script.specs.Sentence.{Before, behind, behind_all, behind_counted, behind_head, cost_fault, counted_fault, end_fault, fault_from, header_fault, is_comment, is_counted, kind_of, line_fault, nothing, refusal_at, section_fault, sections_in, sections_said, version_of}
 use Rattle.gl_script.specs.Served.{headed_kind, kind_at, line_kind, open_kind, opening_kind, stage_after, unless, words_kind}
 use Rattle.gl_script.specs.ServedLines.{Accepted, AcceptedLinesHaveNoFault, AcceptedTextsAreSessions, RefusedLinesHaveTheirFault, accepts, accepts_all, said_behind, setup_of, stands}
-use Rattle.gl_script.specs.Table.{keyword_of}
+use Rattle.gl_script.specs.Spelled.{behind_header}
+use Rattle.gl_script.specs.Table.{keyword_in}
 
 -- of a kind unless there is a fault
 unless_ok : (o : Option Spot) (r : Result LineKind Spot) (kind : LineKind) → unless o r ≡ Ok kind → (o ≡ None) × (r ≡ Ok kind)
@@ -52,33 +54,33 @@ GoesOn stage said line kind fault after = (fault ≡ None) × (after ≡ stands 
 passed : (stage : Stage) (said : List Span) (line : Span) (kind : LineKind) → Passed ≡ kind → GoesOn stage said line kind None (stands stage said)
 passed stage said line kind e = subst (λ k. GoesOn stage said line k None (stands stage said)) e (refl, refl)
 
-opening : (first : Span) (words said : List Span) (line : Span) (kind : LineKind) → opening_kind first words ≡ Ok kind
-    → GoesOn Opening said line kind (counted_fault nothing (first ∷ words)) (behind_counted nothing line (first ∷ words))
-opening first words said line kind e =
-    let parts = unless_ok (when (not (is_header (first ∷ words))) (spot first.at HeaderFault)) (Ok Header) kind e in
-    subst (λ k. GoesOn Opening said line k (counted_fault nothing (first ∷ words)) (behind_counted nothing line (first ∷ words))) (same_kind Header kind parts.1) (parts.0, refl)
+opening : (version : Option Version) (first : Span) (said : List Span) (line : Span) (kind : LineKind) → opening_kind version first ≡ Ok kind
+    → GoesOn Opening said line kind (header_fault version first) (record { version = version; complete = []; current = None })
+opening None first said line kind e = cc
+opening (Some version) first said line kind e =
+    subst (λ k. GoesOn Opening said line k None (behind_header version [] None)) (same_kind (Header version) kind e) (refl, refl)
 
-headed : (o : Option SectionKind) (first : Span) (words said : List Span) (line : Span) (kind : LineKind) → headed_kind o first words ≡ Ok kind
-    → GoesOn Headed said line kind (section_fault o (stands Headed said) first words) (behind_head o (stands Headed said) line words)
-headed None first words said line kind e = cc
-headed (Some SetupSection) first [] said line kind e =
-    subst (λ k. GoesOn Headed said line k (section_fault (Some SetupSection) (stands Headed said) first []) (behind_head (Some SetupSection) (stands Headed said) line [])) (same_kind Setup kind e) (refl, refl)
-headed (Some SetupSection) first (word ∷ words) said line kind e = cc
-headed (Some Actor) first words said line kind e = cc
-headed (Some After) first words said line kind e = cc
+headed : (version : Version) (o : Option SectionKind) (first : Span) (words said : List Span) (line : Span) (kind : LineKind) → headed_kind o first words ≡ Ok kind
+    → GoesOn (Headed version) said line kind (section_fault o (stands (Headed version) said) first words) (behind_head o (stands (Headed version) said) line words)
+headed version None first words said line kind e = cc
+headed version (Some SetupSection) first [] said line kind e =
+    subst (λ k. GoesOn (Headed version) said line k (section_fault (Some SetupSection) (stands (Headed version) said) first []) (behind_head (Some SetupSection) (stands (Headed version) said) line [])) (same_kind Setup kind e) (refl, refl)
+headed version (Some SetupSection) first (word ∷ words) said line kind e = cc
+headed version (Some Actor) first words said line kind e = cc
+headed version (Some After) first words said line kind e = cc
 
-among : (o : Option SectionKind) (first : Span) (words said : List Span) (line : Span) (kind : LineKind) → open_kind o first words ≡ Ok kind
-    → GoesOn Open said line kind (section_fault o (stands Open said) first words) (behind_head o (stands Open said) line words)
-among None first words said line kind e =
-    let parts = unless_ok (statement_fault (keyword_of first.text) first words) (Ok Statement) kind e in
-    subst (λ k. GoesOn Open said line k (section_fault None (stands Open said) first words) (behind_head None (stands Open said) line words)) (same_kind Statement kind parts.1) (parts.0, refl)
-among (Some section) first words said line kind e = cc
+among : (version : Version) (o : Option SectionKind) (first : Span) (words said : List Span) (line : Span) (kind : LineKind) → open_kind version o first words ≡ Ok kind
+    → GoesOn (Open version) said line kind (section_fault o (stands (Open version) said) first words) (behind_head o (stands (Open version) said) line words)
+among version None first words said line kind e =
+    let parts = unless_ok (statement_fault (keyword_in version first.text) first words) (Ok Statement) kind e in
+    subst (λ k. GoesOn (Open version) said line k (section_fault None (stands (Open version) said) first words) (behind_head None (stands (Open version) said) line words)) (same_kind Statement kind parts.1) (parts.0, refl)
+among version (Some section) first words said line kind e = cc
 
 at_stage : (stage : Stage) (first : Span) (words said : List Span) (line : Span) (kind : LineKind) → kind_at stage first words ≡ Ok kind
     → GoesOn stage said line kind (counted_fault (stands stage said) (first ∷ words)) (behind_counted (stands stage said) line (first ∷ words))
-at_stage Opening first words said line kind e = opening first words said line kind e
-at_stage Headed first words said line kind e = headed (kind_of first.text) first words said line kind e
-at_stage Open first words said line kind e = among (kind_of first.text) first words said line kind e
+at_stage Opening first words said line kind e = opening (version_of (first ∷ words)) first said line kind e
+at_stage (Headed version) first words said line kind e = headed version (kind_of first.text) first words said line kind e
+at_stage (Open version) first words said line kind e = among version (kind_of first.text) first words said line kind e
 
 comment_or : (b : Bool) (stage : Stage) (first : Span) (words said : List Span) (line : Span) (kind : LineKind)
     → (if b then Ok Passed else kind_at stage first words) ≡ Ok kind
@@ -116,23 +118,26 @@ refused_unless : (o found : Option Spot) (kind : LineKind) (fault : Spot) → fo
 refused_unless None found kind fault same e = cc
 refused_unless (Some other) found kind fault same e = inl (same ∙ ap Some (same_fault other fault e))
 
-headed_refuses : (o : Option SectionKind) (first : Span) (words said : List Span) (fault : Spot) → headed_kind o first words ≡ Err fault → Refuses (section_fault o (stands Headed said) first words) fault
-headed_refuses None first words said fault e = inr (is_section first.at fault e)
-headed_refuses (Some SetupSection) first [] said fault e = cc
-headed_refuses (Some SetupSection) first (word ∷ words) said fault e = refused_unless (more_fault (word ∷ words)) (section_fault (Some SetupSection) (stands Headed said) first (word ∷ words)) Setup fault refl e
-headed_refuses (Some Actor) first words said fault e = inr (is_section first.at fault e)
-headed_refuses (Some After) first words said fault e = inr (is_section first.at fault e)
+header_refuses : (version : Option Version) (first : Span) (fault : Spot) → opening_kind version first ≡ Err fault → Refuses (header_fault version first) fault
+header_refuses None first fault e = inl (ap Some (same_fault _ fault e))
+header_refuses (Some version) first fault e = cc
 
-open_refuses : (o : Option SectionKind) (first : Span) (words said : List Span) (fault : Spot) → open_kind o first words ≡ Err fault → Refuses (section_fault o (stands Open said) first words) fault
-open_refuses None first words said fault e =
-    refused_unless (statement_fault (keyword_of first.text) first words) (section_fault None (stands Open said) first words) Statement fault refl e
-open_refuses (Some section) first words said fault e = inr (is_section first.at fault e)
+headed_refuses : (version : Version) (o : Option SectionKind) (first : Span) (words said : List Span) (fault : Spot) → headed_kind o first words ≡ Err fault → Refuses (section_fault o (stands (Headed version) said) first words) fault
+headed_refuses version None first words said fault e = inr (is_section first.at fault e)
+headed_refuses version (Some SetupSection) first [] said fault e = cc
+headed_refuses version (Some SetupSection) first (word ∷ words) said fault e = refused_unless (more_fault (word ∷ words)) (section_fault (Some SetupSection) (stands (Headed version) said) first (word ∷ words)) Setup fault refl e
+headed_refuses version (Some Actor) first words said fault e = inr (is_section first.at fault e)
+headed_refuses version (Some After) first words said fault e = inr (is_section first.at fault e)
+
+open_refuses : (version : Version) (o : Option SectionKind) (first : Span) (words said : List Span) (fault : Spot) → open_kind version o first words ≡ Err fault → Refuses (section_fault o (stands (Open version) said) first words) fault
+open_refuses version None first words said fault e =
+    refused_unless (statement_fault (keyword_in version first.text) first words) (section_fault None (stands (Open version) said) first words) Statement fault refl e
+open_refuses version (Some section) first words said fault e = inr (is_section first.at fault e)
 
 stage_refuses : (stage : Stage) (first : Span) (words said : List Span) (fault : Spot) → kind_at stage first words ≡ Err fault → Refuses (counted_fault (stands stage said) (first ∷ words)) fault
-stage_refuses Opening first words said fault e =
-    refused_unless (when (not (is_header (first ∷ words))) (spot first.at HeaderFault)) (counted_fault nothing (first ∷ words)) Header fault refl e
-stage_refuses Headed first words said fault e = headed_refuses (kind_of first.text) first words said fault e
-stage_refuses Open first words said fault e = open_refuses (kind_of first.text) first words said fault e
+stage_refuses Opening first words said fault e = header_refuses (version_of (first ∷ words)) first fault e
+stage_refuses (Headed version) first words said fault e = headed_refuses version (kind_of first.text) first words said fault e
+stage_refuses (Open version) first words said fault e = open_refuses version (kind_of first.text) first words said fault e
 
 comment_refuses : (b : Bool) (stage : Stage) (first : Span) (words said : List Span) (fault : Spot) → (if b then Ok Passed else kind_at stage first words) ≡ Err fault
     → Refuses (if not b then counted_fault (stands stage said) (first ∷ words) else None) fault
@@ -208,8 +213,8 @@ neither : (a b : Option Refusal) → a ≡ None → b ≡ None → option_or a b
 neither a b e f = rw (e, f) refl
 
 pub accepted_texts_are_sessions : AcceptedTextsAreSessions
-accepted_texts_are_sessions bytes said e long dear =
-    let went = all_accepted (record { stage = Opening; said = [] }) (record { stage = Open; said = said }) (lines_of bytes) 1 e in
+accepted_texts_are_sessions bytes version said e long dear =
+    let went = all_accepted (record { stage = Opening; said = [] }) (record { stage = Open version; said = said }) (lines_of bytes) 1 e in
     let says : sections_said bytes ≡ setup_of said ∷ [] = ap sections_in went.0 in
     let cheap : cost_fault (sections_said bytes) ≡ None = ap cost_fault says ∙ not_dear (nat_lt COST_MAX (session_cost (setup_of said ∷ []))) _ (not_below (session_cost (setup_of said ∷ [])) COST_MAX dear) in
     record {

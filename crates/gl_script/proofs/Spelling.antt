@@ -1,6 +1,6 @@
 -- What the fold over the lines of a session gives is spelled by them.
 use Rattle.std.proofs.Common.{◌≡◌, ◌≤◌, ◌+◌, ℕ, Bool, true, false, cond, not, nat_lt, List, [], ◌∷◌, ◌++◌, length, Option, None, Some, refl, sym, ◌∙◌, ap, subst, append_assoc, arith}
-use Rattle.std.specs.Prelude.{if◌then◌else◌, IsTrue}
+use Rattle.std.specs.Prelude.{if◌then◌else◌}
 use Rattle.std.specs.Option.{option_or}
 use Rattle.std.proofs.lemmas.List.{append-nil}
 use Rattle.gl_base.specs.declared.limits.TheConstants.{COST_MAX}
@@ -11,11 +11,12 @@ use Rattle.gl_script.specs.declared.refusal.Refusal.{Refusal}
 use Rattle.gl_script.specs.declared.section.SectionKind.{SectionKind}
 use Rattle.gl_base.specs.Words.{Span, lines_of}
 use Rattle.gl_base.specs.Words.{text_at}
+use Rattle.gl_script.specs.declared.version.Version.{Version}
 use Rattle.gl_script.specs.Faults.{byte_fault, size_fault}
 use Rattle.gl_script.specs.Cost.{session_cost}
 use Rattle.gl_script.specs.Section.{SaidSection}
 use Rattle.gl_script.specs.Columns.{columns}
-use Rattle.gl_script.specs.Sentence.{Before, nothing, is_comment, is_counted, is_header, kind_of, section_fault, counted_fault, line_fault, behind_head, behind_counted, behind, behind_all, fault_from, refusal_at, sections_in, sections_said, cost_fault, Sentence}
+use Rattle.gl_script.specs.Sentence.{Before, nothing, is_comment, is_counted, kind_of, header_fault, section_fault, counted_fault, line_fault, behind_head, behind_counted, behind, behind_all, fault_from, refusal_at, sections_in, sections_said, cost_fault, version_of, Sentence}
 use Rattle.gl_script.specs.Spelled.{IsLine, counted, AreStatement, IsStatement, behind_header, AreHead, IsSections, IsHeaded, Spelled}
 
 -- neither of two faults is there
@@ -41,13 +42,13 @@ added_more : (s : SaidSection) (line : Span) (more : List Span) → added (added
 added_more s line more = ap (with_all s) (append_assoc s.statements (line ∷ []) more)
 
 -- lines that go on with statements of the section that is open, and then are further sections
-record GoesOn (complete : List SaidSection) (section : SaidSection) (lines : List Span) (all : List SaidSection) : Type 0 where
+record GoesOn (version : Version) (complete : List SaidSection) (section : SaidSection) (lines : List Span) (all : List SaidSection) : Type 0 where
   pub more : List Span
   pub rest : List Span
   pub sections : List SaidSection
   pub split : lines ≡ more ++ rest
-  pub each : Each IsStatement more
-  pub spelled : IsSections complete (Some (added section more)) rest sections
+  pub each : Each (IsStatement version) more
+  pub spelled : IsSections version complete (Some (added section more)) rest sections
   pub whole : all ≡ complete ++ added section more ∷ sections
 
 -- the lines that count, where the words of the first are given
@@ -60,13 +61,13 @@ behind_words before line words = cond (is_counted words) (behind_counted before 
 abbrev words_fault : Before → List Span → Option Spot
 words_fault before words = if is_counted words then counted_fault before words else None
 
-module _ (complete : List SaidSection) (section : SaidSection) (number : ℕ) (line : Span) (lines : List Span)
-    (later : (complete : List SaidSection) (section : SaidSection) → fault_from (behind_header complete (Some section)) number lines ≡ None
-    → GoesOn complete section (counted lines) (sections_in (behind_all (behind_header complete (Some section)) lines))) where
+module _ (version : Version) (complete : List SaidSection) (section : SaidSection) (number : ℕ) (line : Span) (lines : List Span)
+    (later : (complete : List SaidSection) (section : SaidSection) → fault_from (behind_header version complete (Some section)) number lines ≡ None
+    → GoesOn version complete section (counted lines) (sections_in (behind_all (behind_header version complete (Some section)) lines))) where
   by_kind : (first : Span) (words : List Span) → first ∷ words ≡ columns line.text → (kind : Option SectionKind) → kind ≡ kind_of first.text
-      → section_fault kind (behind_header complete (Some section)) first words ≡ None
-      → fault_from (behind_head kind (behind_header complete (Some section)) line words) number lines ≡ None
-      → GoesOn complete section (line ∷ counted lines) (sections_in (behind_all (behind_head kind (behind_header complete (Some section)) line words) lines))
+      → section_fault kind (behind_header version complete (Some section)) first words ≡ None
+      → fault_from (behind_head kind (behind_header version complete (Some section)) line words) number lines ≡ None
+      → GoesOn version complete section (line ∷ counted lines) (sections_in (behind_all (behind_head kind (behind_header version complete (Some section)) line words) lines))
   by_kind first words e None k f h =
       let on = later complete (added section (line ∷ [])) h in
       let same = added_more section line on.more in
@@ -75,8 +76,8 @@ module _ (complete : List SaidSection) (section : SaidSection) (number : ℕ) (l
         rest = on.rest;
         sections = on.sections;
         split = ap (λ ls. line ∷ ls) on.split;
-        each = (subst AreStatement e (sym k, f), on.each);
-        spelled = subst (λ s. IsSections complete (Some s) on.rest on.sections) same on.spelled;
+        each = (subst (AreStatement version) e (sym k, f), on.each);
+        spelled = subst (λ s. IsSections version complete (Some s) on.rest on.sections) same on.spelled;
         whole = on.whole ∙ ap (λ s. complete ++ s ∷ on.sections) same;
       }
   by_kind first words e (Some kind) k f h =
@@ -89,22 +90,22 @@ module _ (complete : List SaidSection) (section : SaidSection) (number : ℕ) (l
         sections = added new on.more ∷ on.sections;
         split = refl;
         each = tt;
-        spelled = subst (λ s. IsSections complete (Some s) (line ∷ counted lines) (added new on.more ∷ on.sections)) (sym same)
-            (subst (AreHead (behind_header complete (Some section)) (added new on.more)) e (sym k, refl, f), on.rest, on.split, on.each, on.spelled);
+        spelled = subst (λ s. IsSections version complete (Some s) (line ∷ counted lines) (added new on.more ∷ on.sections)) (sym same)
+            (subst (AreHead (behind_header version complete (Some section)) (added new on.more)) e (sym k, refl, f), on.rest, on.split, on.each, on.spelled);
         whole = on.whole ∙ append_assoc complete (section ∷ []) (added new on.more ∷ on.sections) ∙ ap (λ s. complete ++ s ∷ added new on.more ∷ on.sections) (sym same);
       }
 
   by_comment : (first : Span) (words : List Span) → first ∷ words ≡ columns line.text → (b : Bool)
-      → (if not b then counted_fault (behind_header complete (Some section)) (first ∷ words) else None) ≡ None
-      → fault_from (cond (not b) (behind_counted (behind_header complete (Some section)) line (first ∷ words)) (behind_header complete (Some section))) number lines ≡ None
-      → GoesOn complete section (cond (not b) (line ∷ counted lines) (counted lines)) (sections_in (behind_all (cond (not b) (behind_counted (behind_header complete (Some section)) line (first ∷ words)) (behind_header complete (Some section))) lines))
+      → (if not b then counted_fault (behind_header version complete (Some section)) (first ∷ words) else None) ≡ None
+      → fault_from (cond (not b) (behind_counted (behind_header version complete (Some section)) line (first ∷ words)) (behind_header version complete (Some section))) number lines ≡ None
+      → GoesOn version complete section (cond (not b) (line ∷ counted lines) (counted lines)) (sections_in (behind_all (cond (not b) (behind_counted (behind_header version complete (Some section)) line (first ∷ words)) (behind_header version complete (Some section))) lines))
   by_comment first words e true f h = later complete section h
   by_comment first words e false f h = by_kind first words e (kind_of first.text) refl f h
 
   by_words : (words : List Span) → words ≡ columns line.text
-      → words_fault (behind_header complete (Some section)) words ≡ None
-      → fault_from (behind_words (behind_header complete (Some section)) line words) number lines ≡ None
-      → GoesOn complete section (counted_from words line lines) (sections_in (behind_all (behind_words (behind_header complete (Some section)) line words) lines))
+      → words_fault (behind_header version complete (Some section)) words ≡ None
+      → fault_from (behind_words (behind_header version complete (Some section)) line words) number lines ≡ None
+      → GoesOn version complete section (counted_from words line lines) (sections_in (behind_all (behind_words (behind_header version complete (Some section)) line words) lines))
   by_words [] e f h = later complete section h
   by_words (first ∷ words) e f h = by_comment first words e (is_comment first.text) f h
 
@@ -122,9 +123,9 @@ parts_of before number line lines h =
     let words = neither (words_fault before (columns line.text)) None sizes.1 in
     record { line_is = record { printable = faults.0; fits = sizes.0 }; words = words.0; later = two.1 }
 
-goes_on : (complete : List SaidSection) (section : SaidSection) (number : ℕ) (lines : List Span) → fault_from (behind_header complete (Some section)) number lines ≡ None
-    → GoesOn complete section (counted lines) (sections_in (behind_all (behind_header complete (Some section)) lines))
-goes_on complete section number [] h = record {
+goes_on : (version : Version) (complete : List SaidSection) (section : SaidSection) (number : ℕ) (lines : List Span) → fault_from (behind_header version complete (Some section)) number lines ≡ None
+    → GoesOn version complete section (counted lines) (sections_in (behind_all (behind_header version complete (Some section)) lines))
+goes_on version complete section number [] h = record {
   more = [];
   rest = [];
   sections = [];
@@ -133,53 +134,57 @@ goes_on complete section number [] h = record {
   spelled = refl;
   whole = ap (λ s. complete ++ s ∷ []) (sym (added_nil section));
 }
-goes_on complete section number (line ∷ lines) h =
-    let p = parts_of (behind_header complete (Some section)) number line lines h in
-    by_words complete section (number + 1) line lines (λ c s. goes_on c s (number + 1) lines) (columns line.text) refl p.words p.later
+goes_on version complete section number (line ∷ lines) h =
+    let p = parts_of (behind_header version complete (Some section)) number line lines h in
+    by_words version complete section (number + 1) line lines (λ c s. goes_on version c s (number + 1) lines) (columns line.text) refl p.words p.later
 
 -- behind the header, where no section is open
-record Begins (lines : List Span) (all : List SaidSection) : Type 0 where
-  pub spelled : IsSections [] None lines all
+record Begins (version : Version) (lines : List Span) (all : List SaidSection) : Type 0 where
+  pub spelled : IsSections version [] None lines all
 
-module _ (number : ℕ) (line : Span) (lines : List Span)
-    (later : fault_from (behind_header [] None) number lines ≡ None → Begins (counted lines) (sections_in (behind_all (behind_header [] None) lines))) where
+module _ (version : Version) (number : ℕ) (line : Span) (lines : List Span)
+    (later : fault_from (behind_header version [] None) number lines ≡ None → Begins version (counted lines) (sections_in (behind_all (behind_header version [] None) lines))) where
   begin_kind : (first : Span) (words : List Span) → first ∷ words ≡ columns line.text → (kind : Option SectionKind) → kind ≡ kind_of first.text
-      → section_fault kind (behind_header [] None) first words ≡ None
-      → fault_from (behind_head kind (behind_header [] None) line words) number lines ≡ None
-      → Begins (line ∷ counted lines) (sections_in (behind_all (behind_head kind (behind_header [] None) line words) lines))
+      → section_fault kind (behind_header version [] None) first words ≡ None
+      → fault_from (behind_head kind (behind_header version [] None) line words) number lines ≡ None
+      → Begins version (line ∷ counted lines) (sections_in (behind_all (behind_head kind (behind_header version [] None) line words) lines))
   begin_kind first words e None k f h = cc
   begin_kind first words e (Some kind) k f h =
       let new : SaidSection = record { kind = kind; name = text_at 0 words; statements = [] } in
-      let on = goes_on [] new number lines h in
+      let on = goes_on version [] new number lines h in
       record {
-        spelled = subst (λ all. IsSections [] None (line ∷ counted lines) all) (sym on.whole)
-            (subst (AreHead (behind_header [] None) (added new on.more)) e (sym k, refl, f), on.rest, on.split, on.each, on.spelled);
+        spelled = subst (λ all. IsSections version [] None (line ∷ counted lines) all) (sym on.whole)
+            (subst (AreHead (behind_header version [] None) (added new on.more)) e (sym k, refl, f), on.rest, on.split, on.each, on.spelled);
       }
 
   begin_comment : (first : Span) (words : List Span) → first ∷ words ≡ columns line.text → (b : Bool)
-      → (if not b then counted_fault (behind_header [] None) (first ∷ words) else None) ≡ None
-      → fault_from (cond (not b) (behind_counted (behind_header [] None) line (first ∷ words)) (behind_header [] None)) number lines ≡ None
-      → Begins (cond (not b) (line ∷ counted lines) (counted lines)) (sections_in (behind_all (cond (not b) (behind_counted (behind_header [] None) line (first ∷ words)) (behind_header [] None)) lines))
+      → (if not b then counted_fault (behind_header version [] None) (first ∷ words) else None) ≡ None
+      → fault_from (cond (not b) (behind_counted (behind_header version [] None) line (first ∷ words)) (behind_header version [] None)) number lines ≡ None
+      → Begins version (cond (not b) (line ∷ counted lines) (counted lines)) (sections_in (behind_all (cond (not b) (behind_counted (behind_header version [] None) line (first ∷ words)) (behind_header version [] None)) lines))
   begin_comment first words e true f h = later h
   begin_comment first words e false f h = begin_kind first words e (kind_of first.text) refl f h
 
   begin_words : (words : List Span) → words ≡ columns line.text
-      → words_fault (behind_header [] None) words ≡ None
-      → fault_from (behind_words (behind_header [] None) line words) number lines ≡ None
-      → Begins (counted_from words line lines) (sections_in (behind_all (behind_words (behind_header [] None) line words) lines))
+      → words_fault (behind_header version [] None) words ≡ None
+      → fault_from (behind_words (behind_header version [] None) line words) number lines ≡ None
+      → Begins version (counted_from words line lines) (sections_in (behind_all (behind_words (behind_header version [] None) line words) lines))
   begin_words [] e f h = later h
   begin_words (first ∷ words) e f h = begin_comment first words e (is_comment first.text) f h
 
-begins : (number : ℕ) (lines : List Span) → fault_from (behind_header [] None) number lines ≡ None → Begins (counted lines) (sections_in (behind_all (behind_header [] None) lines))
-begins number [] h = record { spelled = refl }
-begins number (line ∷ lines) h =
-    let p = parts_of (behind_header [] None) number line lines h in
-    begin_words (number + 1) line lines (begins (number + 1) lines) (columns line.text) refl p.words p.later
+begins : (version : Version) (number : ℕ) (lines : List Span) → fault_from (behind_header version [] None) number lines ≡ None → Begins version (counted lines) (sections_in (behind_all (behind_header version [] None) lines))
+begins version number [] h = record { spelled = refl }
+begins version number (line ∷ lines) h =
+    let p = parts_of (behind_header version [] None) number line lines h in
+    begin_words version (number + 1) line lines (begins version (number + 1) lines) (columns line.text) refl p.words p.later
 
 -- the header
-no_header_fault : (b : Bool) (s : Spot) → when (not b) s ≡ None → IsTrue b
-no_header_fault true s e = refl
-no_header_fault false s e = cc
+abbrev behind_said : Option Version → Before
+behind_said o = record { version = o; complete = []; current = None }
+
+begins_said : (first : Span) (o : Option Version) (number : ℕ) (lines : List Span) → header_fault o first ≡ None → fault_from (behind_said o) number lines ≡ None
+    → (version : Version) × (o ≡ Some version) × IsSections version [] None (counted lines) (sections_in (behind_all (behind_said o) lines))
+begins_said first None number lines f h = cc
+begins_said first (Some version) number lines f h = (version, refl, (begins version number lines h).spelled)
 
 module _ (number : ℕ) (line : Span) (lines : List Span)
     (later : fault_from nothing number lines ≡ None → IsHeaded (counted lines) (sections_in (behind_all nothing lines))) where
@@ -189,7 +194,7 @@ module _ (number : ℕ) (line : Span) (lines : List Span)
       → IsHeaded (cond (not b) (line ∷ counted lines) (counted lines)) (sections_in (behind_all (cond (not b) (behind_counted nothing line (first ∷ words)) nothing) lines))
   start_comment first words e true f h = later h
   start_comment first words e false f h =
-      (subst (λ ws. IsTrue (is_header ws)) e (no_header_fault (is_header (first ∷ words)) _ f), (begins number lines h).spelled)
+      let b = begins_said first (version_of (first ∷ words)) number lines f h in (b.0, ap version_of (sym e) ∙ b.1, b.2)
 
   start_words : (words : List Span) → words ≡ columns line.text
       → words_fault nothing words ≡ None

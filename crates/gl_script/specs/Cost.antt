@@ -11,7 +11,7 @@ use Rattle.gl_script.specs.Forms.{number_within}
 use Rattle.gl_script.specs.Section.{SaidSection}
 use Rattle.gl_script.specs.Table.{keyword_of}
 use Rattle.gl_script.specs.declared.table.Keyword.{Keyword}
-use Rattle.gl_script.specs.declared.table.Keyword.TheVariants.{Probe, Unplug, MakeDir, RemoveDir, Write, Read, Clock, Fault, Pin, Irq, Open, Ioctl, Events, OldIoctl, OldEvents, Changes, Poll, Close, Detect, Info, Get, Set, Start, Step, Stop}
+use Rattle.gl_script.specs.declared.table.Keyword.TheVariants.{Probe, Unplug, MakeDir, RemoveDir, Write, Read, Clock, Fault, Accept, Pin, Irq, Open, Ioctl, Events, OldIoctl, OldEvents, Changes, Poll, Close, Detect, Info, Get, Set, Start, Step, Stop}
 
 -- a number; 0 where there is none
 abbrev pub or_zero : Option ℕ → ℕ
@@ -45,6 +45,7 @@ cost Write words = 2
 cost Read words = 1
 cost Clock words = 1
 cost Fault words = 0
+cost Accept words = 0
 cost Pin words = 1
 cost Irq words = 1
 cost Open words = 2

@@ -5,4 +5,4 @@ use Rattle.gl_script.specs.Sentence.{Before}
 use Rattle.gl_script.specs.declared.reading.Reading.{Reading}
 
 abbrev pub before_in : Reading → Before
-before_in reading = record { has_header = reading.has_header; complete = map said_in reading.complete.items; current = current_in reading.current }
+before_in reading = record { version = reading.version; complete = map said_in reading.complete.items; current = current_in reading.current }

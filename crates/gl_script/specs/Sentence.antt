@@ -1,5 +1,5 @@
 -- The sentences of a session and the first fault of what is none. This project's choice.
-use Rattle.std.specs.Prelude.{◌≡◌, ℕ, ◌+◌, Bool, true, false, not, ◌&&◌, ◌||◌, ◌==◌, nat_le, nat_lt, if◌then◌else◌, List, [], ◌∷◌, ◌++◌, length, count_by, Option, None, Some, codes}
+use Rattle.std.specs.Prelude.{◌≡◌, ℕ, ◌+◌, Bool, true, false, not, ◌&&◌, ◌||◌, ◌==◌, nat_le, nat_lt, if◌then◌else◌, List, [], ◌∷◌, ◌++◌, length, count_by, is_some, Option, None, Some, codes}
 use Rattle.std.specs.List.{list_any}
 use Rattle.std.specs.Option.{option_or}
 use Rattle.std.specs.Str.{bytes_eq}
@@ -13,22 +13,24 @@ use Rattle.gl_script.specs.declared.refusal.Refusal.{Refusal}
 use Rattle.gl_script.specs.declared.section.SectionKind.{SectionKind}
 use Rattle.gl_script.specs.declared.section.SectionKind.TheVariants.{Setup, Actor, After}
 use Rattle.gl_script.specs.declared.table.Form.TheVariants.{FileName}
+use Rattle.gl_script.specs.declared.version.Version.{Version}
+use Rattle.gl_script.specs.declared.version.Version.TheVariants.{One, Two}
 use Rattle.gl_script.specs.Columns.{columns}
 use Rattle.gl_script.specs.Cost.{session_cost}
 use Rattle.gl_script.specs.Faults.{spot, byte_fault, size_fault, more_fault, statement_fault}
 use Rattle.gl_script.specs.Forms.{meets}
 use Rattle.gl_script.specs.Section.{SaidSection}
-use Rattle.gl_script.specs.Table.{keyword_of}
+use Rattle.gl_script.specs.Table.{keyword_in}
 
--- what stands before a line: whether the header does, the sections that are complete, and the one that is open
+-- what stands before a line: the version that the header said, the sections that are complete, and the one that is open
 pub record Before : Type 0 where
-  pub has_header : Bool
+  pub version : Option Version
   pub complete : List SaidSection
   pub current : Option SaidSection
 
 -- nothing
 abbrev pub nothing : Before
-nothing = record { has_header = false; complete = []; current = None }
+nothing = record { version = None; complete = []; current = None }
 
 abbrev pub to_list : Option SaidSection → List SaidSection
 to_list None = []
@@ -47,10 +49,19 @@ abbrev pub is_counted : List Span → Bool
 is_counted [] = false
 is_counted (word ∷ words) = not (is_comment word.text)
 
--- `session 1`
-abbrev pub is_header : List Span → Bool
-is_header (name ∷ version ∷ []) = bytes_eq name.text (codes "session") && bytes_eq version.text (codes "1")
-is_header _ = false
+-- `1` or `2`
+abbrev pub version_said : List ℕ → Option Version
+version_said word = if bytes_eq word (codes "1") then Some One else if bytes_eq word (codes "2") then Some Two else None
+
+-- the version that a header says, `session 1` or `session 2`; other words say none
+abbrev pub version_of : List Span → Option Version
+version_of (name ∷ version ∷ []) = if bytes_eq name.text (codes "session") then version_said version.text else None
+version_of _ = None
+
+-- the first line that counts says a version
+abbrev pub header_fault : Option Version → Span → Option Spot
+header_fault None first = Some (spot first.at Header)
+header_fault (Some version) first = None
 
 -- the kind of section that a word begins, if it begins one
 abbrev pub kind_of : List ℕ → Option SectionKind
@@ -106,10 +117,11 @@ head_fault Setup before end words = more_fault words
 head_fault Actor before end words = actor_fault before end words
 head_fault After before end words = more_fault words
 
--- the first fault of a statement, which stands in a section
-abbrev pub in_section_fault : Option SaidSection → Span → List Span → Option Spot
-in_section_fault None first words = Some (spot first.at Section)
-in_section_fault (Some section) first words = statement_fault (keyword_of first.text) first words
+-- the first fault of a statement, which stands behind a header and in a section
+abbrev pub in_section_fault : Option Version → Option SaidSection → Span → List Span → Option Spot
+in_section_fault None current first words = Some (spot first.at Section)
+in_section_fault (Some version) None first words = Some (spot first.at Section)
+in_section_fault (Some version) (Some section) first words = statement_fault (keyword_in version first.text) first words
 
 -- the first fault of a line that begins a section, or else of a statement
 abbrev pub section_fault : Option SectionKind → Before → Span → List Span → Option Spot
@@ -117,14 +129,17 @@ section_fault (Some kind) before first words =
     first_of (when (is_out_of_order kind before.current) (spot first.at Section)
     ∷ when (is_actor kind && nat_le ACTORS_MAX (actor_count before)) (spot first.at Limit)
     ∷ head_fault kind before (end_of first) words ∷ [])
-section_fault None before first words = in_section_fault before.current first words
+section_fault None before first words = in_section_fault before.version before.current first words
+
+-- the first fault of a line that counts, by the version that was said before it
+abbrev pub versioned_fault : Option Version → Before → Span → List Span → Option Spot
+versioned_fault None before first words = header_fault (version_of (first ∷ words)) first
+versioned_fault (Some version) before first words = section_fault (kind_of first.text) before first words
 
 -- the first fault of a line that counts
 abbrev pub counted_fault : Before → List Span → Option Spot
 counted_fault before [] = None
-counted_fault before (first ∷ words) =
-    if before.has_header then section_fault (kind_of first.text) before first words
-    else when (not (is_header (first ∷ words))) (spot first.at Header)
+counted_fault before (first ∷ words) = versioned_fault before.version before first words
 
 -- the first fault of a line, behind what stands before it
 abbrev pub line_fault : Before → List ℕ → Option Spot
@@ -138,15 +153,18 @@ with_statement line None = None
 with_statement line (Some section) = Some (record { kind = section.kind; name = section.name; statements = section.statements ++ line ∷ [] })
 
 abbrev pub behind_head : Option SectionKind → Before → Span → List Span → Before
-behind_head (Some kind) before line words = record { has_header = true; complete = sections_in before; current = Some (record { kind = kind; name = text_at 0 words; statements = [] }) }
-behind_head None before line words = record { has_header = true; complete = before.complete; current = with_statement line before.current }
+behind_head (Some kind) before line words = record { version = before.version; complete = sections_in before; current = Some (record { kind = kind; name = text_at 0 words; statements = [] }) }
+behind_head None before line words = record { version = before.version; complete = before.complete; current = with_statement line before.current }
+
+-- what stands behind a line that counts and has no fault, by the version that was said before it
+abbrev pub behind_version : Option Version → Before → Span → Span → List Span → Before
+behind_version None before line first words = record { version = version_of (first ∷ words); complete = before.complete; current = before.current }
+behind_version (Some version) before line first words = behind_head (kind_of first.text) before line words
 
 -- what stands behind a line that counts and has no fault
 abbrev pub behind_counted : Before → Span → List Span → Before
 behind_counted before line [] = before
-behind_counted before line (first ∷ words) =
-    if before.has_header then behind_head (kind_of first.text) before line words
-    else record { has_header = true; complete = before.complete; current = before.current }
+behind_counted before line (first ∷ words) = behind_version before.version before line first words
 
 -- what stands behind a line that has no fault
 abbrev pub behind : Before → Span → Before
@@ -159,7 +177,7 @@ refusal_at number (Some fault) = Some (record { line = number; column = fault.co
 
 -- where no line counts the header is missing
 abbrev pub end_fault : Before → Option Refusal
-end_fault before = when (not before.has_header) (record { line = 1; column = 1; kind = Header })
+end_fault before = when (not (is_some before.version)) (record { line = 1; column = 1; kind = Header })
 
 -- the first fault of lines from the one of this number on, behind what stands before them
 abbrev pub fault_from : Before → ℕ → List Span → Option Refusal

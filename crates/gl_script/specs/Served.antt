@@ -1,7 +1,6 @@
--- The lines of a session that is answered line by line: `session 1`, `setup`, and then statements. A session of this kind has no other
+-- The lines of a session that is answered line by line: `session 1` or `session 2`, `setup`, and then statements. A session of this kind has no other
 -- section. This project's choice.
-use Rattle.std.specs.Prelude.{ℕ, not, if◌then◌else◌, List, [], ◌∷◌, Option, None, Some, Result, Ok, Err}
-use Rattle.gl_base.specs.Refusals.{when}
+use Rattle.std.specs.Prelude.{ℕ, if◌then◌else◌, List, [], ◌∷◌, Option, None, Some, Result, Ok, Err}
 use Rattle.gl_base.specs.Words.{Span}
 use Rattle.gl_script.specs.declared.refusal.RefusalKind.TheVariants.{Header as HeaderFault, Section as SectionFault}
 use Rattle.gl_script.specs.declared.refusal.Spot.{Spot}
@@ -11,19 +10,21 @@ use Rattle.gl_script.specs.declared.served.LineKind.{LineKind}
 use Rattle.gl_script.specs.declared.served.LineKind.TheVariants.{Passed, Header, Setup, Statement}
 use Rattle.gl_script.specs.declared.served.Stage.{Stage}
 use Rattle.gl_script.specs.declared.served.Stage.TheVariants.{Opening, Headed, Open}
+use Rattle.gl_script.specs.declared.version.Version.{Version}
 use Rattle.gl_script.specs.Columns.{columns}
 use Rattle.gl_script.specs.Faults.{byte_fault, more_fault, size_fault, spot, statement_fault}
-use Rattle.gl_script.specs.Sentence.{is_comment, is_header, kind_of}
-use Rattle.gl_script.specs.Table.{keyword_of}
+use Rattle.gl_script.specs.Sentence.{is_comment, kind_of, version_of}
+use Rattle.gl_script.specs.Table.{keyword_in}
 
 -- a line of this kind, unless it has a fault
 abbrev pub unless : Option Spot → Result LineKind Spot → Result LineKind Spot
 unless None kind = kind
 unless (Some fault) kind = Err fault
 
--- the first line that counts is `session 1`
-abbrev pub opening_kind : Span → List Span → Result LineKind Spot
-opening_kind first words = unless (when (not (is_header (first ∷ words))) (spot first.at HeaderFault)) (Ok Header)
+-- the first line that counts says a version
+abbrev pub opening_kind : Option Version → Span → Result LineKind Spot
+opening_kind None first = Err (spot first.at HeaderFault)
+opening_kind (Some version) first = Ok (Header version)
 
 -- the next one is `setup`
 abbrev pub headed_kind : Option SectionKind → Span → List Span → Result LineKind Spot
@@ -33,14 +34,14 @@ headed_kind (Some Actor) first words = Err (spot first.at SectionFault)
 headed_kind (Some After) first words = Err (spot first.at SectionFault)
 
 -- then come statements, and no further section
-abbrev pub open_kind : Option SectionKind → Span → List Span → Result LineKind Spot
-open_kind None first words = unless (statement_fault (keyword_of first.text) first words) (Ok Statement)
-open_kind (Some kind) first words = Err (spot first.at SectionFault)
+abbrev pub open_kind : Version → Option SectionKind → Span → List Span → Result LineKind Spot
+open_kind version None first words = unless (statement_fault (keyword_in version first.text) first words) (Ok Statement)
+open_kind version (Some kind) first words = Err (spot first.at SectionFault)
 
 abbrev pub kind_at : Stage → Span → List Span → Result LineKind Spot
-kind_at Opening first words = opening_kind first words
-kind_at Headed first words = headed_kind (kind_of first.text) first words
-kind_at Open first words = open_kind (kind_of first.text) first words
+kind_at Opening first words = opening_kind (version_of (first ∷ words)) first
+kind_at (Headed version) first words = headed_kind (kind_of first.text) first words
+kind_at (Open version) first words = open_kind version (kind_of first.text) first words
 
 -- a line without words, or whose first word is a comment, is passed over
 abbrev pub words_kind : Stage → List Span → Result LineKind Spot
@@ -51,9 +52,15 @@ words_kind stage (first ∷ words) = if is_comment first.text then Ok Passed els
 abbrev pub line_kind : Stage → List ℕ → Result LineKind Spot
 line_kind stage text = unless (byte_fault 1 text) (unless (size_fault 0 (columns text)) (words_kind stage (columns text)))
 
+-- the stage after `setup`
+abbrev pub opened : Stage → Stage
+opened Opening = Opening
+opened (Headed version) = Open version
+opened (Open version) = Open version
+
 -- the stage after a line of a kind
 abbrev pub stage_after : Stage → LineKind → Stage
 stage_after stage Passed = stage
-stage_after stage Header = Headed
-stage_after stage Setup = Open
+stage_after stage (Header version) = Headed version
+stage_after stage Setup = opened stage
 stage_after stage Statement = stage

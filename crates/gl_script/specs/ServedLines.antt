@@ -1,6 +1,6 @@
 -- The lines that are accepted one after the other are, together, a session with its statements in `setup`; and what is refused would
 -- be refused there too, but for the sections that come after `setup`. This project's choice.
-use Rattle.std.specs.Prelude.{◌≡◌, ◌⊎◌, ◌≤◌, ℕ, true, List, [], ◌∷◌, ◌++◌, length, Option, None, Some, Result, Ok, Err}
+use Rattle.std.specs.Prelude.{◌≡◌, ◌⊎◌, ◌≤◌, ℕ, List, [], ◌∷◌, ◌++◌, length, Option, None, Some, Result, Ok, Err}
 use Rattle.gl_base.specs.Words.{Span, lines_of}
 use Rattle.gl_base.specs.declared.limits.TheConstants.{COST_MAX}
 use Rattle.gl_script.specs.declared.limits.TheConstants.{SESSION_MAX}
@@ -11,10 +11,12 @@ use Rattle.gl_script.specs.declared.served.LineKind.{LineKind}
 use Rattle.gl_script.specs.declared.served.LineKind.TheVariants.{Passed, Header, Setup, Statement}
 use Rattle.gl_script.specs.declared.served.Stage.{Stage}
 use Rattle.gl_script.specs.declared.served.Stage.TheVariants.{Opening, Headed, Open}
+use Rattle.gl_script.specs.declared.version.Version.{Version}
 use Rattle.gl_script.specs.Cost.{session_cost}
 use Rattle.gl_script.specs.Section.{SaidSection}
 use Rattle.gl_script.specs.Sentence.{Before, Sentence, behind, line_fault, nothing}
 use Rattle.gl_script.specs.Served.{line_kind, stage_after}
+use Rattle.gl_script.specs.Spelled.{behind_header}
 
 -- `setup` with these statements
 abbrev pub setup_of : List Span → SaidSection
@@ -23,13 +25,13 @@ setup_of said = record { kind = SetupSection; name = []; statements = said }
 -- what stands before a line of a session, at a stage, where these lines are the statements so far
 abbrev pub stands : Stage → List Span → Before
 stands Opening said = nothing
-stands Headed said = record { has_header = true; complete = []; current = None }
-stands Open said = record { has_header = true; complete = []; current = Some (setup_of said) }
+stands (Headed version) said = behind_header version [] None
+stands (Open version) said = behind_header version [] (Some (setup_of said))
 
 -- the statements so far, behind a line of a kind
 abbrev pub said_behind : LineKind → Span → List Span → List Span
 said_behind Passed line said = said
-said_behind Header line said = said
+said_behind (Header version) line said = said
 said_behind Setup line said = []
 said_behind Statement line said = said ++ line ∷ []
 
@@ -60,5 +62,5 @@ accepts_all (Some before) (line ∷ lines) = accepts_all (accepts (line_kind bef
 -- A text whose lines are all accepted, from the beginning to where statements come, is a session with these statements in `setup`,
 -- unless it is too long or costs too much.
 abbrev pub AcceptedTextsAreSessions : Type 0
-AcceptedTextsAreSessions = (bytes : List ℕ) (said : List Span) → accepts_all (Some (record { stage = Opening; said = [] })) (lines_of bytes) ≡ Some (record { stage = Open; said = said })
+AcceptedTextsAreSessions = (bytes : List ℕ) (version : Version) (said : List Span) → accepts_all (Some (record { stage = Opening; said = [] })) (lines_of bytes) ≡ Some (record { stage = Open version; said = said })
     → length bytes ≤ SESSION_MAX → session_cost (setup_of said ∷ []) ≤ COST_MAX → Sentence bytes (setup_of said ∷ [])

@@ -1,5 +1,5 @@
 -- The statements: the word that each begins with, and the forms of its further words. This project's choice.
-use Rattle.std.specs.Prelude.{◌≡◌, ℕ, Bool, if◌then◌else◌, List, [], ◌∷◌, Option, Some, find, codes}
+use Rattle.std.specs.Prelude.{◌≡◌, ℕ, Bool, true, false, if◌then◌else◌, List, [], ◌∷◌, Option, None, Some, find, codes}
 use Rattle.std.specs.Str.{bytes_eq}
 use Rattle.gl_script.specs.declared.table.Form.{Form}
 use Rattle.gl_script.specs.declared.table.Form.TheVariants.{FileName, Label, Path, Number, Chip, Word, Command, OldCommand, PinWord, IrqWord, HeldTool}
@@ -7,8 +7,10 @@ use Rattle.gl_script.specs.declared.table.Tail.{Tail}
 use Rattle.gl_script.specs.declared.table.Tail.TheVariants.{NoMore, Anything, Pieces}
 use Rattle.gl_script.specs.declared.table.Shape.{Shape}
 use Rattle.gl_script.specs.declared.table.Keyword.{Keyword}
-use Rattle.gl_script.specs.declared.table.Keyword.TheVariants.{Probe, Unplug, MakeDir, RemoveDir, Write, Read, Clock, Fault, Pin, Irq, Open, Ioctl, Events, OldIoctl, OldEvents, Changes, Poll, Close, Detect, Info, Get, Set, Start, Step, Stop}
+use Rattle.gl_script.specs.declared.table.Keyword.TheVariants.{Probe, Unplug, MakeDir, RemoveDir, Write, Read, Clock, Fault, Accept, Pin, Irq, Open, Ioctl, Events, OldIoctl, OldEvents, Changes, Poll, Close, Detect, Info, Get, Set, Start, Step, Stop}
 use Rattle.gl_script.specs.declared.table.TheConstants.{KEYWORDS}
+use Rattle.gl_script.specs.declared.version.Version.{Version}
+use Rattle.gl_script.specs.declared.version.Version.TheVariants.{One, Two}
 use Rattle.gl_base.specs.declared.limits.TheConstants.{LINES_MAX}
 
 -- the word of a statement
@@ -21,6 +23,7 @@ keyword_name Write = codes "write"
 keyword_name Read = codes "read"
 keyword_name Clock = codes "clock"
 keyword_name Fault = codes "fault"
+keyword_name Accept = codes "accept"
 keyword_name Pin = codes "pin"
 keyword_name Irq = codes "irq"
 keyword_name Open = codes "open"
@@ -42,9 +45,27 @@ keyword_name Stop = codes "stop"
 abbrev pub is_keyword : List ℕ → Keyword → Bool
 is_keyword word keyword = bytes_eq (keyword_name keyword) word
 
--- the statement that a word begins, if it begins one
+-- the statement that a word begins in a session of either version, if it begins one
 abbrev pub keyword_of : List ℕ → Option Keyword
 keyword_of word = find (is_keyword word) KEYWORDS
+
+-- `accept` is a statement of `session 2` alone
+abbrev pub has_accept : Version → Bool
+has_accept One = false
+has_accept Two = true
+
+-- a session of this version has the statement
+abbrev pub is_in : Version → Keyword → Bool
+is_in version Accept = has_accept version
+is_in version _ = true
+
+abbrev pub only_in : Version → Option Keyword → Option Keyword
+only_in version None = None
+only_in version (Some keyword) = if is_in version keyword then Some keyword else None
+
+-- the statement that a word begins in a session of this version, if it begins one
+abbrev pub keyword_in : Version → List ℕ → Option Keyword
+keyword_in version word = only_in version (keyword_of word)
 
 -- each statement is the one that its word begins: its row isn't missing, and no row before it has its word
 abbrev pub StatementsHaveTheirWords : Type 0
@@ -74,6 +95,7 @@ wanted Write second makes = only (Path ∷ Label ∷ [])
 wanted Read second makes = only (Path ∷ [])
 wanted Clock second makes = only (Number 0 0xFFFFFFFFFFFFFFFF ∷ Number 0 0xFFFFFFFFFFFFFFFF ∷ [])
 wanted Fault second makes = only (Number 1 1000000 ∷ [])
+wanted Accept second makes = only (Number 0 0xFFFFFFFFFFFFFFFF ∷ [])
 wanted Pin second makes =
     if bytes_eq second (codes "range") then only (PinWord ∷ Chip ∷ Number 0 0xFFFFFFFF ∷ Number 0 0xFFFFFFFF ∷ Number 0 0xFFFFFFFF ∷ [])
     else only (PinWord ∷ Chip ∷ Number 0 0xFFFFFFFF ∷ [])

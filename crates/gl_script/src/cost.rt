@@ -87,7 +87,7 @@ fn keyword_cost(keyword: Keyword, at: usize, line: &[u8]) -> u64
     ensures { min result OVER ≡ min (cost keyword (words_at at line.now)) OVER }
 {
     match keyword {
-        Keyword::Fault | Keyword::Close | Keyword::Stop => 0,
+        Keyword::Fault | Keyword::Accept | Keyword::Close | Keyword::Stop => 0,
         Keyword::Probe
         | Keyword::MakeDir
         | Keyword::RemoveDir

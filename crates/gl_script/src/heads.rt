@@ -1,16 +1,15 @@
 //! The lines that begin a session and its sections.
-ghost use Rattle.std.specs.Prelude.{◌≡◌, ◌<◌, ◌≤◌, ◌+◌, ◌^◌, ◌∷◌, map, length, not, count_by};
+ghost use Rattle.std.specs.Prelude.{◌≡◌, ◌<◌, ◌≤◌, ◌+◌, ◌^◌, ◌∷◌, map, length, count_by};
 ghost use Rattle.std.specs.List.{list_any};
-ghost use Rattle.gl_base.specs.Refusals.{when};
 ghost use Rattle.gl_base.specs.Words.{span, words_at};
-ghost use Rattle.gl_script.specs.Faults.{spot};
 ghost use Rattle.gl_script.specs.Meaning.{said_in, head_in};
 ghost use Rattle.gl_script.specs.Section.{titled};
-ghost use Rattle.gl_script.specs.Sentence.{is_comment, is_header, kind_of, is_actor, is_after, is_named};
+ghost use Rattle.gl_script.specs.Sentence.{header_fault, is_comment, kind_of, is_actor, is_after, is_named, version_of, version_said};
 
 use crate::faults::spot;
 use crate::refusal::{Refusal, RefusalKind, Spot};
 use crate::section::{Head, Section, SectionKind};
+use crate::version::Version;
 use gl_base::{Found, next_word};
 
 /// Whether one of the sections has a name.
@@ -85,29 +84,42 @@ pub fn kind_of(word: &[u8]) -> Option<SectionKind>
     None
 }
 
-/// The fault of the first line that counts, where it isn't `session 1`.
-pub fn header_fault(first: &Found<'_>) -> Option<Spot>
+/// The fault of the first line that counts, whose first word this is, where it says no version.
+pub fn header_fault(version: Option<Version>, first: &Found<'_>) -> Option<Spot>
     requires word { first.now.at + length first.now.word.now < 2 ^ 32 }
-    requires rest { first.now.rest_at + length first.now.rest.now + 1 < 2 ^ 32 }
-    ensures { result ≡ when (not (is_header (span first.now.at first.now.word.now ∷ words_at first.now.rest_at first.now.rest.now))) (spot first.now.at RefusalKind.Header) }
+    ensures { result ≡ header_fault version (span first.now.at first.now.word.now) }
 {
-    if is_header(first) {
-        return None;
+    match version {
+        Some(_) => None,
+        None => Some(spot(first.at, RefusalKind::Header)),
     }
-    Some(spot(first.at, RefusalKind::Header))
 }
 
-/// Whether a line is `session 1`.
-pub fn is_header(first: &Found<'_>) -> bool
-    requires { first.now.rest_at + length first.now.rest.now + 1 < 2 ^ 32 }
-    ensures { result ≡ is_header (span first.now.at first.now.word.now ∷ words_at first.now.rest_at first.now.rest.now) }
+/// The version that a line says, if it is `session 1` or `session 2`.
+pub fn version_of(first: &Found<'_>) -> Option<Version>
+    requires { first.now.rest_at + length first.now.rest.now + 1 < 2 ^ 64 }
+    ensures { result ≡ version_of (span first.now.at first.now.word.now ∷ words_at first.now.rest_at first.now.rest.now) }
 {
     let Some(version) = next_word(first.rest_at, first.rest) else {
-        return false;
+        return None;
     };
-    next_word(version.rest_at, version.rest).is_none()
-        && first.word == b"session".as_slice()
-        && version.word == b"1".as_slice()
+    if next_word(version.rest_at, version.rest).is_none() && first.word == b"session".as_slice() {
+        return version_said(version.word);
+    }
+    None
+}
+
+/// The version that the second word of a header says, if it says one.
+fn version_said(word: &[u8]) -> Option<Version>
+    ensures { result ≡ version_said word.now }
+{
+    if word == b"1".as_slice() {
+        return Some(Version::One);
+    }
+    if word == b"2".as_slice() {
+        return Some(Version::Two);
+    }
+    None
 }
 
 /// The head of a section; the name is an actor's.

@@ -15,6 +15,7 @@ mod script;
 mod section;
 mod served;
 mod table;
+mod version;
 
 pub use faults::text_at;
 pub use feed::Feed;
@@ -31,3 +32,4 @@ pub use script::Script;
 pub use section::{Head, SectionKind, Statement};
 pub use served::{LineKind, Stage, line_kind};
 pub use table::{Keyword, keyword_of};
+pub use version::Version;

@@ -1,29 +1,30 @@
 //! A session is read line by line.
-ghost use Rattle.std.specs.Prelude.{◌≡◌, ◌<◌, ◌≤◌, ◌+◌, ◌^◌, [], ◌∷◌, Some, map, length, not, count_by, OnOk, IfOk, IsOkUnless};
+ghost use Rattle.std.specs.Prelude.{◌≡◌, ◌<◌, ◌≤◌, ◌+◌, ◌^◌, [], ◌∷◌, Some, map, length, count_by, OnOk, IfOk, IsOkUnless};
 ghost use Rattle.std.specs.List.{list_any};
-ghost use Rattle.gl_base.specs.Refusals.{when};
 ghost use Rattle.gl_base.specs.Words.{span, text_at, words_at};
 ghost use Rattle.gl_script.specs.Faults.{spot};
 ghost use Rattle.gl_script.specs.Meaning.{said_in, current_in};
 ghost use Rattle.gl_script.specs.Reading.{before_in};
-ghost use Rattle.gl_script.specs.Sentence.{nothing, is_comment, is_header, kind_of, is_actor, is_after, is_out_of_order, actor_count, is_named, names_current, is_used, actor_fault, section_fault, counted_fault, line_fault, with_statement, behind, sections_in};
+ghost use Rattle.gl_script.specs.Sentence.{nothing, is_comment, kind_of, is_actor, is_after, is_out_of_order, actor_count, is_named, names_current, is_used, actor_fault, section_fault, counted_fault, line_fault, with_statement, behind, sections_in};
 
 use crate::faults::{byte_fault, more_fault, size_fault, spot, statement_fault, text_at};
 use crate::forms::meets;
 use crate::heads::{
-    actors_among, header_fault, is_actor, is_after, is_comment, is_one_named, kind_of,
+    actors_among, header_fault, is_actor, is_after, is_comment, is_one_named, kind_of, version_of,
 };
 use crate::limits::ACTORS_MAX;
 use crate::refusal::{RefusalKind, Spot};
 use crate::section::{Section, SectionKind, Statement};
-use crate::table::{Form, keyword_of};
+use crate::table::{Form, keyword_in};
+use crate::version::Version;
 use gl_base::{Errno, Found, next_word};
 use std::alloc::Global;
 
 /// What was read of a session so far.
 #[derive(Drop)]
 pub struct Reading<'a> {
-    pub(crate) has_header: bool,
+    /// What the header said, once it was read.
+    pub(crate) version: Option<Version>,
     pub(crate) complete: Vec<Section<'a>>,
     pub(crate) current: Option<Section<'a>>,
 }
@@ -34,7 +35,7 @@ impl<'a> Reading<'a> {
         ensures { before_in result ≡ nothing }
     {
         Reading {
-            has_header: false,
+            version: None,
             complete: Vec::new(alloc),
             current: None,
         }
@@ -67,23 +68,18 @@ impl<'a> Reading<'a> {
         requires rest { first.now.rest_at + length first.now.rest.now + 1 < 2 ^ 32 }
         ensures { result ≡ counted_fault (before_in self.now) (span first.now.at first.now.word.now ∷ words_at first.now.rest_at first.now.rest.now) }
     {
-        if !self.has_header {
-            return header_fault(first);
-        }
+        let Some(version) = self.version else {
+            return header_fault(version_of(first), first);
+        };
         match kind_of(first.word) {
             Some(kind) => self.head_fault(kind, first),
             None => {
                 if self.current.is_none() {
                     return Some(spot(first.at, RefusalKind::Section));
                 }
+                let keyword = keyword_in(version, first.word);
                 let end = first.at + first.word.len();
-                statement_fault(
-                    keyword_of(first.word),
-                    first.at,
-                    end,
-                    first.rest_at,
-                    first.rest,
-                )
+                statement_fault(keyword, first.at, end, first.rest_at, first.rest)
             }
         }
     }
@@ -179,8 +175,8 @@ impl<'a> Reading<'a> {
                 if is_comment(first.word) {
                     return Ok(());
                 }
-                if !self.has_header {
-                    self.has_header = true;
+                if self.version.is_none() {
+                    self.version = version_of(&first);
                     return Ok(());
                 }
                 match kind_of(first.word) {
@@ -194,7 +190,7 @@ impl<'a> Reading<'a> {
 
     /// Begins a section.
     fn begin(&mut self, alloc: Global, kind: SectionKind, name: &'a [u8]) -> Result<(), Errno>
-        ensures ok { OnOk result (before_in self.new ≡ record { has_header = self.old.has_header; complete = sections_in (before_in self.old); current = Some (record { kind = kind; name = name.now; statements = [] }) }) }
+        ensures ok { OnOk result (before_in self.new ≡ record { version = self.old.version; complete = sections_in (before_in self.old); current = Some (record { kind = kind; name = name.now; statements = [] }) }) }
         ensures memory_alone { IsOkUnless result Errno.NoMemory }
     {
         if let Some(section) = self.current.take() {
@@ -210,7 +206,7 @@ impl<'a> Reading<'a> {
 
     /// Adds a statement to the section.
     fn add(&mut self, at: usize, line: &'a [u8]) -> Result<(), Errno>
-        ensures ok { OnOk result (before_in self.new ≡ record { has_header = self.old.has_header; complete = (before_in self.old).complete; current = with_statement (span at line.now) (current_in self.old.current) }) }
+        ensures ok { OnOk result (before_in self.new ≡ record { version = self.old.version; complete = (before_in self.old).complete; current = with_statement (span at line.now) (current_in self.old.current) }) }
         ensures memory_alone { IsOkUnless result Errno.NoMemory }
     {
         match &mut self.current {

@@ -8,11 +8,11 @@ pub enum RefusalKind {
     TooLong,
     /// A byte isn't printable.
     Byte,
-    /// The first line that counts isn't `session 1`.
+    /// The first line that counts is neither `session 1` nor `session 2`.
     Header,
     /// A section stands out of order, or a statement before the first section.
     Section,
-    /// A line begins with a word that is neither a section's nor a statement's.
+    /// A line begins with a word that is neither a section's nor a statement's of the session's version.
     Statement,
     /// A word is missing, or is one too many.
     Words,
@@ -22,7 +22,7 @@ pub enum RefusalKind {
     Name,
     /// A word is too long, or one of the 129th on; an actor is the 17th; a statement has more than 1024 bytes.
     Limit,
-    /// The session costs more than 100,000 entries.
+    /// The session costs more than 300,000 entries.
     Cost,
     /// Memory is wanted. This says nothing of the text.
     NoMemory,

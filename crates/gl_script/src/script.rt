@@ -54,7 +54,7 @@ impl<'a> Script<'a> {
             at += line.len() + 1;
             rest = after;
         }
-        if !reading.has_header {
+        if reading.version.is_none() {
             return Err(refusal(1, 1, RefusalKind::Header));
         }
         let sections = match reading.finish() {

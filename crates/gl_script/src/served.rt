@@ -1,25 +1,26 @@
 //! The lines of a session that is answered line by line.
 ghost use Rattle.std.specs.Prelude.{◌≡◌, ◌<◌, ◌+◌, ◌^◌, ◌∷◌, Ok, length};
 ghost use Rattle.gl_base.specs.Words.{span, words_at};
-ghost use Rattle.gl_script.specs.Served.{headed_kind, kind_at, line_kind, open_kind, opening_kind, stage_after, unless, words_kind};
-ghost use Rattle.gl_script.specs.Sentence.{kind_of};
+ghost use Rattle.gl_script.specs.Served.{headed_kind, line_kind, open_kind, opened, opening_kind, stage_after, unless, words_kind};
+ghost use Rattle.gl_script.specs.Sentence.{kind_of, version_of};
 
 use crate::faults::{byte_fault, more_fault, size_fault, spot, statement_fault};
-use crate::heads::{header_fault, is_comment, kind_of};
+use crate::heads::{is_comment, kind_of, version_of};
 use crate::refusal::{RefusalKind, Spot};
 use crate::section::SectionKind;
-use crate::table::keyword_of;
+use crate::table::keyword_in;
+use crate::version::Version;
 use gl_base::{Found, next_word};
 
 /// How far such a session has come.
 #[derive(Clone, Copy, PartialEq, Eq, Debug)]
 pub enum Stage {
-    /// `session 1` is still to come.
+    /// `session 1` or `session 2` is still to come.
     Opening,
-    /// `setup` is still to come.
-    Headed,
-    /// Statements come.
-    Open,
+    /// `setup` is still to come, in a session of this version.
+    Headed(Version),
+    /// Statements come, in a session of this version.
+    Open(Version),
 }
 
 /// What a line is.
@@ -27,8 +28,8 @@ pub enum Stage {
 pub enum LineKind {
     /// It is passed over.
     Passed,
-    /// `session 1`.
-    Header,
+    /// `session 1` or `session 2`.
+    Header(Version),
     /// `setup`.
     Setup,
     /// A statement.
@@ -41,10 +42,20 @@ impl LineKind {
         ensures { result ≡ stage_after stage self }
     {
         match self {
-            LineKind::Header => Stage::Headed,
-            LineKind::Setup => Stage::Open,
+            LineKind::Header(version) => Stage::Headed(version),
+            LineKind::Setup => opened(stage),
             LineKind::Passed | LineKind::Statement => stage,
         }
+    }
+}
+
+/// The stage after `setup`.
+fn opened(stage: Stage) -> Stage
+    ensures { result ≡ opened stage }
+{
+    match stage {
+        Stage::Opening => Stage::Opening,
+        Stage::Headed(version) | Stage::Open(version) => Stage::Open(version),
     }
 }
 
@@ -75,9 +86,21 @@ fn counted_kind(stage: Stage, first: &Found<'_>) -> Result<LineKind, Spot>
         return Ok(LineKind::Passed);
     }
     match stage {
-        Stage::Opening => unless(header_fault(first), LineKind::Header),
-        Stage::Headed => setup_kind(first),
-        Stage::Open => open_kind(first),
+        Stage::Opening => opening_kind(first),
+        Stage::Headed(_) => setup_kind(first),
+        Stage::Open(version) => open_kind(version, first),
+    }
+}
+
+/// What the first line that counts is.
+fn opening_kind(first: &Found<'_>) -> Result<LineKind, Spot>
+    requires word { first.now.at + length first.now.word.now < 2 ^ 32 }
+    requires rest { first.now.rest_at + length first.now.rest.now + 1 < 2 ^ 32 }
+    ensures { result ≡ opening_kind (version_of (span first.now.at first.now.word.now ∷ words_at first.now.rest_at first.now.rest.now)) (span first.now.at first.now.word.now) }
+{
+    match version_of(first) {
+        Some(version) => Ok(LineKind::Header(version)),
+        None => Err(spot(first.at, RefusalKind::Header)),
     }
 }
 
@@ -108,16 +131,16 @@ fn setup_kind(first: &Found<'_>) -> Result<LineKind, Spot>
 }
 
 /// What a line among the statements is.
-fn open_kind(first: &Found<'_>) -> Result<LineKind, Spot>
+fn open_kind(version: Version, first: &Found<'_>) -> Result<LineKind, Spot>
     requires word { first.now.at + length first.now.word.now < 2 ^ 32 }
     requires rest { first.now.rest_at + length first.now.rest.now + 1 < 2 ^ 32 }
-    ensures { result ≡ open_kind (kind_of first.now.word.now) (span first.now.at first.now.word.now) (words_at first.now.rest_at first.now.rest.now) }
+    ensures { result ≡ open_kind version (kind_of first.now.word.now) (span first.now.at first.now.word.now) (words_at first.now.rest_at first.now.rest.now) }
 {
     match kind_of(first.word) {
         Some(_) => Err(spot(first.at, RefusalKind::Section)),
         None => {
             let end = first.at + first.word.len();
-            let keyword = keyword_of(first.word);
+            let keyword = keyword_in(version, first.word);
             let fault = statement_fault(keyword, first.at, end, first.rest_at, first.rest);
             unless(fault, LineKind::Statement)
         }

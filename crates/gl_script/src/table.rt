@@ -1,7 +1,8 @@
 //! The table of statements: the word that each begins with, and the forms of its further words.
 ghost use Rattle.std.specs.Prelude.{◌≡◌, find, option_copied};
-ghost use Rattle.gl_script.specs.Table.{keyword_name, is_keyword, keyword_of, wanted, wanted_of, only, followed};
+ghost use Rattle.gl_script.specs.Table.{has_accept, keyword_name, is_keyword, is_in, keyword_in, keyword_of, only_in, wanted, wanted_of, only, followed};
 
+use crate::version::Version;
 use gl_base::LINES_MAX;
 
 /// The form of a word.
@@ -61,6 +62,8 @@ pub enum Keyword {
     Clock,
     /// `fault`.
     Fault,
+    /// `accept`, of `session 2` alone.
+    Accept,
     /// `pin`.
     Pin,
     /// `irq`.
@@ -107,7 +110,7 @@ pub struct Shape {
 }
 
 /// All statements.
-pub const KEYWORDS: [Keyword; 25] = [
+pub const KEYWORDS: [Keyword; 26] = [
     Keyword::Probe,
     Keyword::Unplug,
     Keyword::MakeDir,
@@ -116,6 +119,7 @@ pub const KEYWORDS: [Keyword; 25] = [
     Keyword::Read,
     Keyword::Clock,
     Keyword::Fault,
+    Keyword::Accept,
     Keyword::Pin,
     Keyword::Irq,
     Keyword::Open,
@@ -167,6 +171,7 @@ impl Keyword {
             Keyword::Read => "read",
             Keyword::Clock => "clock",
             Keyword::Fault => "fault",
+            Keyword::Accept => "accept",
             Keyword::Pin => "pin",
             Keyword::Irq => "irq",
             Keyword::Open => "open",
@@ -204,6 +209,7 @@ impl Keyword {
                 low: 1,
                 high: 1_000_000,
             }]),
+            Keyword::Accept => only(&[BELOW_2_64]),
             Keyword::Pin if second == b"range".as_slice() => only(&[
                 Form::PinWord,
                 Form::Chip,
@@ -261,7 +267,7 @@ fn followed(forms: &'static [Form], tail: Tail) -> Shape
     Shape { forms, tail }
 }
 
-/// The statement that a word begins, if it begins one.
+/// The statement that a word begins in a session of either version, if it begins one.
 pub fn keyword_of(word: &[u8]) -> Option<Keyword>
     ensures { result ≡ keyword_of word.now }
 {
@@ -277,4 +283,41 @@ fn keyword_among<'a>(keywords: &'a [Keyword], word: &[u8]) -> Option<&'a Keyword
     keywords
         .iter()
         .find(|keyword| keyword.name().as_bytes() == word)
+}
+
+/// Whether a session of this version has `accept`.
+fn has_accept(version: Version) -> bool
+    ensures { result ≡ has_accept version }
+{
+    match version {
+        Version::One => false,
+        Version::Two => true,
+    }
+}
+
+/// Whether a session of this version has the statement.
+fn is_in(version: Version, keyword: Keyword) -> bool
+    ensures { result ≡ is_in version keyword }
+{
+    match keyword {
+        Keyword::Accept => has_accept(version),
+        _ => true,
+    }
+}
+
+/// The statement, if a session of this version has it.
+fn only_in(version: Version, keyword: Option<Keyword>) -> Option<Keyword>
+    ensures { result ≡ only_in version keyword }
+{
+    match keyword {
+        Some(keyword) if is_in(version, keyword) => Some(keyword),
+        _ => None,
+    }
+}
+
+/// The statement that a word begins in a session of this version, if it begins one.
+pub fn keyword_in(version: Version, word: &[u8]) -> Option<Keyword>
+    ensures { result ≡ keyword_in version word.now }
+{
+    only_in(version, keyword_of(word))
 }

@@ -13,7 +13,7 @@ use Rattle.gl_world.specs.Laws.{Laws}
 use Rattle.gl_world.proofs.Deeds.{entries_in_append}
 use Rattle.gl_args.specs.Program.{Program, done}
 use Rattle.gl_core.specs.Kept.{StandsFor}
-use Rattle.gl_driver.specs.Told.{PortAfter, Told, with_call, with_plan}
+use Rattle.gl_driver.specs.Told.{PortAfter, Told, planned_for, with_bits, with_call, with_plan}
 use Rattle.gl_base.specs.declared.op.Op.{Op}
 use Rattle.gl_model.specs.declared.reply.Reply.{Reply}
 use Rattle.gl_model.specs.declared.reply.Reply.TheVariants.{Done as DoneReply, Refused as RefusedReply}
@@ -28,11 +28,11 @@ use Rattle.gl_core.specs.Device.{OneDeed, OneEntry, call_tells, core, tells_in}
 use Rattle.gl_session.specs.Alone.{AnswersAsPlanned, IsAlone, Part, PlayedSession, PortTells, PrintsOne}
 use Rattle.gl_check.specs.Tells.{TellsAfter, answered_last, calls_after, last_or}
 use Rattle.gl_asking.specs.declared.kinds.Asking.{Asking}
-use Rattle.gl_asking.specs.declared.kinds.Asking.TheVariants.{Calls, Plans, Refuses}
+use Rattle.gl_asking.specs.declared.kinds.Asking.TheVariants.{Calls, Plans, Accepts, Refuses}
 use Rattle.gl_asking.specs.Asking.{asking, files_behind, got_of}
 use Rattle.gl_asking.specs.Driving.{op_asked}
 use Rattle.gl_asking.specs.Files.{OpenFile}
-use Rattle.gl_check.specs.One.{Answers, PlannedPort, Ran, Standing, TellingPort, came_to, comes_to, entry_count, first_of_list, from_list, from_plan, from_port, is_asked, performs, performs_as, rest_of_list, run, run_actor, run_session, run_setup, said_in_kind, told_behind, told_of, with_answer, with_entries}
+use Rattle.gl_check.specs.One.{Answers, PlannedPort, Ran, Standing, TellingPort, bits_asked, came_to, comes_to, entry_count, first_of_list, from_list, from_plan, from_port, is_asked, performs, performs_as, rest_of_list, run, run_actor, run_session, run_setup, said_in_kind, told_behind, told_of, with_answer, with_entries}
 use Rattle.gl_check.specs.Turns.{Carried, Carries, Did, DidNothing, Exchange, Follows, HasMade, IsDone, Said, Turn, did_by, said_by}
 use Rattle.gl_session.proofs.OneCalls.{Came, Comes, comes}
 use Rattle.gl_session.proofs.OneHistories.{IsSteady, Rest, length_entries}
@@ -59,8 +59,9 @@ module _ {X : Type 0} (answers : Answers X) (is_planned : Bool) (Fits : X → Op
   -- A source fits a port that tells this, and the answers that are left: it gives the answer that the port comes to.
   pub record Serves : Type 0 where
     pub gives : (x : X) (before after : Option Told) (op : Option Op) (answer : Option ℕ) (rest : List (Option ℕ)) → Fits x before (answer ∷ rest) → PortAfter is_planned op (answer ∷ []) before after
-        → (answers.next x ≡ answer) × Fits (answers.behind op x) after rest
+        → (answers.next op x ≡ answer) × Fits (answers.behind op x) after rest
     pub plans : (x : X) (before : Option Told) (nth : ℕ) (rest : List (Option ℕ)) → Fits x before rest → Fits (answers.planned nth x) (with_plan nth before) rest
+    pub accepts : (x : X) (before : Option Told) (bits : ℕ) (rest : List (Option ℕ)) → Fits x before rest → Fits (answers.accepted bits x) (with_bits bits before) rest
 
   -- a session stands where who carried it out stands, with these deeds and answers left
   pub record At (st : Standing X) (s : Carried) (ds : List OneDeed) (rest : List (Option ℕ)) : Type 0 where
@@ -91,16 +92,16 @@ module _ {X : Type 0} (answers : Answers X) (is_planned : Bool) (Fits : X → Op
         c : Comes st.world call e.answer e.did ds
         c = comes laws st.world call e.closed e.answer e.did ds made.makes at.left at.steady
 
-        reply_same : Came e.did ds (comes_to st.world call (answers.next st.source)) → (comes_to st.world call (answers.next st.source)).reply ≡ e.reply
+        reply_same : Came e.did ds (comes_to st.world call (answers.next op st.source)) → (comes_to st.world call (answers.next op st.source)).reply ≡ e.reply
         reply_same came = ap (λ x. reply_or e.reply x) (sym came.reply ∙ made.reply_is)
 
-        bytes_same : Came e.did ds (comes_to st.world call (answers.next st.source)) → (comes_to st.world call (answers.next st.source)).bytes ≡ e.wrote
+        bytes_same : Came e.did ds (comes_to st.world call (answers.next op st.source)) → (comes_to st.world call (answers.next op st.source)).bytes ≡ e.wrote
         bytes_same came = sym came.bytes ∙ made.bytes_are
 
         by : (b : Bool) → is_asked st.world call ≡ b → Performed e r st ds rest
-            (came_to answers e.what (comes_to st.world call (answers.next st.source)) (with_entries (entry_count st.world call) (with_answer answers op b st)))
+            (came_to answers e.what (comes_to st.world call (answers.next op st.source)) (with_entries (entry_count st.world call) (with_answer answers op b st)))
         by false unasked = let none : told_by e.did ≡ [] = c.tells ∙ ap (λ (b : Bool). if b then e.answer ∷ [] else []) unasked in
-            let came = c.came (answers.next st.source) (λ is. absurd (true≢false (sym is ∙ unasked))) in
+            let came = c.came (answers.next op st.source) (λ is. absurd (true≢false (sym is ∙ unasked))) in
             let port : r.told ≡ s.told = subst (λ l. PortAfter is_planned op l s.told r.told) none made.port in record {
               got = λ i. got_of e.what (reply_same came i) (bytes_same came i);
               at = record {
@@ -114,7 +115,7 @@ module _ {X : Type 0} (answers : Answers X) (is_planned : Bool) (Fits : X → Op
             }
         by true is = let one : told_by e.did ≡ e.answer ∷ [] = c.tells ∙ ap (λ (b : Bool). if b then e.answer ∷ [] else []) is in
             let g = serves.gives st.source s.told r.told op e.answer rest (subst (λ l. Fits st.source s.told (l ++ rest)) one at.fits) (subst (λ l. PortAfter is_planned op l s.told r.told) one made.port) in
-            let came = c.came (answers.next st.source) (λ _. g.0) in record {
+            let came = c.came (answers.next op st.source) (λ _. g.0) in record {
               got = λ i. got_of e.what (reply_same came i) (bytes_same came i);
               at = record {
                 files = (λ i. files_behind e.what (reply_same came i) (at.files i)) ∙ sym files;
@@ -147,6 +148,8 @@ module _ {X : Type 0} (answers : Answers X) (is_planned : Bool) (Fits : X → Op
     asked (Calls call) op e s r st ds rest is files at = called call op e s r st ds rest is files at
     asked (Plans nth) op e s r st ds rest is files at = nothing e DoneReply s r st (performs_as answers (Plans nth) op e.what st).1 ds rest is.0 files at refl refl refl refl
         (λ fits. subst (λ t. Fits (answers.planned nth st.source) t rest) (sym is.1) (serves.plans st.source s.told nth rest fits))
+    asked (Accepts bits) op e s r st ds rest is files at = nothing e DoneReply s r st (performs_as answers (Accepts bits) op e.what st).1 ds rest is.0 files at refl refl refl refl
+        (λ fits. subst (λ t. Fits (answers.accepted bits st.source) t rest) (sym is.1) (serves.accepts st.source s.told bits rest fits))
     asked (Refuses errno) op e s r st ds rest is files at = nothing e (RefusedReply errno) s r st (performs_as answers (Refuses errno) op e.what st).1 ds rest is.0 files at refl refl refl refl
         (λ fits. subst (λ t. Fits st.source t rest) (sym is.1) fits)
 
@@ -258,6 +261,7 @@ list_serves : (is_planned : Bool) → Serves from_list is_planned (λ source tol
 list_serves is_planned = record {
   gives = λ x before after op answer rest is port. (ap (λ l. first_of_list l) is, ap (λ l. rest_of_list l) is);
   plans = λ x before nth rest is. is;
+  accepts = λ x before bits rest is. is;
 }
 
 pub prints_one : PrintsOne
@@ -268,25 +272,30 @@ prints_one is_planned sections before left text did history p alone =
 
 -- answers as the plan of a port says
 abbrev PlannedFits : PlannedPort → Option Told → List (Option ℕ) → Type 0
-PlannedFits port told rest = (t : Told) × (told ≡ Some t) × (port ≡ record { calls = t.calls; plan = t.plan })
+PlannedFits port told rest = (t : Told) × (told ≡ Some t) × (port ≡ record { calls = t.calls; plan = t.plan; bits = t.bits })
 
 plan_gives : (x : PlannedPort) (before after : Option Told) (op : Option Op) (answer : Option ℕ) (rest : List (Option ℕ)) → PlannedFits x before (answer ∷ rest) → PortAfter true op (answer ∷ []) before after
-    → (from_plan.next x ≡ answer) × PlannedFits (from_plan.behind op x) after rest
+    → (from_plan.next op x ≡ answer) × PlannedFits (from_plan.behind op x) after rest
 plan_gives x before after op answer rest (t, is, same) (was, was_is, becomes, as_planned) = (
-  ap (λ (port : PlannedPort). planned_answer port.plan (counted_up port.calls)) same ∙ sym (subst (λ (o : Option Told). IfSome o (λ told. answer ≡ planned_answer told.plan (counted_up told.calls))) is (as_planned refl)),
-  (record { calls = counted_up t.calls; plan = t.plan; last = Some (record { op = was; answer = answer }) }, becomes ∙ ap (λ (o : Option Told). with_call was answer o) is, ap (λ (port : PlannedPort). from_plan.behind op port) same),
+  ap (λ (port : PlannedPort). planned_answer (bits_asked op port.bits) port.plan (counted_up port.calls)) same
+      ∙ ap (λ (o : Option Op). planned_answer (bits_asked o t.bits) t.plan (counted_up t.calls)) was_is
+      ∙ sym (subst (λ (o : Option Told). IfSome o (λ told. answer ≡ planned_for was told)) is (as_planned refl)),
+  (record { calls = counted_up t.calls; plan = t.plan; bits = t.bits; last = Some (record { op = was; answer = answer }) }, becomes ∙ ap (λ (o : Option Told). with_call was answer o) is, ap (λ (port : PlannedPort). from_plan.behind op port) same),
 )
 
 plan_plans : (x : PlannedPort) (before : Option Told) (nth : ℕ) (rest : List (Option ℕ)) → PlannedFits x before rest → PlannedFits (from_plan.planned nth x) (with_plan nth before) rest
 plan_plans x before nth rest (t, is, same) = (record t { plan = planned_call t.calls nth }, ap (λ (o : Option Told). with_plan nth o) is, ap (λ (port : PlannedPort). from_plan.planned nth port) same)
 
+plan_accepts : (x : PlannedPort) (before : Option Told) (bits : ℕ) (rest : List (Option ℕ)) → PlannedFits x before rest → PlannedFits (from_plan.accepted bits x) (with_bits bits before) rest
+plan_accepts x before bits rest (t, is, same) = (record t { bits = bits }, ap (λ (o : Option Told). with_bits bits o) is, ap (λ (port : PlannedPort). from_plan.accepted bits port) same)
+
 plan_serves : Serves from_plan true PlannedFits
-plan_serves = record { gives = plan_gives; plans = plan_plans }
+plan_serves = record { gives = plan_gives; plans = plan_plans; accepts = plan_accepts }
 
 pub answers_as_planned : AnswersAsPlanned
 answers_as_planned sections t left text did history p alone =
     let told : tells_in history ≡ told_by did = ap (λ (l : List OneEntry). tells_in l) alone.entries in
-    let s = session_runs from_plan true PlannedFits plan_serves sections (Some t) left text did (record { calls = t.calls; plan = t.plan }) p (whole_rest history did alone) opens_steady (t, refl, refl) in
+    let s = session_runs from_plan true PlannedFits plan_serves sections (Some t) left text did (record { calls = t.calls; plan = t.plan; bits = t.bits }) p (whole_rest history did alone) opens_steady (t, refl, refl) in
     told ∙ sym s.1
 
 -- answers in the order of a list, of which a port tells how many there were so far, and the last
@@ -294,17 +303,20 @@ abbrev PortFits : Told → List (Option ℕ) → List (Option ℕ) → Option To
 PortFits t all source told rest = (source ≡ rest) × (u : Told) × (told ≡ Some u) × (calls_after u.calls rest ≡ calls_after t.calls all) × (last_or (answered_last u.last) rest ≡ last_or (answered_last t.last) all)
 
 port_gives : (is_planned : Bool) (t : Told) (all : List (Option ℕ)) (x : List (Option ℕ)) (before after : Option Told) (op : Option Op) (answer : Option ℕ) (rest : List (Option ℕ)) → PortFits t all x before (answer ∷ rest)
-    → PortAfter is_planned op (answer ∷ []) before after → (from_list.next x ≡ answer) × PortFits t all (from_list.behind op x) after rest
+    → PortAfter is_planned op (answer ∷ []) before after → (from_list.next op x ≡ answer) × PortFits t all (from_list.behind op x) after rest
 port_gives is_planned t all x before after op answer rest (is, u, told, count, last) (was, was_is, becomes, as_planned) = (
   ap (λ l. first_of_list l) is,
-  (ap (λ l. rest_of_list l) is, record { calls = counted_up u.calls; plan = u.plan; last = Some (record { op = was; answer = answer }) }, becomes ∙ ap (λ (o : Option Told). with_call was answer o) told, count, last),
+  (ap (λ l. rest_of_list l) is, record { calls = counted_up u.calls; plan = u.plan; bits = u.bits; last = Some (record { op = was; answer = answer }) }, becomes ∙ ap (λ (o : Option Told). with_call was answer o) told, count, last),
 )
 
 port_plans : (t : Told) (all : List (Option ℕ)) (x : List (Option ℕ)) (before : Option Told) (nth : ℕ) (rest : List (Option ℕ)) → PortFits t all x before rest → PortFits t all x (with_plan nth before) rest
 port_plans t all x before nth rest (is, u, told, count, last) = (is, record u { plan = planned_call u.calls nth }, ap (λ (o : Option Told). with_plan nth o) told, count, last)
 
+port_accepts : (t : Told) (all : List (Option ℕ)) (x : List (Option ℕ)) (before : Option Told) (bits : ℕ) (rest : List (Option ℕ)) → PortFits t all x before rest → PortFits t all x (with_bits bits before) rest
+port_accepts t all x before bits rest (is, u, told, count, last) = (is, record u { bits = bits }, ap (λ (o : Option Told). with_bits bits o) told, count, last)
+
 port_serves : (is_planned : Bool) (t : Told) (all : List (Option ℕ)) → Serves from_list is_planned (PortFits t all)
-port_serves is_planned t all = record { gives = port_gives is_planned t all; plans = port_plans t all }
+port_serves is_planned t all = record { gives = port_gives is_planned t all; plans = port_plans t all; accepts = port_accepts t all }
 
 port_answers : (is_planned : Bool) (sections : List SaidSection) (t : Told) (left : Option Told) (text : List ℕ) (did : List OneDeed) (history : List OneEntry)
     → PlayedSession is_planned sections (Some t) text did left → IsAlone history did → TellsAfter t (tells_in history) left
@@ -318,7 +330,7 @@ abbrev SamePort : TellingPort → Option Told → List (Option ℕ) → Type 0
 SamePort x told rest = (x.left ≡ rest) × (x.told ≡ told)
 
 telling_gives : (is_planned : Bool) (x : TellingPort) (before after : Option Told) (op : Option Op) (answer : Option ℕ) (rest : List (Option ℕ)) → SamePort x before (answer ∷ rest)
-    → PortAfter is_planned op (answer ∷ []) before after → (from_port.next x ≡ answer) × SamePort (from_port.behind op x) after rest
+    → PortAfter is_planned op (answer ∷ []) before after → (from_port.next op x ≡ answer) × SamePort (from_port.behind op x) after rest
 telling_gives is_planned x before after op answer rest (left_is, told_is) (was, was_is, becomes, as_planned) = (
   ap (λ l. first_of_list l) left_is,
   (
@@ -331,6 +343,7 @@ telling_serves : (is_planned : Bool) → Serves from_port is_planned SamePort
 telling_serves is_planned = record {
   gives = telling_gives is_planned;
   plans = λ x before nth rest is. (is.0, ap (λ (o : Option Told). with_plan nth o) is.1);
+  accepts = λ x before bits rest is. (is.0, ap (λ (o : Option Told). with_bits bits o) is.1);
 }
 
 port_whole : (is_planned : Bool) (sections : List SaidSection) (before left : Option Told) (text : List ℕ) (did : List OneDeed) (history : List OneEntry)

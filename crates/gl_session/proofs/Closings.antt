@@ -13,7 +13,7 @@ use Rattle.gl_base.specs.declared.command.TheConstants.{GET_LINE}
 use Rattle.gl_base.specs.declared.errno.Errno.TheVariants.{BadF}
 use Rattle.gl_base.specs.declared.lines.Lines.{Lines}
 use Rattle.gl_base.specs.declared.operation.Do.{Do}
-use Rattle.gl_base.specs.declared.operation.Do.TheVariants.{Probe as DoProbe, Unplug as DoUnplug, MakeDir as DoMakeDir, RemoveDir as DoRemoveDir, Write as DoWrite, Read as DoRead, Live as DoLive, Tick as DoTick, Pin as DoPin, Irq as DoIrq, Pull as DoPull, Level as DoLevel, OpenChip as DoOpenChip, Find as DoFind, Ioctl as DoIoctl, ReadFile, Poll, Close as DoClose, Plan}
+use Rattle.gl_base.specs.declared.operation.Do.TheVariants.{Probe as DoProbe, Unplug as DoUnplug, MakeDir as DoMakeDir, RemoveDir as DoRemoveDir, Write as DoWrite, Read as DoRead, Live as DoLive, Tick as DoTick, Pin as DoPin, Irq as DoIrq, Pull as DoPull, Level as DoLevel, OpenChip as DoOpenChip, Find as DoFind, Ioctl as DoIoctl, ReadFile, Poll, Close as DoClose, Plan, Accept}
 use Rattle.gl_base.specs.declared.operation.Got.{Got}
 use Rattle.gl_uapi.specs.Command.{command_of}
 use Rattle.gl_world.specs.Deeds.{deed_in, deeds_from, deeds_of, entries_in}
@@ -46,7 +46,7 @@ use Rattle.gl_talk.specs.Talk.{closes_all, quits, says}
 use Rattle.gl_talk.proofs.FileNumbers.{files_close_by_number}
 use Rattle.gl_talk.proofs.InARow.{are_statements_and_the_end, come_in_parts}
 use Rattle.gl_asking.specs.declared.kinds.Asking.{Asking}
-use Rattle.gl_asking.specs.declared.kinds.Asking.TheVariants.{Calls, Plans, Refuses}
+use Rattle.gl_asking.specs.declared.kinds.Asking.TheVariants.{Calls, Plans, Accepts, Refuses}
 use Rattle.gl_asking.specs.Asking.{asking, buffer_of, files_behind, got_of, lines_named, made_by as made_of_kind, made_on, on_file, once, with_request}
 use Rattle.gl_asking.specs.Driving.{op_asked}
 use Rattle.gl_session.specs.Alone.{IsAlone, PlayedSession}
@@ -343,6 +343,7 @@ module _ (is_planned : Bool) (actor : ℕ) (w : World) (es : List OneEntry) (fil
       made_fresh (DoClose slot) is = changed (DoClose slot) e.reply e.wrote w.next (without_file slot files) (omega arith) refl (sym (numbered_left slot files))
           (each_left (λ (g : OpenFile). g.fd < last_number) slot files (below_more w.next last_number files no_fewer under)) (rises_left slot files rising)
       made_fresh (Plan nth) is = unchanged (Plan nth) e.reply e.wrote refl refl
+      made_fresh (Accept bits) is = unchanged (Accept bits) e.reply e.wrote refl refl
 
 -- an actor's entries stay those of whole calls
 made_more : (calls : List (Called Kept)) (called : Called Kept) → made_by (calls ++ called ∷ []) ≡ made_by calls ++ called.made
@@ -358,6 +359,8 @@ of_calls is_planned actor entries (Calls call) op e before after so_far is =
       are = ap (λ (l : List OneEntry). l ++ entries_in e.did) so_far.are ∙ sym (made_more so_far.calls called);
     }
 of_calls is_planned actor entries (Plans nth) op e before after so_far is =
+    subst (λ l. AreOfCalls StandsFor actor l) (sym (ap (λ (did : List OneDeed). entries ++ entries_in did) is.0.did ∙ append-nil entries)) so_far
+of_calls is_planned actor entries (Accepts bits) op e before after so_far is =
     subst (λ l. AreOfCalls StandsFor actor l) (sym (ap (λ (did : List OneDeed). entries ++ entries_in did) is.0.did ∙ append-nil entries)) so_far
 of_calls is_planned actor entries (Refuses errno) op e before after so_far is =
     subst (λ l. AreOfCalls StandsFor actor l) (sym (ap (λ (did : List OneDeed). entries ++ entries_in did) is.0.did ∙ append-nil entries)) so_far

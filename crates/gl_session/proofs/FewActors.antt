@@ -10,6 +10,7 @@ use Rattle.gl_script.specs.Columns.{columns}
 use Rattle.gl_script.specs.Faults.{spot}
 use Rattle.gl_script.specs.Section.{SaidSection}
 use Rattle.gl_script.specs.Sentence.{Before, Sentence, actor_count, actors_in, head_fault, is_actor, is_out_of_order, to_list}
+use Rattle.gl_script.specs.declared.version.Version.{Version}
 use Rattle.gl_script.specs.Spelled.{AreHead, IsHeaded, IsSections, behind_header, counted}
 use Rattle.gl_script.specs.declared.refusal.RefusalKind.TheVariants.{Limit, Section}
 use Rattle.gl_script.specs.declared.refusal.Spot.{Spot}
@@ -55,8 +56,8 @@ current_counted (Some section) = (λ i. one_if (same_test section.kind i)) ∙ a
     alone true = refl
     alone false = refl
 
-before_counted : (complete : List SaidSection) (current : Option SaidSection) → actor_count (behind_header complete current) ≡ actors (complete ++ to_list current)
-before_counted complete current = (λ i. all_counted complete i + current_counted current i) ∙ sym (actors_append complete (to_list current))
+before_counted : (version : Version) (complete : List SaidSection) (current : Option SaidSection) → actor_count (behind_header version complete current) ≡ actors (complete ++ to_list current)
+before_counted version complete current = (λ i. all_counted complete i + current_counted current i) ∙ sym (actors_append complete (to_list current))
 
 none_first : (first later : Option Spot) → option_or first later ≡ None → (first ≡ None) × (later ≡ None)
 none_first None later e = (refl, e)
@@ -67,13 +68,13 @@ not_when true fault e = cc
 not_when false fault e = refl
 
 -- a head is in its place only where there are fewer before it, if it is an actor's
-head_counted : (complete : List SaidSection) (current : Option SaidSection) (section : SaidSection) (words : List Span) → AreHead (behind_header complete current) section words → actors (complete ++ to_list current) ≤ 16
+head_counted : (version : Version) (complete : List SaidSection) (current : Option SaidSection) (section : SaidSection) (words : List Span) → AreHead (behind_header version complete current) section words → actors (complete ++ to_list current) ≤ 16
     → actors (complete ++ to_list current) + one_if (is_kind Actor section.kind) ≤ 16
-head_counted complete current section [] h few = absurd h
-head_counted complete current section (first ∷ words) h few = by section.kind (not_when (is_actor section.kind && nat_le 16 (actor_count before)) (spot first.at Limit) second.0)
+head_counted version complete current section [] h few = absurd h
+head_counted version complete current section (first ∷ words) h few = by section.kind (not_when (is_actor section.kind && nat_le 16 (actor_count before)) (spot first.at Limit) second.0)
   where
     before : Before
-    before = behind_header complete current
+    before = behind_header version complete current
 
     tests : List (Option Spot)
     tests = when (is_out_of_order section.kind before.current) (spot first.at Section) ∷ when (is_actor section.kind && nat_le 16 (actor_count before)) (spot first.at Limit) ∷ head_fault section.kind before (end_of first) words ∷ []
@@ -85,27 +86,27 @@ head_counted complete current section (first ∷ words) h few = by section.kind 
     second = none_first (when (is_actor section.kind && nat_le 16 (actor_count before)) (spot first.at Limit)) _ later
 
     same : actor_count before ≡ actors (complete ++ to_list current)
-    same = before_counted complete current
+    same = before_counted version complete current
 
     by : (kind : SectionKind) → (is_actor kind && nat_le 16 (actor_count before)) ≡ false → actors (complete ++ to_list current) + one_if (is_kind Actor kind) ≤ 16
     by Setup e = omega arith
     by Actor e = let fewer : actor_count before < 16 = grind (arith, nat_tests, e) in let s = same in omega arith
     by After e = omega arith
 
-sections_counted : (sections : List SaidSection) (complete : List SaidSection) (current : Option SaidSection) (lines : List Span) → IsSections complete current lines sections → actors (complete ++ to_list current) ≤ 16
+sections_counted : (version : Version) (sections : List SaidSection) (complete : List SaidSection) (current : Option SaidSection) (lines : List Span) → IsSections version complete current lines sections → actors (complete ++ to_list current) ≤ 16
     → actors (complete ++ to_list current) + actors sections ≤ 16
-sections_counted [] complete current lines h few = omega arith
-sections_counted (section ∷ sections) complete current [] h few = absurd h
-sections_counted (section ∷ sections) complete current (head ∷ lines) h few =
-    let here = head_counted complete current section (columns head.text) h.0 few in
+sections_counted version [] complete current lines h few = omega arith
+sections_counted version (section ∷ sections) complete current [] h few = absurd h
+sections_counted version (section ∷ sections) complete current (head ∷ lines) h few =
+    let here = head_counted version complete current section (columns head.text) h.0 few in
     let more : actors ((complete ++ to_list current) ++ section ∷ []) ≡ actors (complete ++ to_list current) + one_if (is_kind Actor section.kind) =
     (let a = actors_append (complete ++ to_list current) (section ∷ []) in let b = actors_cons section [] in omega arith) in
-    let rest = sections_counted sections (complete ++ to_list current) (Some section) h.1 h.4 (omega arith) in
+    let rest = sections_counted version sections (complete ++ to_list current) (Some section) h.1 h.4 (omega arith) in
     let all = actors_cons section sections in omega arith
 
 headed_counted : (lines : List Span) (sections : List SaidSection) → IsHeaded lines sections → actors sections ≤ 16
 headed_counted [] sections h = absurd h
-headed_counted (header ∷ lines) sections h = let c = sections_counted sections [] None lines h.1 (omega arith) in omega arith
+headed_counted (header ∷ lines) sections h = let c = sections_counted h.0 sections [] None lines h.2 (omega arith) in omega arith
 
 pub few_actors : (bytes : List ℕ) (sections : List SaidSection) → Sentence bytes sections → length (actor_sections sections) ≤ 16
 few_actors bytes sections sentence = headed_counted (counted (lines_of bytes)) sections (spelled bytes sections sentence).headed

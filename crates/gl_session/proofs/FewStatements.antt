@@ -9,7 +9,8 @@ use Rattle.gl_base.specs.declared.limits.TheConstants.{COST_MAX}
 use Rattle.gl_script.specs.Columns.{columns}
 use Rattle.gl_script.specs.Cost.{session_cost}
 use Rattle.gl_script.specs.Section.{SaidSection}
-use Rattle.gl_script.specs.Sentence.{Before, Sentence, behind, behind_all, behind_counted, behind_head, cost_fault, fault_from, is_counted, kind_of, nothing, sections_in, sections_said, to_list, with_statement}
+use Rattle.gl_script.specs.declared.version.Version.{Version}
+use Rattle.gl_script.specs.Sentence.{Before, Sentence, behind, behind_all, behind_counted, behind_head, behind_version, cost_fault, fault_from, is_counted, kind_of, nothing, sections_in, sections_said, to_list, with_statement}
 use Rattle.gl_script.specs.declared.refusal.Refusal.{Refusal}
 use Rattle.gl_script.specs.declared.refusal.RefusalKind.TheVariants.{Cost, TooLong}
 use Rattle.gl_script.specs.declared.section.SectionKind.{SectionKind}
@@ -83,11 +84,11 @@ head_adds None before line words =
 
 counted_adds : (words : List Span) (before : Before) (line : Span) → statement_count (sections_in (behind_counted before line words)) ≤ statement_count (sections_in before) + 1
 counted_adds [] before line = omega arith
-counted_adds (first ∷ words) before line = by before.has_header
+counted_adds (first ∷ words) before line = by before.version
   where
-    by : (b : Bool) → statement_count (sections_in (if b then behind_head (kind_of first.text) before line words else record { has_header = true; complete = before.complete; current = before.current })) ≤ statement_count (sections_in before) + 1
-    by true = head_adds (kind_of first.text) before line words
-    by false = omega arith
+    by : (version : Option Version) → statement_count (sections_in (behind_version version before line first words)) ≤ statement_count (sections_in before) + 1
+    by None = omega arith
+    by (Some version) = head_adds (kind_of first.text) before line words
 
 line_adds : (before : Before) (line : Span) → statement_count (sections_in (behind before line)) ≤ statement_count (sections_in before) + length line.text
 line_adds before line = by (is_counted (columns line.text)) refl

@@ -8,13 +8,13 @@ use Rattle.gl_base.specs.declared.limits.TheConstants.{PLACES}
 use Rattle.gl_base.specs.declared.errno.Errno.{Errno}
 use Rattle.gl_base.specs.declared.errno.Errno.TheVariants.{Perm, NoEnt, Io, NxIo, BadF, Again, NoMemory, Fault, Busy, Exist, NoDev, Inval, MFile, NoSpc, OpNotSupp, Full}
 use Rattle.gl_base.specs.declared.operation.Do.{Do}
-use Rattle.gl_base.specs.declared.operation.Do.TheVariants.{Live as DoLive, OpenChip as DoOpenChip, Plan as DoPlan, ReadFile as DoReadFile}
+use Rattle.gl_base.specs.declared.operation.Do.TheVariants.{Live as DoLive, OpenChip as DoOpenChip, Plan as DoPlan, Accept as DoAccept, ReadFile as DoReadFile}
 use Rattle.gl_base.specs.declared.operation.Got.{Got}
 use Rattle.gl_base.specs.declared.operation.Got.TheVariants.{Bytes as GotBytes, Done as GotDone, Number as GotNumber, Refused as GotRefused}
 use Rattle.gl_base.specs.declared.kind.Kind.TheVariants.{Simulated}
 use Rattle.gl_world.specs.Deeds.{deeds_of, entries_in}
 use Rattle.gl_gate.specs.Grown.{Grew}
-use Rattle.gl_driver.specs.Told.{PortAfter, Told, with_plan}
+use Rattle.gl_driver.specs.Told.{PortAfter, Told, with_bits, with_plan}
 use Rattle.gl_gate.specs.Values.{PassValue}
 use Rattle.gl_core.specs.Kept.{Kept}
 use Rattle.gl_model.specs.declared.gift.Gift.{Gift}
@@ -37,7 +37,7 @@ use Rattle.gl_chip.specs.Values.{OneView}
 use Rattle.gl_chip.proofs.Telling.{none_own, once_tells, removal_tells}
 use Rattle.gl_session.specs.Answers.{came, refused_got}
 use Rattle.gl_asking.specs.declared.kinds.Asking.{Asking}
-use Rattle.gl_asking.specs.declared.kinds.Asking.TheVariants.{Calls, Plans, Refuses}
+use Rattle.gl_asking.specs.declared.kinds.Asking.TheVariants.{Calls, Plans, Accepts, Refuses}
 use Rattle.gl_asking.specs.Asking.{asking, at_place, files_behind, got_by, got_of, has_lines, on_file, opened, probes, reads_from, written_over}
 use Rattle.gl_asking.specs.Driving.{op_asked}
 use Rattle.gl_session.specs.declared.files.FileRow.{FileRow}
@@ -288,6 +288,13 @@ pub plan_outcome : {P : Type 0} (is_planned : Bool) (nth : ℕ) (old new : PassV
 plan_outcome is_planned nth old new told before after same port = λ kept.
     subst (λ (w : OneView). Performs is_planned (DoPlan nth) (Ok GotDone) old.view (carried kept (told before)) w (carried kept (told after))) (sym (ap (λ pass. pass.view) same))
     (nothing_done is_planned (DoPlan nth) old.view (carried kept (told before)) (carried kept (told after)) (Plans nth) DoneReply GotDone refl refl refl (record { did = refl; reply_is = refl; bytes_are = refl }, port))
+
+-- bits that the port accepts
+pub accept_outcome : {P : Type 0} (is_planned : Bool) (bits : ℕ) (old new : PassValue Kept Call Reply Gift) (told : P → Option Told) (before after : P) → new ≡ old → told after ≡ with_bits bits (told before)
+    → PerformsAlone is_planned (DoAccept bits) (Ok GotDone) old.view (told before) new.view (told after)
+accept_outcome is_planned bits old new told before after same port = λ kept.
+    subst (λ (w : OneView). Performs is_planned (DoAccept bits) (Ok GotDone) old.view (carried kept (told before)) w (carried kept (told after))) (sym (ap (λ pass. pass.view) same))
+    (nothing_done is_planned (DoAccept bits) old.view (carried kept (told before)) (carried kept (told after)) (Accepts bits) DoneReply GotDone refl refl refl (record { did = refl; reply_is = refl; bytes_are = refl }, port))
 
 -- the same of a chip that is kept in a slot, for which memory may be wanted
 pub kept_outcome : {P : Type 0} (is_planned : Bool) (slot : ℕ) (word : List ℕ) (v w : OneView) (told : P → Option Told) (old new : P) (kept after : List OpenFile) (got : Result Got Errno) (result : Result ChipFile Errno)

@@ -12,7 +12,7 @@ use Rattle.gl_world.specs.History.{entries_of, entry, fold}
 use Rattle.gl_world.proofs.Deeds.{deeds_entries, entries_in_append}
 use Rattle.gl_world.proofs.Histories.{entries_append}
 use Rattle.gl_args.specs.Program.{Program, done}
-use Rattle.gl_driver.specs.Told.{PortAfter, Told, new_port, with_call, with_plan}
+use Rattle.gl_driver.specs.Told.{PortAfter, Told, new_port, with_bits, with_call, with_plan}
 use Rattle.gl_base.specs.declared.op.Op.{Op}
 use Rattle.gl_model.specs.Entries.{begins}
 use Rattle.gl_model.specs.declared.device_call.DeviceCall.{DeviceCall}
@@ -27,7 +27,7 @@ use Rattle.gl_core.specs.Device.{OneDeed, OneEntry, call_tells, core, tells_in}
 use Rattle.gl_check.specs.Tells.{TellsAfter, answered_last, calls_after, last_or}
 use Rattle.gl_check.specs.Programs.{after_of, setup_of}
 use Rattle.gl_asking.specs.declared.kinds.Asking.{Asking}
-use Rattle.gl_asking.specs.declared.kinds.Asking.TheVariants.{Calls, Plans, Refuses}
+use Rattle.gl_asking.specs.declared.kinds.Asking.TheVariants.{Calls, Plans, Accepts, Refuses}
 use Rattle.gl_asking.specs.Asking.{asking}
 use Rattle.gl_asking.specs.Driving.{op_asked}
 use Rattle.gl_check.specs.Many.{ActorPlayed, ActorsPlayed, AllPlayed, Many, PlannedTells, PortsTell, Texts, actor_sections, all_new, program_of, silent}
@@ -46,6 +46,7 @@ module _ (is_planned : Bool) (n : ℕ) where
   done_silenced : (a : Asking) (op : Option Op) (e : Exchange) (before after : Option Told) → IsDone is_planned n a op e before after → IsDone false n a op e None None
   done_silenced (Calls call) op e before after h = record { makes = h.makes; reply_is = h.reply_is; bytes_are = h.bytes_are; port = port_silenced op (tells_in (entries_in e.did)) before after h.port }
   done_silenced (Plans nth) op e before after h = (record { did = h.0.did; reply_is = h.0.reply_is; bytes_are = h.0.bytes_are }, refl)
+  done_silenced (Accepts bits) op e before after h = (record { did = h.0.did; reply_is = h.0.reply_is; bytes_are = h.0.bytes_are }, refl)
   done_silenced (Refuses errno) op e before after h = (record { did = h.0.did; reply_is = h.0.reply_is; bytes_are = h.0.bytes_are }, refl)
 
   module _ {A : Type 0} where
@@ -70,7 +71,7 @@ module _ (is_planned : Bool) (n : ℕ) where
       → ((u : Told) → between ≡ Some u → TellsAfter u rest left) → TellsAfter t (answers ++ rest) left
   port_on op [] t before between left rest is few h later = later t (h ∙ is)
   port_on op (answer ∷ []) t before between left rest is few h later =
-      let r = later (record { calls = counted_up t.calls; plan = t.plan; last = Some (record { op = h.0; answer = answer }) }) (h.2 ∙ ap (with_call h.0 answer) is) in
+      let r = later (record { calls = counted_up t.calls; plan = t.plan; bits = t.bits; last = Some (record { op = h.0; answer = answer }) }) (h.2 ∙ ap (with_call h.0 answer) is) in
       record { told = r.told; left_is = r.left_is; calls = r.calls; last = r.last }
   port_on op (answer ∷ other ∷ answers) t before between left rest is few h later = absurd (omega arith)
 
@@ -141,7 +142,9 @@ module _ {A : Type 0} (is_planned : Bool) (n : ℕ) where
       by : (a : Asking) → IsDone is_planned n a (op_asked s.files e.what) e s.told h.1.told → ((u : Told) → h.1.told ≡ Some u → TellsAfter u rest r.told) → TellsAfter t (tells_in (entries_in e.did) ++ rest) r.told
       by (Calls call) d on = port_on is_planned n (op_asked s.files e.what) (tells_in (entries_in e.did)) t s.told h.1.told r.told rest is (makes_few n e.answer (entries_in e.did) e.closed call d.makes) d.port on
       by (Plans nth) d on = subst (λ (l : List OneDeed). TellsAfter t (tells_in (entries_in l) ++ rest) r.told) (sym d.0.did)
-          (let o = on (record { calls = t.calls; plan = planned_call t.calls nth; last = t.last }) (d.1 ∙ ap (with_plan nth) is) in record { told = o.told; left_is = o.left_is; calls = o.calls; last = o.last })
+          (let o = on (record { calls = t.calls; plan = planned_call t.calls nth; bits = t.bits; last = t.last }) (d.1 ∙ ap (with_plan nth) is) in record { told = o.told; left_is = o.left_is; calls = o.calls; last = o.last })
+      by (Accepts bits) d on = subst (λ (l : List OneDeed). TellsAfter t (tells_in (entries_in l) ++ rest) r.told) (sym d.0.did)
+          (let o = on (record { calls = t.calls; plan = t.plan; bits = bits; last = t.last }) (d.1 ∙ ap (with_bits bits) is) in record { told = o.told; left_is = o.left_is; calls = o.calls; last = o.last })
       by (Refuses errno) d on = subst (λ (l : List OneDeed). TellsAfter t (tells_in (entries_in l) ++ rest) r.told) (sym d.0.did) (on t (d.1 ∙ is))
 
 -- of all actors

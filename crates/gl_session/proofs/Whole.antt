@@ -19,7 +19,7 @@ use Rattle.gl_core.specs.Device.{OneDeed, OneEntry, core, tells_in}
 use Rattle.gl_session.specs.Alone.{Part, PlayedSession}
 use Rattle.gl_check.specs.Programs.{actor_of, after_of, setup_of}
 use Rattle.gl_asking.specs.declared.kinds.Asking.{Asking}
-use Rattle.gl_asking.specs.declared.kinds.Asking.TheVariants.{Calls, Plans, Refuses}
+use Rattle.gl_asking.specs.declared.kinds.Asking.TheVariants.{Calls, Plans, Accepts, Refuses}
 use Rattle.gl_asking.specs.Asking.{asking}
 use Rattle.gl_asking.specs.Files.{OpenFile}
 use Rattle.gl_session.specs.OneActor.{CameWithEntries, HasPlayed, StoppedBelow}
@@ -39,6 +39,7 @@ quiet_driver Own none port place op own may = subst (λ (l : List OneEntry). May
 pub call_of : (a : Asking) → IsCall a → (call : DeviceCall) × (a ≡ Calls call)
 call_of (Calls call) is = (call, refl)
 call_of (Plans nth) is = absurd is
+call_of (Accepts bits) is = absurd is
 call_of (Refuses errno) is = absurd is
 
 module _ (is_planned : Bool) where

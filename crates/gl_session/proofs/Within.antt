@@ -11,7 +11,7 @@ use Rattle.gl_base.specs.declared.errno.Errno.{Errno}
 use Rattle.gl_base.specs.declared.errno.Errno.TheVariants.{NoEnt, Inval}
 use Rattle.gl_base.specs.declared.limits.TheConstants.{PLACES}
 use Rattle.gl_base.specs.declared.operation.Do.{Do}
-use Rattle.gl_base.specs.declared.operation.Do.TheVariants.{Probe as DoProbe, Unplug as DoUnplug, MakeDir as DoMakeDir, RemoveDir as DoRemoveDir, Write as DoWrite, Read as DoRead, Live as DoLive, Tick as DoTick, Pin as DoPin, Irq as DoIrq, Pull as DoPull, Level as DoLevel, OpenChip as DoOpenChip, Find as DoFind, Ioctl as DoIoctl, ReadFile, Poll, Close as DoClose, Plan}
+use Rattle.gl_base.specs.declared.operation.Do.TheVariants.{Probe as DoProbe, Unplug as DoUnplug, MakeDir as DoMakeDir, RemoveDir as DoRemoveDir, Write as DoWrite, Read as DoRead, Live as DoLive, Tick as DoTick, Pin as DoPin, Irq as DoIrq, Pull as DoPull, Level as DoLevel, OpenChip as DoOpenChip, Find as DoFind, Ioctl as DoIoctl, ReadFile, Poll, Close as DoClose, Plan, Accept}
 use Rattle.gl_base.specs.declared.operation.Got.{Got}
 use Rattle.gl_uapi.specs.Command.{command_of, commands, number_of}
 use Rattle.gl_uapi.specs.declared.commands.Command.{Command}
@@ -46,7 +46,7 @@ use Rattle.gl_core.specs.Device.{OneDeed, OneEntry}
 use Rattle.gl_session.specs.Alone.{Part}
 use Rattle.gl_check.specs.Programs.{actor_of, after_of, setup_of}
 use Rattle.gl_asking.specs.declared.kinds.Asking.{Asking}
-use Rattle.gl_asking.specs.declared.kinds.Asking.TheVariants.{Calls, Plans, Refuses}
+use Rattle.gl_asking.specs.declared.kinds.Asking.TheVariants.{Calls, Plans, Accepts, Refuses}
 use Rattle.gl_asking.specs.Asking.{asking, at_place, buffer_of, files_behind, has_lines, lines_named, made_by, made_on, on_file, once, opened, with_request}
 use Rattle.gl_asking.specs.Driving.{op_asked}
 use Rattle.gl_asking.specs.Files.{OpenFile, chip_file, file_in, is_in, line_file, without_file}
@@ -104,6 +104,7 @@ call_entered n (Some place) true call answer es makes = let least = call_least c
 abbrev MostOf : ℕ → Asking → Type 0
 MostOf k (Calls call) = call_entries call ≤ k
 MostOf k (Plans nth) = Unit {0}
+MostOf k (Accepts bits) = Unit {0}
 MostOf k (Refuses errno) = Unit {0}
 
 no_deeds : (did : List OneDeed) (k : ℕ) → did ≡ [] → length did ≤ k
@@ -188,6 +189,7 @@ op_most files (ReadFile slot len) = on_file_most (file_in slot files) _ 1 (λ f.
 op_most files (Poll slot) = on_file_most (file_in slot files) _ 1 (λ f. omega arith)
 op_most files (DoClose slot) = on_file_most (file_in slot files) _ 1 (λ f. omega arith)
 op_most files (Plan nth) = tt
+op_most files (Accept bits) = tt
 
 -- The open files behind an operation
 
@@ -227,6 +229,7 @@ module _ (is_planned : Bool) (actor : ℕ) where
   asked_most : (a : Asking) (op : Option Op) (k : ℕ) (e : Exchange) (before after : Option Told) → MostOf k a → IsDone is_planned actor a op e before after → length e.did ≤ k
   asked_most (Calls call) op k e before after most is = let made = call_entered actor (guard_of call) e.closed call e.answer (entries_in e.did) is.makes.1 in let same = length_entries e.did in omega arith
   asked_most (Plans nth) op k e before after most is = no_deeds e.did k is.0.did
+  asked_most (Accepts bits) op k e before after most is = no_deeds e.did k is.0.did
   asked_most (Refuses errno) op k e before after most is = no_deeds e.did k is.0.did
 
   -- the entries of an operation and the files behind it come to what it costs and the files before it
@@ -265,6 +268,7 @@ module _ (is_planned : Bool) (actor : ℕ) where
               let no_deed = no_deeds e.did 0 (subst (λ (f : Option OpenFile). IsDone is_planned actor (on_file f (λ file. once (Close file.fd))) None e before after) none is).0.did in omega arith
           closes (Some file) found is = let fewer = closes_one (is_in slot) files file found in omega arith
       by (Plan nth) most is = omega arith
+      by (Accept bits) most is = omega arith
 
   -- turns one after another
   within : (turns : List Turn) (n : ℕ) (program : Program Names) (s : Carried) (rest : Program Names) (r : Carried) → CostsAtMost n program → Follows is_planned actor program s turns rest r
@@ -299,6 +303,7 @@ least_costs false false false false = omega arith
 abbrev is_call : Asking → Bool
 is_call (Calls call) = true
 is_call (Plans nth) = false
+is_call (Accepts bits) = false
 is_call (Refuses errno) = false
 
 -- a call of the device costs something, or closes a file
@@ -326,6 +331,7 @@ call_costs files (DoClose slot) call is = by (file_in slot files) refl
     by None none = absurd (true≢false (sym (ap is_call is) ∙ ap (λ (f : Option OpenFile). is_call (on_file f (λ file. once (Close file.fd)))) none))
     by (Some file) found = let fewer = closes_one (is_in slot) files file found in omega arith
 call_costs files (Plan nth) call is = absurd (true≢false (sym (ap is_call is)))
+call_costs files (Accept bits) call is = absurd (true≢false (sym (ap is_call is)))
 
 pub calls_come_below_cost : CallsComeBelowCost
 calls_come_below_cost is_planned actor n program s turns what later r call costs follows is =

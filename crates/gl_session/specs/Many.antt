@@ -8,7 +8,7 @@ use Rattle.gl_check.specs.Many.{AllPlayed, Many, PlannedTells, PortsTell, Texts,
 
 -- What a session with two or more actors came to, over ports that told this before and tell that now: its history and its texts are those
 -- of Many, and no longer than the session costs. Each actor's port tells all that its statements and its calls make of what it told
--- before: how many calls, the plan, and the operation and the answer of the last call; and a planned driver answered each call as the port
+-- before: how many calls, the plan, the accepted bits, and the operation and the answer of the last call; and a planned driver answered each call as the port
 -- then planned (`ports`). So where the driver is planned and all ports were new, its tells are as planned; and the ports tell in the end
 -- what the history tells.
 pub record CameToMany (is_planned : Bool) (sections : List SaidSection) (before left : ℕ → Option Told) (history : List OneEntry) (texts : Texts) : Type 0 where

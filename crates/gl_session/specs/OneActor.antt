@@ -19,7 +19,7 @@ use Rattle.gl_check.specs.One.{entries_made, is_kind, one, planned_over, said_in
 -- What the session came to, over a port that told this before and tells that now: its text is One of just the answers that One
 -- takes, and it makes no more entries than the session costs. A planned driver gave those that the port's plan before and the statements
 -- say; over a new port they are Planned. The port tells all that the statements and the calls make of what it told: how many calls, the
--- plan, and the operation and the answer of the last call. So where it told, it tells as many driver calls more as there are answers, and
+-- plan, the accepted bits, and the operation and the answer of the last call. So where it told, it tells as many driver calls more as there are answers, and
 -- as its last answer the last of them.
 pub record CameToOne (is_planned : Bool) (sections : List SaidSection) (before : Option Told) (text : List ℕ) (left : Option Told) : Type 0 where
   pub answers : List (Option ℕ)
@@ -39,7 +39,7 @@ pub record CameWithEntries (is_planned : Bool) (sections : List SaidSection) (be
 abbrev pub count_in_kind : SectionKind → List SaidSection → ℕ
 count_in_kind kind sections = length (said_in_kind kind sections)
 
--- A talk has 1,048,576 statements at most, and a session costs 100,000 entries at most. Every sentence keeps within both.
+-- The talks of a session have 1,048,576 statements at most, and it costs `COST_MAX` entries at most. Every sentence keeps within both.
 pub record IsSized (sections : List SaidSection) : Type 0 where
   pub few : count_in_kind Setup sections + count_in_kind Actor sections + count_in_kind After sections ≤ 1048576
   pub cheap : session_cost sections ≤ COST_MAX

@@ -11,7 +11,7 @@ use Rattle.gl_chip.specs.Steps.{FoundNoRoom}
 use Rattle.gl_chip.specs.Values.{OneView}
 use Rattle.gl_core.specs.Device.{core}
 use Rattle.gl_asking.specs.declared.kinds.Asking.{Asking}
-use Rattle.gl_asking.specs.declared.kinds.Asking.TheVariants.{Calls, Plans, Refuses}
+use Rattle.gl_asking.specs.declared.kinds.Asking.TheVariants.{Calls, Plans, Accepts, Refuses}
 use Rattle.gl_asking.specs.Asking.{asking, got_of}
 use Rattle.gl_asking.specs.Files.{OpenFile}
 use Rattle.gl_check.specs.Turns.{Carried, Carries, Exchange, Follows, Turn, carried, did_by, said_by}
@@ -28,6 +28,7 @@ pub record HasPerformed (is_planned : Bool) (what : Do) (v : OneView) (s : Carri
 abbrev pub IsCall : Asking → Type 0
 IsCall (Calls call) = Unit {0}
 IsCall (Plans nth) = ⊥
+IsCall (Accepts bits) = ⊥
 IsCall (Refuses errno) = ⊥
 
 -- the history was full when a call was to be made

@@ -27,8 +27,8 @@ pub fn answers_as_planned()
     ensures { AnswersAsPlanned }
 {}
 
-/// The actor's port tells in the end all that the statements and the calls make of what it told before: how many calls, the plan, and the
-/// operation and the answer of the last call. Where it told, these are as many calls more as there are such answers, and as its last
+/// The actor's port tells in the end all that the statements and the calls make of what it told before: how many calls, the plan, the
+/// accepted bits, and the operation and the answer of the last call. Where it told, these are as many calls more as there are such answers, and as its last
 /// answer the last of these.
 pub fn port_tells()
     ensures { PortTells }

@@ -5,7 +5,7 @@ ghost use Rattle.gl_model.specs.declared.device_call.DeviceCall.TheVariants.{Onc
 ghost use Rattle.gl_model.specs.declared.call.Call.TheVariants.{Level as LevelCall};
 ghost use Rattle.gl_chip.specs.Called.{ComesOut};
 ghost use Rattle.gl_asking.specs.Results.{level_of};
-ghost use Rattle.gl_base.specs.declared.operation.Do.TheVariants.{Find, Irq, Level, Live, MakeDir, Pin, Plan, Probe, Pull, Read, RemoveDir, Tick, Unplug, Write};
+ghost use Rattle.gl_base.specs.declared.operation.Do.TheVariants.{Accept, Find, Irq, Level, Live, MakeDir, Pin, Plan, Probe, Pull, Read, RemoveDir, Tick, Unplug, Write};
 ghost use Rattle.gl_chip.specs.Values.{IsActorOf};
 ghost use Rattle.gl_asking.specs.Asking.{has_lines};
 ghost use Rattle.gl_session.specs.Performed.{PerformsAlone};
@@ -263,5 +263,14 @@ pub fn plan<D: Driver<Core>>(actor: &mut Actor<D>, nth: u32) -> Got
     ensures performs { PerformsAlone D.is_planned (Plan nth) (Ok result) actor.old.pass.view (D.Port.told actor.old.port) actor.new.pass.view (D.Port.told actor.new.port) }
 {
     actor.plan(nth);
+    Got::Done
+}
+
+/// Bits that the actor's port accepts.
+pub fn accept<D: Driver<Core>>(actor: &mut Actor<D>, bits: u64) -> Got
+    ensures pass { actor.new.pass ≡ actor.old.pass }
+    ensures performs { PerformsAlone D.is_planned (Accept bits) (Ok result) actor.old.pass.view (D.Port.told actor.old.port) actor.new.pass.view (D.Port.told actor.new.port) }
+{
+    actor.accept(bits);
     Got::Done
 }

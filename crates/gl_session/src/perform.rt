@@ -73,5 +73,6 @@ pub fn perform<R: Wait, D: Driver<Core>>(
         Do::Poll { slot } => on_files::poll(rt, device, actor, rows, *slot),
         Do::Close { slot } => on_files::close(rt, device, actor, rows, *slot),
         Do::Plan { nth } => Ok(on_board::plan(actor, *nth)),
+        Do::Accept { bits } => Ok(on_board::accept(actor, *bits)),
     }
 }

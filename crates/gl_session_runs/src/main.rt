@@ -1,15 +1,22 @@
 //! Plays sessions in memory, and tells how each of them ended and what it wrote.
 //!
 //! A line `session NAME` begins a session without bytes. A line `|TEXT` adds TEXT and the end of a line to it, a line `:TEXT` adds
-//! TEXT alone, and a line `*COUNT TEXT` adds TEXT and the end of a line so many times. A line `play PIECE ROOM READ WRITE` runs it: no call moves more than PIECE bytes, the sink has room for ROOM bytes,
-//! and the call READ of the source and the call WRITE of the sink fail, counted from 0, `-` none of them. Up to two further words are words of the program.
-//! What is told of a run is a line with its name and its status, and what the sink held in the end.
+//! TEXT alone, and a line `*COUNT TEXT` adds TEXT and the end of a line so many times. A line `play PIECE ROOM READ WRITE` runs it: no call
+//! moves more than PIECE bytes, the sink has room for ROOM bytes, and the call READ of the source and the call WRITE of the sink fail,
+//! counted from 0, `-` none of them. Up to two further words are words of the program. A line `serve ..` serves it in the same way, line by
+//! line, and so does `frames ..`.
+//! A line `meet CALLS ROOM FRONT` runs it over a driver that answers its first call once CALLS were made, each of another actor, and tells
+//! no more than FRONT bytes of what the sink held, since the history of such a run differs from run to run.
+//! What is told of a run is a line with its name and its status, and what the sink held in the end; of `serve` what its frames hold.
 #![tactic(auto)]
 
+mod frames;
+mod meeting;
 mod plan;
 mod play;
 
 use gl_base::{Errno, read_decimal, split_first};
+use meeting::Meeting;
 use plan::Plan;
 use play::Session;
 use std::io::{self, BufRead, BufReader, Write};
@@ -53,8 +60,14 @@ fn told<R: Threads + Wait + Sync>(
         session.add_lines(read_decimal(count), text)
     } else if let Some(name) = line.strip_prefix(b"session ") {
         session.begin(name)
-    } else if let Some(plan) = Plan::of(line) {
+    } else if let Some(plan) = Plan::of(b"play ", line) {
         session.put_run(rt, &plan, out)
+    } else if let Some(meeting) = Meeting::of(line) {
+        session.put_meeting(rt, meeting, out)
+    } else if let Some(plan) = Plan::of(b"serve ", line) {
+        session.put_texts(&plan, out)
+    } else if let Some(plan) = Plan::of(b"frames ", line) {
+        session.put_frames(&plan, out)
     } else {
         out.extend_from_slice(b"no such line\n")?;
         Ok(())

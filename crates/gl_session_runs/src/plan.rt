@@ -19,11 +19,11 @@ pub struct Plan<'a> {
 }
 
 impl<'a> Plan<'a> {
-    /// What a line `play PIECE ROOM READ WRITE` says, with up to two words of the program behind it.
-    pub fn of(line: &'a [u8]) -> Option<Plan<'a>>
+    /// What a line `WAY PIECE ROOM READ WRITE` says, with up to two words of the program behind it. The way ends with a blank.
+    pub fn of(way: &[u8], line: &'a [u8]) -> Option<Plan<'a>>
         ensures some { IfSome result (λ plan. 0 < plan.piece) }
     {
-        let mut rest = line.strip_prefix(b"play ")?;
+        let mut rest = line.strip_prefix(way)?;
         let piece = u32::try_from(read_decimal(word(&mut rest))?).ok()?;
         let room = u32::try_from(read_decimal(word(&mut rest))?).ok()?;
         if piece == 0 {
@@ -40,7 +40,7 @@ impl<'a> Plan<'a> {
 }
 
 /// Takes the next word; the empty one behind the last.
-fn word<'a>(rest: &mut &'a [u8]) -> &'a [u8] {
+pub fn word<'a>(rest: &mut &'a [u8]) -> &'a [u8] {
     let (word, behind) = split_first(*rest, b' ');
     *rest = match behind {
         Some(behind) => behind,

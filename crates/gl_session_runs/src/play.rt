@@ -2,10 +2,12 @@
 ghost use Rattle.std.specs.Prelude.{◌<◌, ◌≤◌};
 ghost use Rattle.gl_session.specs.Ports.{AreAllThere};
 
+use crate::frames::put_texts;
 use crate::plan::Plan;
 use gl_base::{Errno, put_decimal};
 use gl_driver::{SimDriver, SimPort};
 use gl_io::{MemSink, MemSource};
+use gl_served::{Served, serve};
 use gl_session::run;
 use std::alloc::Global;
 use std::sync::Wait;
@@ -63,9 +65,7 @@ impl Session {
         requires { 0 < plan.now.piece }
     {
         let alloc = *out.allocator();
-        let mut bytes = Vec::new(alloc);
-        bytes.extend_from_slice(&self.bytes)?;
-        let mut source = MemSource::new(bytes, plan.piece, only(plan.read, alloc)?);
+        let mut source = self.source(alloc, plan)?;
         let mut sink = MemSink::new(alloc, plan.room, plan.piece, only(plan.write, alloc)?)?;
         let (driver, mut ports) = (SimDriver::new(), new_ports());
         let words = [text_of(plan.words[0]), text_of(plan.words[1])];
@@ -79,13 +79,59 @@ impl Session {
             driver,
             &mut ports,
         );
+        self.put_ended(status.number(), sink.as_slice(), out)
+    }
+
+    /// Serves the session as planned, line by line, and appends its name, its status and the frames that were written.
+    pub fn put_frames(&self, plan: &Plan<'_>, out: &mut Vec<u8>) -> Result<(), Errno>
+        requires { 0 < plan.now.piece }
+    {
+        let (number, frames) = self.serve(*out.allocator(), plan)?;
+        self.put_ended(number, &frames, out)
+    }
+
+    /// The same, with what the frames hold in place of them.
+    pub fn put_texts(&self, plan: &Plan<'_>, out: &mut Vec<u8>) -> Result<(), Errno>
+        requires { 0 < plan.now.piece }
+    {
+        let alloc = *out.allocator();
+        let (number, frames) = self.serve(alloc, plan)?;
+        let mut texts = Vec::new(alloc);
+        put_texts(&frames, &mut texts)?;
+        self.put_ended(number, &texts, out)
+    }
+
+    /// Serves the session as planned: the number of its end, and what was written.
+    fn serve(&self, alloc: Global, plan: &Plan<'_>) -> Result<(u8, Vec<u8>), Errno>
+        requires { 0 < plan.now.piece }
+    {
+        let mut source = self.source(alloc, plan)?;
+        let mut sink = MemSink::new(alloc, plan.room, plan.piece, only(plan.write, alloc)?)?;
+        let mut served = Served::new(alloc)?;
+        let ended = serve(alloc, &mut served, &mut source, &mut sink);
+        let mut frames = Vec::new(alloc);
+        frames.extend_from_slice(sink.as_slice())?;
+        Ok((ended.number(), frames))
+    }
+
+    /// The session's bytes as a source.
+    pub fn source(&self, alloc: Global, plan: &Plan<'_>) -> Result<MemSource, Errno>
+        requires { 0 < plan.now.piece }
+    {
+        let mut bytes = Vec::new(alloc);
+        bytes.extend_from_slice(&self.bytes)?;
+        Ok(MemSource::new(bytes, plan.piece, only(plan.read, alloc)?))
+    }
+
+    /// Appends the session's name, the number that it ended with, and a text.
+    pub fn put_ended(&self, number: u8, text: &[u8], out: &mut Vec<u8>) -> Result<(), Errno> {
         out.extend_from_slice(b"== ")?;
         out.extend_from_slice(&self.name)?;
         out.extend_from_slice(b" ")?;
-        put_decimal(u64::from(status.number()), out)?;
+        put_decimal(u64::from(number), out)?;
         out.extend_from_slice(b"\n")?;
-        out.extend_from_slice(sink.as_slice())?;
-        if !sink.as_slice().is_empty() && !sink.as_slice().ends_with(b"\n") {
+        out.extend_from_slice(text)?;
+        if !text.is_empty() && !text.ends_with(b"\n") {
             out.extend_from_slice(b"\n")?;
         }
         Ok(())
@@ -111,7 +157,7 @@ fn count_words(words: &[&str; 2]) -> usize
 }
 
 /// 17 new ports.
-fn new_ports() -> [Option<SimPort>; 17]
+pub fn new_ports() -> [Option<SimPort>; 17]
     ensures { AreAllThere result }
 {
     array::from_fn(|_| Some(SimPort::new()))

@@ -17,7 +17,7 @@ use std::alloc::Global;
 pub struct BankPlan {
     /// Its label.
     pub label: Name,
-    /// How many lines it has, from 1 to 128; 0 for a plan of nothing.
+    /// How many lines it has, from 1 to 512; 0 for a plan of nothing.
     pub lines: u32,
     /// The name of each line that has a directory, with its offset, in order of the offsets. A line whose
     /// name was never written has the empty one.

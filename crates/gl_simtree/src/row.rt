@@ -49,7 +49,7 @@ pub enum TreeRow {
         device: Name,
         state: State,
     },
-    /// A bank: its number of lines, from 1 to 128, and its label.
+    /// A bank: its number of lines, from 1 to 512, and its label.
     Bank {
         device: Name,
         bank: Name,

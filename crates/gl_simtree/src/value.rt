@@ -10,7 +10,7 @@ use crate::search;
 use gl_base::{LINES_MAX, Name, read_plain_decimal};
 use gl_desc::HogWay;
 
-/// A number of lines: a decimal from 1 to 128 without a leading zero.
+/// A number of lines: a decimal from 1 to 512 without a leading zero.
 fn lines_of_text(value: &Name) -> Option<u32>
     ensures { result ≡ lines_of_text value.now }
 {

@@ -9,7 +9,7 @@ use Rattle.gl_base.specs.Words.{Span}
 use Rattle.gl_base.specs.declared.command.TheConstants.{GET_LINE}
 use Rattle.gl_base.specs.declared.errno.Errno.{Errno}
 use Rattle.gl_base.specs.declared.operation.Do.{Do}
-use Rattle.gl_base.specs.declared.operation.Do.TheVariants.{Probe, Unplug, MakeDir, RemoveDir, Write, Read, Live, Tick, Pin, Irq, Pull, Level, OpenChip, Find, Ioctl, ReadFile, Poll, Close, Plan}
+use Rattle.gl_base.specs.declared.operation.Do.TheVariants.{Probe, Unplug, MakeDir, RemoveDir, Write, Read, Live, Tick, Pin, Irq, Pull, Level, OpenChip, Find, Ioctl, ReadFile, Poll, Close, Plan, Accept}
 use Rattle.gl_base.specs.declared.operation.Got.{Got}
 use Rattle.gl_args.specs.Entries.{IsKept}
 use Rattle.gl_args.specs.Gives.{Gives}
@@ -71,6 +71,7 @@ slots_same files (ReadFile slot len) got number = refl
 slots_same files (Poll slot) got number = refl
 slots_same files (Close slot) got number = slots_less slot files
 slots_same files (Plan nth) got number = refl
+slots_same files (Accept bits) got number = refl
 
 -- A file is opened later than another: it has a greater number, and behind one of before the statement a greater slot; behind one
 -- of the statement's own there are such alone.
@@ -148,6 +149,7 @@ turn_behind base files (ReadFile slot len) got number h own newest = h
 turn_behind base files (Poll slot) got number h own newest = h
 turn_behind base files (Close slot) got number h own newest = turn_less base slot files h
 turn_behind base files (Plan nth) got number h own newest = h
+turn_behind base files (Accept bits) got number h own newest = h
 
 -- a program's files are in turn
 module _ {A : Type 0} (base : ℕ) (P : A → List ℕ → Type 0) (Q : A → Type 0) where

@@ -12,6 +12,7 @@ pub mod StatementCosts
 pub mod Staying
 pub mod TalkFiles
 pub mod TalkNames
+pub mod TalkPrints
 pub mod TalkedSteps
 pub mod ToolParts
 pub mod Turns

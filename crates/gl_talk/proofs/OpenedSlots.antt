@@ -8,7 +8,7 @@ use Rattle.gl_base.specs.Words.{Span, text_at}
 use Rattle.gl_base.specs.declared.command.TheConstants.{GET_LINE}
 use Rattle.gl_base.specs.declared.errno.Errno.{Errno}
 use Rattle.gl_base.specs.declared.operation.Do.{Do}
-use Rattle.gl_base.specs.declared.operation.Do.TheVariants.{Probe, Unplug, MakeDir, RemoveDir, Write, Read, Live, Tick, Pin, Irq, Pull, Level, OpenChip, Find, Ioctl, ReadFile, Poll, Close, Plan as PlanPort}
+use Rattle.gl_base.specs.declared.operation.Do.TheVariants.{Probe, Unplug, MakeDir, RemoveDir, Write, Read, Live, Tick, Pin, Irq, Pull, Level, OpenChip, Find, Ioctl, ReadFile, Poll, Close, Plan as PlanPort, Accept as AcceptPort}
 use Rattle.gl_base.specs.declared.operation.Got.{Got}
 use Rattle.gl_args.specs.Entries.{IsKept}
 use Rattle.gl_args.specs.Gives.{Gives}
@@ -91,6 +91,7 @@ opens_what test n (ReadFile slot len) h = tt
 opens_what test n (Poll slot) h = tt
 opens_what test n (Close slot) h = tt
 opens_what test n (PlanPort nth) h = tt
+opens_what test n (AcceptPort bits) h = tt
 
 pub opens_by : {A : Type 0} (test : ℕ → Bool) (count : ℕ → A → ℕ) (p : Program A) (n : ℕ → ℕ) → ((s : ℕ) → test s ≡ false → Follows s 0 (count s) (n s) p) → OpensOnly test p
 opens_by test count (done value) n h = tt

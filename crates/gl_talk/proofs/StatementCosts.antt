@@ -2,7 +2,6 @@
 use Rattle.std.proofs.Common.{◌≡◌, ◌≤◌, ◌+◌, ◌-◌, ℕ, suc, Bool, true, false, cond, List, [], ◌∷◌, length, Option, None, Some, refl, sym, subst, arith}
 use Rattle.std.specs.Prelude.{if◌then◌else◌, ◌==◌, nat_lt, is_some, sum_by}
 use Rattle.std.proofs.lemmas.List.Sums.{sum_by-cons}
-use Rattle.gl_base.specs.declared.limits.TheConstants.{PLACES}
 use Rattle.gl_base.specs.CommandWord.{command_number_of}
 use Rattle.gl_base.specs.Operation.{refusal}
 use Rattle.gl_base.specs.Words.{Span, text_at}
@@ -22,7 +21,7 @@ use Rattle.gl_script.specs.Cost.{cost, cost_by, start_cost, words_cost}
 use Rattle.gl_script.specs.Faults.{is_get_line}
 use Rattle.gl_script.specs.Table.{keyword_of}
 use Rattle.gl_script.specs.declared.table.Keyword.{Keyword}
-use Rattle.gl_script.specs.declared.table.Keyword.TheVariants.{Probe, Unplug, MakeDir, RemoveDir, Write, Read, Clock, Fault, Pin, Irq, Open, Ioctl, Events, OldIoctl, OldEvents, Changes, Poll, Close, Detect, Info, Get, Set, Start, Step, Stop}
+use Rattle.gl_script.specs.declared.table.Keyword.TheVariants.{Probe, Unplug, MakeDir, RemoveDir, Write, Read, Clock, Fault, Accept, Pin, Irq, Open, Ioctl, Events, OldIoctl, OldEvents, Changes, Poll, Close, Detect, Info, Get, Set, Start, Step, Stop}
 use Rattle.gl_v1.specs.declared.commands.CommandV1.{CommandV1}
 use Rattle.gl_v1.specs.declared.commands.CommandV1.TheVariants.{ChipInfo, LineInfo, LineHandle, LineEvent, GetValues, SetValues, SetConfig}
 use Rattle.gl_v1.specs.declared.commands.KindV1.TheVariants.{Chip as OldChip, Handle, Event}
@@ -87,21 +86,18 @@ acts_cost n Nothing names slot words h = tt
 acts_cost n (Refuse errno) names slot words h = tt
 acts_cost n (Ask what reply) names slot words h = (h, λ got. told_free (n - entries_of what) (refusal got) reply names slot words got)
 
-unplugs_cost : (place : Option ℕ) → PlanCosts 2 (unplugs place)
-unplugs_cost None = tt
-unplugs_cost (Some place) = omega arith
+unplugs_cost : (place : ℕ) → PlanCosts 2 (unplugs place)
+unplugs_cost place = omega arith
 
-pins_cost : (place : Option ℕ) (words : List Span) → PlanCosts 1 (pins place words)
-pins_cost None words = tt
-pins_cost (Some place) words = omega arith
+pins_cost : (place : ℕ) (words : List Span) → PlanCosts 1 (pins place words)
+pins_cost place words = omega arith
 
-irqs_cost : (place : Option ℕ) (words : List Span) → PlanCosts 1 (irqs place words)
-irqs_cost None words = tt
-irqs_cost (Some place) words = omega arith
+irqs_cost : (place : ℕ) (words : List Span) → PlanCosts 1 (irqs place words)
+irqs_cost place words = omega arith
 
 reads_cost : (file : Option LineFile) (path : List ℕ) → PlanCosts 1 (reads file path)
 reads_cost None path = omega arith
-reads_cost (Some file) path = plan_if 1 (nat_lt file.chip PLACES) _ _ (omega arith) tt
+reads_cost (Some file) path = omega arith
 
 pulls_cost : (file : LineFile) (up : Option Bool) → PlanCosts 2 (pulls file up)
 pulls_cost file None = tt
@@ -117,8 +113,7 @@ tree_cost (Some device) path value = lives_cost device (live_word value)
 
 writes_cost : (file : Option LineFile) (path value : List ℕ) → PlanCosts 2 (writes file path value)
 writes_cost None path value = tree_cost (live_device path) path value
-writes_cost (Some file) path value =
-    plan_if 2 (nat_lt file.chip PLACES) _ _ (plan_if 2 file.is_pull _ _ (pulls_cost file (pull_word value)) tt) tt
+writes_cost (Some file) path value = plan_if 2 file.is_pull _ _ (pulls_cost file (pull_word value)) tt
 
 opens_cost : (taken : Bool) (slot : ℕ) (word : List ℕ) → PlanCosts 2 (opens taken slot word)
 opens_cost true slot word = tt
@@ -233,6 +228,7 @@ planned_cost Write files slot first words = writes_cost (line_file (text_at 0 wo
 planned_cost Read files slot first words = reads_cost (line_file (text_at 0 words)) (text_at 0 words)
 planned_cost Clock files slot first words = omega arith
 planned_cost Fault files slot first words = omega arith
+planned_cost Accept files slot first words = omega arith
 planned_cost Pin files slot first words = pins_cost (place_word (text_at 1 words)) (first ∷ words)
 planned_cost Irq files slot first words = irqs_cost (place_word (text_at 1 words)) (first ∷ words)
 planned_cost Open files slot first words = opens_cost (is_some (file_of (text_at 0 words) files)) slot (text_at 1 words)
@@ -334,6 +330,7 @@ keyword_cost Write Starting names slot first words k e = cc
 keyword_cost Read Starting names slot first words k e = cc
 keyword_cost Clock Starting names slot first words k e = cc
 keyword_cost Fault Starting names slot first words k e = cc
+keyword_cost Accept Starting names slot first words k e = cc
 keyword_cost Pin Starting names slot first words k e = cc
 keyword_cost Irq Starting names slot first words k e = cc
 keyword_cost Open Starting names slot first words k e = cc
@@ -358,6 +355,7 @@ keyword_cost Write Stepping names slot first words k e = cc
 keyword_cost Read Stepping names slot first words k e = cc
 keyword_cost Clock Stepping names slot first words k e = cc
 keyword_cost Fault Stepping names slot first words k e = cc
+keyword_cost Accept Stepping names slot first words k e = cc
 keyword_cost Pin Stepping names slot first words k e = cc
 keyword_cost Irq Stepping names slot first words k e = cc
 keyword_cost Open Stepping names slot first words k e = cc
@@ -382,6 +380,7 @@ keyword_cost Write Stopping names slot first words k e = cc
 keyword_cost Read Stopping names slot first words k e = cc
 keyword_cost Clock Stopping names slot first words k e = cc
 keyword_cost Fault Stopping names slot first words k e = cc
+keyword_cost Accept Stopping names slot first words k e = cc
 keyword_cost Pin Stopping names slot first words k e = cc
 keyword_cost Irq Stopping names slot first words k e = cc
 keyword_cost Open Stopping names slot first words k e = cc

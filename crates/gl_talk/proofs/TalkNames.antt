@@ -1,7 +1,6 @@
 -- Each operation of a talk names the slot of a file that is open, followed for one slot at a time.
 use Rattle.std.proofs.Common.{◌≡◌, ◌≤◌, ◌+◌, ◌-◌, ℕ, Bool, true, false, cond, List, [], ◌∷◌, ◌++◌, map, Option, None, Some, refl, sym, ap, subst, arith}
-use Rattle.std.specs.Prelude.{if◌then◌else◌, ◌==◌, find, is_some, nat_eq, nat_lt, option_map}
-use Rattle.gl_base.specs.declared.limits.TheConstants.{PLACES}
+use Rattle.std.specs.Prelude.{if◌then◌else◌, ◌==◌, find, is_some, nat_eq, option_map}
 use Rattle.gl_base.specs.Operation.{refusal}
 use Rattle.gl_base.specs.Rows.{without_first}
 use Rattle.gl_base.specs.Words.{Span, text_at}
@@ -21,7 +20,7 @@ use Rattle.gl_monitor.proofs.MonitorNames.{monitor_at, steps_held_at}
 use Rattle.gl_monitor.proofs.MonitorNames.{stops_at as watching_stops_at}
 use Rattle.gl_script.specs.Table.{keyword_of}
 use Rattle.gl_script.specs.declared.table.Keyword.{Keyword}
-use Rattle.gl_script.specs.declared.table.Keyword.TheVariants.{Probe, Unplug, MakeDir, RemoveDir, Write, Read, Clock, Fault, Pin, Irq, Open, Ioctl, Events, OldIoctl, OldEvents, Changes, Poll, Close, Detect, Info, Get, Set, Start, Step, Stop}
+use Rattle.gl_script.specs.declared.table.Keyword.TheVariants.{Probe, Unplug, MakeDir, RemoveDir, Write, Read, Clock, Fault, Accept, Pin, Irq, Open, Ioctl, Events, OldIoctl, OldEvents, Changes, Poll, Close, Detect, Info, Get, Set, Start, Step, Stop}
 use Rattle.gl_v1.specs.declared.commands.KindV1.{KindV1}
 use Rattle.gl_v1.specs.declared.sending.Sent.{Sent}
 use Rattle.gl_talk.specs.declared.files.FileKind.TheVariants.{Chip, Request}
@@ -244,21 +243,18 @@ module _ (s k : ℕ) where
     plan_if true a b p q = p
     plan_if false a b p q = q
 
-    unplugs_at : (place : Option ℕ) → Plans (unplugs place)
-    unplugs_at None = tt
-    unplugs_at (Some place) = (tt, λ got. refl)
+    unplugs_at : (place : ℕ) → Plans (unplugs place)
+    unplugs_at place = (tt, λ got. refl)
 
-    pins_at : (place : Option ℕ) → Plans (pins place words)
-    pins_at None = tt
-    pins_at (Some place) = (tt, λ got. refl)
+    pins_at : (place : ℕ) → Plans (pins place words)
+    pins_at place = (tt, λ got. refl)
 
-    irqs_at : (place : Option ℕ) → Plans (irqs place words)
-    irqs_at None = tt
-    irqs_at (Some place) = (tt, λ got. refl)
+    irqs_at : (place : ℕ) → Plans (irqs place words)
+    irqs_at place = (tt, λ got. refl)
 
     reads_at : (found : Option LineFile) (path : List ℕ) → Plans (reads found path)
     reads_at None path = (tt, λ got. refl)
-    reads_at (Some found) path = plan_if (nat_lt found.chip PLACES) _ _ (tt, λ got. refl) tt
+    reads_at (Some found) path = (tt, λ got. refl)
 
     pulls_at : (found : LineFile) (up : Option Bool) → Plans (pulls found up)
     pulls_at found None = tt
@@ -274,7 +270,7 @@ module _ (s k : ℕ) where
 
     writes_at : (found : Option LineFile) (path value : List ℕ) → Plans (writes found path value)
     writes_at None path value = tree_at (live_device path) path value
-    writes_at (Some found) path value = plan_if (nat_lt found.chip PLACES) _ _ (plan_if found.is_pull _ _ (pulls_at found (pull_word value)) tt) tt
+    writes_at (Some found) path value = plan_if found.is_pull _ _ (pulls_at found (pull_word value)) tt
 
     opens_at : (taken : Bool) (word : List ℕ) → Plans (opens taken slot word)
     opens_at true word = tt
@@ -364,6 +360,7 @@ module _ (s k : ℕ) where
     planned_at (Some Read) = reads_at (line_file (text_at 1 words)) (text_at 1 words)
     planned_at (Some Clock) = (tt, λ got. refl)
     planned_at (Some Fault) = (tt, λ got. refl)
+    planned_at (Some Accept) = (tt, λ got. refl)
     planned_at (Some Pin) = pins_at (place_word (text_at 2 words))
     planned_at (Some Irq) = irqs_at (place_word (text_at 2 words))
     planned_at (Some Open) = opens_at (is_some (file_of (text_at 1 words) names.files)) (text_at 2 words)

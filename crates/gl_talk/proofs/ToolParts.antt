@@ -24,7 +24,7 @@ use Rattle.gl_script.specs.Cost.{is_bare, is_chip_option, start_cost}
 use Rattle.gl_script.specs.Cost.{cost}
 use Rattle.gl_script.specs.Table.{is_keyword, keyword_name, keyword_of}
 use Rattle.gl_script.specs.declared.table.Keyword.{Keyword}
-use Rattle.gl_script.specs.declared.table.Keyword.TheVariants.{Probe, Unplug, MakeDir, RemoveDir, Write, Read, Clock, Fault, Pin, Irq, Open, Ioctl, Events, OldIoctl, OldEvents, Changes, Poll, Close, Detect, Info, Get, Set, Start, Step, Stop}
+use Rattle.gl_script.specs.declared.table.Keyword.TheVariants.{Probe, Unplug, MakeDir, RemoveDir, Write, Read, Clock, Fault, Accept, Pin, Irq, Open, Ioctl, Events, OldIoctl, OldEvents, Changes, Poll, Close, Detect, Info, Get, Set, Start, Step, Stop}
 use Rattle.gl_script.specs.declared.table.TheConstants.{KEYWORDS}
 use Rattle.gl_talk.specs.declared.tools.Kind.TheVariants.{ToolAlone}
 use Rattle.gl_talk.specs.ToolWords.{kind_of, word_texts}
@@ -144,6 +144,7 @@ tool_fits Write first words tool e t h = cc
 tool_fits Read first words tool e t h = cc
 tool_fits Clock first words tool e t h = cc
 tool_fits Fault first words tool e t h = cc
+tool_fits Accept first words tool e t h = cc
 tool_fits Pin first words tool e t h = cc
 tool_fits Irq first words tool e t h = cc
 tool_fits Open first words tool e t h = cc

@@ -7,6 +7,7 @@ pub mod Open
 pub mod Over
 pub mod Paths
 pub mod Plans
+pub mod Printed
 pub mod Readings
 pub mod Replies
 pub mod Slots

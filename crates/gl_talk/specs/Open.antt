@@ -62,6 +62,11 @@ is_set name tool = bytes_eq tool.name name
 abbrev pub is_monitor : List ℕ → MonitorTool → Bool
 is_monitor name tool = bytes_eq tool.name name
 
+-- there is a file, and it is a chip's
+abbrev pub is_chip_file : Option File → Bool
+is_chip_file None = false
+is_chip_file (Some file) = is_chip file.kind
+
 -- the file of a name, if there is one
 abbrev pub file_of : List ℕ → List File → Option File
 file_of name files = find (is_file name) files

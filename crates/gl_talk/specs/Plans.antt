@@ -1,16 +1,16 @@
 -- What each statement that is no tool's asks of the device, or how it is refused without a call; and how its result is told.
 -- This project's choice.
-use Rattle.std.specs.Prelude.{ℕ, ◌*◌, ◌/◌, Bool, true, false, ◌&&◌, ◌==◌, nat_lt, if◌then◌else◌, List, is_some, Option, Some, None, codes}
+use Rattle.std.specs.Prelude.{ℕ, ◌*◌, ◌/◌, Bool, true, false, ◌&&◌, ◌==◌, if◌then◌else◌, List, is_some, Option, Some, None, codes}
 use Rattle.std.specs.Str.{bytes_eq}
 use Rattle.gl_base.specs.Words.{Span, text_at}
 use Rattle.gl_base.specs.declared.command.TheConstants.{GET_CHIPINFO, GET_LINEINFO, GET_LINEINFO_WATCH, GET_LINE, LINE_GET_VALUES}
-use Rattle.gl_base.specs.declared.errno.Errno.TheVariants.{BadF, Exist, Inval, NoEnt, Perm}
-use Rattle.gl_base.specs.declared.limits.TheConstants.{PLACES, LINES_MAX}
-use Rattle.gl_base.specs.declared.operation.Do.TheVariants.{Probe as DoProbe, Unplug as DoUnplug, MakeDir as DoMakeDir, RemoveDir as DoRemoveDir, Write as DoWrite, Read as DoRead, Live as DoLive, Tick as DoTick, Pin as DoPin, Irq as DoIrq, Pull as DoPull, Level as DoLevel, OpenChip as DoOpenChip, Ioctl as DoIoctl, ReadFile as DoReadFile, Poll as DoPoll, Close as DoClose, Plan as DoPlan}
+use Rattle.gl_base.specs.declared.errno.Errno.TheVariants.{BadF, Exist, Inval, Perm}
+use Rattle.gl_base.specs.declared.limits.TheConstants.{LINES_MAX}
+use Rattle.gl_base.specs.declared.operation.Do.TheVariants.{Probe as DoProbe, Unplug as DoUnplug, MakeDir as DoMakeDir, RemoveDir as DoRemoveDir, Write as DoWrite, Read as DoRead, Live as DoLive, Tick as DoTick, Pin as DoPin, Irq as DoIrq, Pull as DoPull, Level as DoLevel, OpenChip as DoOpenChip, Ioctl as DoIoctl, ReadFile as DoReadFile, Poll as DoPoll, Close as DoClose, Plan as DoPlan, Accept as DoAccept}
 use Rattle.gl_base.specs.declared.pin.PinDo.{PinDo}
 use Rattle.gl_base.specs.declared.pin.PinDo.TheVariants.{Range, Hold, Release}
 use Rattle.gl_script.specs.declared.table.Keyword.{Keyword}
-use Rattle.gl_script.specs.declared.table.Keyword.TheVariants.{Probe, Unplug, MakeDir, RemoveDir, Write, Read, Clock, Fault, Pin, Irq, Open, Ioctl, Events, OldIoctl, OldEvents, Changes, Poll, Close, Detect, Info, Get, Set, Start, Step, Stop}
+use Rattle.gl_script.specs.declared.table.Keyword.TheVariants.{Probe, Unplug, MakeDir, RemoveDir, Write, Read, Clock, Fault, Accept, Pin, Irq, Open, Ioctl, Events, OldIoctl, OldEvents, Changes, Poll, Close, Detect, Info, Get, Set, Start, Step, Stop}
 use Rattle.gl_talk.specs.declared.paths.LineFile.{LineFile}
 use Rattle.gl_talk.specs.declared.plans.Plan.{Plan}
 use Rattle.gl_talk.specs.declared.plans.Plan.TheVariants.{Nothing, Refuse, Ask}
@@ -39,10 +39,13 @@ clocks mono real = Ask (DoTick (number_word 0 0xFFFFFFFFFFFFFFFF mono) (number_w
 abbrev pub faults : List ℕ → Plan
 faults nth = Ask (DoPlan (number_word 1 1000000 nth)) Silent
 
+-- `accept N`
+abbrev pub accepts : List ℕ → Plan
+accepts bits = Ask (DoAccept (number_word 0 0xFFFFFFFFFFFFFFFF bits)) Silent
+
 -- `unplug CHIP`
-abbrev pub unplugs : Option ℕ → Plan
-unplugs None = Refuse NoEnt
-unplugs (Some place) = Ask (DoUnplug place) Silent
+abbrev pub unplugs : ℕ → Plan
+unplugs place = Ask (DoUnplug place) Silent
 
 -- `pin range CHIP N N N`, `pin hold CHIP N`, `pin drop CHIP N`
 abbrev pub pin_said : List Span → PinDo
@@ -51,19 +54,17 @@ pin_said words =
     else if bytes_eq (text_at 1 words) (codes "hold") then Hold (small_word (text_at 3 words))
     else Release (small_word (text_at 3 words))
 
-abbrev pub pins : Option ℕ → List Span → Plan
-pins None words = Refuse NoEnt
-pins (Some place) words = Ask (DoPin place (pin_said words)) Silent
+abbrev pub pins : ℕ → List Span → Plan
+pins place words = Ask (DoPin place (pin_said words)) Silent
 
 -- `irq lock CHIP N`
-abbrev pub irqs : Option ℕ → List Span → Plan
-irqs None words = Refuse NoEnt
-irqs (Some place) words = Ask (DoIrq place (small_word (text_at 3 words)) (irq_word (text_at 1 words))) Silent
+abbrev pub irqs : ℕ → List Span → Plan
+irqs place words = Ask (DoIrq place (small_word (text_at 3 words)) (irq_word (text_at 1 words))) Silent
 
 -- `read PATH`: a line's file goes to its chip, every other path to the tree
 abbrev pub reads : Option LineFile → List ℕ → Plan
 reads None path = Ask (DoRead (path_word path)) Value
-reads (Some file) path = if nat_lt file.chip PLACES then Ask (DoLevel file.chip file.offset file.is_pull) (Level file.is_pull) else Refuse NoEnt
+reads (Some file) path = Ask (DoLevel file.chip file.offset file.is_pull) (Level file.is_pull)
 
 -- `write PATH VALUE`: `value` is no file to write; a pull goes to the chip, a device's `live` is a call of its own, every other path goes to the tree
 abbrev pub pulls : LineFile → Option Bool → Plan
@@ -71,8 +72,7 @@ pulls file None = Refuse Inval
 pulls file (Some up) = Ask (DoPull file.chip file.offset up) Silent
 
 abbrev pub writes_line : LineFile → List ℕ → Plan
-writes_line file value =
-    if nat_lt file.chip PLACES then (if file.is_pull then pulls file (pull_word value) else Refuse Perm) else Refuse NoEnt
+writes_line file value = if file.is_pull then pulls file (pull_word value) else Refuse Perm
 
 abbrev pub lives : List ℕ → Option Bool → Plan
 lives device None = Refuse Inval
@@ -158,6 +158,7 @@ planned (Some Write) files slot words = writes (line_file (text_at 1 words)) (te
 planned (Some Read) files slot words = reads (line_file (text_at 1 words)) (text_at 1 words)
 planned (Some Clock) files slot words = clocks (text_at 1 words) (text_at 2 words)
 planned (Some Fault) files slot words = faults (text_at 1 words)
+planned (Some Accept) files slot words = accepts (text_at 1 words)
 planned (Some Pin) files slot words = pins (place_word (text_at 2 words)) words
 planned (Some Irq) files slot words = irqs (place_word (text_at 2 words)) words
 planned (Some Open) files slot words = opens (is_some (file_of (text_at 1 words) files)) slot (text_at 2 words)

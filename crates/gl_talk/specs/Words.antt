@@ -32,13 +32,13 @@ number_word low high word = or_else low (number_within low high word)
 abbrev pub turns_word : List ℕ → ℕ
 turns_word word = or_zero (number_within 1 1000 word)
 
--- the place of a chip; none for a number that no place has
-abbrev pub below_places : Option ℕ → Option ℕ
-below_places None = None
-below_places (Some n) = if nat_lt n PLACES then Some n else None
+-- the place of a chip
+abbrev pub place_of : Option ℕ → ℕ
+place_of None = 0
+place_of (Some n) = if nat_lt n PLACES then n else 0
 
-abbrev pub place_word : List ℕ → Option ℕ
-place_word word = below_places (chip_number_of word)
+abbrev pub place_word : List ℕ → ℕ
+place_word word = place_of (chip_number_of word)
 
 -- the number of a command
 abbrev pub command_word : List ℕ → ℕ

@@ -1,10 +1,11 @@
-//! What statements cost, whatever they are answered, which files they name, and that words are read as they are. Each law
-//! stands as the contract of a function that does nothing.
+//! What statements cost, whatever they are answered, which files they name, that they print whole lines, and that words are read
+//! as they are. Each law stands as the contract of a function that does nothing.
 ghost use Rattle.gl_talk.specs.Costs.{StatementsKeepWithinCost, TalksKeepWithinCost, TalksMakeAtMost};
 ghost use Rattle.gl_talk.specs.Slots.{SlotsAreOwn};
 ghost use Rattle.gl_talk.specs.Files.{EndClosesAll, EndMakesAtMost, NoneIsOpenBefore, StatementsFindTheirFiles, StatementsLeaveEntries, TalksFindTheirFiles};
 ghost use Rattle.gl_talk.specs.Numbers.{FilesCloseByNumber};
 ghost use Rattle.gl_talk.specs.InParts.{StatementsComeInParts, TalksAreStatementsAndTheEnd};
+ghost use Rattle.gl_talk.specs.Printed.{StatementsPrintLines, TalksPrintLines};
 ghost use Rattle.gl_talk.specs.Readings.{CommandsAreRead, HeldToolsAreRead, IrqsAreRead, LabelsAreRead, NamesAreRead, NumbersAreRead, OldCommandsAreRead, PathsAreRead, PinsAreRead, WordsAreRead};
 
 /// A statement makes at most as many entries of a history as it costs. The closing of a file is
@@ -61,6 +62,13 @@ pub fn files_close_by_number()
 pub fn talks_are_statements_and_the_end()
     ensures parts { StatementsComeInParts }
     ensures end { TalksAreStatementsAndTheEnd }
+{}
+
+/// Each text that a statement prints is whole lines, whatever it is answered: its last byte is 0x0A. So is each that a whole talk
+/// prints.
+pub fn talks_print_lines()
+    ensures statements { StatementsPrintLines }
+    ensures whole { TalksPrintLines }
 {}
 
 /// A word that is of its form is read as what it is: no statement of a session is read with a default in a word's place.

@@ -11,7 +11,7 @@ use gl_base::{are_label_bytes, read_plain_decimal, split_first};
 #[derive(Clone, Copy, PartialEq, Eq, Debug)]
 pub struct LineFile {
     /// The chip's number, from 0 to 63.
-    pub chip: u32,
+    pub chip: u8,
     /// The line's offset, from 0 to 9999.
     pub offset: u32,
     /// Whether it is the pull; else it is the value.
@@ -38,7 +38,7 @@ pub fn line_file(path: &[u8]) -> Option<LineFile>
     line_file_by(chip_part(chip), line_part(line), is_pull_part(name))
 }
 
-fn line_file_by(chip: Option<u32>, offset: Option<u32>, is_pull: Option<bool>) -> Option<LineFile>
+fn line_file_by(chip: Option<u8>, offset: Option<u32>, is_pull: Option<bool>) -> Option<LineFile>
     ensures { result ≡ line_file_by chip offset is_pull }
 {
     match (chip, offset, is_pull) {
@@ -51,11 +51,11 @@ fn line_file_by(chip: Option<u32>, offset: Option<u32>, is_pull: Option<bool>) -
     }
 }
 
-fn chip_part(part: &[u8]) -> Option<u32>
+fn chip_part(part: &[u8]) -> Option<u8>
     ensures { result ≡ chip_part part.now }
 {
     if part.starts_with(b"gpiochip") {
-        return at_most(63, read_plain_decimal(&part[8..]));
+        return chip_within(read_plain_decimal(&part[8..]));
     }
     None
 }
@@ -79,6 +79,21 @@ fn is_pull_part(part: &[u8]) -> Option<bool>
         return Some(false);
     }
     None
+}
+
+/// A number as that of a chip, if it is one.
+fn chip_within(number: Option<u64>) -> Option<u8>
+    ensures { result ≡ within 0 63 number }
+{
+    match number {
+        Some(number) => {
+            if number <= 63 {
+                return Some(number as u8);
+            }
+            None
+        }
+        None => None,
+    }
 }
 
 fn at_most(most: u32, number: Option<u64>) -> Option<u32>

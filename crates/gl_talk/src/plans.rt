@@ -5,7 +5,7 @@ ghost use Rattle.gl_script.specs.Columns.{columns};
 ghost use Rattle.gl_talk.specs.Old.{takes_old_name};
 ghost use Rattle.gl_talk.specs.Open.{file_in, file_of, is_chip, is_old_event, is_request};
 ghost use Rattle.gl_talk.specs.Paths.{line_file, live_device};
-ghost use Rattle.gl_talk.specs.Plans.{asks_for, clocks, closes, command_reply, faults, ioctls, ioctls_bytes, irqs, lives, old_ioctls, old_ioctls_bytes, opens, pin_said, pins, planned, polls, probes, pulls, read_if, reads, reads_file, takes_name, unplugs, writes, writes_line, writes_tree};
+ghost use Rattle.gl_talk.specs.Plans.{accepts, asks_for, clocks, closes, command_reply, faults, ioctls, ioctls_bytes, irqs, lives, old_ioctls, old_ioctls_bytes, opens, pin_said, pins, planned, polls, probes, pulls, read_if, reads, reads_file, takes_name, unplugs, writes, writes_line, writes_tree};
 ghost use Rattle.gl_talk.specs.Words.{number_word};
 
 use crate::files::{FileRow, file_of, has_file, is_chip, is_old_event, is_request};
@@ -16,7 +16,7 @@ use crate::words::{
     place_word, pull_word, small_word, word,
 };
 use gl_base::command::{GET_CHIPINFO, GET_LINE, GET_LINEINFO, GET_LINEINFO_WATCH, LINE_GET_VALUES};
-use gl_base::{Do, Errno, LINES_MAX, PLACES, PinDo};
+use gl_base::{Do, Errno, LINES_MAX, PinDo};
 use gl_script::Keyword;
 use gl_v1::{KindV1, Sent};
 use std::alloc::Global;
@@ -89,6 +89,7 @@ pub fn planned(
         Keyword::Read => Ok(reads(word(1, line))),
         Keyword::Clock => Ok(clocks(word(1, line), word(2, line))),
         Keyword::Fault => Ok(faults(word(1, line))),
+        Keyword::Accept => Ok(accepts(word(1, line))),
         Keyword::Pin => Ok(pins(place_word(word(2, line)), line)),
         Keyword::Irq => Ok(irqs(place_word(word(2, line)), line)),
         Keyword::Open => Ok(opens(has_file(files, word(1, line)), slot, word(2, line))),
@@ -144,13 +145,21 @@ fn faults(nth: &[u8]) -> Plan
     )
 }
 
-fn unplugs(place: Option<u8>) -> Plan
+fn accepts(bits: &[u8]) -> Plan
+    ensures { result ≡ accepts bits.now }
+{
+    Plan::Ask(
+        Do::Accept {
+            bits: number_word(0, MOST, bits),
+        },
+        Reply::Silent,
+    )
+}
+
+fn unplugs(place: u8) -> Plan
     ensures { result ≡ unplugs place }
 {
-    match place {
-        Some(place) => Plan::Ask(Do::Unplug { place }, Reply::Silent),
-        None => Plan::Refuse(Errno::NoEnt),
-    }
+    Plan::Ask(Do::Unplug { place }, Reply::Silent)
 }
 
 fn pin_said(line: &[u8]) -> PinDo
@@ -169,54 +178,43 @@ fn pin_said(line: &[u8]) -> PinDo
     PinDo::Release(small_word(word(3, line)))
 }
 
-fn pins(place: Option<u8>, line: &[u8]) -> Plan
+fn pins(place: u8, line: &[u8]) -> Plan
     ensures { result ≡ pins place (columns line.now) }
 {
-    match place {
-        Some(place) => Plan::Ask(
-            Do::Pin {
-                place,
-                what: pin_said(line),
-            },
-            Reply::Silent,
-        ),
-        None => Plan::Refuse(Errno::NoEnt),
-    }
+    Plan::Ask(
+        Do::Pin {
+            place,
+            what: pin_said(line),
+        },
+        Reply::Silent,
+    )
 }
 
-fn irqs(place: Option<u8>, line: &[u8]) -> Plan
+fn irqs(place: u8, line: &[u8]) -> Plan
     ensures { result ≡ irqs place (columns line.now) }
 {
-    match place {
-        Some(place) => Plan::Ask(
-            Do::Irq {
-                place,
-                offset: small_word(word(3, line)),
-                what: irq_word(word(1, line)),
-            },
-            Reply::Silent,
-        ),
-        None => Plan::Refuse(Errno::NoEnt),
-    }
+    Plan::Ask(
+        Do::Irq {
+            place,
+            offset: small_word(word(3, line)),
+            what: irq_word(word(1, line)),
+        },
+        Reply::Silent,
+    )
 }
 
 fn reads(path: &[u8]) -> Plan
     ensures { result ≡ reads (line_file path.now) path.now }
 {
     match line_file(path) {
-        Some(file) => {
-            if file.chip >= u32::from(PLACES) {
-                return Plan::Refuse(Errno::NoEnt);
-            }
-            Plan::Ask(
-                Do::Level {
-                    place: file.chip as u8,
-                    offset: file.offset,
-                    pull: file.is_pull,
-                },
-                Reply::Level(file.is_pull),
-            )
-        }
+        Some(file) => Plan::Ask(
+            Do::Level {
+                place: file.chip,
+                offset: file.offset,
+                pull: file.is_pull,
+            },
+            Reply::Level(file.is_pull),
+        ),
         None => Plan::Ask(Do::Read(path_word(path)), Reply::Value),
     }
 }
@@ -233,16 +231,13 @@ fn writes(path: &[u8], value: &[u8]) -> Plan
 fn writes_line(file: &LineFile, value: &[u8]) -> Plan
     ensures { result ≡ writes_line file.now value.now }
 {
-    if file.chip >= u32::from(PLACES) {
-        return Plan::Refuse(Errno::NoEnt);
-    }
     if !file.is_pull {
         return Plan::Refuse(Errno::Perm);
     }
     match pull_word(value) {
         Some(up) => Plan::Ask(
             Do::Pull {
-                place: file.chip as u8,
+                place: file.chip,
                 offset: file.offset,
                 up,
             },

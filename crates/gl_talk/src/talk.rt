@@ -3,10 +3,10 @@ ghost use Rattle.std.specs.Prelude.{◌≡◌, ◌+◌, ◌*◌, ◌<◌, ◌≤
 ghost use Rattle.gl_args.specs.Program.{Goes, MatchNext, given, goes_on, done, then_left};
 ghost use Rattle.gl_base.specs.Words.{Span};
 ghost use Rattle.gl_script.specs.Columns.{columns};
-ghost use Rattle.gl_talk.specs.Open.{Names, no_names};
+ghost use Rattle.gl_talk.specs.Open.{Names, file_of, is_chip_file, no_names};
 ghost use Rattle.gl_talk.specs.Talk.{Does, does, left, names_in, quits, slot_behind, talk_left, talks};
 
-use crate::files::FileRow;
+use crate::files::{FileRow, file_of, is_chip};
 use crate::held::{MonitorRow, SetRow};
 use crate::plans::Reply;
 use gl_args::Next;
@@ -95,6 +95,16 @@ impl Talk {
         self.begun += 1;
         self.stage = Stage::Begun;
         Ok(())
+    }
+
+    /// Whether a chip's file has this name.
+    pub fn has_chip(&self, name: &[u8]) -> bool
+        ensures { result ≡ is_chip_file (file_of name.now (names_in self.now).files) }
+    {
+        match file_of(&self.files, name) {
+            Some(file) => is_chip(file.kind),
+            None => false,
+        }
     }
 
     /// From now on `next` closes the files that are open.

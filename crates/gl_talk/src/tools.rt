@@ -49,6 +49,7 @@ pub fn kind_of(keyword: Option<Keyword>) -> Kind
         | Keyword::Read
         | Keyword::Clock
         | Keyword::Fault
+        | Keyword::Accept
         | Keyword::Pin
         | Keyword::Irq
         | Keyword::Open

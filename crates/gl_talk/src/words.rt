@@ -3,7 +3,7 @@ ghost use Rattle.std.specs.Prelude.{◌≡◌, ◌+◌, ◌<◌, ◌≤◌, ◌^
 ghost use Rattle.gl_base.specs.Padded.{padded};
 ghost use Rattle.gl_base.specs.Words.{text_at, words_at};
 ghost use Rattle.gl_script.specs.Columns.{columns};
-ghost use Rattle.gl_talk.specs.Words.{behind_two, behind_three, below_places, bytes_said, command_word, irq_word, live_word, made_name, name_behind_as, name_word, number_word, or_else, path_word, place_word, pull_word, turns_word};
+ghost use Rattle.gl_talk.specs.Words.{behind_two, behind_three, bytes_said, command_word, irq_word, live_word, made_name, name_behind_as, name_word, number_word, or_else, path_word, place_of, place_word, pull_word, turns_word};
 
 use gl_base::{
     Errno, IrqDo, Name, PLACES, Path, chip_number, command_number, next_word, put_piece,
@@ -79,26 +79,24 @@ pub fn turns_word(word: &[u8]) -> u32
     }
 }
 
-/// The place of the chip that a word names; None for a number that no place has.
-pub fn place_word(word: &[u8]) -> Option<u8>
-    ensures place { result ≡ place_word word.now }
-    ensures below { IfSome result (λ place. place < PLACES) }
+/// The place of the chip that a word names; the first one for a word of another form.
+pub fn place_word(word: &[u8]) -> u8
+    ensures { result ≡ place_word word.now }
 {
-    below_places(chip_number(word))
+    place_of(chip_number(word))
 }
 
-fn below_places(number: Option<u64>) -> Option<u8>
-    ensures place { result ≡ below_places number }
-    ensures below { IfSome result (λ place. place < PLACES) }
+fn place_of(number: Option<u64>) -> u8
+    ensures { result ≡ place_of number }
 {
     match number {
         Some(number) => {
             if number < u64::from(PLACES) {
-                return Some(number as u8);
+                return number as u8;
             }
-            None
+            0
         }
-        None => None,
+        None => 0,
     }
 }
 

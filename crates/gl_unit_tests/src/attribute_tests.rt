@@ -3,7 +3,7 @@
 ghost use Rattle.gl_base.specs.Lines.{IsLineCount};
 
 use gl_attrs::resolve;
-use gl_base::Errno;
+use gl_base::{Errno, Resolved};
 use gl_uapi::ConfigRef;
 
 /// How many lines a configuration is resolved for, and the flags, the value and the period of the one at this place.
@@ -24,12 +24,15 @@ fn line_of(config: ConfigRef<'_>, count: u32, place: usize) -> Shown
     requires { IsLineCount count }
 {
     match resolve(config, count) {
-        Ok(resolved) => {
-            let line = resolved.lines[place % 64];
-            Some((resolved.count, line.flags, line.value, line.debounce_us))
-        }
+        Ok(resolved) => Some(told(&resolved, place)),
         Err(_) => None,
     }
+}
+
+/// What settings say of the line at this place.
+fn told(resolved: &Resolved, place: usize) -> (u32, u64, bool, u32) {
+    let line = &resolved.lines[place % 64];
+    (resolved.count, line.flags, line.value, line.debounce_us)
 }
 
 /// Why a configuration of 64 lines is refused whose byte at this place is this, and all others zeros.

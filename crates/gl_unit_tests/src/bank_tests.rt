@@ -35,10 +35,12 @@ fn shown(alloc: Global, flags: u64, value: bool, up: bool) -> Result<(bool, bool
     Ok((bank.level(2), bank.logical(2)))
 }
 
-#[test]
-fn a_line_shows_its_drive_or_its_pull(rt: HostRuntime) {
-    // flags, value, pull before; level, logical value
-    let cases = [
+/// The flags, the value and the pull before of a line, and its level and logical value then.
+type Case = (u64, bool, bool, bool, bool);
+
+/// Outputs and inputs of each kind.
+fn cases() -> [Case; 11] {
+    [
         (OUT, true, false, true, true),
         (OUT | LOW, true, true, false, true),
         (OUT | DRAIN, true, false, false, false),
@@ -50,11 +52,22 @@ fn a_line_shows_its_drive_or_its_pull(rt: HostRuntime) {
         (IN | LOW, false, true, true, false),
         (IN | UP, false, false, true, true),
         (IN | DOWN, false, true, false, false),
-    ];
-    for (flags, value, up, level, logical) in cases {
-        let told = shown(rt.alloc(), flags, value, up);
-        assert!(rt; told == Ok((level, logical)), "flags {flags}");
+    ]
+}
+
+/// The first case that shows something else, if there is one.
+fn first_other(alloc: Global, cases: &[Case]) -> Option<usize> {
+    for (i, (flags, value, up, level, logical)) in cases.iter().enumerate() {
+        if shown(alloc, *flags, *value, *up) != Ok((*level, *logical)) {
+            return Some(i);
+        }
     }
+    None
+}
+
+#[test]
+fn a_line_shows_its_drive_or_its_pull(rt: HostRuntime) {
+    assert_eq!(rt; first_other(rt.alloc(), &cases()), None);
 }
 
 /// Whether a line of one, given these flags, its release and a pull, shows what it has to, in this order.

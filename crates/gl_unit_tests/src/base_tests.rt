@@ -1,8 +1,9 @@
 //! The calls with ample memory, against values of Linux's headers and of the documents.
 
+ghost use Rattle.std.specs.Prelude.{◌+◌, ◌<◌, length};
+
 use gl_base::*;
-use std::alloc::AllocError;
-use std::test::Fail;
+use std::alloc::{AllocError, Global};
 
 /// Errors with their numbers and names in `errno.h`; `FULL` is this project's own.
 fn errors() -> [(Errno, u32, &'static str); 16] {
@@ -38,27 +39,31 @@ fn a_refused_allocation_is_enomem(rt: HostRuntime) {
     assert!(rt; Errno::from(AllocError) == Errno::NoMemory);
 }
 
+/// Whether these bytes are a name, and stay what they are.
+fn is_name(bytes: &[u8]) -> bool {
+    match Name::of(bytes) {
+        Some(name) => name.as_bytes() == bytes,
+        None => false,
+    }
+}
+
 #[test]
-fn names_have_at_most_31_bytes_and_no_zero(rt: HostRuntime) -> Result<(), Fail> {
-    let longest = b"abcdefghijklmnopqrstuvwxyz01234";
-    let name = Name::of(longest).ok_or("31 bytes")?;
-    assert!(rt; name.as_bytes() == longest.as_slice());
+fn names_have_at_most_31_bytes_and_no_zero(rt: HostRuntime) {
+    assert!(rt; is_name(b"abcdefghijklmnopqrstuvwxyz01234"));
     let others = (
         Name::of(b"abcdefghijklmnopqrstuvwxyz012345"),
         Name::of(b"a\0b"),
     );
     assert!(rt; others == (None, None));
-    Ok(())
 }
 
 /// A name and a zero in a field of 32 bytes that had others.
 #[test]
-fn a_name_is_written_with_its_zero(rt: HostRuntime) -> Result<(), Fail> {
-    let name = Name::of(b"abcdefghijklmnopqrstuvwxyz01234").ok_or("31 bytes")?;
+fn a_name_is_written_with_its_zero(rt: HostRuntime) {
+    let name = Name::filled(b"abcdefghijklmnopqrstuvwxyz01234");
     let mut field = [7; 32];
     name.write_into(&mut field);
     assert!(rt; (Name::read(&field), field[31]) == (name, 0));
-    Ok(())
 }
 
 #[test]
@@ -69,12 +74,18 @@ fn a_name_is_read_up_to_a_zero(rt: HostRuntime) {
     assert!(rt; Name::read(&[1; 32]).as_bytes().len() == 31 && Name::empty().as_bytes().is_empty());
 }
 
+/// Whether these bytes are a path, and stay what they are.
+fn is_path(bytes: &[u8]) -> bool {
+    match Path::of(bytes) {
+        Some(path) => path.as_bytes() == bytes,
+        None => false,
+    }
+}
+
 #[test]
-fn paths_have_at_most_127_bytes(rt: HostRuntime) -> Result<(), Fail> {
-    let path = Path::of(b"board/soc/line3").ok_or("15 bytes")?;
-    assert!(rt; path.as_bytes() == b"board/soc/line3".as_slice());
-    assert!(rt; Path::of(&[b'a'; 127]).is_some() && Path::of(&[b'a'; 128]).is_none());
-    Ok(())
+fn paths_have_at_most_127_bytes(rt: HostRuntime) {
+    assert!(rt; is_path(b"board/soc/line3"));
+    assert!(rt; is_path(&[b'a'; 127]) && Path::of(&[b'a'; 128]).is_none());
 }
 
 /// Texts, and the numbers that they are.
@@ -94,18 +105,40 @@ fn decimals() -> [(&'static str, Option<u64>); 8] {
 #[test]
 fn numbers_are_read(rt: HostRuntime) {
     for (text, value) in decimals() {
-        assert_eq!(rt; read_decimal(text.as_bytes()), value, "{text}");
+        assert!(rt; read_decimal(text.as_bytes()) == value, "{text}");
     }
     assert!(rt; read_plain_decimal(b"10") == Some(10) && read_plain_decimal(b"010").is_none());
 }
 
+/// Two numbers, one behind the other.
+fn put_numbers(out: &mut Vec<u8>) -> Result<(), Errno> {
+    put_decimal(u64::MAX, out)?;
+    put_decimal(0, out)
+}
+
+/// Two times, one behind the other.
+fn put_times(out: &mut Vec<u8>) -> Result<(), Errno> {
+    put_seconds(1_500_000_000, out)?;
+    put_seconds(7, out)
+}
+
+/// Two numbers in columns, and a byte twice.
+fn put_columns(out: &mut Vec<u8>) -> Result<(), Errno> {
+    put_right_justified(3, b' ', 7, out)?;
+    put_right_justified(3, b' ', 1234, out)?;
+    put_repeated(2, b'-', out)
+}
+
+/// Whether what was put behind a text gives this.
+fn is_put(put: Result<(), Errno>, out: &[u8], wanted: &str) -> bool {
+    put.is_ok() && out == wanted.as_bytes()
+}
+
 #[test]
-fn numbers_are_written(rt: HostRuntime) -> Result<(), Fail> {
+fn numbers_are_written(rt: HostRuntime) {
     let mut out = Vec::new(rt.alloc());
-    put_decimal(u64::MAX, &mut out)?;
-    put_decimal(0, &mut out)?;
-    assert!(rt; out.as_slice() == b"184467440737095516150".as_slice());
-    Ok(())
+    let put = put_numbers(&mut out);
+    assert!(rt; is_put(put, &out, "184467440737095516150"));
 }
 
 /// Words, and the numbers of the chips that they name.
@@ -123,7 +156,7 @@ fn chip_words() -> [(&'static str, Option<u64>); 6] {
 #[test]
 fn chips_are_named_by_number_name_and_path(rt: HostRuntime) {
     for (word, number) in chip_words() {
-        assert_eq!(rt; chip_number(word.as_bytes()), number, "{word}");
+        assert!(rt; chip_number(word.as_bytes()) == number, "{word}");
     }
     assert!(rt; chip_name(12).as_bytes() == b"gpiochip12".as_slice());
 }
@@ -151,33 +184,34 @@ fn the_lines_of_a_request_are_its_first_offsets(rt: HostRuntime) {
 }
 
 #[test]
-fn times_are_seconds_with_nine_digits(rt: HostRuntime) -> Result<(), Fail> {
+fn times_are_seconds_with_nine_digits(rt: HostRuntime) {
     let mut out = Vec::new(rt.alloc());
-    put_seconds(1_500_000_000, &mut out)?;
-    put_seconds(7, &mut out)?;
-    assert!(rt; out.as_slice() == b"1.5000000000.000000007".as_slice());
-    Ok(())
+    let put = put_times(&mut out);
+    assert!(rt; is_put(put, &out, "1.5000000000.000000007"));
 }
 
 #[test]
-fn numbers_are_written_in_columns(rt: HostRuntime) -> Result<(), Fail> {
+fn numbers_are_written_in_columns(rt: HostRuntime) {
     let mut out = Vec::new(rt.alloc());
-    put_right_justified(3, b' ', 7, &mut out)?;
-    put_right_justified(3, b' ', 1234, &mut out)?;
-    put_repeated(2, b'-', &mut out)?;
-    assert!(rt; out.as_slice() == b"  71234--".as_slice());
-    Ok(())
+    let put = put_columns(&mut out);
+    assert!(rt; is_put(put, &out, "  71234--"));
 }
 
-#[test]
-fn bytes_are_told_as_they_were_pushed(rt: HostRuntime) -> Result<(), Fail> {
-    let mut bytes = ByteList::new(rt.alloc());
+/// What is told of bytes that came in two pieces.
+fn told(alloc: Global) -> Result<Got, Errno> {
+    let mut bytes = ByteList::new(alloc);
     bytes.push_all(b"ab")?;
     bytes.push_all(b"c")?;
-    let told = Got::Bytes(ByteList::of(bytes.into_vec()));
-    assert!(rt; told.bytes() == b"abc".as_slice());
-    assert!(rt; (told.refusal(), told.ready()) == (None, 0));
-    Ok(())
+    Ok(Got::Bytes(ByteList::of(bytes.into_vec())))
+}
+
+#[test]
+fn bytes_are_told_as_they_were_pushed(rt: HostRuntime) {
+    let Ok(got) = told(rt.alloc()) else {
+        panic!(rt; "no memory")
+    };
+    assert!(rt; got.bytes() == b"abc".as_slice());
+    assert!(rt; (got.refusal(), got.ready()) == (None, 0));
 }
 
 #[test]
@@ -186,13 +220,20 @@ fn refusals_and_polls_are_told_as_such(rt: HostRuntime) {
     assert!(rt; Got::Ready(6).ready() == 6);
 }
 
+/// Whether the first word of a text stands at this place, the rest begins at that one, and the word is this.
+fn is_first_word(at: usize, text: &[u8], places: (usize, usize), word: &[u8]) -> bool
+    requires { at + length text.now < 1000 }
+{
+    match next_word(at, text) {
+        Some(found) => (found.at, found.rest_at) == places && found.word == word,
+        None => false,
+    }
+}
+
 #[test]
-fn words_have_their_places(rt: HostRuntime) -> Result<(), Fail> {
-    let first = next_word(1, b"  open  A gpiochip0 ").ok_or("open")?;
-    assert!(rt; (first.at, first.word) == (3, b"open".as_slice()));
-    let second = next_word(9, b"A gpiochip0 ").ok_or("A")?;
-    assert!(rt; (second.at, second.rest_at) == (9, 11));
-    Ok(())
+fn words_have_their_places(rt: HostRuntime) {
+    assert!(rt; is_first_word(1, b"  open  A gpiochip0 ", (3, 8), b"open"));
+    assert!(rt; is_first_word(9, b"A gpiochip0 ", (9, 11), b"A"));
 }
 
 #[test]
@@ -226,28 +267,32 @@ fn pieces() -> [(&'static str, Option<u64>); 10] {
 #[test]
 fn pieces_have_a_size(rt: HostRuntime) {
     for (word, size) in pieces() {
-        assert_eq!(rt; piece_size(word.as_bytes()), size, "{word}");
+        assert!(rt; piece_size(word.as_bytes()) == size, "{word}");
     }
 }
 
-#[test]
-fn bytes_are_written_as_text(rt: HostRuntime) -> Result<(), Fail> {
-    let mut bytes = Vec::new(rt.alloc());
+/// Puts the bytes that some pieces stand for.
+fn put_pieces(bytes: &mut Vec<u8>) -> Result<(), Errno> {
     for word in ["0aF0", "7f*2", "00*7", "10", "00*9"] {
-        put_piece(word.as_bytes(), &mut bytes)?;
+        put_piece(word.as_bytes(), bytes)?;
     }
-    let mut text = Vec::new(rt.alloc());
-    put_bytes(&bytes, &mut text)?;
-    assert!(rt; text.as_slice() == b"0af07f7f0000000000000010 00*9".as_slice());
     Ok(())
 }
 
 #[test]
-fn no_byte_is_a_dash(rt: HostRuntime) -> Result<(), Fail> {
+fn bytes_are_written_as_text(rt: HostRuntime) {
+    let mut bytes = Vec::new(rt.alloc());
+    let read = put_pieces(&mut bytes);
     let mut text = Vec::new(rt.alloc());
-    put_bytes(&[], &mut text)?;
-    assert!(rt; text.as_slice() == b"-".as_slice());
-    Ok(())
+    let put = put_bytes(&bytes, &mut text);
+    assert!(rt; read.is_ok() && is_put(put, &text, "0af07f7f0000000000000010 00*9"));
+}
+
+#[test]
+fn no_byte_is_a_dash(rt: HostRuntime) {
+    let mut text = Vec::new(rt.alloc());
+    let put = put_bytes(&[], &mut text);
+    assert!(rt; is_put(put, &text, "-"));
 }
 
 /// Words, and the commands' numbers that they stand for, as a C compiler gets them from `linux/gpio.h`.
@@ -272,6 +317,6 @@ fn command_words() -> [(&'static str, Option<u32>); 13] {
 #[test]
 fn commands_have_words_and_numbers(rt: HostRuntime) {
     for (word, number) in command_words() {
-        assert_eq!(rt; command_number(word.as_bytes()), number, "{word}");
+        assert!(rt; command_number(word.as_bytes()) == number, "{word}");
     }
 }

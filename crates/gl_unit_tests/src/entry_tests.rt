@@ -1,35 +1,53 @@
 //! What no clause says: that memory is found where there is some, and that texts look as they do in the documents.
 
-use gl_base::{Errno, Kind, Name, Path};
-use gl_core::{Call, Part, Reply};
+ghost use Rattle.gl_trace.specs.EntryText.{HasText};
+
+use gl_base::{Errno, Kind, Name, Path, put_repeated};
+use gl_core::{Call, Core, Part, Reply};
 use gl_trace::{put_entry, read_entry};
 use gl_world::Entry;
-use std::test::Fail;
+use std::alloc::Global;
+
+/// The text of an entry.
+fn entry_text(alloc: Global, index: u32, entry: &Entry<Core>) -> Result<Vec<u8>, Errno>
+    requires { HasText entry.now }
+{
+    let mut out = Vec::new(alloc);
+    put_entry(index, entry, &mut out)?;
+    Ok(out)
+}
+
+/// Whether the text of an entry is this.
+fn is_written(alloc: Global, index: u32, entry: &Entry<Core>, wanted: &str) -> bool
+    requires { HasText entry.now }
+{
+    match entry_text(alloc, index, entry) {
+        Ok(text) => text.as_slice() == wanted.as_bytes(),
+        Err(_) => false,
+    }
+}
 
 #[test]
-fn entries_are_written_as_lines(rt: HostRuntime) -> Result<(), Fail> {
-    let mut out = Vec::new(rt.alloc());
-    let label = Name::of(b"demo").ok_or("a name")?;
+fn entries_are_written_as_lines(rt: HostRuntime) {
     let probe = Entry {
         actor: 0,
         call: Call::Probe {
-            label,
+            label: Name::filled(b"demo"),
             lines: 1,
             kind: Kind::Simulated,
         },
         reply: Reply::Number(0),
     };
-    put_entry(0, &probe, &mut out)?;
-    out.push(b'\n')?;
+    assert!(rt; is_written(rt.alloc(), 0, &probe, "0 0 probe demo 1 sim -> ok 0"));
+    let Some(word) = Path::of(b"") else {
+        panic!(rt; "no word")
+    };
     let open = Entry {
         actor: 1,
-        call: Call::OpenChip {
-            word: Path::of(b"").ok_or("a word")?,
-        },
+        call: Call::OpenChip { word },
         reply: Reply::Refused(Errno::NoEnt),
     };
-    put_entry(1, &open, &mut out)?;
-    out.push(b'\n')?;
+    assert!(rt; is_written(rt.alloc(), 1, &open, "1 1 open \\ -> ENOENT"));
     let ask = Entry {
         actor: 2,
         call: Call::Ioctl {
@@ -42,11 +60,14 @@ fn entries_are_written_as_lines(rt: HostRuntime) -> Result<(), Fail> {
         },
         reply: Reply::Refused(Errno::BadF),
     };
-    put_entry(10, &ask, &mut out)?;
-    let wanted =
-        b"0 0 probe demo 1 sim -> ok 0\n1 1 open \\ -> ENOENT\n10 2 ioctl 0 3 0x8044b401 68 00*68 -> EBADF";
-    assert!(rt; out.as_slice() == wanted.as_slice());
-    Ok(())
+    assert!(rt;
+        is_written(
+            rt.alloc(),
+            10,
+            &ask,
+            "10 2 ioctl 0 3 0x8044b401 68 00*68 -> EBADF"
+        )
+    );
 }
 
 /// Lines that are read: every kind of call and of reply, names that need `\`, an empty buffer, and one of 592 bytes.
@@ -144,26 +165,55 @@ fn other_lines() -> [&'static str; 24] {
     ]
 }
 
-#[test]
-fn every_kind_of_line_is_read_and_written_the_same(rt: HostRuntime) -> Result<(), Fail> {
-    let mut out = Vec::new(rt.alloc());
-    let table = lines();
-    for line in &table {
-        out.clear();
-        match read_entry(line.as_bytes()) {
-            Some(got) => put_entry(got.0, &got.1, &mut out)?,
-            None => out.push(0)?,
-        }
-        assert!(rt; out.as_slice() == line.as_bytes());
+/// Puts the text of the entry that a line is, or a zero where it is none.
+fn put_read(line: &str, out: &mut Vec<u8>) -> Result<(), Errno> {
+    match read_entry(line.as_bytes()) {
+        Some(got) => put_entry(got.0, &got.1, out),
+        None => put_repeated(1, 0, out),
     }
-    Ok(())
+}
+
+/// The line as it was read and written.
+fn rewritten(alloc: Global, line: &str) -> Result<Vec<u8>, Errno> {
+    let mut out = Vec::new(alloc);
+    put_read(line, &mut out)?;
+    Ok(out)
+}
+
+/// Whether a line is written as it was read.
+fn stays(alloc: Global, line: &str) -> bool {
+    match rewritten(alloc, line) {
+        Ok(out) => out.as_slice() == line.as_bytes(),
+        Err(_) => false,
+    }
+}
+
+/// The first line that isn't written as it was read, if there is any.
+fn first_changed(alloc: Global, lines: &[&'static str]) -> Option<usize> {
+    for (i, line) in lines.iter().enumerate() {
+        if !stays(alloc, *line) {
+            return Some(i);
+        }
+    }
+    None
 }
 
 #[test]
-fn other_lines_are_no_entry(rt: HostRuntime) -> Result<(), Fail> {
-    let table = other_lines();
-    for line in &table {
-        assert!(rt; read_entry(line.as_bytes()).is_none());
+fn every_kind_of_line_is_read_and_written_the_same(rt: HostRuntime) {
+    assert_eq!(rt; first_changed(rt.alloc(), &lines()), None);
+}
+
+/// The first line that is an entry's text, if there is any.
+fn first_read(lines: &[&'static str]) -> Option<usize> {
+    for (i, line) in lines.iter().enumerate() {
+        if read_entry(line.as_bytes()).is_some() {
+            return Some(i);
+        }
     }
-    Ok(())
+    None
+}
+
+#[test]
+fn other_lines_are_no_entry(rt: HostRuntime) {
+    assert_eq!(rt; first_read(&other_lines()), None);
 }

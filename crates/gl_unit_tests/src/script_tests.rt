@@ -1,13 +1,12 @@
 //! Texts, their first faults and their statements.
 ghost use Rattle.std.specs.Prelude.{◌<◌, ◌≤◌, length};
 
-use gl_base::{COST_MAX, LINES_MAX, PLACES};
+use gl_base::{COST_MAX, Errno, LINES_MAX, PLACES, put_repeated};
 use gl_script::{
     Feed, Head, Script, generate, loads_are_sessions, sentence_is_single, sentences_are_spelled,
     spelled_are_sentences,
 };
 use std::alloc::Global;
-use std::test::Fail;
 
 /// A session with a device of gpio-sim, and three tools.
 const BOARD: &[u8] =
@@ -28,21 +27,39 @@ const INFO_COST: u64 = PLACES as u64 * CHIP_COST;
 const STEP_COST: u64 = 1001;
 
 /// The line, the column and the kind of the first fault; the cost and `ok` where there is none.
-fn first_fault(alloc: Global, text: &[u8]) -> (u64, u32, &'static str) {
+type Fault = (u64, u32, &'static str);
+
+/// A text or a statement, and its first fault.
+type Row = (&'static str, Fault);
+
+/// The first fault of a text.
+fn first_fault(alloc: Global, text: &[u8]) -> Fault {
     match Script::parse(alloc, text) {
         Ok(script) => (script.cost(), 0, "ok"),
         Err(refusal) => (u64::from(refusal.line), refusal.column, refusal.kind.word()),
     }
 }
 
-#[test]
-fn each_kind_of_fault_has_its_place(rt: HostRuntime) {
-    let texts = [
+/// Texts with faults of each kind.
+fn texts() -> [Row; 28] {
+    [
         ("", (1, 1, "header")),
         ("# none\n\n", (1, 1, "header")),
         ("\x7f", (1, 1, "byte")),
         ("session 1\nsetup\n#\t", (3, 2, "byte")),
-        (" session 2", (1, 2, "header")),
+        (" session 3", (1, 2, "header")),
+        ("session 2 2", (1, 1, "header")),
+        ("session 1\nsetup\n accept x", (3, 2, "statement")),
+        ("session 2\nsetup\naccept", (3, 7, "words")),
+        (
+            "session 2\nsetup\naccept 18446744073709551616",
+            (3, 8, "word"),
+        ),
+        (
+            "session 2\nsetup\naccept 18446744073709551615",
+            (0, 0, "ok"),
+        ),
+        ("session 2\nsetup\nsession 1", (3, 1, "statement")),
         ("session 1 1", (1, 1, "header")),
         ("session 1\n probe demo 4", (2, 2, "section")),
         ("session 1\nprob", (2, 1, "section")),
@@ -63,25 +80,47 @@ fn each_kind_of_fault_has_its_place(rt: HostRuntime) {
             "session 1\nsetup\nstep m 1000\nprobe demo 4 # 4",
             (4, 14, "words"),
         ),
-    ];
-    for (text, fault) in texts {
-        assert_eq!(rt; first_fault(rt.alloc(), text.as_bytes()), fault, "{text}");
+    ]
+}
+
+/// The first text whose first fault is another one, if there is any.
+fn first_other_text(alloc: Global, rows: &[Row]) -> Option<usize> {
+    for (i, (text, fault)) in rows.iter().enumerate() {
+        if first_fault(alloc, text.as_bytes()) != *fault {
+            return Some(i);
+        }
     }
+    None
+}
+
+#[test]
+fn each_kind_of_fault_has_its_place(rt: HostRuntime) {
+    assert_eq!(rt; first_other_text(rt.alloc(), &texts()), None);
     sentence_is_single();
     sentences_are_spelled();
     spelled_are_sentences();
 }
 
 /// The first fault of a session with this one statement.
-fn statement_fault(alloc: Global, statement: &str) -> Result<(u64, u32, &'static str), Fail> {
+fn statement_fault(alloc: Global, statement: &str) -> Result<Fault, Errno> {
     let mut text = b"session 1\nsetup\n".to_vec(alloc)?;
     text.extend_from_slice(statement.as_bytes())?;
     Ok(first_fault(alloc, &text))
 }
 
-#[test]
-fn each_statement_has_its_forms_and_its_cost(rt: HostRuntime) -> Result<(), Fail> {
-    let statements = [
+/// The first statement whose first fault is another one, if there is any.
+fn first_other(alloc: Global, rows: &[Row]) -> Option<usize> {
+    for (i, (statement, fault)) in rows.iter().enumerate() {
+        if statement_fault(alloc, *statement) != Ok(*fault) {
+            return Some(i);
+        }
+    }
+    None
+}
+
+/// Statements of all kinds but commands.
+fn statements() -> [Row; 46] {
+    [
         ("probe demo 0004", (1, 0, "ok")),
         ("probe demo 0", (3, 12, "word")),
         ("unplug gpiochip63", (2, 0, "ok")),
@@ -128,32 +167,29 @@ fn each_statement_has_its_forms_and_its_cost(rt: HostRuntime) -> Result<(), Fail
         ("step t 1001", (3, 8, "word")),
         ("stop t", (0, 0, "ok")),
         ("stop", (3, 5, "words")),
-    ];
-    for (statement, fault) in statements {
-        assert_eq!(rt;
-            statement_fault(rt.alloc(), statement)?,
-            fault,
-            "{statement}"
-        );
-    }
-    Ok(())
+    ]
 }
 
 #[test]
-fn a_chip_has_at_most_so_many_lines(rt: HostRuntime) -> Result<(), Fail> {
-    let most = format!(in rt.alloc(); "probe demo {LINES_MAX}")?;
-    let more = format!(in rt.alloc(); "probe demo {}", LINES_MAX + 1)?;
-    let faults = (
-        statement_fault(rt.alloc(), most.as_str())?,
-        statement_fault(rt.alloc(), more.as_str())?,
-    );
-    assert!(rt; faults == ((1, 0, "ok"), (3, 12, "word")));
-    Ok(())
+fn each_statement_has_its_forms_and_its_cost(rt: HostRuntime) {
+    assert_eq!(rt; first_other(rt.alloc(), &statements()), None);
+}
+
+/// The first fault of a chip with so many lines.
+fn probe_fault(alloc: Global, lines: u32) -> Result<Fault, Errno> {
+    let statement = format!(in alloc; "probe demo {lines}")?;
+    statement_fault(alloc, statement.as_str())
 }
 
 #[test]
-fn commands_have_pieces_and_a_name_for_what_they_make(rt: HostRuntime) -> Result<(), Fail> {
-    let statements = [
+fn a_chip_has_at_most_so_many_lines(rt: HostRuntime) {
+    assert!(rt; probe_fault(rt.alloc(), LINES_MAX) == Ok((1, 0, "ok")));
+    assert!(rt; probe_fault(rt.alloc(), LINES_MAX + 1) == Ok((3, 12, "word")));
+}
+
+/// Commands.
+fn commands() -> [Row; 27] {
+    [
         ("ioctl A GET_CHIPINFO 00*68", (2, 0, "ok")),
         ("ioctl A GET_CHIPINFO -", (2, 0, "ok")),
         ("ioctl A 0x8044b401 0102 00*66", (2, 0, "ok")),
@@ -181,137 +217,171 @@ fn commands_have_pieces_and_a_name_for_what_they_make(rt: HostRuntime) -> Result
         ("ioctl1 A LINEEVENT 00", (3, 22, "words")),
         ("ioctl1 A GET_VALUES 00 as B", (3, 24, "word")),
         ("ioctl1 A GET_CHIPINFO 00", (3, 10, "word")),
-    ];
-    for (statement, fault) in statements {
-        assert_eq!(rt;
-            statement_fault(rt.alloc(), statement)?,
-            fault,
-            "{statement}"
-        );
+    ]
+}
+
+#[test]
+fn commands_have_pieces_and_a_name_for_what_they_make(rt: HostRuntime) {
+    assert_eq!(rt; first_other(rt.alloc(), &commands()), None);
+}
+
+/// The first fault of `session 1` with a front of its second line, and then one byte so many times.
+fn repeated_fault(alloc: Global, front: &str, byte: u8, count: usize) -> Result<Fault, Errno> {
+    let mut text = b"session 1\n".to_vec(alloc)?;
+    text.extend_from_slice(front.as_bytes())?;
+    put_repeated(count, byte, &mut text)?;
+    Ok(first_fault(alloc, &text))
+}
+
+/// Puts one line so many times behind a text.
+fn put_lines(line: &str, count: usize, text: &mut Vec<u8>) -> Result<(), Errno> {
+    for _ in 0..count {
+        text.extend_from_slice(line.as_bytes())?;
     }
     Ok(())
 }
 
-/// A text, and then one byte so many times.
-fn repeated(alloc: Global, text: &[u8], byte: u8, count: usize) -> Result<Vec<u8>, Fail> {
-    let mut bytes = text.to_vec(alloc)?;
-    for _ in 0..count {
-        bytes.push(byte)?;
-    }
-    Ok(bytes)
-}
-
-/// `session 1`, and then one line so many times.
-fn lines(alloc: Global, line: &[u8], count: usize) -> Result<Vec<u8>, Fail> {
-    let mut bytes = b"session 1\n".to_vec(alloc)?;
-    for _ in 0..count {
-        bytes.extend_from_slice(line)?;
-    }
-    Ok(bytes)
+/// The first fault of `session 1`, and then one line so many times.
+fn lines_fault(alloc: Global, line: &str, count: usize) -> Result<Fault, Errno> {
+    let mut text = b"session 1\n".to_vec(alloc)?;
+    put_lines(line, count, &mut text)?;
+    Ok(first_fault(alloc, &text))
 }
 
 #[test]
-fn limits_are_met_to_the_byte(rt: HostRuntime) -> Result<(), Fail> {
+fn limits_are_met_to_the_byte(rt: HostRuntime) {
     let alloc = rt.alloc();
-    let texts = [
-        (repeated(alloc, b"session 1\n# ", b'x', 1300)?, (0, 0, "ok")),
-        (
-            repeated(alloc, b"session 1\n# ", b'x', 1301)?,
-            (2, 3, "limit"),
-        ),
-        (
-            repeated(alloc, b"session 1\n", b'#', 1_048_566)?,
-            (2, 1, "limit"),
-        ),
-        (
-            repeated(alloc, b"session 1\n", b'\n', 1_048_566)?,
-            (0, 0, "ok"),
-        ),
-        (
-            repeated(alloc, b"session 1\n", b'\n', 1_048_567)?,
-            (0, 0, "too-long"),
-        ),
-        (lines(alloc, b"# ", 127)?, (0, 0, "ok")),
-        (lines(alloc, b"# ", 129)?, (2, 257, "limit")),
-        (lines(alloc, b"setup\ngpioinfo\n", 1)?, (INFO_COST, 0, "ok")),
-    ];
-    for (text, fault) in texts {
-        assert_eq!(rt; first_fault(alloc, &text), fault);
-    }
-    Ok(())
+    assert!(rt; repeated_fault(alloc, "# ", b'x', 1300) == Ok((0, 0, "ok")));
+    assert!(rt; repeated_fault(alloc, "# ", b'x', 1301) == Ok((2, 3, "limit")));
+    assert!(rt; repeated_fault(alloc, "", b'#', 1_048_566) == Ok((2, 1, "limit")));
+    assert!(rt; repeated_fault(alloc, "", b'\n', 1_048_566) == Ok((0, 0, "ok")));
+    assert!(rt; repeated_fault(alloc, "", b'\n', 1_048_567) == Ok((0, 0, "too-long")));
+    assert!(rt; lines_fault(alloc, "# ", 127) == Ok((0, 0, "ok")));
+    assert!(rt; lines_fault(alloc, "# ", 129) == Ok((2, 257, "limit")));
+    assert!(rt; lines_fault(alloc, "setup\ngpioinfo\n", 1) == Ok((INFO_COST, 0, "ok")));
 }
 
-#[test]
-fn sixteen_actors_are_the_most(rt: HostRuntime) -> Result<(), Fail> {
-    let mut text = b"session 1\n".to_vec(rt.alloc())?;
+/// Puts sixteen actors behind a text.
+fn put_actors(text: &mut Vec<u8>) -> Result<(), Errno> {
     for letter in b'a'..=b'p' {
         text.extend_from_slice(b"actor ")?;
         text.extend_from_slice(&[letter, b'\n'])?;
     }
-    assert_eq!(rt; first_fault(rt.alloc(), &text), (0, 0, "ok"));
-    text.extend_from_slice(b"  actor a/ b")?;
-    assert_eq!(rt; first_fault(rt.alloc(), &text), (18, 3, "limit"));
     Ok(())
+}
+
+/// The first fault of `session 1`, sixteen actors and another text.
+fn actors_fault(alloc: Global, rest: &str) -> Result<Fault, Errno> {
+    let mut text = b"session 1\n".to_vec(alloc)?;
+    put_actors(&mut text)?;
+    text.extend_from_slice(rest.as_bytes())?;
+    Ok(first_fault(alloc, &text))
 }
 
 #[test]
-fn cost_is_at_most_so_much(rt: HostRuntime) -> Result<(), Fail> {
-    let mut text = b"session 1\nactor a\n".to_vec(rt.alloc())?;
-    for _ in 0..COST_MAX / STEP_COST {
-        text.extend_from_slice(b"step t 1000\n")?;
-    }
-    let rest = format!(in rt.alloc(); "after\nstep t {}", COST_MAX % STEP_COST - 1)?;
-    text.extend_from_slice(rest.as_bytes())?;
-    assert_eq!(rt; first_fault(rt.alloc(), &text), (COST_MAX, 0, "ok"));
-    text.extend_from_slice(b"\nread a\n")?;
-    assert_eq!(rt; first_fault(rt.alloc(), &text), (0, 0, "cost"));
-    text.extend_from_slice(b"prob")?;
-    assert_eq!(rt;
-        first_fault(rt.alloc(), &text),
-        (COST_MAX / STEP_COST + 6, 1, "statement")
-    );
+fn sixteen_actors_are_the_most(rt: HostRuntime) {
+    assert!(rt; actors_fault(rt.alloc(), "") == Ok((0, 0, "ok")));
+    assert!(rt; actors_fault(rt.alloc(), "  actor a/ b") == Ok((18, 3, "limit")));
+}
+
+/// Puts steps behind a text that cost as much as may be.
+fn put_steps(alloc: Global, text: &mut Vec<u8>) -> Result<(), Errno> {
+    put_lines("step t 1000\n", (COST_MAX / STEP_COST) as usize, text)?;
+    let last = format!(in alloc; "after\nstep t {}", COST_MAX % STEP_COST - 1)?;
+    text.extend_from_slice(last.as_bytes())?;
     Ok(())
 }
 
-/// A feed to which a text came in pieces of so many bytes.
-fn fed(alloc: Global, text: &[u8], piece: usize) -> Result<Feed, Fail>
+/// The first fault of a session whose steps cost as much as may be, and another text.
+fn steps_fault(alloc: Global, rest: &str) -> Result<Fault, Errno> {
+    let mut text = b"session 1\nactor a\n".to_vec(alloc)?;
+    put_steps(alloc, &mut text)?;
+    text.extend_from_slice(rest.as_bytes())?;
+    Ok(first_fault(alloc, &text))
+}
+
+#[test]
+fn cost_is_at_most_so_much(rt: HostRuntime) {
+    let prob = (COST_MAX / STEP_COST + 6, 1, "statement");
+    assert!(rt; steps_fault(rt.alloc(), "") == Ok((COST_MAX, 0, "ok")));
+    assert!(rt; steps_fault(rt.alloc(), "\nread a\n") == Ok((0, 0, "cost")));
+    assert!(rt; steps_fault(rt.alloc(), "\nread a\nprob") == Ok(prob));
+}
+
+/// Hands a text to a feed in pieces of so many bytes.
+fn feed_pieces(feed: &mut Feed, text: &[u8], piece: usize) -> Result<(), Errno>
     requires piece { 0 < piece }
     requires text { length text.now ≤ 1000 }
 {
-    let mut feed = Feed::new(alloc)?;
     for piece in text.chunks(piece) {
         if u64::from(feed.len()) + piece.len() as u64 <= 1000 {
             feed.feed(piece)?;
         }
     }
-    Ok(feed)
+    Ok(())
 }
 
-#[test]
-fn pieces_of_any_length_give_the_same_statements(rt: HostRuntime) -> Result<(), Fail> {
-    let whole = Script::parse(rt.alloc(), BOARD)?;
-    for piece in [1, 2, 7, 64, 1000] {
-        let feed = fed(rt.alloc(), BOARD, piece)?;
-        let script = feed.script(rt.alloc())?;
-        assert_eq!(rt; script.sections(), 1);
-        assert_eq!(rt; script.cost(), whole.cost());
-        for i in 0..14 {
-            let words = script.statement(0, i).map(|statement| statement.line());
-            let wanted = whole.statement(0, i).map(|statement| statement.line());
-            assert_eq!(rt; words, wanted, "pieces of {piece} bytes");
+/// Whether two scripts have one section, and the same cost and statements.
+fn are_same(script: &Script<'_>, whole: &Script<'_>) -> bool {
+    script.sections() == 1 && script.cost() == whole.cost() && have_same_lines(script, whole)
+}
+
+/// Whether the first 14 statements are the same.
+fn have_same_lines(script: &Script<'_>, whole: &Script<'_>) -> bool {
+    for i in 0..14 {
+        let words = script.statement(0, i).map(|statement| statement.line());
+        let wanted = whole.statement(0, i).map(|statement| statement.line());
+        if words != wanted {
+            return false;
         }
     }
-    Ok(())
+    true
+}
+
+/// Whether a feed has the statements of the board.
+fn has_board(alloc: Global, feed: &Feed) -> bool {
+    match (feed.script(alloc), Script::parse(alloc, BOARD)) {
+        (Ok(script), Ok(whole)) => are_same(&script, &whole),
+        _ => false,
+    }
+}
+
+/// Whether the board that came in pieces of so many bytes has the statements of the whole.
+fn is_fed(alloc: Global, piece: usize) -> Result<bool, Errno>
+    requires { 0 < piece }
+{
+    let mut feed = Feed::new(alloc)?;
+    feed_pieces(&mut feed, BOARD, piece)?;
+    Ok(has_board(alloc, &feed))
 }
 
 #[test]
-fn a_load_is_a_session_of_its_number(rt: HostRuntime) -> Result<(), Fail> {
-    let mut text = b"".to_vec(rt.alloc())?;
-    assert!(rt; generate(1, &mut text).is_ok());
-    assert!(rt; text.as_slice() == ONE_TURN);
-    text.clear();
-    assert!(rt; generate(5000, &mut text).is_ok());
-    assert_eq!(rt; first_fault(rt.alloc(), &text), (65_319, 0, "ok"));
+fn pieces_of_any_length_give_the_same_statements(rt: HostRuntime) {
+    for piece in [1, 2, 7, 64, 1000] {
+        assert!(rt;
+            is_fed(rt.alloc(), piece) == Ok(true),
+            "pieces of {piece} bytes"
+        );
+    }
+}
+
+/// The first fault of a load.
+fn load_fault(alloc: Global, number: u32) -> Result<Fault, Errno> {
+    let mut text = Vec::new(alloc);
+    generate(number, &mut text)?;
+    Ok(first_fault(alloc, &text))
+}
+
+/// Whether the load of number 1 has its text.
+fn is_one_turn(alloc: Global) -> Result<bool, Errno> {
+    let mut text = Vec::new(alloc);
+    generate(1, &mut text)?;
+    Ok(text.as_slice() == ONE_TURN)
+}
+
+#[test]
+fn a_load_is_a_session_of_its_number(rt: HostRuntime) {
+    assert!(rt; is_one_turn(rt.alloc()) == Ok(true));
+    assert!(rt; load_fault(rt.alloc(), 5000) == Ok((65_319, 0, "ok")));
     loads_are_sessions();
-    Ok(())
 }

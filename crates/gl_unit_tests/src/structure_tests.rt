@@ -8,7 +8,6 @@ use gl_uapi::{
     write_chip_info, write_config, write_event, write_fd, write_info_changed, write_line_info,
     write_request, write_request_answer, write_values,
 };
-use std::test::Fail;
 
 /// The commands' numbers as a C compiler gets them from `linux/gpio.h`, and their structures' lengths.
 fn commands() -> [(Command, u32, u32); 8] {
@@ -63,42 +62,52 @@ fn views_need_their_length(rt: HostRuntime) {
     }
 }
 
+/// A chip, as its view reads it: name, label and lines. Nothing where there is no view.
+fn chip_told(bytes: &[u8]) -> Option<(Name, Name, u32)> {
+    match ChipRef::of(bytes) {
+        Some(chip) => Some((
+            Name::read(chip.name()),
+            Name::read(chip.label()),
+            chip.lines(),
+        )),
+        None => None,
+    }
+}
+
 #[test]
-fn chips_are_read_as_written(rt: HostRuntime) -> Result<(), Fail> {
-    let name = Name::of(b"gpiochip0").ok_or("name")?;
-    let label = Name::of(b"demo").ok_or("label")?;
+fn chips_are_read_as_written(rt: HostRuntime) {
+    let name = Name::filled(b"gpiochip0");
+    let label = Name::filled(b"demo");
     let mut out = [0xFFu8; 70];
     write_chip_info(&mut out, &name, &label, 4);
-    let chip = ChipRef::of(&out).ok_or("chip")?;
-    let told = (
-        Name::read(chip.name()),
-        Name::read(chip.label()),
-        chip.lines(),
-    );
-    assert!(rt; told == (name, label, 4));
-    assert!(rt; out[68] == 0xFF);
-    Ok(())
+    assert!(rt; chip_told(&out) == Some((name, label, 4)) && out[68] == 0xFF);
+}
+
+/// Bits and mask of values, as their view reads them.
+fn values_told(bytes: &[u8]) -> Option<(u64, u64)> {
+    match ValuesRef::of(bytes) {
+        Some(values) => Some((values.bits(), values.mask())),
+        None => None,
+    }
 }
 
 #[test]
-fn values_are_read_as_written(rt: HostRuntime) -> Result<(), Fail> {
+fn values_are_read_as_written(rt: HostRuntime) {
     let mut out = [0xFFu8; 17];
     write_values(&mut out, 0x8000_0000_0000_0001, 3);
-    let values = ValuesRef::of(&out).ok_or("values")?;
-    assert!(rt; (values.bits(), values.mask()) == (0x8000_0000_0000_0001, 3));
+    assert!(rt; values_told(&out) == Some((0x8000_0000_0000_0001, 3)));
     assert!(rt; (out[0], out[7], out[8], out[16]) == (1, 0x80, 3, 0xFF));
-    Ok(())
 }
 
-/// A debounced input with a name and a consumer.
-fn button() -> Result<Info, Fail> {
-    Ok(Info {
-        name: Name::of(b"BUTTON").ok_or("name")?,
-        consumer: Name::of(b"?").ok_or("consumer")?,
+/// An input with a name and a consumer that is debounced for so many microseconds.
+fn button(period: u32) -> Info {
+    Info {
+        name: Name::filled(b"BUTTON"),
+        consumer: Name::filled(b"?"),
         offset: 3,
         flags: 0x105,
-        period: 1000,
-    })
+        period,
+    }
 }
 
 /// What a view of a line's information tells.
@@ -123,33 +132,42 @@ fn told_of(info: &Info) -> (Name, Name, u32, u64, u32) {
     )
 }
 
+/// A change of a line, as its view reads it: when, of which kind, and the line. Nothing where its padding isn't zero.
+fn change_told(bytes: &[u8]) -> Option<(u64, u32, (Name, Name, u32, u64, u32))> {
+    match ChangedRef::of(bytes) {
+        Some(read) if read.info().padding_is_zero() => {
+            Some((read.timestamp(), read.kind(), info_told(&read.info())))
+        }
+        _ => None,
+    }
+}
+
 #[test]
-fn changes_are_read_as_written(rt: HostRuntime) -> Result<(), Fail> {
+fn changes_are_read_as_written(rt: HostRuntime) {
     let changed = Changed {
-        info: button()?,
+        info: button(1000),
         timestamp: 1_500_000_000,
         kind: 2,
     };
     let mut out = [0xFFu8; 288];
     write_info_changed(&mut out, &changed);
-    let read = ChangedRef::of(&out).ok_or("changed")?;
-    assert!(rt; (read.timestamp(), read.kind()) == (1_500_000_000, 2));
-    assert!(rt; info_told(&read.info()) == told_of(&changed.info));
-    assert!(rt; read.info().padding_is_zero());
-    Ok(())
+    assert!(rt; change_told(&out) == Some((1_500_000_000, 2, told_of(&changed.info))));
+}
+
+/// A line, as its view reads it. Nothing where there is no view.
+fn line_told(bytes: &[u8]) -> Option<(Name, Name, u32, u64, u32)> {
+    match InfoRef::of(bytes) {
+        Some(line) => Some(info_told(&line)),
+        None => None,
+    }
 }
 
 #[test]
-fn lines_are_read_as_written(rt: HostRuntime) -> Result<(), Fail> {
-    let still = Info {
-        period: 0,
-        ..button()?
-    };
+fn lines_are_read_as_written(rt: HostRuntime) {
+    let still = button(0);
     let mut out = [0xFFu8; 256];
     write_line_info(&mut out, &still);
-    let line = InfoRef::of(&out).ok_or("info")?;
-    assert!(rt; info_told(&line) == told_of(&still));
-    Ok(())
+    assert!(rt; line_told(&out) == Some(told_of(&still)));
 }
 
 #[test]
@@ -168,9 +186,14 @@ fn events_are_read_as_written(rt: HostRuntime) {
     assert!(rt; events.get(1) == event);
 }
 
-/// The numbers of a request, as its view reads them: three offsets, how many lines it has, the room that it asks for, and
-/// its file.
-fn numbers_told(request: &RequestRef<'_>) -> ([u32; 3], u32, u32, i32) {
+/// The numbers of a request: three offsets, how many lines it has, the room that it asks for, and its file.
+type Numbers = ([u32; 3], u32, u32, i32);
+
+/// A configuration: flags, how many attributes, and of the first one kind, value, period and mask.
+type Config = (u64, u32, (u32, u64, u32, u64));
+
+/// The numbers of a request, as its view reads them.
+fn numbers_told(request: &RequestRef<'_>) -> Numbers {
     (
         [request.offset(0), request.offset(1), request.offset(2)],
         request.num_lines(),
@@ -189,8 +212,8 @@ fn attribute_told(attribute: &AttrRef<'_>) -> (u32, u64, u32, u64) {
     )
 }
 
-/// A configuration, as its view reads it: flags, how many attributes, and the first of them.
-fn config_told(config: &ConfigRef<'_>) -> (u64, u32, (u32, u64, u32, u64)) {
+/// A configuration, as its view reads it.
+fn config_told(config: &ConfigRef<'_>) -> Config {
     (
         config.flags(),
         config.num_attrs(),
@@ -220,33 +243,37 @@ fn two_lines() -> [u8; 592] {
     bytes
 }
 
+/// Whether a request reads as these numbers, this configuration and this consumer, and its padding is zero.
+fn is_read(bytes: &[u8], numbers: Numbers, config: Config, consumer: &[u8]) -> bool {
+    match RequestRef::of(bytes) {
+        Some(request) => {
+            is_padded(&request)
+                && numbers_told(&request) == numbers
+                && config_told(&request.config()) == config
+                && Name::read(request.consumer()).as_bytes() == consumer
+        }
+        None => false,
+    }
+}
+
 #[test]
-fn requests_are_read(rt: HostRuntime) -> Result<(), Fail> {
-    let bytes = two_lines();
-    let request = RequestRef::of(&bytes).ok_or("request")?;
-    assert!(rt; numbers_told(&request) == ([0, 7, 0], 2, 16, -1));
-    assert!(rt; config_told(&request.config()) == (0x34, 1, (3, 1000, 1000, 2)));
-    assert!(rt; Name::read(request.consumer()).as_bytes() == b"x".as_slice());
-    assert!(rt; is_padded(&request));
-    Ok(())
+fn requests_are_read(rt: HostRuntime) {
+    let numbers = ([0, 7, 0], 2, 16, -1);
+    assert!(rt; is_read(&two_lines(), numbers, (0x34, 1, (3, 1000, 1000, 2)), b"x"));
 }
 
 /// A request that a client wrote, with an attribute for both of its lines.
 #[test]
-fn requests_are_read_as_written(rt: HostRuntime) -> Result<(), Fail> {
-    let consumer = Name::of(b"gpioset").ok_or("consumer")?;
+fn requests_are_read_as_written(rt: HostRuntime) {
+    let consumer = Name::filled(b"gpioset");
     let values = NewAttribute {
         value: AttributeValue::OutputValues(2),
         mask: 3,
     };
     let mut bytes = [0xFFu8; 592];
     write_request(&mut bytes, &[5, 7], &consumer, 8, &[values], 0);
-    let request = RequestRef::of(&bytes).ok_or("request")?;
-    assert!(rt; numbers_told(&request) == ([5, 7, 0], 2, 0, 0));
-    assert!(rt; config_told(&request.config()) == (8, 1, (2, 2, 2, 3)));
-    assert!(rt; Name::read(request.consumer()) == consumer);
-    assert!(rt; is_padded(&request));
-    Ok(())
+    let numbers = ([5, 7, 0], 2, 0, 0);
+    assert!(rt; is_read(&bytes, numbers, (8, 1, (2, 2, 2, 3)), b"gpioset"));
 }
 
 /// A period of 1000 microseconds for the first line.
@@ -265,21 +292,34 @@ fn a_configuration_has_its_attributes_as_they_are_written_alone(rt: HostRuntime)
     assert!(rt; attribute[..] == config[32..56]);
 }
 
-#[test]
-fn a_request_is_answered_as_far_as_the_buffer_goes(rt: HostRuntime) -> Result<(), Fail> {
-    let mut whole = [7; 592];
-    write_request_answer(&mut whole, &[0; 592], 5);
-    assert!(rt; RequestRef::of(&whole).ok_or("592 bytes")?.fd() == 5);
-    let mut short = [7; 590];
-    write_request_answer(&mut short, &[0; 592], 0x0102_0304);
-    assert!(rt; short[587..] == [0, 4, 3]);
-    Ok(())
+/// The file of a request, as its view reads it.
+fn fd_told(bytes: &[u8]) -> Option<i32> {
+    match RequestRef::of(bytes) {
+        Some(request) => Some(request.fd()),
+        None => None,
+    }
 }
 
 #[test]
-fn a_line_to_be_watched_no_more_is_its_offset(rt: HostRuntime) -> Result<(), Fail> {
-    let unwatch = UnwatchRef::of(&[9, 0, 0, 0, 1]).ok_or("5 bytes")?;
-    assert!(rt; unwatch.offset() == 9);
-    assert!(rt; UnwatchRef::of(&[9, 0, 0]).is_none());
-    Ok(())
+fn a_request_is_answered_as_far_as_the_buffer_goes(rt: HostRuntime) {
+    let mut whole = [7; 592];
+    write_request_answer(&mut whole, &[0; 592], 5);
+    assert!(rt; fd_told(&whole) == Some(5));
+    let mut short = [7; 590];
+    write_request_answer(&mut short, &[0; 592], 0x0102_0304);
+    assert!(rt; short[587..] == [0, 4, 3]);
+}
+
+/// The offset of a line that is to be watched no more, as its view reads it.
+fn unwatched(bytes: &[u8]) -> Option<u32> {
+    match UnwatchRef::of(bytes) {
+        Some(unwatch) => Some(unwatch.offset()),
+        None => None,
+    }
+}
+
+#[test]
+fn a_line_to_be_watched_no_more_is_its_offset(rt: HostRuntime) {
+    assert!(rt; unwatched(&[9, 0, 0, 0, 1]) == Some(9));
+    assert!(rt; unwatched(&[9, 0, 0]) == None);
 }

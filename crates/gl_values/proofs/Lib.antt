@@ -1,8 +1,11 @@
 pub mod ChipWords
 pub mod DetectCosts
+pub mod DetectPrints
 pub mod InfoCosts
 pub mod InfoLines
+pub mod InfoPrints
 pub mod Staying
 pub mod ToolCosts
 pub mod ToolNames
+pub mod ToolPrints
 pub mod ToolSlots

@@ -1,9 +1,11 @@
-//! What the tools cost, and which files they open and close, whatever they are answered. Each law stands as the contract of a function that does nothing.
+//! What the tools cost, which files they open and close, and that they print whole lines, whatever they are answered. Each law
+//! stands as the contract of a function that does nothing.
 ghost use Rattle.std.specs.Prelude.{◌≡◌, ℕ, ◌+◌, Bool, true, List, ◌∷◌};
 ghost use Rattle.gl_args.specs.Options.{SaidTool};
 ghost use Rattle.gl_args.specs.Costs.{CostsAtMost};
 ghost use Rattle.gl_args.specs.Gives.{Gives};
 ghost use Rattle.gl_args.specs.OpenSlots.{AreApart, NamesOpenSlots, SameSlots, with_slot};
+ghost use Rattle.gl_args.specs.Printing.{PrintsLines};
 ghost use Rattle.gl_values.specs.Client.{tool_program, held_program};
 ghost use Rattle.gl_values.specs.Costs.{tool_cost, held_cost};
 ghost use Rattle.gl_lines.specs.OwnSlots.{SlotPasses};
@@ -31,4 +33,11 @@ pub fn tools_name_open_slots()
 pub fn tools_hold_their_own_slot()
     ensures started { (test : ℕ → Bool) (tool : SaidTool) (base : ℕ) → test (base + 1) ≡ true → Gives (SlotPasses test) (held_program tool base) }
     ensures stopped { (test : ℕ → Bool) (held : Held) → Gives (SlotPasses test) (stops held) }
+{}
+
+/// Each text that a tool prints is whole lines: its last byte is 0x0A.
+pub fn tools_print_lines()
+    ensures statement { (tool : SaidTool) (base : ℕ) → PrintsLines (tool_program tool base) }
+    ensures started { (tool : SaidTool) (base : ℕ) → PrintsLines (held_program tool base) }
+    ensures stopped { (held : Held) → PrintsLines (stops held) }
 {}

@@ -5,15 +5,15 @@ use Rattle.gl_request.specs.declared.row.RequestRow.{RequestRow}
 use Rattle.gl_base.specs.Lines.{offsets_of}
 use Rattle.gl_base.specs.Rows.{Each}
 use Rattle.gl_model.specs.declared.place.Place.{Place}
-use Rattle.gl_model.specs.Opening.{without_deadlines_at}
+use Rattle.gl_model.specs.Opening.{with_timers_let_go}
 use Rattle.gl_core.specs.Kept.{Kept, StandsFor}
 use Rattle.gl_core.specs.Shape.{HasLine, IsInRange, IsShaped}
 use Rattle.gl_core.specs.View.{view_of}
 use Rattle.gl_core.proofs.Closing.{closed_stands, lines_freed, lines_in_range, shape_freed}
 use Rattle.gl_core.proofs.state.State.close_request.Goals as goal
 
-pub clear_each-requires : goal.clear_each-requires
-clear_each-requires c =
+pub let_go_each-requires : goal.let_go_each-requires
+let_go_each-requires c =
     let row : RequestRow = c.take_at-row.result in
     let found : row_at c.args.self.now.requests c.args.found.fd ≡ Some row = subst (λ (k : Kept). row_at k.requests c.args.found.fd ≡ Some row) c.self.view_is c.take_at-row.ensures.row in
     subst (Each (IsInRange row.place)) (sym c.offsets.ensures)
@@ -36,5 +36,5 @@ notify_each-requires-clause-lines c =
 pub returns : goal.returns
 returns c w s =
     let row : RequestRow = c.take_at-row.result in
-    closed_stands (view_of c.self.inside) w c.args.found.fd (claim_of row) c.take_at-row.new.self c.clear_each.new.timers c.free.new.self c.notify_each.new.self (subst (λ k. StandsFor k w) (sym c.self.view_is) s)
-    (ap (option_map claim_of) c.take_at-row.ensures.row) c.take_at-row.ensures.rows (c.clear_each.ensures ∙ ap (λ offsets. without_deadlines_at row.place offsets c.self.inside.timers) c.offsets.ensures) c.free.ensures c.notify_each.ensures.follows
+    closed_stands (view_of c.self.inside) w c.args.found.fd (claim_of row) c.take_at-row.new.self c.let_go_each.new.timers c.free.new.self c.notify_each.new.self (subst (λ k. StandsFor k w) (sym c.self.view_is) s)
+    (ap (option_map claim_of) c.take_at-row.ensures.row) c.take_at-row.ensures.rows (c.let_go_each.ensures ∙ ap (λ offsets. with_timers_let_go row.place offsets c.self.inside.timers) c.offsets.ensures) c.free.ensures c.notify_each.ensures.follows

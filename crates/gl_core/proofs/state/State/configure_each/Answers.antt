@@ -25,13 +25,13 @@ loop-i-preserved c = (
       let there : row_at c.loop-i.self.requests c.args.found.fd ≡ Some row = subst (λ (rows : List RequestRow). row_at rows c.args.found.fd ≡ Some row) (sym c.loop-i.invariant.0) is in
       let size : length c.args.lines.now.offsets ≡ 64 = search rules in
       let few : c.args.lines.now.count ≤ length c.args.lines.now.offsets = omega (arith, size, c.requires.count.1) in (
-        configure_at c.args.place c.args.lines.now row.settings c.loop-i.i so_far.0,
+        configure_at c.args.place c.args.lines.now row.settings c.args.bits c.loop-i.i so_far.0,
         c.configure_found.ensures.follows row there so_far.0 so_far.1,
-        sym (configure_more c.args.place row.settings c.args.lines.now c.loop-i.i so_far.0 c.loop-i-test.true few) ∙ so_far.2,
+        sym (configure_more c.args.place row.settings c.args.bits c.args.lines.now c.loop-i.i so_far.0 c.loop-i-test.true few) ∙ so_far.2,
       ),
 )
 
 pub returns-clause-follows : goal.returns-clause-follows
 returns-clause-follows c row is w s =
     let so_far = c.loop-i.invariant.2 row is w s in
-    subst (λ (v : World). StandsFor c.loop-i.self v) (sym (configure_end c.args.place row.settings c.args.lines.now c.loop-i.i so_far.0 c.loop-i-test.false) ∙ so_far.2) so_far.1
+    subst (λ (v : World). StandsFor c.loop-i.self v) (sym (configure_end c.args.place row.settings c.args.bits c.args.lines.now c.loop-i.i so_far.0 c.loop-i-test.false) ∙ so_far.2) so_far.1

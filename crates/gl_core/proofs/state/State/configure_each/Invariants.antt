@@ -14,4 +14,4 @@ invariant-loop-i l =
     (l.self.requests ≡ l.initial.self.requests)
     × KeepsLines l.initial.self.places l.self.places
     × ((row : RequestRow) → row_at l.initial.self.requests l.found.fd ≡ Some row → (w : World) → StandsFor l.initial.self w
-    → (v : World) × StandsFor l.self v × (configure_from l.place row.settings l.i (drop l.i (offsets_of l.lines)) v ≡ configure_from l.place row.settings 0 (offsets_of l.lines) w))
+    → (v : World) × StandsFor l.self v × (configure_from l.place row.settings l.bits l.i (drop l.i (offsets_of l.lines)) v ≡ configure_from l.place row.settings l.bits 0 (offsets_of l.lines) w))

@@ -4,8 +4,13 @@ use Rattle.gl_simtree.specs.declared.row.State.TheVariants.{Off}
 use Rattle.gl_simtree.specs.declared.row.TreeRow.{TreeRow}
 use Rattle.gl_core.specs.Kept.{StandsFor}
 use Rattle.gl_core.specs.View.{view_of}
-use Rattle.gl_core.proofs.Removing.{remove_ends, tree_changed}
+use Rattle.gl_core.proofs.Removing.{remove_ends, remove_refused, tree_changed}
 use Rattle.gl_core.proofs.state.State.end_remove.Goals as goal
+
+pub returns-then-count-eq0 : goal.returns-then-count-eq0
+returns-then-count-eq0 c = λ w s.
+    remove_refused w c.args.self.now c.args.actor c.args.device.now c.removal_places-places.result c.summary-first.result.1 c.used.result
+    (c.removal_places-places.ensures w s) (c.used.ensures.used w s) c.summary-first.ensures.count c.if-count-eq0.true s
 
 pub returns : goal.returns
 returns c w s =

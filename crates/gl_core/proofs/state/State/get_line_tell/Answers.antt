@@ -26,7 +26,7 @@ returns-in-Some-answer c w s =
     let len : ℕ = length c.args.out.now in
     let P : Outcome → Type 0 = λ out. StandsFor c.hold_claim.new.self out.world × (◌≡◌ {A = Reply} (Number c.from.result) out.reply) × (c.write_with_fd.new.out ≡ out.bytes ++ drop (length out.bytes) c.args.out.now) in
     subst (λ (answer : Option ℕ). P (get_line_tell c.args.place c.args.actor answer len c.args.bytes.now w)) (sym c.in-Some-answer.is)
-    (told_of P (Some c.in-Some-answer.field-0) len c.args.bytes.now w (row_at k.requests c.in-Some.found.fd) (claim_at c.args.place (claim_by w.requests c.args.actor)) (c.in-Some.ensures.told w s)
+    (told_of P (Some c.in-Some-answer.bits) len c.args.bytes.now w (row_at k.requests c.in-Some.found.fd) (claim_at c.args.place (claim_by w.requests c.args.actor)) (c.in-Some.ensures.told w s)
     (found_some (is_number c.in-Some.found.fd) k.requests c.in-Some.found.at c.in-Some.ensures.stands)
     (λ request same.
     let number : request.fd ≡ c.in-Some.found.fd = row_number k.requests c.in-Some.found.fd (kept_request request) same in (

@@ -35,5 +35,5 @@ returns c request is w s =
     let settled : StandsFor c.settle_claim.new.self (settled_claim request w) =
     c.settle_claim.ensures.follows request is (ap (λ (r : RequestRow). r.place) (sym same)) (ap (λ (r : RequestRow). r.lines) (sym same)) w s in
     let there : row_at c.settle_claim.new.self.requests c.args.found.fd ≡ Some (held row) = c.settle_claim.ensures.row ∙ ap (option_map held) found in
-    subst (λ (r : RequestRow). StandsFor c.notify_each.new.self (notify_each r.place (offsets_of r.lines) CHANGED_REQUESTED (configure_each r.place r.lines r.settings (settled_claim request w)))) same
+    subst (λ (r : RequestRow). StandsFor c.notify_each.new.self (notify_each r.place (offsets_of r.lines) CHANGED_REQUESTED (configure_each r.place r.lines r.settings c.args.bits (settled_claim request w)))) same
     (c.notify_each.ensures.follows _ (c.configure_each.ensures.follows (held row) there (settled_claim request w) settled))

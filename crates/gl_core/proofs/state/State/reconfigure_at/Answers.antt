@@ -15,7 +15,7 @@ notify-requires c = c.configure_at.ensures.lines _ _ c.requires.line
 pub returns-then-is_directed-clause-follows : goal.returns-then-is_directed-clause-follows
 returns-then-is_directed-clause-follows c w s =
     let directed : is_directed c.args.settings.now c.args.i ≡ true = sym c.is_directed.ensures ∙ c.if-is_directed.true in
-    let after = configure_at c.args.place c.args.lines.now c.args.settings.now c.args.i w in
+    let after = configure_at c.args.place c.args.lines.now c.args.settings.now c.args.bits c.args.i w in
     subst (λ (b : Bool). StandsFor c.notify.new.self (if b then notify c.args.place (slice_index c.args.lines.now.offsets c.args.i) CHANGED_CONFIG after else w)) (sym directed)
     (c.notify.ensures.follows after (c.configure_at.ensures.follows w s))
 

@@ -18,13 +18,13 @@ loop-i-preserved c = (
       let so_far = c.loop-i.invariant.1 w s in
       let size : length c.args.lines.now.offsets ≡ 64 = search rules in
       let few : c.args.lines.now.count ≤ length c.args.lines.now.offsets = omega (arith, size, c.requires.count.1) in (
-        reconfigure_at c.args.place c.args.lines.now c.args.settings.now c.loop-i.i so_far.0,
+        reconfigure_at c.args.place c.args.lines.now c.args.settings.now c.args.bits c.loop-i.i so_far.0,
         c.reconfigure_at.ensures.follows so_far.0 so_far.1,
-        sym (reconfigure_more c.args.place c.args.settings.now c.args.lines.now c.loop-i.i so_far.0 c.loop-i-test.true few) ∙ so_far.2,
+        sym (reconfigure_more c.args.place c.args.settings.now c.args.bits c.args.lines.now c.loop-i.i so_far.0 c.loop-i-test.true few) ∙ so_far.2,
       ),
 )
 
 pub returns : goal.returns
 returns c w s =
     let so_far = c.loop-i.invariant.1 w s in
-    subst (λ (v : World). StandsFor c.loop-i.self v) (sym (reconfigure_end c.args.place c.args.settings.now c.args.lines.now c.loop-i.i so_far.0 c.loop-i-test.false) ∙ so_far.2) so_far.1
+    subst (λ (v : World). StandsFor c.loop-i.self v) (sym (reconfigure_end c.args.place c.args.settings.now c.args.bits c.args.lines.now c.loop-i.i so_far.0 c.loop-i-test.false) ∙ so_far.2) so_far.1

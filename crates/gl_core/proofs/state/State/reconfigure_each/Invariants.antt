@@ -11,4 +11,4 @@ abbrev pub invariant-loop-i : goal.invariant-loop-i
 invariant-loop-i l =
     KeepsLines l.initial.self.places l.self.places
     × ((w : World) → StandsFor l.initial.self w
-    → (v : World) × StandsFor l.self v × (reconfigure_from l.place l.settings l.i (drop l.i (offsets_of l.lines)) v ≡ reconfigure_from l.place l.settings 0 (offsets_of l.lines) w))
+    → (v : World) × StandsFor l.self v × (reconfigure_from l.place l.settings l.bits l.i (drop l.i (offsets_of l.lines)) v ≡ reconfigure_from l.place l.settings l.bits 0 (offsets_of l.lines) w))

@@ -38,7 +38,7 @@ returns-in-Err c w s =
     let row : RequestRow = c.row-row.result.now in
     let found : request_at k.requests c.args.found.fd ≡ Some row = subst (λ (k : Kept). request_at k.requests c.args.found.fd ≡ Some row) c.self.view_is c.row-row.ensures.row in
     let bytes = take LINE_CONFIG_SIZE c.args.bytes.now in
-    let rest : Outcome = in_parts c.args.part.now (λ bits v. done (reconfigure c.args.place c.args.found.fd row.lines row.settings (resolved_for bytes row.lines.count) v)) w in
+    let rest : Outcome = in_parts c.args.part.now (λ bits v. done (reconfigure c.args.place c.args.found.fd row.lines row.settings (resolved_for bytes row.lines.count) bits v)) w in
     on_row (λ out. StandsFor k out.world × (Refused c.in-Err.errno ≡ out.reply))
     (set_config c.args.place c.args.found.fd bytes c.args.part.now) k w c.args.found.fd row s found
     (subst (λ (refusal : Option Errno). let out = refused_or refusal w rest in StandsFor k out.world × (Refused c.in-Err.errno ≡ out.reply)) (c.in-Err.ensures.refused w s) (s, refl))
@@ -49,7 +49,7 @@ returns-in-Ok c w s =
     let row : RequestRow = c.row-row.result.now in
     let found : request_at k.requests c.args.found.fd ≡ Some row = subst (λ (k : Kept). request_at k.requests c.args.found.fd ≡ Some row) c.self.view_is c.row-row.ensures.row in
     let bytes = take LINE_CONFIG_SIZE c.args.bytes.now in
-    let rest : Resolved → Outcome = λ settings. in_parts c.args.part.now (λ bits v. done (reconfigure c.args.place c.args.found.fd row.lines row.settings settings v)) w in
+    let rest : Resolved → Outcome = λ settings. in_parts c.args.part.now (λ bits v. done (reconfigure c.args.place c.args.found.fd row.lines row.settings settings bits v)) w in
     let told : StandsFor c.take_settings.new.self (rest (resolved_for bytes row.lines.count)).world × (c.take_settings.result ≡ (rest (resolved_for bytes row.lines.count)).reply) =
     subst (λ (settings : Resolved). StandsFor c.take_settings.new.self (rest settings).world × (c.take_settings.result ≡ (rest settings).reply)) c.in-Ok.ensures.ok (c.take_settings.ensures row found w s) in
     on_row (λ out. StandsFor c.take_settings.new.self out.world × (c.take_settings.result ≡ out.reply))

@@ -1,0 +1,131 @@
+-- What a line is answered, by what the code keeps.
+use Rattle.std.proofs.Common.{◌≡◌, ℕ, ◌+◌, ◌^◌, ◌<◌, ◌≤◌, Bool, true, false, cond, List, [], ◌++◌, length, drop, codes, Result, Ok, Err, IfOk, refl, sym, ap, ◌∙◌, subst, arith, inl, inr, length-append, length-drop, ◌∷◌}
+use Rattle.std.proofs.lemmas.Bool.{cases_lt, le-ltb}
+use Rattle.gl_base.specs.Words.{text_at}
+use Rattle.gl_base.specs.declared.errno.Errno.{Errno}
+use Rattle.gl_debounce.specs.Earliest.{earliest}
+use Rattle.gl_script.specs.Columns.{columns}
+use Rattle.gl_script.specs.Faults.{spot}
+use Rattle.gl_script.specs.Served.{line_kind, opened}
+use Rattle.gl_script.specs.declared.refusal.RefusalKind.TheVariants.{Limit}
+use Rattle.gl_script.specs.declared.refusal.Spot.{Spot}
+use Rattle.gl_script.specs.declared.served.LineKind.{LineKind}
+use Rattle.gl_script.specs.declared.served.LineKind.TheVariants.{Passed, Header, Setup, Statement}
+use Rattle.gl_script.specs.declared.served.Stage.{Stage}
+use Rattle.gl_talk.specs.Open.{Names, file_of, is_chip_file}
+use Rattle.gl_talk.specs.Talk.{names_in}
+use Rattle.gl_talk.specs.declared.talk.Talk.{Talk}
+use Rattle.gl_served.specs.Alone.{StandsAs}
+use Rattle.gl_served.specs.Questions.{IsData, IsReply, IsReplyTo, data_kind, due_text, moved, names_chip, question_of, read_word, shift_of, stands_for}
+use Rattle.gl_served.specs.Served.{IsAnswer, Keeps, Said, ServedValue, carried_out, kind_after, limited}
+use Rattle.gl_served.specs.declared.alone.Alone.{Alone}
+use Rattle.gl_served.specs.declared.answered.Answer.{Answer}
+use Rattle.gl_served.specs.declared.answered.Answer.TheVariants.{Text, Refused}
+use Rattle.gl_served.specs.declared.question.Question.{Question}
+use Rattle.gl_served.specs.declared.question.Question.TheVariants.{Nothing, Due, Data}
+use Rattle.gl_served.proofs.CutLines.{long_asks}
+
+-- the kind of a line
+pub short_kind : (said : Said) (line : List ℕ) (begun : ℕ) (stage : Stage) → begun ≡ length said.statements → stage ≡ said.stage → length line ≤ 8192 → limited begun (line_kind stage line) ≡ kind_after said line
+short_kind said line begun stage counted reached short =
+    ap (λ (n : ℕ). limited n (line_kind stage line)) counted
+    ∙ ap (λ (s : Stage). limited (length said.statements) (line_kind s line)) reached
+    ∙ sym (ap (λ b. cond b (Err (spot 8193 Limit)) (limited (length said.statements) (line_kind said.stage line))) (le-ltb 8192 (length line) short))
+
+-- a refused line
+pub refuses : (said : Said) (line : List ℕ) (kind : Result LineKind Spot) (fault : Spot) → Err fault ≡ kind → IsAnswer said line kind (Refused fault) [] said
+refuses said line kind fault is = subst (λ (k : Result LineKind Spot). IsAnswer said line k (Refused fault) [] said) is (refl, refl, refl)
+
+-- a stage more is reached
+pub reached : (before stage : Stage) (talk : Talk) (alone : Alone) (stopped : Bool) (served : ServedValue) (said : Said) → record { stage = before; talk = talk; alone = alone; stopped = stopped } ≡ served
+    → Keeps served said → Keeps (record { stage = stage; talk = talk; alone = alone; stopped = stopped }) (record { stage = stage; statements = said.statements })
+reached before stage talk alone stopped served said is keeps = record {
+  stage = refl;
+  begun = ap (λ (v : ServedValue). v.talk.begun) is ∙ keeps.begun;
+  names = ap (λ (v : ServedValue). names_in v.talk) is ∙ keeps.names;
+  stands = subst (λ (a : Alone). StandsAs a (carried_out said.statements).behind) (sym (ap (λ (v : ServedValue). v.alone) is)) keeps.stands;
+  goes = ap (λ (v : ServedValue). v.stopped) is ∙ keeps.goes;
+}
+
+-- `setup` was accepted
+pub opened_up : (before stage : Stage) (talk : Talk) (alone : Alone) (stopped : Bool) (served : ServedValue) (said : Said) → record { stage = before; talk = talk; alone = alone; stopped = stopped } ≡ served → stage ≡ opened before
+    → Keeps served said → Keeps (record { stage = stage; talk = talk; alone = alone; stopped = stopped }) (record { stage = opened said.stage; statements = said.statements })
+opened_up before stage talk alone stopped served said is opens keeps =
+    let same : opened said.stage ≡ stage = ap opened (sym keeps.stage ∙ sym (ap (λ (v : ServedValue). v.stage) is)) ∙ sym opens in
+    subst (λ s. Keeps (record { stage = stage; talk = talk; alone = alone; stopped = stopped }) (record { stage = s; statements = said.statements })) (sym same)
+    (reached before stage talk alone stopped served said is keeps)
+
+module _ (result : Result Answer Errno) (old new : List ℕ) (now : ServedValue) (said : Said) where
+  -- by what the line is
+  pub said_by : (line : List ℕ) (kind other : Result LineKind Spot) → kind ≡ other
+      → IfOk result (λ answer. (text : List ℕ) × (then : Said) × (new ≡ old ++ text) × IsAnswer said line kind answer text then × Keeps now then)
+      → IfOk result (λ answer. (text : List ℕ) × (then : Said) × (new ≡ old ++ text) × IsAnswer said line other answer text then × Keeps now then)
+  said_by line kind other is told =
+      subst (λ (k : Result LineKind Spot). IfOk result (λ answer. (text : List ℕ) × (then : Said) × (new ≡ old ++ text) × IsAnswer said line k answer text then × Keeps now then)) is told
+
+  pub read_by : (line stood : List ℕ) (kind other : Result LineKind Spot) → line ≡ stood → kind ≡ other
+      → IfOk result (λ answer. (text : List ℕ) × (then : Said) × (new ≡ old ++ text) × IsData said line kind answer text then × Keeps now then)
+      → IfOk result (λ answer. (text : List ℕ) × (then : Said) × (new ≡ old ++ text) × IsData said stood other answer text then × Keeps now then)
+  read_by line stood kind other same is told =
+      subst (λ (l : List ℕ). IfOk result (λ answer. (text : List ℕ) × (then : Said) × (new ≡ old ++ text) × IsData said l other answer text then × Keeps now then)) same
+      (subst (λ (k : Result LineKind Spot). IfOk result (λ answer. (text : List ℕ) × (then : Said) × (new ≡ old ++ text) × IsData said line k answer text then × Keeps now then)) is told)
+
+  -- by which question it is
+  pub replied_by : (line : List ℕ) (q : Question) → question_of said.stage line ≡ q
+      → IfOk result (λ answer. (text : List ℕ) × (then : Said) × (new ≡ old ++ text) × IsReplyTo q said line answer text then × Keeps now then)
+      → IfOk result (λ answer. (text : List ℕ) × (then : Said) × (new ≡ old ++ text) × IsReply said line answer text then × Keeps now then)
+  replied_by line q is told =
+      subst (λ (p : Question). IfOk result (λ answer. (text : List ℕ) × (then : Said) × (new ≡ old ++ text) × IsReplyTo p said line answer text then × Keeps now then)) (sym is) told
+
+-- what isn't a statement is answered as any line
+pub read_plainly : (result : Result Answer Errno) (old new : List ℕ) (now : ServedValue) (said : Said) (line : List ℕ) (kind : LineKind) → (kind ≡ Statement → ⊥)
+    → IfOk result (λ answer. (text : List ℕ) × (then : Said) × (new ≡ old ++ text) × IsAnswer said line (Ok kind) answer text then × Keeps now then)
+    → IfOk result (λ answer. (text : List ℕ) × (then : Said) × (new ≡ old ++ text) × IsData said line (Ok kind) answer text then × Keeps now then)
+read_plainly result old new now said line Passed other told = told
+read_plainly result old new now said line (Header version) other told = told
+read_plainly result old new now said line Setup other told = told
+read_plainly result old new now said line Statement other told = absurd (other refl)
+
+pub refuses_data : (said : Said) (line : List ℕ) (kind : Result LineKind Spot) (fault : Spot) → Err fault ≡ kind → IsData said line kind (Refused fault) [] said
+refuses_data said line kind fault is = subst (λ (k : Result LineKind Spot). IsData said line k (Refused fault) [] said) is (refl, refl, refl)
+
+pub due_told : (result : Result Answer Errno) (old new : List ℕ) (now : ServedValue) (said : Said) (line : List ℕ)
+    → IfOk result (λ answer. (answer ≡ Text) × (new ≡ old ++ due_text (earliest (carried_out said.statements).behind.world.timers)) × Keeps now said)
+    → IfOk result (λ answer. (text : List ℕ) × (then : Said) × (new ≡ old ++ text) × IsReplyTo Due said line answer text then × Keeps now then)
+due_told (Ok answer) old new now said line (is, out, keeps) = (due_text (earliest (carried_out said.statements).behind.world.timers), said, out, (is, refl, refl), keeps)
+due_told (Err errno) old new now said line told = tt
+
+-- which question a line is
+pub asked : (served : ServedValue) (said : Said) (line : List ℕ) (told q : Question) → Keeps served said → told ≡ question_of served.stage line → told ≡ q → question_of said.stage line ≡ q
+asked served said line told q keeps is same = sym (ap (λ (s : Stage). question_of s line) keeps.stage) ∙ sym is ∙ same
+
+pub data_short : (stage : Stage) (line : List ℕ) → question_of stage line ≡ Data → length line ≤ 8192
+data_short stage line is = elim (cases_lt 8192 (length line)) [
+  | inl long ↦ absurd (other (sym (long_asks stage line long) ∙ is))
+  | inr short ↦ omega (arith, short)
+]
+  where
+    other : Nothing ≡ Data → ⊥
+    other e = cc
+
+-- the statement that a `data` stands for is not much longer
+pub is_short : (chip : Bool) (line statement : List ℕ) → statement ≡ read_word chip ++ drop 5 line → length line ≤ 8192 → length statement + 2 < 2 ^ 32
+is_short true line statement e short = omega (arith, ap (λ (l : List ℕ). length l) e, length-append (codes "changes ") (drop 5 line), length-drop 5 line, short)
+is_short false line statement e short = omega (arith, ap (λ (l : List ℕ). length l) e, length-append (codes "events ") (drop 5 line), length-drop 5 line, short)
+
+-- that statement, and its kind
+module _ (said : Said) (line statement : List ℕ) (names : Names) (chip : Bool) (same : names ≡ (carried_out said.statements).value)
+    (is_chip : chip ≡ is_chip_file (file_of (text_at 0 (columns (drop 5 line))) names.files)) (made : statement ≡ read_word chip ++ drop 5 line) where
+  chip_named : chip ≡ names_chip (carried_out said.statements).value line
+  chip_named = is_chip ∙ ap (λ (n : Names). is_chip_file (file_of (text_at 0 (columns (drop 5 line))) n.files)) same
+
+  pub stands : statement ≡ stands_for (carried_out said.statements).value line
+  stands = made ∙ ap (λ b. read_word b ++ drop 5 line) chip_named
+
+  pub kind_told : (begun shift : ℕ) (stage : Stage) (kind other told : Result LineKind Spot) → begun ≡ length said.statements → stage ≡ said.stage → shift ≡ shift_of chip
+      → kind ≡ line_kind stage statement → other ≡ moved shift kind → told ≡ limited begun other → told ≡ data_kind said line
+  kind_told begun shift stage kind other told counted reach by first then last =
+      last ∙ ap (λ (n : ℕ). limited n other) counted
+      ∙ ap (λ (k : Result LineKind Spot). limited (length said.statements) k)
+      (then ∙ ap (λ (k : Result LineKind Spot). moved shift k) (first ∙ ap (λ (s : Stage). line_kind s statement) reach ∙ ap (λ (l : List ℕ). line_kind said.stage l) stands)
+      ∙ ap (λ (n : ℕ). moved n (line_kind said.stage (stands_for (carried_out said.statements).value line))) (by ∙ ap (λ b. shift_of b) chip_named))

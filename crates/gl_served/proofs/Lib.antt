@@ -1,0 +1,10 @@
+mod Answering
+mod Closed
+mod CutLines
+mod Guards
+mod Known
+mod Numbered
+mod Numbers
+mod Running
+mod Suiting
+mod Whole

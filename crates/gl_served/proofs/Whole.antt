@@ -1,0 +1,36 @@
+-- The text of what was accepted is One.
+use Rattle.std.proofs.Common.{◌≡◌, ℕ, List, [], ◌∷◌, ◌++◌, map, refl, sym, ◌∙◌, ap}
+use Rattle.std.proofs.lemmas.List.{append-nil}
+use Rattle.gl_base.specs.Words.{Span, span}
+use Rattle.gl_args.specs.Program.{done}
+use Rattle.gl_script.specs.Columns.{columns}
+use Rattle.gl_script.specs.declared.section.SectionKind.TheVariants.{Setup}
+use Rattle.gl_talk.specs.Open.{Names, no_names, slots_in_order}
+use Rattle.gl_talk.specs.Talk.{closes_all, says}
+use Rattle.gl_base.specs.declared.operation.Do.TheVariants.{Close}
+use Rattle.gl_check.specs.One.{PlannedPort, Ran, Standing, behind_setup, from_plan, performs, run, run_actor, said_in_kind}
+use Rattle.gl_served.specs.Served.{Said, start}
+use Rattle.gl_served.specs.Whole.{TextIsOne, session_of}
+
+-- closing prints nothing
+closes_silently : (slots : List ℕ) (s : Standing PlannedPort) → (run from_plan (closes_all slots) s).text ≡ []
+closes_silently [] s = refl
+closes_silently (slot ∷ slots) s = closes_silently slots (performs from_plan (Close slot) s).1
+
+words_same : (lines : List (List ℕ)) → map (λ (line : Span). columns line.text) (map (λ line. span 0 line) lines) ≡ map columns lines
+words_same [] = refl
+words_same (line ∷ lines) = ap (λ (rest : List (List Span)). columns line ∷ rest) (words_same lines)
+
+statements_same : (said : Said) → said_in_kind Setup (session_of said) ≡ map columns said.statements
+statements_same said = append-nil (map (λ (line : Span). columns line.text) (map (λ line. span 0 line) said.statements)) ∙ words_same said.statements
+
+ends_silently : (said : Said) (setup : Ran PlannedPort Names) → (behind_setup from_plan (session_of said) setup).text ≡ setup.text
+ends_silently said setup =
+    let actor = run_actor from_plan (session_of said) setup.behind in
+    ap (λ (t : List ℕ). (setup.text ++ []) ++ t) (closes_silently (slots_in_order setup.value) (record actor.behind { files = setup.behind.files }))
+    ∙ append-nil (setup.text ++ []) ∙ append-nil setup.text
+
+pub text_is_one : TextIsOne
+text_is_one said = sym (
+    ends_silently said (run from_plan (says 0 (said_in_kind Setup (session_of said)) done no_names) start)
+    ∙ ap (λ (words : List (List Span)). (run from_plan (says 0 words done no_names) start).text) (statements_same said))

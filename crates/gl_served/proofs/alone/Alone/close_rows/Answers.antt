@@ -1,0 +1,15 @@
+use Rattle.std.proofs.Common.{map, take, subst, sym}
+use Rattle.gl_asking.specs.Rows.{row_file}
+use Rattle.gl_check.specs.One.{PlannedPort, Standing}
+use Rattle.gl_served.specs.Alone.{StandsAs}
+use Rattle.gl_served.specs.Closing.{closes}
+use Rattle.gl_served.proofs.Closed.{row_closed}
+use Rattle.gl_served.proofs.alone.Alone.close_rows.Goals as goal
+
+pub loop-row-preserved : goal.loop-row-preserved
+loop-row-preserved c = (
+  c.perform.ensures.rows,
+  λ s stands.
+      let came = c.in-Ok.ensures.ok (closes (map row_file (take c.loop-row.row-index c.args.rows.now)) s) (c.loop-row.invariant.1 s stands) in
+      subst (λ (t : Standing PlannedPort). StandsAs c.perform.new.self t) (sym (row_closed c.args.rows.now c.loop-row.row-index _ s c.loop-row-test.true)) came.1,
+)

@@ -1,0 +1,16 @@
+use Rattle.std.proofs.Common.{◌≤◌, length, ap, sym, arith, ◌∙◌, Result}
+use Rattle.gl_script.specs.declared.refusal.Spot.{Spot}
+use Rattle.gl_script.specs.declared.served.LineKind.{LineKind}
+use Rattle.gl_served.specs.Served.{ServedValue, limited}
+use Rattle.gl_served.proofs.Answering.{short_kind}
+use Rattle.gl_served.proofs.CutLines.{long_kind}
+use Rattle.gl_served.proofs.served.Served.kind.Goals as goal
+
+pub returns-then-line-gt-LINE_MAX-clause-kind : goal.returns-then-line-gt-LINE_MAX-clause-kind
+returns-then-line-gt-LINE_MAX-clause-kind c = λ said keeps. sym (long_kind said c.args.line.now (omega arith))
+
+pub returns-clause-kind : goal.returns-clause-kind
+returns-clause-kind c = λ said keeps.
+    let short : length c.args.line.now ≤ 8192 = omega arith in
+    c.limited.ensures.limited ∙ ap (λ (k : Result LineKind Spot). limited c.self.inside.talk.begun k) c.line_kind.ensures
+    ∙ short_kind said c.args.line.now c.self.inside.talk.begun c.self.inside.stage (ap (λ (v : ServedValue). v.talk.begun) c.self.view_is ∙ keeps.begun) (ap (λ (v : ServedValue). v.stage) c.self.view_is ∙ keeps.stage) short

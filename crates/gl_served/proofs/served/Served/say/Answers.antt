@@ -1,0 +1,14 @@
+use Rattle.std.proofs.Common.{Ok, [], sym, Err}
+use Rattle.std.proofs.lemmas.List.{append-nil}
+use Rattle.gl_served.specs.Served.{kind_after}
+use Rattle.gl_served.proofs.Answering.{refuses, said_by}
+use Rattle.gl_served.proofs.served.Served.say.Goals as goal
+
+pub returns-in-Ok-clause-answered : goal.returns-in-Ok-clause-answered
+returns-in-Ok-clause-answered c = λ said keeps.
+    said_by c.accept.result c.args.out.now.items c.accept.new.out.items c.accept.new.self said c.args.line.now (Ok c.in-Ok.kind) (kind_after said c.args.line.now) (c.in-Ok.ensures.kind said keeps)
+    (c.accept.ensures.accepted said keeps)
+
+pub returns-in-Err-clause-answered : goal.returns-in-Err-clause-answered
+returns-in-Err-clause-answered c = λ said keeps.
+    ([], said, sym (append-nil c.args.out.now.items), refuses said c.args.line.now (kind_after said c.args.line.now) c.in-Err.spot (c.in-Err.ensures.kind said keeps), keeps)

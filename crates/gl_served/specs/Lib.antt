@@ -1,0 +1,13 @@
+pub mod Alone
+pub mod Closing
+pub mod CutLines
+pub mod Ended
+pub mod Frames
+pub mod Making
+pub mod Opening
+pub mod Port
+pub mod Questions
+pub mod Rows
+pub mod Running
+pub mod Served
+pub mod Whole

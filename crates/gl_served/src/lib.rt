@@ -1,0 +1,23 @@
+//! A session that is answered line by line.
+#![tactic(auto)]
+
+mod alone;
+mod answered;
+mod closing;
+mod ended;
+mod frames;
+mod laws;
+mod making;
+mod parts;
+mod port;
+mod question;
+mod rows;
+mod served;
+mod serving;
+mod streams;
+
+pub use answered::Answer;
+pub use ended::Ended;
+pub use laws::text_is_one;
+pub use served::Served;
+pub use serving::serve;
