@@ -6,10 +6,11 @@ program=$top/crates/gpiosess/out/gpiosess
 record=$program.record
 
 # Prints the file number, the size and the time of the last change of each file and folder that the program is proved and built from, and of
-# the program. Nobody can set that time, so files with the same listing have the same bytes.
+# the program. Nobody can set that time, so files with the same listing have the same bytes. It ends the subshell in which it is called, so
+# that no further process is made for it.
 listing() {
-  (cd "$top" && find crates.txt HANDLES crates/*/src crates/*/specs crates/*/proofs crates/gpiosess/out/gpiosess \
-    -printf '%i %s %C@\n' 2>/dev/null)
+  exec find "$top"/crates.txt "$top"/HANDLES "$top"/crates/*/src "$top"/crates/*/specs "$top"/crates/*/proofs "$program" \
+    -printf '%i %s %C@\n' 2>/dev/null
 }
 
 # Prints a sum of all that the program is proved and built from.
