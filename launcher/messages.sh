@@ -1,4 +1,5 @@
-# What standard output may not say of words that are refused and of a session that is none. ./gpiosess reads this file for these statuses.
+# What standard output may not say of arguments that are refused (status 2) and of a session that is none (status 3). ./gpiosess reads this
+# file for these statuses.
 
 # The words of each statement, and what they are, as docs/FORMATS.md has them.
 forms() {
@@ -22,7 +23,7 @@ events1|events1 NAME N: N bytes, at most 16384
 changes|changes NAME N: N bytes, at most 9216
 poll|poll NAME
 close|close NAME
-start|start NAME TOOL WORDS..: TOOL is gpioset, gpiomon or gpionotify
+start|start NAME TOOL ARGUMENTS..: TOOL is gpioset, gpiomon or gpionotify
 step|step NAME N: N is from 1 to 1000
 stop|stop NAME
 actor|actor NAME: NAME has 1 to 15 letters, digits, _, - or .
@@ -31,7 +32,7 @@ FORMS
 
 # Prints the form of the statement with that word, if there is one.
 form_of() {
-  forms | sed -n "s/^$1|//p"
+  forms | sed -n "s/^$1|/wanted is /p"
 }
 
 # What to do about a byte that isn't printable ASCII.
@@ -50,7 +51,7 @@ about_byte() {
 about_statement() {
   case $word in
   gpiomon | gpionotify) echo "$word goes on until it is stopped: start NAME $word .., then step NAME N, and stop NAME" ;;
-  GET_* | SET_* | WATCH | UNWATCH | 0x*) echo "a command stands behind ioctl and the name of a file: ioctl NAME $word .." ;;
+  GET_* | SET_* | WATCH | UNWATCH | 0x*) echo "a command stands after ioctl and the name of a file: ioctl NAME $word .." ;;
   accept) echo "a session that begins with session 1 has no accept: begin it with session 2" ;;
   echo | tee | printf) echo "a file of the tree is written by write PATH VALUE" ;;
   cat) echo "a file of the tree is read by read PATH" ;;
@@ -70,6 +71,15 @@ about_words() {
   form_of "$first"
 }
 
+# What to do about a limit.
+about_limit() {
+  case $first in
+  actor) echo "a session has at most 16 actors" ;;
+  ioctl | ioctl1) echo "a command has at most 1024 bytes, a word 1300, and a line 128 words; 00*256 is a byte 256 times" ;;
+  *) echo "a word has at most 1300 bytes, and a line 128 words" ;;
+  esac
+}
+
 # What to do about each kind of fault.
 about() {
   case $kind in
@@ -84,7 +94,7 @@ about() {
   statement) about_statement ;;
   words | word) about_words ;;
   name) echo "each actor has a name of its own" ;;
-  limit) echo "a word has at most 1300 bytes, a line 128 words, a session 16 actors, and a command 1024 bytes" ;;
+  limit) about_limit ;;
   too-long) echo "a session has at most 1,048,576 bytes" ;;
   cost) echo "it could make more than 300,000 calls: name the chip (gpiodetect 0 costs 3 and not 192, gpioinfo -c 0 515 and not 32960)" ;;
   esac
@@ -103,7 +113,7 @@ explain_refusal() {
   said=$(session_again | "$@" 2>/dev/null | head -n 1)
   read -r word row column kind <<<"$said"
   if [ "$word" != refused ]; then
-    say "docs/FORMATS.md, 'The first fault', says what each word behind 'refused' means"
+    say "docs/FORMATS.md, 'The first fault', says what each word after 'refused' means"
     return
   fi
   line=
@@ -138,10 +148,18 @@ meaning() {
   esac
 }
 
-# Says more of a run that ended with status 2 or 3. What prints the refusal once more is handed in behind it.
+# Says how the launcher is called.
+explain_calls() {
+  say "a session is given as ./gpiosess < FILE, and the arguments are these alone:"
+  say "  ./gpiosess < examples/one-chip.session    runs the session of that file"
+  say "  ./gpiosess --generate N                   runs a load of N turns, from 1 to 5000"
+  say "  ./gpiosess --prove                        proves and builds the program"
+}
+
+# Says more of a run that ended with status 2 or 3. What prints the refusal once more is handed in after it.
 explain() {
   if [ "$1" = 2 ]; then
-    say "the program takes no words but --generate N, with N from 1 to 5000; a session is given as ./gpiosess < FILE"
+    explain_calls
   else
     explain_refusal "${@:2}"
   fi

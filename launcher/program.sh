@@ -1,7 +1,7 @@
-# What tells whether the program that was built is that of the present sources.
+# Whether the program that was built is that of the present sources.
 # ./gpiosess, .ci/run and the checks read this file, with `top` set to the top of the repository.
 program=$top/crates/gpiosess/out/gpiosess
-# The sums of the sources and of the program, as they were after the last build that proved and built all, a line each; and behind them the
+# The sums of the sources and of the program, as they were after the last build that proved and built all, a line each; and after them the
 # listing of the files as it was when they last had these sums.
 record=$program.record
 
