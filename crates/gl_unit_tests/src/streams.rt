@@ -1,5 +1,5 @@
-//! What no clause says: that each call succeeds with ample memory, and the traits' methods at the
-//! concrete types, through their bounds.
+//! That sources and sinks move and fail as they are told to, and the traits' methods at the concrete types, through their bounds.
+
 use gl_base::Errno;
 use gl_io::{MemSink, MemSource, ReadSource, Sink, SinkFault, Source, SourceFault, WriteSink};
 use std::alloc::Global;
@@ -36,32 +36,23 @@ fn failing_sink(alloc: Global) -> Result<MemSink, Errno> {
     MemSink::new(alloc, 5, 3, planned)
 }
 
-#[test]
-fn source_moves_pieces_and_fails_when_told(rt: HostRuntime) {
-    let Ok(mut source) = failing_source(rt.alloc()) else {
-        panic!(rt; "no memory")
-    };
-    let (answers, faults) = four_takes(&mut source);
-    assert!(rt; answers == [Ok(3), Err(SourceFault), Ok(2), Ok(0)]);
-    assert!(rt; faults == 1);
+/// Whether a source and a sink in memory answer as they have to, in this order.
+pub fn in_memory(alloc: Global) -> Result<[bool; 3], Errno> {
+    let mut source = failing_source(alloc)?;
+    let mut sink = failing_sink(alloc)?;
+    Ok([
+        four_takes(&mut source) == ([Ok(3), Err(SourceFault), Ok(2), Ok(0)], 1),
+        four_puts(&mut sink, b"gpio") == ([Ok(3), Err(SinkFault), Ok(2), Err(SinkFault)], 2),
+        sink.as_slice() == b"gpigp".as_slice(),
+    ])
 }
 
-#[test]
-fn sink_holds_what_fits_and_fails_when_told(rt: HostRuntime) {
-    let Ok(mut sink) = failing_sink(rt.alloc()) else {
-        panic!(rt; "no memory")
-    };
-    let (answers, faults) = four_puts(&mut sink, b"gpio");
-    assert!(rt; answers == [Ok(3), Err(SinkFault), Ok(2), Err(SinkFault)]);
-    assert!(rt; faults == 2 && sink.as_slice() == b"gpigp".as_slice());
-}
-
-#[test]
-fn a_reader_is_a_source_and_a_writer_a_sink(rt: HostRuntime) {
+/// Whether a reader is a source and a writer a sink, in this order.
+pub fn adapted(alloc: Global) -> [bool; 2] {
     let mut source = ReadSource::new(b"gpio".as_slice());
-    let (answers, faults) = four_takes(&mut source);
-    assert!(rt; answers == [Ok(3), Ok(1), Ok(0), Ok(0)] && faults == 0);
-    let mut sink = WriteSink::new(Vec::new(rt.alloc()));
-    let (answers, faults) = four_puts(&mut sink, b"gpio");
-    assert!(rt; answers == [Ok(4), Ok(4), Ok(4), Ok(4)] && faults == 0);
+    let mut sink = WriteSink::new(Vec::new(alloc));
+    [
+        four_takes(&mut source) == ([Ok(3), Ok(1), Ok(0), Ok(0)], 0),
+        four_puts(&mut sink, b"gpio") == ([Ok(4), Ok(4), Ok(4), Ok(4)], 0),
+    ]
 }
