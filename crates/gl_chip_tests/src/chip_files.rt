@@ -34,21 +34,6 @@ pub struct OnChipFile {
 }
 
 impl OnChipFile {
-    /// The answers on a file of a chip that is there, where nothing happened to the line that it watches in between. The request
-    /// that it makes gets this number.
-    pub fn quiet(number: u32) -> OnChipFile {
-        OnChipFile {
-            chip_info: Ok(()),
-            line_info: Ok(()),
-            watch: Ok(()),
-            unwatch: Ok(()),
-            get_line: Ok(number),
-            poll: Ok(0),
-            read: Err(Errno::Again),
-            short_read: Err(Errno::Inval),
-        }
-    }
-
     /// All calls were refused for one reason, but that the poll was answered so.
     pub fn refused(errno: Errno, poll: Result<u8, Errno>) -> OnChipFile {
         OnChipFile {

@@ -60,11 +60,6 @@ impl<D: Driver<Core>> Device<D> {
         (history, port, number)
     }
 
-    /// The driver call of this number, counted from now on, is to fail.
-    pub fn plan(&mut self, nth: u32) {
-        self.actor.plan(nth);
-    }
-
     /// Makes a chip.
     pub fn probe<R: Wait>(
         &mut self,

@@ -2,17 +2,9 @@
 #![tactic(auto)]
 
 #[cfg(test)]
-mod boards;
-#[cfg(test)]
 mod chip_files;
 #[cfg(test)]
 mod devices;
-#[cfg(test)]
-mod file_rows;
-#[cfg(test)]
-mod file_tests;
-#[cfg(test)]
-mod files;
 #[cfg(test)]
 mod joining;
 #[cfg(test)]

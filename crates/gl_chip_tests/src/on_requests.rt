@@ -31,18 +31,6 @@ pub struct OnRequest {
 }
 
 impl OnRequest {
-    /// The answers on a request of an output without edges.
-    pub fn set() -> OnRequest {
-        OnRequest {
-            set_config: Ok(()),
-            set_values: Ok(()),
-            get_values: Ok(1),
-            poll: Ok(0),
-            read: Err(Errno::Again),
-            short_read: Err(Errno::Inval),
-        }
-    }
-
     /// All calls were refused for one reason, but that the poll was answered so.
     pub fn refused(errno: Errno, poll: Result<u8, Errno>) -> OnRequest {
         OnRequest {

@@ -3,7 +3,6 @@
 ghost use Rattle.gl_chip.specs.Values.{IsActorOf};
 ghost use Rattle.gl_chip_tests.specs.Same.{IsSame};
 
-use crate::boards::{Answer, Step, take_step};
 use crate::devices::{Device, bad_entry};
 use crate::requesting::{get_values, set_values};
 use crate::waiting::wait_for;
@@ -280,25 +279,16 @@ fn call_in_four_threads<R: Threads + Wait + Sync>(
     )
 }
 
-/// The steps that make a device of three banks, whose chips have the places 0, 1 and 2.
-fn steps_up() -> [Step; 5] {
-    [
-        Step::MakeDir(b"d"),
-        Step::MakeDir(b"d/a"),
-        Step::MakeDir(b"d/b"),
-        Step::MakeDir(b"d/c"),
-        Step::Live(b"d", true),
-    ]
-}
-
-/// Makes the chips of this device. False where a step was refused.
-fn set_up<R: Wait>(rt: &R, alloc: Global, device: &mut Device<SimDriver>) -> bool {
-    for step in steps_up() {
-        if take_step(rt, alloc, device, step) != Answer::Done {
-            return false;
-        }
-    }
-    true
+/// Makes the chips of a device of three banks, at the places 0, 1 and 2. False where a call was refused.
+fn set_up<R: Wait>(rt: &R, device: &mut Device<SimDriver>) -> bool {
+    let made = [
+        device.mkdir(rt, b"d"),
+        device.mkdir(rt, b"d/a"),
+        device.mkdir(rt, b"d/b"),
+        device.mkdir(rt, b"d/c"),
+        device.live(rt, &device_name(), true),
+    ];
+    made == [Ok(()); 5]
 }
 
 /// Opens a chip and requests its line 0 as an output.
@@ -321,7 +311,7 @@ fn request_all<R: Wait>(
     alloc: Global,
     device: &mut Device<SimDriver>,
 ) -> Result<[LineFd; 3], Errno> {
-    if !set_up(rt, alloc, device) {
+    if !set_up(rt, device) {
         return Err(Errno::Again);
     }
     let first = request_of(rt, alloc, device, b"gpiochip0")?;
