@@ -1,5 +1,5 @@
 -- A history's text is read as the history, and nothing else is.
-use Rattle.std.proofs.Common.{◌≡◌, ◌≢◌, ℕ, zero, suc, ◌+◌, ◌^◌, ◌<◌, ◌≤◌, Bool, true, false, cond, eqb, List, [], ◌∷◌, ◌++◌, length, take, drop, Option, Some, None, refl, sym, ◌∙◌, ap, subst, append_assoc, arith}
+use Rattle.std.proofs.Common.{◌≡◌, ◌≢◌, ℕ, zero, suc, ◌+◌, ◌^◌, ◌<◌, ◌≤◌, Bool, true, false, cond, List, [], ◌∷◌, ◌++◌, length, take, drop, Option, Some, None, refl, sym, ◌∙◌, ap, subst, append_assoc, arith}
 use Rattle.std.specs.Prelude.{◌==◌, codes}
 use Rattle.std.specs.Char.{is_ascii_digit}
 use Rattle.std.specs.Str.{all_ascii_digits}
@@ -17,21 +17,21 @@ use Rattle.gl_world.specs.History.{entry}
 use Rattle.gl_trace.specs.CallText.{call_words}
 use Rattle.gl_trace.specs.EntryRead.{Read, read_of}
 use Rattle.gl_trace.specs.EntryText.{HasText, entry_text}
-use Rattle.gl_trace.specs.HistoryRead.{Bad, Broken, Good, HistoriesAreReadAlone, HistoriesAreReadBack, History, Lines, Whole, behind_line, count_by, count_told, counted, entry_at, entry_by, history_by, history_from, history_head, history_in, in_front, last_head, lines_read, next_line, of_lines}
+use Rattle.gl_trace.specs.HistoryRead.{Broken, Good, HistoriesAreReadAlone, HistoriesAreReadBack, Lines, Whole, behind_line, count_by, count_told, counted, entry_at, entry_by, history_by, history_from, history_head, in_front, last_head, lines_read, next_line, of_lines}
 use Rattle.gl_trace.specs.HistoryText.{AreTold, entry_lines, history_text}
 use Rattle.gl_trace.specs.Joined.{joined}
 use Rattle.gl_trace.specs.Printable.{IsPrintable}
 use Rattle.gl_trace.specs.ReplyText.{reply_text}
-use Rattle.gl_trace.specs.Typed.{Is32, IsTyped}
-use Rattle.gl_trace.specs.WordRead.{number_below, stripped}
+use Rattle.gl_trace.specs.Typed.{IsTyped}
+use Rattle.gl_trace.specs.WordRead.{stripped}
 use Rattle.gl_trace.specs.Words.{before}
-use Rattle.gl_trace.proofs.Entries.{IsRead, back, line_same}
+use Rattle.gl_trace.proofs.Entries.{back, line_same}
 use Rattle.gl_trace.proofs.Fields.{below_same, both_true, number_field}
 use Rattle.gl_trace.proofs.HistoryHeads.{behind_lines, first_there, none_there, whole_lines}
 use Rattle.gl_trace.proofs.HistoryLines.{head_with_end, with_end}
 use Rattle.gl_trace.proofs.Printed.{entries_are_printable, number}
 use Rattle.gl_trace.proofs.Stripping.{stripped_back, stripped_same}
-use Rattle.gl_trace.proofs.TextPieces.{joined_pieces, line_piece, line_pieces}
+use Rattle.gl_trace.proofs.TextPieces.{joined_pieces, line_pieces}
 
 -- What is written is read.
 

@@ -1,18 +1,14 @@
 -- The lines of a history, read one after the other.
-use Rattle.std.proofs.Common.{◌≡◌, ◌≢◌, ℕ, zero, suc, ◌+◌, ◌-◌, ◌<◌, ◌≤◌, Bool, true, false, cond, List, [], ◌∷◌, ◌++◌, length, Option, Some, None, IfSome, refl, sym, ◌∙◌, ap, subst, append_assoc, arith}
+use Rattle.std.proofs.Common.{◌≡◌, ℕ, suc, ◌+◌, ◌-◌, ◌<◌, ◌≤◌, Bool, true, false, cond, List, [], ◌∷◌, ◌++◌, length, Some, refl, sym, ◌∙◌, ap, subst, append_assoc, arith}
 use Rattle.std.specs.Prelude.{◌==◌, if◌then◌else◌}
 use Rattle.std.proofs.lemmas.Bool.{ne_eqb}
-use Rattle.std.proofs.lemmas.Bool.Decides.{nat_tests}
 use Rattle.std.proofs.lemmas.List.{append-nil}
-use Rattle.gl_base.specs.TextLines.{text_line}
 use Rattle.gl_base.specs.Words.{onto_first, pieces}
 use Rattle.gl_core.specs.Device.{OneEntry}
-use Rattle.gl_world.specs.History.{entry}
-use Rattle.gl_trace.specs.EntryRead.{Read, read, read_of}
-use Rattle.gl_trace.specs.EntryText.{HasText, entry_text}
-use Rattle.gl_trace.specs.HistoryRead.{Bad, Broken, History, Lines, Whole, behind_line, count_told, counted, entry_at, entry_by, history_from, in_front, lines_read, of_lines, one_line}
-use Rattle.gl_trace.specs.HistoryText.{AreTold, entry_lines}
-use Rattle.gl_trace.specs.Joined.{joined}
+use Rattle.gl_trace.specs.EntryRead.{read, read_of}
+use Rattle.gl_trace.specs.EntryText.{HasText}
+use Rattle.gl_trace.specs.HistoryRead.{Broken, Lines, Whole, behind_line, count_told, counted, entry_at, history_from, in_front, lines_read, of_lines, one_line}
+use Rattle.gl_trace.specs.HistoryText.{AreTold}
 use Rattle.gl_trace.specs.Typed.{IsTyped}
 use Rattle.gl_trace.proofs.Entries.{same_line}
 use Rattle.gl_trace.proofs.TextPieces.{HasFirst, has_first}
