@@ -5,6 +5,10 @@ pub mod EntryRead
 pub mod EntryText
 pub mod Forms
 pub mod Fronts
+pub mod HistoryFaults
+pub mod HistoryRead
+pub mod HistoryText
+pub mod Joined
 pub mod Printable
 pub mod ReplyRead
 pub mod ReplyText

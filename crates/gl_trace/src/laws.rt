@@ -2,6 +2,7 @@
 
 ghost use Rattle.gl_core.specs.Kept.{Kept};
 ghost use Rattle.gl_trace.specs.EntryText.{LegalEntriesHaveTexts};
+ghost use Rattle.gl_trace.specs.HistoryRead.{HistoriesAreReadAlone, HistoriesAreReadBack};
 ghost use Rattle.gl_trace.specs.Printable.{EntriesArePrintable};
 ghost use Rattle.gl_trace.specs.Unique.{OneEntryALine};
 
@@ -20,4 +21,10 @@ pub fn one_entry_a_line()
 /// The text of an entry stands in one line: it has no control byte.
 pub fn entries_are_printable()
     ensures { EntriesArePrintable Kept }
+{}
+
+/// A history is read from its text, whatever whole lines stand in front of it; and what is read as a history is its text.
+pub fn histories_are_read_back()
+    ensures back { HistoriesAreReadBack }
+    ensures alone { HistoriesAreReadAlone }
 {}

@@ -271,7 +271,7 @@ pub fn read_entry(line: &[u8]) -> Option<(u32, Entry<Core>)>
 }
 
 /// The entry that a line is, as `specs/EntryRead` reads it.
-fn read_line(line: &[u8]) -> Option<(u32, Entry<Core>)>
+pub(crate) fn read_line(line: &[u8]) -> Option<(u32, Entry<Core>)>
     ensures { MatchOption result (read_of line.now ≡ None) (λ got. read_of line.now ≡ Some (read got.0 got.1.actor got.1.call got.1.reply)) }
 {
     match first_words(Count::Three, line) {
