@@ -16,7 +16,7 @@ accept|accept N: a decimal number below 2^64
 pin|pin range CHIP OFFSET PIN COUNT, pin hold CHIP PIN or pin drop CHIP PIN
 irq|irq lock CHIP OFFSET, and so unlock, enable, disable and none
 open|open NAME CHIP: NAME has 1 to 15 letters, digits, _, - or .
-ioctl|ioctl NAME COMMAND BYTES..: pairs of hexadecimal digits, HH*N for a byte N times, or - alone for none; after GET_LINE's stands as NAME
+ioctl|ioctl NAME COMMAND BYTES..: pairs of hexadecimal digits, HH*N for a byte N times, or - alone for none, at most 1024 bytes; after GET_LINE's stands as NAME
 ioctl1|ioctl1 NAME COMMAND BYTES..: a command of the first uAPI, with bytes as those of ioctl; after LINEHANDLE's and LINEEVENT's stands as NAME
 events|events NAME N: N bytes, at most 49152
 events1|events1 NAME N: N bytes, at most 16384
