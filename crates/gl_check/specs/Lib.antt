@@ -1,6 +1,10 @@
 pub mod Many
+pub mod Misfit
 pub mod One
 pub mod OneChip
+pub mod Ports
 pub mod Programs
+pub mod Seats
 pub mod Tells
+pub mod Texts
 pub mod Turns
