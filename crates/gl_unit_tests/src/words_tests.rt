@@ -2,7 +2,7 @@
 
 use gl_words::{Task, WordsFault, read_words};
 
-const ROWS: [(&[&str], Result<Task, WordsFault>); 17] = [
+const ROWS: [(&[&str], Result<Task, WordsFault>); 20] = [
     (&[], Ok(Task::Session)),
     (&["--generate", "1"], Ok(Task::Load(1))),
     (&["--generate", "5000"], Ok(Task::Load(5000))),
@@ -17,13 +17,16 @@ const ROWS: [(&[&str], Result<Task, WordsFault>); 17] = [
     (&["--generate", "ten"], Err(WordsFault::Usage)),
     (&["--generate", "1x"], Err(WordsFault::Usage)),
     (&["--generate=1"], Err(WordsFault::Usage)),
+    (&["check"], Ok(Task::Check)),
+    (&["check", "1"], Err(WordsFault::Usage)),
+    (&["checks"], Err(WordsFault::Usage)),
     (&["--help"], Err(WordsFault::Usage)),
     (&["1", "--generate"], Err(WordsFault::Usage)),
     (&["1"], Err(WordsFault::Usage)),
 ];
 
 #[test]
-fn reads_the_words_of_a_session_and_of_a_load(rt: HostRuntime) {
+fn reads_the_words_of_a_session_a_check_and_a_load(rt: HostRuntime) {
     for (words, asked) in &ROWS {
         assert!(rt; read_words(rt.alloc(), words) == *asked);
     }
