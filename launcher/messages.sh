@@ -138,11 +138,19 @@ meaning() {
   esac
 }
 
-# Says more of a run that ended with status 2 or 3. What prints the refusal once more is handed in behind it.
+# What is to be done about an input that can't be judged.
+explain_check() {
+  say "what is judged is a line check N, the N bytes of a session, and the output of its run, at most 67,108,864 bytes together"
+  say "for a session FILE and its output OUTPUT: { printf 'check %d\\n' \$(wc -c < FILE); cat FILE OUTPUT; } | ./gpiosess check"
+}
+
+# Says more of a run that ended with status 2 or 3. The program's first word is handed in, and what prints the refusal once more.
 explain() {
   if [ "$1" = 2 ]; then
-    say "the program takes no words but --generate N, with N from 1 to 5000; a session is given as ./gpiosess < FILE"
+    say "the program takes no words but check, and --generate N with N from 1 to 5000; a session is given as ./gpiosess < FILE"
+  elif [ "$2" = check ]; then
+    explain_check
   else
-    explain_refusal "${@:2}"
+    explain_refusal "${@:3}"
   fi
 }

@@ -82,7 +82,7 @@ module _ (judges : MisfitIsNoneForMany) (back : HistoriesAreReadBack) (alone : H
   yes_output sections printed (Bad line) is h = cc
   yes_output sections printed (Good front history) is h =
       let judged = yes_entries sections front history h.1.0 h.1.1 h.1.2 in
-      record { history = history; told = h.0; fits = judged.0; is = alone printed front history is ∙ ap (λ l. l ++ history_text history) judged.1 }
+      record { history = history; told = h.0; fits = judged.0; is = (alone printed front history is).0 ∙ ap (λ l. l ++ history_text history) judged.1 }
 
   yes_parts : (input : List ℕ) (parts : Parts) → length input ≤ CHECK_MAX → input ≡ check_text parts.session parts.output → is_judged parts.session ≡ true
       → IsOutputVerdict (sections_said parts.session) (history_in parts.output) Yes → IsLawful input

@@ -2,7 +2,6 @@
 -- first of these cases that holds decides; each level below is reached where none before it did. This project's choice.
 use Rattle.std.specs.Prelude.{◌≡◌, ◌⊎◌, ℕ, ◌+◌, ◌≤◌, Bool, true, false, ◌&&◌, is_some, not, nat_le, nat_lt, if◌then◌else◌, List, ◌∷◌, ◌++◌, length, take, drop, Option, None, Some, codes}
 use Rattle.std.specs.Str.{bytes_eq}
-use Rattle.gl_base.specs.Decimal.{decimal}
 use Rattle.gl_base.specs.Words.{pieces}
 use Rattle.gl_script.specs.Section.{SaidSection}
 use Rattle.gl_script.specs.Sentence.{Sentence, first_fault, sections_said}
@@ -21,7 +20,7 @@ use Rattle.gl_session.specs.declared.status.Status.{Status}
 use Rattle.gl_session.specs.declared.status.Status.TheVariants.{Ran, Refused, No}
 use Rattle.gl_session.specs.declared.verdict.Verdict.{Verdict}
 use Rattle.gl_session.specs.declared.verdict.Verdict.TheVariants.{TooLong, Header, NoSession, NoFormat, NoEntry, NoText, Yes}
-use Rattle.gl_session.specs.Lines.{text_line}
+use Rattle.gl_session.specs.Lines.{numbered_line, text_line}
 use Rattle.gl_session.specs.Output.{output}
 use Rattle.gl_session.specs.Run.{refused_line}
 
@@ -33,8 +32,8 @@ abbrev pub verdict_line : Verdict → List ℕ
 verdict_line TooLong = refused_line (record { line = 0; column = 0; kind = TooLongKind })
 verdict_line Header = refused_line (record { line = 1; column = 1; kind = HeaderKind })
 verdict_line NoSession = text_line (codes "no session")
-verdict_line (NoFormat line) = text_line (codes "no format " ++ decimal line)
-verdict_line (NoEntry index) = text_line (codes "no entry " ++ decimal index)
+verdict_line (NoFormat line) = numbered_line (codes "no format") line
+verdict_line (NoEntry index) = numbered_line (codes "no entry") index
 verdict_line NoText = text_line (codes "no text")
 verdict_line Yes = yes_line
 
@@ -115,7 +114,7 @@ IsVerdict input verdict = IsLongVerdict (nat_lt CHECK_MAX (length input)) input 
 
 -- a session and an output as an input
 abbrev pub check_text : List ℕ → List ℕ → List ℕ
-check_text session printed = text_line (codes "check " ++ decimal (length session)) ++ (session ++ printed)
+check_text session printed = numbered_line (codes "check") (length session) ++ (session ++ printed)
 
 -- An input is a lawful run: it is within its length, and is a header, a session of several actors, and the Output of some texts and some
 -- history with Many and PlannedTells. Its entries' numbers and texts are of their types.

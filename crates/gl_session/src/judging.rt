@@ -4,7 +4,6 @@ ghost use Rattle.std.specs.Str.{bytes_eq};
 ghost use Rattle.gl_script.specs.Script.{sections_of};
 ghost use Rattle.gl_script.specs.Sentence.{Sentence};
 ghost use Rattle.gl_check.specs.Misfit.{IsMisfit};
-ghost use Rattle.gl_check.specs.Sections.{HasFewStatements};
 ghost use Rattle.gl_trace.specs.HistoryRead.{history_in};
 ghost use Rattle.gl_trace.specs.WordRead.{stripped};
 ghost use Rattle.gl_session.specs.Verdict.{IsOutputVerdict, IsSessionVerdict, IsVerdict, entries_verdict, header_of, is_judged, length_told, parts_by};
@@ -120,7 +119,6 @@ fn judge_script(
 
 /// What an output of a session is judged to be.
 fn judge_output(alloc: Global, script: &Script<'_>, output: &[u8]) -> Result<Verdict, Errno>
-    requires few { HasFewStatements (sections_of script.now) }
     ensures verdict { IfOk result (λ verdict. IsOutputVerdict (sections_of script.now) (history_in output.now) verdict) }
     ensures memory_alone { IsOkUnless result Errno.NoMemory }
 {
@@ -138,7 +136,6 @@ fn judge_entries(
     front: &[u8],
     history: &[Entry<Core>],
 ) -> Result<Verdict, Errno>
-    requires few { HasFewStatements (sections_of script.now) }
     requires entries { length history.now < 2 ^ 32 }
     ensures verdict { IfOk result (λ verdict. (misfit : Option ℕ) × IsMisfit (sections_of script.now) history.now misfit
         × (verdict ≡ entries_verdict misfit (sections_of script.now) front.now history.now)) }

@@ -1,11 +1,9 @@
 //! What a printed run is judged to be.
 ghost use Rattle.std.specs.Prelude.{◌≡◌, ◌++◌, OnOk, IsOkUnless};
-ghost use Rattle.gl_base.specs.Decimal.{decimal};
-ghost use Rattle.gl_session.specs.Lines.{text_line};
 
 use crate::status::Status;
-use crate::text::{put_line, put_refusal};
-use gl_base::{Errno, put_decimal};
+use crate::text::{put_line, put_numbered, put_refusal};
+use gl_base::Errno;
 use gl_script::{Refusal, RefusalKind};
 
 /// What an input of a check is judged to be: the first of these that holds.
@@ -25,17 +23,6 @@ pub enum Verdict {
     NoText,
     /// It is a lawful run.
     Yes,
-}
-
-/// Appends a line of a text and a number.
-fn put_numbered(text: &[u8], number: u64, out: &mut Vec<u8>) -> Result<(), Errno>
-    ensures text { OnOk result (out.new.items ≡ out.old.items ++ text_line (text.now ++ decimal number)) }
-    ensures memory_alone { IsOkUnless result Errno.NoMemory }
-{
-    out.extend_from_slice(text)?;
-    put_decimal(number, out)?;
-    out.push(b'\n')?;
-    Ok(())
 }
 
 impl Verdict {
@@ -62,8 +49,8 @@ impl Verdict {
             Verdict::TooLong => put_refusal(&refusal(0, 0, RefusalKind::TooLong), out),
             Verdict::Header => put_refusal(&refusal(1, 1, RefusalKind::Header), out),
             Verdict::NoSession => put_line(b"no session", out),
-            Verdict::NoFormat(line) => put_numbered(b"no format ", line, out),
-            Verdict::NoEntry(index) => put_numbered(b"no entry ", u64::from(index), out),
+            Verdict::NoFormat(line) => put_numbered(b"no format", line, out),
+            Verdict::NoEntry(index) => put_numbered(b"no entry", u64::from(index), out),
             Verdict::NoText => put_line(b"no text", out),
             Verdict::Yes => put_line(b"yes", out),
         }

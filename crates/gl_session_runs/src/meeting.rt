@@ -66,6 +66,26 @@ impl Session {
         let status = run(rt, alloc, &[], &mut source, &mut sink, driver, &mut ports);
         let text = sink.as_slice();
         let front = text.len().min(meeting.front as usize);
-        self.put_ended(status.number(), &text[..front], out)
+        self.put_ended(status.number(), &text[..front], out)?;
+        self.put_judgment(rt, text, out)
+    }
+
+    /// Has an output of the session judged, and appends its name, the status and the judgment.
+    fn put_judgment<R: Threads + Wait + Sync>(
+        &self,
+        rt: &R,
+        text: &[u8],
+        out: &mut Vec<u8>,
+    ) -> Result<(), Errno> {
+        let mut printed = Session::new(*out.allocator());
+        self.put_printed(text, &mut printed)?;
+        let plan = Plan {
+            piece: 4096,
+            room: 64,
+            read: None,
+            write: None,
+            words: [b"check", b""],
+        };
+        printed.put_run(rt, &plan, out)
     }
 }

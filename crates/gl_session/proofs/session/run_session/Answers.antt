@@ -17,7 +17,7 @@ returns-in-Ok-clause-ran_only_session g c = λ e. if_session _ _ _ c.in-Ok.ensur
 
 pub returns-in-Ok-clause-refused : goal.returns-in-Ok-clause-refused
 returns-in-Ok-clause-refused g c =
-    if_refusal c.answer.result _ _ _ c.in-Ok.ensures.ok c.answer.ensures.no_usage (λ e. ((c.answer.ensures.ran e).0, (c.answer.ensures.ran e).1))
+    if_refusal c.answer.result _ _ _ c.in-Ok.ensures.ok c.answer.ensures.no_usage c.answer.ensures.no_no (λ e. ((c.answer.ensures.ran e).0, (c.answer.ensures.ran e).1))
 
 pub returns-in-Ok-clause-refused_only : goal.returns-in-Ok-clause-refused_only
 returns-in-Ok-clause-refused_only g c = λ e.
@@ -29,7 +29,7 @@ returns-in-Ok-clause-write_fault_front g c = λ e.
 
 pub returns-in-Ok-clause-complete : goal.returns-in-Ok-clause-complete
 returns-in-Ok-clause-complete g c =
-    if_complete c.answer.result _ _ _ _ _ c.in-Ok.ensures.ok c.answer.ensures.no_usage c.answer.ensures.no_read_fault
+    if_complete c.answer.result _ _ _ _ _ c.in-Ok.ensures.ok c.answer.ensures.no_usage c.answer.ensures.no_no c.answer.ensures.no_read_fault
     (λ e. ((c.answer.ensures.refused e).0, (c.answer.ensures.refused e).1)) c.answer.ensures.write_fault
 
 pub returns-in-Ok-clause-other_ports : goal.returns-in-Ok-clause-other_ports
