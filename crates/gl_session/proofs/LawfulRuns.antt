@@ -38,7 +38,7 @@ judged_says session e =
     let many = p.1 in
     (record { faultless = no_fault (first_fault session) p.0; says = refl }, grind (arith, nat_tests, many))
 
-says_judged : (session : List ℕ) (sections : List SaidSection) → Sentence session sections → 2 ≤ length (actor_sections sections) → is_judged session ≡ true
+pub says_judged : (session : List ℕ) (sections : List SaidSection) → Sentence session sections → 2 ≤ length (actor_sections sections) → is_judged session ≡ true
 says_judged session sections s many =
     let some : 2 ≤ length (actor_sections (sections_said session)) = subst (λ (l : List SaidSection). 2 ≤ length (actor_sections l)) s.says many in
     let test : nat_le 2 (length (actor_sections (sections_said session))) ≡ true = grind (arith, nat_tests, some) in

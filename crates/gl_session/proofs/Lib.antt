@@ -11,6 +11,7 @@ pub mod FewActors
 pub mod FewStatements
 pub mod Figures
 pub mod Headers
+pub mod Judgments
 pub mod Known
 pub mod LawfulRuns
 pub mod ManyFollows
