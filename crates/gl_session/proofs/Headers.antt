@@ -79,6 +79,13 @@ header_cons : (line : List ℕ) (found : List (List ℕ)) → 0 < length found �
 header_cons line [] some = absurd (omega arith)
 header_cons line (next ∷ lines) some = refl
 
+-- an input by its first line
+pub header_split : (input line rest : List ℕ) → pieces 10 input ≡ line ∷ pieces 10 rest → header_of input ≡ parts_by (length_told line) rest
+header_split input line rest is = ap header_by is ∙ header_cons line (pieces 10 rest) (some_piece rest) ∙ ap (parts_by (length_told line)) (pieces_joined rest)
+
+pub header_alone : (input line : List ℕ) → pieces 10 input ≡ line ∷ [] → header_of input ≡ None
+header_alone input line is = ap header_by is
+
 parts_back : (session printed : List ℕ) → parts_by (Some (length session)) (session ++ printed) ≡ Some (record { session = session; output = printed })
 parts_back session printed =
     let enough_there : nat_le (length session) (length (session ++ printed)) ≡ true = let l = length-append session printed in grind (arith, nat_tests) in
@@ -90,5 +97,4 @@ header_back session printed few =
     let rest : List ℕ = session ++ printed in
     let found : pieces 10 (check_text session printed) ≡ line ∷ pieces 10 rest =
         ap (pieces 10) (append_assoc line (10 ∷ []) rest) ∙ pieces_divide line rest ∙ ap (λ l. l ++ pieces 10 rest) (printable_piece line (decimal_printable (length session) (omega arith))) in
-    ap header_by found ∙ header_cons line (pieces 10 rest) (some_piece rest) ∙ ap (λ o. parts_by o (joined (pieces 10 rest))) (told_back (length session) (omega arith))
-    ∙ ap (parts_by (Some (length session))) (pieces_joined rest) ∙ parts_back session printed
+    header_split (check_text session printed) line rest found ∙ ap (λ o. parts_by o rest) (told_back (length session) (omega arith)) ∙ parts_back session printed
