@@ -110,6 +110,15 @@ is_judgment (NoEntry index) = inr (inr refl)
 is_judgment NoText = inr (inr refl)
 is_judgment Yes = inl refl
 
+pub no_write_fault : (verdict : Verdict) → verdict_status verdict ≡ WriteFault → ⊥
+no_write_fault TooLong e = cc
+no_write_fault Header e = cc
+no_write_fault NoSession e = cc
+no_write_fault (NoFormat line) e = cc
+no_write_fault (NoEntry index) e = cc
+no_write_fault NoText e = cc
+no_write_fault Yes e = cc
+
 ran_alone : (verdict : Verdict) → verdict_status verdict ≡ Ran → verdict ≡ Yes
 ran_alone TooLong e = cc
 ran_alone Header e = cc
@@ -138,6 +147,11 @@ no_fault_judged status (inr (inr j)) (inr (inl e)) = absurd (let no : No ≡ Wri
 no_fault_judged status (inl j) (inr (inr e)) = absurd (let no : Ran ≡ NoMemory = sym j ∙ e in cc)
 no_fault_judged status (inr (inl j)) (inr (inr e)) = absurd (let no : Refused ≡ NoMemory = sym j ∙ e in cc)
 no_fault_judged status (inr (inr j)) (inr (inr e)) = absurd (let no : No ≡ NoMemory = sym j ∙ e in cc)
+
+-- what was written as a verdict ends so
+pub ends_judged : {Rest : Type 0} (status : Status) (verdict : Verdict) → (status ≡ verdict_status verdict) ⊎ Rest → IsJudgment status ⊎ Rest
+ends_judged status verdict (inl e) = inl (subst (λ s. IsJudgment s) (sym e) (is_judgment verdict))
+ends_judged status verdict (inr r) = inr r
 
 -- where nothing failed the answer is a judgment, or want of memory
 pub judged_or_none : {WriteRises : Type 0} (status : Status) → IsJudgment status ⊎ ((status ≡ WriteFault) ⊎ (status ≡ NoMemory)) → (status ≡ WriteFault → WriteRises) → ¬ WriteRises → IsJudgment status ⊎ (status ≡ NoMemory)
