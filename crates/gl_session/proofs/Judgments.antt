@@ -2,10 +2,10 @@
 use Rattle.std.proofs.Common.{◌≡◌, ◌≤◌, ◌<◌, ◌⊎◌, inl, inr, ℕ, Bool, true, false, List, [], ◌++◌, length, Option, None, Some, IfSome, nat_lt, nat_le, not, is_some, ◌&&◌, refl, sym, ◌∙◌, ap, subst, arith, length-append}
 use Rattle.std.proofs.lemmas.Bool.Decides.{nat_tests}
 use Rattle.std.proofs.lemmas.List.{append-nil}
-use Rattle.gl_base.specs.Words.{pieces}
 use Rattle.gl_script.specs.Section.{SaidSection}
 use Rattle.gl_script.specs.Sentence.{Sentence, first_fault, sections_said}
 use Rattle.gl_script.specs.declared.refusal.Refusal.{Refusal}
+use Rattle.gl_script.specs.declared.refusal.RefusalKind.TheVariants.{Header as HeaderKind, TooLong as TooLongKind}
 use Rattle.gl_trace.specs.HistoryRead.{Bad, Good, History, history_in}
 use Rattle.gl_trace.specs.HistoryText.{AreTold}
 use Rattle.gl_core.specs.Device.{OneEntry}
@@ -18,7 +18,7 @@ use Rattle.gl_session.specs.declared.verdict.Verdict.{Verdict}
 use Rattle.gl_session.specs.declared.verdict.Verdict.TheVariants.{TooLong, Header, NoSession, NoFormat, NoEntry, NoText, Yes}
 use Rattle.gl_session.specs.Run.{refused_line}
 use Rattle.gl_session.specs.Streams.{ReadsThrough}
-use Rattle.gl_session.specs.Verdict.{IsJudgment, IsLawful, IsLongVerdict, IsOutputVerdict, IsPartsVerdict, IsSessionVerdict, IsVerdict, LawfulIsYes, Parts, YesIsLawful, entries_verdict, header_by, header_of, is_judged, length_told, parts_by, verdict_line, verdict_status, yes_line}
+use Rattle.gl_session.specs.Verdict.{IsJudgment, IsLawful, IsLongVerdict, IsOutputVerdict, IsPartsVerdict, IsSessionVerdict, IsVerdict, LawfulIsYes, Parts, YesIsLawful, entries_verdict, header_of, is_judged, verdict_line, verdict_status, yes_line}
 use Rattle.gl_session.proofs.LawfulRuns.{says_judged}
 
 -- an input that is too long, and one that isn't
@@ -130,8 +130,8 @@ ran_alone Yes e = refl
 
 -- a judgment that refuses writes the line of a refusal
 pub refused_verdict : (verdict : Verdict) → verdict_status verdict ≡ Refused → (refusal : Refusal) × (verdict_line verdict ≡ refused_line refusal)
-refused_verdict TooLong e = (_, refl)
-refused_verdict Header e = (_, refl)
+refused_verdict TooLong e = (record { line = 0; column = 0; kind = TooLongKind }, refl)
+refused_verdict Header e = (record { line = 1; column = 1; kind = HeaderKind }, refl)
 refused_verdict NoSession e = cc
 refused_verdict (NoFormat line) e = cc
 refused_verdict (NoEntry index) e = cc

@@ -1,5 +1,5 @@
 -- What is judged to be a lawful run is one, and each lawful run is judged so.
-use Rattle.std.proofs.Common.{◌≡◌, ℕ, ◌<◌, ◌≤◌, Bool, true, false, not, ◌&&◌, List, [], ◌∷◌, ◌++◌, length, Option, Some, None, is_some, nat_le, nat_lt, refl, sym, ◌∙◌, ap, subst, arith}
+use Rattle.std.proofs.Common.{◌≡◌, ℕ, ◌<◌, ◌≤◌, Bool, true, false, not, ◌&&◌, List, ◌++◌, length, Option, Some, None, is_some, nat_le, nat_lt, refl, sym, ◌∙◌, ap, subst, arith}
 use Rattle.std.specs.Prelude.{if◌then◌else◌}
 use Rattle.std.specs.Str.{bytes_eq}
 use Rattle.std.proofs.lemmas.Bool.Decides.{nat_tests}
@@ -69,15 +69,15 @@ within_back limit n e = grind (arith, nat_tests)
 within_test : (limit n : ℕ) → n ≤ limit → nat_lt limit n ≡ false
 within_test limit n h = grind (arith, nat_tests)
 
+-- an output that is judged to be lawful
+record LawfulOutput (sections : List SaidSection) (printed : List ℕ) : Type 0 where
+  history : List OneEntry
+  told : AreTold 0 history
+  fits : IsMisfit sections history None
+  is : printed ≡ output sections (texts_of sections history) history
+
 -- Over what is proved of the layers below: of misfits, of histories that are read, and of what several actors came to.
 module _ (judges : MisfitIsNoneForMany) (back : HistoriesAreReadBack) (alone : HistoriesAreReadAlone) (came : AllPlayedCameToMany) where
-  -- an output that is judged to be lawful
-  record LawfulOutput (sections : List SaidSection) (printed : List ℕ) : Type 0 where
-    history : List OneEntry
-    told : AreTold 0 history
-    fits : IsMisfit sections history None
-    is : printed ≡ output sections (texts_of sections history) history
-
   yes_output : (sections : List SaidSection) (printed : List ℕ) (found : History) → history_in printed ≡ found → IsOutputVerdict sections found Yes → LawfulOutput sections printed
   yes_output sections printed (Bad line) is h = cc
   yes_output sections printed (Good front history) is h =

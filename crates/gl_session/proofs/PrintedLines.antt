@@ -1,5 +1,5 @@
 -- What the actors of a session printed is whole lines, and so are their texts behind their headers.
-use Rattle.std.proofs.Common.{◌≡◌, ℕ, ◌+◌, Bool, true, List, [], ◌∷◌, ◌++◌, length, Option, refl, sym, ◌∙◌, ap, subst}
+use Rattle.std.proofs.Common.{◌≡◌, ℕ, ◌+◌, ◌-◌, Bool, true, List, [], ◌∷◌, ◌++◌, length, get_or, Option, refl, sym, ◌∙◌, ap, subst}
 use Rattle.std.specs.Prelude.{codes}
 use Rattle.gl_base.specs.TextLines.{ends_lines, text_line}
 use Rattle.gl_base.proofs.TextLines.{line_ends, lines_end}
@@ -13,7 +13,7 @@ use Rattle.gl_talk.specs.Talk.{quits}
 use Rattle.gl_talk.proofs.TalkPrints.{end_lines, says_lines}
 use Rattle.gl_core.specs.Device.{OneDeed, OneEntry}
 use Rattle.gl_asking.specs.Asking.{got_of}
-use Rattle.gl_check.specs.Many.{ActorPlayed, ActorsPlayed, AllPlayed, Texts, actor_sections, no_section, program_of, words_of}
+use Rattle.gl_check.specs.Many.{ActorsPlayed, AllPlayed, Texts, actor_sections, no_section, program_of, words_of}
 use Rattle.gl_check.specs.One.{said_in_kind}
 use Rattle.gl_check.specs.Programs.{after_of, setup_of}
 use Rattle.gl_check.specs.Texts.{actors_text, texts_text}
@@ -42,7 +42,7 @@ after_lines : (sections : List SaidSection) (names : Names) → PrintsLines (aft
 after_lines sections names = says_lines (length (said_in_kind Setup sections)) (said_in_kind After sections) quits end_lines names
 
 actor_lines : (sections : List SaidSection) (n : ℕ) → PrintsLines (program_of sections n)
-actor_lines sections n = says_lines 0 _ quits end_lines no_names
+actor_lines sections n = says_lines 0 (words_of (get_or (actor_sections sections) (n - 1) no_section)) quits end_lines no_names
 
 module _ (is_planned : Bool) (before left : ℕ → Option Told) (sections : List SaidSection) (history : List OneEntry) where
   texts_lines : (others : List SaidSection) (n : ℕ) (texts : List (List ℕ)) → ActorsPlayed is_planned before left sections history n texts → ends_lines (actors_text others texts) ≡ true
