@@ -1,35 +1,18 @@
 -- The first line of an input, read and written.
 use Rattle.std.proofs.Common.{◌≡◌, ℕ, ◌+◌, ◌<◌, ◌≤◌, ◌^◌, Bool, true, false, List, [], ◌∷◌, ◌++◌, length, take, drop, Option, Some, None, refl, sym, ◌∙◌, ap, subst, arith, append_assoc, length-append}
-use Rattle.std.specs.Prelude.{◌==◌, codes, if◌then◌else◌, nat_le}
+use Rattle.std.specs.Prelude.{codes, if◌then◌else◌, nat_le}
 use Rattle.std.proofs.lemmas.Bool.Decides.{nat_tests}
 use Rattle.std.proofs.Math.Seq.{take-append_seam}
 use Rattle.std.proofs.lemmas.List.{length-take-le, take-append-drop}
 use Rattle.gl_base.specs.Decimal.{decimal}
-use Rattle.gl_base.specs.Words.{onto_first, pieces}
+use Rattle.gl_base.specs.Words.{pieces}
 use Rattle.gl_trace.specs.Joined.{joined}
 use Rattle.gl_trace.specs.WordRead.{number_below, stripped}
 use Rattle.gl_trace.proofs.Fields.{number_field}
+use Rattle.gl_trace.proofs.Printed.{number}
 use Rattle.gl_trace.proofs.Stripping.{drop_front, stripped_back, stripped_same}
+use Rattle.gl_trace.proofs.TextPieces.{HasFirst, has_first, joined_pieces, line_pieces}
 use Rattle.gl_session.specs.Verdict.{Parts, check_text, header_by, header_of, length_by, length_told, parts_by}
-use Rattle.gl_session.proofs.Telling.{decimal_printable, pieces_divide, printable_piece, some_piece}
-
--- a text is its pieces
-cut_joined : (found : List (List ℕ)) → 0 < length found → joined ([] ∷ found) ≡ 10 ∷ joined found
-cut_joined [] some = absurd (omega arith)
-cut_joined (line ∷ lines) some = refl
-
-onto_joined : (byte : ℕ) (found : List (List ℕ)) → 0 < length found → joined (onto_first byte found) ≡ byte ∷ joined found
-onto_joined byte [] some = absurd (omega arith)
-onto_joined byte (line ∷ []) some = refl
-onto_joined byte (line ∷ next ∷ lines) some = refl
-
-pub pieces_joined : (text : List ℕ) → joined (pieces 10 text) ≡ text
-pieces_joined [] = refl
-pieces_joined (byte ∷ text) = by (byte == 10) refl
-  where
-    by : (b : Bool) → (byte == 10) ≡ b → joined (if b then [] ∷ pieces 10 text else onto_first byte (pieces 10 text)) ≡ byte ∷ text
-    by true is = let same : byte ≡ 10 = grind (arith, nat_tests) in cut_joined (pieces 10 text) (some_piece text) ∙ (λ i. sym same i ∷ pieces_joined text i)
-    by false is = onto_joined byte (pieces 10 text) (some_piece text) ∙ ap (λ l. byte ∷ l) (pieces_joined text)
 
 -- a number of bytes that is told was written so
 told_same : (line : List ℕ) (count : ℕ) → length_told line ≡ Some count → line ≡ codes "check " ++ decimal count
@@ -37,7 +20,7 @@ told_same line count = by (stripped (codes "check ") line) refl
   where
     by : (o : Option (List ℕ)) → stripped (codes "check ") line ≡ o → length_by o ≡ Some count → line ≡ codes "check " ++ decimal count
     by None is e = cc
-    by (Some number) is e = stripped_same (codes "check ") line number is ∙ ap (λ l. codes "check " ++ l) ((number_field 1048577 (omega arith)).same number count e)
+    by (Some word) is e = stripped_same (codes "check ") line word is ∙ ap (λ l. codes "check " ++ l) ((number_field 1048577 (omega arith)).same word count e)
 
 told_back : (count : ℕ) → count < 1048577 → length_told (codes "check " ++ decimal count) ≡ Some count
 told_back count few = ap length_by (stripped_back (codes "check ") (decimal count)) ∙ (number_field 1048577 (omega arith)).back count few
@@ -72,16 +55,16 @@ header_read input parts = by (pieces 10 input) refl
     by : (found : List (List ℕ)) → pieces 10 input ≡ found → header_by found ≡ Some parts → input ≡ check_text parts.session parts.output
     by [] is e = cc
     by (line ∷ []) is e = cc
-    by (line ∷ next ∷ lines) is e = sym (pieces_joined input) ∙ ap joined is ∙ parts_read line (joined (next ∷ lines)) parts e
+    by (line ∷ next ∷ lines) is e = sym (joined_pieces input) ∙ ap joined is ∙ parts_read line (joined (next ∷ lines)) parts e
 
 -- and a session and an output are read as they are
-header_cons : (line : List ℕ) (found : List (List ℕ)) → 0 < length found → header_by (line ∷ found) ≡ parts_by (length_told line) (joined found)
-header_cons line [] some = absurd (omega arith)
-header_cons line (next ∷ lines) some = refl
+header_cons : (line : List ℕ) (found : List (List ℕ)) → HasFirst found → header_by (line ∷ found) ≡ parts_by (length_told line) (joined found)
+header_cons line [] has = let no = has.is in cc
+header_cons line (next ∷ lines) has = refl
 
 -- an input by its first line
 pub header_split : (input line rest : List ℕ) → pieces 10 input ≡ line ∷ pieces 10 rest → header_of input ≡ parts_by (length_told line) rest
-header_split input line rest is = ap header_by is ∙ header_cons line (pieces 10 rest) (some_piece rest) ∙ ap (parts_by (length_told line)) (pieces_joined rest)
+header_split input line rest is = ap header_by is ∙ header_cons line (pieces 10 rest) (has_first 10 rest) ∙ ap (parts_by (length_told line)) (joined_pieces rest)
 
 pub header_alone : (input line : List ℕ) → pieces 10 input ≡ line ∷ [] → header_of input ≡ None
 header_alone input line is = ap header_by is
@@ -95,6 +78,5 @@ pub header_back : (session printed : List ℕ) → length session ≤ 1048576 �
 header_back session printed few =
     let line : List ℕ = codes "check " ++ decimal (length session) in
     let rest : List ℕ = session ++ printed in
-    let found : pieces 10 (check_text session printed) ≡ line ∷ pieces 10 rest =
-        ap (pieces 10) (append_assoc line (10 ∷ []) rest) ∙ pieces_divide line rest ∙ ap (λ l. l ++ pieces 10 rest) (printable_piece line (decimal_printable (length session) (omega arith))) in
+    let found : pieces 10 (check_text session printed) ≡ line ∷ pieces 10 rest = line_pieces line rest (number (length session) (omega arith)) in
     header_split (check_text session printed) line rest found ∙ ap (λ o. parts_by o rest) (told_back (length session) (omega arith)) ∙ parts_back session printed

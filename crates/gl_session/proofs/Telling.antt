@@ -197,7 +197,7 @@ header_ends front t = ends_append t front (codes "== history " ++ decimal 0) ∙
 
 -- lines
 
-pub printable_piece : (text : List ℕ) → IsPrintable text → pieces 10 text ≡ text ∷ []
+printable_piece : (text : List ℕ) → IsPrintable text → pieces 10 text ≡ text ∷ []
 printable_piece [] e = refl
 printable_piece (byte ∷ text) e =
     let p = both_true (nat_le 32 byte) (list_all (λ b. nat_le 32 b) text) e in let low = p.0 in
@@ -209,7 +209,7 @@ onto_some : (byte : ℕ) (xs ys : List (List ℕ)) → 0 < length xs → onto_fi
 onto_some byte [] ys long = absurd (omega arith)
 onto_some byte (x ∷ xs) ys long = refl
 
-pub some_piece : (bytes : List ℕ) → 0 < length (pieces 10 bytes)
+some_piece : (bytes : List ℕ) → 0 < length (pieces 10 bytes)
 some_piece [] = omega arith
 some_piece (byte ∷ bytes) = by (byte == 10) (some_piece bytes)
   where
@@ -222,7 +222,7 @@ some_piece (byte ∷ bytes) = by (byte == 10) (some_piece bytes)
     by false h = onto_long (pieces 10 bytes)
 
 -- a line's end divides
-pub pieces_divide : (xs ys : List ℕ) → pieces 10 (xs ++ (10 ∷ ys)) ≡ pieces 10 xs ++ pieces 10 ys
+pieces_divide : (xs ys : List ℕ) → pieces 10 (xs ++ (10 ∷ ys)) ≡ pieces 10 xs ++ pieces 10 ys
 pieces_divide [] ys = refl
 pieces_divide (x ∷ xs) ys = by (x == 10) (pieces_divide xs ys)
   where
@@ -366,17 +366,14 @@ one_history lines others (x ∷ xs) (y ∷ ys) a b h k e =
     let same : length (x ∷ xs) ≡ length (y ∷ ys) = let c = l.counted in let d = m.counted in let s = last.0 in omega arith in
     same_entries 0 (x ∷ xs) (y ∷ ys) h k (same_behind lines others (texts 0 (x ∷ xs)) (texts 0 (y ∷ ys)) (texts_long 0 (x ∷ xs) ∙ same ∙ sym (texts_long 0 (y ∷ ys))) e)
 
--- digits are printable, and so is the header of a history
-pub decimal_printable : (n : ℕ) → n < 2 ^ 64 → IsPrintable (decimal n)
-decimal_printable n small = by (decimal n) (digits-decimal n small)
+-- the header of a history is printable
+header_printable : (n : ℕ) → n < 2 ^ 64 → IsPrintable (codes "== history " ++ decimal n)
+header_printable n small = by (decimal n) (digits-decimal n small)
   where
     by : (word : List ℕ) → all_ascii_digits word ≡ true → IsPrintable word
     by [] e = refl
     by (byte ∷ word) e = let p = both_true (is_ascii_digit byte) (all_ascii_digits word) e in let d = digit_told byte p.0 in
         let low : nat_le 32 byte ≡ true = (let l = d.0 in grind (arith, nat_tests)) in rw (low, by word p.1) refl
-
-header_printable : (n : ℕ) → n < 2 ^ 64 → IsPrintable (codes "== history " ++ decimal n)
-header_printable n small = decimal_printable n small
 
 -- an output, as lines
 record AsLines (bytes : List ℕ) (history : List OneEntry) : Type 0 where
