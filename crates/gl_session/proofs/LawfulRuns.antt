@@ -134,7 +134,7 @@ module _ (judges : MisfitIsNoneForMany) (back : HistoriesAreReadBack) (alone : H
   lawful_output input l verdict h =
       let j = judges l.sections l.history in
       let fits = j.complete l.texts l.planned in
-      let none : h.1.0 ≡ None = j.one h.1.0 None h.1.1 fits.0 in
+      let none : h.1.0 ≡ None = j.at_most_one h.1.0 None h.1.1 fits.0 in
       h.1.2 ∙ ap (λ (o : Option ℕ). entries_verdict o l.sections (texts_text l.sections l.texts) l.history) none ∙ texts_same l.sections l.texts l.history fits.1
 
   pub lawful_is_yes : LawfulIsYes
