@@ -6,8 +6,11 @@ use Rattle.gl_script.specs.Section.{SaidSection}
 use Rattle.gl_script.specs.Sentence.{Sentence, first_fault, sections_said}
 use Rattle.gl_script.specs.declared.refusal.Refusal.{Refusal}
 use Rattle.gl_script.specs.declared.refusal.RefusalKind.TheVariants.{Header as HeaderKind, TooLong as TooLongKind}
+use Rattle.gl_trace.specs.HistoryFaults.{IsFault}
 use Rattle.gl_trace.specs.HistoryRead.{Bad, Good, History, history_in}
 use Rattle.gl_trace.specs.HistoryText.{AreTold}
+use Rattle.gl_trace.specs.declared.history.NoHistory.{NoHistory}
+use Rattle.gl_trace.specs.declared.history.NoHistory.TheVariants.{Line}
 use Rattle.gl_core.specs.Device.{OneEntry}
 use Rattle.gl_check.specs.Many.{actor_sections}
 use Rattle.gl_check.specs.Misfit.{IsMisfit}
@@ -66,6 +69,9 @@ output_verdict parts sections verdict s many h =
     subst (λ (b : Bool). IsSessionVerdict b parts verdict) (sym judged) (subst (λ (l : List SaidSection). IsOutputVerdict l (history_in parts.output) verdict) s.says h)
 
 -- an output without a history, and one with it
+pub told_fault : (why : NoHistory) (line : ℕ) (found : History) → why ≡ Line line → IsFault why found → found ≡ Bad line
+told_fault why line found is fault = subst (λ (w : NoHistory). IsFault w found) is fault
+
 pub no_history : (sections : List SaidSection) (found : History) (line : ℕ) → found ≡ Bad line → IsOutputVerdict sections found (NoFormat line)
 no_history sections found line e = subst (λ (f : History). IsOutputVerdict sections f (NoFormat line)) (sym e) refl
 

@@ -1,15 +1,23 @@
-use Rattle.std.proofs.Common.{arith}
+use Rattle.std.proofs.Common.{◌≡◌, ℕ, List, Option, subst, rules}
 use Rattle.std.proofs.lemmas.Result.{IfOk-weaker}
 use Rattle.gl_script.specs.Script.{sections_of}
 use Rattle.gl_trace.specs.HistoryRead.{history_in}
-use Rattle.gl_session.proofs.Judgments.{no_history, with_history}
+use Rattle.gl_core.specs.Device.{OneEntry}
+use Rattle.gl_check.specs.Misfit.{IsMisfit}
+use Rattle.gl_session.specs.Verdict.{entries_verdict}
+use Rattle.gl_session.proofs.Judgments.{no_history, told_fault, with_history}
 use Rattle.gl_session.proofs.judging.judge_output.Goals as goal
 
 pub returns-in-Ok-clause-verdict : goal.returns-in-Ok-clause-verdict
 returns-in-Ok-clause-verdict c =
+    let same : c.deref.result.now ≡ c.in-Ok.printed.entries.items = search rules in
+    let sections = sections_of c.args.script.now in
+    let front = c.in-Ok.printed.front.now in
     IfOk-weaker c.judge_entries.result _ _
-    (λ verdict h. with_history (sections_of c.args.script.now) (history_in c.args.output.now) c.in-Ok.printed.front.now c.in-Ok.printed.entries.items verdict c.in-Ok.ensures.ok c.in-Ok.ensures.told h)
+    (λ verdict h. with_history sections (history_in c.args.output.now) front c.in-Ok.printed.entries.items verdict c.in-Ok.ensures.ok c.in-Ok.ensures.told
+    (subst (λ (l : List OneEntry). (misfit : Option ℕ) × IsMisfit sections l misfit × (verdict ≡ entries_verdict misfit sections front l)) same h))
     c.judge_entries.ensures.verdict
 
 pub returns-in-Err-Line-clause-verdict : goal.returns-in-Err-Line-clause-verdict
-returns-in-Err-Line-clause-verdict c = no_history (sections_of c.args.script.now) (history_in c.args.output.now) c.in-Err-Line.line c.in-Err-Line.ensures.fault
+returns-in-Err-Line-clause-verdict c =
+    no_history (sections_of c.args.script.now) (history_in c.args.output.now) c.in-Err-Line.line (told_fault _ c.in-Err-Line.line (history_in c.args.output.now) c.in-Err-Line.field-0-is c.in-Err-Line.ensures.fault)
