@@ -1,0 +1,9 @@
+pub mod Back
+pub mod Beyond
+pub mod Fits
+pub mod Going
+pub mod Operations
+pub mod Order
+pub mod Silent
+pub mod Through
+pub mod Whole
