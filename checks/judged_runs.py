@@ -318,8 +318,9 @@ def run(session: bytes) -> bytes:
 def spoilt(chance: random.Random, outputs: List[Tuple[str, bytes, bytes]]) -> Iterator[Case]:
     """Outputs of sessions with one thing wrong, each once: as many of each session and of each way."""
     each = -(-SPOILT * 2 // (len(outputs) * len(WAYS)))
+    seen = {text for _, _, text in outputs}
     for name, session, text in outputs:
-        output, seen = Output(text), {text}
+        output = Output(text)
         for way in WAYS:
             for _ in range(each):
                 other = way(chance, output)
