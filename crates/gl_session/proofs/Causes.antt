@@ -68,6 +68,10 @@ module _ (input bytes rest : List ℕ) (whole : input ≡ bytes ++ rest) (ends :
   output_of_read is_planned before left text (inl session) = inl (session.0, runs_of_read session.0 session.1, session.2)
   output_of_read is_planned before left text (inr refused) = inr (refused.0, same_refusal ∙ refused.1, refused.2)
 
+-- bytes that were read, and then lent
+pub as_lent : (limit : ℕ) (old new : Option (List ℕ)) (items lent : List ℕ) → ReadsThrough limit old new items → lent ≡ items → ReadsThrough limit old new lent
+as_lent limit old new items lent read is = subst (λ l. ReadsThrough limit old new l) (sym is) read
+
 pub if_ran : (old new : Option (List ℕ)) (bytes : List ℕ) (Ends : Type 0) (Written : List SaidSection → Type 0) → ReadsThrough 1048576 old new bytes → (length bytes ≤ 1048576 → Ends) →
     (sections : List SaidSection) × Sentence bytes sections × Written sections →
     IfSome old (λ input. (sections : List SaidSection) → Sentence input sections → Ends × Written sections)

@@ -147,12 +147,12 @@ refused_verdict Yes e = cc
 -- a judgment is no fault of writing, and no want of memory
 pub no_fault_judged : {A : Type 0} (status : Status) → IsJudgment status → A ⊎ ((status ≡ WriteFault) ⊎ (status ≡ NoMemory)) → A
 no_fault_judged status j (inl a) = a
-no_fault_judged status (inl j) (inr (inl e)) = absurd (let no : Ran ≡ WriteFault = sym j ∙ e in cc)
-no_fault_judged status (inr (inl j)) (inr (inl e)) = absurd (let no : Refused ≡ WriteFault = sym j ∙ e in cc)
-no_fault_judged status (inr (inr j)) (inr (inl e)) = absurd (let no : No ≡ WriteFault = sym j ∙ e in cc)
-no_fault_judged status (inl j) (inr (inr e)) = absurd (let no : Ran ≡ NoMemory = sym j ∙ e in cc)
-no_fault_judged status (inr (inl j)) (inr (inr e)) = absurd (let no : Refused ≡ NoMemory = sym j ∙ e in cc)
-no_fault_judged status (inr (inr j)) (inr (inr e)) = absurd (let no : No ≡ NoMemory = sym j ∙ e in cc)
+no_fault_judged status (inl j) (inr (inl e)) = absurd (let other : Ran ≡ WriteFault = sym j ∙ e in cc)
+no_fault_judged status (inr (inl j)) (inr (inl e)) = absurd (let other : Refused ≡ WriteFault = sym j ∙ e in cc)
+no_fault_judged status (inr (inr j)) (inr (inl e)) = absurd (let other : No ≡ WriteFault = sym j ∙ e in cc)
+no_fault_judged status (inl j) (inr (inr e)) = absurd (let other : Ran ≡ NoMemory = sym j ∙ e in cc)
+no_fault_judged status (inr (inl j)) (inr (inr e)) = absurd (let other : Refused ≡ NoMemory = sym j ∙ e in cc)
+no_fault_judged status (inr (inr j)) (inr (inr e)) = absurd (let other : No ≡ NoMemory = sym j ∙ e in cc)
 
 -- what was written as a verdict ends so
 pub ends_judged : {Rest : Type 0} (status : Status) (verdict : Verdict) → (status ≡ verdict_status verdict) ⊎ Rest → IsJudgment status ⊎ Rest
@@ -161,18 +161,18 @@ ends_judged status verdict (inr r) = inr r
 
 -- where nothing failed the answer is a judgment, or want of memory
 pub judged_or_none : {WriteRises : Type 0} (status : Status) → IsJudgment status ⊎ ((status ≡ WriteFault) ⊎ (status ≡ NoMemory)) → (status ≡ WriteFault → WriteRises) → ¬ WriteRises → IsJudgment status ⊎ (status ≡ NoMemory)
-judged_or_none status (inl j) fault no = inl j
-judged_or_none status (inr (inl e)) fault no = absurd (no (fault e))
-judged_or_none status (inr (inr e)) fault no = inr e
+judged_or_none status (inl j) fault never = inl j
+judged_or_none status (inr (inl e)) fault never = absurd (never (fault e))
+judged_or_none status (inr (inr e)) fault never = inr e
 
 -- `yes` is written of lawful runs
 pub if_yes : YesIsLawful → (old : Option (List ℕ)) (status : Status) (Written : List ℕ → Type 0) → status ≡ Ran
     → IfSome old (λ input. (verdict : Verdict) × IsVerdict input verdict × (status ≡ verdict_status verdict) × Written (verdict_line verdict))
     → IfSome old (λ input. IsLawful input × Written yes_line)
-if_yes yes None status Written ran h = tt
-if_yes yes (Some input) status Written ran h =
+if_yes sound None status Written ran h = tt
+if_yes sound (Some input) status Written ran h =
     let is : h.0 ≡ Yes = ran_alone h.0 (sym h.2 ∙ ran) in
-    (yes input (subst (λ v. IsVerdict input v) is h.1), subst (λ v. Written (verdict_line v)) is h.3)
+    (sound input (subst (λ v. IsVerdict input v) is h.1), subst (λ v. Written (verdict_line v)) is h.3)
 
 pub if_lawful : LawfulIsYes → (old : Option (List ℕ)) (status : Status) (ReadRises WriteRises : Type 0) (Written : Verdict → Type 0) → (¬ ReadRises → ¬ WriteRises → IsJudgment status ⊎ (status ≡ NoMemory))
     → (IsJudgment status → IfSome old (λ input. (verdict : Verdict) × IsVerdict input verdict × (status ≡ verdict_status verdict) × Written verdict))

@@ -1,10 +1,7 @@
 use Rattle.std.proofs.Common.{arith}
 use Rattle.std.proofs.lemmas.Result.{IfOk-weaker}
-use Rattle.gl_session.proofs.Judgments.{long_verdict, no_header, session_verdict}
+use Rattle.gl_session.proofs.Judgments.{no_header, session_verdict}
 use Rattle.gl_session.proofs.judging.judge.Goals as goal
-
-pub returns-then-len-gt-CHECK_MAX-clause-verdict : goal.returns-then-len-gt-CHECK_MAX-clause-verdict
-returns-then-len-gt-CHECK_MAX-clause-verdict c = long_verdict c.args.input.now (omega arith)
 
 pub returns-in-Some-clause-verdict : goal.returns-in-Some-clause-verdict
 returns-in-Some-clause-verdict c =
