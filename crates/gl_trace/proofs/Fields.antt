@@ -49,7 +49,7 @@ digits_word (byte ∷ word) e =
 pub decimal_word : (n : ℕ) → n < 2 ^ 64 → IsWord (decimal n)
 decimal_word n small = digits_word (decimal n) (digits-decimal n small)
 
-below_same : (n k : ℕ) (o : Option ℕ) → below n o ≡ Some k → (o ≡ Some k) × (k < n)
+pub below_same : (n k : ℕ) (o : Option ℕ) → below n o ≡ Some k → (o ≡ Some k) × (k < n)
 below_same n k None e = cc
 below_same n k (Some m) e = by_test (nat_lt m n) refl e
   where

@@ -1,10 +1,14 @@
 pub mod Buffers
+pub mod Bytes
 pub mod Calls
 pub mod Commands
 pub mod Cutting
 pub mod Entries
 pub mod Fields
 pub mod Guessing
+pub mod Histories
+pub mod HistoryHeads
+pub mod HistoryLines
 pub mod Legal
 pub mod Numbers
 pub mod Pairs
@@ -14,4 +18,5 @@ pub mod Replies
 pub mod Shapes
 pub mod Spelling
 pub mod Stripping
+pub mod TextPieces
 pub mod Texts

@@ -50,7 +50,7 @@ digits : (word : List ℕ) → all_ascii_digits word ≡ true → IsPrintable wo
 digits [] e = refl
 digits (byte ∷ word) e = let p = both_true (is_ascii_digit byte) (all_ascii_digits word) e in one byte word (digit_low byte p.0) (digits word p.1)
 
-number : (n : ℕ) → n < 2 ^ 64 → IsPrintable (decimal n)
+pub number : (n : ℕ) → n < 2 ^ 64 → IsPrintable (decimal n)
 number n small = digits (decimal n) (digits-decimal n small)
 
 number8 : (n : ℕ) → Is8 n → IsPrintable (decimal n)

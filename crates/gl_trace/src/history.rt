@@ -1,5 +1,5 @@
 //! The history at the end of an output, read.
-ghost use Rattle.std.specs.Prelude.{◌≡◌, ◌+◌, ◌<◌, ◌≤◌, ◌^◌, if◌then◌else◌, ℕ, List, Some, [], ◌∷◌, suc, length, min, true, IfOk, IfErr, IfSome, MatchOption};
+ghost use Rattle.std.specs.Prelude.{◌≡◌, ◌==◌, ◌+◌, ◌<◌, ◌≤◌, ◌^◌, if◌then◌else◌, ℕ, List, Some, [], ◌∷◌, suc, length, min, true, IfOk, IfErr, IfSome, MatchOption};
 ghost use Rattle.std.specs.Option.{option_copied};
 ghost use Rattle.gl_base.specs.Words.{pieces, pieces_left};
 ghost use Rattle.gl_trace.specs.HistoryRead.{Bad, Broken, Good, Whole, count_told, entry_at, history_from, history_in, in_front, is_head, last_head, line_count, lines_read, next_line, of_lines, one_line};
@@ -201,7 +201,14 @@ fn entry_at(index: u32, line: &[u8]) -> Option<Entry<Core>>
 fn room(count: u32, text: &[u8]) -> usize
     ensures { result ≡ min count (line_count (pieces 10 text.now)) }
 {
-    count_lines(text).min(u64::from(count)) as usize
+    u64::from(count).min(count_lines(text)) as usize
+}
+
+/// Whether nothing stands behind the entries that are told of.
+fn is_end(text: &[u8]) -> bool
+    ensures { result ≡ (length text.now == 0) }
+{
+    text.is_empty()
 }
 
 /// So many entries, a line each from the one of this number on, and nothing behind them.
@@ -232,7 +239,7 @@ fn read_lines(
             None => return Err(NoHistory::Line(line + u64::from(index))),
         }
     }
-    if rest.is_empty() {
+    if is_end(rest) {
         Ok(entries)
     } else {
         Err(NoHistory::Line(line + u64::from(count)))
