@@ -69,11 +69,10 @@ output_verdict parts sections verdict s many h =
     subst (λ (b : Bool). IsSessionVerdict b parts verdict) (sym judged) (subst (λ (l : List SaidSection). IsOutputVerdict l (history_in parts.output) verdict) s.says h)
 
 -- an output without a history, and one with it
-pub told_fault : (why : NoHistory) (line : ℕ) (found : History) → why ≡ Line line → IsFault why found → found ≡ Bad line
-told_fault why line found is fault = subst (λ (w : NoHistory). IsFault w found) is fault
-
-pub no_history : (sections : List SaidSection) (found : History) (line : ℕ) → found ≡ Bad line → IsOutputVerdict sections found (NoFormat line)
-no_history sections found line e = subst (λ (f : History). IsOutputVerdict sections f (NoFormat line)) (sym e) refl
+pub faulty_output : (sections : List SaidSection) (found : History) (why : NoHistory) (verdict : Verdict) → IsFault why found → (line : ℕ) × (why ≡ Line line) × (verdict ≡ NoFormat line) → IsOutputVerdict sections found verdict
+faulty_output sections found why verdict fault h =
+    let bad : found ≡ Bad h.0 = subst (λ (w : NoHistory). IsFault w found) h.1 fault in
+    subst (λ (f : History). IsOutputVerdict sections f verdict) (sym bad) h.2
 
 pub with_history : (sections : List SaidSection) (found : History) (front : List ℕ) (history : List OneEntry) (verdict : Verdict) → found ≡ Good front history → AreTold 0 history
     → (misfit : Option ℕ) × IsMisfit sections history misfit × (verdict ≡ entries_verdict misfit sections front history) → IsOutputVerdict sections found verdict

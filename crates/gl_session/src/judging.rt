@@ -124,8 +124,18 @@ fn judge_output(alloc: Global, script: &Script<'_>, output: &[u8]) -> Result<Ver
 {
     match read_history(alloc, output) {
         Ok(printed) => judge_entries(alloc, script, printed.front, &printed.entries),
-        Err(NoHistory::Line(line)) => Ok(Verdict::NoFormat(line)),
-        Err(NoHistory::NoMemory) => Err(Errno::NoMemory),
+        Err(why) => without_history(why),
+    }
+}
+
+/// What an output is judged to be in which no history could be read.
+fn without_history(why: NoHistory) -> Result<Verdict, Errno>
+    ensures verdict { IfOk result (λ verdict. (line : ℕ) × (why ≡ NoHistory.Line line) × (verdict ≡ Verdict.NoFormat line)) }
+    ensures memory_alone { IsOkUnless result Errno.NoMemory }
+{
+    match why {
+        NoHistory::Line(line) => Ok(Verdict::NoFormat(line)),
+        NoHistory::NoMemory => Err(Errno::NoMemory),
     }
 }
 

@@ -5,7 +5,7 @@ use Rattle.gl_trace.specs.HistoryRead.{history_in}
 use Rattle.gl_core.specs.Device.{OneEntry}
 use Rattle.gl_check.specs.Misfit.{IsMisfit}
 use Rattle.gl_session.specs.Verdict.{entries_verdict}
-use Rattle.gl_session.proofs.Judgments.{no_history, told_fault, with_history}
+use Rattle.gl_session.proofs.Judgments.{faulty_output, with_history}
 use Rattle.gl_session.proofs.judging.judge_output.Goals as goal
 
 pub returns-in-Ok-clause-verdict : goal.returns-in-Ok-clause-verdict
@@ -18,6 +18,6 @@ returns-in-Ok-clause-verdict c =
     (subst (λ (l : List OneEntry). (misfit : Option ℕ) × IsMisfit sections l misfit × (verdict ≡ entries_verdict misfit sections front l)) same h))
     c.judge_entries.ensures.verdict
 
-pub returns-in-Err-Line-clause-verdict : goal.returns-in-Err-Line-clause-verdict
-returns-in-Err-Line-clause-verdict c =
-    no_history (sections_of c.args.script.now) (history_in c.args.output.now) c.in-Err-Line.line (told_fault _ c.in-Err-Line.line (history_in c.args.output.now) c.in-Err-Line.field-0-is c.in-Err-Line.ensures.fault)
+pub returns-in-Err-clause-verdict : goal.returns-in-Err-clause-verdict
+returns-in-Err-clause-verdict c =
+    IfOk-weaker c.without_history.result _ _ (λ verdict h. faulty_output (sections_of c.args.script.now) (history_in c.args.output.now) c.in-Err.why verdict c.in-Err.ensures.fault h) c.without_history.ensures.verdict
