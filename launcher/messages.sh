@@ -152,15 +152,24 @@ meaning() {
 explain_calls() {
   say "a session is given as ./gpiosess < FILE, and the arguments are these alone:"
   say "  ./gpiosess < examples/one-chip.session    runs the session of that file"
+  say "  ./gpiosess check < FILE                   judges a printed run"
   say "  ./gpiosess --generate N                   runs a load of N turns, from 1 to 5000"
   say "  ./gpiosess --prove                        proves and builds the program"
 }
 
-# Says more of a run that ended with status 2 or 3. What prints the refusal once more is handed in after it.
+# What is to be done about an input that can't be judged.
+explain_check() {
+  say "what is judged is a line check N, the N bytes of a session, and the output of its run, at most 67,108,864 bytes together"
+  say "for a session FILE and its output OUTPUT: { printf 'check %d\\n' \$(wc -c < FILE); cat FILE OUTPUT; } | ./gpiosess check"
+}
+
+# Says more of a run that ended with status 2 or 3. The program's first argument is handed in, and what prints the refusal once more.
 explain() {
   if [ "$1" = 2 ]; then
     explain_calls
+  elif [ "$2" = check ]; then
+    explain_check
   else
-    explain_refusal "${@:2}"
+    explain_refusal "${@:3}"
   fi
 }

@@ -57,15 +57,7 @@ stop_without_program() {
   exit 1
 }
 
-# what judges the history of an output
-judge=$top/crates/gl_history/out/gl_history
-
-# Proves and builds what judges histories, where it is missing or older than a source.
-build_judge() {
-  local newer
-  [ -x "$judge" ] && newer=$(cd "$top" && find crates.txt crates/*/src crates/*/specs crates/*/proofs -type f -newer "$judge" -print -quit 2>/dev/null)
-  if [ ! -x "$judge" ] || [ -n "$newer" ]; then
-    echo "proving and building what judges histories" >&2
-    (cd "$top/crates/gl_history" && rt run </dev/null >/dev/null)
-  fi
+# Prints what the program says of the output of a session, where both are files.
+judgment() {
+  { printf 'check %d\n' "$(wc -c <"$1")" && cat "$1" "$2"; } | "$program" check
 }

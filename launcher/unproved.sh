@@ -12,14 +12,17 @@ say_unproved() {
   say "./gpiosess --prove proves and builds the program ($(proving_time)); after that a session runs at once"
 }
 
-# Puts what is read into a file: as much as a session may have, and one byte more.
+# Puts what is read into a file: as much as a session or a printed run may have, and one byte more.
 keep_input() {
-  if [ $# -gt 0 ]; then
+  local most=1048577
+  if [ "${1-}" = check ]; then
+    most=67108865
+  elif [ $# -gt 0 ]; then
     : >"$room/input"
     return
   fi
-  [ -t 0 ] && say "reading a session from the terminal, up to Ctrl-D on a line of its own"
-  head -c 1048577 >"$room/input" 2>/dev/null
+  [ -t 0 ] && say "reading from the terminal, up to Ctrl-D on a line of its own"
+  head -c "$most" >"$room/input" 2>/dev/null
 }
 
 # Says why there was no answer, and sets the status.
@@ -42,7 +45,7 @@ run_unproved() {
   need_toolchain
   room=$(mktemp -d) || fail "there is no room for a temporary folder"
   trap 'rm -rf "$room"' EXIT
-  [ $# -eq 0 ] || [ "$1" = --generate ] || say "a session is given as ./gpiosess < FILE"
+  [ $# -eq 0 ] || [ "$1" = --generate ] || [ "$1" = check ] || say "a session is given as ./gpiosess < FILE"
   say_unproved
   if ! keep_input "$@"; then
     status=4

@@ -6,4 +6,5 @@ pub mod Ports
 pub mod Programs
 pub mod Seats
 pub mod Tells
+pub mod Texts
 pub mod Turns

@@ -2,4 +2,7 @@
 #![tactic(auto)]
 
 pub mod laws;
+mod replaying;
 mod stand;
+
+pub use replaying::replay;

@@ -10,13 +10,13 @@ use Rattle.gl_script.specs.Sentence.{Sentence, cost_fault, fault_from, first_fau
 use Rattle.gl_script.specs.declared.refusal.Refusal.{Refusal}
 use Rattle.gl_script.specs.declared.refusal.RefusalKind.TheVariants.{TooLong}
 use Rattle.gl_session.specs.declared.status.Status.{Status}
-use Rattle.gl_session.specs.declared.status.Status.TheVariants.{Ran, Usage, Refused, ReadFault, WriteFault, NoMemory}
+use Rattle.gl_session.specs.declared.status.Status.TheVariants.{Ran, Usage, Refused, ReadFault, WriteFault, NoMemory, No}
 use Rattle.gl_session.specs.Streams.{ReadsThrough}
 use Rattle.gl_session.specs.Run.{IsOutput, IsRefusal}
 use Rattle.gl_session.proofs.FewStatements.{sentence_is_short}
 
 -- a sentence is not refused
-not_refused : (bytes : List ℕ) (sections : List SaidSection) → Sentence bytes sections → first_fault bytes ≡ None
+pub not_refused : (bytes : List ℕ) (sections : List SaidSection) → Sentence bytes sections → first_fault bytes ≡ None
 not_refused bytes sections r = r.faultless
 
 abbrev too_long : Option Refusal
@@ -32,7 +32,7 @@ long_refusal bytes h =
     long_if (nat_lt 1048576 (length bytes)) (option_or (fault_from nothing 1 (lines_of bytes)) (cost_fault (sections_said bytes))) test
 
 -- a sentence isn't too long
-short : (bytes : List ℕ) (sections : List SaidSection) → Sentence bytes sections → length bytes ≤ 1048576
+pub short : (bytes : List ℕ) (sections : List SaidSection) → Sentence bytes sections → length bytes ≤ 1048576
 short bytes sections r = sentence_is_short bytes sections r
 
 single : (bytes : List ℕ) (some others : List SaidSection) → Sentence bytes some → Sentence bytes others → some ≡ others
@@ -68,7 +68,11 @@ module _ (input bytes rest : List ℕ) (whole : input ≡ bytes ++ rest) (ends :
   output_of_read is_planned before left text (inl session) = inl (session.0, runs_of_read session.0 session.1, session.2)
   output_of_read is_planned before left text (inr refused) = inr (refused.0, same_refusal ∙ refused.1, refused.2)
 
-pub if_ran : (old new : Option (List ℕ)) (bytes : List ℕ) (Ends : Type 0) (Written : List SaidSection → Type 0) → ReadsThrough old new bytes → (length bytes ≤ 1048576 → Ends) →
+-- bytes that were read, and then lent
+pub as_lent : (limit : ℕ) (old new : Option (List ℕ)) (items lent : List ℕ) → ReadsThrough limit old new items → lent ≡ items → ReadsThrough limit old new lent
+as_lent limit old new items lent read is = subst (λ l. ReadsThrough limit old new l) (sym is) read
+
+pub if_ran : (old new : Option (List ℕ)) (bytes : List ℕ) (Ends : Type 0) (Written : List SaidSection → Type 0) → ReadsThrough 1048576 old new bytes → (length bytes ≤ 1048576 → Ends) →
     (sections : List SaidSection) × Sentence bytes sections × Written sections →
     IfSome old (λ input. (sections : List SaidSection) → Sentence input sections → Ends × Written sections)
 if_ran None new bytes Ends Written r ends out = tt
@@ -79,20 +83,20 @@ if_ran (Some input) (Some rest) bytes Ends Written r ends out =
       subst Written (single bytes out.0 sections out.1 (runs_of_input input bytes rest r.first r.end sections s)) out.2,
     )
 
-pub if_session : (old new : Option (List ℕ)) (bytes : List ℕ) → ReadsThrough old new bytes → (sections : List SaidSection) → Sentence bytes sections →
+pub if_session : (old new : Option (List ℕ)) (bytes : List ℕ) → ReadsThrough 1048576 old new bytes → (sections : List SaidSection) → Sentence bytes sections →
     IfSome old (λ input. (sections : List SaidSection) × Sentence input sections)
 if_session None new bytes r sections s = tt
 if_session (Some input) None bytes r sections s = absurd r.first
 if_session (Some input) (Some rest) bytes r sections s = (sections, runs_of_read input bytes rest r.first r.end sections s)
 
-pub if_refused : (old new : Option (List ℕ)) (bytes : List ℕ) (Written : Refusal → Type 0) → ReadsThrough old new bytes →
+pub if_refused : (old new : Option (List ℕ)) (bytes : List ℕ) (Written : Refusal → Type 0) → ReadsThrough 1048576 old new bytes →
     (refusal : Refusal) × (first_fault bytes ≡ Some refusal) × Written refusal →
     IfSome old (λ input. (refusal : Refusal) × (first_fault input ≡ Some refusal) × Written refusal)
 if_refused None new bytes Written r out = tt
 if_refused (Some input) None bytes Written r out = absurd r.first
 if_refused (Some input) (Some rest) bytes Written r out = (out.0, same_refusal input bytes rest r.first r.end ∙ out.1, out.2)
 
-pub if_output : (is_planned : Bool) (before left : ℕ → Option Told) (old new : Option (List ℕ)) (bytes : List ℕ) (Written : List ℕ → Type 0) → ReadsThrough old new bytes →
+pub if_output : (is_planned : Bool) (before left : ℕ → Option Told) (old new : Option (List ℕ)) (bytes : List ℕ) (Written : List ℕ → Type 0) → ReadsThrough 1048576 old new bytes →
     (text : List ℕ) × IsOutput is_planned before left bytes text × Written text →
     IfSome old (λ input. (text : List ℕ) × IsOutput is_planned before left input text × Written text)
 if_output is_planned before left None new bytes Written r out = tt
@@ -101,13 +105,14 @@ if_output is_planned before left (Some input) (Some rest) bytes Written r out =
     (out.0, output_of_read input bytes rest r.first r.end is_planned before left out.0 out.1, out.2)
 
 -- a run over refused bytes doesn't run
-only_refusals : (status : Status) → (status ≡ Usage → ⊥) → (status ≡ Ran → ⊥) → IsRefusal status
-only_refusals Ran a b = absurd (b refl)
-only_refusals Usage a b = absurd (a refl)
-only_refusals Refused a b = inl refl
-only_refusals ReadFault a b = inr (inl refl)
-only_refusals WriteFault a b = inr (inr (inl refl))
-only_refusals NoMemory a b = inr (inr (inr refl))
+only_refusals : (status : Status) → (status ≡ Usage → ⊥) → (status ≡ No → ⊥) → (status ≡ Ran → ⊥) → IsRefusal status
+only_refusals Ran a n b = absurd (b refl)
+only_refusals Usage a n b = absurd (a refl)
+only_refusals Refused a n b = inl refl
+only_refusals ReadFault a n b = inr (inl refl)
+only_refusals WriteFault a n b = inr (inr (inl refl))
+only_refusals NoMemory a n b = inr (inr (inr refl))
+only_refusals No a n b = absurd (n refl)
 
 none_some : (a : Option Refusal) (refusal : Refusal) → a ≡ None → a ≡ Some refusal → ⊥
 none_some None refusal e h = cc
@@ -118,42 +123,43 @@ pub never_refused : (bytes : List ℕ) (sections : List SaidSection) (refusal : 
 never_refused bytes sections refusal s is = none_some (first_fault bytes) refusal (not_refused bytes sections s) is
 
 -- what is said of refused bytes that were read is said of those of the source
-pub if_faulty : (old new : Option (List ℕ)) (bytes : List ℕ) (Said : Type 0) → ReadsThrough old new bytes → ((refusal : Refusal) → first_fault bytes ≡ Some refusal → Said) →
+pub if_faulty : (old new : Option (List ℕ)) (bytes : List ℕ) (Said : Type 0) → ReadsThrough 1048576 old new bytes → ((refusal : Refusal) → first_fault bytes ≡ Some refusal → Said) →
     IfSome old (λ input. (refusal : Refusal) → first_fault input ≡ Some refusal → Said)
 if_faulty None new bytes Said r h = tt
 if_faulty (Some input) None bytes Said r h = absurd r.first
 if_faulty (Some input) (Some rest) bytes Said r h = λ refusal is. h refusal (sym (same_refusal input bytes rest r.first r.end) ∙ is)
 
-pub if_refusal : (status : Status) (old new : Option (List ℕ)) (bytes : List ℕ) → ReadsThrough old new bytes →
-    (status ≡ Usage → ⊥) → (status ≡ Ran → (sections : List SaidSection) × Sentence bytes sections) →
+pub if_refusal : (status : Status) (old new : Option (List ℕ)) (bytes : List ℕ) → ReadsThrough 1048576 old new bytes →
+    (status ≡ Usage → ⊥) → (status ≡ No → ⊥) → (status ≡ Ran → (sections : List SaidSection) × Sentence bytes sections) →
     IfSome old (λ input. (refusal : Refusal) → first_fault input ≡ Some refusal → IsRefusal status)
-if_refusal status None new bytes r no_usage ran = tt
-if_refusal status (Some input) None bytes r no_usage ran = absurd r.first
-if_refusal status (Some input) (Some rest) bytes r no_usage ran =
-    λ refusal e. only_refusals status no_usage
+if_refusal status None new bytes r no_usage no_no ran = tt
+if_refusal status (Some input) None bytes r no_usage no_no ran = absurd r.first
+if_refusal status (Some input) (Some rest) bytes r no_usage no_no ran =
+    λ refusal e. only_refusals status no_usage no_no
     (λ s. never_refused bytes (ran s).0 refusal (ran s).1 (sym (same_refusal input bytes rest r.first r.end) ∙ e))
 
 -- every other answer than these two has a cause
-only_these : (status : Status) → (status ≡ Usage → ⊥) → (status ≡ ReadFault → ⊥) → (status ≡ Refused → ⊥) → (status ≡ WriteFault → ⊥) →
+only_these : (status : Status) → (status ≡ Usage → ⊥) → (status ≡ No → ⊥) → (status ≡ ReadFault → ⊥) → (status ≡ Refused → ⊥) → (status ≡ WriteFault → ⊥) →
     (status ≡ Ran) ⊎ (status ≡ NoMemory)
-only_these Ran a b c d = inl refl
-only_these Usage a b c d = absurd (a refl)
-only_these Refused a b c d = absurd (c refl)
-only_these ReadFault a b c d = absurd (b refl)
-only_these WriteFault a b c d = absurd (d refl)
-only_these NoMemory a b c d = inr refl
+only_these Ran a n b c d = inl refl
+only_these Usage a n b c d = absurd (a refl)
+only_these Refused a n b c d = absurd (c refl)
+only_these ReadFault a n b c d = absurd (b refl)
+only_these WriteFault a n b c d = absurd (d refl)
+only_these NoMemory a n b c d = inr refl
+only_these No a n b c d = absurd (n refl)
 
-pub if_complete : (status : Status) (old new : Option (List ℕ)) (bytes : List ℕ) (ReadRises WriteRises : Type 0) → ReadsThrough old new bytes →
-    (status ≡ Usage → ⊥) → (status ≡ ReadFault → ⊥) → (status ≡ Refused → (refusal : Refusal) × (first_fault bytes ≡ Some refusal)) → (status ≡ WriteFault → WriteRises) →
+pub if_complete : (status : Status) (old new : Option (List ℕ)) (bytes : List ℕ) (ReadRises WriteRises : Type 0) → ReadsThrough 1048576 old new bytes →
+    (status ≡ Usage → ⊥) → (status ≡ No → ⊥) → (status ≡ ReadFault → ⊥) → (status ≡ Refused → (refusal : Refusal) × (first_fault bytes ≡ Some refusal)) → (status ≡ WriteFault → WriteRises) →
     IfSome old (λ input. (sections : List SaidSection) → Sentence input sections → ¬ ReadRises → ¬ WriteRises → (status ≡ Ran) ⊎ (status ≡ NoMemory))
-if_complete status None new bytes ReadRises WriteRises r no_usage no_read refused write = tt
-if_complete status (Some input) None bytes ReadRises WriteRises r no_usage no_read refused write = absurd r.first
-if_complete status (Some input) (Some rest) bytes ReadRises WriteRises r no_usage no_read refused write =
-    λ sections s reads writes. only_these status no_usage no_read
+if_complete status None new bytes ReadRises WriteRises r no_usage no_no no_read refused write = tt
+if_complete status (Some input) None bytes ReadRises WriteRises r no_usage no_no no_read refused write = absurd r.first
+if_complete status (Some input) (Some rest) bytes ReadRises WriteRises r no_usage no_no no_read refused write =
+    λ sections s reads writes. only_these status no_usage no_no no_read
     (λ e. never_refused bytes sections (refused e).0 (runs_of_input input bytes rest r.first r.end sections s) (refused e).1) (λ e. writes (write e))
 
 -- what is said of the sections that were read is said of those of the source
-pub if_sections : (old new : Option (List ℕ)) (bytes : List ℕ) (Said : List SaidSection → Type 0) → ReadsThrough old new bytes → ((sections : List SaidSection) → Sentence bytes sections → Said sections) →
+pub if_sections : (old new : Option (List ℕ)) (bytes : List ℕ) (Said : List SaidSection → Type 0) → ReadsThrough 1048576 old new bytes → ((sections : List SaidSection) → Sentence bytes sections → Said sections) →
     IfSome old (λ input. (sections : List SaidSection) → Sentence input sections → Said sections)
 if_sections None new bytes Said r h = tt
 if_sections (Some input) None bytes Said r h = absurd r.first

@@ -7,7 +7,7 @@ use Rattle.gl_script.specs.Meaning.{line_in}
 use Rattle.gl_script.specs.Section.{SaidSection, all_statements, statements_of}
 use Rattle.gl_script.specs.declared.section.Statement.{Statement}
 use Rattle.gl_words.specs.declared.asked.Task.{Task}
-use Rattle.gl_words.specs.declared.asked.Task.TheVariants.{Session, Load}
+use Rattle.gl_words.specs.declared.asked.Task.TheVariants.{Session, Load, Check}
 use Rattle.gl_session.specs.Figures.{statement_count}
 use Rattle.gl_check.specs.Many.{no_section}
 
@@ -25,6 +25,7 @@ abbrev turns_asked : Option Task → ℕ
 turns_asked None = 0
 turns_asked (Some Session) = 0
 turns_asked (Some (Load turns)) = turns
+turns_asked (Some Check) = 0
 
 pub same_turns : (asked : Option Task) (m n : ℕ) → asked ≡ Some (Load m) → asked ≡ Some (Load n) → m ≡ n
 same_turns asked m n a b = ap turns_asked (sym a ∙ b)

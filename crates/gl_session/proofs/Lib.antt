@@ -10,7 +10,10 @@ pub mod Ends
 pub mod FewActors
 pub mod FewStatements
 pub mod Figures
+pub mod Headers
+pub mod Judgments
 pub mod Known
+pub mod LawfulRuns
 pub mod ManyFollows
 pub mod NoRoom
 pub mod Numbering
@@ -19,6 +22,7 @@ pub mod OneHistories
 pub mod Performing
 pub mod Plays
 pub mod PortPlaces
+pub mod PrintedLines
 pub mod SaidHere
 pub mod Sections
 pub mod Silence

@@ -1,19 +1,11 @@
 -- Entries whose numbers and texts are of their types are told by their texts.
-use Rattle.std.proofs.Common.{◌≡◌, ℕ, suc, ◌+◌, ◌<◌, true, List, [], ◌∷◌, refl, sym, ◌∙◌, subst, arith}
-use Rattle.std.specs.Prelude.{get_or, nat_lt}
-use Rattle.std.proofs.lemmas.Bool.Decides.{nat_tests}
+use Rattle.std.proofs.Common.{◌≡◌, ℕ, ◌+◌, List, ◌∷◌, sym, ◌∙◌, subst}
 use Rattle.gl_trace.specs.EntryText.{HasText}
-use Rattle.gl_trace.specs.Typed.{AreBytes, IsTyped}
+use Rattle.gl_trace.specs.Typed.{IsTyped}
 use Rattle.gl_core.specs.Device.{OneEntry}
 use Rattle.gl_session.specs.Output.{AreTold}
 use Rattle.gl_session.specs.Run.{TextsTellHistory}
 use Rattle.gl_session.proofs.Telling.{output_tells_history}
-
-pub are_bytes : (bytes : List ℕ) → ((k : ℕ) → get_or bytes k 0 < 256) → AreBytes bytes
-are_bytes [] small = refl
-are_bytes (byte ∷ bytes) small =
-    let here : nat_lt byte 256 ≡ true = let s : byte < 256 = small 0 in grind (arith, nat_tests) in
-    rw here (are_bytes bytes (λ k. small (suc k)))
 
 -- what is left of entries is told where the first of it is, and the others are
 pub told_before : (index : ℕ) (rest later : List OneEntry) (e : OneEntry) → rest ≡ e ∷ later → IsTyped index e → HasText e → AreTold (index + 1) later → AreTold index rest

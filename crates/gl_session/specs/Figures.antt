@@ -1,12 +1,11 @@
 -- What a generated load comes to, told by four numbers. This project's choice.
 use Rattle.std.specs.Prelude.{◌≡◌, ℕ, ◌+◌, ◌%◌, ◌^◌, Bool, List, [], ◌∷◌, ◌++◌, length, sum, Option, codes}
 use Rattle.std.specs.Io.KnownBytes.{Appends}
-use Rattle.gl_base.specs.Decimal.{decimal}
 use Rattle.gl_driver.specs.Told.{Told}
 use Rattle.gl_script.specs.Gen.{load_text}
 use Rattle.gl_script.specs.Section.{SaidSection}
 use Rattle.gl_script.specs.Sentence.{Sentence}
-use Rattle.gl_session.specs.Lines.{text_line}
+use Rattle.gl_session.specs.Lines.{numbered_line}
 use Rattle.gl_session.specs.OneActor.{CameWithEntries}
 
 -- how many statements a session has
@@ -14,17 +13,13 @@ abbrev pub statement_count : List SaidSection → ℕ
 statement_count [] = 0
 statement_count (section ∷ sections) = length section.statements + statement_count sections
 
--- a name and a number
-abbrev pub figure_line : List ℕ → ℕ → List ℕ
-figure_line name number = text_line (name ++ (codes " " ++ decimal number))
-
 -- the four lines: the statements of a session, its entries, the bytes that it printed, and the sum of these
 abbrev pub figures : List SaidSection → ℕ → List ℕ → List ℕ
 figures sections entries text =
-    figure_line (codes "statements") (statement_count sections)
-    ++ (figure_line (codes "entries") entries
-    ++ (figure_line (codes "bytes") (length text)
-    ++ figure_line (codes "sum") (sum text % 2 ^ 32)))
+    numbered_line (codes "statements") (statement_count sections)
+    ++ (numbered_line (codes "entries") entries
+    ++ (numbered_line (codes "bytes") (length text)
+    ++ numbered_line (codes "sum") (sum text % 2 ^ 32)))
 
 -- Bytes are a session that one actor carried out, over a port that told this before and tells that now, and these are the four lines on it.
 pub record CameToFigures (is_planned : Bool) (bytes : List ℕ) (before left : Option Told) (out : List ℕ) : Type 0 where

@@ -2,6 +2,7 @@ pub mod Alone
 pub mod Answers
 pub mod Closings
 pub mod Figures
+pub mod Judged
 pub mod Lines
 pub mod Making
 pub mod Many
@@ -15,5 +16,6 @@ pub mod Several
 pub mod Status
 pub mod Streams
 pub mod Together
+pub mod Verdict
 pub mod Within
 pub mod Workers

@@ -1,6 +1,8 @@
 -- Lines of text. This project's choice.
-use Rattle.std.specs.Prelude.{ℕ, List, [], ◌∷◌, ◌++◌}
+use Rattle.std.specs.Prelude.{ℕ, List, ◌++◌, codes}
+use Rattle.gl_base.specs.Decimal.{decimal}
+pub use Rattle.gl_base.specs.TextLines.{text_line}
 
--- every printed line ends with the byte 0x0A
-abbrev pub text_line : List ℕ → List ℕ
-text_line text = text ++ 10 ∷ []
+-- a text and a number
+abbrev pub numbered_line : List ℕ → ℕ → List ℕ
+numbered_line text number = text_line (text ++ (codes " " ++ decimal number))

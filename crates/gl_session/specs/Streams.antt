@@ -1,13 +1,12 @@
 -- What is read of a source and written to a sink, where they tell their bytes.
 use Rattle.std.specs.Prelude.{◌≤◌, ◌+◌, ℕ, List, length, take, Option}
 use Rattle.std.specs.Io.KnownBytes.{Consumes, Appends, IsAtEnd}
-use Rattle.gl_script.specs.declared.limits.TheConstants.{SESSION_MAX}
 
--- the first bytes were read: to the end of input, or one more than a session may have
-pub record ReadsThrough (old new : Option (List ℕ)) (bytes : List ℕ) : Type 0 where
+-- the first bytes were read: to the end of input, or one more than the limit
+pub record ReadsThrough (limit : ℕ) (old new : Option (List ℕ)) (bytes : List ℕ) : Type 0 where
   pub first : Consumes old new bytes
-  pub most : length bytes ≤ SESSION_MAX + 1
-  pub end : length bytes ≤ SESSION_MAX → IsAtEnd new
+  pub most : length bytes ≤ limit + 1
+  pub end : length bytes ≤ limit → IsAtEnd new
 
 -- some of the first bytes were read, and these are gone
 abbrev pub LosesFront : Option (List ℕ) → Option (List ℕ) → Type 0

@@ -1,13 +1,20 @@
 //! What follows of a session that one actor carried out on the device. Each is a function with nothing to do: its contract is
 //! the law, and a caller gets it by the call.
 
+ghost use Rattle.std.specs.Prelude.{◌≡◌};
 ghost use Rattle.gl_session.specs.Alone.{AnswersAsPlanned, FirstActorIsAlone, FirstActorSeesItself, PortTells, PrintsOne};
 ghost use Rattle.gl_session.specs.Closings.{ActorsCloseByNumber, OneActorClosesByNumber};
+ghost use Rattle.gl_session.specs.Judged.{RunsAreLawful};
 ghost use Rattle.gl_session.specs.Many.{AllPlayedCameToMany};
 ghost use Rattle.gl_session.specs.Output.{OutputTellsHistory};
 ghost use Rattle.gl_session.specs.Run.{TextsTellHistory};
 ghost use Rattle.gl_session.specs.Together.{ActorsAtWorkHaveRoom};
+ghost use Rattle.gl_session.specs.Verdict.{LawfulIsYes, YesIsLawful};
 ghost use Rattle.gl_session.specs.Within.{CallsComeBelowCost, CallsHaveRoom, EntriesWithinCost, SessionsCostTheirParts, SessionsKeepWithinCost};
+
+use crate::judging::CHECK_MAX;
+use gl_check::laws::misfit_is_none_for_many;
+use gl_trace::laws::histories_are_read_back;
 
 /// Where the first actor of a device made all of its calls, the history has its entries alone; and until another actor is made
 /// it has seen its entries alone.
@@ -74,4 +81,22 @@ pub fn output_tells_history()
 pub fn actors_close_by_number()
     ensures several { ActorsCloseByNumber }
     ensures one_actor { OneActorClosesByNumber }
+{}
+
+/// A run that was printed is judged to be lawful exactly where it is: an input within its length whose session has two or more actors, and
+/// whose output is that of some texts and some history with Many and PlannedTells. Each output that such a session came to over new ports
+/// of a planned driver is lawful, where it isn't too long.
+pub fn lawful_runs_are_judged_so()
+    ensures yes { YesIsLawful }
+    ensures lawful { LawfulIsYes }
+    ensures runs { RunsAreLawful }
+{
+    misfit_is_none_for_many();
+    histories_are_read_back();
+    all_played_came_to_many();
+}
+
+/// The limit is this number.
+pub fn limits_by_value()
+    ensures check { CHECK_MAX ≡ 67108864 }
 {}

@@ -2,8 +2,10 @@
 #![tactic(auto)]
 
 mod answers;
+mod check;
 pub mod files;
 pub mod fork;
+mod judging;
 pub mod laws;
 mod load;
 mod on_board;
@@ -20,8 +22,10 @@ pub mod several;
 mod status;
 mod streams;
 mod text;
-mod typed;
+mod verdict;
 pub mod worker;
 
+pub use judging::{CHECK_MAX, judge};
 pub use session::run;
 pub use status::Status;
+pub use verdict::Verdict;

@@ -4,12 +4,13 @@ ghost use Rattle.gl_script.specs.Gen.{load_text};
 ghost use Rattle.gl_script.specs.Script.{sections_of};
 ghost use Rattle.gl_script.specs.Section.{SaidSection, statements_of};
 ghost use Rattle.gl_script.specs.Sentence.{Sentence};
-ghost use Rattle.gl_session.specs.Figures.{CameToFigures, CameToLoad, figure_line, figures, statement_count};
+ghost use Rattle.gl_session.specs.Figures.{CameToFigures, CameToLoad, figures, statement_count};
 ghost use Rattle.gl_session.specs.Ports.{AreAllThere};
 ghost use Rattle.gl_session.specs.Workers.{told_at};
 
 use crate::ports::run_alone;
-use gl_base::{Errno, put_decimal};
+use crate::text::put_numbered;
+use gl_base::Errno;
 use gl_core::Core;
 use gl_driver::Driver;
 use gl_script::{RefusalKind, Script, TURNS_MAX, generate, loads_are_sessions};
@@ -49,18 +50,6 @@ fn sum_of(text: &[u8]) -> u32
     sum
 }
 
-/// Appends the line of a number.
-fn put_figure(name: &[u8], number: u64, out: &mut Vec<u8>) -> Result<(), Errno>
-    ensures ok { OnOk result (out.new.items ≡ out.old.items ++ figure_line name.now number) }
-    ensures memory_alone { IsOkUnless result Errno.NoMemory }
-{
-    out.extend_from_slice(name)?;
-    out.push(b' ')?;
-    put_decimal(number, out)?;
-    out.push(b'\n')?;
-    Ok(())
-}
-
 /// The four lines on a session that made so many entries and printed this text.
 fn figures_of(
     alloc: Global,
@@ -73,10 +62,10 @@ fn figures_of(
     ensures memory_alone { IsOkUnless result Errno.NoMemory }
 {
     let mut out = Vec::new(alloc);
-    put_figure(b"statements", count_statements(script), &mut out)?;
-    put_figure(b"entries", entries, &mut out)?;
-    put_figure(b"bytes", text.len() as u64, &mut out)?;
-    put_figure(b"sum", u64::from(sum_of(text)), &mut out)?;
+    put_numbered(b"statements", count_statements(script), &mut out)?;
+    put_numbered(b"entries", entries, &mut out)?;
+    put_numbered(b"bytes", text.len() as u64, &mut out)?;
+    put_numbered(b"sum", u64::from(sum_of(text)), &mut out)?;
     Ok(out)
 }
 

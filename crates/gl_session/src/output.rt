@@ -1,6 +1,5 @@
 //! The output of a session of several actors, written.
 ghost use Rattle.std.specs.Prelude.{◌≡◌, ◌++◌, ◌∷◌, ◌<◌, ◌^◌, [], get_or, length, codes, IfOk, MatchOption, OnOk, IsOkUnless, false, true};
-ghost use Rattle.gl_base.specs.Decimal.{decimal};
 ghost use Rattle.gl_base.specs.Rows.{Each};
 ghost use Rattle.gl_script.specs.Script.{sections_of};
 ghost use Rattle.gl_script.specs.declared.section.SectionKind.TheVariants.{Actor as ActorKind};
@@ -11,11 +10,11 @@ ghost use Rattle.gl_check.specs.One.{is_kind};
 ghost use Rattle.gl_session.specs.Output.{AreTold, actors_text, entry_lines, history_text, output};
 ghost use Rattle.gl_session.specs.Lines.{text_line};
 
-use crate::typed;
-use gl_base::{ByteList, Errno, put_decimal};
+use crate::text::{put_line, put_numbered};
+use gl_base::{ByteList, Errno};
 use gl_core::Core;
 use gl_script::{Head, Script};
-use gl_trace::put_entry;
+use gl_trace::{fits_entry, put_entry};
 use gl_world::Entry;
 use std::alloc::Global;
 
@@ -25,16 +24,6 @@ fn put_text(text: &[u8], out: &mut Vec<u8>) -> Result<(), Errno>
     ensures memory_alone { IsOkUnless result Errno.NoMemory }
 {
     out.extend_from_slice(text)?;
-    Ok(())
-}
-
-/// Appends a line.
-fn put_line(text: &[u8], out: &mut Vec<u8>) -> Result<(), Errno>
-    ensures ok { OnOk result (out.new.items ≡ out.old.items ++ text_line text.now) }
-    ensures memory_alone { IsOkUnless result Errno.NoMemory }
-{
-    out.extend_from_slice(text)?;
-    out.push(b'\n')?;
     Ok(())
 }
 
@@ -88,7 +77,7 @@ fn put_entry_line(index: u32, entry: &Entry<Core>, out: &mut Vec<u8>) -> Result<
     ensures typed { IsTyped index entry.now }
     ensures memory_alone { IsOkUnless result Errno.NoMemory }
 {
-    typed::fits_entry(index, entry);
+    fits_entry(index, entry);
     put_entry(index, entry, out)?;
     out.push(b'\n')?;
     Ok(())
@@ -116,9 +105,7 @@ fn put_history(history: &[Entry<Core>], out: &mut Vec<u8>) -> Result<(), Errno>
     ensures told { OnOk result (AreTold 0 history.now) }
     ensures memory_alone { IsOkUnless result Errno.NoMemory }
 {
-    out.extend_from_slice(b"== history ")?;
-    put_decimal(history.len() as u64, out)?;
-    out.push(b'\n')?;
+    put_numbered(b"== history", history.len() as u64, out)?;
     put_entries(history, out)
 }
 

@@ -10,8 +10,12 @@ ghost use Rattle.gl_session.specs.Figures.{CameToLoad, HasWrittenLoad};
 ghost use Rattle.gl_session.specs.Ports.{AreAllThere, OthersStay};
 ghost use Rattle.gl_session.specs.Workers.{told_at};
 ghost use Rattle.gl_session.specs.Streams.{ReadsThrough, LosesFront, AppendsFront};
+ghost use Rattle.gl_session.specs.Verdict.{IsJudgment, IsLawful, IsVerdict, verdict_line, verdict_status, yes_line};
+ghost use Rattle.gl_session.specs.declared.verdict.Verdict.{Verdict};
 ghost use Rattle.gl_session.specs.Run.{HasWritten, usage_line, refused_line, IsOutput, IsRefusal};
 
+use crate::check::run_check;
+use crate::judging::CHECK_MAX;
 use crate::load::carry_load;
 use crate::ports::carry_script;
 use crate::status::Status;
@@ -20,7 +24,7 @@ use crate::text::put_refusal;
 use gl_core::Core;
 use gl_driver::Driver;
 use gl_io::{Sink, Source};
-use gl_script::{Feed, Refusal, RefusalKind, TURNS_MAX};
+use gl_script::{Refusal, RefusalKind, SESSION_MAX, Script, TURNS_MAX};
 use gl_words::{Task, WordsFault, loads_are_within, read_words};
 use std::alloc::Global;
 use std::sync::Wait;
@@ -33,8 +37,12 @@ use std::thread::Threads;
 /// more actors carry their sections out each in a thread of its own, where one can be made.
 ///
 /// The words `--generate N` ask for the load of N turns. Nothing is read: it is carried out by one actor, and four lines tell how many
-/// statements it has, how many entries it makes, how many bytes it prints, and their sum modulo 2^32. All other words write the line
-/// `usage`.
+/// statements it has, how many entries it makes, how many bytes it prints, and their sum modulo 2^32.
+///
+/// With the word `check` a line `check N` is read from the source, the N bytes of a session, and the output of its run, to the end of input
+/// or one byte more than 67,108,864. It is judged, and one line written: `yes`, or what is wrong. No device is made and no driver asked.
+///
+/// All other words write the line `usage`.
 ///
 /// The first cause decides: words that ask for nothing, a fault of reading, bytes that are no session, want of memory, a fault of
 /// writing. There are 17 ports: that of the number of an actor is the one through which it
@@ -66,15 +74,15 @@ pub fn run<R: Threads + Wait + Sync, S: Source, K: Sink, D: Driver<Core>>(
         HasWrittenLoad D.is_planned n (told_at D.Port.told ports.old 0) (told_at D.Port.told ports.new 0) (K.held sink.old) (K.held sink.new) }
     ensures load_ends { (n : ℕ) → asks (texts words.now) ≡ Some (Task.Load n) → (result ≡ Status.Ran) ⊎ ((result ≡ Status.WriteFault) ⊎ (result ≡ Status.NoMemory)) }
 
-    // Words that ask for nothing are answered first, and where there are words nothing is read.
+    // Words that ask for nothing are answered first, and where there are words nothing is read, but for a check.
     ensures usage { asks (texts words.now) ≡ None → (result ≡ Status.Usage) ⊎ (result ≡ Status.WriteFault) }
     ensures usage_only { result ≡ Status.Usage → asks (texts words.now) ≡ None }
     ensures usage_written { result ≡ Status.Usage → Appends (K.held sink.old) (K.held sink.new) usage_line }
-    ensures words_read_nothing { words.now ≢ [] → source.new ≡ source.old }
+    ensures words_read_nothing { words.now ≢ [] → asks (texts words.now) ≢ Some Task.Check → source.new ≡ source.old }
 
     // A fault of reading comes only where the source counted one in this call, and nothing is written.
     ensures read_fault { result ≡ Status.ReadFault → Rises (S.fault_count source.old) (S.fault_count source.new) }
-    ensures read_fault_only { result ≡ Status.ReadFault → words.now ≡ [] }
+    ensures read_fault_only { result ≡ Status.ReadFault → (words.now ≡ []) ⊎ (asks (texts words.now) ≡ Some Task.Check) }
     ensures read_fault_writes_nothing { result ≡ Status.ReadFault → sink.new ≡ sink.old }
 
     // Where the source counted one, that is the answer: nothing is tried again. The bytes that were taken are gone.
@@ -83,17 +91,17 @@ pub fn run<R: Threads + Wait + Sync, S: Source, K: Sink, D: Driver<Core>>(
 
     // Bytes that are no session are refused by their first fault, once they are read through.
     ensures refused { words.now ≡ [] → IfSome (S.left source.old) (λ input. (refusal : Refusal) → first_fault input ≡ Some refusal → IsRefusal result) }
-    ensures refused_without_words { result ≡ Status.Refused → words.now ≡ [] }
-    ensures refused_only { result ≡ Status.Refused → IfSome (S.left source.old) (λ input. (refusal : Refusal) × (first_fault input ≡ Some refusal)
+    ensures refused_words { result ≡ Status.Refused → (words.now ≡ []) ⊎ (asks (texts words.now) ≡ Some Task.Check) }
+    ensures refused_only { result ≡ Status.Refused → words.now ≡ [] → IfSome (S.left source.old) (λ input. (refusal : Refusal) × (first_fault input ≡ Some refusal)
         × Appends (K.held sink.old) (K.held sink.new) (refused_line refusal)) }
-    ensures refused_read_through { result ≡ Status.Refused → (bytes : List ℕ) × ReadsThrough (S.left source.old) (S.left source.new) bytes }
+    ensures refused_read_through { result ≡ Status.Refused → words.now ≡ [] → (bytes : List ℕ) × ReadsThrough SESSION_MAX (S.left source.old) (S.left source.new) bytes }
     ensures refused_written { result ≡ Status.Refused → (refusal : Refusal) × Appends (K.held sink.old) (K.held sink.new) (refused_line refusal) }
 
     // A fault of writing comes only where the sink counted one in this call, once a session was read through, and leaves a front of the
     // output.
     ensures write_fault { result ≡ Status.WriteFault → Rises (K.fault_count sink.old) (K.fault_count sink.new) }
     ensures write_fault_told { K.fault_count sink.old < K.fault_count sink.new → result ≡ Status.WriteFault }
-    ensures write_fault_read_through { result ≡ Status.WriteFault → words.now ≡ [] → (bytes : List ℕ) × ReadsThrough (S.left source.old) (S.left source.new) bytes }
+    ensures write_fault_read_through { result ≡ Status.WriteFault → words.now ≡ [] → (bytes : List ℕ) × ReadsThrough SESSION_MAX (S.left source.old) (S.left source.new) bytes }
     ensures write_fault_front { result ≡ Status.WriteFault → words.now ≡ [] → IfSome (S.left source.old) (λ input.
         (text : List ℕ) × IsOutput D.is_planned (told_at D.Port.told ports.old) (told_at D.Port.told ports.new) input text
         × AppendsFront (K.held sink.old) (K.held sink.new) text) }
@@ -112,11 +120,31 @@ pub fn run<R: Threads + Wait + Sync, S: Source, K: Sink, D: Driver<Core>>(
     ensures load_complete { (n : ℕ) → asks (texts words.now) ≡ Some (Task.Load n) → ¬ Rises (K.fault_count sink.old) (K.fault_count sink.new) →
         (result ≡ Status.Ran) ⊎ (result ≡ Status.NoMemory) }
 
+    // With the word `check` what is read is judged: a header, a session, and what is to be the output of its run. The judgment's line is
+    // written; its status is the answer, or else a fault of reading or writing, or want of memory. Only a check answers No.
+    ensures check { asks (texts words.now) ≡ Some Task.Check → IsJudgment result → IfSome (S.left source.old) (λ input. (verdict : Verdict) × IsVerdict input verdict
+        × (result ≡ verdict_status verdict) × Appends (K.held sink.old) (K.held sink.new) (verdict_line verdict)) }
+    ensures check_front { result ≡ Status.WriteFault → asks (texts words.now) ≡ Some Task.Check → IfSome (S.left source.old) (λ input. (verdict : Verdict) × IsVerdict input verdict
+        × AppendsFront (K.held sink.old) (K.held sink.new) (verdict_line verdict)) }
+    ensures check_read_through { asks (texts words.now) ≡ Some Task.Check → result ≢ Status.ReadFault → result ≢ Status.NoMemory → (bytes : List ℕ) × ReadsThrough CHECK_MAX (S.left source.old) (S.left source.new) bytes }
+    ensures no_only { result ≡ Status.No → asks (texts words.now) ≡ Some Task.Check }
+    ensures check_complete { asks (texts words.now) ≡ Some Task.Check → ¬ Rises (S.fault_count source.old) (S.fault_count source.new) →
+        ¬ Rises (K.fault_count sink.old) (K.fault_count sink.new) → IsJudgment result ⊎ (result ≡ Status.NoMemory) }
+
+    // So `yes` is answered exactly where the input is within its length and is a header, a session of several actors, and the output of some
+    // texts and some history with Many and PlannedTells.
+    ensures yes { asks (texts words.now) ≡ Some Task.Check → result ≡ Status.Ran → IfSome (S.left source.old) (λ input. IsLawful input
+        × Appends (K.held sink.old) (K.held sink.new) yes_line) }
+    ensures yes_complete { asks (texts words.now) ≡ Some Task.Check → IfSome (S.left source.old) (λ input. IsLawful input →
+        ¬ Rises (S.fault_count source.old) (S.fault_count source.new) → ¬ Rises (K.fault_count sink.old) (K.fault_count sink.new) →
+        (result ≡ Status.Ran) ⊎ (result ≡ Status.NoMemory)) }
+
     // All ports are there again but for want of memory; those of numbers that no actor has are as they were, and so are all where nothing ran.
     ensures ports_there { result ≢ Status.NoMemory → AreAllThere ports.new }
     ensures other_ports { result ≢ Status.NoMemory → words.now ≡ [] → IfSome (S.left source.old) (λ input.
         (sections : List SaidSection) → Sentence input sections → OthersStay sections ports.old ports.new) }
     ensures load_ports { (n : ℕ) → asks (texts words.now) ≡ Some (Task.Load n) → drop 1 ports.new ≡ drop 1 ports.old }
+    ensures check_ports { asks (texts words.now) ≡ Some Task.Check → ports.new ≡ ports.old }
     ensures usage_ports { asks (texts words.now) ≡ None → ports.new ≡ ports.old }
     ensures read_fault_ports { result ≡ Status.ReadFault → ports.new ≡ ports.old }
     ensures refused_ports { result ≡ Status.Refused → ports.new ≡ ports.old }
@@ -128,6 +156,7 @@ pub fn run<R: Threads + Wait + Sync, S: Source, K: Sink, D: Driver<Core>>(
             loads_are_within();
             run_load(rt, alloc, turns, sink, driver, ports)
         }
+        Ok(Task::Check) => run_check(alloc, source, sink),
         Err(WordsFault::Usage) => finish(sink, b"usage\n", Status::Usage),
         Err(WordsFault::NoMemory) => Status::NoMemory,
     }
@@ -149,6 +178,7 @@ fn run_session<R: Threads + Wait + Sync, S: Source, K: Sink, D: Driver<Core>>(
         × HasWritten D.is_planned sections (told_at D.Port.told ports.old) (told_at D.Port.told ports.new) (K.held sink.old) (K.held sink.new)) }
     ensures ran_only_session { result ≡ Status.Ran → IfSome (S.left source.old) (λ input. (sections : List SaidSection) × Sentence input sections) }
     ensures no_usage { result ≢ Status.Usage }
+    ensures no_no { result ≢ Status.No }
     ensures read_fault { result ≡ Status.ReadFault → Rises (S.fault_count source.old) (S.fault_count source.new) }
     ensures read_fault_writes_nothing { result ≡ Status.ReadFault → sink.new ≡ sink.old }
     ensures read_fault_told { S.fault_count source.old < S.fault_count source.new → result ≡ Status.ReadFault }
@@ -156,11 +186,11 @@ fn run_session<R: Threads + Wait + Sync, S: Source, K: Sink, D: Driver<Core>>(
     ensures refused { IfSome (S.left source.old) (λ input. (refusal : Refusal) → first_fault input ≡ Some refusal → IsRefusal result) }
     ensures refused_only { result ≡ Status.Refused → IfSome (S.left source.old) (λ input. (refusal : Refusal) × (first_fault input ≡ Some refusal)
         × Appends (K.held sink.old) (K.held sink.new) (refused_line refusal)) }
-    ensures refused_read_through { result ≡ Status.Refused → (bytes : List ℕ) × ReadsThrough (S.left source.old) (S.left source.new) bytes }
+    ensures refused_read_through { result ≡ Status.Refused → (bytes : List ℕ) × ReadsThrough SESSION_MAX (S.left source.old) (S.left source.new) bytes }
     ensures refused_written { result ≡ Status.Refused → (refusal : Refusal) × Appends (K.held sink.old) (K.held sink.new) (refused_line refusal) }
     ensures write_fault { result ≡ Status.WriteFault → Rises (K.fault_count sink.old) (K.fault_count sink.new) }
     ensures write_fault_told { K.fault_count sink.old < K.fault_count sink.new → result ≡ Status.WriteFault }
-    ensures write_fault_read_through { result ≡ Status.WriteFault → (bytes : List ℕ) × ReadsThrough (S.left source.old) (S.left source.new) bytes }
+    ensures write_fault_read_through { result ≡ Status.WriteFault → (bytes : List ℕ) × ReadsThrough SESSION_MAX (S.left source.old) (S.left source.new) bytes }
     ensures write_fault_front { result ≡ Status.WriteFault → IfSome (S.left source.old) (λ input.
         (text : List ℕ) × IsOutput D.is_planned (told_at D.Port.told ports.old) (told_at D.Port.told ports.new) input text
         × AppendsFront (K.held sink.old) (K.held sink.new) text) }
@@ -174,8 +204,8 @@ fn run_session<R: Threads + Wait + Sync, S: Source, K: Sink, D: Driver<Core>>(
     ensures refused_ports { result ≡ Status.Refused → ports.new ≡ ports.old }
     ensures refused_bytes_ports { result ≢ Status.NoMemory → IfSome (S.left source.old) (λ input. (refusal : Refusal) → first_fault input ≡ Some refusal → ports.new ≡ ports.old) }
 {
-    match read_through(alloc, source) {
-        Ok(feed) => answer(rt, alloc, &feed, sink, driver, ports),
+    match read_through(alloc, source, SESSION_MAX) {
+        Ok(bytes) => answer(rt, alloc, &bytes, sink, driver, ports),
         Err(ReadError::Fault) => Status::ReadFault,
         Err(ReadError::NoMemory) => Status::NoMemory,
     }
@@ -213,31 +243,32 @@ fn run_load<R: Wait, K: Sink, D: Driver<Core>>(
 fn answer<R: Threads + Wait + Sync, K: Sink, D: Driver<Core>>(
     rt: &R,
     alloc: Global,
-    feed: &Feed,
+    bytes: &[u8],
     sink: &mut K,
     driver: D,
     ports: &mut [Option<D::Port>],
 ) -> Status
     requires none { D.ENTRIES ≡ 0 }
     requires ports { AreAllThere ports.old }
-    ensures ran { result ≡ Status.Ran → (sections : List SaidSection) × Sentence feed.now sections
+    ensures ran { result ≡ Status.Ran → (sections : List SaidSection) × Sentence bytes.now sections
         × HasWritten D.is_planned sections (told_at D.Port.told ports.old) (told_at D.Port.told ports.new) (K.held sink.old) (K.held sink.new) }
-    ensures refused { result ≡ Status.Refused → (refusal : Refusal) × (first_fault feed.now ≡ Some refusal)
+    ensures refused { result ≡ Status.Refused → (refusal : Refusal) × (first_fault bytes.now ≡ Some refusal)
         × Appends (K.held sink.old) (K.held sink.new) (refused_line refusal) }
     ensures write_fault { result ≡ Status.WriteFault → Rises (K.fault_count sink.old) (K.fault_count sink.new) }
     ensures write_fault_told { K.fault_count sink.old < K.fault_count sink.new → result ≡ Status.WriteFault }
     ensures front { result ≡ Status.WriteFault → (text : List ℕ)
-        × IsOutput D.is_planned (told_at D.Port.told ports.old) (told_at D.Port.told ports.new) feed.now text
+        × IsOutput D.is_planned (told_at D.Port.told ports.old) (told_at D.Port.told ports.new) bytes.now text
         × AppendsFront (K.held sink.old) (K.held sink.new) text }
     ensures no_memory { result ≡ Status.NoMemory → sink.new ≡ sink.old }
     ensures no_usage { result ≢ Status.Usage }
+    ensures no_no { result ≢ Status.No }
     ensures no_read_fault { result ≢ Status.ReadFault }
     ensures ports_there { result ≢ Status.NoMemory → AreAllThere ports.new }
-    ensures other_ports { result ≢ Status.NoMemory → (sections : List SaidSection) → Sentence feed.now sections → OthersStay sections ports.old ports.new }
-    ensures refused_ports { result ≢ Status.NoMemory → (refusal : Refusal) → first_fault feed.now ≡ Some refusal → ports.new ≡ ports.old }
+    ensures other_ports { result ≢ Status.NoMemory → (sections : List SaidSection) → Sentence bytes.now sections → OthersStay sections ports.old ports.new }
+    ensures refused_ports { result ≢ Status.NoMemory → (refusal : Refusal) → first_fault bytes.now ≡ Some refusal → ports.new ≡ ports.old }
     ensures refused_only_ports { result ≡ Status.Refused → ports.new ≡ ports.old }
 {
-    let script = match feed.script(alloc) {
+    let script = match Script::parse(alloc, bytes) {
         Ok(script) => script,
         Err(refusal) if refusal.kind == RefusalKind::NoMemory => return Status::NoMemory,
         Err(refusal) => return refuse(alloc, &refusal, sink),
@@ -265,7 +296,7 @@ fn refuse<K: Sink>(alloc: Global, refusal: &Refusal, sink: &mut K) -> Status
 }
 
 /// Writes what is left to write, and answers the status.
-fn finish<K: Sink>(sink: &mut K, text: &[u8], status: Status) -> Status
+pub(crate) fn finish<K: Sink>(sink: &mut K, text: &[u8], status: Status) -> Status
     requires { status ≢ Status.WriteFault }
     ensures one { (result ≡ status) ⊎ (result ≡ Status.WriteFault) }
     ensures written { result ≡ status → Appends (K.held sink.old) (K.held sink.new) text.now }

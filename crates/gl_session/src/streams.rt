@@ -1,11 +1,10 @@
 //! Reading a source to its end, and writing a text to a sink.
-ghost use Rattle.std.specs.Prelude.{◌≡◌, ◌<◌, IfOk, OnOk, OnErr, IsErrOf};
+ghost use Rattle.std.specs.Prelude.{◌≡◌, ◌<◌, ◌^◌, IfOk, OnOk, OnErr, IsErrOf};
 ghost use Rattle.std.specs.Io.KnownBytes.{Appends};
 ghost use Rattle.gl_base.specs.Count.{Rises};
 ghost use Rattle.gl_session.specs.Streams.{ReadsThrough, LosesFront, AppendsFront};
 
 use gl_io::{Sink, SinkFault, Source};
-use gl_script::{Feed, SESSION_MAX};
 use std::alloc::Global;
 
 /// How many bytes one call reads at most.
@@ -20,31 +19,34 @@ pub enum ReadError {
     NoMemory,
 }
 
-/// The bytes of a source: all of them, or one more than a session may have.
-pub fn read_through<S: Source>(alloc: Global, source: &mut S) -> Result<Feed, ReadError>
-    ensures ok { IfOk result (λ feed. ReadsThrough (S.left source.old) (S.left source.new) feed) }
+/// The bytes of a source: all of them, or one more than the limit.
+pub fn read_through<S: Source>(
+    alloc: Global,
+    source: &mut S,
+    limit: usize,
+) -> Result<Vec<u8>, ReadError>
+    requires limit { limit < 2 ^ 32 }
+    ensures ok { IfOk result (λ bytes. ReadsThrough limit (S.left source.old) (S.left source.new) bytes.items) }
     ensures fault { IsErrOf result ReadError.Fault → Rises (S.fault_count source.old) (S.fault_count source.new) }
     ensures fault_told { S.fault_count source.old < S.fault_count source.new → IsErrOf result ReadError.Fault }
     ensures front { LosesFront (S.left source.old) (S.left source.new) }
 {
-    let Ok(mut feed) = Feed::new(alloc) else {
-        return Err(ReadError::NoMemory);
-    };
+    let mut bytes = Vec::new(alloc);
     let mut chunk = [0; CHUNK];
-    while feed.len() as usize <= SESSION_MAX {
-        let most = CHUNK.min(SESSION_MAX + 1 - feed.len() as usize);
+    while bytes.len() <= limit {
+        let most = CHUNK.min(limit + 1 - bytes.len());
         match source.take(&mut chunk[..most]) {
-            Ok(0) => return Ok(feed),
+            Ok(0) => return Ok(bytes),
             Ok(count) => {
                 let (taken, _) = chunk.split_at(count);
-                if feed.feed(taken).is_err() {
+                if bytes.extend_from_slice(taken).is_err() {
                     return Err(ReadError::NoMemory);
                 }
             }
             Err(_) => return Err(ReadError::Fault),
         }
     }
-    Ok(feed)
+    Ok(bytes)
 }
 
 /// Writes a text. After a fault a front of it was written.

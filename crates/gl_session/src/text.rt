@@ -1,6 +1,6 @@
-//! The line that a refused session prints.
+//! Lines of text, and the one that a refused session prints.
 ghost use Rattle.std.specs.Prelude.{◌≡◌, ◌++◌, OnOk, IsOkUnless};
-ghost use Rattle.gl_session.specs.Lines.{text_line};
+ghost use Rattle.gl_session.specs.Lines.{numbered_line, text_line};
 ghost use Rattle.gl_session.specs.Run.{refused_line};
 
 use gl_base::{Errno, put_decimal};
@@ -19,12 +19,24 @@ pub fn put_refusal(refusal: &Refusal, out: &mut Vec<u8>) -> Result<(), Errno>
     put_line(refusal.kind.word().as_bytes(), out)
 }
 
-/// Appends a text and the end of its line.
-fn put_line(text: &[u8], out: &mut Vec<u8>) -> Result<(), Errno>
+/// Appends a text and the end of its line. `NoMemory` alone is refused.
+pub fn put_line(text: &[u8], out: &mut Vec<u8>) -> Result<(), Errno>
     ensures text { OnOk result (out.new.items ≡ out.old.items ++ text_line text.now) }
     ensures memory_alone { IsOkUnless result Errno.NoMemory }
 {
     out.extend_from_slice(text)?;
+    out.push(b'\n')?;
+    Ok(())
+}
+
+/// Appends the line of a text and a number. `NoMemory` alone is refused.
+pub fn put_numbered(text: &[u8], number: u64, out: &mut Vec<u8>) -> Result<(), Errno>
+    ensures text { OnOk result (out.new.items ≡ out.old.items ++ numbered_line text.now number) }
+    ensures memory_alone { IsOkUnless result Errno.NoMemory }
+{
+    out.extend_from_slice(text)?;
+    out.push(b' ')?;
+    put_decimal(number, out)?;
     out.push(b'\n')?;
     Ok(())
 }

@@ -6,7 +6,8 @@
 //! counted from 0, `-` none of them. Up to two further words are words of the program. A line `serve ..` serves it in the same way, line by
 //! line, and so does `frames ..`.
 //! A line `meet CALLS ROOM FRONT` runs it over a driver that answers its first call once CALLS were made, each of another actor, and tells
-//! no more than FRONT bytes of what the sink held, since the history of such a run differs from run to run.
+//! no more than FRONT bytes of what the sink held, since the history of such a run differs from run to run. Then it is judged, and so it is
+//! told.
 //! What is told of a run is a line with its name and its status, and what the sink held in the end; of `serve` what its frames hold.
 #![tactic(auto)]
 

@@ -64,8 +64,39 @@ impl Session {
         let mut sink = MemSink::new(alloc, plan.room, plan.piece, Vec::new(alloc))?;
         let (driver, mut ports) = (HoldDriver::new(meeting.calls), new_ports());
         let status = run(rt, alloc, &[], &mut source, &mut sink, driver, &mut ports);
-        let text = sink.as_slice();
-        let front = text.len().min(meeting.front as usize);
-        self.put_ended(status.number(), &text[..front], out)
+        self.put_judged(rt, status.number(), sink.as_slice(), meeting.front, out)
+    }
+
+    /// Appends the session's name, the number that its run ended with, the front of what that wrote, and how all of it is judged.
+    fn put_judged<R: Threads + Wait + Sync>(
+        &self,
+        rt: &R,
+        number: u8,
+        text: &[u8],
+        front: u32,
+        out: &mut Vec<u8>,
+    ) -> Result<(), Errno> {
+        let front = text.len().min(front as usize);
+        self.put_ended(number, &text[..front], out)?;
+        self.put_judgment(rt, text, out)
+    }
+
+    /// Has an output of the session judged, and appends its name, the status and the judgment.
+    fn put_judgment<R: Threads + Wait + Sync>(
+        &self,
+        rt: &R,
+        text: &[u8],
+        out: &mut Vec<u8>,
+    ) -> Result<(), Errno> {
+        let mut printed = Session::new(*out.allocator());
+        self.put_printed(text, &mut printed)?;
+        let plan = Plan {
+            piece: 4096,
+            room: 64,
+            read: None,
+            write: None,
+            words: [b"check", b""],
+        };
+        printed.put_run(rt, &plan, out)
     }
 }

@@ -55,6 +55,16 @@ impl Session {
         Ok(())
     }
 
+    /// Makes another session's bytes what is to be judged: this one, and an output of its run.
+    pub fn put_printed(&self, output: &[u8], printed: &mut Session) -> Result<(), Errno> {
+        printed.begin(&self.name)?;
+        printed.add(b"check ")?;
+        put_decimal(self.bytes.len() as u64, &mut printed.bytes)?;
+        printed.add(b"\n")?;
+        printed.add(&self.bytes)?;
+        printed.add(output)
+    }
+
     /// Runs the session as planned, and appends its name, its status and what was written.
     pub fn put_run<R: Threads + Wait + Sync>(
         &self,

@@ -32,6 +32,7 @@ fn put_task(asked: Result<Task, WordsFault>, out: &mut Vec<u8>) -> Result<(), Er
     match asked {
         Ok(Task::Session) => put_word(b"session", out),
         Ok(Task::Load(turns)) => put_decimal(u64::from(turns), out),
+        Ok(Task::Check) => put_word(b"check", out),
         Err(WordsFault::Usage) => put_word(b"usage", out),
         Err(WordsFault::NoMemory) => Err(Errno::NoMemory),
     }

@@ -18,7 +18,7 @@ use Rattle.gl_base.specs.Decimal.{decimal, plain_number_of_text}
 use Rattle.gl_base.proofs.Decimals.{decimal-plain_number, digits-decimal}
 use Rattle.gl_script.specs.Forms.{within}
 use Rattle.gl_script.specs.declared.limits.TheConstants.{TURNS_MAX}
-use Rattle.gl_words.specs.declared.asked.Task.TheVariants.{Load}
+use Rattle.gl_words.specs.declared.asked.Task.TheVariants.{Check, Load}
 use Rattle.gl_words.specs.Command.{load_command}
 use Rattle.gl_words.specs.Words.{asks}
 
@@ -46,6 +46,11 @@ load_parts false number n e = cc
 load_parts true None n e = cc
 load_parts true (Some m) n e = grind (arith, nat_tests)
 
+-- a check is no load
+no_load : (is_check : Bool) (n : ℕ) → cond is_check (Some Check) None ≡ Some (Load n) → ⊥
+no_load false n e = cc
+no_load true n e = cc
+
 with_digits : (option number : List ℕ) (n : ℕ) → option ≡ codes "--generate" → number ≡ decimal n → n ≤ TURNS_MAX → AreLoad (option ∷ number ∷ []) n
 with_digits option [] n named is small =
     let there = decimal_nonempty n (omega arith) in
@@ -62,7 +67,7 @@ with_digits option (byte ∷ bytes) n named is small = record {
 
 are_load : (words : List (List ℕ)) (n : ℕ) → asks words ≡ Some (Load n) → AreLoad words n
 are_load [] n e = cc
-are_load (option ∷ []) n e = cc
+are_load (word ∷ []) n e = absurd (no_load (bytes_eq word (codes "check")) n e)
 are_load (option ∷ number ∷ []) n e =
     let parts = load_parts (bytes_eq option (codes "--generate")) (plain_number_of_text number) n e in
     with_digits option number n ((bytes_eq-Decides option (codes "--generate")).0 parts.0) (decimal-plain_number number n parts.1) parts.3

@@ -1,6 +1,7 @@
-//! The words behind the program's name: none, or those of a load.
-ghost use Rattle.std.specs.Prelude.{◌≡◌, ◌↔◌, [], ◌∷◌, None, Some, is_some, IfOk, IfErr, IsErrOf};
+//! The words behind the program's name: none, or those of a check or a load.
+ghost use Rattle.std.specs.Prelude.{◌≡◌, ◌↔◌, [], ◌∷◌, None, Some, codes, is_some, IfOk, IfErr, IsErrOf};
 ghost use Rattle.std.specs.Bool.{OnTrue};
+ghost use Rattle.std.specs.Str.{bytes_eq};
 ghost use Rattle.clap.specs.Words.{app_of, kind_of};
 ghost use Rattle.gl_words.specs.Command.{load_command};
 ghost use Rattle.gl_words.specs.Words.{texts, asks, AskForLoad, load_of, turns_of};
@@ -18,12 +19,14 @@ pub enum Task {
     Session,
     /// `--generate N`: the load of so many turns.
     Load(u32),
+    /// `check`: a printed run on standard input, which is to be judged.
+    Check,
 }
 
 /// Why words ask for nothing.
 #[derive(Clone, Copy, PartialEq, Eq, Debug)]
 pub enum WordsFault {
-    /// They are neither none nor those of a load.
+    /// They are neither none nor those of a check or a load.
     Usage,
     /// Memory is wanted.
     NoMemory,
@@ -38,6 +41,13 @@ pub fn read_words(alloc: Global, words: &[&str]) -> Result<Task, WordsFault>
 {
     match words {
         [] => Ok(Task::Session),
+        [word] => {
+            if is_check(word) {
+                Ok(Task::Check)
+            } else {
+                Err(WordsFault::Usage)
+            }
+        }
         [option, number] => {
             if !is_load(option, number) {
                 return Err(WordsFault::Usage);
@@ -49,6 +59,13 @@ pub fn read_words(alloc: Global, words: &[&str]) -> Result<Task, WordsFault>
         }
         _ => Err(WordsFault::Usage),
     }
+}
+
+/// Whether a word alone asks for a check.
+fn is_check(word: &str) -> bool
+    ensures { result ≡ bytes_eq word.now (codes "check") }
+{
+    word == "check"
 }
 
 /// Whether an option and its value ask for a load.

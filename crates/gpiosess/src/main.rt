@@ -1,4 +1,4 @@
-//! `gpiosess`: runs the session on standard input, and prints its text on standard output.
+//! `gpiosess`: runs the session on standard input, and prints its text on standard output; or judges a printed run, or runs a load.
 #![tactic(auto)]
 
 mod program;

@@ -7,10 +7,12 @@ ghost use Rattle.gl_script.specs.declared.refusal.Refusal.{Refusal};
 ghost use Rattle.gl_script.specs.Section.{SaidSection};
 ghost use Rattle.gl_script.specs.Sentence.{Sentence, first_fault};
 ghost use Rattle.gl_words.specs.Words.{asks, texts};
-ghost use Rattle.gl_words.specs.declared.asked.Task.TheVariants.{Load};
+ghost use Rattle.gl_words.specs.declared.asked.Task.TheVariants.{Check, Load};
 ghost use Rattle.gl_session.specs.Ports.{AreAllThere};
 ghost use Rattle.gl_session.specs.Run.{IsRefusal, refused_line, usage_line};
+ghost use Rattle.gl_session.specs.Verdict.{IsJudgment, IsLawful, IsVerdict, verdict_line, verdict_status, yes_line};
 ghost use Rattle.gl_session.specs.Workers.{told_at};
+ghost use Rattle.gl_session.specs.declared.verdict.Verdict.{Verdict};
 ghost use Rattle.gpiosess.specs.Program.{HasPrinted, HasPrintedLoad};
 
 use gl_driver::{Port, SimDriver, SimPort};
@@ -32,8 +34,8 @@ fn new_ports() -> [Option<SimPort>; 17]
 /// Carries out what the words ask for, over the simulated driver and a new port for each actor, and writes what comes of it.
 ///
 /// Without words a session is read from the source, and its text is written: of fewer than two actors that is one text, which the session
-/// alone decides. The words of a load write its four lines, which its number alone decides. What else comes of words and streams, and when,
-/// is what `run` of `gl_session` says.
+/// alone decides. The words of a load write its four lines, which its number alone decides. The word `check` judges what the source has:
+/// `yes` is written exactly where it is a lawful run. What else comes of words and streams, and when, is what `run` of `gl_session` says.
 pub fn carry_out<R: Threads + Wait + Sync, S: Source, K: Sink>(
     rt: &R,
     alloc: Global,
@@ -50,15 +52,29 @@ pub fn carry_out<R: Threads + Wait + Sync, S: Source, K: Sink>(
     ensures load_complete { (n : ℕ) → asks (texts words.now) ≡ Some (Load n) → ¬ Rises (K.fault_count sink.old) (K.fault_count sink.new) →
         (result ≡ Status.Ran) ⊎ (result ≡ Status.NoMemory) }
 
-    // Words that ask for nothing are answered first, and where there are words nothing is read.
+    // The judgment of a check is written, and its status is the answer; `yes` is that of a header, a session and an output that are a lawful
+    // run, and of these alone. Only a check answers No.
+    ensures check { asks (texts words.now) ≡ Some Check → IsJudgment result → IfSome (S.left source.old) (λ input. (verdict : Verdict) × IsVerdict input verdict
+        × (result ≡ verdict_status verdict) × Appends (K.held sink.old) (K.held sink.new) (verdict_line verdict)) }
+    ensures check_complete { asks (texts words.now) ≡ Some Check → ¬ Rises (S.fault_count source.old) (S.fault_count source.new) →
+        ¬ Rises (K.fault_count sink.old) (K.fault_count sink.new) → IsJudgment result ⊎ (result ≡ Status.NoMemory) }
+    ensures yes { asks (texts words.now) ≡ Some Check → result ≡ Status.Ran → IfSome (S.left source.old) (λ input. IsLawful input
+        × Appends (K.held sink.old) (K.held sink.new) yes_line) }
+    ensures yes_complete { asks (texts words.now) ≡ Some Check → IfSome (S.left source.old) (λ input. IsLawful input →
+        ¬ Rises (S.fault_count source.old) (S.fault_count source.new) → ¬ Rises (K.fault_count sink.old) (K.fault_count sink.new) →
+        (result ≡ Status.Ran) ⊎ (result ≡ Status.NoMemory)) }
+    ensures no_only { result ≡ Status.No → asks (texts words.now) ≡ Some Check }
+
+    // Words that ask for nothing are answered first, and where there are words nothing is read, but for a check.
     ensures usage { asks (texts words.now) ≡ None → (result ≡ Status.Usage) ⊎ (result ≡ Status.WriteFault) }
     ensures usage_only { result ≡ Status.Usage → asks (texts words.now) ≡ None }
     ensures usage_written { result ≡ Status.Usage → Appends (K.held sink.old) (K.held sink.new) usage_line }
-    ensures words_read_nothing { words.now ≢ [] → source.new ≡ source.old }
+    ensures words_read_nothing { words.now ≢ [] → asks (texts words.now) ≢ Some Check → source.new ≡ source.old }
 
     // Bytes that are no session are refused by their first fault.
     ensures refused { words.now ≡ [] → IfSome (S.left source.old) (λ input. (refusal : Refusal) → first_fault input ≡ Some refusal → IsRefusal result) }
-    ensures refused_only { result ≡ Status.Refused → IfSome (S.left source.old) (λ input. (refusal : Refusal) × (first_fault input ≡ Some refusal)
+    ensures refused_words { result ≡ Status.Refused → (words.now ≡ []) ⊎ (asks (texts words.now) ≡ Some Check) }
+    ensures refused_only { result ≡ Status.Refused → words.now ≡ [] → IfSome (S.left source.old) (λ input. (refusal : Refusal) × (first_fault input ≡ Some refusal)
         × Appends (K.held sink.old) (K.held sink.new) (refused_line refusal)) }
 
     // A fault of a stream comes only where the stream counted one in this call.

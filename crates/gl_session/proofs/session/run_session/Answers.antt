@@ -1,39 +1,40 @@
+use Rattle.std.proofs.Common.{rules}
 use Rattle.std.specs.Io.KnownBytes.{Appends, IsAtEnd}
 use Rattle.gl_session.specs.Run.{HasWritten, refused_line}
 use Rattle.gl_session.specs.Streams.{AppendsFront}
 use Rattle.gl_session.specs.Ports.{OthersStay}
 use Rattle.gl_session.specs.Workers.{told_at}
-use Rattle.gl_session.proofs.Causes.{if_ran, if_session, if_refused, if_output, if_refusal, if_complete, if_faulty, if_sections}
+use Rattle.gl_session.proofs.Causes.{as_lent, if_ran, if_session, if_refused, if_output, if_refusal, if_complete, if_faulty, if_sections}
 use Rattle.gl_session.proofs.session.run_session.Goals as goal
 
 pub returns-in-Ok-clause-output : goal.returns-in-Ok-clause-output
 returns-in-Ok-clause-output g c = λ e.
     if_ran _ _ _ (IsAtEnd (g.S.Source.left c.read_through.new.source)) (λ sections. HasWritten g.D.Driver.is_planned sections (told_at g.D.Port.Port.told c.args.ports.now) (told_at g.D.Port.Port.told c.answer.new.ports)
     (g.K.Sink.held c.args.sink.now) (g.K.Sink.held c.answer.new.sink))
-    c.in-Ok.ensures.ok c.in-Ok.ensures.ok.end (c.answer.ensures.ran e)
+    (as_lent _ _ _ _ c.deref.result.now c.in-Ok.ensures.ok (search rules)) (as_lent _ _ _ _ c.deref.result.now c.in-Ok.ensures.ok (search rules)).end (c.answer.ensures.ran e)
 
 pub returns-in-Ok-clause-ran_only_session : goal.returns-in-Ok-clause-ran_only_session
-returns-in-Ok-clause-ran_only_session g c = λ e. if_session _ _ _ c.in-Ok.ensures.ok (c.answer.ensures.ran e).0 (c.answer.ensures.ran e).1
+returns-in-Ok-clause-ran_only_session g c = λ e. if_session _ _ _ (as_lent _ _ _ _ c.deref.result.now c.in-Ok.ensures.ok (search rules)) (c.answer.ensures.ran e).0 (c.answer.ensures.ran e).1
 
 pub returns-in-Ok-clause-refused : goal.returns-in-Ok-clause-refused
 returns-in-Ok-clause-refused g c =
-    if_refusal c.answer.result _ _ _ c.in-Ok.ensures.ok c.answer.ensures.no_usage (λ e. ((c.answer.ensures.ran e).0, (c.answer.ensures.ran e).1))
+    if_refusal c.answer.result _ _ _ (as_lent _ _ _ _ c.deref.result.now c.in-Ok.ensures.ok (search rules)) c.answer.ensures.no_usage c.answer.ensures.no_no (λ e. ((c.answer.ensures.ran e).0, (c.answer.ensures.ran e).1))
 
 pub returns-in-Ok-clause-refused_only : goal.returns-in-Ok-clause-refused_only
 returns-in-Ok-clause-refused_only g c = λ e.
-    if_refused _ _ _ (λ refusal. Appends (g.K.Sink.held c.args.sink.now) (g.K.Sink.held c.answer.new.sink) (refused_line refusal)) c.in-Ok.ensures.ok (c.answer.ensures.refused e)
+    if_refused _ _ _ (λ refusal. Appends (g.K.Sink.held c.args.sink.now) (g.K.Sink.held c.answer.new.sink) (refused_line refusal)) (as_lent _ _ _ _ c.deref.result.now c.in-Ok.ensures.ok (search rules)) (c.answer.ensures.refused e)
 
 pub returns-in-Ok-clause-write_fault_front : goal.returns-in-Ok-clause-write_fault_front
 returns-in-Ok-clause-write_fault_front g c = λ e.
-    if_output _ _ _ _ _ _ (AppendsFront (g.K.Sink.held c.args.sink.now) (g.K.Sink.held c.answer.new.sink)) c.in-Ok.ensures.ok (c.answer.ensures.front e)
+    if_output _ _ _ _ _ _ (AppendsFront (g.K.Sink.held c.args.sink.now) (g.K.Sink.held c.answer.new.sink)) (as_lent _ _ _ _ c.deref.result.now c.in-Ok.ensures.ok (search rules)) (c.answer.ensures.front e)
 
 pub returns-in-Ok-clause-complete : goal.returns-in-Ok-clause-complete
 returns-in-Ok-clause-complete g c =
-    if_complete c.answer.result _ _ _ _ _ c.in-Ok.ensures.ok c.answer.ensures.no_usage c.answer.ensures.no_read_fault
+    if_complete c.answer.result _ _ _ _ _ (as_lent _ _ _ _ c.deref.result.now c.in-Ok.ensures.ok (search rules)) c.answer.ensures.no_usage c.answer.ensures.no_no c.answer.ensures.no_read_fault
     (λ e. ((c.answer.ensures.refused e).0, (c.answer.ensures.refused e).1)) c.answer.ensures.write_fault
 
 pub returns-in-Ok-clause-other_ports : goal.returns-in-Ok-clause-other_ports
-returns-in-Ok-clause-other_ports g c = λ some. if_sections _ _ _ (λ sections. OthersStay sections c.args.ports.now c.answer.new.ports) c.in-Ok.ensures.ok (c.answer.ensures.other_ports some)
+returns-in-Ok-clause-other_ports g c = λ some. if_sections _ _ _ (λ sections. OthersStay sections c.args.ports.now c.answer.new.ports) (as_lent _ _ _ _ c.deref.result.now c.in-Ok.ensures.ok (search rules)) (c.answer.ensures.other_ports some)
 
 pub returns-in-Ok-clause-refused_bytes_ports : goal.returns-in-Ok-clause-refused_bytes_ports
-returns-in-Ok-clause-refused_bytes_ports g c = λ some. if_faulty _ _ _ _ c.in-Ok.ensures.ok (c.answer.ensures.refused_ports some)
+returns-in-Ok-clause-refused_bytes_ports g c = λ some. if_faulty _ _ _ _ (as_lent _ _ _ _ c.deref.result.now c.in-Ok.ensures.ok (search rules)) (c.answer.ensures.refused_ports some)
