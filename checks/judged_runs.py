@@ -1,4 +1,5 @@
-"""What `check` says of printed runs. The last line is `N passed, M failed`: of inputs, of runs, and of outputs with one thing wrong."""
+"""What `check` says of printed runs. The last line is `N passed, M failed`: of inputs, of runs, and of outputs with one thing wrong, each of
+which has to be told by a line of its kind."""
 import random
 import subprocess
 import sys
@@ -71,10 +72,11 @@ def header_cases() -> Iterator[Case]:
         ("no number", b"check \n"),
         ("a sign", b"check +75\n"),
         ("upper case", b"Check 75\n"),
-        ("a longer session than there may be", b"check 1048577\n"),
         ("no line", b""),
     ):
         yield Case(name, line + rest, header)
+    # So many bytes follow it, and they would be no session.
+    yield Case("a longer session than there may be", b"check 1048577\n" + b"\n" * 1_048_577, header)
     yield Case("nothing", b"", header)
     yield Case("no end of the line", b"check 0", header)
     yield Case("a byte less than the session has", b"check 75\n" + SESSION[:-1], header)
@@ -134,10 +136,9 @@ def entry_cases() -> Iterator[Case]:
     yield case("setup by another actor", replaced({0: b"0 1 probe demo 1 sim -> ok 0\n"}), 0)
     yield case("an actor who isn't there", replaced({1: b"1 3 open 0 -> ok 3\n"}), 1)
     yield case("a file that another actor opened before", replaced({1: b"1 1 open 0 -> ok 4\n"}), 1)
-    yield case("a refusal of a chip that is up", replaced({1: b"1 1 refused 0 call -> ENODEV\n"}), 1)
+    yield case("a refusal of a chip that is up", ENTRIES[:2] + [b"2 1 refused 0 call -> ENODEV\n"], 2)
     yield case("a removal that another actor ends", replaced({5: b"5 1 unplug 0 finish -> ok\n"}), 5)
-    yield case("a lawful call that no statement makes", ENTRIES + [b"6 0 level 0 0 -> ENODEV\n"], 6)
-    yield case("a call of `after`, which is missing", ENTRIES + [b"6 0 open 0 -> ENODEV\n"], 6)
+    yield case("a legal call that no statement makes", ENTRIES + [b"6 0 open 0 -> ENOENT\n"], 6)
 
 
 def text_cases() -> Iterator[Case]:
@@ -156,6 +157,13 @@ def text_cases() -> Iterator[Case]:
         yield Case(name, with_header(SESSION, front + history), Judgment("no text\n", 7))
     yield Case("the session's last byte", b"check 74\n" + SESSION + FRONT + history, Judgment("no text\n", 7))
     yield Case("as it was printed", with_header(SESSION, output_of(ENTRIES)), Judgment("yes\n", 0))
+    refused = output_of(replaced({3: b"3 1 refused 0 call -> ENODEV\n"}))
+    yield Case(
+        "a command that came too late, and what is printed then",
+        with_header(SESSION, refused.replace(b"gpiochip0 [demo] (1 lines)\n", b"gpiodetect: ENODEV\n")),
+        Judgment("yes\n", 0),
+    )
+    yield Case("a command that came too late, and what is printed else", with_header(SESSION, refused), Judgment("no text\n", 7))
 
 
 def cases() -> Iterator[Case]:
@@ -204,6 +212,28 @@ def is_guard(entry: bytes) -> bool:
 # that have the same entries so far, the next entry of each actor is the same call.
 Spoil = Callable[[random.Random, Output], Optional[bytes]]
 
+NO_FORMAT = "no format "
+NO_ENTRY = "no entry "
+NO_TEXT = "no text\n"
+
+
+class Way(NamedTuple):
+    """A way to spoil an output, and what the line that is written then may begin with."""
+
+    spoil: Spoil
+    beginnings: Tuple[str, ...]
+
+
+class Spoilt(NamedTuple):
+    """An input with a spoilt output, and what the line that is written may begin with."""
+
+    name: str
+    text: bytes
+    beginnings: Tuple[str, ...]
+
+    def is_told_by(self, got: Judgment) -> bool:
+        return got.status == 7 and got.line.startswith(self.beginnings)
+
 
 def one_byte(chance: random.Random, output: Output) -> Optional[bytes]:
     """One byte of one entry, behind its index, is another one."""
@@ -237,6 +267,28 @@ def swapped_with_setup(chance: random.Random, output: Output) -> Optional[bytes]
         return None
     entries[first - 1], entries[first] = entries[first], entries[first - 1]
     return output.text(entries)
+
+
+def swapped_with_after(_: random.Random, output: Output) -> Optional[bytes]:
+    """The first entry of `after` stands in front of the last one of all others."""
+    entries = list(output.entries)
+    last = max((at for at, entry in enumerate(entries) if actor_of(entry) != b"0"), default=len(entries))
+    if last + 1 >= len(entries):
+        return None
+    entries[last], entries[last + 1] = entries[last + 1], entries[last]
+    return output.text(entries)
+
+
+def answered_otherwise(chance: random.Random, output: Output) -> Optional[bytes]:
+    """The last digit of what a driver answered is another one. What the call is answered may stay legal, but no planned driver answers so."""
+    tells = [at for at, entry in enumerate(output.entries) if entry.split(b" ")[1] == b"tell" and b" 0x" in entry[entry.rindex(b" -> ") - 19:]]
+    if not tells:
+        return None
+    at = chance.choice(tells)
+    entry = bytearray(output.entries[at])
+    place = entry.rindex(b" -> ") - 1
+    entry[place] = chance.choice([digit for digit in b"0123456789abcdef" if digit != entry[place]])
+    return output.text(output.entries[:at] + [bytes(entry)] + output.entries[at + 1:])
 
 
 def dropped(chance: random.Random, output: Output) -> Optional[bytes]:
@@ -294,13 +346,24 @@ def header_changed(chance: random.Random, output: Output) -> Optional[bytes]:
     return output.text(front=output.front[:at] + [bytes(line)] + output.front[at + 1:])
 
 
-WAYS: List[Spoil] = [
-    one_byte, swapped, swapped_with_setup, dropped, doubled, of_another, counted_wrong, text_dropped, text_moved, header_changed,
+WAYS = [
+    Way(one_byte, (NO_FORMAT, NO_ENTRY)),
+    Way(swapped, (NO_ENTRY,)),
+    Way(swapped_with_setup, (NO_ENTRY,)),
+    Way(swapped_with_after, (NO_ENTRY,)),
+    Way(answered_otherwise, (NO_ENTRY,)),
+    Way(dropped, (NO_ENTRY,)),
+    Way(doubled, (NO_ENTRY,)),
+    Way(of_another, (NO_ENTRY,)),
+    Way(counted_wrong, (NO_FORMAT,)),
+    Way(text_dropped, (NO_TEXT,)),
+    Way(text_moved, (NO_TEXT,)),
+    Way(header_changed, (NO_TEXT,)),
 ]
 
 
 def sessions() -> List[Path]:
-    """The sessions of several actors whose output is judged, and those of theirs whose output is always the same."""
+    """The sessions of several actors whose output is judged."""
     found = []
     for folder in ("examples", "checks/rows"):
         for path in sorted((TOP / folder).glob("*.session")):
@@ -315,7 +378,7 @@ def run(session: bytes) -> bytes:
     return subprocess.run([PROGRAM], input=session, stdout=subprocess.PIPE, check=True).stdout
 
 
-def spoilt(chance: random.Random, outputs: List[Tuple[str, bytes, bytes]]) -> Iterator[Case]:
+def spoilt(chance: random.Random, outputs: List[Tuple[str, bytes, bytes]]) -> Iterator[Spoilt]:
     """Outputs of sessions with one thing wrong, each once: as many of each session and of each way."""
     each = -(-SPOILT * 2 // (len(outputs) * len(WAYS)))
     seen = {text for _, _, text in outputs}
@@ -323,10 +386,10 @@ def spoilt(chance: random.Random, outputs: List[Tuple[str, bytes, bytes]]) -> It
         output = Output(text)
         for way in WAYS:
             for _ in range(each):
-                other = way(chance, output)
+                other = way.spoil(chance, output)
                 if other is not None and other not in seen:
                     seen.add(other)
-                    yield Case(f"{name}, {way.__name__}", with_header(session, other), Judgment("yes\n", 0))
+                    yield Spoilt(f"{name}, {way.spoil.__name__}", with_header(session, other), way.beginnings)
 
 
 def main() -> int:
@@ -353,11 +416,16 @@ def main() -> int:
                 outputs.append((path.stem, session, text))
     chance = random.Random(1)
     tried = 0
-    for case in spoilt(chance, outputs):
+    names = set()
+    for other in spoilt(chance, outputs):
         tried += 1
-        got = judged(case.text)
-        count(got != case.wanted, f"{case.name}: {got} of\n{case.text.decode('latin-1')}")
+        names.add(other.name)
+        got = judged(other.text)
+        count(other.is_told_by(got), f"{other.name}: {got}, expected one of {other.beginnings}, of\n{other.text.decode('latin-1')}")
     count(runs < RUNS or tried >= SPOILT, f"{tried} spoilt outputs, wanted {SPOILT}")
+    for way in WAYS:
+        found = len([name for name in names if name.endswith(", " + way.spoil.__name__)])
+        count(found >= 2, f"{way.spoil.__name__}: outputs of {found} sessions, wanted 2")
     print(f"{passed} passed, {failed} failed")
     return 1 if failed else 0
 
