@@ -380,7 +380,7 @@ def run(session: bytes) -> bytes:
 
 def spoilt(chance: random.Random, outputs: List[Tuple[str, bytes, bytes]]) -> Iterator[Spoilt]:
     """Outputs of sessions with one thing wrong, each once: as many of each session and of each way."""
-    each = -(-SPOILT * 2 // (len(outputs) * len(WAYS)))
+    each = -(-SPOILT * 4 // (len(outputs) * len(WAYS)))
     seen = {text for _, _, text in outputs}
     for name, session, text in outputs:
         output = Output(text)
