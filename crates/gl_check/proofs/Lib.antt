@@ -1,0 +1,11 @@
+pub mod Beyond
+pub mod Going
+pub mod Moves
+pub mod Numbers
+pub mod OfKind
+pub mod Order
+pub mod Replayed
+pub mod SaidHere
+pub mod Settling
+pub mod Suiting
+pub mod WholeSections
