@@ -1,5 +1,6 @@
 pub mod Beyond
 pub mod Going
+pub mod Handing
 pub mod Moves
 pub mod Numbers
 pub mod OfKind
@@ -7,5 +8,4 @@ pub mod Order
 pub mod Replayed
 pub mod SaidHere
 pub mod Settling
-pub mod Suiting
 pub mod WholeSections
