@@ -5,6 +5,7 @@ pub mod Moves
 pub mod Numbers
 pub mod OfKind
 pub mod Order
+pub mod Printing
 pub mod Replayed
 pub mod SaidHere
 pub mod Settling

@@ -1,33 +1,38 @@
 -- The judge, an entry at a time.
-use Rattle.std.proofs.Common.{◌≡◌, ◌≢◌, ◌⊎◌, ℕ, zero, suc, ◌+◌, ◌-◌, ◌<◌, ◌≤◌, Bool, true, false, List, [], ◌∷◌, ◌++◌, length, map, drop, set, get_or, Option, None, Some, refl, sym, ap, ◌∙◌, subst, arith, eq-eqb, ne_eqb, inl, inr}
+use Rattle.std.proofs.Common.{◌≡◌, ◌≢◌, ◌⊎◌, ℕ, zero, suc, ◌+◌, ◌-◌, ◌<◌, ◌≤◌, Bool, true, false, List, [], ◌∷◌, ◌++◌, length, length-append, map, drop, set, get_or, Option, None, Some, refl, sym, ap, ◌∙◌, subst, arith, eq-eqb, ne_eqb, inl, inr}
 use Rattle.std.specs.Prelude.{◌&&◌, cond}
 use Rattle.std.specs.Bool.{Decides}
-use Rattle.std.proofs.Math.Seq.{drop-append_seam, drop-length}
-use Rattle.std.proofs.lemmas.Bool.{cases_eq, false≢true, true≢false}
-use Rattle.std.proofs.lemmas.List.{get_or-set_other, get_or-set_same}
+use Rattle.std.proofs.Math.Seq.{drop-append_seam, drop-length, get_or-append_seam}
+use Rattle.std.proofs.lemmas.Bool.{cases_eq, cases_lt, false≢true, true≢false}
+use Rattle.std.proofs.lemmas.List.{get_or-set_other, get_or-set_same, get_or_append_left}
 use Rattle.std.proofs.lemmas.List.{length-set}
 use Rattle.gl_base.specs.Words.{Span}
 use Rattle.gl_world.specs.Deeds.{deed_in}
 use Rattle.gl_args.specs.Program.{Left, Program, done, given, goes_on, then_left}
 use Rattle.gl_model.specs.Machine.{world_after}
-use Rattle.gl_model.specs.World.{World}
+use Rattle.gl_model.specs.World.{World, opening}
 use Rattle.gl_script.specs.Section.{SaidSection}
 use Rattle.gl_script.specs.declared.section.SectionKind.TheVariants.{Setup, After}
-use Rattle.gl_talk.specs.Open.{Names}
+use Rattle.gl_talk.specs.Open.{Names, no_names}
 use Rattle.gl_talk.specs.Talk.{left, names_in, quits, says}
 use Rattle.gl_core.specs.Device.{OneDeed, OneEntry, core}
 use Rattle.gl_core.specs.Kept.{StandsFor}
 use Rattle.gl_core.specs.Legal.{GoesOn}
 use Rattle.gl_check.specs.Judging.{AreSeats, IsFirst, IsSeatOf, IsTaken, Judges, actor_words, all_words, setup_words}
-use Rattle.gl_check.specs.Misfit.{AtEnd, FitsIn, MayGo, Moment, actors_in, after_begun, after_by, after_entry, all_ended, last_by, last_of, value_left, with_other}
+use Rattle.gl_check.specs.Misfit.{AtEnd, FitsIn, MayGo, Moment, actors_in, after_begun, after_by, after_entry, all_ended, beginning, last_by, last_of, value_left, with_other}
 use Rattle.gl_check.specs.One.{said_in_kind}
 use Rattle.gl_check.specs.Programs.{after_of}
 use Rattle.gl_check.specs.Seating.{HasEnded, IsKept, bearing_by, comes_behind, left_by, port_in, seat_in}
-use Rattle.gl_check.specs.Seats.{Seat as SeatOf, Suits, SuitsStand, is_ended, moved, settles}
+use Rattle.gl_check.specs.Seats.{Seat as SeatOf, Suits, SuitsStand, is_ended, moved, new_bearing, settles}
 use Rattle.gl_check.specs.declared.judge.Judge.{Judge}
 use Rattle.gl_check.specs.declared.seat.Seat.{Seat}
+use Rattle.gl_check.proofs.Beyond.{beyond_program}
 use Rattle.gl_check.proofs.Order.{ended_at, nothing_suits}
 use Rattle.gl_check.proofs.Settling.{rests_left}
+
+and_both : (a b : Bool) → (a && b) ≡ true → (a ≡ true) × (b ≡ true)
+and_both true b h = (refl, h)
+and_both false b h = absurd (false≢true h)
 
 -- all actors at their end, one after another
 pub all_more : (i : ℕ) (f : ℕ → SeatOf) → all_ended i f ≡ true → is_ended (f (i + 1)).stand ≡ true → all_ended (i + 1) f ≡ true
@@ -130,7 +135,7 @@ module _ (sections : List SaidSection) where
         let first = (first_in true is).0 in
         let all_are : all_ended (actors_in sections) c.others ≡ true = ap (λ n. all_ended n c.others) (sym judges.as_many) ∙ sym told ∙ ended in
         let same : (Goes × SuitsStand j.first.stand (port_in j.first.port) e) ≡ (Goes × Suits (last_of sections c) e) = ap (λ (s : SeatOf). Goes × Suits s e) first in (
-          λ so. let fit = subst (λ (P : Type 0). P) same (decides.0 so) in subst (λ (P : Type 0). P) (sym (last_fit is)) (fit.0, all_are, fit.1),
+          λ so. let fit = subst (λ (P : Type 0). P) same (decides.0 so) in subst (λ (P : Type 0). P) (sym (last_fit is)) (fit.0, (all_are, fit.1)),
           λ fits. let fit = subst (λ (P : Type 0). P) (last_fit is) fits in decides.1 (subst (λ (P : Type 0). P) (sym same) (fit.0, fit.1.1)),
         )
 
@@ -189,10 +194,8 @@ module _ (sections : List SaidSection) where
       λ fits. let many = judges.as_many in absurd (nothing_suits (c.others (at + 1)) e (judges.beyond (at + 1) (omega (arith, past, many))) (subst (λ (P : Type 0). P) (other_fit is) fits).1),
     )
 
-    pub other_fits : (good : Bool) (d : Seat) → j.after ≡ true → at < length j.others.items
-        → Decides good (Goes2 × SuitsStand (get_or j.others.items at d).stand (port_in (get_or j.others.items at d).port) e) → Decides good (FitsIn sections c e)
-    other_fits good d is lt told =
-        subst (λ (P : Type 0). Decides good P) (ap (λ (s : SeatOf). Goes2 × Suits s e) (judges.others at d lt).is ∙ sym (other_fit is)) told
+    pub other_fits : (good : Bool) → j.after ≡ true → Decides good (Goes2 × Suits (c.others (at + 1)) e) → Decides good (FitsIn sections c e)
+    other_fits good is told = subst (λ (P : Type 0). Decides good P) (sym (other_fit is)) told
 
     pub other_goes : (k : Judge) → j.after ≡ true → at < length j.others.items → StandsFor k.core w2
         → AreSeats sections k.others.items (with_other (at + 1) (moved (c.others (at + 1)) d2) c.others) → length k.others.items ≡ length j.others.items
@@ -218,6 +221,29 @@ module _ (sections : List SaidSection) where
 
         apart : (n : ℕ) → actors_in sections < n → at + 1 ≢ n
         apart n more = let few = judges.as_many in omega (arith, few, lt, more)
+
+  -- a seat of the code is that of an actor
+  pub ended_as : (seats : List Seat) (others : ℕ → SeatOf) (i : ℕ) (s : Seat) (b : Bool) → i < length seats → s ≡ get_or seats i s → AreSeats sections seats others → b ≡ is_ended s.stand
+      → is_ended (others (i + 1)).stand ≡ b
+  ended_as seats others i s b lt is are told =
+      ap (λ (t : SeatOf). is_ended t.stand) (sym (are i s lt).is) ∙ ap (λ (x : Seat). is_ended x.stand) (sym is) ∙ sym told
+
+  seated_at : (seats : List Seat) (others : ℕ → SeatOf) (at : ℕ) (s : Seat) (words : List (List Span)) → at < length seats → s ≡ get_or seats at s → words ≡ actor_words sections (at + 1) → AreSeats sections seats others
+      → seat_in true words s ≡ others (at + 1)
+  seated_at seats others at s words lt is same are =
+      ap (λ (x : List (List Span) × Seat). seat_in true x.0 x.1) (λ i. (same i, is i)) ∙ (are at s lt).is
+
+  pub suits_at : (seats : List Seat) (others : ℕ → SeatOf) (at : ℕ) (s : Seat) (words : List (List Span)) (good : Bool) (e : OneEntry) (P : Type 0) → at < length seats → s ≡ get_or seats at s → words ≡ actor_words sections (at + 1)
+      → AreSeats sections seats others → Decides good (P × SuitsStand s.stand (port_in s.port) e) → Decides good (P × Suits (others (at + 1)) e)
+  suits_at seats others at s words good e P lt is same are told =
+      subst (λ (t : SeatOf). Decides good (P × Suits t e)) (seated_at seats others at s words lt is same are) told
+
+  pub moved_at : (seats : List Seat) (others : ℕ → SeatOf) (at : ℕ) (s then : Seat) (words : List (List Span)) (d : OneDeed) → at < length seats → s ≡ get_or seats at s → words ≡ actor_words sections (at + 1)
+      → AreSeats sections seats others → seat_in true words then ≡ moved (seat_in true words s) d → IsKept true words then → IsSeatOf sections (at + 1) then (moved (others (at + 1)) d)
+  moved_at seats others at s then words d lt is same are moves kept = record {
+    is = ap (λ (w : List (List Span)). seat_in true w then) (sym same) ∙ moves ∙ ap (λ (t : SeatOf). moved t d) (seated_at seats others at s words lt is same are);
+    kept = subst (λ (w : List (List Span)). IsKept true w then) same kept;
+  }
 
   -- one seat among others moved
   pub seats_more : (seats : List Seat) (others : ℕ → SeatOf) (at : ℕ) (s : Seat) (t : SeatOf) → at < length seats → AreSeats sections seats others → IsSeatOf sections (at + 1) s t
@@ -251,3 +277,53 @@ module _ (sections : List SaidSection) where
           told_all ∙ ap (λ n. all_ended n c.others) judges.as_many ∙ end.others,
           told_last ∙ ap (λ (s : SeatOf). is_ended s.stand) (subst (λ (x : Bool). IsFirst sections x j.first j.setup.items c) is judges.first).0 ∙ end.last,
         )
+
+    -- whether the others are at their end
+    pub all_told : (seats : List Seat) (all : Bool) → seats ≡ j.others.items → (AreSeats sections seats c.others → all ≡ all_ended (length seats) c.others) → all ≡ all_ended (length j.others.items) c.others
+    all_told seats all same told = told (subst (λ (l : List Seat). AreSeats sections l c.others) (sym same) judges.others) ∙ ap (λ (l : List Seat). all_ended (length l) c.others) same
+
+    pub decides_end : (seats : List Seat) (all last r : Bool) → seats ≡ j.others.items → (AreSeats sections seats c.others → all ≡ all_ended (length seats) c.others) → last ≡ is_ended j.first.stand
+        → r ≡ (j.after && (all && last)) → Decides r (AtEnd sections c)
+    decides_end seats all last r same told_all told_last is =
+        subst (λ (b : Bool). Decides b (AtEnd sections c)) (sym is) (
+          λ so. let first = and_both j.after (all && last) so in let rest = and_both all last first.1 in at_end all last all_are told_last first.0 rest.0 rest.1,
+          λ end. let of = of_end all last all_are told_last end in ap (λ (x : Bool × Bool × Bool). x.0 && (x.1 && x.2)) (λ i. (of.0 i, of.1 i, of.2 i)),
+        )
+      where
+        all_are : all ≡ all_ended (length j.others.items) c.others
+        all_are = all_told seats all same told_all
+
+  -- the actors at their beginning
+  pub seats_pushed : (seats new : List Seat) (s : Seat) (words : List (List Span)) (i : ℕ) → length seats ≡ i → new ≡ seats ++ s ∷ [] → AreSeats sections seats (beginning sections).others → words ≡ actor_words sections (i + 1)
+      → seat_in true words s ≡ settles (comes_behind false true 0 words no_names) new_bearing [] → IsKept true words s → AreSeats sections new (beginning sections).others
+  seats_pushed seats new s words i long is are same begins kept = λ k d lt. subst (λ (l : List Seat). IsSeatOf sections (k + 1) (get_or l k d) ((beginning sections).others (k + 1))) (sym is)
+      (by k d (subst (λ (l : List Seat). k < length l) is lt) (cases_lt k (length seats)))
+    where
+      by : (k : ℕ) (d : Seat) → k < length (seats ++ s ∷ []) → (k < length seats) ⊎ (length seats ≤ k) → IsSeatOf sections (k + 1) (get_or (seats ++ s ∷ []) k d) ((beginning sections).others (k + 1))
+      by k d lt (inl less) = subst (λ (x : Seat). IsSeatOf sections (k + 1) x ((beginning sections).others (k + 1))) (sym (get_or_append_left seats (s ∷ []) d k less)) (are k d less)
+      by k d lt (inr most) =
+          let size = length-append seats (s ∷ []) in
+          let here : k ≡ length seats = omega (arith, lt, most, size) in
+          subst (λ (x : Seat × ℕ). IsSeatOf sections (x.1 + 1) x.0 ((beginning sections).others (x.1 + 1)))
+          (λ n. ((sym (get_or-append_seam seats s [] d) ∙ ap (λ m. get_or (seats ++ s ∷ []) m d) (sym here)) n, (sym long ∙ sym here) n))
+          (record {
+            is = ap (λ (w : List (List Span)). seat_in true w s) (sym same) ∙ begins ∙ ap (λ (w : List (List Span)). settles (comes_behind false true 0 w no_names) new_bearing []) same;
+            kept = subst (λ (w : List (List Span)). IsKept true w s) same kept;
+          })
+
+  -- all at the beginning
+  pub judge_begins : (j : Judge) (first : Seat) (printed : List ℕ) (setup : List (List Span)) → setup ≡ setup_words sections → StandsFor j.core opening
+      → seat_in false setup first ≡ settles (comes_behind false false 0 setup no_names) new_bearing [] → IsKept false setup first → j.after ≡ is_ended first.stand
+      → ((m : Moment) → IsFirst sections false first printed m → IsFirst sections j.after j.first j.setup.items m) → AreSeats sections j.others.items (beginning sections).others
+      → length j.others.items ≡ actors_in sections → Judges sections j (beginning sections)
+  judge_begins j first printed setup same world begins kept after goes others many =
+      let seated : seat_in false (setup_words sections) first ≡ (beginning sections).setup
+      = ap (λ (w : List (List Span)). seat_in false w first) (sym same) ∙ begins ∙ ap (λ (w : List (List Span)). settles (comes_behind false false 0 w no_names) new_bearing []) same in
+      record {
+        world = world;
+        phase = after ∙ ap (λ (s : SeatOf). is_ended s.stand) seated;
+        first = goes (beginning sections) (seated, subst (λ (w : List (List Span)). IsKept false w first) same kept, refl);
+        others = others;
+        as_many = many;
+        beyond = beyond_program sections;
+      }

@@ -1,7 +1,7 @@
 -- How an actor goes on: what it does next, and what comes behind its statements.
-use Rattle.std.proofs.Common.{◌≡◌, ℕ, ◌+◌, ◌<◌, ◌≤◌, Bool, true, false, List, [], ◌∷◌, ◌++◌, length, map, drop, get_or, Option, None, Some, refl, sym, ap, ◌∙◌, subst, arith}
+use Rattle.std.proofs.Common.{◌≡◌, ℕ, ◌+◌, ◌<◌, ◌≤◌, Bool, true, false, List, [], ◌∷◌, ◌++◌, length, map, drop, drop_of_length-le, get_or, Option, None, Some, refl, sym, ap, ◌∙◌, subst, arith}
 use Rattle.std.specs.Prelude.{if◌then◌else◌}
-use Rattle.std.proofs.lemmas.List.{drop_more, drop_of_length-le, get_or-map, length-map}
+use Rattle.std.proofs.lemmas.List.{drop_more, get_or-map, length-map}
 use Rattle.gl_base.specs.Words.{Span}
 use Rattle.gl_base.specs.declared.operation.Do.{Do}
 use Rattle.gl_base.specs.declared.operation.Got.{Got}
@@ -9,6 +9,7 @@ use Rattle.gl_args.specs.Program.{Goes, Left, Program, ask, done, given, goes_on
 use Rattle.gl_args.specs.declared.next.Next.TheVariants.{Call, Print}
 use Rattle.gl_model.specs.Entries.{begins}
 use Rattle.gl_model.specs.declared.call.Call.{Call as CallOf}
+use Rattle.gl_script.specs.Columns.{columns}
 use Rattle.gl_script.specs.declared.section.Statement.{Statement}
 use Rattle.gl_talk.specs.Open.{Names, no_names}
 use Rattle.gl_talk.specs.Over.{columns_in}
@@ -101,3 +102,11 @@ moved_second s what first d is = ap (λ (stand : Stand). moved_by stand s.left s
 
 pub moved_ended : (s : Seat) (d : OneDeed) → s.stand ≡ Ended → moved s d ≡ s
 moved_ended s d is = ap (λ (stand : Stand). moved_by stand s.left s.bearing s.text d) is ∙ ap (λ (stand : Stand). seat stand s.left s.bearing s.text) (sym is)
+
+-- the words of a line and of the statements behind it
+pub words_line : (statements : List Statement) (n : ℕ) (d : Statement) (line : List ℕ) → n < length statements → line ≡ (get_or statements n d).line.now
+    → drop n (map columns_in statements) ≡ columns line ∷ drop (n + 1) (map columns_in statements)
+words_line statements n d line lt is =
+    let long = length-map statements columns_in in
+    drop_more (map columns_in statements) n (columns line) (omega (arith, lt, long))
+    ∙ ap (λ (w : List Span). w ∷ drop (n + 1) (map columns_in statements)) (get_or-map columns_in statements n d (columns line) lt ∙ ap columns (sym is))

@@ -1,6 +1,6 @@
 //! The machine and all actors in the midst of a history.
 
-ghost use Rattle.std.specs.Prelude.{◌≡◌, ◌<◌, ◌≤◌, ◌+◌, ◌^◌, ℕ, List, true, false, length, get_or, map, IfOk, IsOkUnless};
+ghost use Rattle.std.specs.Prelude.{◌≡◌, ◌<◌, ◌≤◌, ◌+◌, ◌^◌, ◌&&◌, ℕ, List, true, false, length, get_or, map, IfOk, IsOkUnless};
 ghost use Rattle.std.specs.Bool.{Decides};
 ghost use Rattle.gl_base.specs.Words.{Span};
 ghost use Rattle.gl_core.specs.Device.{core as device_core};
@@ -15,7 +15,7 @@ ghost use Rattle.gl_world.specs.Deeds.{deed_in};
 ghost use Rattle.gl_check.specs.Judging.{AreSeats, AreTaken, IsFirst, IsKeptIn, IsTaken, Judges, Takes, actor_words, all_words, setup_words};
 ghost use Rattle.gl_check.specs.Misfit.{AtEnd, Moment, actors_in, all_ended, beginning, with_other};
 ghost use Rattle.gl_check.specs.Seating.{IsKept, port_in, seat_in};
-ghost use Rattle.gl_check.specs.Seats.{Seat as SeatOf, SuitsStand, is_ended, moved};
+ghost use Rattle.gl_check.specs.Seats.{Seat as SeatOf, Suits, SuitsStand, is_ended, moved};
 ghost use Rattle.gl_check.specs.declared.seat.Seat.{Seat as SeatCode};
 
 use crate::seat::Seat;
@@ -67,6 +67,13 @@ fn all_ended(seats: &[Seat]) -> bool
         }
     }
     true
+}
+
+/// Whether all is at its end: `setup`, the others, and `after`.
+fn ends(setup: bool, others: bool, last: bool) -> bool
+    ensures { result ≡ (setup && (others && last)) }
+{
+    setup && (others && last)
 }
 
 /// Begins `after`, where `setup` is at its end. Whether it did. `NoMemory` alone is refused.
@@ -137,8 +144,8 @@ fn enter_at(
 ) -> Result<bool, Errno>
     requires within { at < length seats.old }
     requires kept { (d : SeatCode) → IsKept true (map columns_in statements.now) (get_or seats.old at d) }
-    ensures fits { (d : SeatCode) → IfOk result (λ good. (w : World) → StandsFor core.old w
-        → Decides good (GoesOn w entry.now.actor entry.now.call entry.now.reply × SuitsStand (get_or seats.old at d).stand (port_in (get_or seats.old at d).port) entry.now)) }
+    ensures fits { (sections : List SaidSection) (others : ℕ → SeatOf) → map columns_in statements.now ≡ actor_words sections (at + 1) → AreSeats sections seats.old others
+        → IfOk result (λ good. (w : World) → StandsFor core.old w → Decides good (GoesOn w entry.now.actor entry.now.call entry.now.reply × Suits (others (at + 1)) entry.now)) }
     ensures world { IfOk result (λ good. (w : World) → StandsFor core.old w → good ≡ true → StandsFor core.new (world_after w entry.now.actor entry.now.call)) }
     ensures others { (sections : List SaidSection) (others : ℕ → SeatOf) → map columns_in statements.now ≡ actor_words sections (at + 1) → AreSeats sections seats.old others
         → IfOk result (λ good. (w : World) → StandsFor core.old w → good ≡ true
@@ -146,7 +153,10 @@ fn enter_at(
     ensures as_many { length seats.new ≡ length seats.old }
     ensures memory_alone { IsOkUnless result Errno.NoMemory }
 {
-    enter(core, &mut seats[at], alloc, statements, true, entry)
+    match enter(core, &mut seats[at], alloc, statements, true, entry) {
+        Ok(good) => Ok(good),
+        Err(errno) => Err(errno),
+    }
 }
 
 impl Judge {
@@ -215,7 +225,10 @@ impl Judge {
         ensures memory_alone { IsOkUnless result Errno.NoMemory }
     {
         if self.after {
-            self.take_last(alloc, all, entry)
+            match self.take_last(alloc, all, entry) {
+                Ok(good) => Ok(good),
+                Err(errno) => Err(errno),
+            }
         } else {
             self.take_setup(alloc, setup, all, entry)
         }
@@ -265,7 +278,10 @@ impl Judge {
         if !all_ended(&self.others) {
             return Ok(false);
         }
-        enter(&mut self.core, &mut self.first, alloc, all, true, entry)
+        match enter(&mut self.core, &mut self.first, alloc, all, true, entry) {
+            Ok(good) => Ok(good),
+            Err(errno) => Err(errno),
+        }
     }
 
     /// The same of an entry of another actor.
@@ -280,19 +296,25 @@ impl Judge {
         ensures taken { IfOk result (λ good. (c : Moment) → Judges (sections_of script.now) self.old c → IsTaken (sections_of script.now) entry.now c good self.new) }
         ensures memory_alone { IsOkUnless result Errno.NoMemory }
     {
+        if !self.after {
+            return Ok(false);
+        }
         let at = entry.actor as usize - 1;
-        if !self.after || at >= self.others.len() {
+        if at >= self.others.len() {
             return Ok(false);
         }
         let statements = actor_statements(script, u32::from(entry.actor));
-        enter_at(
+        match enter_at(
             &mut self.core,
             &mut self.others,
             at,
             alloc,
             statements,
             entry,
-        )
+        ) {
+            Ok(good) => Ok(good),
+            Err(errno) => Err(errno),
+        }
     }
 
     /// Takes entries in, up to the first that doesn't fit, and tells its index, counted from 0. `NoMemory` alone is refused.
@@ -325,6 +347,8 @@ impl Judge {
     pub fn is_at_end(&self) -> bool
         ensures { (sections : List SaidSection) (c : Moment) → Judges sections self.now c → Decides result (AtEnd sections c) }
     {
-        self.after && all_ended(&self.others) && self.first.is_ended()
+        let all = all_ended(&self.others);
+        let last = self.first.is_ended();
+        ends(self.after, all, last)
     }
 }

@@ -8,7 +8,7 @@ ghost use Rattle.gl_model.specs.Step.{guard_reply};
 ghost use Rattle.gl_model.specs.declared.call.Call.TheVariants.{Refused as RefusedCall};
 ghost use Rattle.gl_model.specs.declared.device_call.DeviceCall.TheVariants.{Once};
 ghost use Rattle.gl_check.specs.Seating.{port_in};
-ghost use Rattle.gl_check.specs.Seats.{IsRefusedAt, SuitsFirst, SuitsStand, is_refusal};
+ghost use Rattle.gl_check.specs.Seats.{IsRefusedAt, SuitsFirst, SuitsStand, is_refusal, second_of};
 
 use crate::parts::{guard_reply, is_poll, is_refusal, second_of};
 use crate::port::Planned;
@@ -24,7 +24,7 @@ pub fn suits(stand: &Stand, port: &Planned, entry: &Entry<Core>) -> bool
     match stand {
         Stand::Ended => false,
         Stand::Before { first, .. } => suits_first(first, entry),
-        Stand::Between { first, .. } => entry.call == second_of(first, port),
+        Stand::Between { first, .. } => suits_second(first, port, entry),
     }
 }
 
@@ -35,8 +35,23 @@ fn suits_first(first: &Call, entry: &Entry<Core>) -> bool
     if is_refusal(&entry.call) {
         is_refused_at(first, entry)
     } else {
-        entry.call == *first
+        is_of(entry, first)
     }
+}
+
+/// Whether an entry is the second one of a call of the device, behind a first one that begins.
+fn suits_second(first: &Call, port: &Planned, entry: &Entry<Core>) -> bool
+    ensures { Decides result (entry.now.call ≡ second_of first.now (port_in port.now)) }
+{
+    let second = second_of(first, port);
+    is_of(entry, &second)
+}
+
+/// Whether an entry has this call.
+fn is_of(entry: &Entry<Core>, call: &Call) -> bool
+    ensures { Decides result (entry.now.call ≡ call.now) }
+{
+    entry.call == *call
 }
 
 /// Whether an entry is that of the closed guard of a call.
