@@ -8,5 +8,6 @@ pub mod Order
 pub mod Printing
 pub mod Replayed
 pub mod SaidHere
+pub mod SameCalls
 pub mod Settling
 pub mod WholeSections

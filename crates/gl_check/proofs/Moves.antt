@@ -228,20 +228,19 @@ module _ (sections : List SaidSection) where
   ended_as seats others i s b lt is are told =
       ap (λ (t : SeatOf). is_ended t.stand) (sym (are i s lt).is) ∙ ap (λ (x : Seat). is_ended x.stand) (sym is) ∙ sym told
 
-  seated_at : (seats : List Seat) (others : ℕ → SeatOf) (at : ℕ) (s : Seat) (words : List (List Span)) → at < length seats → s ≡ get_or seats at s → words ≡ actor_words sections (at + 1) → AreSeats sections seats others
-      → seat_in true words s ≡ others (at + 1)
-  seated_at seats others at s words lt is same are =
-      ap (λ (x : List (List Span) × Seat). seat_in true x.0 x.1) (λ i. (same i, is i)) ∙ (are at s lt).is
+  seated_at : (seats : List Seat) (others : ℕ → SeatOf) (at : ℕ) (d : Seat) (words : List (List Span)) → at < length seats → words ≡ actor_words sections (at + 1) → AreSeats sections seats others
+      → seat_in true words (get_or seats at d) ≡ others (at + 1)
+  seated_at seats others at d words lt same are = ap (λ (w : List (List Span)). seat_in true w (get_or seats at d)) same ∙ (are at d lt).is
 
-  pub suits_at : (seats : List Seat) (others : ℕ → SeatOf) (at : ℕ) (s : Seat) (words : List (List Span)) (good : Bool) (e : OneEntry) (P : Type 0) → at < length seats → s ≡ get_or seats at s → words ≡ actor_words sections (at + 1)
-      → AreSeats sections seats others → Decides good (P × SuitsStand s.stand (port_in s.port) e) → Decides good (P × Suits (others (at + 1)) e)
-  suits_at seats others at s words good e P lt is same are told =
-      subst (λ (t : SeatOf). Decides good (P × Suits t e)) (seated_at seats others at s words lt is same are) told
+  pub suits_at : (seats : List Seat) (others : ℕ → SeatOf) (at : ℕ) (d : Seat) (words : List (List Span)) (good : Bool) (e : OneEntry) (P : Type 0) → at < length seats → words ≡ actor_words sections (at + 1)
+      → AreSeats sections seats others → Decides good (P × SuitsStand (get_or seats at d).stand (port_in (get_or seats at d).port) e) → Decides good (P × Suits (others (at + 1)) e)
+  suits_at seats others at d words good e P lt same are told =
+      subst (λ (t : SeatOf). Decides good (P × Suits t e)) (seated_at seats others at d words lt same are) told
 
-  pub moved_at : (seats : List Seat) (others : ℕ → SeatOf) (at : ℕ) (s then : Seat) (words : List (List Span)) (d : OneDeed) → at < length seats → s ≡ get_or seats at s → words ≡ actor_words sections (at + 1)
-      → AreSeats sections seats others → seat_in true words then ≡ moved (seat_in true words s) d → IsKept true words then → IsSeatOf sections (at + 1) then (moved (others (at + 1)) d)
-  moved_at seats others at s then words d lt is same are moves kept = record {
-    is = ap (λ (w : List (List Span)). seat_in true w then) (sym same) ∙ moves ∙ ap (λ (t : SeatOf). moved t d) (seated_at seats others at s words lt is same are);
+  pub moved_at : (seats : List Seat) (others : ℕ → SeatOf) (at : ℕ) (x then : Seat) (words : List (List Span)) (d : OneDeed) → at < length seats → words ≡ actor_words sections (at + 1)
+      → AreSeats sections seats others → seat_in true words then ≡ moved (seat_in true words (get_or seats at x)) d → IsKept true words then → IsSeatOf sections (at + 1) then (moved (others (at + 1)) d)
+  moved_at seats others at x then words d lt same are moves kept = record {
+    is = ap (λ (w : List (List Span)). seat_in true w then) (sym same) ∙ moves ∙ ap (λ (t : SeatOf). moved t d) (seated_at seats others at x words lt same are);
     kept = subst (λ (w : List (List Span)). IsKept true w then) same kept;
   }
 

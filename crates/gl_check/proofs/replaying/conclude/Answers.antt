@@ -1,7 +1,8 @@
-use Rattle.std.proofs.Common.{List, ℕ, ◌++◌, ap, ◌∙◌}
+use Rattle.std.proofs.Common.{List, ℕ, ◌++◌, map, ap, ◌∙◌}
 use Rattle.gl_script.specs.Script.{sections_of}
 use Rattle.gl_check.specs.Many.{Texts}
 use Rattle.gl_check.specs.Misfit.{beginning, behind, texts_of}
+use Rattle.gl_check.specs.Seating.{text_in}
 use Rattle.gl_check.specs.Texts.{texts_text}
 use Rattle.gl_check.proofs.Replayed.{printed}
 use Rattle.gl_check.proofs.replaying.conclude.Goals as goal
@@ -12,5 +13,5 @@ returns-clause-texts c =
     c.in_ok-extend_from_slice.ensures.items
     ∙ ap (λ (l : List ℕ). c.args.out.now.items ++ l)
     (c.deref.ensures.value ∙ c.in_ok-put_texts.ensures.ok
-    ∙ ap (λ (l : List ℕ). l ++ texts_text (sections_of c.args.script.now) _) c.new-texts.ensures.items
+    ∙ ap (λ (l : List ℕ). l ++ texts_text (sections_of c.args.script.now) (record { setup = c.args.judge.now.setup.items; actors = map text_in c.args.judge.now.others.items; last = c.args.judge.now.first.text.items })) c.new-texts.ensures.items
     ∙ ap (λ (t : Texts). texts_text (sections_of c.args.script.now) t) (printed (sections_of c.args.script.now) c.args.history.now c.args.judge.now c.requires.fit end))
