@@ -7,11 +7,10 @@ use Rattle.gl_base.specs.declared.kind.Kind.{Kind}
 use Rattle.gl_model.specs.declared.call.Part.{Part}
 use Rattle.gl_model.specs.declared.call.Call.{Call}
 use Rattle.gl_model.specs.declared.call.Call.TheVariants.{Probe, Unplug, MakeDir, RemoveDir, Write, Read, Live, Remove, Tick, Pin, Irq, Pull, Level, Interrupt, OpenChip, Find, Ioctl, ReadEdges, ReadInfo, PollLine, PollChip, Close, Refused as RefusedCall}
-use Rattle.std.specs.declared.cmp.PartialEq.{eq-type}
-use Rattle.gl_model.specs.contracts.call.CallPartialEq.TheImpl.{eq-value}
+use Rattle.gl_model.specs.contracts.call.CallPartialEq.TheImpl.{ghosts}
 
 abbrev eq_call : Call → Call → Bool
-eq_call = eq-value
+eq_call a b = ghosts.eq a b
 
 same_probe : (a : Call) (label : List ℕ) (lines : ℕ) (kind : Kind) → Decides (eq_call a (Probe label lines kind)) (a ≡ Probe label lines kind)
 same_probe a label lines kind = search rules
