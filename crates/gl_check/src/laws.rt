@@ -2,6 +2,7 @@
 //! the call.
 
 ghost use Rattle.std.specs.Prelude.{◌≡◌, []};
+ghost use Rattle.gl_check.specs.Misfit.{MisfitIsNoneForMany};
 ghost use Rattle.gl_check.specs.OneChip.{output, plans, printed, takes};
 
 /// One of a session that makes a chip and lists the chips is its one line, and no driver is asked for it. Computed from the
@@ -10,4 +11,10 @@ pub fn one_chip()
     ensures prints { printed ≡ output }
     ensures asks_nothing { takes ≡ [] }
     ensures plans_nothing { plans ≡ [] }
+{}
+
+/// For each session and each history: there is no misfit exactly where PlannedTells holds for some texts. Then Many holds for the
+/// same texts, and PlannedTells for no others. And no history has two misfits, nor both one and none.
+pub fn misfit_is_none_for_many()
+    ensures { MisfitIsNoneForMany }
 {}
