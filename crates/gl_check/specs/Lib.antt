@@ -1,10 +1,15 @@
+pub mod Buffers
+pub mod Judging
 pub mod Many
 pub mod Misfit
 pub mod One
 pub mod OneChip
 pub mod Ports
 pub mod Programs
+pub mod Rows
+pub mod Seating
 pub mod Seats
+pub mod Sections
 pub mod Tells
 pub mod Texts
 pub mod Turns

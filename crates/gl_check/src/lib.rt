@@ -1,8 +1,19 @@
 //! What a session does, by its sections and its history alone: who ran it, and by what code, is not said.
 #![tactic(auto)]
 
+mod asked;
+mod buffers;
+mod judge;
 pub mod laws;
+mod parts;
+mod port;
 mod replaying;
+mod rows;
+mod seat;
+mod sections;
+mod speech;
 mod stand;
+mod suiting;
+mod texts;
 
 pub use replaying::replay;

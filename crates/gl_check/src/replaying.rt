@@ -1,12 +1,16 @@
 //! A history of a session of several actors, judged.
-ghost use Rattle.std.specs.Prelude.{◌≡◌, ◌<◌, ◌^◌, ◌++◌, length, IfOk, OnErr, IsOkUnless, MatchOption};
+ghost use Rattle.std.specs.Prelude.{◌≡◌, ◌<◌, ◌^◌, ◌++◌, None, length, IfOk, OnErr, IsOkUnless, MatchOption};
 ghost use Rattle.gl_script.specs.Script.{sections_of};
+ghost use Rattle.gl_check.specs.Judging.{AreTaken};
 ghost use Rattle.gl_check.specs.Misfit.{IsMisfit, texts_of};
 ghost use Rattle.gl_check.specs.Texts.{texts_text};
 
+use crate::judge::Judge;
+use crate::sections::add_kind;
+use crate::texts::put_texts;
 use gl_base::Errno;
 use gl_core::Core;
-use gl_script::Script;
+use gl_script::{Script, SectionKind};
 use gl_world::Entry;
 use std::alloc::Global;
 
@@ -25,5 +29,39 @@ pub fn replay(
     ensures kept { OnErr result (out.new.items ≡ out.old.items) }
     ensures memory_alone { IsOkUnless result Errno.NoMemory }
 {
-    Err(Errno::NoMemory)
+    let mut setup = Vec::new(alloc);
+    add_kind(script, SectionKind::Setup, &mut setup)?;
+    let mut all = Vec::new(alloc);
+    add_kind(script, SectionKind::Setup, &mut all)?;
+    add_kind(script, SectionKind::After, &mut all)?;
+    let mut judge = Judge::new(alloc, script, &setup, &all)?;
+    match judge.take_all(alloc, script, &setup, &all, history) {
+        Ok(Some(index)) => Ok(Some(index)),
+        Ok(None) => conclude(alloc, script, &judge, history, out),
+        Err(errno) => Err(errno),
+    }
+}
+
+/// The same behind all entries, all of which fit.
+fn conclude(
+    alloc: Global,
+    script: &Script<'_>,
+    judge: &Judge,
+    history: &[Entry<Core>],
+    out: &mut Vec<u8>,
+) -> Result<Option<u32>, Errno>
+    requires few { length history.now < 2 ^ 32 }
+    requires fit { AreTaken (sections_of script.now) history.now judge.now None }
+    ensures misfit { IfOk result (IsMisfit (sections_of script.now) history.now) }
+    ensures texts { IfOk result (λ misfit. MatchOption misfit (out.new.items ≡ out.old.items ++ texts_text (sections_of script.now) (texts_of (sections_of script.now) history.now)) (λ _. out.new ≡ out.old)) }
+    ensures kept { OnErr result (out.new.items ≡ out.old.items) }
+    ensures memory_alone { IsOkUnless result Errno.NoMemory }
+{
+    if !judge.is_at_end() {
+        return Ok(Some(history.len() as u32));
+    }
+    let mut texts = Vec::new(alloc);
+    put_texts(script, judge, &mut texts)?;
+    out.extend_from_slice(&texts)?;
+    Ok(None)
 }

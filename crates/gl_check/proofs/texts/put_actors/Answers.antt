@@ -1,0 +1,31 @@
+use Rattle.std.proofs.Common.{◌≡◌, ◌<◌, ◌+◌, ◌++◌, List, ℕ, drop, length, map, arith, subst, sym, ap, ◌∙◌}
+use Rattle.gl_script.specs.Script.{sections_of}
+use Rattle.gl_check.specs.Many.{actor_sections}
+use Rattle.gl_check.specs.Seating.{text_in}
+use Rattle.gl_check.specs.Texts.{actors_text}
+use Rattle.gl_check.proofs.Printing.{none_fewer, none_written, one_fewer, one_written}
+use Rattle.gl_check.proofs.texts.put_actors.Goals as goal
+use Rattle.gl_check.proofs.texts.put_actors.Goals.{in-Some+in_ok-put_actor-in-Some, in-None}
+
+pub loop-section-preserved : goal.loop-section-preserved
+loop-section-preserved c =
+    let there : c.loop-section.section < length (sections_of c.args.script.now) = (let e = c.sections-section-end.ensures in let l = c.loop-section-test.true in omega arith) in
+    elim c.match-actor_name.branch [
+      | in-Some+in_ok-put_actor-in-Some w ↦
+          let as_many = one_fewer (sections_of c.args.script.now) c.args.seats.now c.loop-section.section c.loop-section.at there w.in-Some.ensures.0 c.loop-section.invariant.as_many in
+          let is = w.at-is in record {
+            whole = ap (λ (n : ℕ). c.match-actor_name.out.items ++ actors_text (actor_sections (drop (c.loop-section.section + 1) (sections_of c.args.script.now))) (drop n (map text_in c.args.seats.now))) w.at-is
+                ∙ one_written (sections_of c.args.script.now) c.args.seats.now c.loop-section.section c.loop-section.at there w.index-seats-at.result w.in-Some.name.now w.deref.result.now c.loop-section.out.items
+                c.match-actor_name.out.items _ w.in-Some.ensures.0 c.loop-section.invariant.as_many w.index-seats-at.is w.in-Some.ensures.1 (w.deref.ensures.value ∙ ap text_in (sym w.index-seats-at.is))
+                (ap (λ v. v.items) w.out-is ∙ w.in_ok-put_actor-in-Some.ensures.ok) c.loop-section.invariant.whole;
+            as_many = omega arith;
+          }
+      | in-None w ↦
+          let as_many = none_fewer (sections_of c.args.script.now) c.args.seats.now c.loop-section.section c.loop-section.at there w.in-None.ensures c.loop-section.invariant.as_many in
+          let is = w.at-is in record {
+            whole = ap (λ (n : ℕ). c.match-actor_name.out.items ++ actors_text (actor_sections (drop (c.loop-section.section + 1) (sections_of c.args.script.now))) (drop n (map text_in c.args.seats.now))) w.at-is
+                ∙ none_written (sections_of c.args.script.now) c.args.seats.now c.loop-section.section c.loop-section.at there c.match-actor_name.out.items _ w.in-None.ensures
+                (ap (λ v. v.items ++ actors_text (actor_sections (drop c.loop-section.section (sections_of c.args.script.now))) (drop c.loop-section.at (map text_in c.args.seats.now))) w.out-is ∙ c.loop-section.invariant.whole);
+            as_many = omega arith;
+          }
+    ]
