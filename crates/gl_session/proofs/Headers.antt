@@ -1,5 +1,5 @@
 -- The first line of an input, read and written.
-use Rattle.std.proofs.Common.{◌≡◌, ℕ, ◌+◌, ◌<◌, ◌≤◌, ◌^◌, Bool, true, false, List, [], ◌∷◌, ◌++◌, length, take, drop, Option, Some, None, refl, sym, ◌∙◌, ap, subst, arith, append_assoc, length-append}
+use Rattle.std.proofs.Common.{◌≡◌, ℕ, ◌<◌, ◌≤◌, Bool, true, false, List, [], ◌∷◌, ◌++◌, length, take, drop, Option, Some, None, refl, sym, ◌∙◌, ap, arith, append_assoc, length-append}
 use Rattle.std.specs.Prelude.{codes, if◌then◌else◌, nat_le}
 use Rattle.std.proofs.lemmas.Bool.Decides.{nat_tests}
 use Rattle.std.proofs.Math.Seq.{take-append_seam}
@@ -7,7 +7,7 @@ use Rattle.std.proofs.lemmas.List.{length-take-le, take-append-drop}
 use Rattle.gl_base.specs.Decimal.{decimal}
 use Rattle.gl_base.specs.Words.{pieces}
 use Rattle.gl_trace.specs.Joined.{joined}
-use Rattle.gl_trace.specs.WordRead.{number_below, stripped}
+use Rattle.gl_trace.specs.WordRead.{stripped}
 use Rattle.gl_trace.proofs.Fields.{number_field}
 use Rattle.gl_trace.proofs.Printed.{number}
 use Rattle.gl_trace.proofs.Stripping.{drop_front, stripped_back, stripped_same}
@@ -30,9 +30,9 @@ enough : (line rest : List ℕ) (count : ℕ) (parts : Parts) → line ≡ codes
     → Some (record { session = take count rest; output = drop count rest }) ≡ Some parts → line ++ (10 ∷ rest) ≡ check_text parts.session parts.output
 enough line rest count parts told few e =
     let whole : line ++ (10 ∷ rest) ≡ check_text (take count rest) (drop count rest) =
-        (λ i. told i ++ (10 ∷ sym (take-append-drop count rest) i))
-        ∙ sym (append_assoc (codes "check " ++ decimal count) (10 ∷ []) (take count rest ++ drop count rest))
-        ∙ ap (λ n. (codes "check " ++ decimal n) ++ (10 ∷ []) ++ (take count rest ++ drop count rest)) (sym (length-take-le count rest few)) in
+    (λ i. told i ++ (10 ∷ sym (take-append-drop count rest) i))
+    ∙ sym (append_assoc (codes "check " ++ decimal count) (10 ∷ []) (take count rest ++ drop count rest))
+    ∙ ap (λ n. (codes "check " ++ decimal n) ++ (10 ∷ []) ++ (take count rest ++ drop count rest)) (sym (length-take-le count rest few)) in
     let same : record { session = take count rest; output = drop count rest } ≡ parts = cc in
     whole ∙ ap (λ (p : Parts). check_text p.session p.output) same
 

@@ -1,5 +1,5 @@
 -- What is judged to be a lawful run is one, and each lawful run is judged so.
-use Rattle.std.proofs.Common.{◌≡◌, ℕ, ◌<◌, ◌≤◌, Bool, true, false, not, ◌&&◌, List, ◌++◌, length, Option, Some, None, is_some, nat_le, nat_lt, refl, sym, ◌∙◌, ap, subst, arith}
+use Rattle.std.proofs.Common.{◌≡◌, ℕ, ◌≤◌, Bool, true, false, not, ◌&&◌, List, ◌++◌, length, Option, Some, None, is_some, nat_le, nat_lt, refl, sym, ◌∙◌, ap, subst, arith}
 use Rattle.std.specs.Prelude.{if◌then◌else◌}
 use Rattle.std.specs.Str.{bytes_eq}
 use Rattle.std.proofs.lemmas.Bool.Decides.{nat_tests}
@@ -17,12 +17,12 @@ use Rattle.gl_check.specs.Misfit.{IsMisfit, MisfitIsNoneForMany, texts_of}
 use Rattle.gl_check.specs.Texts.{texts_text}
 use Rattle.gl_session.specs.declared.judging.TheConstants.{CHECK_MAX}
 use Rattle.gl_session.specs.declared.verdict.Verdict.{Verdict}
-use Rattle.gl_session.specs.declared.verdict.Verdict.TheVariants.{TooLong, Header, NoSession, NoFormat, NoEntry, NoText, Yes}
+use Rattle.gl_session.specs.declared.verdict.Verdict.TheVariants.{NoText, Yes}
 use Rattle.gl_session.specs.Judged.{RunsAreLawful}
 use Rattle.gl_session.specs.Many.{AllPlayedCameToMany}
 use Rattle.gl_session.specs.Output.{output}
-use Rattle.gl_session.specs.Verdict.{IsLawful, IsLongVerdict, IsOutputVerdict, IsPartsVerdict, IsSessionVerdict, IsVerdict, LawfulIsYes, Parts, YesIsLawful, check_text, entries_verdict, header_of, is_judged}
-use Rattle.gl_session.proofs.Causes.{not_refused, short}
+use Rattle.gl_session.specs.Verdict.{IsLawful, IsLongVerdict, IsOutputVerdict, IsPartsVerdict, IsSessionVerdict, LawfulIsYes, Parts, YesIsLawful, check_text, entries_verdict, header_of, is_judged}
+use Rattle.gl_session.proofs.Causes.{short}
 use Rattle.gl_session.proofs.FewStatements.{sentence_is_sized}
 use Rattle.gl_session.proofs.Headers.{header_back, header_read}
 use Rattle.gl_session.proofs.PrintedLines.{printed_lines}

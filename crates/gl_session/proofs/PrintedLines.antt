@@ -61,7 +61,7 @@ module _ (is_planned : Bool) (before left : ℕ → Option Told) (sections : Lis
       let actors : List ℕ = actors_text (actor_sections sections) texts.actors in
       let first : ends_lines (text_line (codes "== setup") ++ texts.setup) ≡ true = lines_end (text_line (codes "== setup")) texts.setup refl setup in
       let middle : ends_lines (text_line (codes "== setup") ++ texts.setup ++ actors) ≡ true =
-          lines_end (text_line (codes "== setup") ++ texts.setup) actors first (texts_lines (actor_sections sections) 1 texts.actors h.actors) in
+      lines_end (text_line (codes "== setup") ++ texts.setup) actors first (texts_lines (actor_sections sections) 1 texts.actors h.actors) in
       let behind : ends_lines (text_line (codes "== setup") ++ texts.setup ++ actors ++ text_line (codes "== after")) ≡ true =
-          lines_end (text_line (codes "== setup") ++ texts.setup ++ actors) (text_line (codes "== after")) middle refl in
+      lines_end (text_line (codes "== setup") ++ texts.setup ++ actors) (text_line (codes "== after")) middle refl in
       lines_end (text_line (codes "== setup") ++ texts.setup ++ actors ++ text_line (codes "== after")) texts.last behind last

@@ -1,6 +1,6 @@
 use Rattle.std.proofs.Common.{◌≡◌, ℕ, List, inl, inr, sym, ◌∙◌, subst}
 use Rattle.std.specs.Io.KnownBytes.{Appends}
-use Rattle.gl_session.specs.Verdict.{verdict_line, verdict_status}
+use Rattle.gl_session.specs.Verdict.{verdict_status}
 use Rattle.gl_session.proofs.Judgments.{ends_judged, no_fault_judged, refused_verdict}
 use Rattle.gl_session.proofs.check.answer.Goals as goal
 

@@ -1,4 +1,4 @@
-use Rattle.std.proofs.Common.{◌≡◌, sym, ◌∙◌}
+use Rattle.std.proofs.Common.{sym, ◌∙◌}
 use Rattle.gl_session.proofs.Judgments.{no_write_fault}
 use Rattle.gl_session.proofs.check.say.Goals as goal
 
