@@ -116,6 +116,14 @@ class Lines(unittest.TestCase):
             self.assertRaises(Refused, served.say, "data chip")
             self.assertRaises(Refused, served.say, "due 1")
 
+    def test_words(self) -> None:
+        """`--help` is answered, and any other words are the usage; then nothing is read."""
+        for words, status, front in ((["--help"], 0, b"gpioserved: "), (["--hel"], 2, b"usage\n"), (["--help", "me"], 2, b"usage\n"), (["\udcff"], 2, b"usage\n")):
+            with self.subTest(words=words):
+                done = subprocess.run([*program(), *words], input=b"session 1\n", stdout=subprocess.PIPE, check=False)
+                self.assertEqual((done.returncode, done.stdout[:len(front)]), (status, front))
+                self.assertEqual(done.stdout == front, status == 2)
+
     def test_many_lines_in_the_memory_of_few(self) -> None:
         turn = b"open chip gpiochip0\npoll chip\ngpioget -c 0 1\nclose chip\n"
         wanted = b"= 0\n= 2\n-\n= 13\n\"1\"=inactive\n= 0\n"

@@ -1,5 +1,5 @@
 -- What a line is answered, by what the code keeps.
-use Rattle.std.proofs.Common.{◌≡◌, ℕ, ◌+◌, ◌^◌, ◌<◌, ◌≤◌, Bool, true, false, cond, List, [], ◌++◌, length, drop, codes, Result, Ok, Err, IfOk, refl, sym, ap, ◌∙◌, subst, arith, inl, inr, length-append, length-drop, ◌∷◌}
+use Rattle.std.proofs.Common.{◌≡◌, ℕ, ◌+◌, ◌^◌, ◌<◌, ◌≤◌, Bool, true, false, cond, List, [], ◌++◌, length, drop, codes, Option, Result, Ok, Err, IfOk, refl, sym, ap, ◌∙◌, subst, arith, inl, inr, length-append, length-drop}
 use Rattle.std.proofs.lemmas.Bool.{cases_lt, le-ltb}
 use Rattle.gl_base.specs.Words.{text_at}
 use Rattle.gl_base.specs.declared.errno.Errno.{Errno}
@@ -17,43 +17,45 @@ use Rattle.gl_talk.specs.Talk.{names_in}
 use Rattle.gl_talk.specs.declared.talk.Talk.{Talk}
 use Rattle.gl_served.specs.Alone.{StandsAs}
 use Rattle.gl_served.specs.Questions.{IsData, IsReply, IsReplyTo, data_kind, due_text, moved, names_chip, question_of, read_word, shift_of, stands_for}
-use Rattle.gl_served.specs.Served.{IsAnswer, Keeps, Said, ServedValue, carried_out, kind_after, limited}
+use Rattle.gl_served.specs.Served.{IsAnswer, Keeps, Said, ServedValue, carried_out, kind_after, limited, pair_after}
+use Rattle.gl_served.specs.UnderWay.{IsTaken}
 use Rattle.gl_served.specs.declared.alone.Alone.{Alone}
 use Rattle.gl_served.specs.declared.answered.Answer.{Answer}
 use Rattle.gl_served.specs.declared.answered.Answer.TheVariants.{Text, Refused}
 use Rattle.gl_served.specs.declared.question.Question.{Question}
 use Rattle.gl_served.specs.declared.question.Question.TheVariants.{Nothing, Due, Data}
+use Rattle.gl_served.specs.declared.under_way.UnderWay.{UnderWay}
 use Rattle.gl_served.proofs.CutLines.{long_asks}
 
 -- the kind of a line
-pub short_kind : (said : Said) (line : List ℕ) (begun : ℕ) (stage : Stage) → begun ≡ length said.statements → stage ≡ said.stage → length line ≤ 8192 → limited begun (line_kind stage line) ≡ kind_after said line
-short_kind said line begun stage counted reached short =
-    ap (λ (n : ℕ). limited n (line_kind stage line)) counted
-    ∙ ap (λ (s : Stage). limited (length said.statements) (line_kind s line)) reached
-    ∙ sym (ap (λ b. cond b (Err (spot 8193 Limit)) (limited (length said.statements) (line_kind said.stage line))) (le-ltb 8192 (length line) short))
+pub short_kind : (said : Said) (line : List ℕ) (pair : Option ℕ) (stage : Stage) → pair ≡ pair_after said → stage ≡ said.stage → length line ≤ 8192 → limited pair (line_kind stage line) ≡ kind_after said line
+short_kind said line pair stage own reached short =
+    ap (λ (p : Option ℕ). limited p (line_kind stage line)) own
+    ∙ ap (λ (s : Stage). limited (pair_after said) (line_kind s line)) reached
+    ∙ sym (ap (λ b. cond b (Err (spot 8193 Limit)) (limited (pair_after said) (line_kind said.stage line))) (le-ltb 8192 (length line) short))
 
 -- a refused line
 pub refuses : (said : Said) (line : List ℕ) (kind : Result LineKind Spot) (fault : Spot) → Err fault ≡ kind → IsAnswer said line kind (Refused fault) [] said
 refuses said line kind fault is = subst (λ (k : Result LineKind Spot). IsAnswer said line k (Refused fault) [] said) is (refl, refl, refl)
 
 -- a stage more is reached
-pub reached : (before stage : Stage) (talk : Talk) (alone : Alone) (stopped : Bool) (served : ServedValue) (said : Said) → record { stage = before; talk = talk; alone = alone; stopped = stopped } ≡ served
-    → Keeps served said → Keeps (record { stage = stage; talk = talk; alone = alone; stopped = stopped }) (record { stage = stage; statements = said.statements })
-reached before stage talk alone stopped served said is keeps = record {
+pub reached : (before stage : Stage) (talk : Talk) (count : ℕ) (alone : Alone) (under_way : Option UnderWay) (served : ServedValue) (said : Said) → record { stage = before; talk = talk; count = count; alone = alone; under_way = under_way } ≡ served
+    → Keeps served said → Keeps (record { stage = stage; talk = talk; count = count; alone = alone; under_way = under_way }) (record { stage = stage; statements = said.statements })
+reached before stage talk count alone under_way served said is keeps = record {
   stage = refl;
-  begun = ap (λ (v : ServedValue). v.talk.begun) is ∙ keeps.begun;
+  count = ap (λ (v : ServedValue). v.count) is ∙ keeps.count;
   names = ap (λ (v : ServedValue). names_in v.talk) is ∙ keeps.names;
   stands = subst (λ (a : Alone). StandsAs a (carried_out said.statements).behind) (sym (ap (λ (v : ServedValue). v.alone) is)) keeps.stands;
-  goes = ap (λ (v : ServedValue). v.stopped) is ∙ keeps.goes;
+  rests = ap (λ (v : ServedValue). v.under_way) is ∙ keeps.rests;
 }
 
 -- `setup` was accepted
-pub opened_up : (before stage : Stage) (talk : Talk) (alone : Alone) (stopped : Bool) (served : ServedValue) (said : Said) → record { stage = before; talk = talk; alone = alone; stopped = stopped } ≡ served → stage ≡ opened before
-    → Keeps served said → Keeps (record { stage = stage; talk = talk; alone = alone; stopped = stopped }) (record { stage = opened said.stage; statements = said.statements })
-opened_up before stage talk alone stopped served said is opens keeps =
+pub opened_up : (before stage : Stage) (talk : Talk) (count : ℕ) (alone : Alone) (under_way : Option UnderWay) (served : ServedValue) (said : Said) → record { stage = before; talk = talk; count = count; alone = alone; under_way = under_way } ≡ served → stage ≡ opened before
+    → Keeps served said → Keeps (record { stage = stage; talk = talk; count = count; alone = alone; under_way = under_way }) (record { stage = opened said.stage; statements = said.statements })
+opened_up before stage talk count alone under_way served said is opens keeps =
     let same : opened said.stage ≡ stage = ap opened (sym keeps.stage ∙ sym (ap (λ (v : ServedValue). v.stage) is)) ∙ sym opens in
-    subst (λ s. Keeps (record { stage = stage; talk = talk; alone = alone; stopped = stopped }) (record { stage = s; statements = said.statements })) (sym same)
-    (reached before stage talk alone stopped served said is keeps)
+    subst (λ s. Keeps (record { stage = stage; talk = talk; count = count; alone = alone; under_way = under_way }) (record { stage = s; statements = said.statements })) (sym same)
+    (reached before stage talk count alone under_way served said is keeps)
 
 module _ (result : Result Answer Errno) (old new : List ℕ) (now : ServedValue) (said : Said) where
   -- by what the line is
@@ -70,6 +72,18 @@ module _ (result : Result Answer Errno) (old new : List ℕ) (now : ServedValue)
       subst (λ (l : List ℕ). IfOk result (λ answer. (text : List ℕ) × (then : Said) × (new ≡ old ++ text) × IsData said l other answer text then × Keeps now then)) same
       (subst (λ (k : Result LineKind Spot). IfOk result (λ answer. (text : List ℕ) × (then : Said) × (new ≡ old ++ text) × IsData said line k answer text then × Keeps now then)) is told)
 
+  pub reads_by : (line : List ℕ) (kind : Result LineKind Spot) (reads other : Bool) → reads ≡ other
+      → IfOk result (λ answer. (text : List ℕ) × (then : Said) × (new ≡ old ++ text) × IsTaken reads said line kind answer text then × Keeps now then)
+      → IfOk result (λ answer. (text : List ℕ) × (then : Said) × (new ≡ old ++ text) × IsTaken other said line kind answer text then × Keeps now then)
+  reads_by line kind reads other is told =
+      subst (λ (r : Bool). IfOk result (λ answer. (text : List ℕ) × (then : Said) × (new ≡ old ++ text) × IsTaken r said line kind answer text then × Keeps now then)) is told
+
+  pub kind_by : (line : List ℕ) (reads : Bool) (kind other : LineKind) → kind ≡ other
+      → IfOk result (λ answer. (text : List ℕ) × (then : Said) × (new ≡ old ++ text) × IsTaken reads said line (Ok kind) answer text then × Keeps now then)
+      → IfOk result (λ answer. (text : List ℕ) × (then : Said) × (new ≡ old ++ text) × IsTaken reads said line (Ok other) answer text then × Keeps now then)
+  kind_by line reads kind other is told =
+      subst (λ (k : LineKind). IfOk result (λ answer. (text : List ℕ) × (then : Said) × (new ≡ old ++ text) × IsTaken reads said line (Ok k) answer text then × Keeps now then)) is told
+
   -- by which question it is
   pub replied_by : (line : List ℕ) (q : Question) → question_of said.stage line ≡ q
       → IfOk result (λ answer. (text : List ℕ) × (then : Said) × (new ≡ old ++ text) × IsReplyTo q said line answer text then × Keeps now then)
@@ -78,13 +92,17 @@ module _ (result : Result Answer Errno) (old new : List ℕ) (now : ServedValue)
       subst (λ (p : Question). IfOk result (λ answer. (text : List ℕ) × (then : Said) × (new ≡ old ++ text) × IsReplyTo p said line answer text then × Keeps now then)) (sym is) told
 
 -- what isn't a statement is answered as any line
-pub read_plainly : (result : Result Answer Errno) (old new : List ℕ) (now : ServedValue) (said : Said) (line : List ℕ) (kind : LineKind) → (kind ≡ Statement → ⊥)
-    → IfOk result (λ answer. (text : List ℕ) × (then : Said) × (new ≡ old ++ text) × IsAnswer said line (Ok kind) answer text then × Keeps now then)
-    → IfOk result (λ answer. (text : List ℕ) × (then : Said) × (new ≡ old ++ text) × IsData said line (Ok kind) answer text then × Keeps now then)
-read_plainly result old new now said line Passed other told = told
-read_plainly result old new now said line (Header version) other told = told
-read_plainly result old new now said line Setup other told = told
-read_plainly result old new now said line Statement other told = absurd (other refl)
+read_plainly : (said : Said) (line : List ℕ) (kind : LineKind) (answer : Answer) (text : List ℕ) (then : Said) → (kind ≡ Statement → ⊥)
+    → IsAnswer said line (Ok kind) answer text then → IsData said line (Ok kind) answer text then
+read_plainly said line Passed answer text then other told = told
+read_plainly said line (Header version) answer text then other told = told
+read_plainly said line Setup answer text then other told = told
+read_plainly said line Statement answer text then other told = absurd (other refl)
+
+pub taken_plainly : (reads : Bool) (said : Said) (line : List ℕ) (kind : LineKind) (answer : Answer) (text : List ℕ) (then : Said) → (kind ≡ Statement → ⊥)
+    → IsAnswer said line (Ok kind) answer text then → IsTaken reads said line (Ok kind) answer text then
+taken_plainly false said line kind answer text then other told = told
+taken_plainly true said line kind answer text then other told = read_plainly said line kind answer text then other told
 
 pub refuses_data : (said : Said) (line : List ℕ) (kind : Result LineKind Spot) (fault : Spot) → Err fault ≡ kind → IsData said line kind (Refused fault) [] said
 refuses_data said line kind fault is = subst (λ (k : Result LineKind Spot). IsData said line k (Refused fault) [] said) is (refl, refl, refl)
@@ -122,10 +140,10 @@ module _ (said : Said) (line statement : List ℕ) (names : Names) (chip : Bool)
   pub stands : statement ≡ stands_for (carried_out said.statements).value line
   stands = made ∙ ap (λ b. read_word b ++ drop 5 line) chip_named
 
-  pub kind_told : (begun shift : ℕ) (stage : Stage) (kind other told : Result LineKind Spot) → begun ≡ length said.statements → stage ≡ said.stage → shift ≡ shift_of chip
-      → kind ≡ line_kind stage statement → other ≡ moved shift kind → told ≡ limited begun other → told ≡ data_kind said line
-  kind_told begun shift stage kind other told counted reach by first then last =
-      last ∙ ap (λ (n : ℕ). limited n other) counted
-      ∙ ap (λ (k : Result LineKind Spot). limited (length said.statements) k)
+  pub kind_told : (pair : Option ℕ) (shift : ℕ) (stage : Stage) (kind other told : Result LineKind Spot) → pair ≡ pair_after said → stage ≡ said.stage → shift ≡ shift_of chip
+      → kind ≡ line_kind stage statement → other ≡ moved shift kind → told ≡ limited pair other → told ≡ data_kind said line
+  kind_told pair shift stage kind other told own reach by first then last =
+      last ∙ ap (λ (p : Option ℕ). limited p other) own
+      ∙ ap (λ (k : Result LineKind Spot). limited (pair_after said) k)
       (then ∙ ap (λ (k : Result LineKind Spot). moved shift k) (first ∙ ap (λ (s : Stage). line_kind s statement) reach ∙ ap (λ (l : List ℕ). line_kind said.stage l) stands)
       ∙ ap (λ (n : ℕ). moved n (line_kind said.stage (stands_for (carried_out said.statements).value line))) (by ∙ ap (λ b. shift_of b) chip_named))

@@ -18,7 +18,7 @@ use Rattle.gl_served.specs.declared.question.Question.{Question}
 use Rattle.gl_served.specs.declared.question.Question.TheVariants.{Nothing}
 use Rattle.gl_served.specs.Frames.{AreFrames, frame_of}
 use Rattle.gl_served.specs.Questions.{IsReply, IsReplyTo, question_in, question_of}
-use Rattle.gl_served.specs.Served.{IsAnswer, Keeps, Said, ServedValue, kind_after, limited, nothing_said}
+use Rattle.gl_served.specs.Served.{IsAnswer, Keeps, Said, ServedValue, kind_after, limited, nothing_said, pair_after}
 use Rattle.gl_served.specs.CutLines.{HasServed, HasServedAll, HasServedLines, ServesTo, WroteFront, count_after, is_line, joined, with_rest}
 use Rattle.gl_served.specs.declared.answered.Answer.{Answer}
 use Rattle.gl_served.proofs.Known.{appends_more, appends_nothing}
@@ -67,7 +67,7 @@ long_asks (Headed version) line long = refl
 long_asks (Open version) line long = ap (λ b. cond b Nothing (question_in line)) (lt-ltb 8192 (length line) long)
 
 pub long_kind : (said : Said) (line : List ℕ) → 8192 < length line → kind_after said line ≡ Err (spot 8193 Limit)
-long_kind said line long = ap (λ b. cond b (Err (spot 8193 Limit)) (limited (length said.statements) (line_kind said.stage line))) (lt-ltb 8192 (length line) long)
+long_kind said line long = ap (λ b. cond b (Err (spot 8193 Limit)) (limited (pair_after said) (line_kind said.stage line))) (lt-ltb 8192 (length line) long)
 
 long_reply : (said : Said) (line : List ℕ) (answer : Answer) (text : List ℕ) (then : Said) → 8192 < length line → IsReply said line answer text then ≡ IsAnswer said [] (Err (spot 8193 Limit)) answer text then
 long_reply said line answer text then long =

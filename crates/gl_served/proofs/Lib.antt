@@ -3,6 +3,7 @@ mod Closed
 mod CutLines
 mod Guards
 mod Known
+mod Listed
 mod Numbered
 mod Numbers
 mod Running

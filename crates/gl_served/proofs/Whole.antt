@@ -1,5 +1,5 @@
 -- The text of what was accepted is One.
-use Rattle.std.proofs.Common.{◌≡◌, ℕ, List, [], ◌∷◌, ◌++◌, map, refl, sym, ◌∙◌, ap}
+use Rattle.std.proofs.Common.{◌≡◌, ◌≤◌, ◌+◌, ℕ, List, [], ◌∷◌, ◌++◌, length, map, refl, sym, ◌∙◌, ap, arith}
 use Rattle.std.proofs.lemmas.List.{append-nil}
 use Rattle.gl_base.specs.Words.{Span, span}
 use Rattle.gl_args.specs.Program.{done}
@@ -10,7 +10,11 @@ use Rattle.gl_talk.specs.Talk.{closes_all, says}
 use Rattle.gl_base.specs.declared.operation.Do.TheVariants.{Close}
 use Rattle.gl_check.specs.One.{PlannedPort, Ran, Standing, behind_setup, from_plan, performs, run, run_actor, said_in_kind}
 use Rattle.gl_served.specs.Served.{Said, start}
+use Rattle.gl_served.specs.Port.{unplanned}
+use Rattle.gl_served.specs.declared.limits.TheConstants.{PAIRS}
 use Rattle.gl_served.specs.Whole.{TextIsOne, session_of}
+use Rattle.gl_served.proofs.Listed.{planned_is_one}
+use Rattle.gl_served.proofs.Running.{carried_says}
 
 -- closing prints nothing
 closes_silently : (slots : List ℕ) (s : Standing PlannedPort) → (run from_plan (closes_all slots) s).text ≡ []
@@ -31,6 +35,10 @@ ends_silently said setup =
     ∙ append-nil (setup.text ++ []) ∙ append-nil setup.text
 
 pub text_is_one : TextIsOne
-text_is_one said = sym (
+text_is_one said few =
+    let within : 0 + length said.statements ≤ PAIRS = omega (arith, few) in
+    ap (λ (ran : Ran PlannedPort Names). ran.text) (carried_says said.statements 0 (record { text = []; value = no_names; behind = start }) within)
+    ∙ sym (
     ends_silently said (run from_plan (says 0 (said_in_kind Setup (session_of said)) done no_names) start)
     ∙ ap (λ (words : List (List Span)). (run from_plan (says 0 words done no_names) start).text) (statements_same said))
+    ∙ planned_is_one (session_of said) unplanned

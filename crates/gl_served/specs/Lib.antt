@@ -8,6 +8,7 @@ pub mod Opening
 pub mod Port
 pub mod Questions
 pub mod Rows
-pub mod Running
 pub mod Served
+pub mod Slots
+pub mod UnderWay
 pub mod Whole

@@ -7,7 +7,7 @@ use Rattle.gl_uapi.specs.declared.commands.Command.{Command}
 use Rattle.gl_uapi.specs.declared.commands.Command.TheVariants.{GetLine, SetConfig}
 use Rattle.gl_model.specs.declared.device_call.DeviceCall.{DeviceCall}
 use Rattle.gl_model.specs.declared.device_call.DeviceCall.TheVariants.{Once, Removing, Commanding}
-use Rattle.gl_check.specs.One.{PlannedPort}
+use Rattle.gl_check.specs.One.{PlannedPort, from_plan}
 use Rattle.gl_served.specs.declared.port.Planned.{Planned}
 
 -- no call, no plan and accepted bits 0
@@ -33,9 +33,9 @@ next_to (Once call) port = next_answer false port
 next_to (Removing removal) port = next_answer false port
 next_to (Commanding c) port = next_answer (applies (command_of c.cmd)) port
 
--- after an answer more
+-- after an answer more; what it was asked for plays no part
 abbrev pub after_answer : PlannedPort → PlannedPort
-after_answer port = record { calls = counted_up port.calls; plan = port.plan; bits = port.bits }
+after_answer port = from_plan.behind None port
 
 -- after an answer, where there was one
 abbrev pub after_asking : Bool → PlannedPort → PlannedPort

@@ -19,9 +19,10 @@ use Rattle.gl_script.specs.declared.served.LineKind.TheVariants.{Statement}
 use Rattle.gl_script.specs.declared.served.Stage.{Stage}
 use Rattle.gl_script.specs.declared.served.Stage.TheVariants.{Opening, Headed, Open}
 use Rattle.gl_talk.specs.Open.{Names, file_of, is_chip_file}
-use Rattle.gl_talk.specs.Talk.{does, slot_behind}
+use Rattle.gl_talk.specs.Talk.{does}
 use Rattle.gl_check.specs.One.{PlannedPort, Standing, from_plan, performs}
-use Rattle.gl_served.specs.Served.{IsAnswer, Said, carried_out, kind_after, limited, said_after, text_of}
+use Rattle.gl_served.specs.Served.{IsAnswer, Said, carried_out, kind_after, limited, pair_after, said_after, text_of}
+use Rattle.gl_served.specs.Slots.{slot_of}
 use Rattle.gl_served.specs.declared.answered.Answer.{Answer}
 use Rattle.gl_served.specs.declared.answered.Answer.TheVariants.{Text}
 use Rattle.gl_served.specs.declared.question.Question.{Question}
@@ -68,12 +69,12 @@ shift_of false = 2
 abbrev pub data_kind : Said → List ℕ → Result LineKind Spot
 data_kind said line =
     let names = (carried_out said.statements).value in
-    limited (length said.statements) (moved (shift_of (names_chip names line)) (line_kind said.stage (stands_for names line)))
+    limited (pair_after said) (moved (shift_of (names_chip names line)) (line_kind said.stage (stands_for names line)))
 
--- what the first operation of a program is answered, if it asks for one
+-- what the first operation of a program is answered, if it asks for one; what it prints before plays no part
 abbrev pub first_got : {A : Type 0} → Program A → Standing PlannedPort → Option Got
 first_got (done value) s = None
-first_got (print text p) s = None
+first_got (print text p) s = first_got p s
 first_got (ask what p) s = Some (performs from_plan what s).0
 
 -- bytes as a line
@@ -99,7 +100,7 @@ pub record IsRead (said : Said) (line : List ℕ) (text : List ℕ) (after : Sai
   pub extra : List ℕ
   pub after_is : after ≡ said_after Statement line said
   pub adds : text_of after ≡ text_of said ++ extra
-  pub shows : text ≡ shown (first_got (does (carried_out said.statements).value (slot_behind (length said.statements)) (columns line)) (carried_out said.statements).behind) extra
+  pub shows : text ≡ shown (first_got (does (carried_out said.statements).value (slot_of (pair_after said)) (columns line)) (carried_out said.statements).behind) extra
 
 abbrev pub IsData : Said → List ℕ → Result LineKind Spot → Answer → List ℕ → Said → Type 0
 IsData said line (Ok Statement) answer text after = (answer ≡ Text) × IsRead said line text after

@@ -1,6 +1,5 @@
 -- A session that is served: what was accepted of it so far, and what that comes to. This project's choice.
-use Rattle.std.specs.Prelude.{◌≡◌, ℕ, Bool, false, nat_lt, nat_le, if◌then◌else◌, List, [], ◌∷◌, ◌++◌, length, map, Result, Ok, Err}
-use Rattle.gl_args.specs.Program.{done}
+use Rattle.std.specs.Prelude.{◌≡◌, ℕ, ◌+◌, nat_lt, min, if◌then◌else◌, List, [], ◌∷◌, ◌++◌, length, Option, None, Some, Result, Ok, Err}
 use Rattle.gl_model.specs.World.{opening}
 use Rattle.gl_script.specs.Columns.{columns}
 use Rattle.gl_script.specs.Faults.{spot}
@@ -12,22 +11,34 @@ use Rattle.gl_script.specs.declared.served.LineKind.TheVariants.{Passed, Header,
 use Rattle.gl_script.specs.declared.served.Stage.{Stage}
 use Rattle.gl_script.specs.declared.served.Stage.TheVariants.{Opening, Headed}
 use Rattle.gl_talk.specs.Open.{Names, no_names}
-use Rattle.gl_talk.specs.Talk.{names_in, says}
+use Rattle.gl_talk.specs.Talk.{does, names_in}
 use Rattle.gl_talk.specs.declared.talk.Talk.{Talk}
-use Rattle.gl_check.specs.One.{PlannedPort, Ran, Standing, from_plan, run}
+use Rattle.gl_check.specs.One.{PlannedPort, Ran, Standing, behind_text, from_plan, run}
 use Rattle.gl_served.specs.Alone.{StandsAs}
 use Rattle.gl_served.specs.Port.{unplanned}
+use Rattle.gl_served.specs.Slots.{pair_behind, slot_of}
+use Rattle.gl_served.specs.declared.limits.TheConstants.{PAIRS}
 use Rattle.gl_served.specs.declared.alone.Alone.{Alone}
 use Rattle.gl_served.specs.declared.answered.Answer.{Answer}
 use Rattle.gl_served.specs.declared.answered.Answer.TheVariants.{Text, Refused}
+use Rattle.gl_served.specs.declared.under_way.UnderWay.{UnderWay}
 
 -- a new machine, without an open file, and a new port
 abbrev pub start : Standing PlannedPort
 start = record { world = opening; files = []; source = unplanned; took = []; entries = 0 }
 
--- what One makes of statements in a row, over a planned driver
+-- a statement behind so many others is carried out, over a planned driver
+abbrev pub stated : ℕ → Ran PlannedPort Names → List ℕ → Ran PlannedPort Names
+stated count ran line = behind_text ran.text (run from_plan (does ran.value (slot_of (pair_behind count ran.behind.files)) (columns line)) ran.behind)
+
+-- statements in a row, behind so many others
+abbrev pub carried_from : ℕ → Ran PlannedPort Names → List (List ℕ) → Ran PlannedPort Names
+carried_from count ran [] = ran
+carried_from count ran (line ∷ lines) = carried_from (count + 1) (stated count ran line) lines
+
+-- what statements in a row come to
 abbrev pub carried_out : List (List ℕ) → Ran PlannedPort Names
-carried_out statements = run from_plan (says 0 (map columns statements) done no_names) start
+carried_out statements = carried_from 0 (record { text = []; value = no_names; behind = start }) statements
 
 -- what was accepted so far: how far the session has come, and the lines of its statements
 pub record Said : Type 0 where
@@ -48,31 +59,44 @@ said_after Statement line said = record { stage = said.stage; statements = said.
 abbrev pub text_of : Said → List ℕ
 text_of said = (carried_out said.statements).text
 
--- A line has at most 8192 bytes, and a session at most 2^31 - 1 statements.
-abbrev pub limited : ℕ → Result LineKind Spot → Result LineKind Spot
-limited count (Ok Statement) = if nat_le 2147483647 count then Err (spot 1 Limit) else Ok Statement
-limited count kind = kind
+-- the pair of slots of the next statement
+abbrev pub pair_after : Said → Option ℕ
+pair_after said = pair_behind (length said.statements) (carried_out said.statements).behind.files
+
+-- A line has at most 8192 bytes, and a statement a pair of slots.
+abbrev pub in_pair : Option ℕ → Result LineKind Spot
+in_pair None = Err (spot 1 Limit)
+in_pair (Some pair) = Ok Statement
+
+abbrev pub limited : Option ℕ → Result LineKind Spot → Result LineKind Spot
+limited pair (Ok Statement) = in_pair pair
+limited pair kind = kind
+
+-- so many statements were counted, where the count stands still once no pair is a statement's own
+abbrev pub counted : ℕ → ℕ
+counted count = min count PAIRS
 
 -- what a line is, after what was accepted, or why it is refused
 abbrev pub kind_after : Said → List ℕ → Result LineKind Spot
-kind_after said line = if nat_lt 8192 (length line) then Err (spot 8193 Limit) else limited (length said.statements) (line_kind said.stage line)
+kind_after said line = if nat_lt 8192 (length line) then Err (spot 8193 Limit) else limited (pair_after said) (line_kind said.stage line)
 
 -- A line is answered: a refused one counts as not given, and of an accepted one the answer is just what it adds to the session's text.
 abbrev pub IsAnswer : Said → List ℕ → Result LineKind Spot → Answer → List ℕ → Said → Type 0
 IsAnswer said line (Err fault) answer text after = (answer ≡ Refused fault) × (text ≡ []) × (after ≡ said)
 IsAnswer said line (Ok kind) answer text after = (answer ≡ Text) × (after ≡ said_after kind line said) × (text_of after ≡ text_of said ++ text)
 
--- what the code keeps of it; it is stopped once memory was wanted
+-- what the code keeps of it; a line is under way once memory was wanted in its midst
 pub record ServedValue : Type 0 where
   pub stage : Stage
   pub talk : Talk
+  pub count : ℕ
   pub alone : Alone
-  pub stopped : Bool
+  pub under_way : Option UnderWay
 
--- it keeps just what was accepted
+-- it keeps just what was accepted, and no line is under way
 pub record Keeps (served : ServedValue) (said : Said) : Type 0 where
   pub stage : served.stage ≡ said.stage
-  pub begun : served.talk.begun ≡ length said.statements
+  pub count : served.count ≡ counted (length said.statements)
   pub names : names_in served.talk ≡ (carried_out said.statements).value
   pub stands : StandsAs served.alone (carried_out said.statements).behind
-  pub goes : served.stopped ≡ false
+  pub rests : served.under_way ≡ None

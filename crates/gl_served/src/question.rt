@@ -1,9 +1,9 @@
 //! Lines that are no statements of a session, and what they print.
 
-ghost use Rattle.std.specs.Prelude.{◌≡◌, ◌++◌, ℕ, List, drop, IfOk, OnOk, IsOkUnless};
+ghost use Rattle.std.specs.Prelude.{◌≡◌, ◌++◌, ℕ, List, drop, IfOk, OnOk, OnErr, IsOkUnless};
 ghost use Rattle.gl_served.specs.Questions.{bytes_text_line, due_text, moment_text, moved, question_in, question_of, read_word, shift_of, shown, text_or};
 
-use crate::served::LINE_MAX;
+use crate::limits::LINE_MAX;
 use gl_base::{ByteList, Errno, Got, put_bytes, put_decimal};
 use gl_script::{LineKind, Spot, Stage};
 use std::alloc::Global;
@@ -46,14 +46,15 @@ fn question_in(line: &[u8]) -> Question
     Question::Nothing
 }
 
-/// Appends the earliest deadline, or `-`, as a line.
-pub fn put_due(moment: Option<u64>, out: &mut Vec<u8>) -> Result<(), Errno>
-    ensures ok { OnOk result (out.new.items ≡ out.old.items ++ due_text moment) }
+/// The earliest deadline, or `-`, as a line.
+pub fn due_line(alloc: Global, moment: Option<u64>) -> Result<Vec<u8>, Errno>
+    ensures ok { IfOk result (λ line. line.items ≡ due_text moment) }
     ensures memory_alone { IsOkUnless result Errno.NoMemory }
 {
-    put_moment(moment, out)?;
-    out.push(b'\n')?;
-    Ok(())
+    let mut line = Vec::new(alloc);
+    put_moment(moment, &mut line)?;
+    line.push(b'\n')?;
+    Ok(line)
 }
 
 fn put_moment(moment: Option<u64>, out: &mut Vec<u8>) -> Result<(), Errno>
@@ -140,9 +141,10 @@ fn line_of_bytes(alloc: Global, bytes: &[u8]) -> Result<ByteList, Errno>
     Ok(ByteList::of(line))
 }
 
-/// Appends the first of two texts, or the second where there is no first.
+/// Appends the first of two texts, or the second where there is no first. Where memory is wanted nothing is appended.
 pub fn put_text_or(first: &Option<ByteList>, text: &[u8], out: &mut Vec<u8>) -> Result<(), Errno>
     ensures ok { OnOk result (out.new.items ≡ out.old.items ++ text_or first.now text.now) }
+    ensures kept { OnErr result (out.new.items ≡ out.old.items) }
     ensures memory_alone { IsOkUnless result Errno.NoMemory }
 {
     match first {

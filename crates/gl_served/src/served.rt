@@ -1,46 +1,47 @@
 //! A session whose lines come one by one, each answered at once.
 
-ghost use Rattle.std.specs.Prelude.{◌≡◌, ◌<◌, ◌≤◌, ◌+◌, ◌++◌, ◌∷◌, [], ℕ, List, None, Some, Ok, Err, true, false, length, IfOk, OnOk, OnErr, IsOkUnless, IsTrue};
-ghost use Rattle.gl_args.specs.Program.{done, given};
+ghost use Rattle.std.specs.Prelude.{◌≡◌, ◌≢◌, ◌<◌, ◌≤◌, ◌+◌, ◌++◌, ◌∷◌, [], ℕ, List, None, Some, Ok, Err, true, false, length, map, IfSome, IfOk, OnOk, OnErr, IsOkUnless};
+ghost use Rattle.gl_args.specs.Program.{Program, done};
 ghost use Rattle.gl_base.specs.Rows.{Each};
-ghost use Rattle.gl_asking.specs.Rows.{IsRow};
+ghost use Rattle.gl_asking.specs.Rows.{IsRow, row_file};
 ghost use Rattle.gl_script.specs.declared.served.LineKind.TheVariants.{Statement};
+ghost use Rattle.gl_talk.specs.Open.{Names};
 ghost use Rattle.gl_talk.specs.Talk.{left, names_in};
 ghost use Rattle.gl_check.specs.One.{PlannedPort, Standing};
-ghost use Rattle.gl_served.specs.Alone.{StandsAs};
 ghost use Rattle.gl_served.specs.Closing.{IsEnded};
 ghost use Rattle.gl_debounce.specs.Earliest.{earliest};
-ghost use Rattle.gl_served.specs.Questions.{IsData, IsReply, data_kind, due_text, first_got, shown, stands_for, text_or};
-ghost use Rattle.gl_served.specs.Running.{RunsOn};
-ghost use Rattle.gl_served.specs.Served.{IsAnswer, Keeps, Said, carried_out, kind_after, limited, nothing_said};
+ghost use Rattle.gl_served.specs.Questions.{IsData, IsReply, data_kind, due_text, question_of, stands_for};
+ghost use Rattle.gl_served.specs.Served.{IsAnswer, Keeps, Said, carried_out, counted, kind_after, limited, nothing_said};
+ghost use Rattle.gl_served.specs.Slots.{pair_behind};
+ghost use Rattle.gl_served.specs.declared.limits.TheConstants.{PAIRS};
+ghost use Rattle.gl_served.specs.UnderWay.{Asked, CanAnswer, HasBegun, HasGone, IsAsBefore, IsGoing, IsLeft, IsOther, IsSameSession, IsTaken, IsUnderWay, left_by, statement_for, text_shown, told_by};
+ghost use Rattle.gl_served.specs.declared.question.Question.TheVariants.{Data, Nothing};
 
 use crate::alone::Alone;
 use crate::answered::Answer;
+use crate::limits::{LINE_MAX, PAIRS};
 use crate::question::{
-    Question, behind_data, bytes_line, moved, put_due, put_text_or, question_of, read_statement,
-    shift_of,
+    Question, behind_data, due_line, moved, question_of, read_statement, shift_of,
 };
-use gl_args::Next;
-use gl_base::{ByteList, Errno, Got};
+use crate::slots::pair_behind;
+use crate::under_way::{Step, UnderWay};
+use gl_base::{Do, Errno, Got};
 use gl_script::{LineKind, RefusalKind, Spot, Stage, line_kind, text_at};
 use gl_talk::Talk;
 use std::alloc::Global;
 use std::marker::Model;
-
-/// How many bytes a line has at most.
-pub const LINE_MAX: usize = 8192;
-
-/// How many statements a session has at most.
-const STATEMENTS_MAX: u32 = 2_147_483_647;
+use std::mem;
 
 /// A session, as far as it has come: its machine, and its talk. It keeps no line and no history, so it grows with what is open alone.
 #[derive(Drop)]
 pub struct Served {
     stage: Stage,
     talk: Talk,
+    /// How many statements were accepted; it stands still once no pair of slots is a statement's own.
+    count: u32,
     alone: Alone,
-    /// Memory was wanted, and a statement may have been carried out in part.
-    stopped: bool,
+    /// The line that was begun, where memory was wanted before its end.
+    under_way: Option<UnderWay>,
 }
 
 impl Model for Served {
@@ -51,25 +52,32 @@ impl Model for Served {
 
     ghost Value = { ServedValue };
 
-    ghost view = { λ s. record { stage = s.stage; talk = s.talk; alone = s.alone; stopped = s.stopped } };
+    ghost view = { λ s. record { stage = s.stage; talk = s.talk; count = s.count; alone = s.alone; under_way = s.under_way } };
 
     ghost invariant = { λ s. Each IsRow s.alone.rows.items × (s.talk.begun ≤ 2147483647) };
 }
 
-/// A line of a kind, where a session with so many statements may have one more of it.
-fn limited(begun: u32, kind: Result<LineKind, Spot>) -> Result<LineKind, Spot>
-    ensures limited { result ≡ limited begun kind }
-    ensures room { result ≡ Ok Statement → begun < 2147483647 }
+/// So many statements, and one more.
+fn counted(count: u32) -> u32
+    ensures { (statements : ℕ) → count ≡ counted statements → result ≡ counted (statements + 1) }
+{
+    if count < PAIRS { count + 1 } else { count }
+}
+
+/// A line of a kind, where a statement has this pair of slots.
+fn limited(pair: Option<u32>, kind: Result<LineKind, Spot>) -> Result<LineKind, Spot>
+    ensures limited { result ≡ limited pair kind }
+    ensures room { result ≡ Ok Statement → pair ≢ None }
 {
     match kind {
         Ok(LineKind::Statement) => {
-            if begun >= STATEMENTS_MAX {
-                return Err(Spot {
+            match pair {
+                Some(_) => Ok(LineKind::Statement),
+                None => Err(Spot {
                     column: 1,
                     kind: RefusalKind::Limit,
-                });
+                }),
             }
-            Ok(LineKind::Statement)
         }
         Ok(LineKind::Passed) => Ok(LineKind::Passed),
         Ok(LineKind::Header(version)) => Ok(LineKind::Header(version)),
@@ -89,65 +97,93 @@ impl Served {
         Ok(Served {
             stage: Stage::Opening,
             talk,
+            count: 0,
             alone,
-            stopped: false,
+            under_way: None,
         })
     }
 
     /// Answers a line, and appends what it prints. What was accepted so far, with this line, has just so much more text; a refused line
-    /// counts as not given. `due` and `data` are questions (`specs/Questions`). `NoMemory` alone is an error: a statement may have been
-    /// carried out in part then, so it is stopped, and every later line is answered so.
+    /// counts as not given. `due` and `data` are questions (`specs/Questions`).
+    ///
+    /// `NoMemory` alone is an error. Then nothing is appended, what was accepted is as it was, and the line is still to be answered: given
+    /// again, it is answered as it would have been. Where it was begun it goes on from where it stood, and until it is answered any other
+    /// line is an error too, and changes nothing.
     pub fn answer(&mut self, alloc: Global, line: &[u8], out: &mut Vec<u8>) -> Result<Answer, Errno>
-        ensures answered { (said : Said) → Keeps self.old said → IfOk result (λ answer. (text : List ℕ) × (then : Said)
+        ensures answered { (said : Said) → CanAnswer self.old said line.now → IfOk result (λ answer. (text : List ℕ) × (then : Said)
             × (out.new.items ≡ out.old.items ++ text) × IsReply said line.now answer text then × Keeps self.new then) }
-        ensures stops { OnErr result (self.new.stopped ≡ true) }
-        ensures stopped { self.old.stopped ≡ true → (result ≡ Err Errno.NoMemory) × (self.new ≡ self.old) × (out.new ≡ out.old) }
+        ensures kept { (said : Said) → CanAnswer self.old said line.now → OnErr result (CanAnswer self.new said line.now) }
+        ensures out_kept { OnErr result (out.new.items ≡ out.old.items) }
+        ensures other { IsOther self.old.under_way line.now → (result ≡ Err Errno.NoMemory) × (self.new ≡ self.old) }
         ensures memory_alone { IsOkUnless result Errno.NoMemory }
     {
-        if self.stopped {
-            return Err(Errno::NoMemory);
-        }
-        match self.reply(alloc, line, out) {
-            Ok(answer) => Ok(answer),
-            Err(errno) => {
-                self.stopped = true;
-                Err(errno)
-            }
+        match self.under_way.take() {
+            None => self.reply(alloc, line, out),
+            Some(under_way) => self.resume(alloc, under_way, line, out),
         }
     }
 
-    /// Answers a line or a question, where nothing has stopped it.
+    /// Answers a line or a question, where no line is under way.
     fn reply(&mut self, alloc: Global, line: &[u8], out: &mut Vec<u8>) -> Result<Answer, Errno>
         ensures answered { (said : Said) → Keeps self.old said → IfOk result (λ answer. (text : List ℕ) × (then : Said)
             × (out.new.items ≡ out.old.items ++ text) × IsReply said line.now answer text then × Keeps self.new then) }
+        ensures kept { (said : Said) → Keeps self.old said → OnErr result (CanAnswer self.new said line.now) }
+        ensures out_kept { OnErr result (out.new.items ≡ out.old.items) }
         ensures memory_alone { IsOkUnless result Errno.NoMemory }
     {
         match question_of(self.stage, line) {
             Question::Nothing => self.say(alloc, line, out),
-            Question::Due => self.due(out),
+            Question::Due => self.due(alloc, out),
             Question::Data => self.data(alloc, line, out),
         }
+    }
+
+    /// Goes on with the line that is under way, where it is given again.
+    fn resume(
+        &mut self,
+        alloc: Global,
+        under_way: UnderWay,
+        line: &[u8],
+        out: &mut Vec<u8>,
+    ) -> Result<Answer, Errno>
+        ensures answered { (said : Said) → self.old.under_way ≡ None → IsUnderWay under_way self.old said line.now → IfOk result (λ answer. (text : List ℕ) × (then : Said)
+            × (out.new.items ≡ out.old.items ++ text) × IsReply said line.now answer text then × Keeps self.new then) }
+        ensures kept { (said : Said) → IsUnderWay under_way self.old said line.now → OnErr result (CanAnswer self.new said line.now) }
+        ensures out_kept { OnErr result (out.new.items ≡ out.old.items) }
+        ensures other { under_way.line.items ≢ line.now → (result ≡ Err Errno.NoMemory) × (self.new ≡ record self.old { under_way = Some under_way }) }
+        ensures memory_alone { IsOkUnless result Errno.NoMemory }
+    {
+        if under_way.is_line(line) {
+            return self.go_on(alloc, under_way, out);
+        }
+        self.under_way = Some(under_way);
+        Err(Errno::NoMemory)
     }
 
     /// Answers a line of the session.
     fn say(&mut self, alloc: Global, line: &[u8], out: &mut Vec<u8>) -> Result<Answer, Errno>
         ensures answered { (said : Said) → Keeps self.old said → IfOk result (λ answer. (text : List ℕ) × (then : Said)
             × (out.new.items ≡ out.old.items ++ text) × IsAnswer said line.now (kind_after said line.now) answer text then × Keeps self.new then) }
+        ensures kept { (said : Said) → Keeps self.old said → question_of said.stage line.now ≡ Nothing → OnErr result (CanAnswer self.new said line.now) }
+        ensures out_kept { OnErr result (out.new.items ≡ out.old.items) }
         ensures memory_alone { IsOkUnless result Errno.NoMemory }
     {
         match self.kind(line) {
-            Ok(kind) => self.accept(alloc, kind, line, out),
+            Ok(kind) => self.take(alloc, kind, false, line, line, out),
             Err(spot) => Ok(Answer::Refused(spot)),
         }
     }
 
     /// Answers `due`.
-    fn due(&mut self, out: &mut Vec<u8>) -> Result<Answer, Errno>
+    fn due(&mut self, alloc: Global, out: &mut Vec<u8>) -> Result<Answer, Errno>
         ensures answered { (said : Said) → Keeps self.old said → IfOk result (λ answer. (answer ≡ Answer.Text)
             × (out.new.items ≡ out.old.items ++ due_text (earliest (carried_out said.statements).behind.world.timers)) × Keeps self.new said) }
+        ensures kept { OnErr result (self.new ≡ self.old) }
+        ensures out_kept { OnErr result (out.new.items ≡ out.old.items) }
         ensures memory_alone { IsOkUnless result Errno.NoMemory }
     {
-        put_due(self.alone.core.due(), out)?;
+        let text = due_line(alloc, self.alone.core.due())?;
+        out.extend_from_slice(&text)?;
         Ok(Answer::Text)
     }
 
@@ -156,43 +192,34 @@ impl Served {
         requires { length line.now ≤ 8192 }
         ensures answered { (said : Said) → Keeps self.old said → IfOk result (λ answer. (text : List ℕ) × (then : Said)
             × (out.new.items ≡ out.old.items ++ text) × IsData said (stands_for (carried_out said.statements).value line.now) (data_kind said line.now) answer text then × Keeps self.new then) }
+        ensures kept { (said : Said) → Keeps self.old said → question_of said.stage line.now ≡ Data → OnErr result (CanAnswer self.new said line.now) }
+        ensures out_kept { OnErr result (out.new.items ≡ out.old.items) }
         ensures memory_alone { IsOkUnless result Errno.NoMemory }
     {
         let rest = behind_data(line);
         let of_chip = self.talk.has_chip(text_at(0, 1, rest));
         let statement = read_statement(alloc, of_chip, rest)?;
         match limited(
-            self.talk.begun,
+            self.pair(),
             moved(shift_of(of_chip), line_kind(self.stage, &statement)),
         ) {
-            Ok(kind) => self.accept_data(alloc, kind, &statement, out),
+            Ok(kind) => self.take(alloc, kind, true, line, &statement, out),
             Err(spot) => Ok(Answer::Refused(spot)),
         }
     }
 
-    /// Accepts the line of a kind that a `data` stands for.
-    fn accept_data(
-        &mut self,
-        alloc: Global,
-        kind: LineKind,
-        line: &[u8],
-        out: &mut Vec<u8>,
-    ) -> Result<Answer, Errno>
-        requires room { kind ≡ Statement → self.old.talk.begun < 2147483647 }
-        ensures answered { (said : Said) → Keeps self.old said → IfOk result (λ answer. (text : List ℕ) × (then : Said)
-            × (out.new.items ≡ out.old.items ++ text) × IsData said line.now (Ok kind) answer text then × Keeps self.new then) }
-        ensures memory_alone { IsOkUnless result Errno.NoMemory }
+    /// The pair of slots of the next statement.
+    fn pair(&self) -> Option<u32>
+        ensures pair { result ≡ pair_behind self.now.count (map row_file self.now.alone.rows.items) }
+        ensures within { IfSome result (λ pair. pair < PAIRS) }
     {
-        match kind {
-            LineKind::Statement => self.read(alloc, line, out),
-            _ => self.accept(alloc, kind, line, out),
-        }
+        pair_behind(self.count, &self.alone.rows)
     }
 
     /// What a line is, or why it is refused.
     fn kind(&self, line: &[u8]) -> Result<LineKind, Spot>
         ensures kind { (said : Said) → Keeps self.now said → result ≡ kind_after said line.now }
-        ensures room { result ≡ Ok Statement → self.now.talk.begun < 2147483647 }
+        ensures room { result ≡ Ok Statement → pair_behind self.now.count (map row_file self.now.alone.rows.items) ≢ None }
     {
         if line.len() > LINE_MAX {
             return Err(Spot {
@@ -200,144 +227,207 @@ impl Served {
                 kind: RefusalKind::Limit,
             });
         }
-        limited(self.talk.begun, line_kind(self.stage, line))
+        limited(self.pair(), line_kind(self.stage, line))
     }
 
-    /// Accepts a line of a kind.
-    fn accept(
+    /// Accepts a line of a kind, or the one that a `data` stands for.
+    fn take(
         &mut self,
         alloc: Global,
         kind: LineKind,
+        reads: bool,
         line: &[u8],
+        statement: &[u8],
         out: &mut Vec<u8>,
     ) -> Result<Answer, Errno>
-        requires room { kind ≡ Statement → self.old.talk.begun < 2147483647 }
-        ensures accepted { (said : Said) → Keeps self.old said → IfOk result (λ answer. (text : List ℕ) × (then : Said)
-            × (out.new.items ≡ out.old.items ++ text) × IsAnswer said line.now (Ok kind) answer text then × Keeps self.new then) }
+        requires room { kind ≡ Statement → pair_behind self.old.count (map row_file self.old.alone.rows.items) ≢ None }
+        ensures answered { (said : Said) → Keeps self.old said → IfOk result (λ answer. (text : List ℕ) × (then : Said)
+            × (out.new.items ≡ out.old.items ++ text) × IsTaken reads said statement.now (Ok kind) answer text then × Keeps self.new then) }
+        ensures kept { (said : Said) → Keeps self.old said → (kind ≡ Statement → Asked reads said line.now) → statement.now ≡ statement_for reads said line.now → OnErr result (CanAnswer self.new said line.now) }
+        ensures out_kept { OnErr result (out.new.items ≡ out.old.items) }
         ensures memory_alone { IsOkUnless result Errno.NoMemory }
     {
         match kind {
-            LineKind::Passed => Ok(Answer::Text),
-            LineKind::Header(version) => {
-                self.stage = Stage::Headed(version);
+            LineKind::Statement => self.begin(alloc, reads, line, statement, out),
+            _ => {
+                self.accept(kind);
                 Ok(Answer::Text)
             }
-            LineKind::Setup => {
-                self.stage = LineKind::Setup.stage_after(self.stage);
-                Ok(Answer::Text)
-            }
-            LineKind::Statement => self.statement(alloc, line, out),
         }
     }
 
-    /// Carries a statement out.
-    fn statement(&mut self, alloc: Global, line: &[u8], out: &mut Vec<u8>) -> Result<Answer, Errno>
-        requires room { self.old.talk.begun < 2147483647 }
-        ensures accepted { (said : Said) → Keeps self.old said → IfOk result (λ answer. (text : List ℕ) × (then : Said)
-            × (out.new.items ≡ out.old.items ++ text) × IsAnswer said line.now (Ok Statement) answer text then × Keeps self.new then) }
-        ensures memory_alone { IsOkUnless result Errno.NoMemory }
+    /// Accepts a line of a kind that is no statement.
+    fn accept(&mut self, kind: LineKind)
+        requires { kind ≢ Statement }
+        ensures { (said : Said) (line : List ℕ) → Keeps self.old said → (then : Said) × IsAnswer said line (Ok kind) Answer.Text [] then × Keeps self.new then }
     {
-        self.talk.begin(alloc, line)?;
-        match self.play(alloc, out, None) {
-            Ok(()) => Ok(Answer::Text),
-            Err(errno) => Err(errno),
+        match kind {
+            LineKind::Passed => {}
+            LineKind::Header(version) => self.stage = Stage::Headed(version),
+            LineKind::Setup => self.stage = LineKind::Setup.stage_after(self.stage),
+            LineKind::Statement => unreachable!(),
         }
     }
 
-    /// Carries a statement out that reads, and appends the bytes that it read in place of what it prints.
-    fn read(&mut self, alloc: Global, line: &[u8], out: &mut Vec<u8>) -> Result<Answer, Errno>
-        requires room { self.old.talk.begun < 2147483647 }
-        ensures answered { (said : Said) → Keeps self.old said → IfOk result (λ answer. (text : List ℕ) × (then : Said)
-            × (out.new.items ≡ out.old.items ++ text) × IsData said line.now (Ok Statement) answer text then × Keeps self.new then) }
-        ensures memory_alone { IsOkUnless result Errno.NoMemory }
-    {
-        self.talk.begin(alloc, line)?;
-        let mut printed = Vec::new(alloc);
-        let read = self.play_reading(alloc, &mut printed)?;
-        put_text_or(&read, &printed, out)?;
-        Ok(Answer::Text)
-    }
-
-    /// Carries the talk out until it rests. Gives the bytes that its first operation read, as a line, if that read any.
-    fn play_reading(&mut self, alloc: Global, out: &mut Vec<u8>) -> Result<Option<ByteList>, Errno>
-        ensures kept { OnOk result ((self.new.talk.begun ≡ self.old.talk.begun) × (self.new.stage ≡ self.old.stage) × (self.new.stopped ≡ self.old.stopped)) }
-        ensures played { (s : Standing PlannedPort) → StandsAs self.old.alone s → OnOk result (RunsOn (given (left self.old.talk) None) s out.old.items
-            (done (names_in self.new.talk)) self.new.alone out.new.items) }
-        ensures read { (s : Standing PlannedPort) → StandsAs self.old.alone s → IfOk result (λ read. (text : List ℕ) → shown (first_got (given (left self.old.talk) None) s) text ≡ text_or read text) }
-        ensures memory_alone { IsOkUnless result Errno.NoMemory }
-    {
-        let mut got = None;
-        match self.turn(alloc, out, &mut got) {
-            Ok(true) => {
-                let read = bytes_line(alloc, &got)?;
-                self.play(alloc, out, got)?;
-                Ok(read)
-            }
-            Ok(false) => Ok(None),
-            Err(errno) => Err(errno),
-        }
-    }
-
-    /// Closes the files that are open, in the order of their numbers: the session is at its end. `NoMemory` alone is an error: some of them
-    /// may be closed then.
-    pub fn close(&mut self, alloc: Global) -> Result<(), Errno>
-        ensures ended { (said : Said) → Keeps self.old said → OnOk result (IsEnded said self.new) }
-        ensures none_open { OnOk result (self.new.alone.rows.items ≡ []) }
-        ensures memory_alone { IsOkUnless result Errno.NoMemory }
-    {
-        self.alone.close_all(alloc)
-    }
-
-    /// What the talk does next, done. False at the end of what is under way.
-    fn turn(
+    /// Begins a statement, that of a line or of a `data`, and carries it out.
+    fn begin(
         &mut self,
         alloc: Global,
+        reads: bool,
+        line: &[u8],
+        statement: &[u8],
         out: &mut Vec<u8>,
-        got: &mut Option<Got>,
-    ) -> Result<bool, Errno>
-        ensures kept { OnOk result ((self.new.talk.begun ≡ self.old.talk.begun) × (self.new.stage ≡ self.old.stage) × (self.new.stopped ≡ self.old.stopped)) }
-        ensures taken { (s : Standing PlannedPort) → StandsAs self.old.alone s → IfOk result (λ more. IsTrue more
-            → RunsOn (given (left self.old.talk) got.old) s out.old.items (given (left self.new.talk) got.new) self.new.alone out.new.items) }
-        ensures first { (s : Standing PlannedPort) → StandsAs self.old.alone s → IfOk result (λ more. IsTrue more → got.new ≡ first_got (given (left self.old.talk) got.old) s) }
-        ensures ended { IfOk result (λ more. more ≡ false
-            → (given (left self.old.talk) got.old ≡ done (names_in self.new.talk)) × (self.new.alone ≡ self.old.alone) × (out.new ≡ out.old)) }
+    ) -> Result<Answer, Errno>
+        requires room { pair_behind self.old.count (map row_file self.old.alone.rows.items) ≢ None }
+        ensures answered { (said : Said) → Keeps self.old said → IfOk result (λ answer. (text : List ℕ) × (then : Said)
+            × (out.new.items ≡ out.old.items ++ text) × IsTaken reads said statement.now (Ok Statement) answer text then × Keeps self.new then) }
+        ensures kept { (said : Said) → Keeps self.old said → Asked reads said line.now → statement.now ≡ statement_for reads said line.now → OnErr result (CanAnswer self.new said line.now) }
+        ensures out_kept { OnErr result (out.new.items ≡ out.old.items) }
         ensures memory_alone { IsOkUnless result Errno.NoMemory }
     {
-        match self.talk.next(alloc, got.as_ref()) {
-            Ok(Next::Call(what)) => match self.alone.perform(alloc, &what) {
-                Ok(result_of) => {
-                    *got = Some(result_of);
-                    Ok(true)
-                }
-                Err(errno) => Err(errno),
-            },
-            Ok(Next::Print(piece)) => match out.extend_from_slice(piece.as_slice()) {
-                Ok(()) => {
-                    *got = None;
-                    Ok(true)
-                }
-                Err(_) => Err(Errno::NoMemory),
-            },
-            Ok(Next::End) => Ok(false),
+        match self.pair() {
+            Some(pair) => self.begin_in(alloc, pair, reads, line, statement, out),
+            None => unreachable!(),
+        }
+    }
+
+    /// The same in a pair of slots.
+    fn begin_in(
+        &mut self,
+        alloc: Global,
+        pair: u32,
+        reads: bool,
+        line: &[u8],
+        statement: &[u8],
+        out: &mut Vec<u8>,
+    ) -> Result<Answer, Errno>
+        requires pair { Some pair ≡ pair_behind self.old.count (map row_file self.old.alone.rows.items) }
+        requires within { pair < PAIRS }
+        ensures answered { (said : Said) → Keeps self.old said → IfOk result (λ answer. (text : List ℕ) × (then : Said)
+            × (out.new.items ≡ out.old.items ++ text) × IsTaken reads said statement.now (Ok Statement) answer text then × Keeps self.new then) }
+        ensures kept { (said : Said) → Keeps self.old said → Asked reads said line.now → statement.now ≡ statement_for reads said line.now → OnErr result (CanAnswer self.new said line.now) }
+        ensures out_kept { OnErr result (out.new.items ≡ out.old.items) }
+        ensures memory_alone { IsOkUnless result Errno.NoMemory }
+    {
+        let under_way = UnderWay::new(alloc, reads, line)?;
+        self.talk.begun = pair;
+        self.talk.begin(alloc, statement)?;
+        self.count = counted(self.count);
+        self.go_on(alloc, under_way, out)
+    }
+
+    /// Goes on with a line that is under way. Where memory is wanted it is left so.
+    fn go_on(
+        &mut self,
+        alloc: Global,
+        under_way: UnderWay,
+        out: &mut Vec<u8>,
+    ) -> Result<Answer, Errno>
+        ensures answered { (said : Said) (line : List ℕ) → self.old.under_way ≡ None → HasBegun under_way self.old said line → IfOk result (λ answer. (text : List ℕ) × (then : Said)
+            × (out.new.items ≡ out.old.items ++ text) × IsTaken under_way.reads said line (Ok Statement) answer text then × Keeps self.new then) }
+        ensures left { (said : Said) (line : List ℕ) → HasBegun under_way self.old said line → OnErr result (IsLeft self.new.under_way under_way.line.items under_way.reads self.new said line) }
+        ensures out_kept { OnErr result (out.new.items ≡ out.old.items) }
+        ensures memory_alone { IsOkUnless result Errno.NoMemory }
+    {
+        let mut under_way = under_way;
+        match self.finish(alloc, &mut under_way, out) {
+            Ok(()) => Ok(Answer::Text),
+            Err(errno) => {
+                self.under_way = Some(under_way);
+                Err(errno)
+            }
+        }
+    }
+
+    /// Carries a line that is under way out to its end, and appends what it prints.
+    fn finish(
+        &mut self,
+        alloc: Global,
+        going: &mut UnderWay,
+        out: &mut Vec<u8>,
+    ) -> Result<(), Errno>
+        ensures session { IsSameSession self.old self.new }
+        ensures line { IsAsBefore going.old going.new }
+        ensures gone { (p : Program Names) (s : Standing PlannedPort) → IsGoing p s going.old self.old → IsGoing p s going.new self.new }
+        ensures ended { OnOk result (left_by (left self.new.talk) going.new.step ≡ done (names_in self.new.talk)) }
+        ensures told { OnOk result (told_by going.new.step ≡ None) }
+        ensures text { OnOk result (out.new.items ≡ out.old.items ++ text_shown going.new.reads going.new.first going.new.printed.items) }
+        ensures out_kept { OnErr result (out.new.items ≡ out.old.items) }
+        ensures memory_alone { IsOkUnless result Errno.NoMemory }
+    {
+        match self.play(alloc, going) {
+            Ok(()) => going.give(alloc, out),
             Err(errno) => Err(errno),
         }
     }
 
-    /// Carries the talk out until it rests, from the result of its last operation on, if it waits for one.
-    fn play(&mut self, alloc: Global, out: &mut Vec<u8>, first: Option<Got>) -> Result<(), Errno>
-        ensures kept { OnOk result ((self.new.talk.begun ≡ self.old.talk.begun) × (self.new.stage ≡ self.old.stage) × (self.new.stopped ≡ self.old.stopped)) }
-        ensures played { (s : Standing PlannedPort) → StandsAs self.old.alone s → OnOk result (RunsOn (given (left self.old.talk) first) s out.old.items
-            (done (names_in self.new.talk)) self.new.alone out.new.items) }
+    /// Carries a line that is under way out to the end of its statement.
+    fn play(&mut self, alloc: Global, going: &mut UnderWay) -> Result<(), Errno>
+        ensures session { IsSameSession self.old self.new }
+        ensures line { IsAsBefore going.old going.new }
+        ensures gone { (p : Program Names) (s : Standing PlannedPort) → IsGoing p s going.old self.old → IsGoing p s going.new self.new }
+        ensures ended { OnOk result (left_by (left self.new.talk) going.new.step ≡ done (names_in self.new.talk)) }
+        ensures told { OnOk result (told_by going.new.step ≡ None) }
         ensures memory_alone { IsOkUnless result Errno.NoMemory }
     {
-        let mut got = first;
         for _ in 0..u64::MAX {
-            match self.turn(alloc, out, &mut got) {
+            match self.turn(alloc, going) {
                 Ok(true) => {}
                 Ok(false) => return Ok(()),
                 Err(errno) => return Err(errno),
             }
         }
         Err(Errno::NoMemory)
+    }
+
+    /// What comes next of a line, done. False at the end of its statement.
+    fn turn(&mut self, alloc: Global, going: &mut UnderWay) -> Result<bool, Errno>
+        ensures session { IsSameSession self.old self.new }
+        ensures line { IsAsBefore going.old going.new }
+        ensures gone { (p : Program Names) (s : Standing PlannedPort) → IsGoing p s going.old self.old → IsGoing p s going.new self.new }
+        ensures ended { IfOk result (λ more. more ≡ false → left_by (left self.new.talk) going.new.step ≡ done (names_in self.new.talk)) }
+        ensures told { IfOk result (λ more. more ≡ false → told_by going.new.step ≡ None) }
+        ensures memory_alone { IsOkUnless result Errno.NoMemory }
+    {
+        match mem::replace(&mut going.step, Step::Told(None)) {
+            Step::Told(got) => self.tell(alloc, going, got),
+            Step::Asks(what) => self.carry_out(alloc, going, &what),
+            Step::Prints(text) => going.print(text),
+        }
+    }
+
+    /// Asks the talk what it does next, by this result.
+    fn tell(&mut self, alloc: Global, going: &mut UnderWay, got: Option<Got>) -> Result<bool, Errno>
+        ensures session { IsSameSession self.old self.new }
+        ensures line { IsAsBefore going.old going.new }
+        ensures gone { (p : Program Names) (s : Standing PlannedPort) → HasGone p s (Step.Told got) going.old.first going.old.printed.items (left self.old.talk) self.old.alone → IsGoing p s going.new self.new }
+        ensures ended { IfOk result (λ more. more ≡ false → left_by (left self.new.talk) going.new.step ≡ done (names_in self.new.talk)) }
+        ensures told { IfOk result (λ more. more ≡ false → told_by going.new.step ≡ None) }
+        ensures memory_alone { IsOkUnless result Errno.NoMemory }
+    {
+        let next = self.talk.next(alloc, got.as_ref());
+        going.told(next, got)
+    }
+
+    /// Carries an operation out.
+    fn carry_out(&mut self, alloc: Global, going: &mut UnderWay, what: &Do) -> Result<bool, Errno>
+        ensures session { IsSameSession self.old self.new }
+        ensures line { IsAsBefore going.old going.new }
+        ensures gone { (p : Program Names) (s : Standing PlannedPort) → HasGone p s (Step.Asks what.now) going.old.first going.old.printed.items (left self.old.talk) self.old.alone → IsGoing p s going.new self.new }
+        ensures more { IfOk result (λ more. more ≡ true) }
+        ensures memory_alone { IsOkUnless result Errno.NoMemory }
+    {
+        let got = self.alone.perform(alloc, what);
+        going.did(what, got)
+    }
+
+    /// Closes the files that are open, in the order of their numbers: the session is at its end. `NoMemory` alone is an error: some of them
+    /// may be closed then, and called again it closes the others.
+    pub fn close(&mut self, alloc: Global) -> Result<(), Errno>
+        ensures ended { (said : Said) → Keeps self.old said → OnOk result (IsEnded said self.new) }
+        ensures none_open { OnOk result (self.new.alone.rows.items ≡ []) }
+        ensures memory_alone { IsOkUnless result Errno.NoMemory }
+    {
+        self.alone.close_all(alloc)
     }
 }

@@ -9,7 +9,8 @@ ghost use Rattle.gl_served.specs.Served.{Keeps, Said, ServedValue, nothing_said}
 
 use crate::ended::Ended;
 use crate::frames::frame_of;
-use crate::served::{LINE_MAX, Served};
+use crate::limits::LINE_MAX;
+use crate::served::Served;
 use crate::streams::write_all;
 use gl_base::{Errno, count_up};
 use gl_io::{Sink, Source};

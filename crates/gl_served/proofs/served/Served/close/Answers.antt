@@ -7,6 +7,6 @@ use Rattle.gl_served.proofs.served.Served.close.Goals as goal
 
 pub returns-clause-ended : goal.returns-clause-ended
 returns-clause-ended c = λ said keeps.
-    ended_so c.close_all.result c.close_all.new.self said c.self.inside.stage c.self.inside.talk c.self.inside.stopped
+    ended_so c.close_all.result c.close_all.new.self said c.self.inside.stage c.self.inside.talk c.self.inside.count c.self.inside.under_way
     (c.close_all.ensures.closed (carried_out said.statements).behind (subst (λ (a : Alone). StandsAs a (carried_out said.statements).behind) (sym (ap (λ (v : ServedValue). v.alone) c.self.view_is)) keeps.stands))
     c.close_all.ensures.none_open

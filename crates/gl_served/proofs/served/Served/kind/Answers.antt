@@ -4,6 +4,7 @@ use Rattle.gl_script.specs.declared.served.LineKind.{LineKind}
 use Rattle.gl_served.specs.Served.{ServedValue, limited}
 use Rattle.gl_served.proofs.Answering.{short_kind}
 use Rattle.gl_served.proofs.CutLines.{long_kind}
+use Rattle.gl_served.proofs.Running.{pair_kept}
 use Rattle.gl_served.proofs.served.Served.kind.Goals as goal
 
 pub returns-then-line-gt-LINE_MAX-clause-kind : goal.returns-then-line-gt-LINE_MAX-clause-kind
@@ -12,5 +13,5 @@ returns-then-line-gt-LINE_MAX-clause-kind c = λ said keeps. sym (long_kind said
 pub returns-clause-kind : goal.returns-clause-kind
 returns-clause-kind c = λ said keeps.
     let short : length c.args.line.now ≤ 8192 = omega arith in
-    c.limited.ensures.limited ∙ ap (λ (k : Result LineKind Spot). limited c.self.inside.talk.begun k) c.line_kind.ensures
-    ∙ short_kind said c.args.line.now c.self.inside.talk.begun c.self.inside.stage (ap (λ (v : ServedValue). v.talk.begun) c.self.view_is ∙ keeps.begun) (ap (λ (v : ServedValue). v.stage) c.self.view_is ∙ keeps.stage) short
+    c.limited.ensures.limited ∙ ap (λ (k : Result LineKind Spot). limited c.pair.result k) c.line_kind.ensures
+    ∙ short_kind said c.args.line.now c.pair.result c.self.inside.stage (c.pair.ensures.pair ∙ pair_kept c.args.self.now said keeps) (ap (λ (v : ServedValue). v.stage) c.self.view_is ∙ keeps.stage) short

@@ -5,8 +5,8 @@ use Rattle.gl_served.proofs.served.Served.new.Goals as goal
 pub returns-clause-ok : goal.returns-clause-ok
 returns-clause-ok c = record {
   stage = refl;
-  begun = c.in_ok-talk.ensures.ok.1;
+  count = refl;
   names = c.in_ok-talk.ensures.ok.0;
   stands = record { world = c.in_ok-alone.ensures.ok.0; files = ap (map row_file) c.in_ok-alone.ensures.ok.1; source = c.in_ok-alone.ensures.ok.2 };
-  goes = refl;
+  rests = refl;
 }

@@ -1,23 +1,31 @@
-use Rattle.std.proofs.Common.{ℕ, Vec, Global, ap, refl, ◌∙◌, rules}
-use Rattle.gl_talk.specs.Talk.{names_in}
-use Rattle.gl_served.proofs.Running.{runs_further, runs_nothing, runs_out}
+use Rattle.std.proofs.Common.{refl}
+use Rattle.gl_served.proofs.Running.{same_line, same_session}
 use Rattle.gl_served.proofs.served.Served.play.Goals as goal
 
 pub loop-init : goal.loop-init
-loop-init c = (refl, refl, refl, λ s stands. runs_nothing _ s _ _ stands)
+loop-init c = (record { count = refl; stage = refl; under_way = refl }, record { line = refl; reads = refl }, λ p s going. going)
 
 pub loop-preserved : goal.loop-preserved
 loop-preserved c = (
-  c.in-Ok-true.ensures.kept.0 ∙ c.loop.invariant.0,
-  c.in-Ok-true.ensures.kept.1 ∙ c.loop.invariant.1,
-  c.in-Ok-true.ensures.kept.2 ∙ c.loop.invariant.2,
-  λ s stands. let first = c.loop.invariant.3 s stands in
-      runs_further _ s _ _ _ _ first _ _ _ (c.in-Ok-true.ensures.taken first.standing first.stands (search rules)),
+  same_session _ _ _ c.loop.invariant.0 c.turn.ensures.session,
+  same_line _ _ _ c.loop.invariant.1 c.turn.ensures.line,
+  λ p s going. c.turn.ensures.gone p s (c.loop.invariant.2 p s going),
 )
 
-pub returns-in-Ok-false-clause-played : goal.returns-in-Ok-false-clause-played
-returns-in-Ok-false-clause-played c = λ s stands.
-    let first = c.loop.invariant.3 s stands in
-    let ended = c.in-Ok-false.ensures.ended c.in-Ok-false.field-0-test in
-    runs_further _ s _ _ _ _ first _ _ _
-    (runs_out _ first.standing _ (names_in c.turn.new.self.talk) c.loop.self.alone c.turn.new.self.alone c.turn.new.out.items first.stands ended.0 ended.1 (ap (λ (v : Vec ℕ Global). v.items) ended.2))
+pub returns-in-Ok-false-clause-session : goal.returns-in-Ok-false-clause-session
+returns-in-Ok-false-clause-session c = same_session _ _ _ c.loop.invariant.0 c.turn.ensures.session
+
+pub returns-in-Ok-false-clause-line : goal.returns-in-Ok-false-clause-line
+returns-in-Ok-false-clause-line c = same_line _ _ _ c.loop.invariant.1 c.turn.ensures.line
+
+pub returns-in-Ok-false-clause-gone : goal.returns-in-Ok-false-clause-gone
+returns-in-Ok-false-clause-gone c = λ p s going. c.turn.ensures.gone p s (c.loop.invariant.2 p s going)
+
+pub returns-in-Err-clause-session : goal.returns-in-Err-clause-session
+returns-in-Err-clause-session c = same_session _ _ _ c.loop.invariant.0 c.turn.ensures.session
+
+pub returns-in-Err-clause-line : goal.returns-in-Err-clause-line
+returns-in-Err-clause-line c = same_line _ _ _ c.loop.invariant.1 c.turn.ensures.line
+
+pub returns-in-Err-clause-gone : goal.returns-in-Err-clause-gone
+returns-in-Err-clause-gone c = λ p s going. c.turn.ensures.gone p s (c.loop.invariant.2 p s going)

@@ -1,8 +1,11 @@
-use Rattle.std.proofs.Common.{ap, sym, ◌∙◌}
+use Rattle.std.proofs.Common.{ap, sym, subst, ◌∙◌}
+use Rattle.std.proofs.lemmas.Result.{on_err_weaker}
 use Rattle.gl_served.specs.Questions.{question_of}
 use Rattle.gl_served.specs.Served.{ServedValue}
+use Rattle.gl_served.specs.UnderWay.{CanAnswer}
 use Rattle.gl_served.specs.declared.question.Question.TheVariants.{Nothing, Due, Data}
 use Rattle.gl_served.proofs.Answering.{asked, data_short, due_told, replied_by}
+use Rattle.gl_served.proofs.Running.{keeps_can}
 use Rattle.gl_served.proofs.served.Served.reply.Goals as goal
 
 pub data-requires : goal.data-requires
@@ -25,3 +28,17 @@ returns-in-Data-clause-answered c = λ said keeps.
     replied_by c.data.result c.args.out.now.items c.data.new.out.items c.data.new.self said c.args.line.now Data
     (asked c.args.self.now said c.args.line.now c.question_of.result Data keeps (c.question_of.ensures ∙ ap (λ (v : ServedValue). question_of v.stage c.args.line.now) c.self.view_is) c.in-Data.is)
     (c.data.ensures.answered said keeps)
+
+pub returns-in-Nothing-clause-kept : goal.returns-in-Nothing-clause-kept
+returns-in-Nothing-clause-kept c = λ said keeps.
+    c.say.ensures.kept said keeps
+    (asked c.args.self.now said c.args.line.now c.question_of.result Nothing keeps (c.question_of.ensures ∙ ap (λ (v : ServedValue). question_of v.stage c.args.line.now) c.self.view_is) c.in-Nothing.is)
+
+pub returns-in-Due-clause-kept : goal.returns-in-Due-clause-kept
+returns-in-Due-clause-kept c = λ said keeps.
+    on_err_weaker c.due.result (λ same. subst (λ (v : ServedValue). CanAnswer v said c.args.line.now) (sym same) (keeps_can c.args.self.now said c.args.line.now keeps)) c.due.ensures.kept
+
+pub returns-in-Data-clause-kept : goal.returns-in-Data-clause-kept
+returns-in-Data-clause-kept c = λ said keeps.
+    c.data.ensures.kept said keeps
+    (asked c.args.self.now said c.args.line.now c.question_of.result Data keeps (c.question_of.ensures ∙ ap (λ (v : ServedValue). question_of v.stage c.args.line.now) c.self.view_is) c.in-Data.is)

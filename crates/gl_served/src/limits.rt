@@ -1,0 +1,7 @@
+//! The limits of a session that is served.
+
+/// How many bytes a line has at most.
+pub const LINE_MAX: usize = 8192;
+
+/// How many pairs of slots there are: so many statements of a session have slots of their own.
+pub const PAIRS: u32 = 2_147_483_647;
