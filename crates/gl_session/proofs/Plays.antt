@@ -107,18 +107,24 @@ module _ {A B : Type 0} (is_planned : Bool) (f : A → Program B) where
   }
 
 -- The same of views, files, ports and texts that are the same.
-module _ {A : Type 0} (is_planned : Bool) (p q : Program A) (v : OneView) (s : Carried) where
-  pub plays_as : (t0 : List ℕ) (w : OneView) (r : Carried) (t1 : List ℕ) (v' : OneView) (s' : Carried) (t0' : List ℕ) (w' : OneView) (r' : Carried) (t1' : List ℕ)
-      → v ≡ v' → s.files ≡ s'.files → s.told ≡ s'.told → t0 ≡ t0' → w ≡ w' → r.files ≡ r'.files → r.told ≡ r'.told → t1 ≡ t1'
+module _ {A : Type 0} (is_planned : Bool) (p q : Program A) where
+  pub plays_as : (v : OneView) (s : Carried) (t0 : List ℕ) (w : OneView) (r : Carried) (t1 : List ℕ) (v' : OneView) (s' : Carried) (t0' : List ℕ) (w' : OneView) (r' : Carried) (t1' : List ℕ)
+      → v ≡ v' → s.files ≡ s'.files → s.told ≡ s'.told → t0 ≡ t0' → w' ≡ w → r.files ≡ r'.files → r'.told ≡ r.told → t1' ≡ t1
       → PlaysOn is_planned p v s t0 q w r t1 → PlaysOn is_planned p v' s' t0' q w' r' t1'
-  plays_as t0 w r t1 v' s' t0' w' r' t1' view files told text view_then files_then told_then text_then played =
+  plays_as v s t0 w r t1 v' s' t0' w' r' t1' view files told text view_then files_then told_then text_then played =
       subst (λ (x : OneView × Carried × List ℕ × OneView × Carried × List ℕ). PlaysOn is_planned p x.0 x.1 x.2 q x.3 x.4 x.5)
-      (λ i. (view i, record { files = files i; told = told i }, text i, view_then i, record { files = files_then i; told = told_then i }, text_then i)) played
+      (λ i. (view i, record { files = files i; told = told i }, text i, sym view_then i, record { files = files_then i; told = sym told_then i }, sym text_then i)) played
 
-module _ {A : Type 0} (is_planned : Bool) (p : Program A) (v : OneView) (s : Carried) where
-  pub stops_as : (w : OneView) (v' : OneView) (s' : Carried) (w' : OneView) → v ≡ v' → s.files ≡ s'.files → s.told ≡ s'.told → w ≡ w' → StoppedFull is_planned p v s w → StoppedFull is_planned p v' s' w'
-  stops_as w v' s' w' view files told view_then stopped =
-      subst (λ (x : OneView × Carried × OneView). StoppedFull is_planned p x.0 x.1 x.2) (λ i. (view i, record { files = files i; told = told i }, view_then i)) stopped
+  -- the text was taken behind it
+  pub text_taken : (v : OneView) (s : Carried) (t0 : List ℕ) (w : OneView) (r : Carried) (t1 : List ℕ) (w' : OneView) (r' : Carried) (t1' : List ℕ) → t0 ≡ [] → w' ≡ w → r' ≡ r → t1' ≡ t1
+      → PlaysOn is_planned p v s t0 q w r t1 → PlaysOn is_planned p v s [] q w' r' t1'
+  text_taken v s t0 w r t1 w' r' t1' empty view carried text played =
+      subst (λ (x : List ℕ × OneView × Carried × List ℕ). PlaysOn is_planned p v s x.0 q x.1 x.2 x.3) (λ i. (empty i, sym view i, sym carried i, sym text i)) played
+
+module _ {A : Type 0} (is_planned : Bool) (p : Program A) where
+  pub stops_as : (v : OneView) (s : Carried) (w : OneView) (v' : OneView) (s' : Carried) → v ≡ v' → s.files ≡ s'.files → s.told ≡ s'.told → StoppedFull is_planned p v s w → StoppedFull is_planned p v' s' w
+  stops_as v s w v' s' view files told stopped =
+      subst (λ (x : OneView × Carried). StoppedFull is_planned p x.0 x.1 w) (λ i. (view i, record { files = files i; told = told i })) stopped
 
 -- one turn of a client: what it does next, and what is left to it
 module _ {A : Type 0} (is_planned : Bool) (p : Program A) (v : OneView) (s : Carried) (text : List ℕ) where

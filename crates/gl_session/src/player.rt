@@ -63,7 +63,6 @@ impl<'d, D: Driver<Core>> Player<'d, D> {
     ghost use Rattle.gl_chip.specs.Orders.{AnswersOrder, FitsOrder, WroteTo, op_ordered};
     ghost use Rattle.gl_chip.specs.Steps.{FoundNoRoom};
     ghost use Rattle.gl_chip.specs.Values.{IsActorOf};
-    ghost use Rattle.gl_check.specs.Turns.{carried};
     ghost use Rattle.gl_session.specs.Performed.{Performs};
 
     /// An actor of this device that has no file open and has printed nothing.
@@ -71,7 +70,8 @@ impl<'d, D: Driver<Core>> Player<'d, D> {
         requires actor { IsActorOf device.now actor }
         ensures device { result.gate ≡ device.now }
         ensures view { result.view ≡ actor.pass.view }
-        ensures carried { result.carried ≡ carried [] (D.Port.told actor.port) }
+        ensures files { result.carried.files ≡ [] }
+        ensures told { result.carried.told ≡ D.Port.told actor.port }
         ensures text { result.text ≡ [] }
     {
         Player {

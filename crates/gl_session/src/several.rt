@@ -56,7 +56,8 @@ fn fork<R: Threads + Wait + Sync, D: Driver<Core>>(
     requires count { (length (actor_sections (sections_of script.now)) < 256) × (length (actor_sections (sections_of script.now)) < length ports.old) }
     requires there { (n : ℕ) → 1 ≤ n → n < length ports.old → there_at ports.old n ≡ true }
     ensures device { first.new.gate ≡ first.old.gate }
-    ensures carried { first.new.carried ≡ first.old.carried }
+    ensures files { first.new.carried.files ≡ first.old.carried.files }
+    ensures told { first.new.carried.told ≡ first.old.carried.told }
     ensures text { first.new.text ≡ first.old.text }
     ensures forked { IfOk result (λ texts. HasForked D.Port.told D.is_planned (program_of (sections_of script.now)) (length (actor_sections (sections_of script.now)))
         first.old.view ports.old first.new.view texts.items ports.new) }

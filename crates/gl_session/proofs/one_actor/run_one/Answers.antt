@@ -2,7 +2,6 @@ use Rattle.std.proofs.Common.{◌≡◌, ℕ, Option, ap, length, rules, subst, 
 use Rattle.gl_driver.specs.Told.{Told}
 use Rattle.gl_script.specs.Script.{sections_of}
 use Rattle.gl_chip.specs.Values.{OneView}
-use Rattle.gl_check.specs.Turns.{Carried}
 use Rattle.gl_session.specs.OneActor.{CameWithEntries, HasPlayed}
 use Rattle.gl_session.proofs.Whole.{came_with_entries}
 use Rattle.gl_session.proofs.one_actor.run_one.Goals as goal
@@ -17,7 +16,7 @@ returns-in-Ok-play_session-clause-came g c =
     (sym c.into_actor-actor.ensures.view) c.in-Ok-play_session.ensures.played in
     subst (λ (x : Option Told × Option Told × ℕ). CameWithEntries g.D.Driver.is_planned (sections_of c.args.script.now) x.0 c.in-Ok-play_session.text.items x.1 x.2)
     (λ i. (
-      (ap (λ (k : Carried). k.told) c.new-player.ensures.carried ∙ ap t c.in-Ok.ensures.port) i,
+      (c.new-player.ensures.told ∙ ap t c.in-Ok.ensures.port) i,
       (sym c.into_actor-actor.ensures.port ∙ ap t (sym f.port)) i,
       count i,
     ))

@@ -1,16 +1,17 @@
-use Rattle.std.proofs.Common.{◌≡◌, [], arith, inl, inr, ⊎_elim, refl, sym, ap, ◌∙◌}
+use Rattle.std.proofs.Common.{◌≡◌, [], Option, arith, inl, inr, ⊎_elim, refl, subst, ◌∙◌}
 use Rattle.gl_args.specs.Program.{done}
+use Rattle.gl_driver.specs.Told.{Told}
 use Rattle.gl_script.specs.Script.{sections_of}
 use Rattle.gl_script.specs.declared.section.SectionKind.TheVariants.{After, Setup}
 use Rattle.gl_talk.specs.Open.{no_names}
 use Rattle.gl_talk.specs.Talk.{names_in, quits}
 use Rattle.gl_check.specs.Programs.{after_of, setup_of}
 use Rattle.gl_check.specs.One.{said_in_kind}
-use Rattle.gl_check.specs.Turns.{Carried, carried}
+use Rattle.gl_check.specs.Turns.{carried}
 use Rattle.gl_session.specs.OneActor.{count_in_kind}
 use Rattle.gl_session.specs.Performed.{PlaysOn, StoppedFull}
 use Rattle.gl_session.proofs.NoRoom.{full_at_fork, full_in_after, full_in_setup}
-use Rattle.gl_session.proofs.Plays.{plays_as}
+use Rattle.gl_session.proofs.Plays.{text_taken}
 use Rattle.gl_session.proofs.Sections.{begins_so, stops_so}
 use Rattle.gl_session.proofs.several.carry_parts.Goals as goal
 
@@ -19,16 +20,19 @@ returns-in-Ok-play_to_end-clause-out g c =
     let setup : PlaysOn g.D.Driver.is_planned (setup_of (sections_of c.args.script.now)) c.args.first.now.view (carried [] c.args.first.now.carried.told) []
     (done (names_in c.play_kind.new.talk)) c.take_text-setup.new.self.view c.take_text-setup.new.self.carried c.take_text-setup.result.items
     = (let taken = c.take_text-setup.ensures in
-    plays_as _ _ _ _ _ _ _ _ _ _ (carried [] c.args.first.now.carried.told) [] c.take_text-setup.new.self.view c.take_text-setup.new.self.carried _ refl refl refl c.requires.new.1
-    (sym taken.view) (ap (λ (k : Carried). k.files) (sym taken.carried)) (ap (λ (k : Carried). k.told) (sym taken.carried)) (sym taken.text)
+    text_taken g.D.Driver.is_planned _ _ _ _ _ _ _ _ _ _ _ c.requires.new.1 taken.view taken.carried taken.text
     (begins_so _ _ c.args.first.now.carried.told (said_in_kind Setup (sections_of c.args.script.now)) done c.args.talk.now.begun 0 (names_in c.args.talk.now) no_names c.args.first.now.carried.files [] c.requires.talk.1 c.requires.talk.0 c.requires.new.0 _ _ _ _ _ c.in-Ok.ensures.played)) in
     let number : c.play_kind.new.talk.begun ≡ count_in_kind Setup (sections_of c.args.script.now) = omega (arith, c.requires.talk.1, c.in-Ok.ensures.counted) in
-    let last : PlaysOn g.D.Driver.is_planned (after_of (sections_of c.args.script.now) (names_in c.play_kind.new.talk)) c.fork.new.first.view c.take_text-setup.new.self.carried []
+    let waiting = c.take_text-setup.new.self.carried in
+    let behind : PlaysOn g.D.Driver.is_planned (after_of (sections_of c.args.script.now) (names_in c.play_kind.new.talk)) c.fork.new.first.view (carried waiting.files c.fork.new.first.carried.told) c.fork.new.first.text
+    (done (names_in c.play_to_end.new.talk)) c.play_to_end.new.player.view c.play_to_end.new.player.carried c.play_to_end.new.player.text
+    = begins_so _ _ c.fork.new.first.carried.told (said_in_kind After (sections_of c.args.script.now)) quits c.play_kind.new.talk.begun (count_in_kind Setup (sections_of c.args.script.now)) (names_in c.play_kind.new.talk) (names_in c.play_kind.new.talk) c.fork.new.first.carried.files waiting.files number refl c.in-Ok-fork.ensures.files _ _ _ _ _ c.in-Ok-play_to_end.ensures.played in
+    let last : PlaysOn g.D.Driver.is_planned (after_of (sections_of c.args.script.now) (names_in c.play_kind.new.talk)) c.fork.new.first.view waiting []
     (done (names_in c.play_to_end.new.talk)) c.take_text-last.new.self.view c.take_text-last.new.self.carried c.take_text-last.result.items
     = (let taken = c.take_text-last.ensures in
-    plays_as _ _ _ _ _ _ _ _ _ _ c.take_text-setup.new.self.carried [] c.take_text-last.new.self.view c.take_text-last.new.self.carried _ refl refl (ap (λ (k : Carried). k.told) c.in-Ok-fork.ensures.carried) (c.in-Ok-fork.ensures.text ∙ c.take_text-setup.ensures.empty)
-    (sym taken.view) (ap (λ (k : Carried). k.files) (sym taken.carried)) (ap (λ (k : Carried). k.told) (sym taken.carried)) (sym taken.text)
-    (begins_so _ _ c.fork.new.first.carried.told (said_in_kind After (sections_of c.args.script.now)) quits c.play_kind.new.talk.begun (count_in_kind Setup (sections_of c.args.script.now)) (names_in c.play_kind.new.talk) (names_in c.play_kind.new.talk) c.fork.new.first.carried.files c.take_text-setup.new.self.carried.files number refl (ap (λ (k : Carried). k.files) c.in-Ok-fork.ensures.carried) _ _ _ _ _ c.in-Ok-play_to_end.ensures.played)) in
+    text_taken g.D.Driver.is_planned _ _ _ _ _ _ _ _ _ _ _ (c.in-Ok-fork.ensures.text ∙ c.take_text-setup.ensures.empty) taken.view taken.carried taken.text
+    (subst (λ (t : Option Told). PlaysOn g.D.Driver.is_planned (after_of (sections_of c.args.script.now) (names_in c.play_kind.new.talk)) c.fork.new.first.view (carried waiting.files t) c.fork.new.first.text
+    (done (names_in c.play_to_end.new.talk)) c.play_to_end.new.player.view c.play_to_end.new.player.carried c.play_to_end.new.player.text) c.in-Ok-fork.ensures.told behind)) in
     record {
       names = names_in c.play_kind.new.talk;
       waiting = c.take_text-setup.new.self.carried;
@@ -55,8 +59,7 @@ returns-in-Err-fork-clause-stopped g c =
     let setup : PlaysOn g.D.Driver.is_planned (setup_of (sections_of c.args.script.now)) c.args.first.now.view (carried [] c.args.first.now.carried.told) []
     (done (names_in c.play_kind.new.talk)) c.take_text-setup.new.self.view c.take_text-setup.new.self.carried c.take_text-setup.result.items
     = (let taken = c.take_text-setup.ensures in
-    plays_as _ _ _ _ _ _ _ _ _ _ (carried [] c.args.first.now.carried.told) [] c.take_text-setup.new.self.view c.take_text-setup.new.self.carried _ refl refl refl c.requires.new.1
-    (sym taken.view) (ap (λ (k : Carried). k.files) (sym taken.carried)) (ap (λ (k : Carried). k.told) (sym taken.carried)) (sym taken.text)
+    text_taken g.D.Driver.is_planned _ _ _ _ _ _ _ _ _ _ _ c.requires.new.1 taken.view taken.carried taken.text
     (begins_so _ _ c.args.first.now.carried.told (said_in_kind Setup (sections_of c.args.script.now)) done c.args.talk.now.begun 0 (names_in c.args.talk.now) no_names c.args.first.now.carried.files [] c.requires.talk.1 c.requires.talk.0 c.requires.new.0 _ _ _ _ _ c.in-Ok.ensures.played)) in
     ⊎_elim (λ wanted. inl wanted)
     (λ full. inr (full_at_fork g.D.Driver.is_planned (sections_of c.args.script.now) _ _ c.requires.first _ _ _ _ _ setup _ _ full))
@@ -67,14 +70,13 @@ returns-clause-stopped g c =
     let setup : PlaysOn g.D.Driver.is_planned (setup_of (sections_of c.args.script.now)) c.args.first.now.view (carried [] c.args.first.now.carried.told) []
     (done (names_in c.play_kind.new.talk)) c.take_text-setup.new.self.view c.take_text-setup.new.self.carried c.take_text-setup.result.items
     = (let taken = c.take_text-setup.ensures in
-    plays_as _ _ _ _ _ _ _ _ _ _ (carried [] c.args.first.now.carried.told) [] c.take_text-setup.new.self.view c.take_text-setup.new.self.carried _ refl refl refl c.requires.new.1
-    (sym taken.view) (ap (λ (k : Carried). k.files) (sym taken.carried)) (ap (λ (k : Carried). k.told) (sym taken.carried)) (sym taken.text)
+    text_taken g.D.Driver.is_planned _ _ _ _ _ _ _ _ _ _ _ c.requires.new.1 taken.view taken.carried taken.text
     (begins_so _ _ c.args.first.now.carried.told (said_in_kind Setup (sections_of c.args.script.now)) done c.args.talk.now.begun 0 (names_in c.args.talk.now) no_names c.args.first.now.carried.files [] c.requires.talk.1 c.requires.talk.0 c.requires.new.0 _ _ _ _ _ c.in-Ok.ensures.played)) in
     let number : c.play_kind.new.talk.begun ≡ count_in_kind Setup (sections_of c.args.script.now) = omega (arith, c.requires.talk.1, c.in-Ok.ensures.counted) in
     ⊎_elim (λ wanted. inl wanted)
     (λ full.
     let stopped : StoppedFull g.D.Driver.is_planned (after_of (sections_of c.args.script.now) (names_in c.play_kind.new.talk)) c.fork.new.first.view
     (carried c.take_text-setup.new.self.carried.files c.fork.new.first.carried.told) c.play_to_end.new.player.view
-    = stops_so _ _ c.fork.new.first.carried.told (said_in_kind After (sections_of c.args.script.now)) quits c.play_kind.new.talk.begun (count_in_kind Setup (sections_of c.args.script.now)) (names_in c.play_kind.new.talk) (names_in c.play_kind.new.talk) c.fork.new.first.carried.files c.take_text-setup.new.self.carried.files number refl (ap (λ (k : Carried). k.files) c.in-Ok-fork.ensures.carried) _ full.1 in
+    = stops_so _ _ c.fork.new.first.carried.told (said_in_kind After (sections_of c.args.script.now)) quits c.play_kind.new.talk.begun (count_in_kind Setup (sections_of c.args.script.now)) (names_in c.play_kind.new.talk) (names_in c.play_kind.new.talk) c.fork.new.first.carried.files c.take_text-setup.new.self.carried.files number refl c.in-Ok-fork.ensures.files _ full.1 in
     inr (full_in_after g.D.Driver.is_planned (sections_of c.args.script.now) _ _ c.requires.first _ _ _ _ _ setup g.D.Port.Port.told _ _ _ _ _ c.fork.new.first.carried.told c.in-Ok-fork.ensures.forked stopped))
     c.in-Err-play_to_end.ensures.stopped

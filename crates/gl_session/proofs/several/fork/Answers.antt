@@ -11,6 +11,9 @@ use Rattle.gl_session.proofs.several.fork.Goals as goal
 pub work_beside-requires-clause-alone : goal.work_beside-requires-clause-alone
 work_beside-requires-clause-alone g c κs within = (ap (λ (p : Playing). p.view.number) c.first.view_is ∙ c.requires.alone.0, ap (λ (p : Playing). p.view.made) c.first.view_is ∙ c.requires.alone.1)
 
+pub returns-clause-told : goal.returns-clause-told
+returns-clause-told g c = ap g.D.Port.Port.told c.work_beside.ensures.port ∙ ap (λ (p : Playing). p.carried.told) c.first.view_is
+
 pub returns-clause-forked : goal.returns-clause-forked
 returns-clause-forked g c =
     let t = g.D.Port.Port.told in

@@ -1,7 +1,6 @@
 use Rattle.std.proofs.Common.{◌≡◌, ◌<◌, ◌∙◌, Some, ap, sym, subst, arith, length}
 use Rattle.gl_script.specs.Script.{sections_of}
 use Rattle.gl_chip.specs.Values.{OneView}
-use Rattle.gl_check.specs.Turns.{Carried}
 use Rattle.gl_session.specs.Several.{texts_of}
 use Rattle.gl_session.specs.Workers.{HasCarriedOut}
 use Rattle.gl_session.proofs.AllTogether.{all_there, came}
@@ -18,7 +17,7 @@ returns-in-Ok-carry_out-clause-came g c =
     w c.carry_out.new.first.carried.told c.carry_out.new.ports) (sym c.into_actor-actor.ensures.view) c.in-Ok-carry_out.ensures.out in
     came t g.D.Driver.is_planned (sections_of c.args.script.now) c.args.ports.now c.take_port.new.ports c.carry_out.new.ports c.give_port.new.ports c.in-Some.port c.finish-machine.result.2 some
     (c.take_port.ensures.taken ∙ ap Some c.in-Some.is) c.take_port.ensures.left c.give_port.ensures _ c.new-first.result.view c.into_actor-actor.result.pass.view _ _ _ _
-    (c.new-first.ensures.view ∙ c.in-Ok.ensures.first) (ap (λ (k : Carried). k.told) c.new-first.ensures.carried ∙ ap t c.in-Ok.ensures.port) (sym c.into_actor-actor.ensures.port ∙ ap t (sym f.port)) out (sym c.in-Ok-carry_out.ensures.ports_len) f.legal f.seen f.mine f.joined f.others
+    (c.new-first.ensures.view ∙ c.in-Ok.ensures.first) (c.new-first.ensures.told ∙ ap t c.in-Ok.ensures.port) (sym c.into_actor-actor.ensures.port ∙ ap t (sym f.port)) out (sym c.in-Ok-carry_out.ensures.ports_len) f.legal f.seen f.mine f.joined f.others
 
 pub returns-in-Ok-carry_out-clause-there : goal.returns-in-Ok-carry_out-clause-there
 returns-in-Ok-carry_out-clause-there g c =
