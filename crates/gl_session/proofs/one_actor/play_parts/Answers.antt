@@ -45,8 +45,8 @@ returns-in-Ok-play_to_end-clause-played g c =
     = begins_so _ _ c.play_actor.new.player.carried.told (said_in_kind After (sections_of c.args.script.now)) quits c.play_kind.new.talk.begun (count_in_kind Setup (sections_of c.args.script.now)) (names_in c.play_kind.new.talk) (names_in c.play_kind.new.talk) c.play_actor.new.player.carried.files c.play_kind.new.player.carried.files number refl c.in-Ok-play_actor.ensures.waiting _ _ _ _ _ c.in-Ok-play_to_end.ensures.played in
     has_played g.D.Driver.is_planned (sections_of c.args.script.now) _ _ _ c.requires.first _ _ _ _ setup _ _ own.0 (carried own.1 c.play_actor.new.player.carried.told) own.2 _ _ _ _ c.requires.new.1 after
 
-pub returns-clause-stopped : goal.returns-clause-stopped
-returns-clause-stopped g c =
+pub returns-in-Err-play_to_end-clause-stopped : goal.returns-in-Err-play_to_end-clause-stopped
+returns-in-Err-play_to_end-clause-stopped g c =
     let setup : PlaysOn g.D.Driver.is_planned (setup_of (sections_of c.args.script.now)) c.args.player.now.view (carried [] c.args.player.now.carried.told) c.args.player.now.text
     (done (names_in c.play_kind.new.talk)) c.play_kind.new.player.view c.play_kind.new.player.carried c.play_kind.new.player.text
     = begins_so _ _ c.args.player.now.carried.told (said_in_kind Setup (sections_of c.args.script.now)) done c.args.talk.now.begun 0 (names_in c.args.talk.now) no_names c.args.player.now.carried.files [] c.requires.talk.1 c.requires.talk.0 c.requires.new.0 _ _ _ _ _ c.in-Ok.ensures.played in

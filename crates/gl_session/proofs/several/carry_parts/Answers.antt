@@ -65,8 +65,8 @@ returns-in-Err-fork-clause-stopped g c =
     (λ full. inr (full_at_fork g.D.Driver.is_planned (sections_of c.args.script.now) _ _ c.requires.first _ _ _ _ _ setup _ _ full))
     c.in-Err-fork.ensures.stopped
 
-pub returns-clause-stopped : goal.returns-clause-stopped
-returns-clause-stopped g c =
+pub returns-in-Err-play_to_end-clause-stopped : goal.returns-in-Err-play_to_end-clause-stopped
+returns-in-Err-play_to_end-clause-stopped g c =
     let setup : PlaysOn g.D.Driver.is_planned (setup_of (sections_of c.args.script.now)) c.args.first.now.view (carried [] c.args.first.now.carried.told) []
     (done (names_in c.play_kind.new.talk)) c.take_text-setup.new.self.view c.take_text-setup.new.self.carried c.take_text-setup.result.items
     = (let taken = c.take_text-setup.ensures in
