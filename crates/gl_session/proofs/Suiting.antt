@@ -1,10 +1,8 @@
 -- What an operation hands to its call, and what it takes from it.
-use Rattle.std.proofs.Common.{◌≡◌, ℕ, ◌<◌, ◌^◌, Bool, true, false, List, [], length, replicate, take, Option, None, Some, refl, sym, ap, ◌∙◌, subst, arith}
+use Rattle.std.proofs.Common.{◌≡◌, ℕ, ◌<◌, ◌^◌, Bool, true, false, List, [], take, Option, None, Some, refl, sym, ap, subst, arith}
 use Rattle.std.specs.Prelude.{nat_lt, if◌then◌else◌}
-use Rattle.std.proofs.lemmas.Bool.{true≢false}
 use Rattle.std.proofs.lemmas.List.{length-replicate}
 use Rattle.gl_base.specs.Lines.{IsLineCount}
-use Rattle.gl_base.specs.declared.command.TheConstants.{GET_LINE}
 use Rattle.gl_base.specs.declared.errno.Errno.{Errno}
 use Rattle.gl_base.specs.declared.limits.TheConstants.{PLACES}
 use Rattle.gl_base.specs.declared.lines.Lines.{Lines}
@@ -198,34 +196,6 @@ module _ (files : List OpenFile) (row : Option FileRow) where
   -- of the call that an operation is
   pub suits_call : (what : Do) (call : DeviceCall) → IsSomeRow row → file_for what files ≡ file_of row → Calls call ≡ asking files what → Suits what (op_asked files what) (kind_of row) call
   suits_call what call is at asks = subst (λ (a : Asking). ForOp what (op_asked files what) (kind_of row) a) (sym asks) (suits what is at)
-
--- a reply without a number opens nothing
-
-abbrev has_number : Reply → Bool
-has_number (Number n) = true
-has_number _ = false
-
-pub opens_nothing : (what : Do) (reply : Reply) → number_answered reply ≡ 0 → has_number reply ≡ false → OpensWithin what reply
-opens_nothing (DoProbe label lines) reply zero none = tt
-opens_nothing (DoUnplug place) reply zero none = tt
-opens_nothing (DoMakeDir path) reply zero none = tt
-opens_nothing (DoRemoveDir path) reply zero none = tt
-opens_nothing (DoWrite path value) reply zero none = tt
-opens_nothing (DoRead path) reply zero none = tt
-opens_nothing (DoLive device up) reply zero none = tt
-opens_nothing (DoTick mono real) reply zero none = tt
-opens_nothing (DoPin place what) reply zero none = tt
-opens_nothing (DoIrq place offset what) reply zero none = tt
-opens_nothing (DoPull place offset up) reply zero none = tt
-opens_nothing (DoLevel place offset pull) reply zero none = tt
-opens_nothing (DoOpenChip slot word) reply zero none = (omega (arith, zero), λ fd e. absurd (true≢false (sym (ap has_number e) ∙ none)))
-opens_nothing (DoFind slot name) reply zero none = tt
-opens_nothing (DoIoctl slot cmd len bytes made) reply zero none = (omega (arith, zero), λ is fd e. absurd (true≢false (sym (ap has_number e) ∙ none)))
-opens_nothing (ReadFile slot len) reply zero none = tt
-opens_nothing (Poll slot) reply zero none = tt
-opens_nothing (DoClose slot) reply zero none = tt
-opens_nothing (Plan nth) reply zero none = tt
-opens_nothing (Accept bits) reply zero none = tt
 
 -- what is got of a refusal, and of what is said to the port
 

@@ -1,4 +1,4 @@
-use Rattle.std.proofs.Common.{rules, ◌≡◌, ℕ, List, inl, sym, subst, ap, ◌∙◌, length}
+use Rattle.std.proofs.Common.{rules, ◌≡◌, ℕ, List, sym, subst, ap, ◌∙◌, length}
 use Rattle.gl_world.specs.Deeds.{entries_in}
 use Rattle.gl_driver.specs.Told.{PortAfter}
 use Rattle.gl_core.specs.Device.{tells_in}
