@@ -4,7 +4,6 @@ pub mod AloneRuns
 pub mod Came
 pub mod Causes
 pub mod Closings
-pub mod Commands
 pub mod Counting
 pub mod Ends
 pub mod FewActors
@@ -26,6 +25,7 @@ pub mod PrintedLines
 pub mod SaidHere
 pub mod Sections
 pub mod Silence
+pub mod Suiting
 pub mod Telling
 pub mod Threads
 pub mod Together

@@ -106,23 +106,44 @@ module _ {A B : Type 0} (is_planned : Bool) (f : A → Program B) where
     full = stopped.full;
   }
 
+-- The same of views, files, ports and texts that are the same.
+module _ {A : Type 0} (is_planned : Bool) (p q : Program A) where
+  pub plays_as : (v : OneView) (s : Carried) (t0 : List ℕ) (w : OneView) (r : Carried) (t1 : List ℕ) (v' : OneView) (s' : Carried) (t0' : List ℕ) (w' : OneView) (r' : Carried) (t1' : List ℕ)
+      → v ≡ v' → s.files ≡ s'.files → s.told ≡ s'.told → t0 ≡ t0' → w' ≡ w → r.files ≡ r'.files → r'.told ≡ r.told → t1' ≡ t1
+      → PlaysOn is_planned p v s t0 q w r t1 → PlaysOn is_planned p v' s' t0' q w' r' t1'
+  plays_as v s t0 w r t1 v' s' t0' w' r' t1' view files told text view_then files_then told_then text_then played =
+      subst (λ (x : OneView × Carried × List ℕ × OneView × Carried × List ℕ). PlaysOn is_planned p x.0 x.1 x.2 q x.3 x.4 x.5)
+      (λ i. (view i, record { files = files i; told = told i }, text i, sym view_then i, record { files = files_then i; told = sym told_then i }, sym text_then i)) played
+
+  -- the text was taken behind it
+  pub text_taken : (v : OneView) (s : Carried) (t0 : List ℕ) (w : OneView) (r : Carried) (t1 : List ℕ) (w' : OneView) (r' : Carried) (t1' : List ℕ) → t0 ≡ [] → w' ≡ w → r' ≡ r → t1' ≡ t1
+      → PlaysOn is_planned p v s t0 q w r t1 → PlaysOn is_planned p v s [] q w' r' t1'
+  text_taken v s t0 w r t1 w' r' t1' empty view carried text played =
+      subst (λ (x : List ℕ × OneView × Carried × List ℕ). PlaysOn is_planned p v s x.0 q x.1 x.2 x.3) (λ i. (empty i, sym view i, sym carried i, sym text i)) played
+
+module _ {A : Type 0} (is_planned : Bool) (p : Program A) where
+  pub stops_as : (v : OneView) (s : Carried) (w : OneView) (v' : OneView) (s' : Carried) → v ≡ v' → s.files ≡ s'.files → s.told ≡ s'.told → StoppedFull is_planned p v s w → StoppedFull is_planned p v' s' w
+  stops_as v s w v' s' view files told stopped =
+      subst (λ (x : OneView × Carried). StoppedFull is_planned p x.0 x.1 w) (λ i. (view i, record { files = files i; told = told i })) stopped
+
 -- one turn of a client: what it does next, and what is left to it
 module _ {A : Type 0} (is_planned : Bool) (p : Program A) (v : OneView) (s : Carried) (text : List ℕ) where
   said_turn : (piece : List ℕ) (left : Left A) → Goes p (Print piece) left → PlaysOn is_planned p v s text (given left None) v s (text ++ piece)
   said_turn piece (goes_on q) goes = record { turns = Said piece ∷ []; follows = follows_one is_planned v.number p s (Said piece) q s (goes, refl); text_is = ap (λ t. text ++ t) (sym (append-nil piece)); grew = unmoved v }
   said_turn piece (waits rest) goes = absurd goes
 
-  pub printed_turn : (piece text_then : List ℕ) (left : Left A) → Goes p (Print piece) left → text_then ≡ text ++ piece → PlaysOn is_planned p v s text (given left None) v s text_then
-  printed_turn piece text_then left goes is = subst (λ (t : List ℕ). PlaysOn is_planned p v s text (given left None) v s t) (sym is) (said_turn piece left goes)
+  pub printed_turn : (piece text_then : List ℕ) (left : Left A) (w : OneView) (r : Carried) → Goes p (Print piece) left → w ≡ v → r ≡ s → text_then ≡ text ++ piece → PlaysOn is_planned p v s text (given left None) w r text_then
+  printed_turn piece text_then left w r goes same kept is =
+      subst (λ (x : OneView × Carried × List ℕ). PlaysOn is_planned p v s text (given left None) x.0 x.1 x.2) (λ i. (sym same i, sym kept i, sym is i)) (said_turn piece left goes)
 
-  pub did_turn : (what : Do) (left : Left A) (got : Got) (w : OneView) (r : Carried) → Goes p (Call what) left → HasPerformed is_planned what v s got w r
-      → PlaysOn is_planned p v s text (given left (Some got)) w r text
-  did_turn what (goes_on q) got w r goes performed = absurd goes
-  did_turn what (waits rest) got w r goes performed = record {
+  pub did_turn : (what : Do) (text_then : List ℕ) (left : Left A) (got : Got) (w : OneView) (r : Carried) → Goes p (Call what) left → text_then ≡ text → HasPerformed is_planned what v s got w r
+      → PlaysOn is_planned p v s text (given left (Some got)) w r text_then
+  did_turn what text_then (goes_on q) got w r goes stays performed = absurd goes
+  did_turn what text_then (waits rest) got w r goes stays performed = record {
     turns = Did performed.exchange ∷ [];
     follows = follows_one is_planned v.number p s (Did performed.exchange) (rest got) r
         (rest, subst (λ (d : Do). p ≡ ask d rest) (sym performed.what_is) goes, ap rest (subst (λ (d : Do). got ≡ got_of d performed.exchange.reply performed.exchange.wrote) (sym performed.what_is) performed.got_is), performed.carries);
-    text_is = sym (append-nil text);
+    text_is = stays ∙ sym (append-nil text);
     grew = subst (λ (did : List OneDeed). Grew core v did w) (sym (append-nil performed.exchange.did)) performed.grew;
   }
 

@@ -1,16 +1,14 @@
 pub mod Alone
-pub mod Answers
 pub mod Closings
 pub mod Figures
 pub mod Judged
 pub mod Lines
-pub mod Making
 pub mod Many
 pub mod OneActor
 pub mod Output
 pub mod Performed
+pub mod Player
 pub mod Ports
-pub mod Rows
 pub mod Run
 pub mod Several
 pub mod Status

@@ -1,20 +1,18 @@
 -- One operation of a talk, carried out on the device; and a program in the midst of being carried out.
-use Rattle.std.specs.Prelude.{◌≡◌, ◌⊎◌, ℕ, Bool, List, ◌++◌, Option, Result, Ok, Err}
+use Rattle.std.specs.Prelude.{◌≡◌, ◌⊎◌, ℕ, Bool, List, ◌++◌, Result, Ok, Err}
 use Rattle.gl_base.specs.declared.errno.Errno.{Errno}
 use Rattle.gl_base.specs.declared.errno.Errno.TheVariants.{Full, NoMemory}
 use Rattle.gl_base.specs.declared.operation.Do.{Do}
 use Rattle.gl_base.specs.declared.operation.Got.{Got}
 use Rattle.gl_gate.specs.Grown.{Grew}
 use Rattle.gl_args.specs.Program.{Program, ask}
-use Rattle.gl_driver.specs.Told.{Told}
 use Rattle.gl_chip.specs.Steps.{FoundNoRoom}
 use Rattle.gl_chip.specs.Values.{OneView}
 use Rattle.gl_core.specs.Device.{core}
 use Rattle.gl_asking.specs.declared.kinds.Asking.{Asking}
 use Rattle.gl_asking.specs.declared.kinds.Asking.TheVariants.{Calls, Plans, Accepts, Refuses}
 use Rattle.gl_asking.specs.Asking.{asking, got_of}
-use Rattle.gl_asking.specs.Files.{OpenFile}
-use Rattle.gl_check.specs.Turns.{Carried, Carries, Exchange, Follows, Turn, carried, did_by, said_by}
+use Rattle.gl_check.specs.Turns.{Carried, Carries, Exchange, Follows, Turn, did_by, said_by}
 
 -- An operation was carried out by the actor whose pass knew v and knows w then: it got this, and did just the deeds of the exchange.
 pub record HasPerformed (is_planned : Bool) (what : Do) (v : OneView) (s : Carried) (got : Got) (w : OneView) (r : Carried) : Type 0 where
@@ -57,7 +55,3 @@ pub record StoppedFull {A : Type 0} (is_planned : Bool) (p : Program A) (v : One
   pub follows : Follows is_planned v.number p s turns (ask what rest) then
   pub grew : Grew core v (did_by turns) view
   pub full : MetFull what view then w
-
--- The same of an operation that leaves the open files as they are, whichever these are.
-abbrev pub PerformsAlone : Bool → Do → Result Got Errno → OneView → Option Told → OneView → Option Told → Type 0
-PerformsAlone is_planned what result v before w after = (files : List OpenFile) → Performs is_planned what result v (carried files before) w (carried files after)

@@ -11,6 +11,7 @@ ghost use Rattle.gl_check.specs.One.{said_in_kind};
 ghost use Rattle.gl_check.specs.Many.{actor_sections, program_of};
 ghost use Rattle.gl_session.specs.Workers.{AreDone, AreFresh, AreKept, HasJoined, HasSplit, IsFresh, WorkDone, there_at, told_at};
 
+use crate::player::Player;
 use crate::rendezvous::Rendezvous;
 use crate::worker::{actor_statements, play_beside};
 use gl_base::{ByteList, Errno};
@@ -117,7 +118,7 @@ fn work<R: Wait, D: Driver<Core>>(
     device: &Gpio<D>,
     script: &Script<'_>,
     start: &Rendezvous,
-    mut actor: Actor<D>,
+    actor: Actor<D>,
 ) -> Done<D>
     requires none { D.ENTRIES ≡ 0 }
     requires fresh { IsFresh D.Port.told (λ _. D.Port.told actor.port) device.now actor.pass.view actor.pass.view.number actor }
@@ -127,8 +128,9 @@ fn work<R: Wait, D: Driver<Core>>(
 {
     let number = actor.number();
     let statements = actor_statements(script, number);
-    let text = play_beside(rt, alloc, device, start, &mut actor, statements);
-    (actor, text)
+    let mut player = Player::new(alloc, device, actor);
+    let text = play_beside(rt, alloc, &mut player, start, statements);
+    (player.into_actor(), text)
 }
 
 /// All actors at work, each in a thread of its own where one can be made. They begin together.

@@ -1,22 +1,19 @@
 //! A session: from the bytes read to the bytes written and the status.
 #![tactic(auto)]
 
-mod answers;
+mod buffers;
 mod check;
-pub mod files;
 pub mod fork;
 mod judging;
 pub mod laws;
 mod load;
-mod on_board;
-mod on_commands;
-mod on_files;
 mod one_actor;
 pub mod output;
-pub mod perform;
 pub mod play;
+pub mod player;
 mod ports;
 pub mod rendezvous;
+pub mod rows;
 mod session;
 pub mod several;
 mod status;

@@ -3,7 +3,6 @@ ghost use Rattle.std.specs.Prelude.{◌≡◌, ◌⊎◌, ◌+◌, ◌≤◌, Li
 ghost use Rattle.gl_base.specs.declared.errno.Errno.TheVariants.{Full, NoMemory};
 ghost use Rattle.gl_args.specs.Program.{done};
 ghost use Rattle.gl_rule.specs.Views.{newcomer};
-ghost use Rattle.gl_chip.specs.Values.{IsActorOf};
 ghost use Rattle.gl_script.specs.Cost.{session_cost};
 ghost use Rattle.gl_script.specs.Meaning.{head_in};
 ghost use Rattle.gl_script.specs.Script.{sections_of};
@@ -16,12 +15,12 @@ ghost use Rattle.gl_check.specs.One.{is_kind, said_in_kind};
 ghost use Rattle.gl_session.specs.OneActor.{CameWithEntries, HasPlayed, IsSized, StoppedBelow, count_in_kind, said_at};
 ghost use Rattle.gl_session.specs.Performed.{PlaysOn, StoppedFull};
 ghost use Rattle.gl_check.specs.Turns.{carried};
-ghost use Rattle.gl_session.specs.Rows.{files_of};
 
-use crate::files::FileRow;
 use crate::play::{play, play_all};
+use crate::player::Player;
+use crate::rows::Rows;
 use gl_base::Errno;
-use gl_chip::{Actor, Gpio};
+use gl_chip::Gpio;
 use gl_core::Core;
 use gl_driver::Driver;
 use gl_script::{Head, Script, SectionKind, Statement};
@@ -76,29 +75,25 @@ fn statements_of_kind<'a>(
 pub fn play_kind<R: Wait, D: Driver<Core>>(
     rt: &R,
     alloc: Global,
-    device: &Gpio<D>,
-    actor: &mut Actor<D>,
+    player: &mut Player<'_, D>,
     talk: &mut Talk,
-    rows: &mut Vec<FileRow>,
-    text: &mut Vec<u8>,
     script: &Script<'_>,
     kind: SectionKind,
 ) -> Result<(), Errno>
     requires none { D.ENTRIES ≡ 0 }
-    requires actor { IsActorOf device.now actor.old }
     requires begun { talk.old.begun + count_in_kind kind (sections_of script.now) ≤ 1048576 }
-    ensures actor { IsActorOf device.now actor.new }
+    ensures device { player.new.gate ≡ player.old.gate }
     ensures counted { OnOk result (talk.new.begun ≡ talk.old.begun + count_in_kind kind (sections_of script.now)) }
     ensures played { OnOk result (PlaysOn D.is_planned (says talk.old.begun (said_in_kind kind (sections_of script.now)) done (names_in talk.old))
-        actor.old.pass.view (carried (files_of rows.old.items) (D.Port.told actor.old.port)) text.old.items
-        (done (names_in talk.new)) actor.new.pass.view (carried (files_of rows.new.items) (D.Port.told actor.new.port)) text.new.items) }
+        player.old.view player.old.carried player.old.text
+        (done (names_in talk.new)) player.new.view player.new.carried player.new.text) }
     ensures stopped { IfErr result (λ e. (e ≡ NoMemory) ⊎ ((e ≡ Full)
         × StoppedFull D.is_planned (says talk.old.begun (said_in_kind kind (sections_of script.now)) done (names_in talk.old))
-        actor.old.pass.view (carried (files_of rows.old.items) (D.Port.told actor.old.port)) actor.new.pass.view)) }
+        player.old.view player.old.carried player.new.view)) }
 {
     for section in 0..script.sections() {
         let statements = statements_of_kind(script, section, kind);
-        match play_all(rt, alloc, device, actor, talk, rows, text, statements) {
+        match play_all(rt, alloc, player, talk, statements) {
             Ok(()) => {}
             Err(errno) => return Err(errno),
         }
@@ -110,70 +105,57 @@ pub fn play_kind<R: Wait, D: Driver<Core>>(
 pub fn play_to_end<R: Wait, D: Driver<Core>>(
     rt: &R,
     alloc: Global,
-    device: &Gpio<D>,
-    actor: &mut Actor<D>,
+    player: &mut Player<'_, D>,
     talk: &mut Talk,
-    rows: &mut Vec<FileRow>,
-    text: &mut Vec<u8>,
     script: &Script<'_>,
     kind: SectionKind,
 ) -> Result<(), Errno>
     requires none { D.ENTRIES ≡ 0 }
-    requires actor { IsActorOf device.now actor.old }
     requires begun { talk.old.begun + count_in_kind kind (sections_of script.now) ≤ 1048576 }
-    ensures actor { IsActorOf device.now actor.new }
+    ensures device { player.new.gate ≡ player.old.gate }
     ensures played { OnOk result (PlaysOn D.is_planned (says talk.old.begun (said_in_kind kind (sections_of script.now)) quits (names_in talk.old))
-        actor.old.pass.view (carried (files_of rows.old.items) (D.Port.told actor.old.port)) text.old.items
-        (done (names_in talk.new)) actor.new.pass.view (carried (files_of rows.new.items) (D.Port.told actor.new.port)) text.new.items) }
+        player.old.view player.old.carried player.old.text
+        (done (names_in talk.new)) player.new.view player.new.carried player.new.text) }
     ensures stopped { IfErr result (λ e. (e ≡ NoMemory) ⊎ ((e ≡ Full)
         × StoppedFull D.is_planned (says talk.old.begun (said_in_kind kind (sections_of script.now)) quits (names_in talk.old))
-        actor.old.pass.view (carried (files_of rows.old.items) (D.Port.told actor.old.port)) actor.new.pass.view)) }
+        player.old.view player.old.carried player.new.view)) }
 {
-    match play_kind(rt, alloc, device, actor, talk, rows, text, script, kind) {
+    match play_kind(rt, alloc, player, talk, script, kind) {
         Ok(()) => {}
         Err(errno) => return Err(errno),
     }
     talk.quit();
-    match play(rt, alloc, device, actor, talk, rows, text) {
+    match play(rt, alloc, player, talk) {
         Ok(()) => Ok(()),
         Err(errno) => Err(errno),
     }
 }
 
-/// Carries out the actor's section, which is a talk of its own.
+/// Carries out the actor's section, which is a talk of its own, while the files that are open wait.
 fn play_actor<R: Wait, D: Driver<Core>>(
     rt: &R,
     alloc: Global,
-    device: &Gpio<D>,
-    actor: &mut Actor<D>,
-    text: &mut Vec<u8>,
+    player: &mut Player<'_, D>,
     script: &Script<'_>,
 ) -> Result<(), Errno>
     requires none { D.ENTRIES ≡ 0 }
-    requires actor { IsActorOf device.now actor.old }
     requires sized { IsSized (sections_of script.now) }
-    ensures actor { IsActorOf device.now actor.new }
+    ensures device { player.new.gate ≡ player.old.gate }
     ensures played { OnOk result ((names : Names) × (files : List OpenFile)
-        × PlaysOn D.is_planned (actor_of (sections_of script.now)) actor.old.pass.view (carried [] (D.Port.told actor.old.port)) text.old.items
-        (done names) actor.new.pass.view (carried files (D.Port.told actor.new.port)) text.new.items) }
+        × PlaysOn D.is_planned (actor_of (sections_of script.now)) player.old.view (carried [] player.old.carried.told) player.old.text
+        (done names) player.new.view (carried files player.new.carried.told) player.new.text) }
+    ensures waiting { OnOk result (player.new.carried.files ≡ player.old.carried.files) }
     ensures stopped { IfErr result (λ e. (e ≡ NoMemory) ⊎ ((e ≡ Full)
-        × StoppedFull D.is_planned (actor_of (sections_of script.now)) actor.old.pass.view (carried [] (D.Port.told actor.old.port)) actor.new.pass.view)) }
+        × StoppedFull D.is_planned (actor_of (sections_of script.now)) player.old.view (carried [] player.old.carried.told) player.new.view)) }
 {
-    let mut rows = Vec::new(alloc);
+    let waiting = player.change_files(Rows::new(alloc));
     match Talk::new(alloc) {
         Ok(mut talk) => {
-            match play_to_end(
-                rt,
-                alloc,
-                device,
-                actor,
-                &mut talk,
-                &mut rows,
-                text,
-                script,
-                SectionKind::Actor,
-            ) {
-                Ok(()) => Ok(()),
+            match play_to_end(rt, alloc, player, &mut talk, script, SectionKind::Actor) {
+                Ok(()) => {
+                    let _left = player.change_files(waiting);
+                    Ok(())
+                }
                 Err(errno) => Err(errno),
             }
         }
@@ -186,53 +168,29 @@ fn play_actor<R: Wait, D: Driver<Core>>(
 fn play_parts<R: Wait, D: Driver<Core>>(
     rt: &R,
     alloc: Global,
-    device: &Gpio<D>,
-    actor: &mut Actor<D>,
+    player: &mut Player<'_, D>,
     talk: &mut Talk,
-    text: &mut Vec<u8>,
     script: &Script<'_>,
 ) -> Result<(), Errno>
     requires none { D.ENTRIES ≡ 0 }
-    requires actor { IsActorOf device.now actor.old }
     requires sized { IsSized (sections_of script.now) }
     requires talk { (names_in talk.old ≡ no_names) × (talk.old.begun ≡ 0) }
-    requires text { text.old.items ≡ [] }
-    requires first { actor.old.pass.view.number ≡ 0 }
-    ensures actor { IsActorOf device.now actor.new }
-    ensures played { OnOk result (HasPlayed D.is_planned (sections_of script.now) (D.Port.told actor.old.port) text.new.items (D.Port.told actor.new.port)
-        actor.old.pass.view actor.new.pass.view) }
-    ensures stopped { IfErr result (λ e. (e ≡ NoMemory) ⊎ ((e ≡ Full) × StoppedBelow (session_cost (sections_of script.now)) actor.old.pass.view actor.new.pass.view)) }
+    requires new { (player.old.carried.files ≡ []) × (player.old.text ≡ []) }
+    requires first { player.old.view.number ≡ 0 }
+    ensures device { player.new.gate ≡ player.old.gate }
+    ensures played { OnOk result (HasPlayed D.is_planned (sections_of script.now) player.old.carried.told player.new.text player.new.carried.told
+        player.old.view player.new.view) }
+    ensures stopped { IfErr result (λ e. (e ≡ NoMemory) ⊎ ((e ≡ Full) × StoppedBelow (session_cost (sections_of script.now)) player.old.view player.new.view)) }
 {
-    let mut rows = Vec::new(alloc);
-    match play_kind(
-        rt,
-        alloc,
-        device,
-        actor,
-        talk,
-        &mut rows,
-        text,
-        script,
-        SectionKind::Setup,
-    ) {
+    match play_kind(rt, alloc, player, talk, script, SectionKind::Setup) {
         Ok(()) => {}
         Err(errno) => return Err(errno),
     }
-    match play_actor(rt, alloc, device, actor, text, script) {
+    match play_actor(rt, alloc, player, script) {
         Ok(()) => {}
         Err(errno) => return Err(errno),
     }
-    match play_to_end(
-        rt,
-        alloc,
-        device,
-        actor,
-        talk,
-        &mut rows,
-        text,
-        script,
-        SectionKind::After,
-    ) {
+    match play_to_end(rt, alloc, player, talk, script, SectionKind::After) {
         Ok(()) => Ok(()),
         Err(errno) => Err(errno),
     }
@@ -242,30 +200,26 @@ fn play_parts<R: Wait, D: Driver<Core>>(
 fn play_session<R: Wait, D: Driver<Core>>(
     rt: &R,
     alloc: Global,
-    device: &Gpio<D>,
-    actor: &mut Actor<D>,
+    player: &mut Player<'_, D>,
     script: &Script<'_>,
 ) -> Result<Vec<u8>, Errno>
     requires none { D.ENTRIES ≡ 0 }
-    requires actor { IsActorOf device.now actor.old }
     requires sized { IsSized (sections_of script.now) }
-    requires first { actor.old.pass.view ≡ newcomer 0 (session_cost (sections_of script.now)) [] 1 [] [] }
-    ensures actor { IsActorOf device.now actor.new }
-    ensures played { IfOk result (λ text. HasPlayed D.is_planned (sections_of script.now) (D.Port.told actor.old.port) text.items (D.Port.told actor.new.port)
-        actor.old.pass.view actor.new.pass.view) }
+    requires new { (player.old.carried.files ≡ []) × (player.old.text ≡ []) }
+    requires first { player.old.view ≡ newcomer 0 (session_cost (sections_of script.now)) [] 1 [] [] }
+    ensures device { player.new.gate ≡ player.old.gate }
+    ensures played { IfOk result (λ text. HasPlayed D.is_planned (sections_of script.now) player.old.carried.told text.items player.new.carried.told
+        player.old.view player.new.view) }
     ensures memory_alone { IsOkUnless result Errno.NoMemory }
 {
-    let mut text = Vec::new(alloc);
     match Talk::new(alloc) {
-        Ok(mut talk) => {
-            match play_parts(rt, alloc, device, actor, &mut talk, &mut text, script) {
-                Ok(()) => Ok(text),
-                Err(errno) => {
-                    let _number = actor.number();
-                    Err(errno)
-                }
+        Ok(mut talk) => match play_parts(rt, alloc, player, &mut talk, script) {
+            Ok(()) => Ok(player.take_text(alloc)),
+            Err(errno) => {
+                let _number = player.number();
+                Err(errno)
             }
-        }
+        },
         Err(errno) => Err(errno),
     }
 }
@@ -287,13 +241,17 @@ pub fn run_one<R: Wait, D: Driver<Core>>(
     ensures memory_alone { IsOkUnless result Errno.NoMemory }
 {
     match Gpio::new(alloc, driver, port, script.cost() as u32) {
-        Ok((device, mut actor)) => match play_session(rt, alloc, &device, &mut actor, script) {
-            Ok(text) => {
-                let (_machine, history, port) = device.finish(actor);
-                Ok((text, history.len() as u64, port))
+        Ok((device, actor)) => {
+            let mut player = Player::new(alloc, &device, actor);
+            match play_session(rt, alloc, &mut player, script) {
+                Ok(text) => {
+                    let actor = player.into_actor();
+                    let (_machine, history, port) = device.finish(actor);
+                    Ok((text, history.len() as u64, port))
+                }
+                Err(errno) => Err(errno),
             }
-            Err(errno) => Err(errno),
-        },
+        }
         Err(errno) => Err(errno),
     }
 }

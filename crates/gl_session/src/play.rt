@@ -1,19 +1,14 @@
-//! A talk, carried out by an actor.
+//! A talk, carried out by a player.
 ghost use Rattle.std.specs.Prelude.{◌≡◌, ◌⊎◌, ◌+◌, ◌≤◌, false, IfOk, IfErr, OnOk, IsTrue, None, map, length, option_copied};
 ghost use Rattle.gl_base.specs.declared.errno.Errno.TheVariants.{Full, NoMemory};
 ghost use Rattle.gl_args.specs.Program.{done, given};
-ghost use Rattle.gl_chip.specs.Values.{IsActorOf};
 ghost use Rattle.gl_talk.specs.Over.{columns_in};
 ghost use Rattle.gl_talk.specs.Talk.{left, names_in, says};
 ghost use Rattle.gl_session.specs.Performed.{PlaysOn, StoppedFull};
-ghost use Rattle.gl_check.specs.Turns.{carried};
-ghost use Rattle.gl_session.specs.Rows.{files_of};
 
-use crate::files::FileRow;
-use crate::perform::perform;
+use crate::player::Player;
 use gl_args::Next;
 use gl_base::{Errno, Got};
-use gl_chip::{Actor, Gpio};
 use gl_core::Core;
 use gl_driver::Driver;
 use gl_script::Statement;
@@ -25,40 +20,36 @@ use std::sync::Wait;
 fn turn<R: Wait, D: Driver<Core>>(
     rt: &R,
     alloc: Global,
-    device: &Gpio<D>,
-    actor: &mut Actor<D>,
+    player: &mut Player<'_, D>,
     talk: &mut Talk,
-    rows: &mut Vec<FileRow>,
-    text: &mut Vec<u8>,
     got: &mut Option<Got>,
 ) -> Result<bool, Errno>
     requires none { D.ENTRIES ≡ 0 }
-    requires actor { IsActorOf device.now actor.old }
     requires begun { talk.old.begun ≤ 1048576 }
-    ensures actor { IsActorOf device.now actor.new }
+    ensures device { player.new.gate ≡ player.old.gate }
     ensures counted { OnOk result (talk.new.begun ≡ talk.old.begun) }
     ensures taken { IfOk result (λ more. IsTrue more
-        → PlaysOn D.is_planned (given (left talk.old) got.old) actor.old.pass.view (carried (files_of rows.old.items) (D.Port.told actor.old.port)) text.old.items
-        (given (left talk.new) got.new) actor.new.pass.view (carried (files_of rows.new.items) (D.Port.told actor.new.port)) text.new.items) }
+        → PlaysOn D.is_planned (given (left talk.old) got.old) player.old.view player.old.carried player.old.text
+        (given (left talk.new) got.new) player.new.view player.new.carried player.new.text) }
     ensures ended { IfOk result (λ more. more ≡ false
-        → (given (left talk.old) got.old ≡ done (names_in talk.new)) × (actor.new ≡ actor.old) × (rows.new ≡ rows.old) × (text.new ≡ text.old)) }
+        → (given (left talk.old) got.old ≡ done (names_in talk.new)) × (player.new ≡ player.old)) }
     ensures stopped { IfErr result (λ e. (e ≡ NoMemory) ⊎ ((e ≡ Full)
-        × StoppedFull D.is_planned (given (left talk.old) got.old) actor.old.pass.view (carried (files_of rows.old.items) (D.Port.told actor.old.port)) actor.new.pass.view)) }
+        × StoppedFull D.is_planned (given (left talk.old) got.old) player.old.view player.old.carried player.new.view)) }
 {
     match talk.next(alloc, got.as_ref()) {
-        Ok(Next::Call(what)) => match perform(rt, alloc, device, actor, rows, &what) {
+        Ok(Next::Call(what)) => match player.perform(rt, alloc, &what) {
             Ok(result_of) => {
                 *got = Some(result_of);
                 Ok(true)
             }
             Err(errno) => Err(errno),
         },
-        Ok(Next::Print(piece)) => match text.extend_from_slice(piece.as_slice()) {
+        Ok(Next::Print(piece)) => match player.print(piece.as_slice()) {
             Ok(()) => {
                 *got = None;
                 Ok(true)
             }
-            Err(_) => Err(Errno::NoMemory),
+            Err(errno) => Err(errno),
         },
         Ok(Next::End) => Ok(false),
         Err(errno) => Err(errno),
@@ -69,25 +60,21 @@ fn turn<R: Wait, D: Driver<Core>>(
 pub fn play<R: Wait, D: Driver<Core>>(
     rt: &R,
     alloc: Global,
-    device: &Gpio<D>,
-    actor: &mut Actor<D>,
+    player: &mut Player<'_, D>,
     talk: &mut Talk,
-    rows: &mut Vec<FileRow>,
-    text: &mut Vec<u8>,
 ) -> Result<(), Errno>
     requires none { D.ENTRIES ≡ 0 }
-    requires actor { IsActorOf device.now actor.old }
     requires begun { talk.old.begun ≤ 1048576 }
-    ensures actor { IsActorOf device.now actor.new }
+    ensures device { player.new.gate ≡ player.old.gate }
     ensures counted { OnOk result (talk.new.begun ≡ talk.old.begun) }
-    ensures played { OnOk result (PlaysOn D.is_planned (given (left talk.old) None) actor.old.pass.view (carried (files_of rows.old.items) (D.Port.told actor.old.port)) text.old.items
-        (done (names_in talk.new)) actor.new.pass.view (carried (files_of rows.new.items) (D.Port.told actor.new.port)) text.new.items) }
+    ensures played { OnOk result (PlaysOn D.is_planned (given (left talk.old) None) player.old.view player.old.carried player.old.text
+        (done (names_in talk.new)) player.new.view player.new.carried player.new.text) }
     ensures stopped { IfErr result (λ e. (e ≡ NoMemory) ⊎ ((e ≡ Full)
-        × StoppedFull D.is_planned (given (left talk.old) None) actor.old.pass.view (carried (files_of rows.old.items) (D.Port.told actor.old.port)) actor.new.pass.view)) }
+        × StoppedFull D.is_planned (given (left talk.old) None) player.old.view player.old.carried player.new.view)) }
 {
     let mut got = None;
     for _ in rt.forever() {
-        match turn(rt, alloc, device, actor, talk, rows, text, &mut got) {
+        match turn(rt, alloc, player, talk, &mut got) {
             Ok(true) => {}
             Ok(false) => return Ok(()),
             Err(errno) => return Err(errno),
@@ -100,28 +87,24 @@ pub fn play<R: Wait, D: Driver<Core>>(
 pub fn play_all<R: Wait, D: Driver<Core>>(
     rt: &R,
     alloc: Global,
-    device: &Gpio<D>,
-    actor: &mut Actor<D>,
+    player: &mut Player<'_, D>,
     talk: &mut Talk,
-    rows: &mut Vec<FileRow>,
-    text: &mut Vec<u8>,
     statements: &[Statement<'_>],
 ) -> Result<(), Errno>
     requires none { D.ENTRIES ≡ 0 }
-    requires actor { IsActorOf device.now actor.old }
     requires begun { talk.old.begun + length statements.now ≤ 1048576 }
-    ensures actor { IsActorOf device.now actor.new }
+    ensures device { player.new.gate ≡ player.old.gate }
     ensures counted { OnOk result (talk.new.begun ≡ talk.old.begun + length statements.now) }
     ensures played { OnOk result (PlaysOn D.is_planned (says talk.old.begun (map columns_in statements.now) done (names_in talk.old))
-        actor.old.pass.view (carried (files_of rows.old.items) (D.Port.told actor.old.port)) text.old.items
-        (done (names_in talk.new)) actor.new.pass.view (carried (files_of rows.new.items) (D.Port.told actor.new.port)) text.new.items) }
+        player.old.view player.old.carried player.old.text
+        (done (names_in talk.new)) player.new.view player.new.carried player.new.text) }
     ensures stopped { IfErr result (λ e. (e ≡ NoMemory) ⊎ ((e ≡ Full)
         × StoppedFull D.is_planned (says talk.old.begun (map columns_in statements.now) done (names_in talk.old))
-        actor.old.pass.view (carried (files_of rows.old.items) (D.Port.told actor.old.port)) actor.new.pass.view)) }
+        player.old.view player.old.carried player.new.view)) }
 {
     for statement in statements {
         talk.begin(alloc, statement.line())?;
-        match play(rt, alloc, device, actor, talk, rows, text) {
+        match play(rt, alloc, player, talk) {
             Ok(()) => {}
             Err(errno) => return Err(errno),
         }

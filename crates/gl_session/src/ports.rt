@@ -77,7 +77,7 @@ pub fn carry_script<R: Threads + Wait + Sync, D: Driver<Core>>(
             Err(errno) => Err(errno),
         };
     }
-    match run_several(rt, alloc, driver, ports, script, count as usize) {
+    match run_several(rt, alloc, driver, ports, script) {
         Ok((printed, history)) => output_of(
             alloc,
             script,

@@ -17,6 +17,8 @@ ghost use Rattle.gl_session.specs.Several.{texts_of};
 
 use crate::fork::{all_printed, give_port, join_all, split_all, take_port, work_all};
 use crate::one_actor::{play_kind, play_to_end};
+use crate::player::Player;
+use crate::worker::count_actors;
 use gl_base::{ByteList, Errno};
 use gl_chip::{Actor, Gpio};
 use gl_core::Core;
@@ -44,17 +46,42 @@ pub struct Printed {
 fn fork<R: Threads + Wait + Sync, D: Driver<Core>>(
     rt: &R,
     alloc: Global,
+    first: &mut Player<'_, D>,
+    ports: &mut [Option<D::Port>],
+    script: &Script<'_>,
+) -> Result<Vec<ByteList>, Errno>
+    requires none { D.ENTRIES ≡ 0 }
+    requires alone { (first.old.view.number ≡ 0) × (first.old.view.made ≡ 1) }
+    requires sized { IsSized (sections_of script.now) }
+    requires count { (length (actor_sections (sections_of script.now)) < 256) × (length (actor_sections (sections_of script.now)) < length ports.old) }
+    requires there { (n : ℕ) → 1 ≤ n → n < length ports.old → there_at ports.old n ≡ true }
+    ensures device { first.new.gate ≡ first.old.gate }
+    ensures files { first.new.carried.files ≡ first.old.carried.files }
+    ensures told { first.new.carried.told ≡ first.old.carried.told }
+    ensures text { first.new.text ≡ first.old.text }
+    ensures forked { IfOk result (λ texts. HasForked D.Port.told D.is_planned (program_of (sections_of script.now)) (length (actor_sections (sections_of script.now)))
+        first.old.view ports.old first.new.view texts.items ports.new) }
+    ensures stopped { IfErr result (λ e. (e ≡ NoMemory) ⊎ HasForkedFull D.is_planned (program_of (sections_of script.now)) (told_at D.Port.told ports.old)
+        (length (actor_sections (sections_of script.now))) first.old.view first.new.view) }
+    ensures ports_len { length ports.new ≡ length ports.old }
+{
+    work_beside(rt, alloc, first.device, &mut first.actor, ports, script)
+}
+
+/// The same, by the first actor of a device.
+fn work_beside<R: Threads + Wait + Sync, D: Driver<Core>>(
+    rt: &R,
+    alloc: Global,
     device: &Gpio<D>,
     first: &mut Actor<D>,
     ports: &mut [Option<D::Port>],
     script: &Script<'_>,
-    count: usize,
 ) -> Result<Vec<ByteList>, Errno>
     requires none { D.ENTRIES ≡ 0 }
     requires actor { IsActorOf device.now first.old }
     requires alone { (first.old.pass.view.number ≡ 0) × (first.old.pass.view.made ≡ 1) }
     requires sized { IsSized (sections_of script.now) }
-    requires count { (count ≡ length (actor_sections (sections_of script.now))) × (count < 256) × (count < length ports.old) }
+    requires count { (length (actor_sections (sections_of script.now)) < 256) × (length (actor_sections (sections_of script.now)) < length ports.old) }
     requires there { (n : ℕ) → 1 ≤ n → n < length ports.old → there_at ports.old n ≡ true }
     ensures actor { IsActorOf device.now first.new }
     ensures port { first.new.port ≡ first.old.port }
@@ -64,6 +91,7 @@ fn fork<R: Threads + Wait + Sync, D: Driver<Core>>(
         (length (actor_sections (sections_of script.now))) first.old.pass.view first.new.pass.view) }
     ensures ports_len { length ports.new ≡ length ports.old }
 {
+    let count = count_actors(script) as usize;
     let actors = match split_all(alloc, device, first, ports, count) {
         Ok(actors) => actors,
         Err(errno) => return Err(errno),
@@ -87,64 +115,43 @@ fn fork<R: Threads + Wait + Sync, D: Driver<Core>>(
 fn carry_parts<R: Threads + Wait + Sync, D: Driver<Core>>(
     rt: &R,
     alloc: Global,
-    device: &Gpio<D>,
-    first: &mut Actor<D>,
+    first: &mut Player<'_, D>,
     talk: &mut Talk,
     ports: &mut [Option<D::Port>],
     script: &Script<'_>,
-    count: usize,
 ) -> Result<Printed, Errno>
     requires none { D.ENTRIES ≡ 0 }
-    requires actor { IsActorOf device.now first.old }
-    requires first { first.old.pass.view ≡ newcomer 0 (session_cost (sections_of script.now)) [] 1 [] [] }
+    requires first { first.old.view ≡ newcomer 0 (session_cost (sections_of script.now)) [] 1 [] [] }
+    requires new { (first.old.carried.files ≡ []) × (first.old.text ≡ []) }
     requires sized { IsSized (sections_of script.now) }
     requires talk { (names_in talk.old ≡ no_names) × (talk.old.begun ≡ 0) }
-    requires count { (count ≡ length (actor_sections (sections_of script.now))) × (count < 256) × (count < length ports.old) }
+    requires count { (length (actor_sections (sections_of script.now)) < 256) × (length (actor_sections (sections_of script.now)) < length ports.old) }
     requires there { (n : ℕ) → 1 ≤ n → n < length ports.old → there_at ports.old n ≡ true }
-    ensures actor { IsActorOf device.now first.new }
-    ensures out { IfOk result (λ printed. HasCarriedOut D.Port.told D.is_planned (sections_of script.now) first.old.pass.view (D.Port.told first.old.port) ports.old
-        (texts_of printed) first.new.pass.view (D.Port.told first.new.port) ports.new) }
-    ensures stopped { IfErr result (λ e. (e ≡ NoMemory) ⊎ CannotEnd first.new.pass.view) }
+    ensures device { first.new.gate ≡ first.old.gate }
+    ensures out { IfOk result (λ printed. HasCarriedOut D.Port.told D.is_planned (sections_of script.now) first.old.view first.old.carried.told ports.old
+        (texts_of printed) first.new.view first.new.carried.told ports.new) }
+    ensures stopped { IfErr result (λ e. (e ≡ NoMemory) ⊎ CannotEnd first.new.view) }
     ensures ports_len { length ports.new ≡ length ports.old }
 {
-    let mut rows = Vec::new(alloc);
-    let mut setup = Vec::new(alloc);
-    let mut last = Vec::new(alloc);
-    match play_kind(
-        rt,
-        alloc,
-        device,
-        first,
-        talk,
-        &mut rows,
-        &mut setup,
-        script,
-        SectionKind::Setup,
-    ) {
+    match play_kind(rt, alloc, first, talk, script, SectionKind::Setup) {
         Ok(()) => {}
         Err(errno) => return Err(errno),
     }
-    let actors = match fork(rt, alloc, device, first, ports, script, count) {
+    let setup = first.take_text(alloc);
+    let actors = match fork(rt, alloc, first, ports, script) {
         Ok(actors) => actors,
         Err(errno) => return Err(errno),
     };
     let _number = first.number();
-    match play_to_end(
-        rt,
-        alloc,
-        device,
-        first,
-        talk,
-        &mut rows,
-        &mut last,
-        script,
-        SectionKind::After,
-    ) {
-        Ok(()) => Ok(Printed {
-            setup,
-            actors,
-            last,
-        }),
+    match play_to_end(rt, alloc, first, talk, script, SectionKind::After) {
+        Ok(()) => {
+            let last = first.take_text(alloc);
+            Ok(Printed {
+                setup,
+                actors,
+                last,
+            })
+        }
         Err(errno) => Err(errno),
     }
 }
@@ -153,26 +160,24 @@ fn carry_parts<R: Threads + Wait + Sync, D: Driver<Core>>(
 fn carry_out<R: Threads + Wait + Sync, D: Driver<Core>>(
     rt: &R,
     alloc: Global,
-    device: &Gpio<D>,
-    first: &mut Actor<D>,
+    first: &mut Player<'_, D>,
     ports: &mut [Option<D::Port>],
     script: &Script<'_>,
-    count: usize,
 ) -> Result<Printed, Errno>
     requires none { D.ENTRIES ≡ 0 }
-    requires actor { IsActorOf device.now first.old }
-    requires first { first.old.pass.view ≡ newcomer 0 (session_cost (sections_of script.now)) [] 1 [] [] }
+    requires first { first.old.view ≡ newcomer 0 (session_cost (sections_of script.now)) [] 1 [] [] }
+    requires new { (first.old.carried.files ≡ []) × (first.old.text ≡ []) }
     requires sized { IsSized (sections_of script.now) }
-    requires count { (count ≡ length (actor_sections (sections_of script.now))) × (count < 256) × (count < length ports.old) }
+    requires count { (length (actor_sections (sections_of script.now)) < 256) × (length (actor_sections (sections_of script.now)) < length ports.old) }
     requires there { (n : ℕ) → 1 ≤ n → n < length ports.old → there_at ports.old n ≡ true }
-    ensures actor { IsActorOf device.now first.new }
-    ensures out { IfOk result (λ printed. HasCarriedOut D.Port.told D.is_planned (sections_of script.now) first.old.pass.view (D.Port.told first.old.port) ports.old
-        (texts_of printed) first.new.pass.view (D.Port.told first.new.port) ports.new) }
-    ensures stopped { IfErr result (λ e. (e ≡ NoMemory) ⊎ CannotEnd first.new.pass.view) }
+    ensures device { first.new.gate ≡ first.old.gate }
+    ensures out { IfOk result (λ printed. HasCarriedOut D.Port.told D.is_planned (sections_of script.now) first.old.view first.old.carried.told ports.old
+        (texts_of printed) first.new.view first.new.carried.told ports.new) }
+    ensures stopped { IfErr result (λ e. (e ≡ NoMemory) ⊎ CannotEnd first.new.view) }
     ensures ports_len { length ports.new ≡ length ports.old }
 {
     match Talk::new(alloc) {
-        Ok(mut talk) => carry_parts(rt, alloc, device, first, &mut talk, ports, script, count),
+        Ok(mut talk) => carry_parts(rt, alloc, first, &mut talk, ports, script),
         Err(errno) => Err(errno),
     }
 }
@@ -188,11 +193,10 @@ pub fn run_several<R: Threads + Wait + Sync, D: Driver<Core>>(
     driver: D,
     ports: &mut [Option<D::Port>],
     script: &Script<'_>,
-    count: usize,
 ) -> Result<(Printed, Vec<Entry<Core>>), Errno>
     requires none { D.ENTRIES ≡ 0 }
     requires sized { IsSized (sections_of script.now) }
-    requires count { (count ≡ length (actor_sections (sections_of script.now))) × (count ≤ 16) }
+    requires count { length (actor_sections (sections_of script.now)) ≤ 16 }
     requires ports { AreAllThere ports.old }
     ensures came { IfOk result (λ ran. CameToMany D.is_planned (sections_of script.now) (told_at D.Port.told ports.old) (told_at D.Port.told ports.new) ran.1.items (texts_of ran.0)) }
     ensures there { OnOk result (AreAllThere ports.new) }
@@ -201,16 +205,19 @@ pub fn run_several<R: Threads + Wait + Sync, D: Driver<Core>>(
 {
     match take_port::<D>(ports, 0) {
         Some(port) => match Gpio::new(alloc, driver, port, script.cost() as u32) {
-            Ok((device, mut first)) => {
-                match carry_out(rt, alloc, &device, &mut first, ports, script, count) {
+            Ok((device, actor)) => {
+                let mut first = Player::new(alloc, &device, actor);
+                match carry_out(rt, alloc, &mut first, ports, script) {
                     Ok(printed) => {
-                        let (_machine, history, port) = device.finish(first);
+                        let actor = first.into_actor();
+                        let (_machine, history, port) = device.finish(actor);
                         give_port::<D>(ports, 0, port);
                         Ok((printed, history))
                     }
                     Err(Errno::NoMemory) => Err(Errno::NoMemory),
                     Err(_) => {
-                        let _ended = device.finish(first);
+                        let actor = first.into_actor();
+                        let _ended = device.finish(actor);
                         unreachable!()
                     }
                 }

@@ -1,7 +1,6 @@
 //! One actor's section, from its first statement to the closing of its files.
 ghost use Rattle.std.specs.Prelude.{◌≡◌, ◌⊎◌, ◌-◌, ◌≤◌, [], length, map, get_or, option_map, IfOk, IfErr};
 ghost use Rattle.gl_base.specs.declared.errno.Errno.TheVariants.{Full, NoMemory};
-ghost use Rattle.gl_chip.specs.Values.{IsActorOf};
 ghost use Rattle.gl_script.specs.Meaning.{head_in};
 ghost use Rattle.gl_script.specs.Script.{sections_of};
 ghost use Rattle.gl_talk.specs.Open.{no_names};
@@ -13,9 +12,9 @@ ghost use Rattle.gl_check.specs.Turns.{carried};
 ghost use Rattle.gl_session.specs.Workers.{PlaysWhole, is_actor_head};
 
 use crate::play::{play, play_all};
+use crate::player::Player;
 use crate::rendezvous::Rendezvous;
 use gl_base::{ByteList, Errno};
-use gl_chip::{Actor, Gpio};
 use gl_core::Core;
 use gl_driver::Driver;
 use gl_script::{Head, Script, Statement};
@@ -27,34 +26,29 @@ use std::sync::Wait;
 pub fn play_section<R: Wait, D: Driver<Core>>(
     rt: &R,
     alloc: Global,
-    device: &Gpio<D>,
-    actor: &mut Actor<D>,
+    player: &mut Player<'_, D>,
     statements: &[Statement<'_>],
 ) -> Result<ByteList, Errno>
     requires none { D.ENTRIES ≡ 0 }
-    requires actor { IsActorOf device.now actor.old }
     requires few { length statements.now ≤ 1048576 }
-    ensures actor { IsActorOf device.now actor.new }
+    requires new { (player.old.carried.files ≡ []) × (player.old.text ≡ []) }
+    ensures device { player.new.gate ≡ player.old.gate }
     ensures played { IfOk result (λ text. PlaysWhole D.is_planned (talks 0 (map columns_in statements.now) no_names)
-        actor.old.pass.view (D.Port.told actor.old.port) text actor.new.pass.view (D.Port.told actor.new.port)) }
+        player.old.view player.old.carried.told text player.new.view player.new.carried.told) }
     ensures stopped { IfErr result (λ e. (e ≡ NoMemory) ⊎ ((e ≡ Full)
-        × StoppedFull D.is_planned (talks 0 (map columns_in statements.now) no_names) actor.old.pass.view (carried [] (D.Port.told actor.old.port)) actor.new.pass.view)) }
+        × StoppedFull D.is_planned (talks 0 (map columns_in statements.now) no_names) player.old.view (carried [] player.old.carried.told) player.new.view)) }
 {
     let mut talk = match Talk::new(alloc) {
         Ok(talk) => talk,
         Err(errno) => return Err(errno),
     };
-    let mut rows = Vec::new(alloc);
-    let mut text = Vec::new(alloc);
-    match play_all(
-        rt, alloc, device, actor, &mut talk, &mut rows, &mut text, statements,
-    ) {
+    match play_all(rt, alloc, player, &mut talk, statements) {
         Ok(()) => {}
         Err(errno) => return Err(errno),
     }
     talk.quit();
-    match play(rt, alloc, device, actor, &mut talk, &mut rows, &mut text) {
-        Ok(()) => Ok(ByteList::of(text)),
+    match play(rt, alloc, player, &mut talk) {
+        Ok(()) => Ok(ByteList::of(player.take_text(alloc))),
         Err(errno) => Err(errno),
     }
 }
@@ -63,22 +57,21 @@ pub fn play_section<R: Wait, D: Driver<Core>>(
 pub fn play_beside<R: Wait, D: Driver<Core>>(
     rt: &R,
     alloc: Global,
-    device: &Gpio<D>,
+    player: &mut Player<'_, D>,
     start: &Rendezvous,
-    actor: &mut Actor<D>,
     statements: &[Statement<'_>],
 ) -> Result<ByteList, Errno>
     requires none { D.ENTRIES ≡ 0 }
-    requires actor { IsActorOf device.now actor.old }
     requires few { length statements.now ≤ 1048576 }
-    ensures actor { IsActorOf device.now actor.new }
+    requires new { (player.old.carried.files ≡ []) × (player.old.text ≡ []) }
+    ensures device { player.new.gate ≡ player.old.gate }
     ensures played { IfOk result (λ text. PlaysWhole D.is_planned (talks 0 (map columns_in statements.now) no_names)
-        actor.old.pass.view (D.Port.told actor.old.port) text actor.new.pass.view (D.Port.told actor.new.port)) }
+        player.old.view player.old.carried.told text player.new.view player.new.carried.told) }
     ensures stopped { IfErr result (λ e. (e ≡ NoMemory) ⊎ ((e ≡ Full)
-        × StoppedFull D.is_planned (talks 0 (map columns_in statements.now) no_names) actor.old.pass.view (carried [] (D.Port.told actor.old.port)) actor.new.pass.view)) }
+        × StoppedFull D.is_planned (talks 0 (map columns_in statements.now) no_names) player.old.view (carried [] player.old.carried.told) player.new.view)) }
 {
     start.meet();
-    play_section(rt, alloc, device, actor, statements)
+    play_section(rt, alloc, player, statements)
 }
 
 /// Whether the head is an actor's.

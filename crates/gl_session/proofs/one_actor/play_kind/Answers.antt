@@ -1,4 +1,4 @@
-use Rattle.std.proofs.Common.{rules, ◌<◌, ◌+◌, List, sym, inl, inr, ⊎_elim, ap, ◌∙◌, length, map, drop, ◌++◌, arith}
+use Rattle.std.proofs.Common.{rules, refl, ◌<◌, ◌+◌, List, sym, inl, inr, ⊎_elim, ap, ◌∙◌, length, map, drop, ◌++◌, arith}
 use Rattle.std.proofs.lemmas.List.{length-map}
 use Rattle.gl_base.specs.Words.{Span}
 use Rattle.gl_script.specs.Script.{sections_of}
@@ -10,7 +10,7 @@ use Rattle.gl_session.proofs.Sections.{said_next, section_count, section_step, s
 use Rattle.gl_session.proofs.one_actor.play_kind.Goals as goal
 
 pub loop-section-init : goal.loop-section-init
-loop-section-init g c = (c.requires.actor, search rules, search rules, plays_nothing _ _ _ _ _)
+loop-section-init g c = (refl, search rules, search rules, plays_nothing _ _ _ _ _)
 
 pub play_all-requires-clause-begun : goal.play_all-requires-clause-begun
 play_all-requires-clause-begun g c =
@@ -26,7 +26,7 @@ loop-section-preserved g c =
     let whole = said_next c.args.kind (sections_of c.args.script.now) c.loop-section.section within
     ∙ ap (λ (l : List (List Span)). l ++ said_in_kind c.args.kind (drop (c.loop-section.section + 1) (sections_of c.args.script.now))) (sym c.statements_of_kind-statements.ensures) in
     let count = section_count (map columns_in c.statements_of_kind-statements.result.now) (said_in_kind c.args.kind (drop (c.loop-section.section + 1) (sections_of c.args.script.now))) (said_in_kind c.args.kind (drop c.loop-section.section (sections_of c.args.script.now))) whole in let mapped = length-map c.statements_of_kind-statements.result.now columns_in in (
-      c.in-Ok.ensures.actor,
+      c.in-Ok.ensures.device ∙ c.loop-section.invariant.0,
       c.loop-section.invariant.1,
       omega (arith, count, mapped, c.loop-section.invariant.2, c.in-Ok.ensures.counted),
       plays_on _ _ _ _ _ _ _ _ _ _ _ _ _ c.loop-section.invariant.3

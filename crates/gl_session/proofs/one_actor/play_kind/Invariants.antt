@@ -1,22 +1,19 @@
 use Rattle.std.proofs.Common.{◌≡◌, ◌+◌, drop, length}
 use Rattle.gl_args.specs.Program.{done}
-use Rattle.gl_chip.specs.Values.{IsActorOf}
 use Rattle.gl_script.specs.Script.{sections_of}
 use Rattle.gl_talk.specs.Talk.{names_in, says}
 use Rattle.gl_check.specs.One.{said_in_kind}
 use Rattle.gl_session.specs.OneActor.{count_in_kind}
 use Rattle.gl_session.specs.Performed.{PlaysOn}
-use Rattle.gl_check.specs.Turns.{carried}
-use Rattle.gl_session.specs.Rows.{files_of}
 use Rattle.gl_session.proofs.one_actor.play_kind.Given as goal
 
 -- the sections were carried out so far, and those that are left come behind
 abbrev pub invariant-loop-section : goal.invariant-loop-section
 invariant-loop-section g l =
-    IsActorOf l.device l.actor
+    (l.player.gate ≡ l.initial.player.gate)
     × (l.section-end ≡ length (sections_of l.script))
     × (l.talk.begun + count_in_kind l.kind (drop l.section (sections_of l.script)) ≡ l.initial.talk.begun + count_in_kind l.kind (sections_of l.script))
     × PlaysOn g.D.Driver.is_planned (says l.initial.talk.begun (said_in_kind l.kind (sections_of l.script)) done (names_in l.initial.talk))
-    l.initial.actor.pass.view (carried (files_of l.initial.rows.items) (g.D.Port.Port.told l.initial.actor.port)) l.initial.text.items
+    l.initial.player.view l.initial.player.carried l.initial.player.text
     (says l.talk.begun (said_in_kind l.kind (drop l.section (sections_of l.script))) done (names_in l.talk))
-    l.actor.pass.view (carried (files_of l.rows.items) (g.D.Port.Port.told l.actor.port)) l.text.items
+    l.player.view l.player.carried l.player.text

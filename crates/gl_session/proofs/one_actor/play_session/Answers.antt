@@ -1,7 +1,18 @@
-use Rattle.std.proofs.Common.{⊎_elim}
+use Rattle.std.proofs.Common.{ℕ, List, Option, ⊎_elim, ap, subst, sym}
+use Rattle.gl_driver.specs.Told.{Told}
+use Rattle.gl_script.specs.Script.{sections_of}
+use Rattle.gl_chip.specs.Values.{OneView}
+use Rattle.gl_check.specs.Turns.{Carried}
+use Rattle.gl_session.specs.OneActor.{HasPlayed}
 use Rattle.gl_session.proofs.Whole.{never_full}
 use Rattle.gl_session.proofs.one_actor.play_session.Goals as goal
 
-pub returns-in-Err-play_parts-clause-memory_alone : goal.returns-in-Err-play_parts-clause-memory_alone
-returns-in-Err-play_parts-clause-memory_alone g c =
+pub returns-in-Ok-play_parts-clause-played : goal.returns-in-Ok-play_parts-clause-played
+returns-in-Ok-play_parts-clause-played g c =
+    let taken = c.take_text.ensures in
+    subst (λ (x : List ℕ × Option Told × OneView). HasPlayed g.D.Driver.is_planned (sections_of c.args.script.now) c.args.player.now.carried.told x.0 x.1 c.args.player.now.view x.2)
+    (λ i. (sym taken.text i, ap (λ (k : Carried). k.told) (sym taken.carried) i, sym taken.view i)) c.in-Ok-play_parts.ensures.played
+
+pub returns-in-Ok-clause-memory_alone : goal.returns-in-Ok-clause-memory_alone
+returns-in-Ok-clause-memory_alone g c =
     ⊎_elim (λ wanted. wanted) (λ full. absurd (never_full _ _ _ c.requires.first c.number-number.ensures.strangers full.1)) c.in-Err-play_parts.ensures.stopped

@@ -3,11 +3,11 @@ use Rattle.gl_session.proofs.Plays.{plays_nothing, plays_on, stops_on}
 use Rattle.gl_session.proofs.play.play.Goals as goal
 
 pub loop-init : goal.loop-init
-loop-init g c = (c.requires.actor, refl, plays_nothing _ _ _ _ _)
+loop-init g c = (refl, refl, plays_nothing _ _ _ _ _)
 
 pub loop-preserved : goal.loop-preserved
 loop-preserved g c = (
-  c.in-Ok-true.ensures.actor,
+  c.in-Ok-true.ensures.device ∙ c.loop.invariant.0,
   c.in-Ok-true.ensures.counted ∙ c.loop.invariant.1,
   plays_on _ _ _ _ _ _ _ _ _ _ _ _ _ c.loop.invariant.2 (c.in-Ok-true.ensures.taken (search rules)),
 )

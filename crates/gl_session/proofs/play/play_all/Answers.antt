@@ -1,4 +1,4 @@
-use Rattle.std.proofs.Common.{◌≡◌, ℕ, List, inl, inr, ⊎_elim, ap, ◌∙◌, None, arith}
+use Rattle.std.proofs.Common.{◌≡◌, ℕ, List, inl, inr, ⊎_elim, ap, ◌∙◌, None, arith, refl}
 use Rattle.gl_args.specs.Program.{given, goes_on}
 use Rattle.gl_script.specs.Columns.{columns}
 use Rattle.gl_talk.specs.declared.talk.Talk.{Talk}
@@ -12,11 +12,11 @@ begun_as : (talk : Talk) (names : Names) (slot : ℕ) (line other : List ℕ) �
 begun_as talk names slot line other begun same = ap (λ l. given l None) begun ∙ ap (λ (l : List ℕ). does names slot (columns l)) same
 
 pub loop-statement-init : goal.loop-statement-init
-loop-statement-init g c = (c.requires.actor, omega arith, plays_nothing _ _ _ _ _)
+loop-statement-init g c = (refl, omega arith, plays_nothing _ _ _ _ _)
 
 pub loop-statement-preserved : goal.loop-statement-preserved
 loop-statement-preserved g c = (
-  c.in-Ok.ensures.actor,
+  c.in-Ok.ensures.device ∙ c.loop-statement.invariant.0,
   omega (arith, c.in-Ok.ensures.counted, c.in_ok-begin.ensures.counted, c.loop-statement.invariant.1),
   plays_on _ _ _ _ _ _ _ _ _ _ _ _ _ c.loop-statement.invariant.2
       (statement_step _ _ _ c.loop-statement.talk.begun c.args.statements.now c.loop-statement.statement-index _ (names_in c.loop-statement.talk) _ _ _ _ _ c.play.new.talk.begun (names_in c.play.new.talk)

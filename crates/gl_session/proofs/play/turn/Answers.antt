@@ -1,4 +1,4 @@
-use Rattle.std.proofs.Common.{rules, inl, inr, ⊎_elim, ◌≡◌, ◌++◌}
+use Rattle.std.proofs.Common.{rules, inl, inr, ⊎_elim}
 use Rattle.gl_args.specs.Program.{Goes, given}
 use Rattle.gl_args.specs.declared.next.Next.TheVariants.{Call, Print}
 use Rattle.gl_talk.specs.Talk.{left}
@@ -8,15 +8,14 @@ use Rattle.gl_session.proofs.play.turn.Goals as goal
 pub returns-in-Ok-clause-taken : goal.returns-in-Ok-clause-taken
 returns-in-Ok-clause-taken g c = λ _.
     let goes : Goes (given (left c.args.talk.now) c.args.got.now) (Call c.in-Ok-Call.what) (left c.next.new.self) = search rules in
-    did_turn _ _ _ _ _ c.in-Ok-Call.what (left c.next.new.self) c.in-Ok.result_of _ _ goes c.in-Ok.ensures.performs
+    did_turn _ _ _ _ _ c.in-Ok-Call.what _ (left c.next.new.self) c.in-Ok.result_of _ _ goes c.in-Ok.ensures.text c.in-Ok.ensures.performs
 
 pub returns-in-Ok-Call-clause-stopped : goal.returns-in-Ok-Call-clause-stopped
 returns-in-Ok-Call-clause-stopped g c =
     let goes : Goes (given (left c.args.talk.now) c.args.got.now) (Call c.in-Ok-Call.what) (left c.next.new.self) = search rules in
-    ⊎_elim (λ wanted. inl wanted) (λ full. inr (full.0, full_turn _ _ _ _ c.args.text.now.items c.in-Ok-Call.what (left c.next.new.self) _ goes full.1)) c.in-Err-perform.ensures.performs
+    ⊎_elim (λ wanted. inl wanted) (λ full. inr (full.0, full_turn _ _ _ _ c.args.player.now.text c.in-Ok-Call.what (left c.next.new.self) _ goes full.1)) c.in-Err-perform.ensures.performs
 
-pub returns-in-Ok-extend_from_slice-clause-taken : goal.returns-in-Ok-extend_from_slice-clause-taken
-returns-in-Ok-extend_from_slice-clause-taken g c = λ _.
+pub returns-in-Ok-print-clause-taken : goal.returns-in-Ok-print-clause-taken
+returns-in-Ok-print-clause-taken g c = λ _.
     let goes : Goes (given (left c.args.talk.now) c.args.got.now) (Print c.in-Ok-Print.piece) (left c.next.new.self) = search rules in
-    let more : c.extend_from_slice.new.self.items ≡ c.args.text.now.items ++ c.in-Ok-Print.piece = search rules in
-    printed_turn _ _ _ _ _ c.in-Ok-Print.piece c.extend_from_slice.new.self.items (left c.next.new.self) goes more
+    printed_turn _ _ _ _ _ c.in-Ok-Print.piece _ (left c.next.new.self) _ _ goes c.in-Ok-print.ensures.view c.in-Ok-print.ensures.carried (search rules)

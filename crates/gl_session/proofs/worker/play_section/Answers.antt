@@ -1,9 +1,11 @@
-use Rattle.std.proofs.Common.{ap, inl, inr, map, sym, subst, ⊎_elim, None}
+use Rattle.std.proofs.Common.{ap, inl, inr, map, sym, subst, ⊎_elim, None, Option, List, ℕ, ◌∙◌}
 use Rattle.gl_args.specs.Program.{given}
 use Rattle.gl_talk.specs.Open.{no_names}
 use Rattle.gl_talk.specs.Over.{columns_in}
 use Rattle.gl_talk.specs.Talk.{talks}
-use Rattle.gl_session.specs.Rows.{files_of}
+use Rattle.gl_driver.specs.Told.{Told}
+use Rattle.gl_chip.specs.Values.{OneView}
+use Rattle.gl_check.specs.Turns.{Carried}
 use Rattle.gl_session.specs.Workers.{PlaysWhole}
 use Rattle.gl_session.proofs.WholeSections.{plays_whole, stops_among_them, stops_behind_them}
 use Rattle.gl_session.proofs.worker.play_section.Goals as goal
@@ -11,14 +13,16 @@ use Rattle.gl_session.proofs.worker.play_section.Goals as goal
 pub returns-in-Ok-play-clause-played : goal.returns-in-Ok-play-clause-played
 returns-in-Ok-play-clause-played g c =
     let new = c.in-Ok.ensures.ok in
-    subst (λ t. PlaysWhole g.D.Driver.is_planned (talks 0 (map columns_in c.args.statements.now) no_names) c.args.actor.now.pass.view (g.D.Port.Port.told c.args.actor.now.port) t c.play.new.actor.pass.view (g.D.Port.Port.told c.play.new.actor.port)) (sym c.of.ensures)
-    (plays_whole _ (map columns_in c.args.statements.now) _ _ _ _ _ _ _ _ _ _ _ _ _ _ _ _ _ new.1 new.0 (ap files_of c.new-rows.ensures.items) c.new-text.ensures.items (ap (λ l. given l None) c.quit.ensures.quits) c.in-Ok-play_all.ensures.played c.in-Ok-play.ensures.played)
+    let taken = c.take_text.ensures in
+    subst (λ (x : List ℕ × OneView × Option Told). PlaysWhole g.D.Driver.is_planned (talks 0 (map columns_in c.args.statements.now) no_names) c.args.player.now.view c.args.player.now.carried.told x.0 x.1 x.2)
+    (λ i. (sym (c.of.ensures ∙ taken.text) i, sym taken.view i, ap (λ (k : Carried). k.told) (sym taken.carried) i))
+    (plays_whole _ (map columns_in c.args.statements.now) _ _ _ c.args.player.now.carried.told c.play_all.new.player.carried.told c.play.new.player.carried.told c.play_all.new.player.carried.files _ _ _ _ _ _ c.args.player.now.carried.files c.play.new.player.carried.files _ _ new.1 new.0 c.requires.new.0 c.requires.new.1 (ap (λ l. given l None) c.quit.ensures.quits) c.in-Ok-play_all.ensures.played c.in-Ok-play.ensures.played)
 
 pub returns-in-Err-play_all-clause-stopped : goal.returns-in-Err-play_all-clause-stopped
 returns-in-Err-play_all-clause-stopped g c =
     let new = c.in-Ok.ensures.ok in
     ⊎_elim (λ wanted. inl wanted)
-    (λ full. inr (full.0, stops_among_them _ (map columns_in c.args.statements.now) _ _ _ _ _ _ new.1 new.0 (ap files_of c.new-rows.ensures.items) full.1))
+    (λ full. inr (full.0, stops_among_them _ (map columns_in c.args.statements.now) _ _ c.args.player.now.carried.told _ _ c.args.player.now.carried.files new.1 new.0 c.requires.new.0 full.1))
     c.in-Err-play_all.ensures.stopped
 
 pub returns-clause-stopped : goal.returns-clause-stopped
@@ -27,6 +31,6 @@ returns-clause-stopped g c =
     ⊎_elim (λ wanted. inl wanted)
     (λ full. inr (
       full.0,
-      stops_behind_them _ (map columns_in c.args.statements.now) _ _ _ _ _ _ new.1 new.0 (ap files_of c.new-rows.ensures.items) _ _ _ _ _ _ _ (ap (λ l. given l None) c.quit.ensures.quits) c.in-Ok-play_all.ensures.played full.1,
+      stops_behind_them _ (map columns_in c.args.statements.now) _ _ c.args.player.now.carried.told _ _ c.args.player.now.carried.files new.1 new.0 c.requires.new.0 _ c.play_all.new.player.carried.told c.play_all.new.player.carried.files _ _ _ _ (ap (λ l. given l None) c.quit.ensures.quits) c.in-Ok-play_all.ensures.played full.1,
     ))
     c.in-Err-play.ensures.stopped

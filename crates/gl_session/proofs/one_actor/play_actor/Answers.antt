@@ -1,0 +1,41 @@
+use Rattle.std.proofs.Common.{[], refl, ◌∙◌, inl, inr, ⊎_elim}
+use Rattle.gl_args.specs.Program.{done}
+use Rattle.gl_script.specs.Script.{sections_of}
+use Rattle.gl_script.specs.declared.section.SectionKind.TheVariants.{Actor}
+use Rattle.gl_talk.specs.Open.{no_names}
+use Rattle.gl_talk.specs.Talk.{names_in, quits}
+use Rattle.gl_check.specs.One.{said_in_kind}
+use Rattle.gl_check.specs.Programs.{actor_of}
+use Rattle.gl_check.specs.Turns.{carried}
+use Rattle.gl_session.proofs.Plays.{plays_as, stops_as}
+use Rattle.gl_session.proofs.Sections.{begins_so, stops_so}
+use Rattle.gl_session.proofs.one_actor.play_actor.Goals as goal
+
+pub returns-in-Ok-play_to_end-clause-played : goal.returns-in-Ok-play_to_end-clause-played
+returns-in-Ok-play_to_end-clause-played g c =
+    let new = c.in-Ok.ensures.ok in
+    let aside = c.change_files-waiting.ensures in
+    let back = c.change_files-left.ensures in
+    let player = c.change_files-waiting.new.self in
+    let end = c.play_to_end.new.player in (
+      names_in c.play_to_end.new.talk,
+      end.carried.files,
+      plays_as g.D.Driver.is_planned (actor_of (sections_of c.args.script.now)) (done (names_in c.play_to_end.new.talk)) player.view (carried [] player.carried.told) player.text end.view end.carried end.text
+          c.args.player.now.view (carried [] c.args.player.now.carried.told) c.args.player.now.text c.change_files-left.new.self.view (carried end.carried.files c.change_files-left.new.self.carried.told) c.change_files-left.new.self.text
+          aside.view refl aside.told aside.text back.view refl back.told back.text
+          (begins_so g.D.Driver.is_planned player.view player.carried.told (said_in_kind Actor (sections_of c.args.script.now)) quits _ 0 _ no_names player.carried.files [] new.1 new.0 (aside.files ∙ c.new.ensures) player.text _ end.view end.carried end.text c.in-Ok-play_to_end.ensures.played),
+    )
+
+pub returns-in-Err-play_to_end-clause-stopped : goal.returns-in-Err-play_to_end-clause-stopped
+returns-in-Err-play_to_end-clause-stopped g c =
+    let new = c.in-Ok.ensures.ok in
+    let aside = c.change_files-waiting.ensures in
+    let player = c.change_files-waiting.new.self in
+    ⊎_elim (λ wanted. inl wanted)
+    (λ full. inr (
+      full.0,
+      stops_as g.D.Driver.is_planned (actor_of (sections_of c.args.script.now)) player.view (carried [] player.carried.told) c.play_to_end.new.player.view c.args.player.now.view (carried [] c.args.player.now.carried.told)
+          aside.view refl aside.told
+          (stops_so g.D.Driver.is_planned player.view player.carried.told (said_in_kind Actor (sections_of c.args.script.now)) quits _ 0 _ no_names player.carried.files [] new.1 new.0 (aside.files ∙ c.new.ensures) c.play_to_end.new.player.view full.1),
+    ))
+    c.in-Err-play_to_end.ensures.stopped

@@ -1,0 +1,292 @@
+//! Who carries the operations of talks out on a device.
+
+ghost use Rattle.std.specs.Prelude.{◌≡◌};
+ghost use Rattle.gl_session.specs.Player.{kind_of};
+
+use crate::buffers::buffer_for;
+use crate::rows::Rows;
+use gl_asking::{Asking, Change, FileKind, FileRow, asking_of, files_behind, got_of};
+use gl_base::{Do, Errno, Got};
+use gl_chip::{Actor, Gpio, Order};
+use gl_core::Core;
+use gl_driver::Driver;
+use gl_model::{DeviceCall, Reply};
+use std::alloc::Global;
+use std::marker::Model;
+use std::mem;
+use std::sync::Wait;
+
+/// An actor of a device, with the open files of the talk that it carries out, and what its talks printed.
+#[derive(Drop)]
+pub struct Player<'d, D: Driver<Core>> {
+    pub(crate) device: &'d Gpio<D>,
+    pub(crate) actor: Actor<D>,
+    files: Rows,
+    text: Vec<u8>,
+}
+
+impl<'d, D: Driver<Core>> Model for Player<'d, D> {
+    ghost use Rattle.gl_chip.specs.Values.{IsActorOf};
+    ghost use Rattle.gl_session.specs.Player.{Playing};
+
+    ghost Value = { Playing };
+
+    ghost view = { λ p. record { gate = p.device.now; view = p.actor.pass.view; carried = record { files = p.files; told = D.Port.told p.actor.port }; text = p.text.items } };
+
+    ghost invariant = { λ p. IsActorOf p.device.now p.actor };
+}
+
+/// What the file of a row is of; a chip where there is no row.
+fn kind_of(row: Option<FileRow>) -> FileKind
+    ensures { result ≡ kind_of row }
+{
+    match row {
+        Some(row) => row.kind,
+        None => FileKind::Chip,
+    }
+}
+
+impl<'d, D: Driver<Core>> Player<'d, D> {
+    ghost use Rattle.std.specs.Prelude.{◌≡◌, ◌⊎◌, ◌++◌, ℕ, List, [], IfOk, IfErr, OnOk, IsOkUnless};
+    ghost use Rattle.gl_base.specs.declared.errno.Errno.TheVariants.{Full, NoMemory};
+    ghost use Rattle.gl_world.specs.Deeds.{entries_in};
+    ghost use Rattle.gl_rule.specs.Turn.{NoStrangers};
+    ghost use Rattle.gl_gate.specs.Calls.{HasItsOwn};
+    ghost use Rattle.gl_driver.specs.Told.{PortAfter, with_bits, with_plan};
+    ghost use Rattle.gl_core.specs.Device.{core, tells_in};
+    ghost use Rattle.gl_asking.specs.declared.kinds.Asking.TheVariants.{Calls};
+    ghost use Rattle.gl_asking.specs.Asking.{asking, file_for, files_behind};
+    ghost use Rattle.gl_asking.specs.Changes.{IsChange, OpensWithin, changed};
+    ghost use Rattle.gl_asking.specs.Fitting.{FitsDevice};
+    ghost use Rattle.gl_asking.specs.Rows.{IsSomeRow, file_of};
+    ghost use Rattle.gl_chip.specs.Called.{HasCalled};
+    ghost use Rattle.gl_chip.specs.Orders.{AnswersOrder, FitsOrder, WroteTo, op_ordered};
+    ghost use Rattle.gl_chip.specs.Steps.{FoundNoRoom};
+    ghost use Rattle.gl_chip.specs.Values.{IsActorOf};
+    ghost use Rattle.gl_session.specs.Performed.{Performs};
+
+    /// An actor of this device that has no file open and has printed nothing.
+    pub fn new(alloc: Global, device: &'d Gpio<D>, actor: Actor<D>) -> Player<'d, D>
+        requires actor { IsActorOf device.now actor }
+        ensures device { result.gate ≡ device.now }
+        ensures view { result.view ≡ actor.pass.view }
+        ensures files { result.carried.files ≡ [] }
+        ensures told { result.carried.told ≡ D.Port.told actor.port }
+        ensures text { result.text ≡ [] }
+    {
+        Player {
+            device,
+            actor,
+            files: Rows::new(alloc),
+            text: Vec::new(alloc),
+        }
+    }
+
+    /// The actor. Its files are left as they are on the device.
+    pub fn into_actor(self) -> Actor<D>
+        ensures actor { IsActorOf self.entry.gate result }
+        ensures view { result.pass.view ≡ self.entry.view }
+        ensures port { D.Port.told result.port ≡ self.entry.carried.told }
+    {
+        let Player {
+            device: _,
+            actor,
+            files: _,
+            text: _,
+        } = self;
+        actor
+    }
+
+    /// The number of the actor. It knows its own entries, and of other actors those alone that some actor may have made.
+    pub fn number(&self) -> u8
+        ensures own { HasItsOwn self.now.view }
+        ensures strangers { NoStrangers self.now.view self.now.view.seen }
+    {
+        self.actor.number()
+    }
+
+    /// Appends a piece of text.
+    pub fn print(&mut self, piece: &[u8]) -> Result<(), Errno>
+        ensures device { self.new.gate ≡ self.old.gate }
+        ensures view { self.new.view ≡ self.old.view }
+        ensures carried { self.new.carried ≡ self.old.carried }
+        ensures printed { OnOk result (self.new.text ≡ self.old.text ++ piece.now) }
+        ensures memory_alone { IsOkUnless result NoMemory }
+    {
+        match self.text.extend_from_slice(piece) {
+            Ok(()) => Ok(()),
+            Err(_) => Err(Errno::NoMemory),
+        }
+    }
+
+    /// Gives what was printed so far, and begins a new text.
+    pub fn take_text(&mut self, alloc: Global) -> Vec<u8>
+        ensures text { result.items ≡ self.old.text }
+        ensures device { self.new.gate ≡ self.old.gate }
+        ensures view { self.new.view ≡ self.old.view }
+        ensures carried { self.new.carried ≡ self.old.carried }
+        ensures empty { self.new.text ≡ [] }
+    {
+        mem::replace(&mut self.text, Vec::new(alloc))
+    }
+
+    /// Goes on with these files open, and gives those that were open.
+    pub fn change_files(&mut self, files: Rows) -> Rows
+        ensures given { result ≡ self.old.carried.files }
+        ensures device { self.new.gate ≡ self.old.gate }
+        ensures view { self.new.view ≡ self.old.view }
+        ensures files { self.new.carried.files ≡ files }
+        ensures told { self.new.carried.told ≡ self.old.carried.told }
+        ensures text { self.new.text ≡ self.old.text }
+    {
+        mem::replace(&mut self.files, files)
+    }
+
+    /// Carries an operation out, and gives its result. Want of memory and a full history are no result, and are the errors here.
+    pub fn perform<R: Wait>(&mut self, rt: &R, alloc: Global, what: &Do) -> Result<Got, Errno>
+        requires none { D.ENTRIES ≡ 0 }
+        ensures device { self.new.gate ≡ self.old.gate }
+        ensures text { self.new.text ≡ self.old.text }
+        ensures performs { Performs D.is_planned what.now result self.old.view self.old.carried self.new.view self.new.carried }
+    {
+        let row = self.row_for(what);
+        match asking_of(what, row) {
+            Asking::Calls(call) => self.call(rt, alloc, what, row, &call),
+            Asking::Plans(nth) => {
+                self.plan(nth);
+                self.settle(what, row, Reply::Done, Got::Done)
+            }
+            Asking::Accepts(bits) => {
+                self.accept(bits);
+                self.settle(what, row, Reply::Done, Got::Done)
+            }
+            Asking::Refuses(errno) => {
+                self.settle(what, row, Reply::Refused(errno), Got::Refused(errno))
+            }
+        }
+    }
+
+    /// Makes the call of an operation.
+    fn call<R: Wait>(
+        &mut self,
+        rt: &R,
+        alloc: Global,
+        what: &Do,
+        row: Option<FileRow>,
+        call: &DeviceCall,
+    ) -> Result<Got, Errno>
+        requires none { D.ENTRIES ≡ 0 }
+        requires row { IsSomeRow row }
+        requires found { file_for what.now self.old.carried.files ≡ file_of row }
+        requires fits { FitsDevice call.now }
+        requires asks { Calls call.now ≡ asking self.old.carried.files what.now }
+        ensures device { self.new.gate ≡ self.old.gate }
+        ensures text { self.new.text ≡ self.old.text }
+        ensures performs { Performs D.is_planned what.now result self.old.view self.old.carried self.new.view self.new.carried }
+    {
+        let mut buffer = match buffer_for(alloc, what) {
+            Ok(buffer) => buffer,
+            Err(errno) => return Err(errno),
+        };
+        let order = Order {
+            call: *call,
+            on: kind_of(row),
+        };
+        match self.make(rt, alloc, &order, &mut buffer) {
+            Ok(reply) => {
+                let got = got_of(what, &reply, buffer);
+                self.settle(what, row, reply, got)
+            }
+            Err(errno) => Err(errno),
+        }
+    }
+
+    /// Makes a call of the device.
+    fn make<R: Wait>(
+        &mut self,
+        rt: &R,
+        alloc: Global,
+        order: &Order,
+        out: &mut [u8],
+    ) -> Result<Reply, Errno>
+        requires none { D.ENTRIES ≡ 0 }
+        requires fits { FitsOrder order.now.call order.now.on out.old }
+        ensures device { self.new.gate ≡ self.old.gate }
+        ensures text { self.new.text ≡ self.old.text }
+        ensures files { self.new.carried.files ≡ self.old.carried.files }
+        ensures made { IfOk result (λ r. (bytes : List ℕ) × WroteTo order.now.call bytes out.old out.new
+            × (called : HasCalled 0 self.old.view order.now.call r bytes self.new.view)
+            × PortAfter D.is_planned (op_ordered order.now.call order.now.on) (tells_in (entries_in called.did)) self.old.carried.told self.new.carried.told) }
+        ensures form { IfOk result (λ r. AnswersOrder order.now.call order.now.on r) }
+        ensures could_not { IfErr result (λ e. (e ≡ NoMemory) ⊎ ((e ≡ Full) × FoundNoRoom core self.old.view self.new.view)) }
+    {
+        self.device.call(rt, alloc, &mut self.actor, order, out)
+    }
+
+    /// Keeps what becomes of the open files by the reply, and gives the result.
+    fn settle(
+        &mut self,
+        what: &Do,
+        row: Option<FileRow>,
+        reply: Reply,
+        got: Got,
+    ) -> Result<Got, Errno>
+        requires row { IsSomeRow row }
+        requires found { file_for what.now self.old.carried.files ≡ file_of row }
+        requires opens { OpensWithin what.now reply }
+        ensures device { self.new.gate ≡ self.old.gate }
+        ensures view { self.new.view ≡ self.old.view }
+        ensures told { self.new.carried.told ≡ self.old.carried.told }
+        ensures text { self.new.text ≡ self.old.text }
+        ensures settled { IfOk result (λ g. (g ≡ got) × (self.new.carried.files ≡ files_behind what.now reply self.old.carried.files)) }
+        ensures memory_alone { IsOkUnless result NoMemory }
+    {
+        match self.keep(files_behind(what, row, reply)) {
+            Ok(()) => Ok(got),
+            Err(errno) => Err(errno),
+        }
+    }
+
+    /// Makes a change in the open files.
+    fn keep(&mut self, change: Change) -> Result<(), Errno>
+        requires change { IsChange change }
+        ensures device { self.new.gate ≡ self.old.gate }
+        ensures view { self.new.view ≡ self.old.view }
+        ensures told { self.new.carried.told ≡ self.old.carried.told }
+        ensures text { self.new.text ≡ self.old.text }
+        ensures files { OnOk result (self.new.carried.files ≡ changed change self.old.carried.files) }
+        ensures memory_alone { IsOkUnless result NoMemory }
+    {
+        self.files.change(change)
+    }
+
+    /// The row of the file that an operation names, if it names one and it is open.
+    fn row_for(&self, what: &Do) -> Option<FileRow>
+        ensures found { file_for what.now self.now.carried.files ≡ file_of result }
+        ensures row { IsSomeRow result }
+    {
+        self.files.named_by(what)
+    }
+
+    /// Plans that the `nth` driver call from now on fails, counted from 1; 0 takes a plan away.
+    fn plan(&mut self, nth: u32)
+        ensures device { self.new.gate ≡ self.old.gate }
+        ensures view { self.new.view ≡ self.old.view }
+        ensures files { self.new.carried.files ≡ self.old.carried.files }
+        ensures told { self.new.carried.told ≡ with_plan nth self.old.carried.told }
+        ensures text { self.new.text ≡ self.old.text }
+    {
+        self.actor.plan(nth);
+    }
+
+    /// Makes these the bits that the actor's port accepts.
+    fn accept(&mut self, bits: u64)
+        ensures device { self.new.gate ≡ self.old.gate }
+        ensures view { self.new.view ≡ self.old.view }
+        ensures files { self.new.carried.files ≡ self.old.carried.files }
+        ensures told { self.new.carried.told ≡ with_bits bits self.old.carried.told }
+        ensures text { self.new.text ≡ self.old.text }
+    {
+        self.actor.accept(bits);
+    }
+}
