@@ -19,6 +19,8 @@ from typing import IO, List, Optional, Sequence, Type, TypeVar
 
 PROGRAM = Path(__file__).resolve().parent.parent / "crates/gpioserved/out/gpioserved"
 HEAD_MAX = 32
+# How many bytes a line has at most.
+LINE_MAX = 8192
 Self = TypeVar("Self", bound="Served")
 
 

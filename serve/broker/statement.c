@@ -6,6 +6,10 @@
 
 #include "files.h"
 
+/* The text of a number that a macro names. */
+#define TEXT_OF_NUMBER(number) #number
+#define TEXT_OF(macro) TEXT_OF_NUMBER(macro)
+
 /* A word of a line: where it begins, and how long it is; a length of 0 where there is none. */
 struct word {
     const char *at;
@@ -39,7 +43,7 @@ static bool names_file(const char *line) {
 static const char *fault_of(const char *line, size_t length, bool manual) {
     struct word first = next_word(line);
     if (length > MACHINE_LINE)
-        return "refused: a statement has at most 8192 bytes\n";
+        return "refused: a statement has at most " TEXT_OF(MACHINE_LINE) " bytes\n";
     if (strlen(line) != length || memchr(line, '\n', length))
         return "refused: a statement is one line of printable ASCII\n";
     if (is(first, "data"))

@@ -20,6 +20,7 @@ use Rattle.gl_served.specs.Questions.{IsData, IsReply, IsReplyTo, data_kind, due
 use Rattle.gl_served.specs.Served.{IsAnswer, Keeps, Said, ServedValue, carried_out, kind_after, limited, pair_after}
 use Rattle.gl_served.specs.UnderWay.{IsTaken}
 use Rattle.gl_served.specs.declared.alone.Alone.{Alone}
+use Rattle.gl_served.specs.declared.limits.TheConstants.{LINE_MAX}
 use Rattle.gl_served.specs.declared.answered.Answer.{Answer}
 use Rattle.gl_served.specs.declared.answered.Answer.TheVariants.{Text, Refused}
 use Rattle.gl_served.specs.declared.question.Question.{Question}
@@ -28,11 +29,11 @@ use Rattle.gl_served.specs.declared.under_way.UnderWay.{UnderWay}
 use Rattle.gl_served.proofs.CutLines.{long_asks}
 
 -- the kind of a line
-pub short_kind : (said : Said) (line : List ℕ) (pair : Option ℕ) (stage : Stage) → pair ≡ pair_after said → stage ≡ said.stage → length line ≤ 8192 → limited pair (line_kind stage line) ≡ kind_after said line
+pub short_kind : (said : Said) (line : List ℕ) (pair : Option ℕ) (stage : Stage) → pair ≡ pair_after said → stage ≡ said.stage → length line ≤ LINE_MAX → limited pair (line_kind stage line) ≡ kind_after said line
 short_kind said line pair stage own reached short =
     ap (λ (p : Option ℕ). limited p (line_kind stage line)) own
     ∙ ap (λ (s : Stage). limited (pair_after said) (line_kind s line)) reached
-    ∙ sym (ap (λ b. cond b (Err (spot 8193 Limit)) (limited (pair_after said) (line_kind said.stage line))) (le-ltb 8192 (length line) short))
+    ∙ sym (ap (λ b. cond b (Err (spot (LINE_MAX + 1) Limit)) (limited (pair_after said) (line_kind said.stage line))) (le-ltb LINE_MAX (length line) short))
 
 -- a refused line
 pub refuses : (said : Said) (line : List ℕ) (kind : Result LineKind Spot) (fault : Spot) → Err fault ≡ kind → IsAnswer said line kind (Refused fault) [] said
@@ -117,8 +118,8 @@ due_told (Err errno) old new now said line told = tt
 pub asked : (served : ServedValue) (said : Said) (line : List ℕ) (told q : Question) → Keeps served said → told ≡ question_of served.stage line → told ≡ q → question_of said.stage line ≡ q
 asked served said line told q keeps is same = sym (ap (λ (s : Stage). question_of s line) keeps.stage) ∙ sym is ∙ same
 
-pub data_short : (stage : Stage) (line : List ℕ) → question_of stage line ≡ Data → length line ≤ 8192
-data_short stage line is = elim (cases_lt 8192 (length line)) [
+pub data_short : (stage : Stage) (line : List ℕ) → question_of stage line ≡ Data → length line ≤ LINE_MAX
+data_short stage line is = elim (cases_lt LINE_MAX (length line)) [
   | inl long ↦ absurd (other (sym (long_asks stage line long) ∙ is))
   | inr short ↦ omega (arith, short)
 ]
@@ -127,7 +128,7 @@ data_short stage line is = elim (cases_lt 8192 (length line)) [
     other e = cc
 
 -- the statement that a `data` stands for is not much longer
-pub is_short : (chip : Bool) (line statement : List ℕ) → statement ≡ read_word chip ++ drop 5 line → length line ≤ 8192 → length statement + 2 < 2 ^ 32
+pub is_short : (chip : Bool) (line statement : List ℕ) → statement ≡ read_word chip ++ drop 5 line → length line ≤ LINE_MAX → length statement + 2 < 2 ^ 32
 is_short true line statement e short = omega (arith, ap (λ (l : List ℕ). length l) e, length-append (codes "changes ") (drop 5 line), length-drop 5 line, short)
 is_short false line statement e short = omega (arith, ap (λ (l : List ℕ). length l) e, length-append (codes "events ") (drop 5 line), length-drop 5 line, short)
 

@@ -20,6 +20,7 @@ use Rattle.gl_served.specs.Frames.{AreFrames, frame_of}
 use Rattle.gl_served.specs.Questions.{IsReply, IsReplyTo, question_in, question_of}
 use Rattle.gl_served.specs.Served.{IsAnswer, Keeps, Said, ServedValue, kind_after, limited, nothing_said, pair_after}
 use Rattle.gl_served.specs.CutLines.{HasServed, HasServedAll, HasServedLines, ServesTo, WroteFront, count_after, is_line, joined, with_rest}
+use Rattle.gl_served.specs.declared.limits.TheConstants.{LINE_MAX}
 use Rattle.gl_served.specs.declared.answered.Answer.{Answer}
 use Rattle.gl_served.proofs.Known.{appends_more, appends_nothing}
 
@@ -60,44 +61,44 @@ line_more (first ∷ bytes) byte is other = more (not (first == 10)) (λ h. line
     more true later h = later h
     more false later h = h
 
--- A line of more than 8192 bytes is answered as any other one that is as long, or longer.
-pub long_asks : (stage : Stage) (line : List ℕ) → 8192 < length line → question_of stage line ≡ Nothing
+-- A line of more than `LINE_MAX` bytes is answered as any other one that is as long, or longer.
+pub long_asks : (stage : Stage) (line : List ℕ) → LINE_MAX < length line → question_of stage line ≡ Nothing
 long_asks Opening line long = refl
 long_asks (Headed version) line long = refl
-long_asks (Open version) line long = ap (λ b. cond b Nothing (question_in line)) (lt-ltb 8192 (length line) long)
+long_asks (Open version) line long = ap (λ b. cond b Nothing (question_in line)) (lt-ltb LINE_MAX (length line) long)
 
-pub long_kind : (said : Said) (line : List ℕ) → 8192 < length line → kind_after said line ≡ Err (spot 8193 Limit)
-long_kind said line long = ap (λ b. cond b (Err (spot 8193 Limit)) (limited (pair_after said) (line_kind said.stage line))) (lt-ltb 8192 (length line) long)
+pub long_kind : (said : Said) (line : List ℕ) → LINE_MAX < length line → kind_after said line ≡ Err (spot (LINE_MAX + 1) Limit)
+long_kind said line long = ap (λ b. cond b (Err (spot (LINE_MAX + 1) Limit)) (limited (pair_after said) (line_kind said.stage line))) (lt-ltb LINE_MAX (length line) long)
 
-long_reply : (said : Said) (line : List ℕ) (answer : Answer) (text : List ℕ) (then : Said) → 8192 < length line → IsReply said line answer text then ≡ IsAnswer said [] (Err (spot 8193 Limit)) answer text then
+long_reply : (said : Said) (line : List ℕ) (answer : Answer) (text : List ℕ) (then : Said) → LINE_MAX < length line → IsReply said line answer text then ≡ IsAnswer said [] (Err (spot (LINE_MAX + 1) Limit)) answer text then
 long_reply said line answer text then long =
     ap (λ (q : Question). IsReplyTo q said line answer text then) (long_asks said.stage line long) ∙ ap (λ (k : Result LineKind Spot). IsAnswer said line k answer text then) (long_kind said line long)
 
-pub cut_reply : (said : Said) (line rest : List ℕ) (answer : Answer) (text : List ℕ) (then : Said) → line ≡ take 8193 rest → IsReply said line answer text then → IsReply said rest answer text then
-cut_reply said line rest answer text then is reply = elim (cases_lt 8192 (length rest)) [
+pub cut_reply : (said : Said) (line rest : List ℕ) (answer : Answer) (text : List ℕ) (then : Said) → line ≡ take (LINE_MAX + 1) rest → IsReply said line answer text then → IsReply said rest answer text then
+cut_reply said line rest answer text then is reply = elim (cases_lt LINE_MAX (length rest)) [
   | inl long ↦
-      (let whole : length line ≡ 8193 = ap length is ∙ length-take-le 8193 rest (omega (arith, long)) in
+      (let whole : length line ≡ LINE_MAX + 1 = ap length is ∙ length-take-le (LINE_MAX + 1) rest (omega (arith, long)) in
       subst (λ (T : Type 0). T) (long_reply said line answer text then (omega (arith, whole)) ∙ sym (long_reply said rest answer text then long)) reply)
-  | inr short ↦ subst (λ (l : List ℕ). IsReply said l answer text then) (is ∙ take_all 8193 rest (omega (arith, short))) reply
+  | inr short ↦ subst (λ (l : List ℕ). IsReply said l answer text then) (is ∙ take_all (LINE_MAX + 1) rest (omega (arith, short))) reply
 ]
 
 no_end_line : (byte : ℕ) → (byte ≡ 10 → ⊥) → (byte == 10) ≡ false
 no_end_line byte other = ne_eqb byte 10 other
 
 -- what is kept of a line with a byte more
-line_with : (line rest : List ℕ) (byte : ℕ) (then : List ℕ) → line ≡ take 8193 rest → (8192 < length line → then ≡ line) → (length line ≤ 8192 → then ≡ line ++ byte ∷ []) → then ≡ take 8193 (rest ++ byte ∷ [])
-line_with line rest byte then is long short = elim (cases_lt 8192 (length rest)) [
+line_with : (line rest : List ℕ) (byte : ℕ) (then : List ℕ) → line ≡ take (LINE_MAX + 1) rest → (LINE_MAX < length line → then ≡ line) → (length line ≤ LINE_MAX → then ≡ line ++ byte ∷ []) → then ≡ take (LINE_MAX + 1) (rest ++ byte ∷ [])
+line_with line rest byte then is long short = elim (cases_lt LINE_MAX (length rest)) [
   | inl more ↦
-      (let whole : length line ≡ 8193 = ap length is ∙ length-take-le 8193 rest (omega (arith, more)) in
-      long (omega (arith, whole)) ∙ is ∙ sym (take-append-le 8193 rest (byte ∷ []) (omega (arith, more))))
+      (let whole : length line ≡ LINE_MAX + 1 = ap length is ∙ length-take-le (LINE_MAX + 1) rest (omega (arith, more)) in
+      long (omega (arith, whole)) ∙ is ∙ sym (take-append-le (LINE_MAX + 1) rest (byte ∷ []) (omega (arith, more))))
   | inr few ↦
-      (let same : line ≡ rest = is ∙ take_all 8193 rest (omega (arith, few)) in
+      (let same : line ≡ rest = is ∙ take_all (LINE_MAX + 1) rest (omega (arith, few)) in
       let size : length line ≡ length rest = ap length same in
-      short (omega (arith, size, few)) ∙ ap (λ (l : List ℕ). l ++ byte ∷ []) same ∙ sym (take_all 8193 (rest ++ byte ∷ []) (omega (arith, few, length-append rest (byte ∷ [])))))
+      short (omega (arith, size, few)) ∙ ap (λ (l : List ℕ). l ++ byte ∷ []) same ∙ sym (take_all (LINE_MAX + 1) (rest ++ byte ∷ []) (omega (arith, few, length-append rest (byte ∷ [])))))
 ]
 
 pub byte_added : (served : ServedValue) (line : List ℕ) (answered : ℕ) (bytes written : List ℕ) (byte : ℕ) (then : List ℕ) → HasServed served line answered bytes written → (byte ≡ 10 → ⊥)
-    → (8192 < length line → then ≡ line) → (length line ≤ 8192 → then ≡ line ++ byte ∷ []) → HasServed served then answered (bytes ++ byte ∷ []) written
+    → (LINE_MAX < length line → then ≡ line) → (length line ≤ LINE_MAX → then ≡ line ++ byte ∷ []) → HasServed served then answered (bytes ++ byte ∷ []) written
 byte_added served line answered bytes written byte then has other long short = record {
   lines = has.lines;
   rest = has.rest ++ byte ∷ [];
@@ -145,7 +146,7 @@ module _ (served : ServedValue) (line : List ℕ) (answered : ℕ) (bytes writte
         (subst (λ (f : List ℕ). AreFrames nothing_said 0 (has.lines ++ has.rest ∷ []) (written ++ f) then) (sym (is ∙ ap (λ (n : ℕ). frame_of n answer text) counted)) all_frames);
   }
     where
-      last_line : (rest : List ℕ) → line ≡ take 8193 rest → has.lines ++ rest ∷ [] ≡ with_rest has.lines rest
+      last_line : (rest : List ℕ) → line ≡ take (LINE_MAX + 1) rest → has.lines ++ rest ∷ [] ≡ with_rest has.lines rest
       last_line [] is_none = absurd (some is_none)
       last_line (byte ∷ rest) is_some = refl
 
@@ -174,7 +175,7 @@ no_rest n (byte ∷ rest) is = cc
 
 pub nothing_under_way : (served : ServedValue) (line : List ℕ) (answered : ℕ) (bytes written : List ℕ) → (has : HasServed served line answered bytes written) → line ≡ [] → HasServedAll bytes written has.said
 nothing_under_way served line answered bytes written has none =
-    let ended : has.rest ≡ [] = no_rest 8192 has.rest (sym none ∙ has.line_is) in
+    let ended : has.rest ≡ [] = no_rest LINE_MAX has.rest (sym none ∙ has.line_is) in
     record {
       lines = has.lines;
       rest = has.rest;

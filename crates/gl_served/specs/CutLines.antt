@@ -1,11 +1,12 @@
 -- The lines of a source, as they were cut and answered so far. This project's choice.
-use Rattle.std.specs.Prelude.{◌≡◌, ℕ, Bool, true, not, ◌==◌, List, [], ◌∷◌, ◌++◌, take, Option}
+use Rattle.std.specs.Prelude.{◌≡◌, ℕ, ◌+◌, Bool, true, not, ◌==◌, List, [], ◌∷◌, ◌++◌, take, Option}
 use Rattle.std.specs.List.{list_all}
 use Rattle.std.specs.Io.KnownBytes.{Appends}
 use Rattle.gl_base.specs.Count.{counted_up}
 use Rattle.gl_base.specs.Rows.{Each}
 use Rattle.gl_served.specs.Frames.{AreFrames}
 use Rattle.gl_served.specs.Served.{Keeps, Said, ServedValue, nothing_said}
+use Rattle.gl_served.specs.declared.limits.TheConstants.{LINE_MAX}
 
 -- no byte ends a line
 abbrev pub is_line : List ℕ → Bool
@@ -39,7 +40,7 @@ pub record HasServed (served : ServedValue) (line : List ℕ) (answered : ℕ) (
   pub cut : IsCut bytes lines rest
   pub frames : AreFrames nothing_said 0 lines written said
   pub keeps : Keeps served said
-  pub line_is : line ≡ take 8193 rest
+  pub line_is : line ≡ take (LINE_MAX + 1) rest
   pub count : answered ≡ count_after 0 lines
 
 -- the same, and the sink holds these frames behind what it held

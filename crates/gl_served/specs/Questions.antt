@@ -1,6 +1,6 @@
 -- Lines that are no statements of a session: `due` asks for the earliest deadline, and `data NAME N` reads as `events NAME N` or `changes NAME N`
 -- does, and prints the bytes. This project's choice.
-use Rattle.std.specs.Prelude.{◌≡◌, ℕ, ◌-◌, Bool, true, false, nat_eq, nat_lt, if◌then◌else◌, List, ◌++◌, length, drop, codes, Option, None, Some, Result, Ok, Err, ◌∷◌}
+use Rattle.std.specs.Prelude.{◌≡◌, ℕ, ◌-◌, Bool, true, false, nat_eq, nat_lt, if◌then◌else◌, List, ◌++◌, length, drop, codes, Option, None, Some, Result, Ok, Err}
 use Rattle.std.specs.List.{starts_with}
 use Rattle.std.specs.Str.{bytes_eq}
 use Rattle.gl_args.specs.Program.{Program, done, print, ask}
@@ -23,6 +23,7 @@ use Rattle.gl_talk.specs.Talk.{does}
 use Rattle.gl_check.specs.One.{PlannedPort, Standing, from_plan, performs}
 use Rattle.gl_served.specs.Served.{IsAnswer, Said, carried_out, kind_after, limited, pair_after, said_after, text_of}
 use Rattle.gl_served.specs.Slots.{slot_of}
+use Rattle.gl_served.specs.declared.limits.TheConstants.{LINE_MAX}
 use Rattle.gl_served.specs.declared.answered.Answer.{Answer}
 use Rattle.gl_served.specs.declared.answered.Answer.TheVariants.{Text}
 use Rattle.gl_served.specs.declared.question.Question.{Question}
@@ -36,7 +37,7 @@ question_in line = if bytes_eq line (codes "due") then Due else if starts_with n
 abbrev pub question_of : Stage → List ℕ → Question
 question_of Opening line = Nothing
 question_of (Headed version) line = Nothing
-question_of (Open version) line = if nat_lt 8192 (length line) then Nothing else question_in line
+question_of (Open version) line = if nat_lt LINE_MAX (length line) then Nothing else question_in line
 
 -- the moment, or `-`
 abbrev pub moment_text : Option ℕ → List ℕ

@@ -17,7 +17,7 @@ use Rattle.gl_check.specs.One.{PlannedPort, Ran, Standing, behind_text, from_pla
 use Rattle.gl_served.specs.Alone.{StandsAs}
 use Rattle.gl_served.specs.Port.{unplanned}
 use Rattle.gl_served.specs.Slots.{pair_behind, slot_of}
-use Rattle.gl_served.specs.declared.limits.TheConstants.{PAIRS}
+use Rattle.gl_served.specs.declared.limits.TheConstants.{LINE_MAX, PAIRS}
 use Rattle.gl_served.specs.declared.alone.Alone.{Alone}
 use Rattle.gl_served.specs.declared.answered.Answer.{Answer}
 use Rattle.gl_served.specs.declared.answered.Answer.TheVariants.{Text, Refused}
@@ -63,7 +63,7 @@ text_of said = (carried_out said.statements).text
 abbrev pub pair_after : Said → Option ℕ
 pair_after said = pair_behind (length said.statements) (carried_out said.statements).behind.files
 
--- A line has at most 8192 bytes, and a statement a pair of slots.
+-- A line has at most `LINE_MAX` bytes, and a statement a pair of slots.
 abbrev pub in_pair : Option ℕ → Result LineKind Spot
 in_pair None = Err (spot 1 Limit)
 in_pair (Some pair) = Ok Statement
@@ -78,7 +78,7 @@ counted count = min count PAIRS
 
 -- what a line is, after what was accepted, or why it is refused
 abbrev pub kind_after : Said → List ℕ → Result LineKind Spot
-kind_after said line = if nat_lt 8192 (length line) then Err (spot 8193 Limit) else limited (pair_after said) (line_kind said.stage line)
+kind_after said line = if nat_lt LINE_MAX (length line) then Err (spot (LINE_MAX + 1) Limit) else limited (pair_after said) (line_kind said.stage line)
 
 -- A line is answered: a refused one counts as not given, and of an accepted one the answer is just what it adds to the session's text.
 abbrev pub IsAnswer : Said → List ℕ → Result LineKind Spot → Answer → List ℕ → Said → Type 0

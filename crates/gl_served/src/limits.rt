@@ -1,6 +1,6 @@
 //! The limits of a session that is served.
 
-/// How many bytes a line has at most.
+/// How many bytes a line has at most. Of a longer one this many and one more are kept. This project's choice.
 pub const LINE_MAX: usize = 8192;
 
 /// How many pairs of slots there are: so many statements of a session have slots of their own.

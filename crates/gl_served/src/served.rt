@@ -13,7 +13,7 @@ ghost use Rattle.gl_debounce.specs.Earliest.{earliest};
 ghost use Rattle.gl_served.specs.Questions.{IsData, IsReply, data_kind, due_text, question_of, stands_for};
 ghost use Rattle.gl_served.specs.Served.{IsAnswer, Keeps, Said, carried_out, counted, kind_after, limited, nothing_said};
 ghost use Rattle.gl_served.specs.Slots.{pair_behind};
-ghost use Rattle.gl_served.specs.declared.limits.TheConstants.{PAIRS};
+ghost use Rattle.gl_served.specs.declared.limits.TheConstants.{LINE_MAX, PAIRS};
 ghost use Rattle.gl_served.specs.UnderWay.{Asked, CanAnswer, HasBegun, HasGone, IsAsBefore, IsGoing, IsLeft, IsOther, IsSameSession, IsTaken, IsUnderWay, left_by, statement_for, text_shown, told_by};
 ghost use Rattle.gl_served.specs.declared.question.Question.TheVariants.{Data, Nothing};
 
@@ -31,6 +31,9 @@ use gl_talk::Talk;
 use std::alloc::Global;
 use std::marker::Model;
 use std::mem;
+
+/// The column of the first byte that is too many.
+const TOO_LONG: u32 = LINE_MAX as u32 + 1;
 
 /// A session, as far as it has come: its machine, and its talk. It keeps no line and no history, so it grows with what is open alone.
 #[derive(Drop)]
@@ -189,7 +192,7 @@ impl Served {
 
     /// Answers a `data`.
     fn data(&mut self, alloc: Global, line: &[u8], out: &mut Vec<u8>) -> Result<Answer, Errno>
-        requires { length line.now ≤ 8192 }
+        requires { length line.now ≤ LINE_MAX }
         ensures answered { (said : Said) → Keeps self.old said → IfOk result (λ answer. (text : List ℕ) × (then : Said)
             × (out.new.items ≡ out.old.items ++ text) × IsData said (stands_for (carried_out said.statements).value line.now) (data_kind said line.now) answer text then × Keeps self.new then) }
         ensures kept { (said : Said) → Keeps self.old said → question_of said.stage line.now ≡ Data → OnErr result (CanAnswer self.new said line.now) }
@@ -223,7 +226,7 @@ impl Served {
     {
         if line.len() > LINE_MAX {
             return Err(Spot {
-                column: 8193,
+                column: TOO_LONG,
                 kind: RefusalKind::Limit,
             });
         }

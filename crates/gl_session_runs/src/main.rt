@@ -4,13 +4,16 @@
 //! TEXT alone, and a line `*COUNT TEXT` adds TEXT and the end of a line so many times. A line `play PIECE ROOM READ WRITE` runs it: no call
 //! moves more than PIECE bytes, the sink has room for ROOM bytes, and the call READ of the source and the call WRITE of the sink fail,
 //! counted from 0, `-` none of them. Up to two further words are words of the program. A line `serve ..` serves it in the same way, line by
-//! line, and so does `frames ..`.
+//! line, and so does `frames ..`. A line `again` gives its lines to a served session, each once more where memory was refused to it; then
+//! the status is 1, or 2 where that line had been begun, and another one had to wait.
 //! A line `meet CALLS ROOM FRONT` runs it over a driver that answers its first call once CALLS were made, each of another actor, and tells
 //! no more than FRONT bytes of what the sink held, since the history of such a run differs from run to run. Then it is judged, and so it is
 //! told.
-//! What is told of a run is a line with its name and its status, and what the sink held in the end; of `serve` what its frames hold.
+//! What is told of a run is a line with its name and its status, and what the sink held in the end; of `serve` what its frames hold, and of
+//! `again` what the lines print.
 #![tactic(auto)]
 
+mod again;
 mod frames;
 mod meeting;
 mod plan;
@@ -69,6 +72,8 @@ fn told<R: Threads + Wait + Sync>(
         session.put_texts(&plan, out)
     } else if let Some(plan) = Plan::of(b"frames ", line) {
         session.put_frames(&plan, out)
+    } else if line == b"again".as_slice() {
+        session.put_again(out)
     } else {
         out.extend_from_slice(b"no such line\n")?;
         Ok(())

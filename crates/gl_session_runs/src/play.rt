@@ -2,6 +2,7 @@
 ghost use Rattle.std.specs.Prelude.{◌<◌, ◌≤◌};
 ghost use Rattle.gl_session.specs.Ports.{AreAllThere};
 
+use crate::again::give_all;
 use crate::frames::put_texts;
 use crate::plan::Plan;
 use gl_base::{Errno, put_decimal};
@@ -109,6 +110,16 @@ impl Session {
         let mut texts = Vec::new(alloc);
         put_texts(&frames, &mut texts)?;
         self.put_ended(number, &texts, out)
+    }
+
+    /// Gives the session's lines to a served session, each again where memory was refused to it, and appends its name, the
+    /// number of how they came to their answers, and what they printed.
+    pub fn put_again(&self, out: &mut Vec<u8>) -> Result<(), Errno> {
+        let alloc = *out.allocator();
+        let mut served = Served::new(alloc)?;
+        let mut texts = Vec::new(alloc);
+        let given = give_all(&mut served, &self.bytes, &mut texts);
+        self.put_ended(given.number(), &texts, out)
     }
 
     /// Serves the session as planned: the number of its end, and what was written.

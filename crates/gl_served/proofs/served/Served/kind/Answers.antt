@@ -2,6 +2,7 @@ use Rattle.std.proofs.Common.{◌≤◌, length, ap, sym, arith, ◌∙◌, Resu
 use Rattle.gl_script.specs.declared.refusal.Spot.{Spot}
 use Rattle.gl_script.specs.declared.served.LineKind.{LineKind}
 use Rattle.gl_served.specs.Served.{ServedValue, limited}
+use Rattle.gl_served.specs.declared.limits.TheConstants.{LINE_MAX}
 use Rattle.gl_served.proofs.Answering.{short_kind}
 use Rattle.gl_served.proofs.CutLines.{long_kind}
 use Rattle.gl_served.proofs.Running.{pair_kept}
@@ -12,6 +13,6 @@ returns-then-line-gt-LINE_MAX-clause-kind c = λ said keeps. sym (long_kind said
 
 pub returns-clause-kind : goal.returns-clause-kind
 returns-clause-kind c = λ said keeps.
-    let short : length c.args.line.now ≤ 8192 = omega arith in
+    let short : length c.args.line.now ≤ LINE_MAX = omega arith in
     c.limited.ensures.limited ∙ ap (λ (k : Result LineKind Spot). limited c.pair.result k) c.line_kind.ensures
     ∙ short_kind said c.args.line.now c.pair.result c.self.inside.stage (c.pair.ensures.pair ∙ pair_kept c.args.self.now said keeps) (ap (λ (v : ServedValue). v.stage) c.self.view_is ∙ keeps.stage) short
