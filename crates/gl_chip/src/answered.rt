@@ -25,16 +25,16 @@ impl<D: Driver<Core>> Gpio<D> {
         &self,
         rt: &R,
         actor: &mut Actor<D>,
-        call: Call,
+        call: &Call,
     ) -> Result<(), Errno>
         requires actor { IsActorOf self.now actor.old }
-        requires single { is_single call ≡ true }
-        requires fits { Fits call (record { ring = None; queue = None }) [] }
+        requires single { is_single call.now ≡ true }
+        requires fits { Fits call.now (record { ring = None; queue = None }) [] }
         ensures actor { IsActorOf self.now actor.new }
         ensures same { IsSameActor actor.old.pass.view actor.new.pass.view }
         ensures port { actor.new.port ≡ actor.old.port }
-        ensures places { KnowsBy (guarded_place call) actor.old.pass.view actor.new.pass.view }
-        ensures called { ComesOut done_of result actor.old.pass.view (Once call) [] actor.new.pass.view }
+        ensures places { KnowsBy (guarded_place call.now) actor.old.pass.view actor.new.pass.view }
+        ensures called { ComesOut done_of result actor.old.pass.view (Once call.now) [] actor.new.pass.view }
     {
         let mut gift = nothing();
         match self.plain(rt, actor, call, &mut gift) {

@@ -41,7 +41,7 @@ impl<D: Driver<Core>> Gpio<D> {
         ensures called { ComesOut number_of result actor.old.pass.view (Once (ProbeCall label lines kind)) [] actor.new.pass.view }
     {
         let mut gift = nothing();
-        match self.plain(rt, actor, Call::Probe { label, lines, kind }, &mut gift) {
+        match self.plain(rt, actor, &Call::Probe { label, lines, kind }, &mut gift) {
             Ok(reply) => results::place(reply),
             Err(errno) => Err(errno),
         }
@@ -64,7 +64,7 @@ impl<D: Driver<Core>> Gpio<D> {
         ensures places { KnowsTheSame actor.old.pass.view actor.new.pass.view }
         ensures called { ComesOut done_of result actor.old.pass.view (Once (TickCall mono real)) [] actor.new.pass.view }
     {
-        self.done_alone(rt, actor, Call::Tick { mono, real })
+        self.done_alone(rt, actor, &Call::Tick { mono, real })
     }
 
     /// Looks for the lines of a name, on the chip of one place or on all chips: the first one's place and offset, and how many
@@ -87,7 +87,7 @@ impl<D: Driver<Core>> Gpio<D> {
         ensures called { ComesOut found_of result actor.old.pass.view (Once (FindCall place name.now)) [] actor.new.pass.view }
     {
         let mut gift = nothing();
-        match self.plain(rt, actor, Call::Find { place, name: *name }, &mut gift) {
+        match self.plain(rt, actor, &Call::Find { place, name: *name }, &mut gift) {
             Ok(reply) => results::found(reply),
             Err(errno) => Err(errno),
         }

@@ -57,9 +57,36 @@ impl<D: Driver<Core>> Gpio<D> {
         ensures full { IfErr result (λ e. (e ≡ Full) × (out.new ≡ out.old)
             × FoundNoRoom core actor.old.pass.view actor.new.pass.view) }
     {
-        match place_of(&call) {
+        self.one_call(rt, actor, &call, gift, out)
+    }
+
+    /// The same of a call that is lent.
+    pub(crate) fn one_call<R: Wait>(
+        &self,
+        rt: &R,
+        actor: &mut Actor<D>,
+        call: &Call,
+        gift: &mut Gift,
+        out: &mut [u8],
+    ) -> Result<Reply, Errno>
+        requires actor { IsActorOf self.now actor.old }
+        requires single { is_single call.now ≡ true }
+        requires fits { Fits call.now gift.old out.old }
+        ensures actor { IsActorOf self.now actor.new }
+        ensures same { IsSameActor actor.old.pass.view actor.new.pass.view }
+        ensures port { actor.new.port ≡ actor.old.port }
+        ensures places { KnowsBy (guarded_place call.now) actor.old.pass.view actor.new.pass.view }
+        ensures called { IfOk result (λ r. (bytes : List ℕ) × (out.new ≡ bytes ++ drop (length bytes) out.old)
+            × HasCalled 0 actor.old.pass.view (Once call.now) r bytes actor.new.pass.view) }
+        ensures form { IfOk result (Answers (guarded_place call.now) call.now) }
+        ensures lengths { IfOk result (WroteBy (guarded_place call.now) call.now out.old out.new) }
+        ensures not_full { IfOk result (λ r. r ≢ Refused Full) }
+        ensures full { IfErr result (λ e. (e ≡ Full) × (out.new ≡ out.old)
+            × FoundNoRoom core actor.old.pass.view actor.new.pass.view) }
+    {
+        match place_of(call) {
             None => self.unguarded(rt, actor, call, gift),
-            Some(place) => self.behind_guard(rt, actor, place, call, is_poll(&call), out),
+            Some(place) => self.behind_guard(rt, actor, place, call, is_poll(call), out),
         }
     }
 
@@ -68,21 +95,21 @@ impl<D: Driver<Core>> Gpio<D> {
         &self,
         rt: &R,
         actor: &mut Actor<D>,
-        call: Call,
+        call: &Call,
         gift: &mut Gift,
     ) -> Result<Reply, Errno>
         requires actor { IsActorOf self.now actor.old }
-        requires single { is_single call ≡ true }
-        requires fits { Fits call gift.old [] }
+        requires single { is_single call.now ≡ true }
+        requires fits { Fits call.now gift.old [] }
         ensures actor { IsActorOf self.now actor.new }
         ensures same { IsSameActor actor.old.pass.view actor.new.pass.view }
         ensures port { actor.new.port ≡ actor.old.port }
-        ensures places { KnowsBy (guarded_place call) actor.old.pass.view actor.new.pass.view }
-        ensures called { IfOk result (λ r. HasCalled 0 actor.old.pass.view (Once call) r [] actor.new.pass.view) }
-        ensures form { IfOk result (Answers (guarded_place call) call) }
+        ensures places { KnowsBy (guarded_place call.now) actor.old.pass.view actor.new.pass.view }
+        ensures called { IfOk result (λ r. HasCalled 0 actor.old.pass.view (Once call.now) r [] actor.new.pass.view) }
+        ensures form { IfOk result (Answers (guarded_place call.now) call.now) }
         ensures not_full { IfOk result (λ r. r ≢ Refused Full) }
         ensures full { IfErr result (λ e. (e ≡ Full) × FoundNoRoom core actor.old.pass.view actor.new.pass.view) }
     {
-        self.once(rt, actor, call, gift, &mut [])
+        self.one_call(rt, actor, call, gift, &mut [])
     }
 }

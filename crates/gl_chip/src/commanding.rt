@@ -12,7 +12,7 @@ ghost use Rattle.gl_model.specs.Entries.{is_go};
 ghost use Rattle.gl_model.specs.Fits.{FitsGift};
 ghost use Rattle.gl_model.specs.Parts.{in_ask, is_driver_asked};
 ghost use Rattle.gl_chip.specs.Commanding.{CommandedInside, IsOp, IsOpAfterGo, HasCommanded};
-ghost use Rattle.gl_asking.specs.Handed.{command_in};
+ghost use Rattle.gl_asking.specs.Handed.{command_in, handed_in};
 ghost use Rattle.gl_chip.specs.Steps.{FoundNoRoom, Owes, StoodFull};
 ghost use Rattle.gl_chip.specs.Values.{IsActorOf, IsSameActor};
 ghost use Rattle.gl_core.specs.Device.{core};
@@ -21,12 +21,12 @@ use crate::actor::Actor;
 use crate::commands::OpenFile;
 use crate::driving::{ask, drive, tell};
 use crate::gpio::Gpio;
-use crate::steps::alone;
-use gl_asking::handed_in;
+use crate::guarding::refused_at;
 use gl_base::Errno;
 use gl_core::{Call, Core, Gift, Part, Reply};
 use gl_driver::{Driver, Op};
 use gl_gate::Pass;
+use gl_uapi::layout::LINE_REQUEST_SIZE;
 use std::sync::Wait;
 
 /// The driver is to be asked.
@@ -49,7 +49,7 @@ fn the_op(op: &Option<Op>) -> &Op
 }
 
 impl<D: Driver<Core>> Gpio<D> {
-    /// A command that asks the driver, inside the place of its file: the ask and, after Go, the driver's call and the tell.
+    /// A command with these bytes that asks the driver, inside the place of its file: the ask and, after Go, the driver's call and the tell.
     fn command_inside<R: Wait>(
         &self,
         rt: &R,
@@ -57,6 +57,7 @@ impl<D: Driver<Core>> Gpio<D> {
         port: &mut D::Port,
         file: OpenFile,
         cmd: u32,
+        bytes: &[u8; LINE_REQUEST_SIZE],
         op: &Option<Op>,
         gift: &mut Gift,
         out: &mut [u8],
@@ -67,6 +68,7 @@ impl<D: Driver<Core>> Gpio<D> {
         requires inside { IsInside pass.old.view file.place }
         requires alone { (p : ℕ) → IsInside pass.old.view p → p ≡ file.place }
         requires owes { Owes core pass.old.view 0 }
+        requires bytes { bytes.now ≡ handed_in out.old }
         requires brings { FitsGift (in_ask (command_in file.place file.fd file.of_chip cmd out.old)) gift.old }
         requires op { IsOpAfterGo (in_ask (command_in file.place file.fd file.of_chip cmd out.old)) op.now }
         ensures gate { IsPassOf self.now pass.new }
@@ -79,16 +81,15 @@ impl<D: Driver<Core>> Gpio<D> {
     {
         let OpenFile { place, fd, .. } = file;
         let len = out.len() as u32;
-        let bytes = handed_in(out);
         let asking = Call::Ioctl {
             place,
             fd,
             cmd,
             len,
-            bytes,
+            bytes: *bytes,
             part: Part::Ask,
         };
-        match ask(rt, &self.gate, pass, asking, gift, out) {
+        match ask(rt, &self.gate, pass, &asking, gift, out) {
             Err(errno) => Err(errno),
             Ok(reply) => {
                 if !is_go(&reply) {
@@ -100,21 +101,23 @@ impl<D: Driver<Core>> Gpio<D> {
                     fd,
                     cmd,
                     len,
-                    bytes,
+                    bytes: *bytes,
                     part: Part::Tell(answer),
                 };
-                Ok(tell(rt, &self.gate, pass, telling, gift, out))
+                Ok(tell(rt, &self.gate, pass, &telling, gift, out))
             }
         }
     }
 
-    /// A command on an open file that asks the driver for this, with the buffer that it is called with.
+    /// A command on an open file that asks the driver for this, with the buffer that it is called with, and the bytes that are
+    /// handed in for it.
     pub(crate) fn driven_command<R: Wait>(
         &self,
         rt: &R,
         actor: &mut Actor<D>,
         file: OpenFile,
         cmd: u32,
+        bytes: &[u8; LINE_REQUEST_SIZE],
         op: &Option<Op>,
         gift: &mut Gift,
         out: &mut [u8],
@@ -123,6 +126,7 @@ impl<D: Driver<Core>> Gpio<D> {
         requires place { file.place < PLACES }
         requires length { length out.old < 2 ^ 32 }
         requires asked { is_driver_asked file.of_chip (length out.old) (command_of cmd) ≡ true }
+        requires bytes { bytes.now ≡ handed_in out.old }
         requires brings { FitsGift (in_ask (command_in file.place file.fd file.of_chip cmd out.old)) gift.old }
         requires op { IsOpAfterGo (in_ask (command_in file.place file.fd file.of_chip cmd out.old)) op.now }
         ensures actor { IsActorOf self.now actor.new }
@@ -137,10 +141,9 @@ impl<D: Driver<Core>> Gpio<D> {
         let place = file.place;
         let Actor { pass, port } = actor;
         if !self.gate.enter(pass, place) {
-            let refused = Call::Refused { place, poll: false };
-            return alone(rt, &self.gate, pass, refused, gift, out);
+            return refused_at(rt, &self.gate, pass, place, false, gift, out);
         }
-        let answer = self.command_inside(rt, pass, port, file, cmd, op, gift, out);
+        let answer = self.command_inside(rt, pass, port, file, cmd, bytes, op, gift, out);
         self.gate.leave(pass, place);
         answer
     }

@@ -19,9 +19,9 @@ ghost use Rattle.gl_core.specs.Device.{core};
 
 use crate::actor::Actor;
 use crate::gpio::Gpio;
+use crate::guarding::guarded;
 use crate::inner::nothing;
 use crate::results;
-use crate::steps::guarded;
 use gl_asking::handed_in;
 use gl_base::Errno;
 use gl_core::{Call, Core, Part, Reply};
@@ -108,15 +108,14 @@ impl<D: Driver<Core>> Gpio<D> {
             bytes: handed_in(out),
             part: Part::Whole,
         };
-        let refused = Call::Refused { place, poll: false };
         let mut gift = nothing();
         guarded(
             rt,
             &self.gate,
             &mut actor.pass,
             place,
-            call,
-            refused,
+            &call,
+            false,
             &mut gift,
             out,
         )

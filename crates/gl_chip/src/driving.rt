@@ -24,26 +24,26 @@ pub(crate) fn ask<M: Machine, R: Wait>(
     rt: &R,
     gate: &Gate<M>,
     pass: &mut Pass<M>,
-    call: M::Call,
+    call: &M::Call,
     gift: &mut M::Gift,
     out: &mut [u8],
 ) -> Result<M::Reply, Errno>
     requires gate { IsPassOf gate.now pass.old }
-    requires fits { M.Fits call gift.old out.old }
-    requires ask { IsAsk M.Machine call }
-    requires named { MayName M.Machine pass.old.view call }
+    requires fits { M.Fits call.now gift.old out.old }
+    requires ask { IsAsk M.Machine call.now }
+    requires named { MayName M.Machine pass.old.view call.now }
     requires owes { Owes M.Machine pass.old.view 0 }
     ensures gate { IsPassOf gate.now pass.new }
-    ensures owes { IfOk result (λ r. Owes M.Machine pass.new.view (cond (M.begins call r) 1 0)) }
-    ensures called { IfOk result (λ r. CalledOnce M.Machine pass.old.view call r out.old out.new pass.new.view) }
-    ensures gift { IfOk result (λ r. M.Leaves call r gift.old gift.new) }
+    ensures owes { IfOk result (λ r. Owes M.Machine pass.new.view (cond (M.begins call.now r) 1 0)) }
+    ensures called { IfOk result (λ r. CalledOnce M.Machine pass.old.view call.now r out.old out.new pass.new.view) }
+    ensures gift { IfOk result (λ r. M.Leaves call.now r gift.old gift.new) }
     ensures owes_nothing { IfErr result (λ _. Owes M.Machine pass.new.view 0) }
     ensures full { IfErr result (λ e. (e ≡ Full) × (out.new ≡ out.old) × (gift.new ≡ gift.old)
         × StoodFull M.Machine pass.old.view pass.new.view) }
 {
     // What holds of every pass is known once it has told its number.
     let _number = pass.number();
-    match gate.act(rt, pass, call, gift, out) {
+    match gate.act(rt, pass, *call, gift, out) {
         Ok(reply) => Ok(reply),
         Err(errno) => Err(errno),
     }
@@ -93,22 +93,22 @@ pub(crate) fn tell<M: Machine, R: Wait>(
     rt: &R,
     gate: &Gate<M>,
     pass: &mut Pass<M>,
-    call: M::Call,
+    call: &M::Call,
     gift: &mut M::Gift,
     out: &mut [u8],
 ) -> M::Reply
     requires gate { IsPassOf gate.now pass.old }
-    requires fits { M.Fits call gift.old out.old }
-    requires tell { IsTell M.Machine call }
-    requires named { MayName M.Machine pass.old.view call }
+    requires fits { M.Fits call.now gift.old out.old }
+    requires tell { IsTell M.Machine call.now }
+    requires named { MayName M.Machine pass.old.view call.now }
     requires owes { Owes M.Machine pass.old.view 1 }
     ensures gate { IsPassOf gate.now pass.new }
     ensures owes { Owes M.Machine pass.new.view 0 }
-    ensures called { CalledOnce M.Machine pass.old.view call result out.old out.new pass.new.view }
+    ensures called { CalledOnce M.Machine pass.old.view call.now result out.old out.new pass.new.view }
 {
     // What holds of every pass is known once it has told its number.
     let _number = pass.number();
-    match gate.act(rt, pass, call, gift, out) {
+    match gate.act(rt, pass, *call, gift, out) {
         Ok(reply) => reply,
         Err(_) => unreachable!(),
     }

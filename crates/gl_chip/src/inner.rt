@@ -19,7 +19,8 @@ ghost use Rattle.gl_core.specs.Device.{core};
 
 use crate::actor::Actor;
 use crate::gpio::Gpio;
-use crate::steps::{alone, guarded};
+use crate::guarding::guarded;
+use crate::steps::alone;
 use gl_base::Errno;
 use gl_core::{Call, Core, Gift, Reply};
 use gl_driver::Driver;
@@ -42,21 +43,21 @@ impl<D: Driver<Core>> Gpio<D> {
         &self,
         rt: &R,
         actor: &mut Actor<D>,
-        call: Call,
+        call: &Call,
         gift: &mut Gift,
     ) -> Result<Reply, Errno>
         requires actor { IsActorOf self.now actor.old }
-        requires single { is_single call ≡ true }
-        requires no_guard { guarded_place call ≡ None }
-        requires fits { Fits call gift.old [] }
+        requires single { is_single call.now ≡ true }
+        requires no_guard { guarded_place call.now ≡ None }
+        requires fits { Fits call.now gift.old [] }
         ensures actor { IsActorOf self.now actor.new }
         ensures same { IsSameActor actor.old.pass.view actor.new.pass.view }
         ensures port { actor.new.port ≡ actor.old.port }
         ensures places { KnowsTheSame actor.old.pass.view actor.new.pass.view }
-        ensures called { IfOk result (λ r. HasCalled 0 actor.old.pass.view (Once call) r [] actor.new.pass.view) }
-        ensures form { IfOk result (λ r. has_form call r ≡ true) }
+        ensures called { IfOk result (λ r. HasCalled 0 actor.old.pass.view (Once call.now) r [] actor.new.pass.view) }
+        ensures form { IfOk result (λ r. has_form call.now r ≡ true) }
         ensures not_full { IfOk result (λ r. r ≢ Refused Full) }
-        ensures gift { IfOk result (λ r. Leaves call r gift.old gift.new) }
+        ensures gift { IfOk result (λ r. Leaves call.now r gift.old gift.new) }
         ensures full { IfErr result (λ e. (e ≡ Full) × FoundNoRoom core actor.old.pass.view actor.new.pass.view) }
     {
         alone(rt, &self.gate, &mut actor.pass, call, gift, &mut [])
@@ -68,30 +69,29 @@ impl<D: Driver<Core>> Gpio<D> {
         rt: &R,
         actor: &mut Actor<D>,
         place: u8,
-        call: Call,
+        call: &Call,
         poll: bool,
         out: &mut [u8],
     ) -> Result<Reply, Errno>
         requires actor { IsActorOf self.now actor.old }
         requires place { place < PLACES }
-        requires single { is_single call ≡ true }
-        requires guard { guarded_place call ≡ Some place }
-        requires poll { is_poll (Once call) ≡ poll }
-        requires tells { has_form call (guard_reply poll) ≡ false }
-        requires fits { Fits call (record { ring = None; queue = None }) out.old }
+        requires single { is_single call.now ≡ true }
+        requires guard { guarded_place call.now ≡ Some place }
+        requires poll { is_poll (Once call.now) ≡ poll }
+        requires tells { has_form call.now (guard_reply poll) ≡ false }
+        requires fits { Fits call.now (record { ring = None; queue = None }) out.old }
         ensures actor { IsActorOf self.now actor.new }
         ensures same { IsSameActor actor.old.pass.view actor.new.pass.view }
         ensures port { actor.new.port ≡ actor.old.port }
         ensures called { IfOk result (λ r. (bytes : List ℕ) × (out.new ≡ bytes ++ drop (length bytes) out.old)
-            × HasCalled 0 actor.old.pass.view (Once call) r bytes actor.new.pass.view) }
+            × HasCalled 0 actor.old.pass.view (Once call.now) r bytes actor.new.pass.view) }
         ensures lengths { IfOk result (λ r. (bytes : List ℕ) × (out.new ≡ bytes ++ drop (length bytes) out.old)
-            × ((r ≡ guard_reply poll) ⊎ (length bytes ≡ bytes_written call r))) }
-        ensures form { IfOk result (λ r. (r ≡ guard_reply poll) ⊎ (has_form call r ≡ true)) }
+            × ((r ≡ guard_reply poll) ⊎ (length bytes ≡ bytes_written call.now r))) }
+        ensures form { IfOk result (λ r. (r ≡ guard_reply poll) ⊎ (has_form call.now r ≡ true)) }
         ensures not_full { IfOk result (λ r. r ≢ Refused Full) }
         ensures full { IfErr result (λ e. (e ≡ Full) × (out.new ≡ out.old)
             × FoundNoRoom core actor.old.pass.view actor.new.pass.view) }
     {
-        let refused = Call::Refused { place, poll };
         let mut gift = nothing();
         guarded(
             rt,
@@ -99,7 +99,7 @@ impl<D: Driver<Core>> Gpio<D> {
             &mut actor.pass,
             place,
             call,
-            refused,
+            poll,
             &mut gift,
             out,
         )

@@ -22,9 +22,9 @@ use crate::commands::{OpenFile, is_driver_asked};
 use crate::files::{ChipFd, LineFd};
 use crate::gpio::Gpio;
 use crate::inner::nothing;
-use crate::requesting::requested;
+use crate::requesting::without_file;
 use crate::results;
-use gl_asking::{handed_in, lines_named};
+use gl_asking::handed_in;
 use gl_base::Errno;
 use gl_core::Core;
 use gl_driver::Driver;
@@ -74,14 +74,13 @@ impl<D: Driver<Core>> Gpio<D> {
         if is_driver_asked(true, buf.len() as u32, cmd) {
             return self.get_line(rt, alloc, actor, place, fd, cmd, buf);
         }
-        let lines = lines_named(&handed_in(buf));
         let file = OpenFile {
             place,
             fd,
             of_chip: true,
         };
         match self.whole_command(rt, actor, file, cmd, buf) {
-            Ok(reply) => requested(place, &lines, reply),
+            Ok(reply) => without_file(reply),
             Err(errno) => Err(errno),
         }
     }
@@ -124,11 +123,12 @@ impl<D: Driver<Core>> Gpio<D> {
             fd: fd.fd,
             of_chip: false,
         };
-        match line_op(&fd.lines, cmd, buf.len() as u32, &handed_in(buf)) {
+        let bytes = handed_in(buf);
+        match line_op(&fd.lines, cmd, buf.len() as u32, &bytes) {
             None => self.done_by_command(rt, actor, file, cmd, buf),
             Some(op) => {
                 let mut gift = nothing();
-                match self.driven_command(rt, actor, file, cmd, &Some(op), &mut gift, buf) {
+                match self.driven_command(rt, actor, file, cmd, &bytes, &Some(op), &mut gift, buf) {
                     Ok(reply) => results::done(reply),
                     Err(errno) => Err(errno),
                 }

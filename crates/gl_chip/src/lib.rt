@@ -11,6 +11,7 @@ mod commands;
 mod driving;
 mod files;
 mod gpio;
+mod guarding;
 mod inner;
 mod ioctls;
 mod lines;

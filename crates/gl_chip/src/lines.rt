@@ -37,7 +37,7 @@ impl<D: Driver<Core>> Gpio<D> {
         ensures port { actor.new.port ≡ actor.old.port }
         ensures called { ComesOut done_of result actor.old.pass.view (Once (PullCall place offset up)) [] actor.new.pass.view }
     {
-        self.done_alone(rt, actor, Call::Pull { place, offset, up })
+        self.done_alone(rt, actor, &Call::Pull { place, offset, up })
     }
 
     /// The physical level of a line of a simulated chip: true for high.
@@ -103,7 +103,7 @@ impl<D: Driver<Core>> Gpio<D> {
             offset,
             pull,
         };
-        match self.plain(rt, actor, call, &mut nothing()) {
+        match self.plain(rt, actor, &call, &mut nothing()) {
             Ok(reply) => results::level(reply),
             Err(errno) => Err(errno),
         }
@@ -128,7 +128,7 @@ impl<D: Driver<Core>> Gpio<D> {
         ensures port { actor.new.port ≡ actor.old.port }
         ensures called { ComesOut done_of result actor.old.pass.view (Once (Interrupt place offset up)) [] actor.new.pass.view }
     {
-        self.done_alone(rt, actor, Call::Interrupt { place, offset, up })
+        self.done_alone(rt, actor, &Call::Interrupt { place, offset, up })
     }
 
     /// Maps lines of a chip to pins, or holds or drops a pin for another function.
@@ -151,7 +151,7 @@ impl<D: Driver<Core>> Gpio<D> {
         ensures port { actor.new.port ≡ actor.old.port }
         ensures called { ComesOut done_of result actor.old.pass.view (Once (PinCall place what)) [] actor.new.pass.view }
     {
-        self.done_alone(rt, actor, Call::Pin { place, what })
+        self.done_alone(rt, actor, &Call::Pin { place, what })
     }
 
     /// Locks the interrupt of a line, unlocks, enables or disables it, or takes it away.
@@ -179,7 +179,7 @@ impl<D: Driver<Core>> Gpio<D> {
         self.done_alone(
             rt,
             actor,
-            Call::Irq {
+            &Call::Irq {
                 place,
                 offset,
                 what,

@@ -32,7 +32,7 @@ impl<D: Driver<Core>> Gpio<D> {
         ensures called { ComesOut ready_of result actor.old.pass.view (Once (PollChipCall fd.now.place fd.now.fd)) [] actor.new.pass.view }
     {
         let (place, fd) = (fd.place, fd.fd);
-        match self.plain(rt, actor, Call::PollChip { place, fd }, &mut nothing()) {
+        match self.plain(rt, actor, &Call::PollChip { place, fd }, &mut nothing()) {
             Ok(reply) => results::ready(reply),
             Err(errno) => Err(errno),
         }
@@ -51,7 +51,7 @@ impl<D: Driver<Core>> Gpio<D> {
         ensures called { ComesOut ready_of result actor.old.pass.view (Once (PollLineCall fd.now.place fd.now.fd)) [] actor.new.pass.view }
     {
         let (place, fd) = (fd.place, fd.fd);
-        match self.plain(rt, actor, Call::PollLine { place, fd }, &mut nothing()) {
+        match self.plain(rt, actor, &Call::PollLine { place, fd }, &mut nothing()) {
             Ok(reply) => results::ready(reply),
             Err(errno) => Err(errno),
         }
@@ -78,10 +78,10 @@ impl<D: Driver<Core>> Gpio<D> {
     {
         let (place, fd) = (fd.place, fd.fd);
         let len = buf.len() as u32;
-        match self.once(
+        match self.one_call(
             rt,
             actor,
-            Call::ReadInfo { place, fd, len },
+            &Call::ReadInfo { place, fd, len },
             &mut nothing(),
             buf,
         ) {
@@ -111,10 +111,10 @@ impl<D: Driver<Core>> Gpio<D> {
     {
         let (place, fd) = (fd.place, fd.fd);
         let len = buf.len() as u32;
-        match self.once(
+        match self.one_call(
             rt,
             actor,
-            Call::ReadEdges { place, fd, len },
+            &Call::ReadEdges { place, fd, len },
             &mut nothing(),
             buf,
         ) {
@@ -140,7 +140,7 @@ impl<D: Driver<Core>> Gpio<D> {
         ensures called { ComesOut done_of (close_result result) actor.old.pass.view (Once (Close fd.fd)) [] actor.new.pass.view }
         ensures file { IfErr result (λ refused. refused.0 ≡ fd) }
     {
-        match self.done_alone(rt, actor, Call::Close { fd: fd.fd }) {
+        match self.done_alone(rt, actor, &Call::Close { fd: fd.fd }) {
             Ok(()) => Ok(()),
             Err(errno) => Err((fd, errno)),
         }
@@ -163,7 +163,7 @@ impl<D: Driver<Core>> Gpio<D> {
         ensures called { ComesOut done_of (close_result result) actor.old.pass.view (Once (Close fd.fd)) [] actor.new.pass.view }
         ensures file { IfErr result (λ refused. refused.0 ≡ fd) }
     {
-        match self.done_alone(rt, actor, Call::Close { fd: fd.fd }) {
+        match self.done_alone(rt, actor, &Call::Close { fd: fd.fd }) {
             Ok(()) => Ok(()),
             Err(errno) => Err((fd, errno)),
         }

@@ -74,7 +74,7 @@ impl<D: Driver<Core>> Gpio<D> {
             ring: None,
             queue: Some(queue),
         };
-        match self.plain(rt, actor, Call::OpenChip { word: *word }, &mut gift) {
+        match self.plain(rt, actor, &Call::OpenChip { word: *word }, &mut gift) {
             Ok(reply) => opened(word, reply),
             Err(errno) => Err(errno),
         }

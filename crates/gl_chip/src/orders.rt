@@ -88,7 +88,7 @@ impl<D: Driver<Core>> Gpio<D> {
     {
         match gift_for(call, alloc) {
             Err(errno) => Err(errno),
-            Ok(mut gift) => self.once(rt, actor, *call, &mut gift, out),
+            Ok(mut gift) => self.one_call(rt, actor, call, &mut gift, out),
         }
     }
 
@@ -149,7 +149,16 @@ impl<D: Driver<Core>> Gpio<D> {
         };
         match ring_for(&asking, &op, alloc) {
             Err(errno) => Err(errno),
-            Ok(mut gift) => self.driven_command(rt, actor, file, command.cmd, &op, &mut gift, out),
+            Ok(mut gift) => self.driven_command(
+                rt,
+                actor,
+                file,
+                command.cmd,
+                &command.bytes,
+                &op,
+                &mut gift,
+                out,
+            ),
         }
     }
 
@@ -185,6 +194,7 @@ impl<D: Driver<Core>> Gpio<D> {
                 actor,
                 file,
                 command.cmd,
+                &command.bytes,
                 &Some(op),
                 &mut nothing(),
                 out,

@@ -83,7 +83,7 @@ impl<D: Driver<Core>> Gpio<D> {
         drained_stays_empty::<Core>();
         known_drained_stays_empty::<Core>();
         if up {
-            return self.done_alone(rt, actor, Call::Live { device: *device });
+            return self.done_alone(rt, actor, &Call::Live { device: *device });
         }
         let first = Call::Remove {
             device: *device,

@@ -1,9 +1,10 @@
 //! GET_LINE: a request of lines on an open chip.
 
-ghost use Rattle.std.specs.Prelude.{◌≡◌, ◌≢◌, ◌<◌, ◌^◌, ◌++◌, ℕ, List, true, None, Err, length, take, drop, is_some, IfOk, IfErr};
+ghost use Rattle.std.specs.Prelude.{◌≡◌, ◌≢◌, ◌<◌, ◌^◌, ◌++◌, ℕ, List, true, false, None, Err, length, take, drop, is_some, IfOk, IfErr};
 ghost use Rattle.gl_base.specs.Count.{Rises};
 ghost use Rattle.gl_base.specs.Lines.{IsLineCount};
 ghost use Rattle.gl_base.specs.declared.errno.Errno.TheVariants.{NoMemory};
+ghost use Rattle.gl_base.specs.declared.lines.Lines.{Lines as SomeLines};
 ghost use Rattle.gl_base.specs.declared.limits.TheConstants.{PLACES};
 ghost use Rattle.gl_uapi.specs.Command.{command_of};
 ghost use Rattle.gl_uapi.specs.declared.layout.TheConstants.{LINE_REQUEST_SIZE};
@@ -13,6 +14,7 @@ ghost use Rattle.gl_model.specs.Asked.{lines_asked};
 ghost use Rattle.gl_model.specs.Entries.{is_get_line};
 ghost use Rattle.gl_model.specs.Fits.{FitsGift};
 ghost use Rattle.gl_model.specs.Parts.{is_driver_asked};
+ghost use Rattle.gl_model.specs.Replies.{is_number};
 ghost use Rattle.gl_model.specs.Written.{number_answered};
 ghost use Rattle.gl_chip.specs.Answering.{AnswersInOrder, RequestsInOrder, WasLetIn};
 ghost use Rattle.gl_chip.specs.Commanding.{CommandsOut, TakesMemory, requested_of};
@@ -48,6 +50,17 @@ pub(crate) fn requested(place: u8, lines: &Lines, reply: Reply) -> Result<Option
             fd: number as u32,
             lines: *lines,
         })),
+        _ => Ok(None),
+    }
+}
+
+/// What a command gives that isn't answered a number: no file, or why it was refused.
+pub(crate) fn without_file(reply: Reply) -> Result<Option<LineFd>, Errno>
+    requires number { is_number reply ≡ false }
+    ensures { (place : ℕ) (lines : SomeLines) → result ≡ requested_of place lines reply }
+{
+    match reply {
+        Reply::Refused(errno) => Err(errno),
         _ => Ok(None),
     }
 }
@@ -114,7 +127,7 @@ impl<D: Driver<Core>> Gpio<D> {
                 };
                 // What holds of every actor is known once it has told its number.
                 let _before = actor.number();
-                match self.driven_command(rt, actor, file, cmd, &op, &mut gift, buf) {
+                match self.driven_command(rt, actor, file, cmd, &bytes, &op, &mut gift, buf) {
                     Ok(reply) => {
                         let _after = actor.number();
                         requested(place, &lines_named(&bytes), reply)

@@ -30,7 +30,7 @@ impl<D: Driver<Core>> Gpio<D> {
         ensures places { KnowsTheSame actor.old.pass.view actor.new.pass.view }
         ensures called { ComesOut done_of result actor.old.pass.view (Once (MakeDir path.now)) [] actor.new.pass.view }
     {
-        self.done_alone(rt, actor, Call::MakeDir { path: *path })
+        self.done_alone(rt, actor, &Call::MakeDir { path: *path })
     }
 
     /// Removes a directory of the tree.
@@ -45,7 +45,7 @@ impl<D: Driver<Core>> Gpio<D> {
         ensures places { KnowsTheSame actor.old.pass.view actor.new.pass.view }
         ensures called { ComesOut done_of result actor.old.pass.view (Once (RemoveDir path.now)) [] actor.new.pass.view }
     {
-        self.done_alone(rt, actor, Call::RemoveDir { path: *path })
+        self.done_alone(rt, actor, &Call::RemoveDir { path: *path })
     }
 
     /// Writes a value to a file of the tree. `DEV/live` is none of them: see [`live`](Gpio::live).
@@ -71,7 +71,7 @@ impl<D: Driver<Core>> Gpio<D> {
         self.done_alone(
             rt,
             actor,
-            Call::Write {
+            &Call::Write {
                 path: *path,
                 value: *value,
             },
@@ -90,7 +90,7 @@ impl<D: Driver<Core>> Gpio<D> {
         ensures called { ComesOut text_of result actor.old.pass.view (Once (ReadCall path.now)) [] actor.new.pass.view }
     {
         let mut gift = nothing();
-        match self.plain(rt, actor, Call::Read { path: *path }, &mut gift) {
+        match self.plain(rt, actor, &Call::Read { path: *path }, &mut gift) {
             Ok(reply) => results::text(reply),
             Err(errno) => Err(errno),
         }

@@ -1,10 +1,12 @@
 -- The deadlines of the lines of some places end, place after place.
-use Rattle.std.proofs.Common.{◌≡◌, ◌≢◌, ℕ, ◌+◌, ◌*◌, ◌/◌, ◌<◌, ◌≤◌, Bool, true, false, List, [], ◌∷◌, Option, length, refl, sym, ap, ◌∙◌, arith, inl, inr}
-use Rattle.std.specs.Prelude.{◌==◌, if◌then◌else◌}
+use Rattle.std.proofs.Common.{◌≡◌, ◌≢◌, ℕ, ◌+◌, ◌*◌, ◌/◌, ◌<◌, ◌≤◌, Bool, true, false, List, [], ◌∷◌, Option, Some, None, length, refl, sym, ap, ◌∙◌, arith, inl, inr}
+use Rattle.std.specs.Prelude.{◌==◌, nat_le, if◌then◌else◌}
 use Rattle.std.specs.Option.{option_map}
 use Rattle.std.proofs.lemmas.Bool.{cases_eq, cases_lt}
 use Rattle.std.proofs.lemmas.List.{get_or_past}
 use Rattle.gl_base.specs.declared.limits.TheConstants.{LINES_MAX}
+use Rattle.gl_debounce.specs.Earliest.{earliest, sooner}
+use Rattle.gl_debounce.specs.Order.{deadline_of}
 use Rattle.gl_debounce.specs.Timer.{without_deadline}
 use Rattle.gl_debounce.specs.declared.timer.Timer.{Timer}
 use Rattle.gl_model.specs.Removal.{change_where, without_deadlines}
@@ -126,3 +128,24 @@ pub all_places : (marks : List Bool) (m : ℕ) (timers : List (Option Timer)) �
 all_places marks m timers few =
     change_same (λ n. chosen_below m marks (n / LINES_MAX)) (λ n. is_chosen marks (n / LINES_MAX)) (option_map without_deadline) 0 timers
     (λ n _ _. all_chosen marks m (n / LINES_MAX) few)
+
+-- where no deadline runs, none ends
+
+no_sooner : (a b : Option ℕ) → sooner a b ≡ None → (a ≡ None) × (b ≡ None)
+no_sooner None b e = (refl, e)
+no_sooner (Some x) None e = cc
+no_sooner (Some x) (Some y) e = elim (nat_le x y) as (λ c. (if c then Some x else Some y) ≡ None → (Some x ≡ None) × (Some y ≡ None)) [ true ↦ (λ f. cc) | false ↦ (λ f. cc) ] e
+
+still : (timer : Option Timer) → deadline_of timer ≡ None → option_map without_deadline timer ≡ timer
+still None e = refl
+still (Some timer) e = ap (λ (d : Option ℕ). Some (record timer { deadline = d })) (sym e)
+
+all_still : (test : ℕ → Bool) (n : ℕ) (timers : List (Option Timer)) → earliest timers ≡ None → change_where test (option_map without_deadline) n timers ≡ timers
+all_still test n [] e = refl
+all_still test n (timer ∷ timers) e =
+    let parts = no_sooner (deadline_of timer) (earliest timers) e in
+    let here : (b : Bool) → (if b then option_map without_deadline timer else timer) ≡ timer = λ b. elim b as (λ c. (if c then option_map without_deadline timer else timer) ≡ timer) [ true ↦ still timer parts.0 | false ↦ refl ] in
+    ap (λ t. t ∷ change_where test (option_map without_deadline) (n + 1) timers) (here (test n)) ∙ ap (λ l. timer ∷ l) (all_still test (n + 1) timers parts.1)
+
+pub none_runs : (test : ℕ → Bool) (timers : List (Option Timer)) → earliest timers ≡ None → timers ≡ without_deadlines test timers
+none_runs test timers e = sym (all_still (λ n. test (n / LINES_MAX)) 0 timers e)

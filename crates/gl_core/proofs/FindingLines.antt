@@ -1,11 +1,13 @@
 -- Lines that are found one after the other.
-use Rattle.std.proofs.Common.{◌≡◌, ℕ, suc, ◌+◌, ◌-◌, ◌<◌, ◌≤◌, Bool, true, false, List, [], ◌∷◌, ◌++◌, length, drop, Option, Some, refl, sym, ap, ◌∙◌, arith, append_assoc, length-append, append-nil}
+use Rattle.std.proofs.Common.{◌≡◌, ℕ, zero, suc, ◌+◌, ◌-◌, ◌<◌, ◌≤◌, Bool, true, false, List, [], ◌∷◌, ◌++◌, length, drop, Option, Some, refl, sym, ap, ◌∙◌, arith, append_assoc, length-append, append-nil}
 use Rattle.std.specs.Option.{option_or}
 use Rattle.std.specs.Prelude.{if◌then◌else◌}
 use Rattle.std.specs.List.{flat_map}
 use Rattle.std.specs.Str.{bytes_eq}
 use Rattle.std.proofs.lemmas.List.{drop_more, drop_all}
+use Rattle.gl_desc.proofs.Names.{further}
 use Rattle.gl_desc.specs.Desc.{desc_at, first_desc}
+use Rattle.gl_desc.specs.Names.{NamesEndBy}
 use Rattle.gl_desc.specs.declared.desc.Desc.{Desc}
 use Rattle.gl_model.specs.Chips.{places_from}
 use Rattle.gl_model.specs.Opening.{named_from}
@@ -25,8 +27,30 @@ named_more name place i descs found lt =
     ∙ line_named (bytes_eq (desc_at descs i).name name) place i (named_from name place (i + 1) (drop (i + 1) descs)) found
 
 -- no line of the place is left
-pub named_all : (name : List ℕ) (place i : ℕ) (descs : List Desc) (found : LinesFound) → length descs ≤ i → with_lines (named_from name place i (drop i descs)) found ≡ found
-named_all name place i descs found le = ap (λ (ds : List Desc). with_lines (named_from name place i ds) found) (drop_all i descs le)
+
+pub named_all : (name : List ℕ) (place i : ℕ) (descs : List Desc) → length descs ≤ i → named_from name place i (drop i descs) ≡ []
+named_all name place i descs le = ap (λ (ds : List Desc). named_from name place i ds) (drop_all i descs le)
+
+no_such_name : (c : ℕ) (cs name : List ℕ) → name ≡ [] → bytes_eq name (c ∷ cs) ≡ false
+no_such_name c cs [] e = refl
+no_such_name c cs (d ∷ ds) e = cc
+
+nameless : (c : ℕ) (cs : List ℕ) (place offset : ℕ) (lines : List Desc) (end : ℕ) → NamesEndBy lines end → named_from (c ∷ cs) place offset (drop end lines) ≡ []
+nameless c cs place offset [] zero h = refl
+nameless c cs place offset [] (suc end) h = refl
+nameless c cs place offset (line ∷ lines) zero h =
+    ap (λ b. if b then (place, offset) ∷ named_from (c ∷ cs) place (offset + 1) lines else named_from (c ∷ cs) place (offset + 1) lines) (no_such_name c cs line.name h.0)
+    ∙ nameless c cs place (offset + 1) lines zero h.1
+nameless c cs place offset (line ∷ lines) (suc end) h = nameless c cs place offset lines end h
+
+pub named_by : (name : List ℕ) (place i : ℕ) (descs : List Desc) (end : ℕ) → 1 ≤ length name → NamesEndBy descs end → end ≤ i → named_from name place i (drop i descs) ≡ []
+named_by [] place i descs end some h le = absurd (omega arith)
+named_by (c ∷ cs) place i descs end some h le = nameless c cs place i descs i (further descs end i le h)
+
+pub ruleset none_left = (named_all, named_by)
+
+pub with_none : (lines : List (ℕ × ℕ)) (found : LinesFound) → lines ≡ [] → with_lines lines found ≡ found
+with_none lines found e = ap (λ (l : List (ℕ × ℕ)). with_lines l found) e
 
 pub with_lines-append : (xs ys : List (ℕ × ℕ)) (found : LinesFound) → with_lines (xs ++ ys) found ≡ with_lines ys (with_lines xs found)
 with_lines-append [] ys found = refl

@@ -1,5 +1,7 @@
 -- The tables of places that wait for a chip, and of one that has got its own.
-use Rattle.std.proofs.Common.{◌≡◌, ℕ, ◌-◌, List, ap, ◌∙◌, [], ◌∷◌, ◌++◌, zero, suc, length, take, replicate, arith}
+use Rattle.std.proofs.Common.{◌≡◌, ℕ, ◌+◌, ◌-◌, ◌<◌, List, ap, ◌∙◌, [], ◌∷◌, ◌++◌, zero, suc, length, take, replicate, length-append, arith}
+use Rattle.std.proofs.lemmas.List.{get_or-take, length-take-le}
+use Rattle.std.specs.Prelude.{slice_index_or}
 use Rattle.std.proofs.Math.Seq.{take-nil}
 use Rattle.gl_bank.specs.Level.{first_levels}
 use Rattle.gl_bank.specs.declared.levels.Levels.{Levels}
@@ -9,7 +11,7 @@ use Rattle.gl_irq.specs.Irq.{first_irq}
 use Rattle.gl_irq.specs.declared.irq.Irq.{Irq}
 use Rattle.gl_model.specs.Chips.{new_place}
 use Rattle.gl_model.specs.Places.{no_place}
-use Rattle.gl_core.specs.Shape.{AreNew}
+use Rattle.gl_core.specs.Shape.{AreNew, IsSpare}
 use Rattle.gl_model.specs.declared.place.Place.{Place}
 
 -- a table of so many rows
@@ -35,3 +37,15 @@ new_pushed [] place are is zero d lt = is
 new_pushed [] place are is (suc k) d lt = absurd (omega arith)
 new_pushed (x ∷ places) place are is zero d lt = are zero d (omega arith)
 new_pushed (x ∷ places) place are is (suc k) d lt = new_pushed places place (λ i e within. are (suc i) e (omega arith)) is k d (omega arith)
+
+-- one of them gets its chip
+pub spare_left : (used spare pushed left : List Place) (place : Place) (capacity more : ℕ) → IsSpare used spare capacity → 0 < length spare → pushed ≡ used ++ place ∷ [] → left ≡ take (length spare - 1) spare → more ≡ capacity
+    → IsSpare pushed left more
+spare_left used spare pushed left place capacity more s some pushed_is left_is same =
+    let longer : length pushed ≡ length used + 1 = ap (λ (l : List Place). length l) pushed_is ∙ length-append used (place ∷ []) in
+    let shorter : length left ≡ length spare - 1 = ap (λ (l : List Place). length l) left_is ∙ length-take-le (length spare - 1) spare (omega arith) in
+    record {
+      all_places = let all = s.all_places in omega (arith, longer, shorter, all);
+      room = same ∙ s.room;
+      all_new = λ k d lt. ap (λ (l : List Place). slice_index_or l k d) left_is ∙ (get_or-take (length spare - 1) spare k d (omega (arith, shorter)) ∙ s.all_new k d (omega (arith, shorter)));
+    }

@@ -76,8 +76,19 @@ fn clear_place_if(timers: &mut Timers, place: u8, chosen: bool)
     }
 }
 
-/// No deadline of a line of some places runs any more. The lines of other places aren't looked at.
+/// No deadline of a line of some places runs any more. No line is looked at where no deadline runs.
+#[tactic(auto, using(crate::proofs::ClearingDeadlines::none_runs))]
 pub(crate) fn clear_deadlines(timers: &mut Timers, places: &Chosen)
+    ensures { timers.new ≡ without_deadlines (is_chosen places.now) timers.old }
+{
+    match timers.earliest() {
+        Some(_) => clear_running(timers, places),
+        None => {}
+    }
+}
+
+/// No deadline of a line of some places runs any more. The lines of other places aren't looked at.
+fn clear_running(timers: &mut Timers, places: &Chosen)
     ensures { timers.new ≡ without_deadlines (is_chosen places.now) timers.old }
 {
     for place in 0..PLACES {

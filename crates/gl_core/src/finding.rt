@@ -1,11 +1,12 @@
 //! Looking for lines by their names.
 
-ghost use Rattle.std.specs.Prelude.{◌≡◌, ◌*◌, ◌+◌, ◌<◌, ◌≤◌, ◌^◌, [], length, slice_index_or, if◌then◌else◌};
+ghost use Rattle.std.specs.Prelude.{◌≡◌, ◌*◌, ◌+◌, ◌<◌, ◌≤◌, ◌^◌, ℕ, [], drop, length, slice_index_or, if◌then◌else◌};
 ghost use Rattle.std.specs.List.{flat_map};
 ghost use Rattle.std.specs.Str.{bytes_eq};
 ghost use Rattle.gl_base.specs.declared.limits.TheConstants.{LINES_MAX};
 ghost use Rattle.gl_desc.specs.Desc.{desc_at};
 ghost use Rattle.gl_model.specs.Chips.{used_places};
+ghost use Rattle.gl_registry.specs.Chips.{chip_at};
 ghost use Rattle.gl_model.specs.Opening.{find_lines, named_at, named_from, searched};
 ghost use Rattle.gl_model.specs.Places.{no_place};
 ghost use Rattle.gl_core.specs.Steps.{Steps, Tells};
@@ -112,14 +113,32 @@ impl State {
         }
     }
 
+    /// How many of the first lines of a chip are to be looked at for a name. Of those behind them none has it.
+    #[tactic(auto, using(crate::proofs::FindingLines::none_left))]
+    fn lines_to_search(&self, place: u8, name: &Name) -> u32
+        ensures within { result ≤ (chip_at self.now.chips place).lines }
+        ensures none_left { (i : ℕ) → result ≤ i
+            → named_from name.now place i (drop i (slice_index_or self.now.places place no_place).descs) ≡ [] }
+    {
+        let lines = self.chips.lines(place);
+        if lines == 0 || name.as_bytes().is_empty() {
+            return lines;
+        }
+        let end = self.places.at(place).descs.names_end();
+        if end >= lines as usize {
+            return lines;
+        }
+        end as u32
+    }
+
     /// Looks for lines on the chip of a place.
-    #[tactic(auto, using(crate::proofs::FindingLines::named_more, crate::proofs::FindingLines::named_all))]
+    #[tactic(auto, using(crate::proofs::FindingLines::named_more, crate::proofs::FindingLines::with_none))]
     fn look_through(&self, place: u8, name: &Name, found: &mut LinesFound)
         requires { found.old.count + LINES_MAX < 2 ^ 32 }
         ensures found { found.new ≡ with_lines (named_from name.now place 0 (slice_index_or self.now.places place no_place).descs) found.old }
         ensures count { found.new.count ≤ found.old.count + LINES_MAX }
     {
-        for offset in 0..self.chips.lines(place) {
+        for offset in 0..self.lines_to_search(place, name) {
             found.look(place, &self.places.at(place).descs, offset, name);
         }
     }

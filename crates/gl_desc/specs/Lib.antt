@@ -1,1 +1,2 @@
 pub mod Desc
+pub mod Names

@@ -5,6 +5,7 @@ ghost use Rattle.std.specs.Str.{bytes_eq};
 ghost use Rattle.gl_base.specs.Lines.{IsLineCount, offsets_of};
 ghost use Rattle.gl_base.specs.declared.limits.TheConstants.{LINES_MAX, LINES_PER_REQUEST};
 ghost use Rattle.gl_base.specs.Positions.{change_at, change_each, first_fault};
+ghost use Rattle.gl_desc.specs.Names.{NamesEndBy};
 ghost use Rattle.gl_desc.specs.Desc.{first_desc, desc_at, stands_earlier, line_fault, claim_fault, claimed, settled, freed, named, hogged};
 
 use crate::desc::{Desc, Holder, LineFault, is_free, settled_holder};
@@ -17,18 +18,21 @@ use std::marker::Model;
 #[derive(Drop)]
 pub struct Descs {
     lines: Vec<Desc>,
+    /// Behind the last line that was ever named: who looks for a name needs to look no further.
+    names_end: usize,
 }
 
 impl Model for Descs {
     ghost use Rattle.std.specs.Prelude.{◌≤◌, List, vec_capacity};
     ghost use Rattle.gl_base.specs.declared.limits.TheConstants.{LINES_MAX};
+    ghost use Rattle.gl_desc.specs.Names.{NamesEndBy};
     ghost use Rattle.gl_desc.specs.declared.desc.Desc.{Desc};
 
     ghost Value = { List Desc };
 
     ghost view = { λ d. d.lines.items };
 
-    ghost invariant = { λ d. LINES_MAX ≤ vec_capacity d.lines };
+    ghost invariant = { λ d. (LINES_MAX ≤ vec_capacity d.lines) × NamesEndBy d.lines.items d.names_end };
 }
 
 impl Descs {
@@ -40,12 +44,16 @@ impl Descs {
         ensures memory_alone { IsOkUnless result Errno.NoMemory }
     {
         let rows = Vec::with_capacity(alloc, LINES_MAX as usize)?;
-        let mut descs = Descs { lines: rows };
+        let mut descs = Descs {
+            lines: rows,
+            names_end: 0,
+        };
         descs.fit(lines);
         Ok(descs)
     }
 
     /// Keeps the first lines, so many; where there are fewer, new ones come behind them. It takes no memory.
+    #[tactic(auto, using(crate::proofs::Names::kept))]
     pub fn fit(&mut self, lines: u32)
         requires { lines ≤ LINES_MAX }
         ensures { self.new ≡ take lines self.old ++ replicate (lines - length self.old) first_desc }
@@ -64,7 +72,7 @@ impl Descs {
     /// Claims the lines of a request. The first faulty line decides, and then nothing changes: `BadOffset`
     /// at or past the number of lines; `Busy` where somebody has the line, or where it stands earlier in
     /// the request.
-    #[tactic(auto, using(crate::proofs::Lengths::as_many_lines))]
+    #[tactic(auto, using(crate::proofs::Lengths::as_many_lines, crate::proofs::Names::kept))]
     pub fn claim(&mut self, lines: &Lines, fd: u32, consumer: Name) -> Result<(), LineFault>
         requires { IsLineCount lines.now.count }
         ensures fault { result_err result ≡ claim_fault self.old lines.now }
@@ -90,7 +98,7 @@ impl Descs {
     }
 
     /// The lines that a request claimed are held by it. A line that isn't claimed stays as it is.
-    #[tactic(auto, using(crate::proofs::Lengths::as_many_lines))]
+    #[tactic(auto, using(crate::proofs::Lengths::as_many_lines, crate::proofs::Names::kept))]
     pub fn settle(&mut self, lines: &Lines)
         requires { IsLineCount lines.now.count }
         ensures lines { self.new ≡ change_each first_desc (offsets_of lines.now) settled self.old }
@@ -100,7 +108,7 @@ impl Descs {
     }
 
     /// Nobody has the lines of a request any more.
-    #[tactic(auto, using(crate::proofs::Lengths::as_many_lines))]
+    #[tactic(auto, using(crate::proofs::Lengths::as_many_lines, crate::proofs::Names::kept))]
     pub fn free(&mut self, lines: &Lines)
         requires { IsLineCount lines.now.count }
         ensures lines { self.new ≡ change_each first_desc (offsets_of lines.now) freed self.old }
@@ -149,14 +157,24 @@ impl Descs {
         self.lines[offset as usize].name == *name
     }
 
+    /// Behind which lines none has a name: none at this offset, or at a later one.
+    pub fn names_end(&self) -> usize
+        ensures { NamesEndBy self.now result }
+    {
+        self.names_end
+    }
+
     /// Names a line. An offset past the lines changes nothing.
+    #[tactic(auto, using(crate::proofs::Names::kept))]
     pub fn set_name(&mut self, offset: u32, name: Name)
         ensures { self.new ≡ change_at first_desc offset (named name) self.old }
     {
+        self.names_end = self.names_end.max(offset as usize + 1);
         set_name(&mut self.lines, offset as usize, name);
     }
 
     /// The board itself holds a line from now on. An offset past the lines changes nothing.
+    #[tactic(auto, using(crate::proofs::Names::kept))]
     pub fn hog(&mut self, offset: u32, consumer: Name)
         ensures { self.new ≡ change_at first_desc offset (hogged consumer) self.old }
     {

@@ -54,7 +54,7 @@ impl<M: Machine> Gate<M> {
         let number = pass.number;
         match self
             .turnstile
-            .serve(rt, &mut pass.seat, number, call, gift, out)
+            .serve(rt, &mut pass.seat, number, &call, gift, out)
         {
             Some(reply) => Ok(reply),
             None => Err(Errno::Full),

@@ -120,23 +120,23 @@ impl<M: Machine> Turnstile<M> {
         &self,
         seat: &mut GateSeat<M>,
         number: u8,
-        call: M::Call,
+        call: &M::Call,
         gift: &mut M::Gift,
         out: &mut [u8],
     ) -> M::Reply
         requires gate { seat.old.table_id ≡ self.now.table.shared.table_id }
         requires turn { HasTurn M.Machine seat.old.me }
-        requires fits { M.Fits call gift.old out.old }
-        requires room { M.ends call ≡ false → length seat.old.me.0.seen < seat.old.me.0.room }
-        requires owed { MayCall M.Machine seat.old.me.0 call }
+        requires fits { M.Fits call.now gift.old out.old }
+        requires room { M.ends call.now ≡ false → length seat.old.me.0.seen < seat.old.me.0.room }
+        requires owed { MayCall M.Machine seat.old.me.0 call.now }
         ensures gate { seat.new.table_id ≡ seat.old.table_id }
-        ensures in_range { M.FitsCall call }
-        ensures second { M.ends call ≡ true → M.begins call result ≡ false }
-        ensures gift { M.Leaves call result gift.old gift.new }
-        ensures made { Made M.Machine seat.old.me number call result out.old out.new seat.new.me }
+        ensures in_range { M.FitsCall call.now }
+        ensures second { M.ends call.now ≡ true → M.begins call.now result ≡ false }
+        ensures gift { M.Leaves call.now result gift.old gift.new }
+        ensures made { Made M.Machine seat.old.me number call.now result out.old out.new seat.new.me }
     {
         let held = seat.slot_mut(&self.table.shared, 0);
-        held.make(number, call, gift, out)
+        held.make(number, *call, gift, out)
     }
 
     // Commits the entry that stands last in the slot, and ends the turn.
@@ -165,28 +165,28 @@ impl<M: Machine> Turnstile<M> {
         rt: &R,
         seat: &mut GateSeat<M>,
         number: u8,
-        call: M::Call,
+        call: &M::Call,
         gift: &mut M::Gift,
         out: &mut [u8],
     ) -> Option<M::Reply>
         requires gate { seat.old.table_id ≡ self.now.table.shared.table_id }
         requires keeps { Keeps M.Machine seat.old.me number seat.old.me.0.made }
-        requires fits { M.Fits call gift.old out.old }
-        requires owed { MayCall M.Machine seat.old.me.0 call }
-        requires named { MayName M.Machine seat.old.me.0 call }
-        requires last { MayEndRemoval M.Machine seat.old.me.0 call }
+        requires fits { M.Fits call.now gift.old out.old }
+        requires owed { MayCall M.Machine seat.old.me.0 call.now }
+        requires named { MayName M.Machine seat.old.me.0 call.now }
+        requires last { MayEndRemoval M.Machine seat.old.me.0 call.now }
         ensures gate { seat.new.table_id ≡ seat.old.table_id }
         ensures keeps { Keeps M.Machine seat.new.me number seat.old.me.0.made }
         ensures same { SamePass seat.old.me.0 seat.new.me.0 }
-        ensures acts { IfSome result (λ r. Acts M.Machine seat.old.me.0 call r out.old out.new seat.new.me.0) }
-        ensures gift { IfSome result (λ r. M.Leaves call r gift.old gift.new) }
-        ensures refuses { IfNone result (Refuses M.Machine seat.old.me.0 call seat.new.me.0) }
+        ensures acts { IfSome result (λ r. Acts M.Machine seat.old.me.0 call.now r out.old out.new seat.new.me.0) }
+        ensures gift { IfSome result (λ r. M.Leaves call.now r gift.old gift.new) }
+        ensures refuses { IfNone result (Refuses M.Machine seat.old.me.0 call.now seat.new.me.0) }
         ensures untouched { IfNone result ((gift.new ≡ gift.old) × (out.new ≡ out.old)) }
     {
         let _inside = self.pass_door(rt);
         let ticket = self.draw(seat);
         self.wait(rt, seat, ticket);
-        if self.refuses(seat, &call) {
+        if self.refuses(seat, call) {
             self.pass_on(seat);
             return None;
         }

@@ -4,6 +4,7 @@ pub mod Cost
 pub mod Faults
 pub mod Forms
 pub mod Gen
+pub mod FirstBytes
 pub mod Meaning
 pub mod Reading
 pub mod Refusal

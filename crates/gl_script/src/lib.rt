@@ -6,6 +6,7 @@ mod faults;
 mod feed;
 mod forms;
 mod heads;
+mod initials;
 mod laws;
 mod limits;
 mod load;

@@ -1,7 +1,9 @@
 //! The table of statements: the word that each begins with, and the forms of its further words.
 ghost use Rattle.std.specs.Prelude.{◌≡◌, find, option_copied};
+ghost use Rattle.gl_script.specs.FirstBytes.{keywords_from};
 ghost use Rattle.gl_script.specs.Table.{has_accept, keyword_name, is_keyword, is_in, keyword_in, keyword_of, only_in, wanted, wanted_of, only, followed};
 
+use crate::initials::beginning_with;
 use crate::version::Version;
 use gl_base::LINES_MAX;
 
@@ -271,7 +273,17 @@ fn followed(forms: &'static [Form], tail: Tail) -> Shape
 pub fn keyword_of(word: &[u8]) -> Option<Keyword>
     ensures { result ≡ keyword_of word.now }
 {
-    match keyword_among(&KEYWORDS, word) {
+    match word {
+        [first, ..] => keyword_from(*first, word),
+        [] => None,
+    }
+}
+
+/// The statement that a word begins, among those that begin with this byte.
+fn keyword_from(first: u8, word: &[u8]) -> Option<Keyword>
+    ensures { result ≡ find (is_keyword word.now) (keywords_from first) }
+{
+    match keyword_among(beginning_with(first), word) {
         Some(keyword) => Some(*keyword),
         None => None,
     }

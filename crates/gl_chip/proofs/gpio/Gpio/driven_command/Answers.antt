@@ -14,20 +14,20 @@ use Rattle.gl_chip.proofs.gpio.Gpio.driven_command.Goals as goal
 pub invariant_of-actor : goal.invariant_of-actor
 invariant_of-actor g c =
     let found = found_closed core c.args.file.place c.actor.inside.pass c.enter.new.pass (c.enter.ensures.refused (search rules)) in
-    idle_commanded g.D.Port.Port.told g.D.Port.Port.faults g.D.Driver.OwnEntries g.D.Driver.ENTRIES g.D.Driver.is_planned c.alone.result c.args.op.now (record { pass = c.actor.inside.pass; port = c.actor.inside.port }) (record { pass = c.alone.new.pass; port = c.actor.inside.port })
-    (command_in c.args.file.place c.args.file.fd c.args.file.of_chip c.args.cmd c.args.out.now) c.args.out.now c.alone.new.out c.actor.invariant
-    (is_free core c.alone.new.pass.view (inside_after c.alone.result c.enter.new.pass.view c.alone.new.pass.view _ _ _ _ _ c.alone.ensures.called c.alone.ensures.full ∙ (found.1 ∙ c.actor.invariant.free.inside)) c.alone.ensures.owes)
-    (if_ok c.alone.result _ _ (λ r step. turned_away g.D.Port.Port.told g.D.Port.Port.faults g.D.Driver.OwnEntries g.D.Driver.ENTRIES g.D.Driver.is_planned c.args.op.now (record { pass = c.actor.inside.pass; port = c.actor.inside.port }) (record { pass = c.alone.new.pass; port = c.actor.inside.port })
-    c.enter.new.pass.view (command_in c.args.file.place c.args.file.fd c.args.file.of_chip c.args.cmd c.args.out.now) r c.args.out.now c.alone.new.out found.0 c.enter.ensures.knows (c.enter.ensures.closed (search rules)) step refl) c.alone.ensures.called)
-    (if_err c.alone.result _ _ (λ e full. (no_room core c.actor.inside.pass.view c.enter.new.pass.view c.alone.new.pass.view found.0 c.enter.ensures.knows full.3).grew) c.alone.ensures.full)
+    idle_commanded g.D.Port.Port.told g.D.Port.Port.faults g.D.Driver.OwnEntries g.D.Driver.ENTRIES g.D.Driver.is_planned c.refused_at.result c.args.op.now (record { pass = c.actor.inside.pass; port = c.actor.inside.port }) (record { pass = c.refused_at.new.pass; port = c.actor.inside.port })
+    (command_in c.args.file.place c.args.file.fd c.args.file.of_chip c.args.cmd c.args.out.now) c.args.out.now c.refused_at.new.out c.actor.invariant
+    (is_free core c.refused_at.new.pass.view (inside_after c.refused_at.result c.enter.new.pass.view c.refused_at.new.pass.view _ _ _ _ _ c.refused_at.ensures.called c.refused_at.ensures.full ∙ (found.1 ∙ c.actor.invariant.free.inside)) c.refused_at.ensures.owes)
+    (if_ok c.refused_at.result _ _ (λ r step. turned_away g.D.Port.Port.told g.D.Port.Port.faults g.D.Driver.OwnEntries g.D.Driver.ENTRIES g.D.Driver.is_planned c.args.op.now (record { pass = c.actor.inside.pass; port = c.actor.inside.port }) (record { pass = c.refused_at.new.pass; port = c.actor.inside.port })
+    c.enter.new.pass.view (command_in c.args.file.place c.args.file.fd c.args.file.of_chip c.args.cmd c.args.out.now) r c.args.out.now c.refused_at.new.out found.0 c.enter.ensures.knows (c.enter.ensures.closed (search rules)) step refl) c.refused_at.ensures.called)
+    (if_err c.refused_at.result _ _ (λ e full. (no_room core c.actor.inside.pass.view c.enter.new.pass.view c.refused_at.new.pass.view found.0 c.enter.ensures.knows full.3).grew) c.refused_at.ensures.full)
 
 pub returns-then-not-enter-clause-commanded : goal.returns-then-not-enter-clause-commanded
 returns-then-not-enter-clause-commanded g c =
     let found = found_closed core c.args.file.place c.actor.inside.pass c.enter.new.pass (c.enter.ensures.refused (search rules)) in
-    if_ok c.alone.result _ _ (λ r step. subst (λ x. (bytes : List ℕ) × (c.alone.new.out ≡ bytes ++ drop (length bytes) c.args.out.now)
-    × HasCommanded g.D.Port.Port.told g.D.Port.Port.faults g.D.Driver.OwnEntries g.D.Driver.ENTRIES g.D.Driver.is_planned c.args.op.now x (command_in c.args.file.place c.args.file.fd c.args.file.of_chip c.args.cmd c.args.out.now) r bytes (record { pass = c.alone.new.pass; port = c.actor.inside.port })) c.actor.view_is
-    (turned_away g.D.Port.Port.told g.D.Port.Port.faults g.D.Driver.OwnEntries g.D.Driver.ENTRIES g.D.Driver.is_planned c.args.op.now (record { pass = c.actor.inside.pass; port = c.actor.inside.port }) (record { pass = c.alone.new.pass; port = c.actor.inside.port })
-    c.enter.new.pass.view (command_in c.args.file.place c.args.file.fd c.args.file.of_chip c.args.cmd c.args.out.now) r c.args.out.now c.alone.new.out found.0 c.enter.ensures.knows (c.enter.ensures.closed (search rules)) step refl)) c.alone.ensures.called
+    if_ok c.refused_at.result _ _ (λ r step. subst (λ x. (bytes : List ℕ) × (c.refused_at.new.out ≡ bytes ++ drop (length bytes) c.args.out.now)
+    × HasCommanded g.D.Port.Port.told g.D.Port.Port.faults g.D.Driver.OwnEntries g.D.Driver.ENTRIES g.D.Driver.is_planned c.args.op.now x (command_in c.args.file.place c.args.file.fd c.args.file.of_chip c.args.cmd c.args.out.now) r bytes (record { pass = c.refused_at.new.pass; port = c.actor.inside.port })) c.actor.view_is
+    (turned_away g.D.Port.Port.told g.D.Port.Port.faults g.D.Driver.OwnEntries g.D.Driver.ENTRIES g.D.Driver.is_planned c.args.op.now (record { pass = c.actor.inside.pass; port = c.actor.inside.port }) (record { pass = c.refused_at.new.pass; port = c.actor.inside.port })
+    c.enter.new.pass.view (command_in c.args.file.place c.args.file.fd c.args.file.of_chip c.args.cmd c.args.out.now) r c.args.out.now c.refused_at.new.out found.0 c.enter.ensures.knows (c.enter.ensures.closed (search rules)) step refl)) c.refused_at.ensures.called
 
 pub invariant_of-actor-2 : goal.invariant_of-actor-2
 invariant_of-actor-2 g c =
@@ -55,7 +55,7 @@ returns-clause-commanded g c =
     (λ k. true≢false (sym c.if-not-enter.false ∙ c.enter.ensures.known k)) did out.0 out.1 out.2)) c.command_inside-answer.ensures.called
 
 pub returns-then-not-enter-clause-number : goal.returns-then-not-enter-clause-number
-returns-then-not-enter-clause-number g c = if_ok c.alone.result _ _ (λ r step n is. absurd (refused_no_number c.enter.new.pass.view c.alone.new.pass.view c.args.file.place r _ _ step n is)) c.alone.ensures.called
+returns-then-not-enter-clause-number g c = if_ok c.refused_at.result _ _ (λ r step n is. absurd (refused_no_number c.enter.new.pass.view c.refused_at.new.pass.view c.args.file.place r _ _ step n is)) c.refused_at.ensures.called
 
 pub returns-clause-number : goal.returns-clause-number
 returns-clause-number g c = if_ok c.command_inside-answer.result _ _ (λ r did. did.numbered) c.command_inside-answer.ensures.called
@@ -63,9 +63,9 @@ returns-clause-number g c = if_ok c.command_inside-answer.result _ _ (λ r did. 
 pub returns-then-not-enter-clause-same : goal.returns-then-not-enter-clause-same
 returns-then-not-enter-clause-same g c =
     let found = found_closed core c.args.file.place c.actor.inside.pass c.enter.new.pass (c.enter.ensures.refused (search rules)) in
-    either c.alone.result _ _ (IsSameActor c.args.actor.now.pass.view c.alone.new.pass.view) (returns-then-not-enter-clause-commanded g c) c.alone.ensures.full (λ r h. same_grown _ _ _ h.2.called.grew h.2.called.knows_as_much)
-    (λ e full. seen_from _ _ (λ v. IsSameActor v c.alone.new.pass.view) c.actor.view_is
-    (let none = no_room core c.actor.inside.pass.view c.enter.new.pass.view c.alone.new.pass.view found.0 c.enter.ensures.knows full.3 in same_grown c.actor.inside.pass.view c.alone.new.pass.view _ none.grew none.knows_as_much))
+    either c.refused_at.result _ _ (IsSameActor c.args.actor.now.pass.view c.refused_at.new.pass.view) (returns-then-not-enter-clause-commanded g c) c.refused_at.ensures.full (λ r h. same_grown _ _ _ h.2.called.grew h.2.called.knows_as_much)
+    (λ e full. seen_from _ _ (λ v. IsSameActor v c.refused_at.new.pass.view) c.actor.view_is
+    (let none = no_room core c.actor.inside.pass.view c.enter.new.pass.view c.refused_at.new.pass.view found.0 c.enter.ensures.knows full.3 in same_grown c.actor.inside.pass.view c.refused_at.new.pass.view _ none.grew none.knows_as_much))
 
 pub returns-clause-same : goal.returns-clause-same
 returns-clause-same g c =

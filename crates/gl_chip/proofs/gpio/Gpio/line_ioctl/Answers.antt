@@ -26,7 +26,7 @@ returns-in-None-clause-called g c = let h = c.done_by_command.ensures.called in
 
 pub returns-in-Ok-clause-called : goal.returns-in-Ok-clause-called
 returns-in-Ok-clause-called g c = let h = c.in-Ok.ensures.commanded in
-    let op = subst (λ (b : List ℕ). op_of c.fd.inside.lines (command_of c.args.cmd) b ≡ Some c.in-Some.op) c.handed_in.ensures c.in-Some.ensures.op.1 in
+    let op = subst (λ (b : List ℕ). op_of c.fd.inside.lines (command_of c.args.cmd) b ≡ Some c.in-Some.op) c.handed_in-bytes.ensures c.in-Some.ensures.op.1 in
     subst (λ (f : LineFile). (bytes : List ℕ) × (c.driven_command.new.out ≡ bytes ++ drop (length bytes) c.args.buf.now)
     × CommandsOut g.D.Port.Port.told g.D.Port.Port.faults g.D.Driver.OwnEntries g.D.Driver.ENTRIES g.D.Driver.is_planned done_of c.done.result (op_for f.lines (command_in f.place f.fd false c.args.cmd c.args.buf.now))
     c.args.actor.now (command_in f.place f.fd false c.args.cmd c.args.buf.now) bytes c.driven_command.new.actor) c.fd.view_is (

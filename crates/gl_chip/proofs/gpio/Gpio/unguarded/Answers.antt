@@ -10,22 +10,22 @@ use Rattle.gl_chip.proofs.GateSteps.{knows_same}
 use Rattle.gl_chip.proofs.gpio.Gpio.unguarded.Goals as goal
 
 pub alone-requires-clause-whole : goal.alone-requires-clause-whole
-alone-requires-clause-whole g c κs within = single_is_whole c.args.call c.requires.single
+alone-requires-clause-whole g c κs within = single_is_whole c.args.call.now c.requires.single
 
 pub invariant_of-actor : goal.invariant_of-actor
 invariant_of-actor g c = let empty : length c.alone.new.out ≡ 0 = search rules in
-    idle_alone c.alone.result c.actor.inside.pass.view c.alone.new.pass.view c.args.call _ c.alone.new.out _ _ c.requires.single c.requires.no_guard empty c.actor.invariant c.alone.ensures.owes c.alone.ensures.called c.alone.ensures.full
+    idle_alone c.alone.result c.actor.inside.pass.view c.alone.new.pass.view c.args.call.now _ c.alone.new.out _ _ c.requires.single c.requires.no_guard empty c.actor.invariant c.alone.ensures.owes c.alone.ensures.called c.alone.ensures.full
 
 pub returns-clause-called : goal.returns-clause-called
 returns-clause-called g c = let empty : length c.alone.new.out ≡ 0 = search rules in
-    if_ok c.alone.result _ _ (λ r step. seen_from _ _ (λ v. HasCalled 0 v (Once c.args.call) r [] c.alone.new.pass.view) c.actor.view_is
-    (called_alone c.actor.inside.pass.view c.alone.new.pass.view c.args.call r _ c.alone.new.out c.requires.single c.requires.no_guard empty step)) c.alone.ensures.called
+    if_ok c.alone.result _ _ (λ r step. seen_from _ _ (λ v. HasCalled 0 v (Once c.args.call.now) r [] c.alone.new.pass.view) c.actor.view_is
+    (called_alone c.actor.inside.pass.view c.alone.new.pass.view c.args.call.now r _ c.alone.new.out c.requires.single c.requires.no_guard empty step)) c.alone.ensures.called
 
 pub returns-clause-form : goal.returns-clause-form
-returns-clause-form g c = if_ok c.alone.result _ _ (λ r step. form_alone c.actor.inside.pass.view c.alone.new.pass.view c.args.call r _ _ step) c.alone.ensures.called
+returns-clause-form g c = if_ok c.alone.result _ _ (λ r step. form_alone c.actor.inside.pass.view c.alone.new.pass.view c.args.call.now r _ _ step) c.alone.ensures.called
 
 pub returns-clause-not_full : goal.returns-clause-not_full
-returns-clause-not_full g c = if_ok c.alone.result _ _ (λ r step. alone_not_full c.actor.inside.pass.view c.alone.new.pass.view c.args.call r _ _ step) c.alone.ensures.called
+returns-clause-not_full g c = if_ok c.alone.result _ _ (λ r step. alone_not_full c.actor.inside.pass.view c.alone.new.pass.view c.args.call.now r _ _ step) c.alone.ensures.called
 
 pub returns-clause-same : goal.returns-clause-same
 returns-clause-same g c = seen_from _ _ (λ v. IsSameActor v c.alone.new.pass.view) c.actor.view_is

@@ -11,7 +11,7 @@ use Rattle.gl_chip.proofs.SameActors.{either, same_grown}
 use Rattle.gl_chip.proofs.gpio.Gpio.whole_command.Goals as goal
 
 pub guarded-requires-clause-fits : goal.guarded-requires-clause-fits
-guarded-requires-clause-fits g c κs within = command_fits c.args.file.place c.args.file.fd c.args.cmd c.args.out.now c.handed_in.result _ c.requires.place c.handed_in.ensures
+guarded-requires-clause-fits g c = command_fits c.args.file.place c.args.file.fd c.args.cmd c.args.out.now c.handed_in.result _ c.requires.place c.handed_in.ensures
 
 pub invariant_of-actor : goal.invariant_of-actor
 invariant_of-actor g c = let command = command_in c.args.file.place c.args.file.fd c.args.file.of_chip c.args.cmd c.args.out.now in

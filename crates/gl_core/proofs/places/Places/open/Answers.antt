@@ -5,7 +5,7 @@ use Rattle.gl_irq.specs.declared.irq.Irq.{Irq}
 use Rattle.gl_model.specs.Chips.{new_place}
 use Rattle.gl_model.specs.declared.place.Place.{Place}
 use Rattle.gl_model.specs.Places.{no_place}
-use Rattle.gl_core.proofs.Spare.{fitted, fitted-new}
+use Rattle.gl_core.proofs.Spare.{fitted, fitted-new, spare_left}
 use Rattle.gl_core.proofs.places.Places.open.Goals as goal
 
 pub returns-in-Some : goal.returns-in-Some
@@ -18,3 +18,7 @@ returns-in-Some c =
     ∙ ap (λ (x : Place). c.self.inside.used.items ++ fitted c.args.lines x ∷ []) there
     ∙ ap (λ (x : Place). c.self.inside.used.items ++ x ∷ []) (fitted-new c.args.lines)
     ∙ ap (λ xs. xs ++ new_place c.args.lines ∷ []) c.self.view_is
+
+pub invariant_of-self-in-Some : goal.invariant_of-self-in-Some
+invariant_of-self-in-Some c =
+    spare_left c.self.inside.used.items c.self.inside.spare.items c.push_within.new.items.items c.take_last.new.items.items _ _ _ c.self.invariant c.in-Some.ensures.last.0 c.push_within.ensures.items c.take_last.ensures.rest c.push_within.ensures.capacity

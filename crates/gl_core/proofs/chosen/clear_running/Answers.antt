@@ -4,7 +4,7 @@ use Rattle.gl_base.specs.declared.limits.TheConstants.{PLACES}
 use Rattle.gl_model.specs.Removal.{without_deadlines}
 use Rattle.gl_core.specs.Chosen.{is_chosen}
 use Rattle.gl_core.proofs.ClearingDeadlines.{all_places, no_place_yet, places_more}
-use Rattle.gl_core.proofs.chosen.clear_deadlines.Goals as goal
+use Rattle.gl_core.proofs.chosen.clear_running.Goals as goal
 
 pub loop-place-init : goal.loop-place-init
 loop-place-init c = no_place_yet (is_chosen c.args.places.now) c.args.timers.now
