@@ -1,9 +1,9 @@
 //! How a tool finds its lines, and requests them where it does.
-ghost use Rattle.std.specs.Prelude.{◌≡◌, ℕ, ◌<◌, ◌≤◌, ◌&&◌, not, false, [], ◌∷◌, ◌++◌, length, drop, take, None, IfOk, OnErr, IsOkUnless, MatchOption, is_some, option_copied};
+ghost use Rattle.std.specs.Prelude.{◌≡◌, ℕ, ◌<◌, ◌≤◌, ◌&&◌, not, false, [], ◌∷◌, ◌++◌, length, drop, take, None, IfOk, OnOk, OnErr, IsOkUnless, MatchOption, is_some, option_copied};
 ghost use Rattle.gl_args.specs.declared.names.ToolName.{ToolName};
 ghost use Rattle.gl_args.specs.Options.{options_in};
 ghost use Rattle.gl_args.specs.Program.{Goes, given, goes_on, done};
-ghost use Rattle.gl_lines.specs.Finding.{offset_said, below_32_bits, word_at, fails, fails_at, fails_looking, leaves, chip_closed, requested, known, opened, all_found, looked, looks, chip_slot, named_opened, finds, has_found, left, Stays, StaysThere};
+ghost use Rattle.gl_lines.specs.Finding.{offset_said, below_32_bits, word_at, named_line, fails, fails_at, fails_looking, leaves, chip_closed, requested, known, opened, all_found, looked, looks, chip_slot, named_opened, finds, has_found, left, Stays, StaysThere};
 
 use crate::bytes::request_sent;
 use crate::found_line::{FoundLine, are_apart, offsets_of, place_of};
@@ -86,6 +86,23 @@ impl Finder {
         ensures kept { OnErr result (left self.new ≡ left self.old) }
         ensures memory_alone { IsOkUnless result Errno.NoMemory }
     {
+        let mut step = Next::End;
+        self.put_next(alloc, got, &mut step)?;
+        Ok(step)
+    }
+
+    /// Puts into `step` what it does next, as `next` answers it. Where memory is wanted `step` means nothing.
+    pub fn put_next(
+        &mut self,
+        alloc: Global,
+        got: Option<&Got>,
+        step: &mut Next,
+    ) -> Result<(), Errno>
+        ensures goes { OnOk result (Goes (given (left self.old) (option_copied got.entry)) step.new (left self.new)) }
+        ensures stays { Stays self.old self.new }
+        ensures kept { OnErr result (left self.new ≡ left self.old) }
+        ensures memory_alone { IsOkUnless result Errno.NoMemory }
+    {
         let none = Got::Done;
         let got = match got {
             Some(got) => got,
@@ -93,18 +110,28 @@ impl Finder {
         };
         let stage = self.stage;
         match &stage {
-            FinderStage::OpeningNamed => self.named_opened(alloc, got.refusal()),
-            FinderStage::Looking(word) => self.looked(alloc, word, got),
-            FinderStage::OpeningFound => self.opened(alloc, got.refusal()),
-            FinderStage::Requesting => self.requested(alloc, got.refusal()),
-            FinderStage::Closing => self.chip_closed(alloc, got.refusal()),
-            FinderStage::ChipOpen => Ok(self.leave(self.base)),
-            FinderStage::LineOpen => Ok(self.leave(self.made)),
+            FinderStage::OpeningNamed => self.named_opened(alloc, got.refusal(), step),
+            FinderStage::Looking(word) => self.looked(alloc, word, got, step),
+            FinderStage::OpeningFound => self.opened(alloc, got.refusal(), step),
+            FinderStage::Requesting => self.requested(alloc, got.refusal(), step),
+            FinderStage::Closing => self.chip_closed(alloc, got.refusal(), step),
+            FinderStage::ChipOpen => {
+                self.leave(self.base, step);
+                Ok(())
+            }
+            FinderStage::LineOpen => {
+                self.leave(self.made, step);
+                Ok(())
+            }
             FinderStage::Leaving => {
                 self.stage = FinderStage::Ended(false);
-                Ok(Next::End)
+                *step = Next::End;
+                Ok(())
             }
-            FinderStage::Ended(_) => Ok(Next::End),
+            FinderStage::Ended(_) => {
+                *step = Next::End;
+                Ok(())
+            }
         }
     }
 
@@ -132,54 +159,73 @@ impl Finder {
         ensures kept { OnErr result (self.new.stage ≡ self.old.stage) }
         ensures memory_alone { IsOkUnless result Errno.NoMemory }
     {
+        let mut step = Next::End;
+        self.put_first(alloc, &mut step)?;
+        Ok(step)
+    }
+
+    /// Begins, and puts into `step` the first thing that it does, as `begin` answers it. Where memory is wanted `step` means
+    /// nothing.
+    pub fn put_first(&mut self, alloc: Global, step: &mut Next) -> Result<(), Errno>
+        ensures goes { OnOk result (Goes (finds self.old.tool self.old.base self.old.made (options_in self.old.opts)) step.new (left self.new)) }
+        ensures stays { Stays self.old self.new }
+        ensures kept { OnErr result (self.new.stage ≡ self.old.stage) }
+        ensures memory_alone { IsOkUnless result Errno.NoMemory }
+    {
         match &self.opts.chip {
             Some(chip) => {
                 let word = path_of_name(chip);
                 self.stage = FinderStage::OpeningNamed;
-                Ok(Next::Call(Do::OpenChip {
+                *step = Next::Call(Do::OpenChip {
                     slot: self.base,
                     word,
-                }))
+                });
+                Ok(())
             }
-            None => self.look_first(alloc),
+            None => self.look_first(alloc, step),
         }
     }
 
-    fn named_opened(&mut self, alloc: Global, refusal: Option<Errno>) -> Result<Next, Errno>
-        ensures goes { IfOk result (λ next. Goes (named_opened self.old.tool self.old.base self.old.made (options_in self.old.opts) refusal) next (left self.new)) }
+    fn named_opened(
+        &mut self,
+        alloc: Global,
+        refusal: Option<Errno>,
+        step: &mut Next,
+    ) -> Result<(), Errno>
+        ensures goes { OnOk result (Goes (named_opened self.old.tool self.old.base self.old.made (options_in self.old.opts) refusal) step.new (left self.new)) }
         ensures stays { Stays self.old self.new }
         ensures kept { OnErr result (self.new.stage ≡ self.old.stage) }
         ensures memory_alone { IsOkUnless result Errno.NoMemory }
     {
         match refusal {
-            Some(errno) => self.fail(alloc, errno),
-            None => self.look_first(alloc),
+            Some(errno) => self.fail(alloc, errno, step),
+            None => self.look_first(alloc, step),
         }
     }
 
     /// Begins to look for the lines.
-    fn look_first(&mut self, alloc: Global) -> Result<Next, Errno>
-        ensures goes { IfOk result (λ next. Goes (looks self.old.tool self.old.base self.old.made (options_in self.old.opts) self.old.opts.lines.items []) next (left self.new)) }
+    fn look_first(&mut self, alloc: Global, step: &mut Next) -> Result<(), Errno>
+        ensures goes { OnOk result (Goes (looks self.old.tool self.old.base self.old.made (options_in self.old.opts) self.old.opts.lines.items []) step.new (left self.new)) }
         ensures stays { Stays self.old self.new }
         ensures kept { OnErr result (self.new.stage ≡ self.old.stage) }
         ensures memory_alone { IsOkUnless result Errno.NoMemory }
     {
         self.next = 0;
         self.found.clear();
-        self.look(alloc)
+        self.look(alloc, step)
     }
 
     /// Looks for the lines from `next` on.
-    fn look(&mut self, alloc: Global) -> Result<Next, Errno>
-        ensures goes { IfOk result (λ next. Goes (looks self.old.tool self.old.base self.old.made (options_in self.old.opts) (drop self.old.next self.old.opts.lines.items) self.old.found.items) next (left self.new)) }
+    fn look(&mut self, alloc: Global, step: &mut Next) -> Result<(), Errno>
+        ensures goes { OnOk result (Goes (looks self.old.tool self.old.base self.old.made (options_in self.old.opts) (drop self.old.next self.old.opts.lines.items) self.old.found.items) step.new (left self.new)) }
         ensures stays { Stays self.old self.new }
         ensures kept { OnErr result (StaysThere self.old self.new) }
         ensures memory_alone { IsOkUnless result Errno.NoMemory }
     {
         let next = self.next;
         let count = self.found.len();
-        match self.look_on(alloc) {
-            Ok(step) => Ok(step),
+        match self.look_on(alloc, step) {
+            Ok(()) => Ok(()),
             Err(errno) => {
                 self.next = next;
                 self.found.truncate(count);
@@ -189,8 +235,8 @@ impl Finder {
     }
 
     /// The same; where memory is wanted there may be more lines behind those that were found.
-    fn look_on(&mut self, alloc: Global) -> Result<Next, Errno>
-        ensures goes { IfOk result (λ next. Goes (looks self.old.tool self.old.base self.old.made (options_in self.old.opts) (drop self.old.next self.old.opts.lines.items) self.old.found.items) next (left self.new)) }
+    fn look_on(&mut self, alloc: Global, step: &mut Next) -> Result<(), Errno>
+        ensures goes { OnOk result (Goes (looks self.old.tool self.old.base self.old.made (options_in self.old.opts) (drop self.old.next self.old.opts.lines.items) self.old.found.items) step.new (left self.new)) }
         ensures stays { Stays self.old self.new }
         ensures stage { OnErr result (self.new.stage ≡ self.old.stage) }
         ensures front { OnErr result (take (length self.old.found.items) self.new.found.items ≡ self.old.found.items) }
@@ -202,12 +248,13 @@ impl Finder {
             Some(name) => {
                 self.next = at + 1;
                 self.stage = FinderStage::Looking(name);
-                Ok(Next::Call(Do::Find {
+                *step = Next::Call(Do::Find {
                     slot: self.chip_slot(),
                     name,
-                }))
+                });
+                Ok(())
             }
-            None => self.all_found(alloc),
+            None => self.all_found(alloc, step),
         }
     }
 
@@ -221,8 +268,14 @@ impl Finder {
     }
 
     #[tactic(auto, using(gl_args::proofs::Programs::choices))]
-    fn looked(&mut self, alloc: Global, word: &Name, got: &Got) -> Result<Next, Errno>
-        ensures goes { IfOk result (λ next. Goes (looked self.old.tool self.old.base self.old.made (options_in self.old.opts) (looks self.old.tool self.old.base self.old.made (options_in self.old.opts) (drop self.old.next self.old.opts.lines.items)) self.old.found.items word.now got.now) next (left self.new)) }
+    fn looked(
+        &mut self,
+        alloc: Global,
+        word: &Name,
+        got: &Got,
+        step: &mut Next,
+    ) -> Result<(), Errno>
+        ensures goes { OnOk result (Goes (looked self.old.tool self.old.base self.old.made (options_in self.old.opts) (looks self.old.tool self.old.base self.old.made (options_in self.old.opts) (drop self.old.next self.old.opts.lines.items)) self.old.found.items word.now got.now) step.new (left self.new)) }
         ensures stays { Stays self.old self.new }
         ensures kept { OnErr result (StaysThere self.old self.new) }
         ensures memory_alone { IsOkUnless result Errno.NoMemory }
@@ -234,36 +287,41 @@ impl Finder {
                 count,
             } => {
                 if self.opts.strict && *count > 1 {
-                    return self.fail_looking(alloc, Errno::Inval);
+                    return self.fail_looking(alloc, Errno::Inval, step);
                 }
-                self.look_behind(
-                    alloc,
-                    FoundLine {
-                        place: *place,
-                        offset: *offset,
-                        name: Some(*word),
-                    },
-                )
+                self.look_behind(alloc, *place, *offset, word, step)
             }
-            Got::Refused(errno) => self.fail_looking(alloc, *errno),
+            Got::Refused(errno) => self.fail_looking(alloc, *errno, step),
             Got::Done | Got::Number(_) | Got::Text(_) | Got::Bytes(_) | Got::Ready(_) => {
-                self.look(alloc)
+                self.look(alloc, step)
             }
         }
     }
 
-    /// Looks for the further lines behind one that was found.
-    fn look_behind(&mut self, alloc: Global, line: FoundLine) -> Result<Next, Errno>
-        ensures goes { IfOk result (λ next. Goes (looks self.old.tool self.old.base self.old.made (options_in self.old.opts) (drop self.old.next self.old.opts.lines.items) (self.old.found.items ++ line ∷ [])) next (left self.new)) }
+    /// Looks for the further lines behind one that was found by its name.
+    fn look_behind(
+        &mut self,
+        alloc: Global,
+        place: u8,
+        offset: u32,
+        word: &Name,
+        step: &mut Next,
+    ) -> Result<(), Errno>
+        ensures goes { OnOk result (Goes (looks self.old.tool self.old.base self.old.made (options_in self.old.opts) (drop self.old.next self.old.opts.lines.items) (self.old.found.items ++ named_line place offset word.now ∷ [])) step.new (left self.new)) }
         ensures stays { Stays self.old self.new }
         ensures kept { OnErr result (StaysThere self.old self.new) }
         ensures memory_alone { IsOkUnless result Errno.NoMemory }
     {
-        self.found.push(line)?;
-        match self.look(alloc) {
-            Ok(step) => Ok(step),
+        let count = self.found.len();
+        self.found.push(FoundLine {
+            place,
+            offset,
+            name: Some(*word),
+        })?;
+        match self.look(alloc, step) {
+            Ok(()) => Ok(()),
             Err(errno) => {
-                let _ = self.found.pop();
+                self.found.truncate(count);
                 Err(errno)
             }
         }
@@ -271,79 +329,98 @@ impl Finder {
 
     /// All lines are known.
     #[tactic(auto, using(gl_args::proofs::Programs::choices))]
-    fn all_found(&mut self, alloc: Global) -> Result<Next, Errno>
-        ensures goes { IfOk result (λ next. Goes (all_found self.old.tool self.old.base self.old.made (options_in self.old.opts) self.old.found.items) next (left self.new)) }
+    fn all_found(&mut self, alloc: Global, step: &mut Next) -> Result<(), Errno>
+        ensures goes { OnOk result (Goes (all_found self.old.tool self.old.base self.old.made (options_in self.old.opts) self.old.found.items) step.new (left self.new)) }
         ensures stays { Stays self.old self.new }
         ensures kept { OnErr result (self.new ≡ self.old) }
         ensures memory_alone { IsOkUnless result Errno.NoMemory }
     {
         if self.opts.chip.is_some() {
-            return self.known(alloc);
+            return self.known(alloc, step);
         }
         if are_apart(&self.found) {
-            return self.fail(alloc, Errno::Inval);
+            return self.fail(alloc, Errno::Inval, step);
         }
         let word = path_of_number(place_of(&self.found));
         self.stage = FinderStage::OpeningFound;
-        Ok(Next::Call(Do::OpenChip {
+        *step = Next::Call(Do::OpenChip {
             slot: self.base,
             word,
-        }))
+        });
+        Ok(())
     }
 
-    fn opened(&mut self, alloc: Global, refusal: Option<Errno>) -> Result<Next, Errno>
-        ensures goes { IfOk result (λ next. Goes (opened self.old.tool self.old.base self.old.made (options_in self.old.opts) self.old.found.items refusal) next (left self.new)) }
+    fn opened(
+        &mut self,
+        alloc: Global,
+        refusal: Option<Errno>,
+        step: &mut Next,
+    ) -> Result<(), Errno>
+        ensures goes { OnOk result (Goes (opened self.old.tool self.old.base self.old.made (options_in self.old.opts) self.old.found.items refusal) step.new (left self.new)) }
         ensures stays { Stays self.old self.new }
         ensures kept { OnErr result (self.new ≡ self.old) }
         ensures memory_alone { IsOkUnless result Errno.NoMemory }
     {
         match refusal {
-            Some(errno) => self.fail(alloc, errno),
-            None => self.known(alloc),
+            Some(errno) => self.fail(alloc, errno, step),
+            None => self.known(alloc, step),
         }
     }
 
     /// All lines are known, and the chip is open: they are requested where the tool requests its lines.
     #[tactic(auto, using(gl_args::proofs::Programs::choices))]
-    fn known(&mut self, alloc: Global) -> Result<Next, Errno>
-        ensures goes { IfOk result (λ next. Goes (known self.old.tool self.old.base self.old.made (options_in self.old.opts) self.old.found.items) next (left self.new)) }
+    fn known(&mut self, alloc: Global, step: &mut Next) -> Result<(), Errno>
+        ensures goes { OnOk result (Goes (known self.old.tool self.old.base self.old.made (options_in self.old.opts) self.old.found.items) step.new (left self.new)) }
         ensures stays { Stays self.old self.new }
         ensures kept { OnErr result (self.new ≡ self.old) }
         ensures memory_alone { IsOkUnless result Errno.NoMemory }
     {
         if !self.tool.requests_lines() {
             self.stage = FinderStage::Ended(true);
-            return Ok(Next::End);
+            *step = Next::End;
+            return Ok(());
         }
         let offsets = offsets_of(alloc, &self.found)?;
         let bytes = request_sent(self.tool, &self.opts, &offsets);
         self.stage = FinderStage::Requesting;
-        Ok(Next::Call(Do::Ioctl {
+        *step = Next::Call(Do::Ioctl {
             slot: self.base,
             cmd: GET_LINE,
             len: 592,
             bytes,
             made: self.made,
-        }))
+        });
+        Ok(())
     }
 
-    fn requested(&mut self, alloc: Global, refusal: Option<Errno>) -> Result<Next, Errno>
-        ensures goes { IfOk result (λ next. Goes (requested self.old.tool self.old.base self.old.made (options_in self.old.opts) self.old.found.items refusal) next (left self.new)) }
+    fn requested(
+        &mut self,
+        alloc: Global,
+        refusal: Option<Errno>,
+        step: &mut Next,
+    ) -> Result<(), Errno>
+        ensures goes { OnOk result (Goes (requested self.old.tool self.old.base self.old.made (options_in self.old.opts) self.old.found.items refusal) step.new (left self.new)) }
         ensures stays { Stays self.old self.new }
         ensures kept { OnErr result (self.new ≡ self.old) }
         ensures memory_alone { IsOkUnless result Errno.NoMemory }
     {
         match refusal {
-            Some(errno) => self.fail_open(alloc, errno),
+            Some(errno) => self.fail_open(alloc, errno, step),
             None => {
                 self.stage = FinderStage::Closing;
-                Ok(Next::Call(Do::Close { slot: self.base }))
+                *step = Next::Call(Do::Close { slot: self.base });
+                Ok(())
             }
         }
     }
 
-    fn chip_closed(&mut self, alloc: Global, refusal: Option<Errno>) -> Result<Next, Errno>
-        ensures goes { IfOk result (λ next. Goes (chip_closed self.old.tool self.old.base self.old.made (options_in self.old.opts) self.old.found.items refusal) next (left self.new)) }
+    fn chip_closed(
+        &mut self,
+        alloc: Global,
+        refusal: Option<Errno>,
+        step: &mut Next,
+    ) -> Result<(), Errno>
+        ensures goes { OnOk result (Goes (chip_closed self.old.tool self.old.base self.old.made (options_in self.old.opts) self.old.found.items refusal) step.new (left self.new)) }
         ensures stays { Stays self.old self.new }
         ensures kept { OnErr result (self.new ≡ self.old) }
         ensures memory_alone { IsOkUnless result Errno.NoMemory }
@@ -352,60 +429,64 @@ impl Finder {
             Some(errno) => {
                 let text = failed_line(alloc, self.tool, errno)?;
                 self.stage = FinderStage::LineOpen;
-                Ok(Next::Print(text))
+                *step = Next::Print(text);
+                Ok(())
             }
             None => {
                 self.stage = FinderStage::Ended(true);
-                Ok(Next::End)
+                *step = Next::End;
+                Ok(())
             }
         }
     }
 
     /// Prints a refusal, with nothing open.
-    fn fail(&mut self, alloc: Global, errno: Errno) -> Result<Next, Errno>
-        ensures goes { IfOk result (λ next. Goes (fails self.old.tool self.old.base self.old.made (options_in self.old.opts) errno) next (left self.new)) }
+    fn fail(&mut self, alloc: Global, errno: Errno, step: &mut Next) -> Result<(), Errno>
+        ensures goes { OnOk result (Goes (fails self.old.tool self.old.base self.old.made (options_in self.old.opts) errno) step.new (left self.new)) }
         ensures stays { Stays self.old self.new }
         ensures kept { OnErr result (self.new ≡ self.old) }
         ensures memory_alone { IsOkUnless result Errno.NoMemory }
     {
         let text = failed_line(alloc, self.tool, errno)?;
         self.stage = FinderStage::Ended(false);
-        Ok(Next::Print(text))
+        *step = Next::Print(text);
+        Ok(())
     }
 
     /// Prints a refusal, with the chip open.
-    fn fail_open(&mut self, alloc: Global, errno: Errno) -> Result<Next, Errno>
-        ensures goes { IfOk result (λ next. Goes (fails_at self.old.tool self.old.base self.old.made (options_in self.old.opts) self.old.base errno) next (left self.new)) }
+    fn fail_open(&mut self, alloc: Global, errno: Errno, step: &mut Next) -> Result<(), Errno>
+        ensures goes { OnOk result (Goes (fails_at self.old.tool self.old.base self.old.made (options_in self.old.opts) self.old.base errno) step.new (left self.new)) }
         ensures stays { Stays self.old self.new }
         ensures kept { OnErr result (self.new ≡ self.old) }
         ensures memory_alone { IsOkUnless result Errno.NoMemory }
     {
         let text = failed_line(alloc, self.tool, errno)?;
         self.stage = FinderStage::ChipOpen;
-        Ok(Next::Print(text))
+        *step = Next::Print(text);
+        Ok(())
     }
 
     /// Prints a refusal while lines are looked for: the chip is open where it was named.
     #[tactic(auto, using(gl_args::proofs::Programs::choices))]
-    fn fail_looking(&mut self, alloc: Global, errno: Errno) -> Result<Next, Errno>
-        ensures goes { IfOk result (λ next. Goes (fails_looking self.old.tool self.old.base self.old.made (options_in self.old.opts) errno) next (left self.new)) }
+    fn fail_looking(&mut self, alloc: Global, errno: Errno, step: &mut Next) -> Result<(), Errno>
+        ensures goes { OnOk result (Goes (fails_looking self.old.tool self.old.base self.old.made (options_in self.old.opts) errno) step.new (left self.new)) }
         ensures stays { Stays self.old self.new }
         ensures kept { OnErr result (self.new ≡ self.old) }
         ensures memory_alone { IsOkUnless result Errno.NoMemory }
     {
         if self.opts.chip.is_some() {
-            return self.fail_open(alloc, errno);
+            return self.fail_open(alloc, errno, step);
         }
-        self.fail(alloc, errno)
+        self.fail(alloc, errno, step)
     }
 
     /// Closes a file for the last time.
-    fn leave(&mut self, slot: u32) -> Next
-        ensures goes { Goes (leaves slot) result (left self.new) }
+    fn leave(&mut self, slot: u32, step: &mut Next)
+        ensures goes { Goes (leaves slot) step.new (left self.new) }
         ensures stays { Stays self.old self.new }
     {
         self.stage = FinderStage::Leaving;
-        Next::Call(Do::Close { slot })
+        *step = Next::Call(Do::Close { slot });
     }
 }
 

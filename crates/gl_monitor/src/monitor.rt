@@ -1,5 +1,5 @@
 //! gpiomon and gpionotify.
-ghost use Rattle.std.specs.Prelude.{◌≡◌, ◌+◌, ◌<◌, ◌^◌, ◌≤◌, [], ◌∷◌, true, false, not, is_some, None, drop, IfOk, IsSome, OnErr, IsOkUnless, MatchOption, option_copied};
+ghost use Rattle.std.specs.Prelude.{◌≡◌, ◌+◌, ◌<◌, ◌^◌, ◌≤◌, [], ◌∷◌, true, false, not, is_some, None, drop, IfOk, IsSome, OnOk, OnErr, IsOkUnless, MatchOption, option_copied};
 ghost use Rattle.gl_args.specs.Options.{options_in, tool_in};
 ghost use Rattle.gl_args.specs.Program.{Goes, given, goes_on, done, then_by, MatchNext};
 ghost use Rattle.gl_lines.specs.declared.found_line.FoundLine.{FoundLine};
@@ -100,6 +100,24 @@ impl Monitor {
         ensures kept { OnErr result ((monitor_left self.new ≡ monitor_left self.old) × (watched_by self.new ≡ watched_by self.old)) }
         ensures memory_alone { IsOkUnless result Errno.NoMemory }
     {
+        let mut step = Next::End;
+        self.put_next(alloc, got, &mut step)?;
+        Ok(step)
+    }
+
+    /// Puts into `step` what it does next, as `next` answers it. Where memory is wanted `step` means nothing.
+    pub fn put_next(
+        &mut self,
+        alloc: Global,
+        got: Option<&Got>,
+        step: &mut Next,
+    ) -> Result<(), Errno>
+        ensures goes { OnOk result (Goes (given (monitor_left self.old) (option_copied got.entry)) step.new (monitor_left self.new)) }
+        ensures rests { OnOk result (MatchNext step.new (Unit {0}) (monitor_left self.new ≡ goes_on (done (watched_by self.new)))) }
+        ensures ended { OnOk result (MatchNext step.new (has_ended self.new.stage ≡ false) (has_ended self.new.stage ≡ not (is_some (watched_by self.new)))) }
+        ensures kept { OnErr result ((monitor_left self.new ≡ monitor_left self.old) × (watched_by self.new ≡ watched_by self.old)) }
+        ensures memory_alone { IsOkUnless result Errno.NoMemory }
+    {
         let none = Got::Done;
         let told = match got {
             Some(got) => got,
@@ -108,24 +126,44 @@ impl Monitor {
         let stage = self.stage;
         match &stage {
             MonitorStage::Begin => {
-                let step = self.finder.begin(alloc)?;
-                Ok(self.go_on(step))
+                self.finder.put_first(alloc, step)?;
+                self.go_on(step);
+                Ok(())
             }
             MonitorStage::Finding => {
-                let step = self.finder.next(alloc, got)?;
-                Ok(self.go_on(step))
+                self.finder.put_next(alloc, got, step)?;
+                self.go_on(step);
+                Ok(())
             }
-            MonitorStage::Watching => self.watched(alloc, told.refusal()),
-            MonitorStage::Stepping => self.turn(alloc),
-            MonitorStage::Polling => self.polled(alloc, told.refusal(), told.ready()),
-            MonitorStage::Reading => self.was_read(alloc, told.refusal(), told.bytes()),
-            MonitorStage::Shown => Ok(self.go_behind()),
-            MonitorStage::Failed => Ok(self.leave()),
-            MonitorStage::Leaving => Ok(self.end()),
-            MonitorStage::Stopped => Ok(self.close()),
-            MonitorStage::Closing => self.closed(alloc, told.refusal()),
-            MonitorStage::NotClosed => Ok(self.end()),
-            MonitorStage::Resting | MonitorStage::Ended => Ok(Next::End),
+            MonitorStage::Watching => self.watched(alloc, told.refusal(), step),
+            MonitorStage::Stepping => self.turn(alloc, step),
+            MonitorStage::Polling => self.polled(alloc, told.refusal(), told.ready(), step),
+            MonitorStage::Reading => self.was_read(alloc, told.refusal(), told.bytes(), step),
+            MonitorStage::Shown => {
+                self.go_behind(step);
+                Ok(())
+            }
+            MonitorStage::Failed => {
+                self.leave(step);
+                Ok(())
+            }
+            MonitorStage::Leaving => {
+                self.end(step);
+                Ok(())
+            }
+            MonitorStage::Stopped => {
+                self.close(step);
+                Ok(())
+            }
+            MonitorStage::Closing => self.closed(alloc, told.refusal(), step),
+            MonitorStage::NotClosed => {
+                self.end(step);
+                Ok(())
+            }
+            MonitorStage::Resting | MonitorStage::Ended => {
+                *step = Next::End;
+                Ok(())
+            }
         }
     }
 
@@ -219,64 +257,58 @@ impl Monitor {
     }
 
     /// Goes on behind a step of what finds its lines.
-    fn go_on(&mut self, step: Next) -> Next
-        ensures goes { (p : Finding) → Goes p step (left self.old.finder) → Goes (then_by p (started self.old.finder.tool self.old.finder.base self.old.finder.made (options_in self.old.finder.opts))) result (monitor_left self.new) }
-        ensures rests { MatchNext result (Unit {0}) (monitor_left self.new ≡ goes_on (done (watched_by self.new))) }
-        ensures ended { MatchNext result (has_ended self.new.stage ≡ false) (has_ended self.new.stage ≡ not (is_some (watched_by self.new))) }
+    fn go_on(&mut self, step: &mut Next)
+        ensures goes { (p : Finding) → Goes p step.old (left self.old.finder) → Goes (then_by p (started self.old.finder.tool self.old.finder.base self.old.finder.made (options_in self.old.finder.opts))) step.new (monitor_left self.new) }
+        ensures rests { MatchNext step.new (Unit {0}) (monitor_left self.new ≡ goes_on (done (watched_by self.new))) }
+        ensures ended { MatchNext step.new (has_ended self.new.stage ≡ false) (has_ended self.new.stage ≡ not (is_some (watched_by self.new))) }
     {
-        match step {
-            Next::Call(what) => {
-                self.stage = MonitorStage::Finding;
-                Next::Call(what)
-            }
-            Next::Print(text) => {
-                self.stage = MonitorStage::Finding;
-                Next::Print(text)
-            }
+        match &*step {
+            Next::Call(_) => self.stage = MonitorStage::Finding,
+            Next::Print(_) => self.stage = MonitorStage::Finding,
             Next::End => {
                 if self.finder.has_found() {
-                    return self.watch_found();
+                    return self.watch_found(step);
                 }
-                self.end()
+                self.end(step);
             }
         }
     }
 
     /// Its lines are found: gpionotify watches them, and gpiomon has them.
     #[tactic(auto, using(gl_args::proofs::Programs::choices))]
-    fn watch_found(&mut self) -> Next
-        ensures goes { Goes (has_lines (first_watching self.old.finder)) result (monitor_left self.new) }
-        ensures rests { MatchNext result (Unit {0}) (monitor_left self.new ≡ goes_on (done (watched_by self.new))) }
-        ensures ended { MatchNext result (has_ended self.new.stage ≡ false) (has_ended self.new.stage ≡ not (is_some (watched_by self.new))) }
+    fn watch_found(&mut self, step: &mut Next)
+        ensures goes { Goes (has_lines (first_watching self.old.finder)) step.new (monitor_left self.new) }
+        ensures rests { MatchNext step.new (Unit {0}) (monitor_left self.new ≡ goes_on (done (watched_by self.new))) }
+        ensures ended { MatchNext step.new (has_ended self.new.stage ≡ false) (has_ended self.new.stage ≡ not (is_some (watched_by self.new))) }
     {
         self.missing = self.finder.opts.count;
         self.next = 0;
         if self.finder.tool.requests_lines() {
-            return self.rest();
+            return self.rest(step);
         }
-        self.watch()
+        self.watch(step)
     }
 
     /// Watches the next line, or rests.
     #[tactic(auto, using(crate::proofs::Turns::lines))]
-    fn watch(&mut self) -> Next
-        ensures goes { Goes (watches (watching_in self.old) (drop self.old.next self.old.finder.found.items)) result (monitor_left self.new) }
-        ensures rests { MatchNext result (Unit {0}) (monitor_left self.new ≡ goes_on (done (watched_by self.new))) }
-        ensures ended { MatchNext result (has_ended self.new.stage ≡ false) (has_ended self.new.stage ≡ not (is_some (watched_by self.new))) }
+    fn watch(&mut self, step: &mut Next)
+        ensures goes { Goes (watches (watching_in self.old) (drop self.old.next self.old.finder.found.items)) step.new (monitor_left self.new) }
+        ensures rests { MatchNext step.new (Unit {0}) (monitor_left self.new ≡ goes_on (done (watched_by self.new))) }
+        ensures ended { MatchNext step.new (has_ended self.new.stage ≡ false) (has_ended self.new.stage ≡ not (is_some (watched_by self.new))) }
     {
         match self.line_offset() {
             Some(offset) => {
                 self.next += 1;
                 self.stage = MonitorStage::Watching;
-                Next::Call(Do::Ioctl {
+                *step = Next::Call(Do::Ioctl {
                     slot: self.slot(),
                     cmd: GET_LINEINFO_WATCH,
                     len: 256,
                     bytes: info_sent(offset),
                     made: 0,
-                })
+                });
             }
-            None => self.rest(),
+            None => self.rest(step),
         }
     }
 
@@ -293,24 +325,32 @@ impl Monitor {
         }
     }
 
-    fn watched(&mut self, alloc: Global, refusal: Option<Errno>) -> Result<Next, Errno>
-        ensures goes { IfOk result (λ next. Goes (watched (watching_in self.old) (watches (watching_in self.old) (drop self.old.next self.old.finder.found.items)) refusal) next (monitor_left self.new)) }
-        ensures rests { IfOk result (λ next. MatchNext next (Unit {0}) (monitor_left self.new ≡ goes_on (done (watched_by self.new)))) }
-        ensures ended { IfOk result (λ next. MatchNext next (has_ended self.new.stage ≡ false) (has_ended self.new.stage ≡ not (is_some (watched_by self.new)))) }
+    fn watched(
+        &mut self,
+        alloc: Global,
+        refusal: Option<Errno>,
+        step: &mut Next,
+    ) -> Result<(), Errno>
+        ensures goes { OnOk result (Goes (watched (watching_in self.old) (watches (watching_in self.old) (drop self.old.next self.old.finder.found.items)) refusal) step.new (monitor_left self.new)) }
+        ensures rests { OnOk result (MatchNext step.new (Unit {0}) (monitor_left self.new ≡ goes_on (done (watched_by self.new)))) }
+        ensures ended { OnOk result (MatchNext step.new (has_ended self.new.stage ≡ false) (has_ended self.new.stage ≡ not (is_some (watched_by self.new)))) }
         ensures kept { OnErr result (self.new ≡ self.old) }
         ensures memory_alone { IsOkUnless result Errno.NoMemory }
     {
         match refusal {
-            Some(errno) => self.fail(alloc, errno),
-            None => Ok(self.watch()),
+            Some(errno) => self.fail(alloc, errno, step),
+            None => {
+                self.watch(step);
+                Ok(())
+            }
         }
     }
 
     /// One turn more of a step; or none, and all its polls were empty.
     #[tactic(auto, using(crate::proofs::Turns::one_turn))]
-    fn turn(&mut self, alloc: Global) -> Result<Next, Errno>
-        ensures goes { IfOk result (λ next. Goes (steps (watching_in self.old) self.old.turns) next (monitor_left self.new)) }
-        ensures goes_on { IfOk result (λ next. MatchNext next (has_ended self.new.stage ≡ false) ⊥) }
+    fn turn(&mut self, alloc: Global, step: &mut Next) -> Result<(), Errno>
+        ensures goes { OnOk result (Goes (steps (watching_in self.old) self.old.turns) step.new (monitor_left self.new)) }
+        ensures goes_on { OnOk result (MatchNext step.new (has_ended self.new.stage ≡ false) ⊥) }
         ensures kept { OnErr result (self.new ≡ self.old) }
         ensures memory_alone { IsOkUnless result Errno.NoMemory }
     {
@@ -318,43 +358,52 @@ impl Monitor {
             let mut text = ByteList::new(alloc);
             text.push_all(b"idle\n")?;
             self.stage = MonitorStage::Resting;
-            return Ok(Next::Print(text));
+            *step = Next::Print(text);
+            return Ok(());
         }
         self.turns -= 1;
         self.stage = MonitorStage::Polling;
-        Ok(Next::Call(Do::Poll { slot: self.slot() }))
+        *step = Next::Call(Do::Poll { slot: self.slot() });
+        Ok(())
     }
 
-    fn polled(&mut self, alloc: Global, refusal: Option<Errno>, bits: u8) -> Result<Next, Errno>
-        ensures goes { IfOk result (λ next. Goes (polled (watching_in self.old) (steps (watching_in self.old) self.old.turns) refusal bits) next (monitor_left self.new)) }
-        ensures goes_on { IfOk result (λ next. MatchNext next (has_ended self.new.stage ≡ false) ⊥) }
+    fn polled(
+        &mut self,
+        alloc: Global,
+        refusal: Option<Errno>,
+        bits: u8,
+        step: &mut Next,
+    ) -> Result<(), Errno>
+        ensures goes { OnOk result (Goes (polled (watching_in self.old) (steps (watching_in self.old) self.old.turns) refusal bits) step.new (monitor_left self.new)) }
+        ensures goes_on { OnOk result (MatchNext step.new (has_ended self.new.stage ≡ false) ⊥) }
         ensures kept { OnErr result (self.new ≡ self.old) }
         ensures memory_alone { IsOkUnless result Errno.NoMemory }
     {
         match refusal {
-            Some(errno) => self.fail(alloc, errno),
-            None => self.ready(alloc, bits),
+            Some(errno) => self.fail(alloc, errno, step),
+            None => self.ready(alloc, bits, step),
         }
     }
 
     /// What is ready: nothing, the chip is gone, or items wait.
-    fn ready(&mut self, alloc: Global, bits: u8) -> Result<Next, Errno>
-        ensures goes { IfOk result (λ next. Goes (ready (watching_in self.old) (steps (watching_in self.old) self.old.turns) bits) next (monitor_left self.new)) }
-        ensures goes_on { IfOk result (λ next. MatchNext next (has_ended self.new.stage ≡ false) ⊥) }
+    fn ready(&mut self, alloc: Global, bits: u8, step: &mut Next) -> Result<(), Errno>
+        ensures goes { OnOk result (Goes (ready (watching_in self.old) (steps (watching_in self.old) self.old.turns) bits) step.new (monitor_left self.new)) }
+        ensures goes_on { OnOk result (MatchNext step.new (has_ended self.new.stage ≡ false) ⊥) }
         ensures kept { OnErr result (self.new ≡ self.old) }
         ensures memory_alone { IsOkUnless result Errno.NoMemory }
     {
         if bits == 0 {
-            return self.turn(alloc);
+            return self.turn(alloc, step);
         }
         if has_bit(u64::from(bits), 2) {
-            return self.fail(alloc, Errno::NoDev);
+            return self.fail(alloc, Errno::NoDev, step);
         }
         self.stage = MonitorStage::Reading;
-        Ok(Next::Call(Do::ReadFile {
+        *step = Next::Call(Do::ReadFile {
             slot: self.slot(),
             len: item_size(self.finder.tool) * room_of(self.missing),
-        }))
+        });
+        Ok(())
     }
 
     fn was_read(
@@ -362,104 +411,112 @@ impl Monitor {
         alloc: Global,
         refusal: Option<Errno>,
         bytes: &[u8],
-    ) -> Result<Next, Errno>
-        ensures goes { IfOk result (λ next. Goes (was_read (watching_in self.old) refusal bytes.now) next (monitor_left self.new)) }
-        ensures rests { IfOk result (λ next. MatchNext next (Unit {0}) (monitor_left self.new ≡ goes_on (done (watched_by self.new)))) }
-        ensures ended { IfOk result (λ next. MatchNext next (has_ended self.new.stage ≡ false) (has_ended self.new.stage ≡ not (is_some (watched_by self.new)))) }
+        step: &mut Next,
+    ) -> Result<(), Errno>
+        ensures goes { OnOk result (Goes (was_read (watching_in self.old) refusal bytes.now) step.new (monitor_left self.new)) }
+        ensures rests { OnOk result (MatchNext step.new (Unit {0}) (monitor_left self.new ≡ goes_on (done (watched_by self.new)))) }
+        ensures ended { OnOk result (MatchNext step.new (has_ended self.new.stage ≡ false) (has_ended self.new.stage ≡ not (is_some (watched_by self.new)))) }
         ensures kept { OnErr result (self.new ≡ self.old) }
         ensures memory_alone { IsOkUnless result Errno.NoMemory }
     {
         match refusal {
-            Some(errno) => self.fail(alloc, errno),
+            Some(errno) => self.fail(alloc, errno, step),
             None => {
                 let (tool, edges) = (self.finder.tool, self.finder.opts.edges);
                 let items = items_in(alloc, tool, edges, bytes)?;
                 let (opts, found) = (&self.finder.opts, &self.finder.found);
                 let text = items_text(alloc, tool, opts, found, &items)?;
                 self.missing = less_by(items.len(), self.missing);
-                Ok(self.show(text))
+                self.show(text, step);
+                Ok(())
             }
         }
     }
 
     /// Prints a text where there is one.
-    fn show(&mut self, text: ByteList) -> Next
-        ensures goes { Goes (shows text (goes_behind (watching_in self.old))) result (monitor_left self.new) }
-        ensures rests { MatchNext result (Unit {0}) (monitor_left self.new ≡ goes_on (done (watched_by self.new))) }
-        ensures ended { MatchNext result (has_ended self.new.stage ≡ false) (has_ended self.new.stage ≡ not (is_some (watched_by self.new))) }
+    fn show(&mut self, text: ByteList, step: &mut Next)
+        ensures goes { Goes (shows text (goes_behind (watching_in self.old))) step.new (monitor_left self.new) }
+        ensures rests { MatchNext step.new (Unit {0}) (monitor_left self.new ≡ goes_on (done (watched_by self.new))) }
+        ensures ended { MatchNext step.new (has_ended self.new.stage ≡ false) (has_ended self.new.stage ≡ not (is_some (watched_by self.new))) }
     {
         if text.as_slice().is_empty() {
-            return self.go_behind();
+            return self.go_behind(step);
         }
         self.stage = MonitorStage::Shown;
-        Next::Print(text)
+        *step = Next::Print(text);
     }
 
     /// Ends where all items were read; else the step is done.
     #[tactic(auto, using(gl_args::proofs::Programs::choices))]
-    fn go_behind(&mut self) -> Next
-        ensures goes { Goes (goes_behind (watching_in self.old)) result (monitor_left self.new) }
-        ensures rests { MatchNext result (Unit {0}) (monitor_left self.new ≡ goes_on (done (watched_by self.new))) }
-        ensures ended { MatchNext result (has_ended self.new.stage ≡ false) (has_ended self.new.stage ≡ not (is_some (watched_by self.new))) }
+    fn go_behind(&mut self, step: &mut Next)
+        ensures goes { Goes (goes_behind (watching_in self.old)) step.new (monitor_left self.new) }
+        ensures rests { MatchNext step.new (Unit {0}) (monitor_left self.new ≡ goes_on (done (watched_by self.new))) }
+        ensures ended { MatchNext step.new (has_ended self.new.stage ≡ false) (has_ended self.new.stage ≡ not (is_some (watched_by self.new))) }
     {
         if is_complete(self.missing) {
-            return self.close();
+            return self.close(step);
         }
-        self.rest()
+        self.rest(step)
     }
 
     /// Rests: its start or its step is done.
-    fn rest(&mut self) -> Next
-        ensures end { result ≡ Next.End }
+    fn rest(&mut self, step: &mut Next)
+        ensures end { step.new ≡ Next.End }
         ensures stage { self.new.stage ≡ MonitorStage.Resting }
         ensures watches { watching_in self.new ≡ watching_in self.old }
     {
         self.stage = MonitorStage::Resting;
-        Next::End
+        *step = Next::End;
     }
 
     /// Ends.
-    fn end(&mut self) -> Next
-        ensures end { result ≡ Next.End }
+    fn end(&mut self, step: &mut Next)
+        ensures end { step.new ≡ Next.End }
         ensures stage { self.new.stage ≡ MonitorStage.Ended }
     {
         self.stage = MonitorStage::Ended;
-        Next::End
+        *step = Next::End;
     }
 
     /// Prints a refusal.
-    fn fail(&mut self, alloc: Global, errno: Errno) -> Result<Next, Errno>
-        ensures goes { IfOk result (λ next. Goes (fails (watching_in self.old) errno) next (monitor_left self.new)) }
-        ensures goes_on { IfOk result (λ next. MatchNext next (has_ended self.new.stage ≡ false) ⊥) }
+    fn fail(&mut self, alloc: Global, errno: Errno, step: &mut Next) -> Result<(), Errno>
+        ensures goes { OnOk result (Goes (fails (watching_in self.old) errno) step.new (monitor_left self.new)) }
+        ensures goes_on { OnOk result (MatchNext step.new (has_ended self.new.stage ≡ false) ⊥) }
         ensures kept { OnErr result (self.new ≡ self.old) }
         ensures memory_alone { IsOkUnless result Errno.NoMemory }
     {
         let text = failed_line(alloc, self.finder.tool, errno)?;
         self.stage = MonitorStage::Failed;
-        Ok(Next::Print(text))
+        *step = Next::Print(text);
+        Ok(())
     }
 
     /// Closes its file behind a refusal.
-    fn leave(&mut self) -> Next
-        ensures goes { Goes (leaves (watching_in self.old).slot) result (monitor_left self.new) }
-        ensures goes_on { MatchNext result (has_ended self.new.stage ≡ false) ⊥ }
+    fn leave(&mut self, step: &mut Next)
+        ensures goes { Goes (leaves (watching_in self.old).slot) step.new (monitor_left self.new) }
+        ensures goes_on { MatchNext step.new (has_ended self.new.stage ≡ false) ⊥ }
     {
         self.stage = MonitorStage::Leaving;
-        Next::Call(Do::Close { slot: self.slot() })
+        *step = Next::Call(Do::Close { slot: self.slot() });
     }
 
     /// Closes its file.
-    fn close(&mut self) -> Next
-        ensures goes { Goes (closes (watching_in self.old)) result (monitor_left self.new) }
-        ensures goes_on { MatchNext result (has_ended self.new.stage ≡ false) ⊥ }
+    fn close(&mut self, step: &mut Next)
+        ensures goes { Goes (closes (watching_in self.old)) step.new (monitor_left self.new) }
+        ensures goes_on { MatchNext step.new (has_ended self.new.stage ≡ false) ⊥ }
     {
         self.stage = MonitorStage::Closing;
-        Next::Call(Do::Close { slot: self.slot() })
+        *step = Next::Call(Do::Close { slot: self.slot() });
     }
 
-    fn closed(&mut self, alloc: Global, refusal: Option<Errno>) -> Result<Next, Errno>
-        ensures goes { IfOk result (λ next. Goes (closed (watching_in self.old) refusal) next (monitor_left self.new)) }
-        ensures ended { IfOk result (λ next. MatchNext next (has_ended self.new.stage ≡ false) (self.new.stage ≡ MonitorStage.Ended)) }
+    fn closed(
+        &mut self,
+        alloc: Global,
+        refusal: Option<Errno>,
+        step: &mut Next,
+    ) -> Result<(), Errno>
+        ensures goes { OnOk result (Goes (closed (watching_in self.old) refusal) step.new (monitor_left self.new)) }
+        ensures ended { OnOk result (MatchNext step.new (has_ended self.new.stage ≡ false) (self.new.stage ≡ MonitorStage.Ended)) }
         ensures kept { OnErr result (self.new ≡ self.old) }
         ensures memory_alone { IsOkUnless result Errno.NoMemory }
     {
@@ -467,9 +524,13 @@ impl Monitor {
             Some(errno) => {
                 let text = failed_line(alloc, self.finder.tool, errno)?;
                 self.stage = MonitorStage::NotClosed;
-                Ok(Next::Print(text))
+                *step = Next::Print(text);
+                Ok(())
             }
-            None => Ok(self.end()),
+            None => {
+                self.end(step);
+                Ok(())
+            }
         }
     }
 

@@ -1,5 +1,5 @@
 //! The four tools as one client.
-ghost use Rattle.std.specs.Prelude.{◌≡◌, ◌+◌, ◌<◌, ◌^◌, true, false, not, is_some, None, IfOk, OnErr, IsOkUnless, option_copied};
+ghost use Rattle.std.specs.Prelude.{◌≡◌, ◌+◌, ◌<◌, ◌^◌, true, false, not, is_some, None, IfOk, OnOk, OnErr, IsOkUnless, option_copied};
 ghost use Rattle.gl_args.specs.Options.{tool_in};
 ghost use Rattle.gl_args.specs.Program.{Program, Left, Goes, given, goes_on, done, MatchNext};
 ghost use Rattle.gl_values.specs.Set.{stops};
@@ -73,21 +73,45 @@ impl Client {
         ensures kept { OnErr result ((client_left self.new ≡ client_left self.old) × (held_by self.new ≡ held_by self.old)) }
         ensures memory_alone { IsOkUnless result Errno.NoMemory }
     {
+        let mut step = Next::End;
+        self.put_next(alloc, got, &mut step)?;
+        Ok(step)
+    }
+
+    /// Puts into `step` what it does next, as `next` answers it. Where memory is wanted `step` means nothing.
+    pub fn put_next(
+        &mut self,
+        alloc: Global,
+        got: Option<&Got>,
+        step: &mut Next,
+    ) -> Result<(), Errno>
+        ensures goes { OnOk result (Goes (given (client_left self.old) (option_copied got.entry)) step.new (client_left self.new)) }
+        ensures rests { OnOk result (MatchNext step.new (Unit {0}) (client_left self.new ≡ goes_on (done (held_by self.new)))) }
+        ensures ended { OnOk result (MatchNext step.new (has_ended self.new ≡ false) (has_ended self.new ≡ not (is_some (held_by self.new)))) }
+        ensures kept { OnErr result ((client_left self.new ≡ client_left self.old) × (held_by self.new ≡ held_by self.old)) }
+        ensures memory_alone { IsOkUnless result Errno.NoMemory }
+    {
         match self {
             Client::Detect(detect) => {
-                let step = detect.next(alloc, got)?;
-                Ok(self.behind(step))
+                detect.put_next(alloc, got, step)?;
+                self.behind(step);
+                Ok(())
             }
             Client::Info(info) => {
-                let step = info.next(alloc, got)?;
-                Ok(self.behind(step))
+                info.put_next(alloc, got, step)?;
+                self.behind(step);
+                Ok(())
             }
             Client::Get(get) => {
-                let step = get.next(alloc, got)?;
-                Ok(self.behind(step))
+                get.put_next(alloc, got, step)?;
+                self.behind(step);
+                Ok(())
             }
-            Client::Set(set) => set.next(alloc, got),
-            Client::Nothing => Ok(Next::End),
+            Client::Set(set) => set.put_next(alloc, got, step),
+            Client::Nothing => {
+                *step = Next::End;
+                Ok(())
+            }
         }
     }
 
@@ -127,17 +151,14 @@ impl Client {
     }
 
     /// Behind a step of a tool that holds nothing: where it has come to its end, nothing is left of it.
-    fn behind(&mut self, step: Next) -> Next
-        ensures goes { (p : Program (Unit {0})) (l : Left (Unit {0})) → client_left self.old ≡ nothing_held l → Goes p step l → Goes (holding_nothing p) result (client_left self.new) }
-        ensures ended { MatchNext result (self.new ≡ self.old) (self.new ≡ Client.Nothing) }
+    fn behind(&mut self, step: &Next)
+        ensures goes { (p : Program (Unit {0})) (l : Left (Unit {0})) → client_left self.old ≡ nothing_held l → Goes p step.now l → Goes (holding_nothing p) step.now (client_left self.new) }
+        ensures ended { MatchNext step.now (self.new ≡ self.old) (self.new ≡ Client.Nothing) }
     {
         match step {
-            Next::Call(what) => Next::Call(what),
-            Next::Print(text) => Next::Print(text),
-            Next::End => {
-                *self = Client::Nothing;
-                Next::End
-            }
+            Next::Call(_) => {}
+            Next::Print(_) => {}
+            Next::End => *self = Client::Nothing,
         }
     }
 }

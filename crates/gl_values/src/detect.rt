@@ -1,5 +1,5 @@
 //! gpiodetect.
-ghost use Rattle.std.specs.Prelude.{◌≡◌, ◌+◌, ◌<◌, ◌^◌, [], ◌∷◌, IfOk, IsSome, OnErr, IsOkUnless, MatchOption, option_copied};
+ghost use Rattle.std.specs.Prelude.{◌≡◌, ◌+◌, ◌<◌, ◌^◌, [], ◌∷◌, IfOk, IsSome, OnOk, OnErr, IsOkUnless, MatchOption, option_copied};
 ghost use Rattle.gl_args.specs.Program.{print, Goes, given, goes_on};
 ghost use Rattle.gl_lines.specs.Texts.{failed_line};
 ghost use Rattle.gl_values.specs.Chips.{ends, is_named_by, leaves, passes_over, words_from};
@@ -62,6 +62,22 @@ impl Detect {
         ensures kept { OnErr result (self.new ≡ self.old) }
         ensures memory_alone { IsOkUnless result Errno.NoMemory }
     {
+        let mut step = Next::End;
+        self.put_next(alloc, got, &mut step)?;
+        Ok(step)
+    }
+
+    /// Puts into `step` what it does next, as `next` answers it. Where memory is wanted `step` means nothing.
+    pub(crate) fn put_next(
+        &mut self,
+        alloc: Global,
+        got: Option<&Got>,
+        step: &mut Next,
+    ) -> Result<(), Errno>
+        ensures goes { OnOk result (Goes (given (left self.old) (option_copied got.entry)) step.new (left self.new)) }
+        ensures kept { OnErr result (self.new ≡ self.old) }
+        ensures memory_alone { IsOkUnless result Errno.NoMemory }
+    {
         let none = Got::Done;
         let got = match got {
             Some(got) => got,
@@ -69,14 +85,21 @@ impl Detect {
         };
         let stage = self.stage;
         match &stage {
-            DetectStage::Next => Ok(self.open()),
-            DetectStage::Opening => self.opened(alloc, got.refusal()),
-            DetectStage::Asking => self.asked(alloc, got.refusal(), got.bytes()),
-            DetectStage::Closing(chip) => self.closed(alloc, chip, got.refusal()),
-            DetectStage::Failed => Ok(self.leave()),
+            DetectStage::Next => {
+                self.open(step);
+                Ok(())
+            }
+            DetectStage::Opening => self.opened(alloc, got.refusal(), step),
+            DetectStage::Asking => self.asked(alloc, got.refusal(), got.bytes(), step),
+            DetectStage::Closing(chip) => self.closed(alloc, chip, got.refusal(), step),
+            DetectStage::Failed => {
+                self.leave(step);
+                Ok(())
+            }
             DetectStage::Leaving | DetectStage::Ended => {
                 self.stage = DetectStage::Ended;
-                Ok(Next::End)
+                *step = Next::End;
+                Ok(())
             }
         }
     }
@@ -98,40 +121,47 @@ impl Detect {
     }
 
     /// Opens the next chip, or ends.
-    fn open(&mut self) -> Next
-        ensures { Goes (chips_from self.old.words.items self.old.next self.old.base) result (left self.new) }
+    fn open(&mut self, step: &mut Next)
+        ensures { Goes (chips_from self.old.words.items self.old.next self.old.base) step.new (left self.new) }
     {
         match self.word() {
             Some(word) => {
                 self.next += 1;
                 self.stage = DetectStage::Opening;
-                Next::Call(Do::OpenChip {
+                *step = Next::Call(Do::OpenChip {
                     slot: self.base,
                     word,
-                })
+                });
             }
             None => {
                 self.stage = DetectStage::Ended;
-                Next::End
+                *step = Next::End;
             }
         }
     }
 
-    fn opened(&mut self, alloc: Global, refusal: Option<Errno>) -> Result<Next, Errno>
-        ensures goes { IfOk result (λ next. Goes (opened self.old.base (chips_from self.old.words.items self.old.next self.old.base) (is_named_by self.old.words.items) refusal) next (left self.new)) }
+    fn opened(
+        &mut self,
+        alloc: Global,
+        refusal: Option<Errno>,
+        step: &mut Next,
+    ) -> Result<(), Errno>
+        ensures goes { OnOk result (Goes (opened self.old.base (chips_from self.old.words.items self.old.next self.old.base) (is_named_by self.old.words.items) refusal) step.new (left self.new)) }
         ensures kept { OnErr result (self.new ≡ self.old) }
         ensures memory_alone { IsOkUnless result Errno.NoMemory }
     {
         match refusal {
             Some(errno) => {
                 if self.passes_over(errno) {
-                    return Ok(self.open());
+                    self.open(step);
+                    return Ok(());
                 }
-                self.fail(alloc, errno)
+                self.fail(alloc, errno, step)
             }
             None => {
                 self.stage = DetectStage::Asking;
-                Ok(Next::Call(chip_query(self.base)))
+                *step = Next::Call(chip_query(self.base));
+                Ok(())
             }
         }
     }
@@ -143,65 +173,84 @@ impl Detect {
         passes_over(errno, self.is_named())
     }
 
-    fn asked(&mut self, alloc: Global, refusal: Option<Errno>, bytes: &[u8]) -> Result<Next, Errno>
-        ensures goes { IfOk result (λ next. Goes (asked self.old.base (chips_from self.old.words.items self.old.next self.old.base) refusal bytes.now) next (left self.new)) }
+    fn asked(
+        &mut self,
+        alloc: Global,
+        refusal: Option<Errno>,
+        bytes: &[u8],
+        step: &mut Next,
+    ) -> Result<(), Errno>
+        ensures goes { OnOk result (Goes (asked self.old.base (chips_from self.old.words.items self.old.next self.old.base) refusal bytes.now) step.new (left self.new)) }
         ensures kept { OnErr result (self.new ≡ self.old) }
         ensures memory_alone { IsOkUnless result Errno.NoMemory }
     {
         match refusal {
-            Some(errno) => self.fail_open(alloc, errno),
+            Some(errno) => self.fail_open(alloc, errno, step),
             None => match chip_told(bytes) {
                 Some(chip) => {
                     self.stage = DetectStage::Closing(chip);
-                    Ok(Next::Call(Do::Close { slot: self.base }))
+                    *step = Next::Call(Do::Close { slot: self.base });
+                    Ok(())
                 }
-                None => Ok(self.leave()),
+                None => {
+                    self.leave(step);
+                    Ok(())
+                }
             },
         }
     }
 
-    fn closed(&mut self, alloc: Global, chip: &Chip, refusal: Option<Errno>) -> Result<Next, Errno>
-        ensures goes { IfOk result (λ next. Goes (closed chip.now (chips_from self.old.words.items self.old.next self.old.base) refusal) next (left self.new)) }
+    fn closed(
+        &mut self,
+        alloc: Global,
+        chip: &Chip,
+        refusal: Option<Errno>,
+        step: &mut Next,
+    ) -> Result<(), Errno>
+        ensures goes { OnOk result (Goes (closed chip.now (chips_from self.old.words.items self.old.next self.old.base) refusal) step.new (left self.new)) }
         ensures kept { OnErr result (self.new ≡ self.old) }
         ensures memory_alone { IsOkUnless result Errno.NoMemory }
     {
         match refusal {
-            Some(errno) => self.fail(alloc, errno),
+            Some(errno) => self.fail(alloc, errno, step),
             None => {
                 let text = chip_line(alloc, chip)?;
                 self.stage = DetectStage::Next;
-                Ok(Next::Print(text))
+                *step = Next::Print(text);
+                Ok(())
             }
         }
     }
 
     /// Prints a refusal, with nothing open.
-    fn fail(&mut self, alloc: Global, errno: Errno) -> Result<Next, Errno>
-        ensures goes { IfOk result (λ next. Goes (print (failed_line tool errno) ends) next (left self.new)) }
+    fn fail(&mut self, alloc: Global, errno: Errno, step: &mut Next) -> Result<(), Errno>
+        ensures goes { OnOk result (Goes (print (failed_line tool errno) ends) step.new (left self.new)) }
         ensures kept { OnErr result (self.new ≡ self.old) }
         ensures memory_alone { IsOkUnless result Errno.NoMemory }
     {
         let text = failed_line(alloc, ToolName::Detect, errno)?;
         self.stage = DetectStage::Ended;
-        Ok(Next::Print(text))
+        *step = Next::Print(text);
+        Ok(())
     }
 
     /// Prints a refusal, with the chip open.
-    fn fail_open(&mut self, alloc: Global, errno: Errno) -> Result<Next, Errno>
-        ensures goes { IfOk result (λ next. Goes (print (failed_line tool errno) (leaves self.old.base)) next (left self.new)) }
+    fn fail_open(&mut self, alloc: Global, errno: Errno, step: &mut Next) -> Result<(), Errno>
+        ensures goes { OnOk result (Goes (print (failed_line tool errno) (leaves self.old.base)) step.new (left self.new)) }
         ensures kept { OnErr result (self.new ≡ self.old) }
         ensures memory_alone { IsOkUnless result Errno.NoMemory }
     {
         let text = failed_line(alloc, ToolName::Detect, errno)?;
         self.stage = DetectStage::Failed;
-        Ok(Next::Print(text))
+        *step = Next::Print(text);
+        Ok(())
     }
 
     /// Closes the chip for the last time.
-    fn leave(&mut self) -> Next
-        ensures { Goes (leaves self.old.base) result (left self.new) }
+    fn leave(&mut self, step: &mut Next)
+        ensures { Goes (leaves self.old.base) step.new (left self.new) }
     {
         self.stage = DetectStage::Leaving;
-        Next::Call(Do::Close { slot: self.base })
+        *step = Next::Call(Do::Close { slot: self.base });
     }
 }

@@ -1,5 +1,5 @@
 //! gpioget.
-ghost use Rattle.std.specs.Prelude.{◌≡◌, List, Some, IfOk, OnErr, IsOkUnless, option_copied};
+ghost use Rattle.std.specs.Prelude.{◌≡◌, List, Some, IfOk, OnOk, OnErr, IsOkUnless, option_copied};
 ghost use Rattle.gl_args.specs.Options.{options_in};
 ghost use Rattle.gl_args.specs.Program.{Goes, given, goes_on, print, then_by};
 ghost use Rattle.gl_lines.specs.declared.found_line.FoundLine.{FoundLine};
@@ -60,6 +60,22 @@ impl Get {
         ensures kept { OnErr result (get_left self.new ≡ get_left self.old) }
         ensures memory_alone { IsOkUnless result Errno.NoMemory }
     {
+        let mut step = Next::End;
+        self.put_next(alloc, got, &mut step)?;
+        Ok(step)
+    }
+
+    /// Puts into `step` what it does next, as `next` answers it. Where memory is wanted `step` means nothing.
+    pub(crate) fn put_next(
+        &mut self,
+        alloc: Global,
+        got: Option<&Got>,
+        step: &mut Next,
+    ) -> Result<(), Errno>
+        ensures goes { OnOk result (Goes (given (get_left self.old) (option_copied got.entry)) step.new (get_left self.new)) }
+        ensures kept { OnErr result (get_left self.new ≡ get_left self.old) }
+        ensures memory_alone { IsOkUnless result Errno.NoMemory }
+    {
         let none = Got::Done;
         let told = match got {
             Some(got) => got,
@@ -68,78 +84,90 @@ impl Get {
         let stage = self.stage;
         match &stage {
             GetStage::Begin => {
-                let step = self.finder.begin(alloc)?;
-                Ok(self.go_on(step))
+                self.finder.put_first(alloc, step)?;
+                self.go_on(step);
+                Ok(())
             }
             GetStage::Finding => {
-                let step = self.finder.next(alloc, got)?;
-                Ok(self.go_on(step))
+                self.finder.put_next(alloc, got, step)?;
+                self.go_on(step);
+                Ok(())
             }
-            GetStage::Asking => self.asked(alloc, told.refusal(), told.bytes()),
-            GetStage::Closing(bits) => self.closed(alloc, *bits, told.refusal()),
-            GetStage::LineOpen => Ok(self.leave()),
+            GetStage::Asking => self.asked(alloc, told.refusal(), told.bytes(), step),
+            GetStage::Closing(bits) => self.closed(alloc, *bits, told.refusal(), step),
+            GetStage::LineOpen => {
+                self.leave(step);
+                Ok(())
+            }
             GetStage::Leaving | GetStage::Ended => {
                 self.stage = GetStage::Ended;
-                Ok(Next::End)
+                *step = Next::End;
+                Ok(())
             }
         }
     }
 
     /// Goes on behind a step of what finds its lines.
-    fn go_on(&mut self, step: Next) -> Next
-        ensures { (p : Finding) → Goes p step (left self.old.finder) → Goes (then_by p (get self.old.finder.made (options_in self.old.finder.opts))) result (get_left self.new) }
+    fn go_on(&mut self, step: &mut Next)
+        ensures { (p : Finding) → Goes p step.old (left self.old.finder) → Goes (then_by p (get self.old.finder.made (options_in self.old.finder.opts))) step.new (get_left self.new) }
     {
-        match step {
-            Next::Call(what) => {
-                self.stage = GetStage::Finding;
-                Next::Call(what)
-            }
-            Next::Print(text) => {
-                self.stage = GetStage::Finding;
-                Next::Print(text)
-            }
+        match &*step {
+            Next::Call(_) => self.stage = GetStage::Finding,
+            Next::Print(_) => self.stage = GetStage::Finding,
             Next::End => {
                 if self.finder.has_found() {
-                    return self.ask();
+                    return self.ask(step);
                 }
                 self.stage = GetStage::Ended;
-                Next::End
             }
         }
     }
 
     /// Asks for the values.
-    fn ask(&mut self) -> Next
-        ensures { (found : List FoundLine) → Goes (get self.old.finder.made (options_in self.old.finder.opts) (Some found)) result (get_left self.new) }
+    fn ask(&mut self, step: &mut Next)
+        ensures { (found : List FoundLine) → Goes (get self.old.finder.made (options_in self.old.finder.opts) (Some found)) step.new (get_left self.new) }
     {
         self.stage = GetStage::Asking;
-        Next::Call(Do::Ioctl {
+        *step = Next::Call(Do::Ioctl {
             slot: self.finder.made,
             cmd: LINE_GET_VALUES,
             len: 16,
             bytes: values_sent(self.finder.opts.lines.len()),
             made: 0,
-        })
+        });
     }
 
-    fn asked(&mut self, alloc: Global, refusal: Option<Errno>, bytes: &[u8]) -> Result<Next, Errno>
-        ensures goes { IfOk result (λ next. Goes (asked self.old.finder.made (options_in self.old.finder.opts) refusal bytes.now) next (get_left self.new)) }
+    fn asked(
+        &mut self,
+        alloc: Global,
+        refusal: Option<Errno>,
+        bytes: &[u8],
+        step: &mut Next,
+    ) -> Result<(), Errno>
+        ensures goes { OnOk result (Goes (asked self.old.finder.made (options_in self.old.finder.opts) refusal bytes.now) step.new (get_left self.new)) }
         ensures kept { OnErr result (self.new ≡ self.old) }
         ensures memory_alone { IsOkUnless result Errno.NoMemory }
     {
         match refusal {
-            Some(errno) => self.fail_open(alloc, errno),
+            Some(errno) => self.fail_open(alloc, errno, step),
             None => {
                 self.stage = GetStage::Closing(bits_in(bytes));
-                Ok(Next::Call(Do::Close {
+                *step = Next::Call(Do::Close {
                     slot: self.finder.made,
-                }))
+                });
+                Ok(())
             }
         }
     }
 
-    fn closed(&mut self, alloc: Global, bits: u64, refusal: Option<Errno>) -> Result<Next, Errno>
-        ensures goes { IfOk result (λ next. Goes (closed (options_in self.old.finder.opts) bits refusal) next (get_left self.new)) }
+    fn closed(
+        &mut self,
+        alloc: Global,
+        bits: u64,
+        refusal: Option<Errno>,
+        step: &mut Next,
+    ) -> Result<(), Errno>
+        ensures goes { OnOk result (Goes (closed (options_in self.old.finder.opts) bits refusal) step.new (get_left self.new)) }
         ensures kept { OnErr result (self.new ≡ self.old) }
         ensures memory_alone { IsOkUnless result Errno.NoMemory }
     {
@@ -148,28 +176,30 @@ impl Get {
             None => values_line(alloc, &self.finder.opts, bits)?,
         };
         self.stage = GetStage::Ended;
-        Ok(Next::Print(text))
+        *step = Next::Print(text);
+        Ok(())
     }
 
     /// Prints a refusal, with the request open.
-    fn fail_open(&mut self, alloc: Global, errno: Errno) -> Result<Next, Errno>
-        ensures goes { IfOk result (λ next. Goes (print (failed_line tool errno) (leaves self.old.finder.made)) next (get_left self.new)) }
+    fn fail_open(&mut self, alloc: Global, errno: Errno, step: &mut Next) -> Result<(), Errno>
+        ensures goes { OnOk result (Goes (print (failed_line tool errno) (leaves self.old.finder.made)) step.new (get_left self.new)) }
         ensures kept { OnErr result (self.new ≡ self.old) }
         ensures memory_alone { IsOkUnless result Errno.NoMemory }
     {
         let text = failed_line(alloc, ToolName::Get, errno)?;
         self.stage = GetStage::LineOpen;
-        Ok(Next::Print(text))
+        *step = Next::Print(text);
+        Ok(())
     }
 
     /// Closes the request for the last time.
-    fn leave(&mut self) -> Next
-        ensures { Goes (leaves self.old.finder.made) result (get_left self.new) }
+    fn leave(&mut self, step: &mut Next)
+        ensures { Goes (leaves self.old.finder.made) step.new (get_left self.new) }
     {
         self.stage = GetStage::Leaving;
-        Next::Call(Do::Close {
+        *step = Next::Call(Do::Close {
             slot: self.finder.made,
-        })
+        });
     }
 }
 

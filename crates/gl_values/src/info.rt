@@ -1,5 +1,5 @@
 //! gpioinfo.
-ghost use Rattle.std.specs.Prelude.{◌≡◌, ◌+◌, ◌<◌, ◌^◌, [], ◌∷◌, IfOk, IsSome, OnErr, IsOkUnless, MatchOption, option_copied, is_some};
+ghost use Rattle.std.specs.Prelude.{◌≡◌, ◌+◌, ◌<◌, ◌^◌, [], ◌∷◌, IfOk, IsSome, OnOk, OnErr, IsOkUnless, MatchOption, option_copied, is_some};
 ghost use Rattle.gl_args.specs.Options.{options_in};
 ghost use Rattle.gl_args.specs.Program.{print, Goes, given, goes_on};
 ghost use Rattle.gl_lines.specs.Texts.{failed_line};
@@ -77,6 +77,22 @@ impl InfoTool {
         ensures kept { OnErr result (self.new ≡ self.old) }
         ensures memory_alone { IsOkUnless result Errno.NoMemory }
     {
+        let mut step = Next::End;
+        self.put_next(alloc, got, &mut step)?;
+        Ok(step)
+    }
+
+    /// Puts into `step` what it does next, as `next` answers it. Where memory is wanted `step` means nothing.
+    pub(crate) fn put_next(
+        &mut self,
+        alloc: Global,
+        got: Option<&Got>,
+        step: &mut Next,
+    ) -> Result<(), Errno>
+        ensures goes { OnOk result (Goes (given (info_left self.old) (option_copied got.entry)) step.new (info_left self.new)) }
+        ensures kept { OnErr result (self.new ≡ self.old) }
+        ensures memory_alone { IsOkUnless result Errno.NoMemory }
+    {
         let none = Got::Done;
         let got = match got {
             Some(got) => got,
@@ -84,15 +100,22 @@ impl InfoTool {
         };
         let stage = self.stage;
         match &stage {
-            InfoStage::Next => Ok(self.open()),
-            InfoStage::Opening => self.opened(alloc, got.refusal()),
-            InfoStage::Asking => self.asked(alloc, got.refusal(), got.bytes()),
-            InfoStage::Line => self.line_told(alloc, got.refusal(), got.bytes()),
-            InfoStage::Closing => self.closed(alloc, got.refusal()),
-            InfoStage::Failed => Ok(self.leave()),
+            InfoStage::Next => {
+                self.open(step);
+                Ok(())
+            }
+            InfoStage::Opening => self.opened(alloc, got.refusal(), step),
+            InfoStage::Asking => self.asked(alloc, got.refusal(), got.bytes(), step),
+            InfoStage::Line => self.line_told(alloc, got.refusal(), got.bytes(), step),
+            InfoStage::Closing => self.closed(alloc, got.refusal(), step),
+            InfoStage::Failed => {
+                self.leave(step);
+                Ok(())
+            }
             InfoStage::Leaving | InfoStage::Ended => {
                 self.stage = InfoStage::Ended;
-                Ok(Next::End)
+                *step = Next::End;
+                Ok(())
             }
         }
     }
@@ -110,40 +133,47 @@ impl InfoTool {
     }
 
     /// Opens the next chip, or ends.
-    fn open(&mut self) -> Next
-        ensures { Goes (chips_from self.old.base (options_in self.old.opts) self.old.next) result (info_left self.new) }
+    fn open(&mut self, step: &mut Next)
+        ensures { Goes (chips_from self.old.base (options_in self.old.opts) self.old.next) step.new (info_left self.new) }
     {
         match self.word() {
             Some(word) => {
                 self.next += 1;
                 self.stage = InfoStage::Opening;
-                Next::Call(Do::OpenChip {
+                *step = Next::Call(Do::OpenChip {
                     slot: self.base,
                     word,
-                })
+                });
             }
             None => {
                 self.stage = InfoStage::Ended;
-                Next::End
+                *step = Next::End;
             }
         }
     }
 
-    fn opened(&mut self, alloc: Global, refusal: Option<Errno>) -> Result<Next, Errno>
-        ensures goes { IfOk result (λ next. Goes (opened self.old.base (options_in self.old.opts) (chips_from self.old.base (options_in self.old.opts) self.old.next) refusal) next (info_left self.new)) }
+    fn opened(
+        &mut self,
+        alloc: Global,
+        refusal: Option<Errno>,
+        step: &mut Next,
+    ) -> Result<(), Errno>
+        ensures goes { OnOk result (Goes (opened self.old.base (options_in self.old.opts) (chips_from self.old.base (options_in self.old.opts) self.old.next) refusal) step.new (info_left self.new)) }
         ensures kept { OnErr result (self.new ≡ self.old) }
         ensures memory_alone { IsOkUnless result Errno.NoMemory }
     {
         match refusal {
             Some(errno) => {
                 if self.passes_over(errno) {
-                    return Ok(self.open());
+                    self.open(step);
+                    return Ok(());
                 }
-                self.fail(alloc, errno)
+                self.fail(alloc, errno, step)
             }
             None => {
                 self.stage = InfoStage::Asking;
-                Ok(Next::Call(chip_query(self.base)))
+                *step = Next::Call(chip_query(self.base));
+                Ok(())
             }
         }
     }
@@ -155,51 +185,62 @@ impl InfoTool {
         passes_over(errno, self.opts.chip.is_some())
     }
 
-    fn asked(&mut self, alloc: Global, refusal: Option<Errno>, bytes: &[u8]) -> Result<Next, Errno>
-        ensures goes { IfOk result (λ next. Goes (asked self.old.base (options_in self.old.opts) (chips_from self.old.base (options_in self.old.opts) self.old.next) refusal bytes.now) next (info_left self.new)) }
+    fn asked(
+        &mut self,
+        alloc: Global,
+        refusal: Option<Errno>,
+        bytes: &[u8],
+        step: &mut Next,
+    ) -> Result<(), Errno>
+        ensures goes { OnOk result (Goes (asked self.old.base (options_in self.old.opts) (chips_from self.old.base (options_in self.old.opts) self.old.next) refusal bytes.now) step.new (info_left self.new)) }
         ensures kept { OnErr result (self.new ≡ self.old) }
         ensures memory_alone { IsOkUnless result Errno.NoMemory }
     {
         match refusal {
-            Some(errno) => self.fail_open(alloc, errno),
+            Some(errno) => self.fail_open(alloc, errno, step),
             None => match chip_told(bytes) {
-                Some(chip) => self.told(alloc, &chip),
-                None => Ok(self.leave()),
+                Some(chip) => self.told(alloc, &chip, step),
+                None => {
+                    self.leave(step);
+                    Ok(())
+                }
             },
         }
     }
 
     /// The chip told of itself: its lines are asked.
-    fn told(&mut self, alloc: Global, chip: &Chip) -> Result<Next, Errno>
-        ensures goes { IfOk result (λ next. Goes (told self.old.base (options_in self.old.opts) (chips_from self.old.base (options_in self.old.opts) self.old.next) chip.now) next (info_left self.new)) }
+    fn told(&mut self, alloc: Global, chip: &Chip, step: &mut Next) -> Result<(), Errno>
+        ensures goes { OnOk result (Goes (told self.old.base (options_in self.old.opts) (chips_from self.old.base (options_in self.old.opts) self.old.next) chip.now) step.new (info_left self.new)) }
         ensures kept { OnErr result (self.new ≡ self.old) }
         ensures memory_alone { IsOkUnless result Errno.NoMemory }
     {
         self.text = chip_head(alloc, chip)?;
         self.total = chip.lines.min(LINES_MAX);
         self.left = self.total;
-        Ok(self.ask_line())
+        self.ask_line(step);
+        Ok(())
     }
 
     /// Asks the next line, or closes the chip.
     #[tactic(auto, using(crate::proofs::InfoLines::lines))]
-    fn ask_line(&mut self) -> Next
-        ensures { Goes (lines_from self.old.base (options_in self.old.opts) (chips_from self.old.base (options_in self.old.opts) self.old.next) self.old.total self.old.left self.old.text) result (info_left self.new) }
+    fn ask_line(&mut self, step: &mut Next)
+        ensures { Goes (lines_from self.old.base (options_in self.old.opts) (chips_from self.old.base (options_in self.old.opts) self.old.next) self.old.total self.old.left self.old.text) step.new (info_left self.new) }
     {
         if self.left == 0 {
             self.stage = InfoStage::Closing;
-            return Next::Call(Do::Close { slot: self.base });
+            *step = Next::Call(Do::Close { slot: self.base });
+            return;
         }
         let offset = self.total.saturating_sub(self.left);
         self.left -= 1;
         self.stage = InfoStage::Line;
-        Next::Call(Do::Ioctl {
+        *step = Next::Call(Do::Ioctl {
             slot: self.base,
             cmd: GET_LINEINFO,
             len: 256,
             bytes: info_sent(offset),
             made: 0,
-        })
+        });
     }
 
     fn line_told(
@@ -207,68 +248,81 @@ impl InfoTool {
         alloc: Global,
         refusal: Option<Errno>,
         bytes: &[u8],
-    ) -> Result<Next, Errno>
-        ensures goes { IfOk result (λ next. Goes (line_told self.old.base (options_in self.old.opts) (lines_from self.old.base (options_in self.old.opts) (chips_from self.old.base (options_in self.old.opts) self.old.next) self.old.total self.old.left) self.old.total self.old.left self.old.text refusal bytes.now) next (info_left self.new)) }
+        step: &mut Next,
+    ) -> Result<(), Errno>
+        ensures goes { OnOk result (Goes (line_told self.old.base (options_in self.old.opts) (lines_from self.old.base (options_in self.old.opts) (chips_from self.old.base (options_in self.old.opts) self.old.next) self.old.total self.old.left) self.old.total self.old.left self.old.text refusal bytes.now) step.new (info_left self.new)) }
         ensures kept { OnErr result (self.new ≡ self.old) }
         ensures memory_alone { IsOkUnless result Errno.NoMemory }
     {
         match refusal {
-            Some(errno) => self.fail_open(alloc, errno),
+            Some(errno) => self.fail_open(alloc, errno, step),
             None => match info_told(bytes) {
                 Some(info) => {
                     let offset = self.total.saturating_sub(self.left).saturating_sub(1);
                     put_line(alloc, self.opts.unquoted, offset, &info, &mut self.text)?;
-                    Ok(self.ask_line())
+                    self.ask_line(step);
+                    Ok(())
                 }
-                None => Ok(self.leave()),
+                None => {
+                    self.leave(step);
+                    Ok(())
+                }
             },
         }
     }
 
-    fn closed(&mut self, alloc: Global, refusal: Option<Errno>) -> Result<Next, Errno>
-        ensures goes { IfOk result (λ next. Goes (closed (chips_from self.old.base (options_in self.old.opts) self.old.next) self.old.text refusal) next (info_left self.new)) }
+    fn closed(
+        &mut self,
+        alloc: Global,
+        refusal: Option<Errno>,
+        step: &mut Next,
+    ) -> Result<(), Errno>
+        ensures goes { OnOk result (Goes (closed (chips_from self.old.base (options_in self.old.opts) self.old.next) self.old.text refusal) step.new (info_left self.new)) }
         ensures kept { OnErr result (self.new ≡ self.old) }
         ensures memory_alone { IsOkUnless result Errno.NoMemory }
     {
         match refusal {
-            Some(errno) => self.fail(alloc, errno),
+            Some(errno) => self.fail(alloc, errno, step),
             None => {
                 let mut text = ByteList::new(alloc);
                 text.push_all(self.text.as_slice())?;
                 self.stage = InfoStage::Next;
-                Ok(Next::Print(text))
+                *step = Next::Print(text);
+                Ok(())
             }
         }
     }
 
     /// Prints a refusal, with nothing open.
-    fn fail(&mut self, alloc: Global, errno: Errno) -> Result<Next, Errno>
-        ensures goes { IfOk result (λ next. Goes (print (failed_line tool errno) ends) next (info_left self.new)) }
+    fn fail(&mut self, alloc: Global, errno: Errno, step: &mut Next) -> Result<(), Errno>
+        ensures goes { OnOk result (Goes (print (failed_line tool errno) ends) step.new (info_left self.new)) }
         ensures kept { OnErr result (self.new ≡ self.old) }
         ensures memory_alone { IsOkUnless result Errno.NoMemory }
     {
         let text = failed_line(alloc, ToolName::Info, errno)?;
         self.stage = InfoStage::Ended;
-        Ok(Next::Print(text))
+        *step = Next::Print(text);
+        Ok(())
     }
 
     /// Prints a refusal, with the chip open.
-    fn fail_open(&mut self, alloc: Global, errno: Errno) -> Result<Next, Errno>
-        ensures goes { IfOk result (λ next. Goes (print (failed_line tool errno) (leaves self.old.base)) next (info_left self.new)) }
+    fn fail_open(&mut self, alloc: Global, errno: Errno, step: &mut Next) -> Result<(), Errno>
+        ensures goes { OnOk result (Goes (print (failed_line tool errno) (leaves self.old.base)) step.new (info_left self.new)) }
         ensures kept { OnErr result (self.new ≡ self.old) }
         ensures memory_alone { IsOkUnless result Errno.NoMemory }
     {
         let text = failed_line(alloc, ToolName::Info, errno)?;
         self.stage = InfoStage::Failed;
-        Ok(Next::Print(text))
+        *step = Next::Print(text);
+        Ok(())
     }
 
     /// Closes the chip for the last time.
-    fn leave(&mut self) -> Next
-        ensures { Goes (leaves self.old.base) result (info_left self.new) }
+    fn leave(&mut self, step: &mut Next)
+        ensures { Goes (leaves self.old.base) step.new (info_left self.new) }
     {
         self.stage = InfoStage::Leaving;
-        Next::Call(Do::Close { slot: self.base })
+        *step = Next::Call(Do::Close { slot: self.base });
     }
 }
 

@@ -1,5 +1,5 @@
 //! gpioset.
-ghost use Rattle.std.specs.Prelude.{◌≡◌, true, false, not, is_some, None, IfOk, OnErr, IsOkUnless, option_copied};
+ghost use Rattle.std.specs.Prelude.{◌≡◌, true, false, not, is_some, None, IfOk, OnOk, OnErr, IsOkUnless, option_copied};
 ghost use Rattle.gl_args.specs.Options.{options_in};
 ghost use Rattle.gl_args.specs.Program.{Goes, given, goes_on, done, then_by, MatchNext};
 ghost use Rattle.gl_lines.specs.Finding.{Finding, left};
@@ -69,6 +69,24 @@ impl Set {
         ensures kept { OnErr result ((set_left self.new ≡ set_left self.old) × (held_of self.new ≡ held_of self.old)) }
         ensures memory_alone { IsOkUnless result Errno.NoMemory }
     {
+        let mut step = Next::End;
+        self.put_next(alloc, got, &mut step)?;
+        Ok(step)
+    }
+
+    /// Puts into `step` what it does next, as `next` answers it. Where memory is wanted `step` means nothing.
+    pub(crate) fn put_next(
+        &mut self,
+        alloc: Global,
+        got: Option<&Got>,
+        step: &mut Next,
+    ) -> Result<(), Errno>
+        ensures goes { OnOk result (Goes (given (set_left self.old) (option_copied got.entry)) step.new (set_left self.new)) }
+        ensures rests { OnOk result (MatchNext step.new (Unit {0}) (set_left self.new ≡ goes_on (done (held_of self.new)))) }
+        ensures ended { OnOk result (MatchNext step.new (has_ended self.new.stage ≡ false) (has_ended self.new.stage ≡ not (is_some (held_of self.new)))) }
+        ensures kept { OnErr result ((set_left self.new ≡ set_left self.old) × (held_of self.new ≡ held_of self.old)) }
+        ensures memory_alone { IsOkUnless result Errno.NoMemory }
+    {
         let none = Got::Done;
         let told = match got {
             Some(got) => got,
@@ -77,18 +95,32 @@ impl Set {
         let stage = self.stage;
         match &stage {
             SetStage::Begin => {
-                let step = self.finder.begin(alloc)?;
-                Ok(self.go_on(step))
+                self.finder.put_first(alloc, step)?;
+                self.go_on(step);
+                Ok(())
             }
             SetStage::Finding => {
-                let step = self.finder.next(alloc, got)?;
-                Ok(self.go_on(step))
+                self.finder.put_next(alloc, got, step)?;
+                self.go_on(step);
+                Ok(())
             }
-            SetStage::Holding => Ok(Next::End),
-            SetStage::Stopped => Ok(self.close()),
-            SetStage::Closing => self.closed(alloc, told.refusal()),
-            SetStage::NotClosed => Ok(self.end()),
-            SetStage::Ended => Ok(Next::End),
+            SetStage::Holding => {
+                *step = Next::End;
+                Ok(())
+            }
+            SetStage::Stopped => {
+                self.close(step);
+                Ok(())
+            }
+            SetStage::Closing => self.closed(alloc, told.refusal(), step),
+            SetStage::NotClosed => {
+                self.end(step);
+                Ok(())
+            }
+            SetStage::Ended => {
+                *step = Next::End;
+                Ok(())
+            }
         }
     }
 
@@ -140,50 +172,46 @@ impl Set {
     }
 
     /// Goes on behind a step of what finds its lines.
-    fn go_on(&mut self, step: Next) -> Next
-        ensures goes { (p : Finding) → Goes p step (left self.old.finder) → Goes (then_by p (behind self.old.hold self.old.finder.made)) result (set_left self.new) }
-        ensures rests { MatchNext result (Unit {0}) (set_left self.new ≡ goes_on (done (held_of self.new))) }
-        ensures ended { MatchNext result (has_ended self.new.stage ≡ false) (has_ended self.new.stage ≡ not (is_some (held_of self.new))) }
+    fn go_on(&mut self, step: &mut Next)
+        ensures goes { (p : Finding) → Goes p step.old (left self.old.finder) → Goes (then_by p (behind self.old.hold self.old.finder.made)) step.new (set_left self.new) }
+        ensures rests { MatchNext step.new (Unit {0}) (set_left self.new ≡ goes_on (done (held_of self.new))) }
+        ensures ended { MatchNext step.new (has_ended self.new.stage ≡ false) (has_ended self.new.stage ≡ not (is_some (held_of self.new))) }
     {
-        match step {
-            Next::Call(what) => {
-                self.stage = SetStage::Finding;
-                Next::Call(what)
-            }
-            Next::Print(text) => {
-                self.stage = SetStage::Finding;
-                Next::Print(text)
-            }
+        match &*step {
+            Next::Call(_) => self.stage = SetStage::Finding,
+            Next::Print(_) => self.stage = SetStage::Finding,
             Next::End => {
                 if !self.finder.has_found() {
-                    return self.end();
+                    return self.end(step);
                 }
                 let hold = self.hold;
                 match &hold {
-                    Hold::No => self.close(),
-                    Hold::Yes => {
-                        self.stage = SetStage::Holding;
-                        Next::End
-                    }
+                    Hold::No => self.close(step),
+                    Hold::Yes => self.stage = SetStage::Holding,
                 }
             }
         }
     }
 
     /// Closes its request.
-    fn close(&mut self) -> Next
-        ensures goes { Goes (closes self.old.finder.made) result (set_left self.new) }
-        ensures asks { MatchNext result (has_ended self.new.stage ≡ false) ⊥ }
+    fn close(&mut self, step: &mut Next)
+        ensures goes { Goes (closes self.old.finder.made) step.new (set_left self.new) }
+        ensures asks { MatchNext step.new (has_ended self.new.stage ≡ false) ⊥ }
     {
         self.stage = SetStage::Closing;
-        Next::Call(Do::Close {
+        *step = Next::Call(Do::Close {
             slot: self.finder.made,
-        })
+        });
     }
 
-    fn closed(&mut self, alloc: Global, refusal: Option<Errno>) -> Result<Next, Errno>
-        ensures goes { IfOk result (λ next. Goes (closed refusal) next (set_left self.new)) }
-        ensures ended { IfOk result (λ next. MatchNext next (has_ended self.new.stage ≡ false) (self.new.stage ≡ SetStage.Ended)) }
+    fn closed(
+        &mut self,
+        alloc: Global,
+        refusal: Option<Errno>,
+        step: &mut Next,
+    ) -> Result<(), Errno>
+        ensures goes { OnOk result (Goes (closed refusal) step.new (set_left self.new)) }
+        ensures ended { OnOk result (MatchNext step.new (has_ended self.new.stage ≡ false) (self.new.stage ≡ SetStage.Ended)) }
         ensures kept { OnErr result (self.new ≡ self.old) }
         ensures memory_alone { IsOkUnless result Errno.NoMemory }
     {
@@ -191,18 +219,22 @@ impl Set {
             Some(errno) => {
                 let text = failed_line(alloc, ToolName::Set, errno)?;
                 self.stage = SetStage::NotClosed;
-                Ok(Next::Print(text))
+                *step = Next::Print(text);
+                Ok(())
             }
-            None => Ok(self.end()),
+            None => {
+                self.end(step);
+                Ok(())
+            }
         }
     }
 
     /// Ends.
-    fn end(&mut self) -> Next
-        ensures end { result ≡ Next.End }
+    fn end(&mut self, step: &mut Next)
+        ensures end { step.new ≡ Next.End }
         ensures stage { self.new.stage ≡ SetStage.Ended }
     {
         self.stage = SetStage::Ended;
-        Next::End
+        *step = Next::End;
     }
 }

@@ -13,4 +13,4 @@ returns-then-has_found c = λ p h.
     let found = g.finder.found.items in
     let ends : Goes p End (left g.finder) = rw c.in-End.is at h in
     let made : p ≡ done (Some found) = finder_ends g.finder p ends ∙ ap (λ b. done (found_where b found)) (sym c.has_found.ensures ∙ c.if-has_found.true) in
-    subst (λ q. Goes (then_by q (get g.finder.made (options_in g.finder.opts))) c.ask.result (get_left c.ask.new.self)) (sym made) (c.ask.ensures found)
+    subst (λ q. Goes (then_by q (get g.finder.made (options_in g.finder.opts))) c.ask.new.step (get_left c.ask.new.self)) (sym made) (c.ask.ensures found)
