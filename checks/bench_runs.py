@@ -13,7 +13,6 @@ import tempfile
 from contextlib import contextmanager, nullcontext
 from dataclasses import dataclass
 from pathlib import Path
-from statistics import median
 from time import perf_counter
 from typing import Callable, ContextManager, Iterator, List, Optional, Sequence, Tuple
 
@@ -124,12 +123,6 @@ def processor_seconds(programs: Pair, asked: Asked) -> Numbers:
     """The least processor time of some runs: what else the machine does can only add to it."""
     own, peer = runs(programs, asked)
     return Numbers(min(each.processor for each in own), min(each.processor for each in peer))
-
-
-def wall_seconds(programs: Pair, asked: Asked) -> Numbers:
-    """The time that passes in a run, in the median."""
-    own, peer = runs(programs, asked)
-    return Numbers(median(each.wall for each in own), median(each.wall for each in peer))
 
 
 def same_answer(programs: Pair, asked: Asked, what: str) -> bytes:
