@@ -143,9 +143,9 @@ def watched() -> List[str]:
 
 
 def filled(name: str, line: str) -> Load:
-    """A session as long as may be, of one line again and again."""
+    """A session nearly as long as may be, of one line again and again, to which two actors can be added still."""
     head = joined([*HEAD, "probe demo 4"])
-    return Load(name, head + joined([line]) * ((TEXT_MAX - len(head)) // (len(line) + 1)))
+    return Load(name, head + joined([line]) * ((TEXT_MAX - len(head) - 100) // (len(line) + 1)))
 
 
 def loads() -> List[Load]:
