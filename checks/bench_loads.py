@@ -5,7 +5,7 @@ bench_loads.py FOLDER writes each of them into a folder, to be run by hand.
 """
 import struct
 import sys
-from dataclasses import dataclass
+from dataclasses import dataclass, replace
 from pathlib import Path
 from typing import Dict, Iterable, List, Tuple
 
@@ -18,12 +18,17 @@ ROUNDS = 400
 HEAD = ["session 1", "setup"]
 
 
+# The loads that the program has to carry out in not many more instructions than the plain one, beside that of one actor.
+WITH_AIMS = ("gpiodetect", "256 files, reopen", "gpioinfo", "gpioget by name", "256 files, poll", "ticks", "240 requests, again")
+
+
 @dataclass(frozen=True)
 class Load:
-    """A session, and the name under which it stands in the table."""
+    """A session, the name under which it stands in the tables, and whether its instructions can be counted in a minute or so."""
 
     name: str
     text: bytes
+    counted: bool = True
 
 
 def joined(statements: Iterable[str]) -> bytes:
@@ -100,16 +105,20 @@ def by_actors(actors: int) -> Load:
     return Load(f"{actors} actors" if actors > 1 else "one actor", joined(statements))
 
 
-def tree() -> Tuple[List[str], List[str]]:
-    """A full tree, of 64 devices that have a bank of 14 named lines each; and the paths of the lines' names."""
+def tree(devices: int = CHIPS, named: int = 14, lines: int = LINES) -> Tuple[List[str], List[str]]:
+    """A full tree, of so many devices that have a bank with so many named lines each; and the paths of the lines' names."""
     made, names = [], []
-    for device in range(CHIPS):
+    for device in range(devices):
         bank = f"d{device}/b0"
-        made += [f"mkdir d{device}", f"mkdir {bank}", f"write {bank}/num_lines {LINES}", f"write {bank}/label l{device}"]
-        for line in range(14):
+        made += [f"mkdir d{device}", f"mkdir {bank}", f"write {bank}/num_lines {lines}", f"write {bank}/label l{device}"]
+        for line in range(named):
             made += [f"mkdir {bank}/line{line}", f"write {bank}/line{line}/name N{device}.{line}"]
             names.append(f"{bank}/line{line}/name")
     return made, names
+
+
+def went_live(devices: int = CHIPS) -> List[str]:
+    return [f"write d{device}/live 1" for device in range(devices)]
 
 
 def requests() -> Tuple[List[str], List[str]]:
@@ -134,15 +143,15 @@ def watched() -> List[str]:
 
 
 def filled(name: str, line: str) -> Load:
-    """A session as long as may be, of one line again and again."""
+    """A session nearly as long as may be, of one line again and again, to which two actors can be added still."""
     head = joined([*HEAD, "probe demo 4"])
-    return Load(name, head + joined([line]) * ((TEXT_MAX - len(head)) // (len(line) + 1)))
+    return Load(name, head + joined([line]) * ((TEXT_MAX - len(head) - 100) // (len(line) + 1)))
 
 
 def loads() -> List[Load]:
     """The loads of one actor."""
     made, names = tree()
-    live = [f"write d{device}/live 1" for device in range(CHIPS)]
+    live = went_live()
     off = [f"write d{device}/live 0" for device in range(CHIPS)]
     removed = [f"unplug {chip}" for chip in range(CHIPS)]
     asked, alone = requests()
@@ -153,7 +162,8 @@ def loads() -> List[Load]:
         by_actors(1),
         in_setup("gpiodetect", ["gpiodetect"] * 1562),
         in_setup("gpioinfo", probes(LINES), ["gpioinfo"] * 9),
-        in_setup("gpioget by name", made, live, ["gpioget N63.13"] * 30_000),
+        in_setup("gpioget by name", tree(16, 62, 128)[0], went_live(16), ["gpioget N15.61"] * 11_000),
+        replace(in_setup("30,000 finds", made, live, ["gpioget N63.13"] * 30_000), counted=False),
         in_setup("256 files, poll", opened_files(), (f"poll f{k % FILES}" for k in range(60_000))),
         in_setup("256 files, reopen", opened_files(), reopened),
         in_setup("240 requests, again", asked, closed),
