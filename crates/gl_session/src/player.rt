@@ -1,11 +1,15 @@
 //! Who carries the operations of talks out on a device.
 
-ghost use Rattle.std.specs.Prelude.{◌≡◌};
+ghost use Rattle.std.specs.Prelude.{◌≡◌, List, false};
+ghost use Rattle.gl_model.specs.declared.reply.Reply.{Reply};
+ghost use Rattle.gl_asking.specs.Asking.{files_behind};
+ghost use Rattle.gl_asking.specs.Files.{OpenFile};
 ghost use Rattle.gl_session.specs.Player.{kind_of};
 
 use crate::buffers::buffer_for;
 use crate::rows::Rows;
 use gl_asking::{Asking, Change, FileKind, FileRow, asking_of, files_behind, got_of};
+use gl_base::command::GET_LINE;
 use gl_base::{Do, Errno, Got};
 use gl_chip::{Actor, Gpio, Order};
 use gl_core::Core;
@@ -43,6 +47,18 @@ fn kind_of(row: &Option<FileRow>) -> FileKind
     match row {
         Some(row) => row.kind,
         None => FileKind::Chip,
+    }
+}
+
+/// Whether an operation opens or closes a file, where it isn't refused. No other changes the open files.
+fn opens_or_closes(what: &Do) -> bool
+    ensures stays { result ≡ false → (reply : Reply) (files : List OpenFile) → files_behind what.now reply files ≡ files }
+{
+    match what {
+        Do::OpenChip { .. } => true,
+        Do::Ioctl { cmd, .. } => *cmd == GET_LINE,
+        Do::Close { .. } => true,
+        _ => false,
     }
 }
 
@@ -231,12 +247,7 @@ impl<'d, D: Driver<Core>> Player<'d, D> {
     }
 
     /// Keeps what becomes of the open files by the reply.
-    fn settle(
-        &mut self,
-        what: &Do,
-        row: &Option<FileRow>,
-        reply: Reply,
-    ) -> Result<(), Errno>
+    fn settle(&mut self, what: &Do, row: &Option<FileRow>, reply: Reply) -> Result<(), Errno>
         requires row { IsSomeRow row.now }
         requires found { file_for what.now self.old.carried.files ≡ file_of row.now }
         requires opens { OpensWithin what.now reply }
@@ -247,6 +258,9 @@ impl<'d, D: Driver<Core>> Player<'d, D> {
         ensures settled { OnOk result (self.new.carried.files ≡ files_behind what.now reply self.old.carried.files) }
         ensures memory_alone { IsOkUnless result NoMemory }
     {
+        if !opens_or_closes(what) {
+            return Ok(());
+        }
         self.keep(files_behind(what, *row, reply))
     }
 
