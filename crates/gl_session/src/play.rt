@@ -36,8 +36,8 @@ fn turn<R: Wait, D: Driver<Core>>(
     ensures stopped { IfErr result (λ e. (e ≡ NoMemory) ⊎ ((e ≡ Full)
         × StoppedFull D.is_planned (given (left talk.old) got.old) player.old.view player.old.carried player.new.view)) }
 {
-    match talk.next(alloc, got.as_ref()) {
-        Ok(Next::Call(what)) => match player.perform(rt, alloc, &what) {
+    match &talk.next(alloc, got.as_ref()) {
+        Ok(Next::Call(what)) => match player.perform(rt, alloc, what) {
             Ok(result_of) => {
                 *got = Some(result_of);
                 Ok(true)
@@ -52,7 +52,7 @@ fn turn<R: Wait, D: Driver<Core>>(
             Err(errno) => Err(errno),
         },
         Ok(Next::End) => Ok(false),
-        Err(errno) => Err(errno),
+        Err(errno) => Err(*errno),
     }
 }
 

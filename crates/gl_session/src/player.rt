@@ -1,16 +1,20 @@
 //! Who carries the operations of talks out on a device.
 
-ghost use Rattle.std.specs.Prelude.{◌≡◌};
+ghost use Rattle.std.specs.Prelude.{◌≡◌, List, false};
+ghost use Rattle.gl_model.specs.declared.reply.Reply.{Reply};
+ghost use Rattle.gl_asking.specs.Asking.{files_behind};
+ghost use Rattle.gl_asking.specs.Files.{OpenFile};
 ghost use Rattle.gl_session.specs.Player.{kind_of};
 
 use crate::buffers::buffer_for;
 use crate::rows::Rows;
 use gl_asking::{Asking, Change, FileKind, FileRow, asking_of, files_behind, got_of};
+use gl_base::command::GET_LINE;
 use gl_base::{Do, Errno, Got};
 use gl_chip::{Actor, Gpio, Order};
 use gl_core::Core;
 use gl_driver::Driver;
-use gl_model::{DeviceCall, Reply};
+use gl_model::Reply;
 use std::alloc::Global;
 use std::marker::Model;
 use std::mem;
@@ -37,12 +41,24 @@ impl<'d, D: Driver<Core>> Model for Player<'d, D> {
 }
 
 /// What the file of a row is of; a chip where there is no row.
-fn kind_of(row: Option<FileRow>) -> FileKind
-    ensures { result ≡ kind_of row }
+fn kind_of(row: &Option<FileRow>) -> FileKind
+    ensures { result ≡ kind_of row.now }
 {
     match row {
         Some(row) => row.kind,
         None => FileKind::Chip,
+    }
+}
+
+/// Whether an operation opens or closes a file, where it isn't refused. No other changes the open files.
+fn opens_or_closes(what: &Do) -> bool
+    ensures stays { result ≡ false → (reply : Reply) (files : List OpenFile) → files_behind what.now reply files ≡ files }
+{
+    match what {
+        Do::OpenChip { .. } => true,
+        Do::Ioctl { cmd, .. } => *cmd == GET_LINE,
+        Do::Close { .. } => true,
+        _ => false,
     }
 }
 
@@ -150,36 +166,47 @@ impl<'d, D: Driver<Core>> Player<'d, D> {
         ensures performs { Performs D.is_planned what.now result self.old.view self.old.carried self.new.view self.new.carried }
     {
         let row = self.row_for(what);
-        match asking_of(what, row) {
-            Asking::Calls(call) => self.call(rt, alloc, what, row, &call),
+        let asking = asking_of(what, row);
+        match &asking {
+            Asking::Calls(call) => {
+                let order = Order {
+                    call: *call,
+                    on: kind_of(&row),
+                };
+                self.call(rt, alloc, what, &row, &order)
+            }
             Asking::Plans(nth) => {
-                self.plan(nth);
-                self.settle(what, row, Reply::Done, Got::Done)
+                self.plan(*nth);
+                self.settle(what, &row, Reply::Done)?;
+                Ok(Got::Done)
             }
             Asking::Accepts(bits) => {
-                self.accept(bits);
-                self.settle(what, row, Reply::Done, Got::Done)
+                self.accept(*bits);
+                self.settle(what, &row, Reply::Done)?;
+                Ok(Got::Done)
             }
             Asking::Refuses(errno) => {
-                self.settle(what, row, Reply::Refused(errno), Got::Refused(errno))
+                self.settle(what, &row, Reply::Refused(*errno))?;
+                Ok(Got::Refused(*errno))
             }
         }
     }
 
-    /// Makes the call of an operation.
+    /// Makes the call of an operation, on the file of this row.
     fn call<R: Wait>(
         &mut self,
         rt: &R,
         alloc: Global,
         what: &Do,
-        row: Option<FileRow>,
-        call: &DeviceCall,
+        row: &Option<FileRow>,
+        order: &Order,
     ) -> Result<Got, Errno>
         requires none { D.ENTRIES ≡ 0 }
-        requires row { IsSomeRow row }
-        requires found { file_for what.now self.old.carried.files ≡ file_of row }
-        requires fits { FitsDevice call.now }
-        requires asks { Calls call.now ≡ asking self.old.carried.files what.now }
+        requires row { IsSomeRow row.now }
+        requires found { file_for what.now self.old.carried.files ≡ file_of row.now }
+        requires fits { FitsDevice order.now.call }
+        requires on { order.now.on ≡ kind_of row.now }
+        requires asks { Calls order.now.call ≡ asking self.old.carried.files what.now }
         ensures device { self.new.gate ≡ self.old.gate }
         ensures text { self.new.text ≡ self.old.text }
         ensures performs { Performs D.is_planned what.now result self.old.view self.old.carried self.new.view self.new.carried }
@@ -188,14 +215,10 @@ impl<'d, D: Driver<Core>> Player<'d, D> {
             Ok(buffer) => buffer,
             Err(errno) => return Err(errno),
         };
-        let order = Order {
-            call: *call,
-            on: kind_of(row),
-        };
-        match self.make(rt, alloc, &order, &mut buffer) {
+        match self.make(rt, alloc, order, &mut buffer) {
             Ok(reply) => {
-                let got = got_of(what, &reply, buffer);
-                self.settle(what, row, reply, got)
+                self.settle(what, row, reply)?;
+                Ok(got_of(what, &reply, buffer))
             }
             Err(errno) => Err(errno),
         }
@@ -223,28 +246,22 @@ impl<'d, D: Driver<Core>> Player<'d, D> {
         self.device.call(rt, alloc, &mut self.actor, order, out)
     }
 
-    /// Keeps what becomes of the open files by the reply, and gives the result.
-    fn settle(
-        &mut self,
-        what: &Do,
-        row: Option<FileRow>,
-        reply: Reply,
-        got: Got,
-    ) -> Result<Got, Errno>
-        requires row { IsSomeRow row }
-        requires found { file_for what.now self.old.carried.files ≡ file_of row }
+    /// Keeps what becomes of the open files by the reply.
+    fn settle(&mut self, what: &Do, row: &Option<FileRow>, reply: Reply) -> Result<(), Errno>
+        requires row { IsSomeRow row.now }
+        requires found { file_for what.now self.old.carried.files ≡ file_of row.now }
         requires opens { OpensWithin what.now reply }
         ensures device { self.new.gate ≡ self.old.gate }
         ensures view { self.new.view ≡ self.old.view }
         ensures told { self.new.carried.told ≡ self.old.carried.told }
         ensures text { self.new.text ≡ self.old.text }
-        ensures settled { IfOk result (λ g. (g ≡ got) × (self.new.carried.files ≡ files_behind what.now reply self.old.carried.files)) }
+        ensures settled { OnOk result (self.new.carried.files ≡ files_behind what.now reply self.old.carried.files) }
         ensures memory_alone { IsOkUnless result NoMemory }
     {
-        match self.keep(files_behind(what, row, reply)) {
-            Ok(()) => Ok(got),
-            Err(errno) => Err(errno),
+        if !opens_or_closes(what) {
+            return Ok(());
         }
+        self.keep(files_behind(what, *row, reply))
     }
 
     /// Makes a change in the open files.

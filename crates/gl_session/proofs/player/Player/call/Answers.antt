@@ -1,4 +1,4 @@
-use Rattle.std.proofs.Common.{rules, ◌≡◌, ℕ, List, sym, subst, ap, ◌∙◌, length}
+use Rattle.std.proofs.Common.{rules, ◌≡◌, ℕ, List, Ok, refl, sym, subst, ap, ◌∙◌, length}
 use Rattle.gl_world.specs.Deeds.{entries_in}
 use Rattle.gl_driver.specs.Told.{PortAfter}
 use Rattle.gl_core.specs.Device.{tells_in}
@@ -14,12 +14,12 @@ use Rattle.gl_session.proofs.player.Player.call.Goals as goal
 
 pub make-requires-clause-fits : goal.make-requires-clause-fits
 make-requires-clause-fits g c κs within =
-    let suits = suits_call c.args.self.now.carried.files c.args.row c.args.what.now c.args.call.now c.requires.row c.requires.found c.requires.asks in
+    let suits = suits_call c.args.self.now.carried.files c.args.row.now c.args.what.now c.args.order.now.call c.requires.row c.requires.found c.requires.asks in
     let handed : c.deref_mut.result.now ≡ buffer_for c.args.what.now = search rules in
     record {
       device = c.requires.fits;
-      file = subst (λ (on : FileKind). FitsFile c.args.call.now on) (sym c.kind_of.ensures) suits.file;
-      buffer = subst (λ (b : List ℕ). FitsOut c.args.call.now b) (sym handed) suits.buffer;
+      file = subst (λ (on : FileKind). FitsFile c.args.order.now.call on) (sym c.requires.on) suits.file;
+      buffer = subst (λ (b : List ℕ). FitsOut c.args.order.now.call b) (sym handed) suits.buffer;
     }
 
 pub settle-requires-clause-found : goal.settle-requires-clause-found
@@ -27,21 +27,21 @@ settle-requires-clause-found g c κs within = ap (λ (files : List OpenFile). fi
 
 pub settle-requires-clause-opens : goal.settle-requires-clause-opens
 settle-requires-clause-opens g c κs within =
-    let suits = suits_call c.args.self.now.carried.files c.args.row c.args.what.now c.args.call.now c.requires.row c.requires.found c.requires.asks in
+    let suits = suits_call c.args.self.now.carried.files c.args.row.now c.args.what.now c.args.order.now.call c.requires.row c.requires.found c.requires.asks in
     let made = c.in-Ok-make.ensures.made in
-    suits.opens c.args.self.now.view c.make.new.self.view c.in-Ok-make.reply made.0 made.2 (subst (λ (on : FileKind). AnswersOrder c.args.call.now on c.in-Ok-make.reply) c.kind_of.ensures c.in-Ok-make.ensures.form)
+    suits.opens c.args.self.now.view c.make.new.self.view c.in-Ok-make.reply made.0 made.2 (subst (λ (on : FileKind). AnswersOrder c.args.order.now.call on c.in-Ok-make.reply) c.requires.on c.in-Ok-make.ensures.form)
 
-pub returns-in-Ok-make-clause-performs : goal.returns-in-Ok-make-clause-performs
-returns-in-Ok-make-clause-performs g c =
-    let suits = suits_call c.args.self.now.carried.files c.args.row c.args.what.now c.args.call.now c.requires.row c.requires.found c.requires.asks in
+pub returns-in_ok-settle-in-Ok-make-clause-performs : goal.returns-in_ok-settle-in-Ok-make-clause-performs
+returns-in_ok-settle-in-Ok-make-clause-performs g c =
+    let suits = suits_call c.args.self.now.carried.files c.args.row.now c.args.what.now c.args.order.now.call c.requires.row c.requires.found c.requires.asks in
     let handed : c.deref_mut.result.now ≡ buffer_for c.args.what.now = search rules in
-    call_performs g.D.Driver.is_planned c.args.what.now c.args.self.now.view c.settle.new.self.view c.args.self.now.carried c.settle.new.self.carried c.args.call.now (kind_of c.args.row) c.in-Ok-make.reply
-    c.deref_mut.result.now c.make.new.out _ c.got_of-got.result c.settle.result c.make.new.self.view c.make.new.self.carried c.requires.asks suits handed
+    call_performs g.D.Driver.is_planned c.args.what.now c.args.self.now.view c.settle.new.self.view c.args.self.now.carried c.settle.new.self.carried c.args.order.now.call (kind_of c.args.row.now) c.in-Ok-make.reply
+    c.deref_mut.result.now c.make.new.out _ c.got_of.result (Ok c.got_of.result) c.make.new.self.view c.make.new.self.carried c.requires.asks suits handed
     (whole_again c.in-Ok.buffer.len c.make.new.out c.in-Ok.buffer.items (search rules) (ap length (sym c.deref_mut.ensures.value) ∙ c.deref_mut.ensures.len))
-    (subst (λ (on : FileKind). (bytes : List ℕ) × WroteTo c.args.call.now bytes c.deref_mut.result.now c.make.new.out × (called : HasCalled 0 c.args.self.now.view c.args.call.now c.in-Ok-make.reply bytes c.make.new.self.view)
-    × PortAfter g.D.Driver.is_planned (op_ordered c.args.call.now on) (tells_in (entries_in called.did)) c.args.self.now.carried.told c.make.new.self.carried.told) c.kind_of.ensures c.in-Ok-make.ensures.made)
-    c.in-Ok-make.ensures.files c.settle.ensures.view c.settle.ensures.told c.got_of-got.ensures c.settle.ensures.settled c.settle.ensures.memory_alone
+    (subst (λ (on : FileKind). (bytes : List ℕ) × WroteTo c.args.order.now.call bytes c.deref_mut.result.now c.make.new.out × (called : HasCalled 0 c.args.self.now.view c.args.order.now.call c.in-Ok-make.reply bytes c.make.new.self.view)
+    × PortAfter g.D.Driver.is_planned (op_ordered c.args.order.now.call on) (tells_in (entries_in called.did)) c.args.self.now.carried.told c.make.new.self.carried.told) c.requires.on c.in-Ok-make.ensures.made)
+    c.in-Ok-make.ensures.files c.settle.ensures.view c.settle.ensures.told c.got_of.ensures (refl, c.in_ok-settle-in-Ok-make.ensures.settled) tt
 
 pub returns-in-Err-make-clause-performs : goal.returns-in-Err-make-clause-performs
 returns-in-Err-make-clause-performs g c =
-    could_not_perform g.D.Driver.is_planned c.args.what.now c.args.self.now.view c.make.new.self.view c.args.self.now.carried c.make.new.self.carried c.args.call.now c.in-Err-make.errno c.requires.asks c.in-Err-make.ensures.could_not
+    could_not_perform g.D.Driver.is_planned c.args.what.now c.args.self.now.view c.make.new.self.view c.args.self.now.carried c.make.new.self.carried c.args.order.now.call c.in-Err-make.errno c.requires.asks c.in-Err-make.ensures.could_not
