@@ -47,7 +47,7 @@ chip_waits (word ∷ words) items e = waits_by (is_value word) word words items 
 short_chip : (words : List (List ℕ)) (items : List Item) → reads Info (codes "-c" ∷ words) false None ≡ Some items → has Chip items ≡ true
 short_chip words items e = chip_waits words items (sym (no_front (reads Info words false (Some Chip))) ∙ e)
 
--- `--chip` and what stands behind it
+-- `--chip` and what stands after it
 long_by : (y : List ℕ) (holds : Bool) (word : List ℕ) (words : List (List ℕ)) (items : List Item)
     → behind_step (kind_step (long_kind (long_option Info (codes "--chip" ++ y)) holds) word) (reads Info words) ≡ Some items → has Chip items ≡ true
 long_by [] true word words items e = chip_front (text_of (behind 61 word)) (reads Info words false None) items e
@@ -76,7 +76,7 @@ no_value_by true c word p q h = ap is_value (same_as word p)
 no_value_by false true word p q h = ap is_value (prefix_of word q)
 no_value_by false false word p q h = cc
 
--- what stands behind one word, where no line word stands
+-- what stands after one word, where no line word stands
 behind_item : (o : Option OptionName) (text : List ℕ) (rest : List (List ℕ)) → with_line o text rest ≡ [] → rest ≡ []
 behind_item None text rest e = cc
 behind_item (Some option) text rest e = e

@@ -1,11 +1,6 @@
 pub mod BareWords
 pub mod ChipOptions
-pub mod Costs
 pub mod Divided
-pub mod Entries
 pub mod Fronts
 pub mod LineCounts
-pub mod OpenSlots
-pub mod Printing
-pub mod Programs
 pub mod SameOptions

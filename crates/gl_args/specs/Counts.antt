@@ -16,7 +16,7 @@ abbrev pub are_none : List (List ℕ) → Bool
 are_none [] = true
 are_none (word ∷ words) = false
 
--- the words behind gpiodetect's name have no chip word: there are none, or `--` alone
+-- the words after gpiodetect's name have no chip word: there are none, or `--` alone
 abbrev pub is_bare : List (List ℕ) → Bool
 is_bare [] = true
 is_bare (word ∷ words) = if bytes_eq word (codes "--") then are_none words else false

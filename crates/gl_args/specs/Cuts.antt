@@ -8,12 +8,12 @@ abbrev pub before : ℕ → List ℕ → List ℕ
 before cut [] = []
 before cut (byte ∷ bytes) = if byte == cut then [] else byte ∷ before cut bytes
 
--- the bytes behind it, where there is one
+-- the bytes after it, where there is one
 abbrev pub behind : ℕ → List ℕ → Option (List ℕ)
 behind cut [] = None
 behind cut (byte ∷ bytes) = if byte == cut then Some bytes else behind cut bytes
 
--- what stands before a byte and behind it
+-- what stands before a byte and after it
 abbrev pub Halves : Type 0
 Halves = List ℕ × List ℕ
 
@@ -32,7 +32,7 @@ abbrev pub DividesAs : Option Halves → Option (Bor (List ℕ) × Bor (List ℕ
 DividesAs said None = said ≡ None
 DividesAs said (Some lent) = said ≡ Some (lent.0.now, lent.1.now)
 
--- what stands behind the digits that a text begins with
+-- what stands after the digits that a text begins with
 abbrev pub unit_text : List ℕ → List ℕ
 unit_text [] = []
 unit_text (byte ∷ bytes) = if is_ascii_digit byte then unit_text bytes else byte ∷ bytes

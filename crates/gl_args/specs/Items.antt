@@ -81,7 +81,7 @@ kind_step (Flag option) word = Some (step (Some (given option [])) false None)
 kind_step (Wants option) word = Some (step None false (Some option))
 kind_step (Holds option) word = Some (step (Some (given option (text_of (behind 61 word)))) false None)
 
--- what a word gives, behind `--` or not, and where an option wants a value or not
+-- what a word gives, after `--` or not, and where an option wants a value or not
 abbrev pub step_of : ToolName → List ℕ → Bool → Option OptionName → Option Step
 step_of tool word ended (Some option) = if is_value word then Some (step (Some (given option word)) false None) else None
 step_of tool word true None = Some (step (Some (line_word word)) true None)

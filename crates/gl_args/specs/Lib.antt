@@ -1,14 +1,8 @@
-pub mod Costs
 pub mod Counts
 pub mod Cuts
-pub mod Entries
-pub mod Gives
 pub mod Items
 pub mod LookUps
 pub mod Names
-pub mod OpenSlots
 pub mod Options
-pub mod Printing
-pub mod Program
 pub mod Tools
 pub mod Values

@@ -4,7 +4,7 @@ ghost use Rattle.std.specs.List.{take_while};
 ghost use Rattle.std.specs.Char.{is_ascii_digit};
 ghost use Rattle.gl_args.specs.Cuts.{before, behind, divided, DividesAs, unit_text};
 
-/// The bytes before the first byte of a kind, and those behind it.
+/// The bytes before the first byte of a kind, and those after it.
 pub(crate) fn cut(word: &[u8], byte: u8) -> (&[u8], Option<&[u8]>)
     ensures before { result.0.now ≡ before byte word.now }
     ensures behind { MatchOption result.1 (behind byte word.now ≡ None) (λ rest. behind byte word.now ≡ Some rest.now) }
@@ -17,7 +17,7 @@ pub(crate) fn cut(word: &[u8], byte: u8) -> (&[u8], Option<&[u8]>)
     (word, None)
 }
 
-/// The bytes before the last byte of a kind, and those behind it.
+/// The bytes before the last byte of a kind, and those after it.
 pub(crate) fn divide(word: &[u8], byte: u8) -> Option<(&[u8], &[u8])>
     ensures { DividesAs (divided byte word.now) result }
 {
@@ -31,7 +31,7 @@ pub(crate) fn divide(word: &[u8], byte: u8) -> Option<(&[u8], &[u8])>
     None
 }
 
-/// The digits that a text begins with, and what stands behind them.
+/// The digits that a text begins with, and what stands after them.
 pub(crate) fn split_digits(text: &[u8]) -> (&[u8], &[u8])
     ensures digits { result.0.now ≡ take_while is_ascii_digit text.now }
     ensures rest { result.1.now ≡ unit_text text.now }

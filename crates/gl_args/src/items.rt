@@ -15,7 +15,7 @@ pub enum ArgFault {
     /// They aren't the words of a tool.
     #[error("the words aren't those of a tool")]
     Usage,
-    /// Memory is wanted.
+    /// Out of memory.
     #[error("memory is wanted")]
     NoMemory,
 }
@@ -49,7 +49,7 @@ pub(crate) enum WordKind {
     Flag(OptionName),
     /// An option whose value is the next word.
     Wants(OptionName),
-    /// An option whose value stands behind `=`.
+    /// An option whose value stands after `=`.
     Holds(OptionName),
 }
 
@@ -97,7 +97,7 @@ fn push_item<'a>(items: &mut Vec<Item<'a>>, item: Option<Item<'a>>) -> Result<()
     }
 }
 
-/// What a word gives, behind `--` or not, and where an option wants a value or not.
+/// What a word gives, after `--` or not, and where an option wants a value or not.
 fn step_at<'a>(
     tool: ToolName,
     word: &'a [u8],
@@ -186,7 +186,7 @@ fn name_in(word: &[u8]) -> &[u8]
     name
 }
 
-/// What stands behind `=`.
+/// What stands after `=`.
 fn value_in(word: &[u8]) -> &[u8]
     ensures { result.now ≡ text_of (behind 61 word.now) }
 {

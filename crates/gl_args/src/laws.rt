@@ -6,7 +6,7 @@ ghost use Rattle.gl_args.specs.Names.{ToolsHaveTheirNames, OptionsHaveLongNames,
 ghost use Rattle.gl_args.specs.Options.{SaidTool};
 ghost use Rattle.gl_args.specs.Tools.{tool_said};
 
-/// A tool has at most as many line words as it has words behind its name.
+/// A tool has at most as many line words as it has words after its name.
 pub fn lines_are_words()
     ensures { (words : List (List ℕ)) (tool : SaidTool) → tool_said words ≡ Some tool → line_total tool + 1 ≤ length words }
 {}

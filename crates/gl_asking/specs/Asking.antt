@@ -13,7 +13,7 @@ use Rattle.gl_base.specs.declared.operation.Do.TheVariants.{Probe as DoProbe, Un
 use Rattle.gl_base.specs.declared.operation.Got.{Got}
 use Rattle.gl_base.specs.declared.operation.Got.TheVariants.{Done as GotDone, Number as GotNumber, Found as GotFound, Text as GotText, Bytes, Ready as GotReady, Refused as GotRefused}
 use Rattle.gl_uapi.specs.declared.layout.TheConstants.{LINE_REQUEST_SIZE}
-use Rattle.gl_model.specs.Asked.{lines_asked}
+use Rattle.gl_model.specs.AskedLines.{lines_asked}
 use Rattle.gl_model.specs.declared.device_call.DeviceCall.TheVariants.{Once, Removing, Commanding}
 use Rattle.gl_model.specs.declared.device_call.RemovalOf.TheVariants.{OfChip, OfDevice}
 use Rattle.gl_model.specs.declared.call.Call.{Call}
@@ -143,7 +143,7 @@ abbrev pub made_on : ℕ → Option OpenFile → Lines → Reply → List OpenFi
 made_on slot None lines reply files = files
 made_on slot (Some file) lines reply files = made_by file.of_chip slot file.place lines reply files
 
--- The files behind an operation with this reply. A file that was to be closed is gone, whatever the answer.
+-- The files after an operation with this reply. A file that was to be closed is gone, whatever the answer.
 abbrev pub files_behind : Do → Reply → List OpenFile → List OpenFile
 files_behind (DoOpenChip slot word) reply files = opened slot (opened_of word reply) files
 files_behind (DoIoctl slot cmd len bytes made) reply files = if nat_eq cmd GET_LINE then made_on made (file_in slot files) (lines_named (buffer_of len bytes)) reply files else files

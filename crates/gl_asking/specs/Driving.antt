@@ -10,7 +10,7 @@ use Rattle.gl_base.specs.declared.operation.Do.TheVariants.{Ioctl as DoIoctl}
 use Rattle.gl_uapi.specs.Command.{command_of, size_of}
 use Rattle.gl_uapi.specs.declared.commands.Command.{Command}
 use Rattle.gl_uapi.specs.declared.commands.Command.TheVariants.{GetLine, SetConfig, GetValues, SetValues}
-use Rattle.gl_model.specs.Asked.{asked_in, lines_asked, request_fault}
+use Rattle.gl_model.specs.AskedLines.{asked_in, lines_asked, request_fault}
 use Rattle.gl_model.specs.Values.{bits_in, mask_in}
 use Rattle.gl_model.specs.declared.device_call.CommandIn.{CommandIn}
 use Rattle.gl_asking.specs.Asking.{buffer_of, lines_named}

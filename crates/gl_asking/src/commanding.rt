@@ -1,7 +1,7 @@
 //! A command on an open file, as it is handed in.
 
 ghost use Rattle.std.specs.Prelude.{◌≡◌, ◌<◌, length, take};
-ghost use Rattle.gl_model.specs.Asked.{lines_asked};
+ghost use Rattle.gl_model.specs.AskedLines.{lines_asked};
 ghost use Rattle.gl_model.specs.Fits.{FitsBytes};
 ghost use Rattle.gl_model.specs.declared.device_call.DeviceCall.TheVariants.{Commanding};
 ghost use Rattle.gl_uapi.specs.declared.layout.TheConstants.{LINE_REQUEST_SIZE};

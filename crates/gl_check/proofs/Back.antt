@@ -8,7 +8,7 @@ use Rattle.gl_base.specs.declared.op.Op.{Op}
 use Rattle.gl_base.specs.declared.operation.Do.{Do}
 use Rattle.gl_base.specs.declared.operation.Got.{Got}
 use Rattle.gl_uapi.specs.Command.{command_of}
-use Rattle.gl_args.specs.Program.{Left, Program, ask, done, given, goes_on, print, waits}
+use Rattle.gl_client.specs.Program.{Left, Program, ask, done, given, goes_on, print, waits}
 use Rattle.gl_world.specs.History.{entry}
 use Rattle.gl_driver.specs.Told.{PortAfter, Told, with_bits, with_call, with_plan}
 use Rattle.gl_model.specs.Entries.{begins, guarded_place, last_call}
@@ -59,7 +59,7 @@ nothing = []
 abbrev exchange : Do → Bool → Option ℕ → List OneDeed → Reply → List ℕ → Exchange
 exchange what closed answer did reply wrote = record { what = what; closed = closed; answer = answer; did = did; reply = reply; wrote = wrote }
 
--- the files stay behind the second entry
+-- the files stay after the second entry
 pub same_files : (next : Call) (b : Bearing) → b.files ≡ (called next b).files
 same_files (Probe label lines kind) b = refl
 same_files (Unplug place last) b = refl
@@ -313,7 +313,7 @@ module _ (n : ℕ) where
             = subst (λ a. IsDone true n a (op_asked r.files what) (exchange what false None [] (Refused errno) []) r.told c.told) (sym is) (record { did = refl; reply_is = refl; bytes_are = refl }, refl) in
             later (got_of what (Refused errno) []) c (nothing_done did what rest (Refused errno) r c text done_so refl so_far.told so_far)
 
-    -- a call of the device was made whole: the talk goes on behind it
+    -- a call of the device was made whole: the talk goes on after it
     call_done : (did made : List OneDeed) (what : Do) (next : Call) (left : Left Names) (b c : Bearing) (text : List ℕ) (at : AtCall did what next left b text) (shut : Bool) (answer : Option ℕ) (reply : Reply) (wrote : List ℕ) (told : Option Told)
         → IsTold told → HasMade true n at.call (op_asked at.carried.files what) (exchange what shut answer made reply wrote) at.carried.told told
         → bearing_by (record { files = files_behind what reply at.carried.files; told = told }) ≡ c
@@ -375,7 +375,7 @@ module _ (n : ℕ) where
         ((λ i. record { files = files_behind what d.entry.reply (same_files next (bearing_by r) i); port = two.bearing i }) ∙ ap (λ (b : Bearing). files_of what d.entry.reply (called next b)) at.at.bearing) in
         subst (λ (l : List OneDeed). IsSeat l (answers what left (called next b) text d)) (sym (append_assoc at.earlier (at.first ∷ []) (d ∷ [])) ∙ ap (λ (l : List OneDeed). l ++ d ∷ []) (sym at.did_is)) whole
 
-    -- a deed that suits, and what is known behind it
+    -- a deed that suits, and what is known after it
     moved_at : (did : List OneDeed) (stand : Stand) (left : Left Names) (b : Bearing) (text : List ℕ) (d : OneDeed) → d.entry.actor ≡ n → Answered d.entry → IsAt did stand left b text → SuitsStand stand b.port d.entry
         → IsSeat (did ++ d ∷ []) (moved_by stand left b text d)
     moved_at did Ended left b text d by answered at suits = absurd suits

@@ -5,7 +5,7 @@ use Rattle.std.proofs.lemmas.Bool.{false≢true, true≢false}
 use Rattle.std.proofs.lemmas.List.{append-nil}
 use mathlib.Core.Logic.{dite}
 use native.Mathlib.Decide.{ℕ_discrete, dec_lt}
-use Rattle.gl_args.specs.Program.{Program, done, goes_on}
+use Rattle.gl_client.specs.Program.{Program, done, goes_on}
 use Rattle.gl_driver.specs.Told.{Told}
 use Rattle.gl_script.specs.Section.{SaidSection}
 use Rattle.gl_talk.specs.Open.{Names}

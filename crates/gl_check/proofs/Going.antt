@@ -5,7 +5,7 @@ use Rattle.gl_base.specs.declared.errno.Errno.{Errno}
 use Rattle.gl_uapi.specs.Command.{size_of}
 use Rattle.gl_uapi.specs.declared.commands.Command.{Command}
 use Rattle.gl_uapi.specs.declared.commands.Command.TheVariants.{GetLine}
-use Rattle.gl_model.specs.Asked.{asked_in, request_fault}
+use Rattle.gl_model.specs.AskedLines.{asked_in, request_fault}
 use Rattle.gl_model.specs.Claiming.{claim}
 use Rattle.gl_model.specs.Entries.{is_go}
 use Rattle.gl_model.specs.Ioctl.{act_on, by_number, checked}

@@ -8,7 +8,7 @@ use Rattle.std.proofs.lemmas.List.{get_or-set_other, get_or-set_same, get_or_app
 use Rattle.std.proofs.lemmas.List.{length-set}
 use Rattle.gl_base.specs.Words.{Span}
 use Rattle.gl_world.specs.Deeds.{deed_in}
-use Rattle.gl_args.specs.Program.{Left, Program, done, given, goes_on, then_left}
+use Rattle.gl_client.specs.Program.{Left, Program, done, given, goes_on, then_left}
 use Rattle.gl_model.specs.Machine.{world_after}
 use Rattle.gl_model.specs.World.{World, opening}
 use Rattle.gl_script.specs.Section.{SaidSection}

@@ -25,7 +25,7 @@ use Rattle.gl_asking.specs.Opened.{place_named, place_or_first}
 use Rattle.gl_attrs.specs.ConfigFault.{config_fault}
 use Rattle.gl_uapi.specs.Fields.{is_zero_at}
 use Rattle.gl_uapi.specs.declared.layout.TheConstants.{REQUEST_PADDING, REQUEST_PADDING_SIZE}
-use Rattle.gl_model.specs.Asked.{asked_in, config_of, header_fault, lines_asked, num_lines, request_fault}
+use Rattle.gl_model.specs.AskedLines.{asked_in, config_of, header_fault, lines_asked, num_lines, request_fault}
 use Rattle.gl_model.specs.Bounds.{HasBounds}
 use Rattle.gl_model.specs.Claiming.{claim, claim_at, claim_by, claim_number, told_claim}
 use Rattle.gl_model.specs.Chips.{phase_at}

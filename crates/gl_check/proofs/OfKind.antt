@@ -13,7 +13,7 @@ use Rattle.gl_talk.specs.Over.{columns_in}
 use Rattle.gl_check.specs.One.{is_kind, said_in_kind}
 use Rattle.gl_check.specs.Sections.{said_at, said_of}
 
--- The statements of a kind from one section on are those of this section, and those of the sections behind it.
+-- The statements of a kind from one section on are those of this section, and those of the sections after it.
 first_of_kind : (kind : SectionKind) (section : SaidSection) (rest : List SaidSection) → said_in_kind kind (section ∷ rest) ≡ said_of kind (Some section) ++ said_in_kind kind rest
 first_of_kind kind section rest = by (is_kind kind section.kind)
   where

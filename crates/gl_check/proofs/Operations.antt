@@ -14,7 +14,7 @@ use Rattle.gl_base.specs.declared.operation.Do.TheVariants.{Probe as DoProbe, Un
 use Rattle.gl_uapi.specs.Command.{command_of, size_of}
 use Rattle.gl_uapi.specs.declared.commands.Command.{Command}
 use Rattle.gl_uapi.specs.declared.commands.Command.TheVariants.{ChipInfo, LineInfo, Watch, Unwatch, GetLine, SetConfig, GetValues, SetValues}
-use Rattle.gl_model.specs.Asked.{asked_in, lines_asked, request_fault}
+use Rattle.gl_model.specs.AskedLines.{asked_in, lines_asked, request_fault}
 use Rattle.gl_model.specs.Entries.{is_go}
 use Rattle.gl_model.specs.Machine.{reply_of}
 use Rattle.gl_model.specs.Parts.{device_has, in_ask, is_driver_asked}
@@ -91,46 +91,46 @@ has_op lines of_chip len (Some SetConfig) bytes asked go = (_, refl)
 has_op lines of_chip len (Some GetValues) bytes asked go = (_, refl)
 has_op lines of_chip len (Some SetValues) bytes asked go = (_, refl)
 
-abbrev Asked : ℕ → Option Op → DeviceCall → Type 0
-Asked n op call = (device_has call ≡ true) × AsksOp n op call × HasBits op call
+abbrev AsksAsSaid : ℕ → Option Op → DeviceCall → Type 0
+AsksAsSaid n op call = (device_has call ≡ true) × AsksOp n op call × HasBits op call
 
-chosen : (n : ℕ) (op : Option Op) (call : DeviceCall) (errno : Errno) (b : Bool) → Asked n op call → ForCall (Asked n op) (if b then Calls call else Refuses errno)
+chosen : (n : ℕ) (op : Option Op) (call : DeviceCall) (errno : Errno) (b : Bool) → AsksAsSaid n op call → ForCall (AsksAsSaid n op) (if b then Calls call else Refuses errno)
 chosen n op call errno true asked = asked
 chosen n op call errno false asked = tt
 
-read_asks : (n : ℕ) (op : Option Op) (len : ℕ) (file : OpenFile) (of_chip : Bool) → ForCall (Asked n op) (once (if of_chip then ReadInfo file.place file.fd len else ReadEdges file.place file.fd len))
+read_asks : (n : ℕ) (op : Option Op) (len : ℕ) (file : OpenFile) (of_chip : Bool) → ForCall (AsksAsSaid n op) (once (if of_chip then ReadInfo file.place file.fd len else ReadEdges file.place file.fd len))
 read_asks n op len file true = (refl, tt, tt)
 read_asks n op len file false = (refl, tt, tt)
 
-read_on : (n : ℕ) (op : Option Op) (len : ℕ) (o : Option OpenFile) → ForCall (Asked n op) (on_file o (λ file. once (reads_from len file)))
+read_on : (n : ℕ) (op : Option Op) (len : ℕ) (o : Option OpenFile) → ForCall (AsksAsSaid n op) (on_file o (λ file. once (reads_from len file)))
 read_on n op len None = tt
 read_on n op len (Some file) = read_asks n op len file file.of_chip
 
-poll_asks : (n : ℕ) (op : Option Op) (file : OpenFile) (of_chip : Bool) → ForCall (Asked n op) (once (if of_chip then PollChip file.place file.fd else PollLine file.place file.fd))
+poll_asks : (n : ℕ) (op : Option Op) (file : OpenFile) (of_chip : Bool) → ForCall (AsksAsSaid n op) (once (if of_chip then PollChip file.place file.fd else PollLine file.place file.fd))
 poll_asks n op file true = (refl, tt, tt)
 poll_asks n op file false = (refl, tt, tt)
 
-poll_on : (n : ℕ) (op : Option Op) (o : Option OpenFile) → ForCall (Asked n op) (on_file o (λ file. once (polls file)))
+poll_on : (n : ℕ) (op : Option Op) (o : Option OpenFile) → ForCall (AsksAsSaid n op) (on_file o (λ file. once (polls file)))
 poll_on n op None = tt
 poll_on n op (Some file) = poll_asks n op file file.of_chip
 
-close_on : (n : ℕ) (op : Option Op) (o : Option OpenFile) → ForCall (Asked n op) (on_file o (λ file. once (Close file.fd)))
+close_on : (n : ℕ) (op : Option Op) (o : Option OpenFile) → ForCall (AsksAsSaid n op) (on_file o (λ file. once (Close file.fd)))
 close_on n op None = tt
 close_on n op (Some file) = (refl, tt, tt)
 
-find_on : (n : ℕ) (op : Option Op) (name : List ℕ) (o : Option OpenFile) → ForCall (Asked n op) (on_file o (λ file. once (Find (Some file.place) name)))
+find_on : (n : ℕ) (op : Option Op) (name : List ℕ) (o : Option OpenFile) → ForCall (AsksAsSaid n op) (on_file o (λ file. once (Find (Some file.place) name)))
 find_on n op name None = tt
 find_on n op name (Some file) = (refl, tt, tt)
 
-find_asks : (n : ℕ) (op : Option Op) (slot : Option ℕ) (name : List ℕ) (files : List OpenFile) → ForCall (Asked n op) (finds slot name files)
+find_asks : (n : ℕ) (op : Option Op) (slot : Option ℕ) (name : List ℕ) (files : List OpenFile) → ForCall (AsksAsSaid n op) (finds slot name files)
 find_asks n op None name files = (refl, tt, tt)
 find_asks n op (Some slot) name files = find_on n op name (file_in slot files)
 
-live_asks : (n : ℕ) (op : Option Op) (device : List ℕ) (up : Bool) → ForCall (Asked n op) (lives device up)
+live_asks : (n : ℕ) (op : Option Op) (device : List ℕ) (up : Bool) → ForCall (AsksAsSaid n op) (lives device up)
 live_asks n op device true = (refl, tt, tt)
 live_asks n op device false = (refl, tt, tt)
 
-command_asks : (n cmd : ℕ) (buffer : List ℕ) (o : Option OpenFile) → ForCall (Asked n (op_on o cmd buffer)) (on_file o (λ file. Calls (Commanding (command_in file.place file.fd file.of_chip cmd buffer))))
+command_asks : (n cmd : ℕ) (buffer : List ℕ) (o : Option OpenFile) → ForCall (AsksAsSaid n (op_on o cmd buffer)) (on_file o (λ file. Calls (Commanding (command_in file.place file.fd file.of_chip cmd buffer))))
 command_asks n cmd buffer None = tt
 command_asks n cmd buffer (Some file) =
     let c : CommandIn = command_in file.place file.fd file.of_chip cmd buffer in (
@@ -140,7 +140,7 @@ command_asks n cmd buffer (Some file) =
       command_bits (lines_by file.of_chip file.lines buffer) (command_of c.cmd) c.bytes,
     )
 
-all_ask : (n : ℕ) (files : List OpenFile) (what : Do) → ForCall (Asked n (op_asked files what)) (asking files what)
+all_ask : (n : ℕ) (files : List OpenFile) (what : Do) → ForCall (AsksAsSaid n (op_asked files what)) (asking files what)
 all_ask n files (DoProbe label lines) = chosen n None _ _ (has_lines lines) (refl, tt, tt)
 all_ask n files (DoUnplug place) = chosen n None _ _ (nat_lt place PLACES) (refl, tt, tt)
 all_ask n files (DoMakeDir path) = (refl, tt, tt)
@@ -162,8 +162,8 @@ all_ask n files (DoClose slot) = close_on n None (file_in slot files)
 all_ask n files (Plan nth) = tt
 all_ask n files (Accept bits) = tt
 
-asked_call : (n : ℕ) (files : List OpenFile) (what : Do) (call : DeviceCall) → asking files what ≡ Calls call → Asked n (op_asked files what) call
-asked_call n files what call is = subst (λ (x : Asking). ForCall (Asked n (op_asked files what)) x) is (all_ask n files what)
+asked_call : (n : ℕ) (files : List OpenFile) (what : Do) (call : DeviceCall) → asking files what ≡ Calls call → AsksAsSaid n (op_asked files what) call
+asked_call n files what call is = subst (λ (x : Asking). ForCall (AsksAsSaid n (op_asked files what)) x) is (all_ask n files what)
 
 -- of the call that an operation is
 pub has_call : (files : List OpenFile) (what : Do) (call : DeviceCall) → asking files what ≡ Calls call → device_has call ≡ true
@@ -176,4 +176,4 @@ pub has_bits : (files : List OpenFile) (what : Do) (call : DeviceCall) → askin
 has_bits files what call is = (asked_call 0 files what call is).2
 
 pub all_have_bits : (files : List OpenFile) (what : Do) → ForCall (HasBits (op_asked files what)) (asking files what)
-all_have_bits files what = for_call (Asked 0 (op_asked files what)) (HasBits (op_asked files what)) (λ call asked. asked.2) (asking files what) (all_ask 0 files what)
+all_have_bits files what = for_call (AsksAsSaid 0 (op_asked files what)) (HasBits (op_asked files what)) (λ call asked. asked.2) (asking files what) (all_ask 0 files what)

@@ -165,7 +165,7 @@ module _ (sections : List SaidSection) where
   early_by false zero d w c e is may = ((refl, refl, refl, refl), may)
   early_by false (suc k) d w c e is may = absurd may
 
-  -- an entry behind `setup`: one of `after`, or of a further actor
+  -- an entry after `setup`: one of `after`, or of a further actor
   pub record OfLast (b : Bool) (k : ℕ) (d : OneDeed) (w : World) (c : Moment) (e : OneEntry) : Type 0 where
     pub zero_is : k ≡ 0
     pub ended : all_ended (actors_in sections) c.others ≡ true

@@ -1,4 +1,4 @@
--- A history, an entry at a time, and what was printed behind it.
+-- A history, an entry at a time, and what was printed after it.
 use Rattle.std.proofs.Common.{◌≡◌, ◌⊎◌, inl, inr, ℕ, zero, suc, ◌+◌, ◌<◌, ◌≤◌, ◌^◌, Bool, true, false, List, [], ◌∷◌, ◌++◌, length, map, take, get_or, Option, None, Some, refl, sym, ap, ◌∙◌, subst, arith}
 use Rattle.std.specs.Bool.{Decides}
 use Rattle.std.proofs.Math.Seq.{take-length}
@@ -19,7 +19,7 @@ module _ (sections : List SaidSection) where
   abbrev start : Moment
   start = beginning sections
 
-  -- the moment behind the entries so far
+  -- the moment after the entries so far
   abbrev pub so_far : List OneEntry → ℕ → Moment
   so_far history i = behind sections start (take i history)
 

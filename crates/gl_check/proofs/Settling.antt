@@ -1,12 +1,12 @@
--- How an actor goes on: what it does next, and what comes behind its statements.
+-- How an actor goes on: what it does next, and what comes after its statements.
 use Rattle.std.proofs.Common.{◌≡◌, ℕ, ◌+◌, ◌<◌, ◌≤◌, Bool, true, false, List, [], ◌∷◌, ◌++◌, length, map, drop, drop_of_length-le, get_or, Option, None, Some, refl, sym, ap, ◌∙◌, subst, arith}
 use Rattle.std.specs.Prelude.{if◌then◌else◌}
 use Rattle.std.proofs.lemmas.List.{drop_more, get_or-map, length-map}
 use Rattle.gl_base.specs.Words.{Span}
 use Rattle.gl_base.specs.declared.operation.Do.{Do}
 use Rattle.gl_base.specs.declared.operation.Got.{Got}
-use Rattle.gl_args.specs.Program.{Goes, Left, Program, ask, done, given, goes_on, print, then_by, then_left, waits}
-use Rattle.gl_args.specs.declared.next.Next.TheVariants.{Call, Print}
+use Rattle.gl_client.specs.Program.{Goes, Left, Program, ask, done, given, goes_on, print, then_by, then_left, waits}
+use Rattle.gl_client.specs.declared.next.Next.TheVariants.{Call, Print}
 use Rattle.gl_model.specs.Entries.{begins}
 use Rattle.gl_model.specs.declared.call.Call.{Call as CallOf}
 use Rattle.gl_script.specs.Columns.{columns}
@@ -32,13 +32,13 @@ pub settles_call : (p : Program Names) (what : Do) (l : Left Names) (b : Bearing
 settles_call p what (waits rest) b t is = ap (λ (q : Program Names). settles q b t) (sym is)
 settles_call p what (goes_on q) b t is = absurd is
 
--- nothing comes behind
+-- nothing comes after
 pub then_nothing : {A : Type 0} (p : Program A) → then_by p done ≡ p
 then_nothing (done value) = refl
 then_nothing (print text p) = ap (print text) (then_nothing p)
 then_nothing (ask what p) = λ i. ask what (λ got. then_nothing (p got) i)
 
--- the words of a statement and of those behind it
+-- the words of a statement and of those after it
 pub words_from : (statements : List Statement) (n : ℕ) (statement : Statement) → n < length statements → statement ≡ get_or statements n statement
     → drop n (map columns_in statements) ≡ columns_in statement ∷ drop (n + 1) (map columns_in statements)
 words_from statements n statement lt is =
@@ -69,7 +69,7 @@ quit_left quit statements talk closes before begun names quits_so closing unclos
     ∙ ap goes_on (then_nothing (quits names))
     ∙ ap (λ (x : Bool × Bool × List (List Span)). goes_on (comes_behind x.0 x.1 begun x.2 names)) (λ i. (sym unclosed i, sym quits_so i, sym none i))
 
--- nothing comes behind the last statement
+-- nothing comes after the last statement
 pub none_left : (quit closes : Bool) (begun : ℕ) (statements : List (List Span)) (names : Names) → quit ≡ false → closes ≡ false → drop begun statements ≡ [] → comes_behind closes quit begun (drop begun statements) names ≡ done names
 none_left quit closes begun statements names stays unclosed none = ap (λ (x : Bool × Bool × List (List Span)). comes_behind x.0 x.1 begun x.2 names) (λ i. (unclosed i, stays i, none i))
 
@@ -81,7 +81,7 @@ pub started : (quit : Bool) (statements : List (List Span)) (talk : Talk) → le
 started quit statements talk rests new =
     ap (λ (x : Left Names × ℕ). given (then_left x.0 (comes_behind false quit x.1 (drop x.1 statements))) None) (λ i. (rests i, new i))
 
--- where nothing is left of a statement, what is left comes behind it
+-- where nothing is left of a statement, what is left comes after it
 pub rests_left : (quit : Bool) (statements : List (List Span)) (talk : Talk) (closes : Bool) (names : Names) → left talk ≡ goes_on (done names)
     → left_by quit statements talk closes ≡ goes_on (comes_behind closes quit talk.begun (drop talk.begun statements) names)
 rests_left quit statements talk closes names rests = ap (λ (l : Left Names). then_left l (comes_behind closes quit talk.begun (drop talk.begun statements))) rests
@@ -103,7 +103,7 @@ moved_second s what first d is = ap (λ (stand : Stand). moved_by stand s.left s
 pub moved_ended : (s : Seat) (d : OneDeed) → s.stand ≡ Ended → moved s d ≡ s
 moved_ended s d is = ap (λ (stand : Stand). moved_by stand s.left s.bearing s.text d) is ∙ ap (λ (stand : Stand). seat stand s.left s.bearing s.text) (sym is)
 
--- the words of a line and of the statements behind it
+-- the words of a line and of the statements after it
 pub words_line : (statements : List Statement) (n : ℕ) (d : Statement) (line : List ℕ) → n < length statements → line ≡ (get_or statements n d).line.now
     → drop n (map columns_in statements) ≡ columns line ∷ drop (n + 1) (map columns_in statements)
 words_line statements n d line lt is =

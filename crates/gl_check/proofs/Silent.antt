@@ -3,7 +3,7 @@ use Rattle.std.proofs.Common.{ℕ, ◌+◌, Bool, false, List, [], ◌∷◌, �
 use Rattle.std.proofs.lemmas.Bool.{false≢true}
 use Rattle.gl_world.specs.Deeds.{deeds_from, deeds_of, entries_in}
 use Rattle.gl_world.specs.History.{fold}
-use Rattle.gl_args.specs.Program.{Program, done}
+use Rattle.gl_client.specs.Program.{Program, done}
 use Rattle.gl_driver.specs.Told.{PortAfter, Told}
 use Rattle.gl_base.specs.declared.op.Op.{Op}
 use Rattle.gl_script.specs.Section.{SaidSection}

@@ -9,7 +9,7 @@ use Rattle.gl_base.specs.declared.op.Op.{Op}
 use Rattle.gl_base.specs.declared.operation.Do.{Do}
 use Rattle.gl_base.specs.declared.operation.Got.{Got}
 use Rattle.gl_uapi.specs.Command.{command_of}
-use Rattle.gl_args.specs.Program.{Program, ask, done, goes_on, waits}
+use Rattle.gl_client.specs.Program.{Program, ask, done, goes_on, waits}
 use Rattle.gl_world.specs.Deeds.{entries_in}
 use Rattle.gl_world.specs.History.{entry}
 use Rattle.gl_driver.specs.Told.{PortAfter, Told, planned_for, with_bits, with_call, with_plan}
@@ -72,17 +72,17 @@ pub told_by_call : (op : Op) (answer : Option ℕ) (told : Option Told) → IsTo
 told_by_call op answer (Some t) h = tt
 told_by_call op answer None h = h
 
--- behind a plan
+-- after a plan
 pub planned_port : (nth : ℕ) (told : Option Told) → IsTold told → port_by (with_plan nth told) ≡ from_plan.planned nth (port_by told)
 planned_port nth (Some t) h = refl
 planned_port nth None h = absurd h
 
--- behind accepted bits
+-- after accepted bits
 pub accepted_port : (bits : ℕ) (told : Option Told) → IsTold told → port_by (with_bits bits told) ≡ from_plan.accepted bits (port_by told)
 accepted_port bits (Some t) h = refl
 accepted_port bits None h = absurd h
 
--- behind a call
+-- after a call
 pub called_port : (op : Op) (answer : Option ℕ) (told : Option Told) → IsTold told → port_by (with_call op answer told) ≡ after_answer (port_by told)
 called_port op answer (Some t) h = refl
 called_port op answer None h = absurd h
@@ -174,7 +174,7 @@ pub passes_on : (ds es : List OneDeed) (s t u : Seat) → Passes s ds t → Pass
 passes_on [] es s t u first later = subst (λ (s : Seat). Passes s es u) (sym first) later
 passes_on (d ∷ ds) es s t u first later = (first.0, passes_on ds es (moved s d) t u first.1 later)
 
--- the files behind an operation, with this port
+-- the files after an operation, with this port
 abbrev pub files_of : Do → Reply → Bearing → Bearing
 files_of what reply b = record { files = files_behind what reply b.files; port = b.port }
 

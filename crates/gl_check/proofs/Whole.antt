@@ -4,7 +4,7 @@ use Rattle.std.specs.Prelude.{cond}
 use Rattle.std.proofs.lemmas.List.{append_assoc}
 use mathlib.Core.Logic.{dite}
 use native.Mathlib.Decide.{dec_lt}
-use Rattle.gl_args.specs.Program.{Program, done, goes_on}
+use Rattle.gl_client.specs.Program.{Program, done, goes_on}
 use Rattle.gl_driver.specs.Told.{Told}
 use Rattle.gl_script.specs.Section.{SaidSection}
 use Rattle.gl_talk.specs.Open.{Names}
@@ -101,7 +101,7 @@ module _ (sections : List SaidSection) where
         fit = more.fit;
       }
 
-  -- what stands behind the middle is of `after` alone
+  -- what stands after the middle is of `after` alone
   pub record Last (c : Moment) (es : List OneEntry) : Type 0 where
     pub alone : (n : ℕ) → 1 ≤ n → entries_of n es ≡ []
     pub passes : Passes (last_of sections c) (deeds_from core c.world 0 es) (last_of sections (behind sections c es))

@@ -38,7 +38,7 @@ pub actors_from : (sections : List SaidSection) (i : ℕ) (told : Bool) → i < 
     → actor_sections (drop i sections) ≡ from_one told (get_or sections i no_section) (drop (i + 1) sections)
 actors_from sections i told lt is = ap actor_sections (drop_more sections i no_section lt) ∙ ap (λ b. from_one b (get_or sections i no_section) (drop (i + 1) sections)) (sym is)
 
--- the section behind a head
+-- the section after a head
 module _ (sections : List SaidSection) (i : ℕ) (told : Bool) (head : Option SaidHead) (there : i < length sections) (is : told ≡ is_actor_head head) (at : head ≡ head_at i sections) where
   from_here : (b : Bool) → told ≡ b → actor_sections (drop i sections) ≡ from_one b (get_or sections i no_section) (drop (i + 1) sections)
   from_here b same = actors_from sections i told there (actor_head sections i head told there is at) ∙ ap (λ x. from_one x (get_or sections i no_section) (drop (i + 1) sections)) same

@@ -48,7 +48,7 @@ module _ (sections : List SaidSection) where
     pub as_many : length j.others.items ≡ actors_in sections
     pub beyond : (n : ℕ) → actors_in sections < n → is_ended (c.others n).stand ≡ true
 
-  -- whether an entry fits; and where it does, the judge stands for the moment behind it
+  -- whether an entry fits; and where it does, the judge stands for the moment after it
   pub record IsTaken (e : OneEntry) (c : Moment) (good : Bool) (k : Judge) : Type 0 where
     pub fits : Decides good (FitsIn sections c e)
     pub goes : good ≡ true → Judges k (after_entry sections c e)

@@ -1,11 +1,11 @@
 -- Many: what a session with two or more actors did, by its history and its texts. Each actor carries its section out as a talk of
 -- its own; the history has its entries in order, with other actors' between them. Actor 0 has `setup` in front of all other
--- actors' entries, and `after` behind them. This project's choice.
+-- actors' entries, and `after` after them. This project's choice.
 use Rattle.std.specs.Prelude.{◌≡◌, ℕ, ◌+◌, ◌-◌, ◌<◌, ◌≤◌, Bool, true, false, if◌then◌else◌, List, [], ◌∷◌, ◌++◌, length, map, get_or, Option, Some, None}
 use Rattle.gl_base.specs.Words.{Span}
 use Rattle.gl_world.specs.Deeds.{deeds_from, deeds_of}
 use Rattle.gl_world.specs.History.{Legal, entries_of, fold}
-use Rattle.gl_args.specs.Program.{Program}
+use Rattle.gl_client.specs.Program.{Program}
 use Rattle.gl_driver.specs.Told.{Told, new_port}
 use Rattle.gl_script.specs.Columns.{columns}
 use Rattle.gl_script.specs.Section.{SaidSection}

@@ -1,7 +1,7 @@
--- Where a history stops being that of a session: its first entry that isn't legal behind those before it, or isn't the next one of its
+-- Where a history stops being that of a session: its first entry that isn't legal after those before it, or isn't the next one of its
 -- actor, or comes before its actor's turn. A planned driver with new ports gave the answers. This project's choice.
 use Rattle.std.specs.Prelude.{◌≡◌, ◌⊎◌, ℕ, zero, suc, ◌+◌, ◌<◌, ◌==◌, Bool, true, false, ◌&&◌, cond, List, [], ◌∷◌, length, take, Option, Some, None}
-use Rattle.gl_args.specs.Program.{Left, Program, ask, done, goes_on, print, waits}
+use Rattle.gl_client.specs.Program.{Left, Program, ask, done, goes_on, print, waits}
 use Rattle.gl_world.specs.Deeds.{deed_in}
 use Rattle.gl_script.specs.Section.{SaidSection}
 use Rattle.gl_model.specs.Machine.{world_after}
@@ -88,7 +88,7 @@ module _ (sections : List SaidSection) where
   after_by true zero d w c = record { world = w; setup = c.setup; last = Some (moved (last_of c) d); others = c.others }
   after_by _ (suc n) d w c = record { world = w; setup = c.setup; last = c.last; others = with_other (suc n) (moved (c.others (suc n)) d) c.others }
 
-  -- how the session stands behind an entry that fits
+  -- how the session stands after an entry that fits
   abbrev pub after_entry : Moment → OneEntry → Moment
   after_entry c e = after_by (is_ended c.setup.stand) e.actor (deed_in core c.world e) (world_after c.world e.actor e.call) c
 

@@ -10,7 +10,7 @@ use Rattle.gl_base.specs.declared.operation.Got.{Got}
 use Rattle.gl_base.specs.declared.phase.Phase.{Phase}
 use Rattle.gl_base.specs.declared.phase.Phase.TheVariants.{Absent, Up, Leaving, Gone}
 use Rattle.gl_uapi.specs.Command.{command_of}
-use Rattle.gl_args.specs.Program.{Program, done, print, ask}
+use Rattle.gl_client.specs.Program.{Program, done, print, ask}
 use Rattle.gl_driver.specs.Told.{Told, new_port, with_bits, with_call, with_plan}
 use Rattle.gl_base.specs.declared.op.Op.{Op}
 use Rattle.gl_script.specs.Columns.{columns}
@@ -91,8 +91,8 @@ is_asked w (Removing removal) = false
 is_asked w (Commanding c) = is_driver_asked c.of_chip c.len (command_of c.cmd)
     && (not (is_gone (phase_at w c.place)) && goes_on w (in_ask c))
 
--- Where a driver's answers come from: what it answers next to what it is asked, what is left behind such an answer, behind a plan of its
--- port, and behind bits that its port accepted.
+-- Where a driver's answers come from: what it answers next to what it is asked, what is left after such an answer, after a plan of its
+-- port, and after bits that its port accepted.
 pub record Answers (X : Type 0) : Type 0 where
   pub next : Option Op → X → Option ℕ
   pub behind : Option Op → X → X
@@ -187,7 +187,7 @@ module _ {X : Type 0} (answers : Answers X) where
   abbrev pub came_to : Do → Outcome → Standing X → Got × Standing X
   came_to what out s = answered what out.reply out.bytes (record s { world = out.world })
 
-  -- an operation, and how the session stands behind it
+  -- an operation, and how the session stands after it
   abbrev pub performs_as : Asking → Option Op → Do → Standing X → Got × Standing X
   performs_as (Calls call) op what s =
       came_to what (comes_to s.world call (answers.next op s.source)) (with_entries (entry_count s.world call) (with_answer op (is_asked s.world call) s))
@@ -248,7 +248,7 @@ taken sections answers = (run_session from_list sections answers).behind.took
 abbrev pub entries_made : List SaidSection → List (Option ℕ) → ℕ
 entries_made sections answers = (run_session from_list sections answers).behind.entries
 
--- what a port tells behind a session over answers of its driver, by what it told before: all that statements and calls make of it
+-- what a port tells after a session over answers of its driver, by what it told before: all that statements and calls make of it
 abbrev pub told_behind : List SaidSection → List (Option ℕ) → Option Told → Option Told
 told_behind sections answers before = (run_session from_port sections (record { left = answers; told = before })).behind.source.told
 

@@ -1,4 +1,4 @@
--- What a planned driver answers next through a port, and what its port is behind that answer. This project's choice.
+-- What a planned driver answers next through a port, and what its port is after that answer. This project's choice.
 use Rattle.std.specs.Prelude.{ℕ, Bool, true, false, if◌then◌else◌, Option, Some, None}
 use Rattle.gl_base.specs.Count.{counted_up}
 use Rattle.gl_base.specs.Planned.{planned_answer}

@@ -1,6 +1,6 @@
 -- What actors carry out: the programs of a session's parts. This project's choice.
 use Rattle.std.specs.Prelude.{List, length}
-use Rattle.gl_args.specs.Program.{Program, done}
+use Rattle.gl_client.specs.Program.{Program, done}
 use Rattle.gl_script.specs.Section.{SaidSection}
 use Rattle.gl_script.specs.declared.section.SectionKind.TheVariants.{Setup, Actor, After}
 use Rattle.gl_talk.specs.Open.{Names, no_names}

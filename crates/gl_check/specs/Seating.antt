@@ -7,7 +7,7 @@ use Rattle.gl_base.specs.declared.command.TheConstants.{GET_LINE}
 use Rattle.gl_base.specs.declared.operation.Do.{Do}
 use Rattle.gl_base.specs.declared.operation.Do.TheVariants.{Ioctl}
 use Rattle.gl_base.specs.declared.operation.Got.{Got}
-use Rattle.gl_args.specs.Program.{Left, done, given, goes_on, then_left}
+use Rattle.gl_client.specs.Program.{Left, done, given, goes_on, then_left}
 use Rattle.gl_model.specs.Entries.{begins}
 use Rattle.gl_model.specs.declared.call.Call.{Call}
 use Rattle.gl_model.specs.declared.device_call.DeviceCall.{DeviceCall}
@@ -23,8 +23,8 @@ use Rattle.gl_asking.specs.declared.kinds.Asking.TheVariants.{Calls}
 use Rattle.gl_asking.specs.declared.kinds.FileRow.{FileRow}
 use Rattle.gl_check.specs.One.{PlannedPort}
 use Rattle.gl_check.specs.Seats.{Bearing, Seat as SeatOf, first_inside, is_ended, seat, settles}
-use Rattle.gl_check.specs.declared.asked.Asked.{Asked}
-use Rattle.gl_check.specs.declared.asked.Asked.TheVariants.{Done, Calls as CallsFirst}
+use Rattle.gl_check.specs.declared.started.Started.{Started}
+use Rattle.gl_check.specs.declared.started.Started.TheVariants.{Done, Calls as CallsFirst}
 use Rattle.gl_check.specs.declared.port.Planned.{Planned}
 use Rattle.gl_check.specs.declared.seat.Seat.{Seat}
 use Rattle.gl_check.specs.declared.stand.Stand.{Stand}
@@ -38,7 +38,7 @@ port_in port = record { calls = port.calls; plan = port.plan; bits = port.bits }
 abbrev pub bearing_by : List FileRow → Planned → Bearing
 bearing_by rows port = record { files = map row_file rows; port = port_in port }
 
--- What comes behind the statement that is under way: the statements behind it, and behind these the closing of what is open, where the
+-- What comes after the statement that is under way: the statements after it, and after these the closing of what is open, where the
 -- actor quits at its end. Once it closes, nothing.
 abbrev pub comes_behind : Bool → Bool → ℕ → List (List Span) → Names → Does
 comes_behind true quit begun statements = done
@@ -76,7 +76,7 @@ IsAskedAt Ended = Unit {0}
 IsAskedAt (Before what first) = IsAsked what first
 IsAskedAt (Between what first) = IsAsked what first × NamesLines what
 
--- what is known of an entry that suits an actor which stands so: where it begins a call of the device, of the stand behind it; else that
+-- what is known of an entry that suits an actor which stands so: where it begins a call of the device, of the stand after it; else that
 -- its reply opens files as replies do
 abbrev pub OpensBefore : Bool → Do → Call → OneEntry → Type 0
 OpensBefore true what first e = NamesLines what
@@ -94,11 +94,11 @@ IsFilledAt (Before what first) wrote buffer = IsFilled what wrote buffer
 IsFilledAt (Between what first) wrote buffer = IsFilled what wrote buffer
 
 -- an operation that is asked for: it is done at once, with this result; or the actor stands before its first entry
-abbrev pub goes_as : Asked → Do → Left Names → Bearing → List ℕ → (Got → Bearing → SeatOf) → SeatOf
+abbrev pub goes_as : Started → Do → Left Names → Bearing → List ℕ → (Got → Bearing → SeatOf) → SeatOf
 goes_as (Done got) what l b text on = on got b
 goes_as (CallsFirst first) what l b text on = seat (Before what first) l b text
 
-abbrev pub IsAskedAs : Do → Asked → Type 0
+abbrev pub IsAskedAs : Do → Started → Type 0
 IsAskedAs what (Done got) = Unit {0}
 IsAskedAs what (CallsFirst first) = IsAsked what first
 

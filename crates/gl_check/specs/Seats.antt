@@ -4,7 +4,7 @@ use Rattle.std.specs.Prelude.{◌≡◌, ℕ, Bool, true, false, if◌then◌els
 use Rattle.gl_base.specs.declared.operation.Do.{Do}
 use Rattle.gl_base.specs.declared.operation.Got.{Got}
 use Rattle.gl_uapi.specs.Command.{command_of}
-use Rattle.gl_args.specs.Program.{Left, Program, ask, done, given, goes_on, print, waits}
+use Rattle.gl_client.specs.Program.{Left, Program, ask, done, given, goes_on, print, waits}
 use Rattle.gl_model.specs.Entries.{begins, guarded_place, last_call}
 use Rattle.gl_model.specs.Parts.{first_call, in_ask, in_whole, is_driver_asked, is_poll}
 use Rattle.gl_model.specs.Step.{guard_reply}
@@ -70,12 +70,12 @@ abbrev pub SuitsFirst : Bool → Call → OneEntry → Type 0
 SuitsFirst true first e = IsRefusedAt (guarded_place first) (is_poll (Once first)) e
 SuitsFirst false first e = e.call ≡ first
 
--- the second entry's call behind a first one that begins: a removal's last call, or a tell of what a planned driver answers
+-- the second entry's call after a first one that begins: a removal's last call, or a tell of what a planned driver answers
 abbrev pub second_of : Call → PlannedPort → Call
 second_of (Ioctl place fd cmd len bytes part) port = Ioctl place fd cmd len bytes (Tell (next_answer (applies (command_of cmd)) port))
 second_of call port = last_call call
 
--- behind the second entry: a tell is one more call through the port
+-- after the second entry: a tell is one more call through the port
 abbrev pub called : Call → Bearing → Bearing
 called (Ioctl place fd cmd len bytes part) b = record b { port = after_answer b.port }
 called _ b = b
@@ -116,7 +116,7 @@ moved_by Ended left b text d = seat Ended left b text
 moved_by (Before what first) left b text d = if begins d.entry.call d.entry.reply then seat (Between what first) left b text else answers what left b text d
 moved_by (Between what first) left b text d = answers what left (called first b) text d
 
--- how an actor stands behind a deed of its own
+-- how an actor stands after a deed of its own
 abbrev pub moved : Seat → OneDeed → Seat
 moved s d = moved_by s.stand s.left s.bearing s.text d
 

@@ -2,7 +2,7 @@
 use Rattle.std.specs.Prelude.{◌≡◌, ℕ, List, [], ◌∷◌, Option, Some, None}
 use Rattle.gl_base.specs.Count.{counted_up}
 use Rattle.gl_driver.specs.Told.{Told}
-use Rattle.gl_driver.specs.declared.op.Asked.{Asked}
+use Rattle.gl_driver.specs.declared.op.DriverCall.{DriverCall}
 
 -- how many calls went through a port after so many answers more
 abbrev pub calls_after : ℕ → List (Option ℕ) → ℕ
@@ -10,7 +10,7 @@ calls_after calls [] = calls
 calls_after calls (answer ∷ answers) = calls_after (counted_up calls) answers
 
 -- the answer of a port's last call
-abbrev pub answered_last : Option Asked → Option (Option ℕ)
+abbrev pub answered_last : Option DriverCall → Option (Option ℕ)
 answered_last None = None
 answered_last (Some asked) = Some asked.answer
 

@@ -4,7 +4,7 @@ use Rattle.std.specs.Prelude.{◌≡◌, ℕ, Bool, List, [], ◌∷◌, ◌++�
 use Rattle.gl_base.specs.declared.operation.Do.{Do}
 use Rattle.gl_base.specs.declared.operation.Got.{Got}
 use Rattle.gl_world.specs.Deeds.{entries_in}
-use Rattle.gl_args.specs.Program.{Program, done, print, ask}
+use Rattle.gl_client.specs.Program.{Program, done, print, ask}
 use Rattle.gl_driver.specs.Told.{PortAfter, Told, with_bits, with_plan}
 use Rattle.gl_base.specs.declared.op.Op.{Op}
 use Rattle.gl_model.specs.declared.device_call.DeviceCall.{DeviceCall}
@@ -78,12 +78,12 @@ did_by (Said text ∷ turns) = did_by turns
 did_by (Did e ∷ turns) = e.did ++ did_by turns
 
 module _ {A : Type 0} (is_planned : Bool) (actor : ℕ) where
-  -- what is left of a program behind a turn
+  -- what is left of a program after a turn
   abbrev pub Takes : Program A → Carried → Turn → Program A → Carried → Type 0
   Takes p s (Said text) q r = (p ≡ print text q) × (r ≡ s)
   Takes p s (Did e) q r = (rest : Got → Program A) × (p ≡ ask e.what rest) × (q ≡ rest (got_of e.what e.reply e.wrote)) × Carries is_planned actor s e r
 
-  -- and behind turns, one after another
+  -- and after turns, one after another
   abbrev pub Follows : Program A → Carried → List Turn → Program A → Carried → Type 0
   Follows p s [] q r = (p ≡ q) × (s ≡ r)
   Follows p s (turn ∷ turns) q r = (next : Program A) × (then : Carried) × Takes p s turn next then × Follows next then turns q r

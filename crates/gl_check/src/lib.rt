@@ -1,7 +1,6 @@
 //! What a session does, by its sections and its history alone: who ran it, and by what code, is not said.
 #![tactic(auto)]
 
-mod asked;
 mod buffers;
 mod judge;
 pub mod laws;
@@ -13,6 +12,7 @@ mod seat;
 mod sections;
 mod speech;
 mod stand;
+mod started;
 mod suiting;
 mod texts;
 

@@ -119,7 +119,7 @@ fn applies(command: Option<Command>) -> bool
     }
 }
 
-/// The second entry's call behind a first one that begins: a removal's last call, or the tell of what a planned driver answers.
+/// The second entry's call after a first one that begins: a removal's last call, or the tell of what a planned driver answers.
 pub fn second_of(first: &Call, port: &Planned) -> Call
     ensures { result ≡ second_of first.now (port_in port.now) }
 {
@@ -143,7 +143,7 @@ pub fn second_of(first: &Call, port: &Planned) -> Call
     }
 }
 
-/// The last call of a removal, behind its first one.
+/// The last call of a removal, after its first one.
 fn last_call(first: &Call) -> Call
     ensures { result ≡ last_call first.now }
 {

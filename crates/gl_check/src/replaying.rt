@@ -16,7 +16,7 @@ use std::alloc::Global;
 
 /// The misfit of a session and a history: the index of the first entry, counted from 0, that isn't the session's, or the number of entries
 /// where all are and an actor isn't at its end. None where there is none; then what the session printed up to the line `== history`,
-/// exclusive, is appended. It fails only for want of memory. Where there is a misfit, and where it fails, `out` is as it was.
+/// exclusive, is appended. It fails only when out of memory. Where there is a misfit, and where it fails, `out` is as it was.
 pub fn replay(
     alloc: Global,
     script: &Script<'_>,
@@ -42,7 +42,7 @@ pub fn replay(
     }
 }
 
-/// The same behind all entries, all of which fit.
+/// The same after all entries, all of which fit.
 fn conclude(
     alloc: Global,
     script: &Script<'_>,

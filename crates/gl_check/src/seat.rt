@@ -2,7 +2,7 @@
 
 ghost use Rattle.std.specs.Prelude.{◌≡◌, ℕ, List, Some, [], false, map, IfOk, OnOk, IsOkUnless, IsTrue};
 ghost use Rattle.std.specs.Bool.{Decides};
-ghost use Rattle.gl_args.specs.Program.{given};
+ghost use Rattle.gl_client.specs.Program.{given};
 ghost use Rattle.gl_asking.specs.Asking.{files_behind, got_of};
 ghost use Rattle.gl_asking.specs.Changes.{IsFilled, OpensWithin};
 ghost use Rattle.gl_asking.specs.Files.{OpenFile};
@@ -13,16 +13,16 @@ ghost use Rattle.gl_check.specs.Buffers.{buffer_at};
 ghost use Rattle.gl_check.specs.Seating.{IsFilledAt, IsGoing, IsKept, OpensAt, comes_behind, left_by, port_in, seat_in, settled_from};
 ghost use Rattle.gl_check.specs.Seats.{SuitsStand, called, deed, is_ended, moved, new_bearing, settles};
 
-use crate::asked::{Asked, ask};
 use crate::buffers::buffer_at;
 use crate::port::Planned;
 use crate::rows::{keep, row_for};
 use crate::speech::go_on;
 use crate::stand::Stand;
+use crate::started::{Started, ask};
 use crate::suiting::suits;
-use gl_args::Next;
 use gl_asking::{FileRow, got_of};
 use gl_base::{Do, Errno, Got};
+use gl_client::Next;
 use gl_core::Core;
 use gl_core::entries::begins;
 use gl_model::{Call, Reply};
@@ -31,7 +31,7 @@ use gl_talk::Talk;
 use gl_world::Entry;
 use std::alloc::Global;
 
-/// An actor begins fewer statements than this: more of them count as want of memory.
+/// An actor begins fewer statements than this: more of them count as out of memory.
 const STATEMENTS_MAX: u32 = 2_147_483_647;
 
 /// An actor in the midst of a history.
@@ -148,11 +148,11 @@ impl Seat {
         }
         match self.talk.next(alloc, got.as_ref()) {
             Ok(Next::Call(what)) => match ask(&mut self.rows, &mut self.port, &what) {
-                Ok(Asked::Done(result_of)) => {
+                Ok(Started::Done(result_of)) => {
                     *got = Some(result_of);
                     Ok(true)
                 }
-                Ok(Asked::Calls(first)) => {
+                Ok(Started::Calls(first)) => {
                     self.stand = Stand::Before { what, first };
                     Ok(false)
                 }
@@ -211,7 +211,7 @@ impl Seat {
         self.settle(alloc, statements, quit, Some(got))
     }
 
-    /// Goes on behind an entry of its own, whose buffer this is. `NoMemory` alone is refused.
+    /// Goes on after an entry of its own, whose buffer this is. `NoMemory` alone is refused.
     pub fn take(
         &mut self,
         alloc: Global,
@@ -248,7 +248,7 @@ impl Seat {
     }
 }
 
-/// The port behind the second entry of a call of the device: a tell is one answer more.
+/// The port after the second entry of a call of the device: a tell is one answer more.
 fn pass(port: &mut Planned, first: &Call)
     ensures { (files : List OpenFile) → record { files = files; port = port_in port.new } ≡ called first.now (record { files = files; port = port_in port.old }) }
 {

@@ -1,7 +1,7 @@
-//! What comes behind a statement.
+//! What comes after a statement.
 
 ghost use Rattle.std.specs.Prelude.{◌≡◌, ◌<◌, ◌≤◌, false, true, drop, length, map, IfOk, OnOk, IsOkUnless, IsTrue};
-ghost use Rattle.gl_args.specs.Program.{done, goes_on};
+ghost use Rattle.gl_client.specs.Program.{done, goes_on};
 ghost use Rattle.gl_talk.specs.Over.{columns_in};
 ghost use Rattle.gl_talk.specs.Talk.{left, names_in, quits};
 ghost use Rattle.gl_check.specs.Seating.{comes_behind, left_by};
@@ -11,8 +11,8 @@ use gl_script::Statement;
 use gl_talk::Talk;
 use std::alloc::Global;
 
-/// Goes on behind a statement that is done: to the next one, or to the closing of what is open, where the actor quits at its end. False
-/// where nothing comes behind it. `NoMemory` alone is refused.
+/// Goes on after a statement that is done: to the next one, or to the closing of what is open, where the actor quits at its end. False
+/// where nothing comes after it. `NoMemory` alone is refused.
 pub fn go_on(
     alloc: Global,
     talk: &mut Talk,

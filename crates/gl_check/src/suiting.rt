@@ -39,7 +39,7 @@ fn suits_first(first: &Call, entry: &Entry<Core>) -> bool
     }
 }
 
-/// Whether an entry is the second one of a call of the device, behind a first one that begins.
+/// Whether an entry is the second one of a call of the device, after a first one that begins.
 fn suits_second(first: &Call, port: &Planned, entry: &Entry<Core>) -> bool
     ensures { Decides result (entry.now.call ≡ second_of first.now (port_in port.now)) }
 {

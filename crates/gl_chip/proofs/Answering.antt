@@ -36,7 +36,7 @@ use Rattle.gl_model.proofs.FinishingCalls.{calls_finish_claims}
 use Rattle.gl_model.proofs.Replies.{replies_have_form}
 use Rattle.gl_chip.specs.Answering.{AnswersInOrder, AtFirst, AtLast, ConfigRefused, ConfiguresInOrder, IsClaimTold, RequestRefused, RequestsInOrder}
 use Rattle.gl_chip.specs.Called.{HasCalled, first_entry, last_entry}
-use Rattle.gl_chip.specs.Commanding.{HasCommanded, PortOf, WasAsked, is_asked}
+use Rattle.gl_chip.specs.DriverCommands.{HasCommanded, PortOf, WasAsked, is_asked}
 use Rattle.gl_asking.specs.Results.{value_of}
 use Rattle.gl_chip.specs.Values.{ActorValue, IsIdle, OneView}
 use Rattle.gl_core.specs.Device.{OneEntry, core}
@@ -46,7 +46,7 @@ use Rattle.gl_chip.proofs.FaultyLines.{config_only, config_refused, error_of, no
 use Rattle.gl_chip.proofs.RequestedFiles.{below_is_go}
 use Rattle.gl_chip.proofs.WholeCalls.{errno_is_told, reply_or}
 
--- two ways in which a history has an actor's next entry behind its own are one
+-- two ways in which a history has an actor's next entry after its own are one
 
 abbrev head_or : OneEntry → List OneEntry → OneEntry
 head_or d [] = d

@@ -47,7 +47,7 @@ use Rattle.gl_model.proofs.IoCauses.{io_has_cause}
 use Rattle.gl_model.proofs.Replies.{replies_have_form}
 use Rattle.gl_core.specs.Device.{OneDeed, OneEntry, core, last_bytes}
 use Rattle.gl_chip.specs.Called.{last_entry}
-use Rattle.gl_chip.specs.Commanding.{CommandedInside, HasCommanded, IoComesOf, IsOp, PortOf}
+use Rattle.gl_chip.specs.DriverCommands.{CommandedInside, HasCommanded, IoComesOf, IsOp, PortOf}
 use Rattle.gl_asking.specs.Handed.{command_in}
 use Rattle.gl_asking.proofs.HandedBytes.{handed_fits, handed_start}
 use Rattle.gl_base.specs.declared.limits.TheConstants.{PLACES}

@@ -26,7 +26,7 @@ use Rattle.gl_model.specs.Step.{guard_reply}
 use Rattle.gl_model.specs.World.{World}
 use Rattle.gl_model.proofs.IoCauses.{io_has_cause}
 use Rattle.gl_chip.specs.Called.{ComesOut, HasCalled, last_entry}
-use Rattle.gl_chip.specs.Commanding.{CommandsOut, HasCommanded, IoComesOf, PortOf, is_asked}
+use Rattle.gl_chip.specs.DriverCommands.{CommandsOut, HasCommanded, IoComesOf, PortOf, is_asked}
 use Rattle.gl_asking.specs.Results.{value_of}
 use Rattle.gl_chip.specs.Steps.{FoundNoRoom}
 use Rattle.gl_chip.specs.Values.{ActorValue, OneView}

@@ -19,7 +19,7 @@ use Rattle.gl_model.specs.declared.call.Part.{Part}
 use Rattle.gl_model.specs.declared.call.Part.TheVariants.{Whole, Ask, Tell}
 use Rattle.gl_model.specs.declared.reply.Reply.{Reply}
 use Rattle.gl_model.specs.declared.reply.Reply.TheVariants.{Go, Refused}
-use Rattle.gl_model.specs.Asked.{asked_in, num_lines, request_fault}
+use Rattle.gl_model.specs.AskedLines.{asked_in, num_lines, request_fault}
 use Rattle.gl_model.specs.Claiming.{claim_lines, claim_number, is_claim_of, line_refusal}
 use Rattle.gl_model.specs.Configuring.{directed_fault, reconfigure, set_config}
 use Rattle.gl_model.specs.Ioctl.{by_number}

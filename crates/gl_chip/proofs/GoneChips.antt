@@ -21,7 +21,7 @@ use Rattle.gl_model.specs.Places.{origin_at}
 use Rattle.gl_model.specs.Removal.{begin_unplug, end_unplug, is_actor, is_outside_tree, phase_refusal}
 use Rattle.gl_model.specs.World.{World}
 use Rattle.gl_chip.specs.Opened.{LastFinds}
-use Rattle.gl_chip.specs.Removing.{HasEnded, is_gone_outside}
+use Rattle.gl_chip.specs.Removals.{HasEnded, is_gone_outside}
 use Rattle.gl_asking.specs.Results.{done_of}
 use Rattle.gl_core.specs.Device.{OneEntry, core}
 use Rattle.gl_chip.specs.Values.{OneView}

@@ -16,10 +16,10 @@ use Rattle.gl_model.specs.Parts.{in_whole, is_driver_asked}
 use Rattle.gl_model.specs.Replies.{has_form}
 use Rattle.gl_model.specs.Step.{guard_reply}
 use Rattle.gl_chip.specs.Called.{HasCalled}
-use Rattle.gl_chip.specs.Commanding.{HasCommanded, IsOp}
+use Rattle.gl_chip.specs.DriverCommands.{HasCommanded, IsOp}
 use Rattle.gl_asking.specs.declared.kinds.FileKind.TheVariants.{Chip}
 use Rattle.gl_chip.specs.Orders.{CouldNot, HasDone}
-use Rattle.gl_chip.specs.Removing.{AllDrained}
+use Rattle.gl_chip.specs.Removals.{AllDrained}
 use Rattle.gl_chip.specs.Steps.{FoundNoRoom}
 use Rattle.gl_chip.specs.Values.{ActorValue}
 use Rattle.gl_core.specs.Device.{OneEntry, core}

@@ -36,7 +36,7 @@ use Rattle.gl_model.proofs.Bounds.{legal_worlds_have_bounds}
 use Rattle.gl_model.proofs.EndingRemovals.{last_calls_are_done}
 use Rattle.gl_model.proofs.Phases.{length-places_from, read_places, within_chips}
 use Rattle.gl_chip.specs.Called.{HasCalled}
-use Rattle.gl_chip.specs.Removing.{AllDrained, EndsAsBegun, HasBegun, HasDrained, HasEnded, RemovedBy, RemovesOut, is_first_call, removal_of}
+use Rattle.gl_chip.specs.Removals.{AllDrained, EndsAsBegun, HasBegun, HasDrained, HasEnded, RemovedBy, RemovesOut, is_first_call, removal_of}
 use Rattle.gl_asking.specs.Results.{done_of}
 use Rattle.gl_chip.specs.Steps.{FoundNoRoom, deed_of}
 use Rattle.gl_chip.specs.Values.{IsIdle, MayOwn, OneView}

@@ -9,7 +9,7 @@ use Rattle.gl_rule.specs.Views.{with_closed, with_drained}
 use Rattle.gl_gate.specs.Values.{PassValue, knowing}
 use Rattle.gl_gate.specs.Calls.{KnowsAsMuch, KnowsClosed, KnowsDrained}
 use Rattle.gl_gate.specs.Grown.{Moved}
-use Rattle.gl_chip.specs.Removing.{HasDrained}
+use Rattle.gl_chip.specs.Removals.{HasDrained}
 use Rattle.gl_chip.proofs.GateSteps.{knows_on}
 
 module _ {M C R G : Type 0} (m : Ghosts M C R G) where

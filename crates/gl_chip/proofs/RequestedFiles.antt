@@ -29,7 +29,7 @@ use Rattle.gl_model.specs.Step.{guard_reply}
 use Rattle.gl_model.specs.World.{World}
 use Rattle.gl_model.proofs.Replies.{replies_have_form}
 use Rattle.gl_chip.specs.Called.{HasCalled, last_entry}
-use Rattle.gl_chip.specs.Commanding.{requested_of}
+use Rattle.gl_chip.specs.DriverCommands.{requested_of}
 use Rattle.gl_chip.specs.Files.{LineFile}
 use Rattle.gl_core.specs.Device.{OneEntry, core}
 use Rattle.gl_chip.specs.Values.{OneView}

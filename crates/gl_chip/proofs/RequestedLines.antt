@@ -19,7 +19,7 @@ use Rattle.gl_model.specs.declared.call.Call.TheVariants.{Ioctl}
 use Rattle.gl_model.specs.declared.call.Part.TheVariants.{Whole, Ask, Tell}
 use Rattle.gl_model.specs.declared.reply.Reply.{Reply}
 use Rattle.gl_model.specs.declared.reply.Reply.TheVariants.{Done, Number, Go, Found, Text, Ready, Refused}
-use Rattle.gl_model.specs.Asked.{asked_in, lines_asked, request_fault}
+use Rattle.gl_model.specs.AskedLines.{asked_in, lines_asked, request_fault}
 use Rattle.gl_model.specs.Bounds.{HasBounds}
 use Rattle.gl_model.specs.Claiming.{claim, claim_at, claim_by, claim_number, told_claim}
 use Rattle.gl_model.specs.Entries.{is_go}
@@ -32,7 +32,7 @@ use Rattle.gl_model.specs.Replies.{numbered_form}
 use Rattle.gl_model.specs.World.{World, Request, has_number, request_at}
 use Rattle.gl_model.specs.Written.{number_answered}
 use Rattle.gl_model.proofs.Requests.{claim_by_any}
-use Rattle.gl_chip.specs.Commanding.{IsOp, IsOpAfterGo, TakesMemory}
+use Rattle.gl_chip.specs.DriverCommands.{IsOp, IsOpAfterGo, TakesMemory}
 use Rattle.gl_asking.specs.Driving.{op_of, op_requested}
 use Rattle.gl_asking.specs.Handed.{command_in, handed_in}
 

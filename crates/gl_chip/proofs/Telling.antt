@@ -17,7 +17,7 @@ use Rattle.gl_model.specs.Entries.{begins, last_call}
 use Rattle.gl_model.specs.Parts.{Makes, MakesAt, MakesCommand, MakesRest, first_call, guard_of, in_ask, in_tell, is_driver_asked, is_single}
 use Rattle.gl_asking.specs.declared.kinds.FileKind.{FileKind}
 use Rattle.gl_chip.specs.Called.{HasCalled}
-use Rattle.gl_chip.specs.Commanding.{HasCommanded, PortOf, is_asked}
+use Rattle.gl_chip.specs.DriverCommands.{HasCommanded, PortOf, is_asked}
 use Rattle.gl_asking.specs.Driving.{op_for}
 use Rattle.gl_chip.specs.Orders.{HasDone, lines_on, op_ordered}
 use Rattle.gl_core.specs.Device.{OneEntry, call_tells, tells_in}

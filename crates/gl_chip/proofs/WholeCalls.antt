@@ -353,7 +353,7 @@ answered_at limit v w call reply bytes called =
 pub called_not_full : (limit : ℕ) (v w : OneView) (call : DeviceCall) (reply : Reply) (bytes : List ℕ) → HasCalled limit v call reply bytes w → reply ≢ Refused Full
 called_not_full limit v w call reply bytes c is = replies_have_form.not_full (fold core c.last.at.0) c.last.last.actor c.last.last.call (answered_at limit v w call reply bytes c ∙ is)
 
--- nor want of memory
+-- nor being out of memory
 pub called_not_memory : (limit : ℕ) (v w : OneView) (call : DeviceCall) (reply : Reply) (bytes : List ℕ) → HasCalled limit v call reply bytes w → reply ≢ Refused NoMemory
 called_not_memory limit v w call reply bytes c is = replies_have_form.no_memory (fold core c.last.at.0) c.last.last.actor c.last.last.call (answered_at limit v w call reply bytes c ∙ is)
 

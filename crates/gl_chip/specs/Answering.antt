@@ -11,7 +11,7 @@ use Rattle.gl_uapi.specs.declared.commands.Command.TheVariants.{GetLine, SetConf
 use Rattle.gl_world.specs.History.{entries_of, entry, fold}
 use Rattle.gl_model.specs.declared.reply.Reply.{Reply}
 use Rattle.gl_model.specs.declared.reply.Reply.TheVariants.{Go, Number, Refused}
-use Rattle.gl_model.specs.Asked.{asked_in, num_lines, request_fault}
+use Rattle.gl_model.specs.AskedLines.{asked_in, num_lines, request_fault}
 use Rattle.gl_model.specs.Claiming.{line_refusal}
 use Rattle.gl_model.specs.Configuring.{directed_fault}
 use Rattle.gl_model.specs.Entries.{is_get_line}

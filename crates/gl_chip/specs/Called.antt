@@ -69,7 +69,7 @@ pub record HasCalled (limit : ℕ) (v : OneView) (call : DeviceCall) (reply : Re
   pub guard : (place : ℕ) → guard_of call ≡ Some place → AtGuard place (is_poll call) closed reply v w
   pub knows_as_much : KnowsAsMuch v w
 
--- The call was made, and the result is what its reply comes to: never that the history is full, and never want of memory.
+-- The call was made, and the result is what its reply comes to: never that the history is full, and never out of memory.
 pub record IsMade {X : Type 0} (answer : Reply → Result X Errno) (result : Result X Errno) (v : OneView) (call : DeviceCall) (bytes : List ℕ) (w : OneView) : Type 0 where
   pub reply : Reply
   pub result_is : result ≡ answer reply

@@ -11,7 +11,7 @@ use Rattle.gl_model.specs.declared.device_call.DeviceCall.{DeviceCall}
 use Rattle.gl_model.specs.declared.device_call.DeviceCall.TheVariants.{Once, Removing, Commanding}
 use Rattle.gl_model.specs.declared.reply.Reply.{Reply}
 use Rattle.gl_model.specs.declared.reply.Reply.TheVariants.{Number, Refused}
-use Rattle.gl_model.specs.Asked.{lines_asked}
+use Rattle.gl_model.specs.AskedLines.{lines_asked}
 use Rattle.gl_model.specs.Entries.{guarded_place, is_done}
 use Rattle.gl_model.specs.Fits.{FitsBuffer}
 use Rattle.gl_asking.specs.declared.kinds.FileKind.{FileKind}
@@ -21,9 +21,9 @@ use Rattle.gl_asking.specs.Handed.{command_in}
 use Rattle.gl_asking.specs.Rows.{HasLines, is_chip}
 use Rattle.gl_chip.specs.Called.{HasCalled}
 use Rattle.gl_chip.specs.Calling.{Answers}
-use Rattle.gl_chip.specs.Commanding.{HasCommanded, IsOp}
+use Rattle.gl_chip.specs.DriverCommands.{HasCommanded, IsOp}
 use Rattle.gl_asking.specs.Driving.{op_for}
-use Rattle.gl_chip.specs.Removing.{AllDrained}
+use Rattle.gl_chip.specs.Removals.{AllDrained}
 use Rattle.gl_chip.specs.Steps.{FoundNoRoom}
 use Rattle.gl_chip.specs.Values.{ActorValue}
 use Rattle.gl_core.specs.Device.{OneEntry, core}

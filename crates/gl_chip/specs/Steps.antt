@@ -44,7 +44,7 @@ module _ {M C R G : Type 0} (m : Ghosts M C R G) where
     pub owed : owes m v ≡ count
     pub removes_nothing : RemovesNothing m v
 
-  -- this is what the machine answers and writes behind some legal history
+  -- this is what the machine answers and writes after some legal history
   pub record IsAnswered (actor : ℕ) (call : C) (reply : R) (wrote : List ℕ) : Type 0 where
     pub before : List (Entry M C R G)
     pub legal_before : Legal m before

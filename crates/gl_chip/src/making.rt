@@ -23,7 +23,7 @@ impl<D: Driver<Core>> Gpio<D> {
     /// A device with a new machine, and its first actor, whose number is 0. The history takes `room` entries. The driver's own
     /// entries have nothing to do with removals and request no lines.
     ///
-    /// `NoMemory` where memory is wanted.
+    /// `NoMemory` when out of memory.
     pub fn new(
         alloc: Global,
         driver: D,

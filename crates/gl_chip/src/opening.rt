@@ -42,11 +42,11 @@ fn opened(word: &Path, reply: Reply) -> Result<ChipFd, Errno>
 }
 
 impl<D: Driver<Core>> Gpio<D> {
-    /// Opens the chip that a word names: by its number, its name, or its path below `/dev/`. Where memory is wanted, nothing was
+    /// Opens the chip that a word names: by its number, its name, or its path below `/dev/`. When out of memory, nothing was
     /// done.
     ///
     /// `NoEnt` where no chip that is up or leaving has the word; `NoDev` where the chip is leaving; `MFile` where there is no
-    /// number for the file; `NoMemory` where memory is wanted; `Full` where the history is full.
+    /// number for the file; `NoMemory` when out of memory; `Full` where the history is full.
     pub fn open_chip<R: Wait>(
         &self,
         rt: &R,

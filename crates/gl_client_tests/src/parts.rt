@@ -3,7 +3,7 @@
 use gl_base::{Errno, split_first};
 use std::alloc::Global;
 
-/// Takes the next part; the empty one behind the last.
+/// Takes the next part; the empty one after the last.
 pub fn part<'a>(rest: &mut &'a [u8]) -> &'a [u8] {
     let (part, behind) = split_first(*rest, b'|');
     *rest = match behind {

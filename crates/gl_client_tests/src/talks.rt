@@ -2,8 +2,8 @@
 
 use crate::transcript::{put_call, results_of};
 use crate::turns::{Form, TURNS, Turn, all_taken, result_of, take_turn};
-use gl_args::Next;
 use gl_base::{Errno, Got};
+use gl_client::Next;
 use gl_script::{Script, Statement};
 use gl_talk::{Talk, talk_over};
 use std::alloc::Global;
@@ -108,7 +108,7 @@ pub fn put(
     talk_in(alloc, &text, &results, form, out)
 }
 
-/// Appends the operations of a talk over these results as lines, and behind them its text.
+/// Appends the operations of a talk over these results as lines, and after them its text.
 fn put_talk(
     alloc: Global,
     statements: &[Statement<'_>],

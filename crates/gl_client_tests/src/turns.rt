@@ -1,8 +1,8 @@
 //! The turns of a client over scripted results.
 
 use crate::transcript::{put_call, put_short};
-use gl_args::Next;
 use gl_base::{Do, Errno, Got};
+use gl_client::Next;
 
 /// How often a client goes on at most.
 pub const TURNS: u32 = 1000;

@@ -22,7 +22,7 @@ pub fn put(alloc: Global, text: &[u8], out: &mut Vec<u8>) -> Result<(), Errno> {
     put_kind(alloc, &words, out)
 }
 
-/// Appends whether the words of a text and one more, which stands so many times behind them, are those of a tool.
+/// Appends whether the words of a text and one more, which stands so many times after them, are those of a tool.
 pub fn put_many(alloc: Global, text: &[u8], more: &[u8], out: &mut Vec<u8>) -> Result<(), Errno> {
     let mut rest = more;
     let word = part(&mut rest);

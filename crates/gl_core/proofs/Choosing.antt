@@ -75,7 +75,7 @@ module _ {X : Type 0} where
   one_more test f d i xs now so_far =
       ap (λ l. if test i then change_at d i f l else l) so_far ∙ sym (change_more test f d 0 i i xs (Prim.omega arith))
 
-  -- all that pass are changed, where none passes behind those that were looked at
+  -- all that pass are changed, where none passes after those that were looked at
   pub all_changed : (test : ℕ → Bool) (f : X → X) (m : ℕ) (xs now : List X) → ((p : ℕ) → m ≤ p → p < length xs → test p ≡ false) → now ≡ change_where (front m test) f 0 xs
       → now ≡ change_where test f 0 xs
   all_changed test f m xs now none so_far = so_far ∙ change_same (front m test) test f 0 xs (λ p le lt. below_or_none test m (0 + length xs) p (λ large _. none p large (Prim.omega arith)) lt)

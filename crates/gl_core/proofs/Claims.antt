@@ -22,7 +22,7 @@ use Rattle.gl_irq.specs.Irq.{irq_at}
 use Rattle.gl_pins.specs.Pins.{is_held}
 use Rattle.gl_request.specs.Request.{claim_by, is_claim_of as is_row_of, no_counts, row_of}
 use Rattle.gl_request.specs.declared.row.RequestRow.{RequestRow}
-use Rattle.gl_model.specs.Asked.{AskedLines}
+use Rattle.gl_model.specs.AskedLines.{AskedLines}
 use Rattle.gl_model.specs.Claiming.{claim_lines, claim_number, errno_of, is_claim_of, line_refusal, new_claim, with_descs}
 use Rattle.gl_model.specs.Configuring.{interrupt_fault, settings_of}
 use Rattle.gl_model.specs.Places.{no_place}

@@ -80,6 +80,6 @@ found_behind xs (y ∷ ys) =
     ∙ found_behind (xs ++ y ∷ []) ys
     ∙ ap found_of (append_assoc xs (y ∷ []) ys)
 
--- all lines are found behind none
+-- all lines are found after none
 pub found_all : (lines : List (ℕ × ℕ)) → with_lines lines (found_of []) ≡ found_of lines
 found_all lines = found_behind [] lines

@@ -41,7 +41,7 @@ module _ {K : Type 0} (stands_for : K → World → Type 0) where
         replied = answered.0;
       }
 
-  -- the world behind a history that went on with an entry
+  -- the world after a history that went on with an entry
   pub world_more : (history : List (Entry K Call Reply Gift)) (e : Entry K Call Reply Gift)
       → world_of stands_for (history ++ e ∷ []) ≡ world_after (world_of stands_for history) e.actor e.call
   world_more history e = fold_snoc (machine stands_for) opening history e

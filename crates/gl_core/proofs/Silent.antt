@@ -3,7 +3,7 @@ use Rattle.std.proofs.Common.{◌≡◌, ℕ, ◌++◌, List, [], ◌∷◌, dro
 use Rattle.gl_base.specs.declared.errno.Errno.{Errno}
 use Rattle.gl_base.specs.declared.lines.Lines.{Lines}
 use Rattle.gl_base.specs.declared.settings.Resolved.{Resolved}
-use Rattle.gl_model.specs.Asked.{asked_in, request_fault}
+use Rattle.gl_model.specs.AskedLines.{asked_in, request_fault}
 use Rattle.gl_model.specs.Claiming.{claim_refusal, get_line_ask}
 use Rattle.gl_model.specs.Configuring.{set_config}
 use Rattle.gl_model.specs.OpenFiles.{in_parts, on_request}

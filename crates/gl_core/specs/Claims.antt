@@ -11,7 +11,7 @@ use Rattle.gl_request.specs.declared.row.RequestRow.{RequestRow}
 use Rattle.gl_uapi.specs.declared.commands.Command.{Command}
 use Rattle.gl_uapi.specs.declared.commands.Command.TheVariants.{GetLine}
 use Rattle.gl_uapi.specs.declared.layout.TheConstants.{LINE_REQUEST_SIZE}
-use Rattle.gl_model.specs.Asked.{AskedLines, capacity_asked, request_fault}
+use Rattle.gl_model.specs.AskedLines.{AskedLines, capacity_asked, request_fault}
 use Rattle.gl_model.specs.Claiming.{held, with_descs}
 use Rattle.gl_model.specs.Entries.{is_get_line, is_tell}
 use Rattle.gl_model.specs.Places.{no_place, with_place}

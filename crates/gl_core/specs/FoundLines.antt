@@ -12,7 +12,7 @@ first_of_lines (line ∷ lines) = Some line
 abbrev pub found_of : List (ℕ × ℕ) → LinesFound
 found_of lines = record { first = first_of_lines lines; count = length lines }
 
--- one line more was found behind the others
+-- one line more was found after the others
 abbrev pub with_line : ℕ × ℕ → LinesFound → LinesFound
 with_line line found = record { first = option_or found.first (Some line); count = found.count + 1 }
 

@@ -11,7 +11,7 @@ use Rattle.gl_model.specs.declared.reply.Reply.TheVariants.{Done, Refused}
 abbrev pub Steps : (World → Outcome) → Kept → Kept → Reply → Type 0
 Steps step old new reply = (w : World) → StandsFor old w → StandsFor new (step w).world × (reply ≡ (step w).reply)
 
--- a call that has a buffer does what the step does, and writes what the step writes; behind that the buffer stays
+-- a call that has a buffer does what the step does, and writes what the step writes; after that the buffer stays
 abbrev pub StepsInto : (World → Outcome) → Kept → Kept → Reply → List ℕ → List ℕ → Type 0
 StepsInto step old new reply before after =
     (w : World) → StandsFor old w → StandsFor new (step w).world × (reply ≡ (step w).reply)

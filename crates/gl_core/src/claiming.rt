@@ -6,7 +6,7 @@ ghost use Rattle.gl_base.specs.Lines.{IsLineCount, offsets_of};
 ghost use Rattle.gl_base.specs.Positions.{first_fault};
 ghost use Rattle.gl_base.specs.Rows.{Each};
 ghost use Rattle.gl_base.specs.declared.limits.TheConstants.{LINES_PER_REQUEST};
-ghost use Rattle.gl_model.specs.Asked.{capacity_asked, request_fault};
+ghost use Rattle.gl_model.specs.AskedLines.{capacity_asked, request_fault};
 ghost use Rattle.gl_model.specs.Claiming.{claim, claim_at, claim_by, claim_lines, claim_number, claim_refusal, drop_claim, errno_of, get_line_ask, get_line_tell, hold_claim, line_refusal, with_fd};
 ghost use Rattle.gl_model.specs.Places.{place_at};
 ghost use Rattle.gl_model.specs.World.{Request};
@@ -20,8 +20,8 @@ ghost use Rattle.gl_core.specs.Reached.{IsReached};
 ghost use Rattle.gl_core.specs.Shape.{HasLine, HasLines, KeepsLines};
 ghost use Rattle.gl_core.specs.Steps.{Follows, Steps, StepsInto, Tells};
 
-use crate::asked::Asked;
 use crate::configuring::interrupt_fault;
+use crate::parsed_request::ParsedRequest;
 use crate::state::State;
 use gl_base::{Errno, Lines};
 use gl_desc::LineFault;
@@ -43,7 +43,7 @@ fn errno_of(fault: LineFault) -> Errno
 
 /// What is wrong with the line at position `i` of a request, first case first: the chip has no such line; somebody has the
 /// line, or it stands earlier in the request; its pin is held for another function; its settings don't go with its interrupt.
-fn line_refusal(tables: &Place, asked: &Asked, i: u32) -> Option<Errno>
+fn line_refusal(tables: &Place, asked: &ParsedRequest, i: u32) -> Option<Errno>
     requires i { i < LINES_PER_REQUEST }
     requires tables { HasLines (length tables.now.descs) tables.now }
     ensures { result ≡ line_refusal tables.now asked.now i }
@@ -60,7 +60,7 @@ fn line_refusal(tables: &Place, asked: &Asked, i: u32) -> Option<Errno>
 
 /// What is wrong with the first faulty line of a request.
 #[tactic(auto, using(gl_base::proofs::AtPositions::first_fault_more, gl_base::proofs::AtPositions::first_fault_here, gl_base::proofs::AtPositions::first_fault_all))]
-fn first_refusal(tables: &Place, asked: &Asked) -> Option<Errno>
+fn first_refusal(tables: &Place, asked: &ParsedRequest) -> Option<Errno>
     requires { HasLines (length tables.now.descs) tables.now }
     ensures { result ≡ first_fault (line_refusal tables.now asked.now) 0 asked.now.lines.count }
 {
@@ -89,7 +89,7 @@ impl State {
     }
 
     /// What is wrong with the first faulty line of a request.
-    fn lines_refusal(&self, place: u8, asked: &Asked) -> Option<Errno>
+    fn lines_refusal(&self, place: u8, asked: &ParsedRequest) -> Option<Errno>
         requires { IsLineCount asked.now.lines.count }
         ensures told { Tells (λ w. first_fault (line_refusal (place_at w place) asked.now) 0 asked.now.lines.count) self.now result }
         ensures free { IfNone result (AreFree self.now place asked.now) }
@@ -102,7 +102,7 @@ impl State {
 
     /// Why a request is refused, first case first: `MFile` where no more file can be open; `Busy` where the actor's last claim is
     /// unfinished; what is wrong with one of the lines, in order.
-    fn claim_refusal(&self, place: u8, actor: u8, asked: &Asked) -> Option<Errno>
+    fn claim_refusal(&self, place: u8, actor: u8, asked: &ParsedRequest) -> Option<Errno>
         requires { IsLineCount asked.now.lines.count }
         ensures told { Tells (claim_refusal place actor asked.now) self.now result }
         ensures may { IfNone result (MayClaim self.now place asked.now) }
@@ -117,7 +117,7 @@ impl State {
     }
 
     /// Claims the lines of a request that isn't refused, by a request of the next number.
-    fn claim_lines(&mut self, place: u8, actor: u8, asked: &Asked, ring: EdgeRing)
+    fn claim_lines(&mut self, place: u8, actor: u8, asked: &ParsedRequest, ring: EdgeRing)
         requires lines { IsLineCount asked.now.lines.count }
         requires may { MayClaim self.old place asked.now }
         requires numbers { NumbersAreBelow self.old }
@@ -138,7 +138,7 @@ impl State {
     }
 
     /// Claims what a request asks for, or refuses it. A claim takes the ring.
-    fn claim(&mut self, place: u8, actor: u8, asked: &Asked, gift: &mut Gift) -> Reply
+    fn claim(&mut self, place: u8, actor: u8, asked: &ParsedRequest, gift: &mut Gift) -> Reply
         requires lines { IsLineCount asked.now.lines.count }
         requires numbers { NumbersAreBelow self.old }
         requires ring { gift.old.ring ≡ Some (buffer [] asked.now.capacity) }
@@ -172,7 +172,7 @@ impl State {
         ensures steps { Steps (get_line_ask place actor (take LINE_REQUEST_SIZE bytes.now)) self.old self.new result }
         ensures gift { gift.new ≡ without_ring result gift.old }
     {
-        match Asked::of(bytes) {
+        match ParsedRequest::of(bytes) {
             Err(errno) => Reply::Refused(errno),
             Ok(asked) => self.claim(place, actor, &asked, gift),
         }

@@ -38,7 +38,7 @@ impl LinesFound {
         }
     }
 
-    /// One line more, behind the others.
+    /// One line more, after the others.
     fn add(&mut self, place: u8, offset: u32)
         requires { self.old.count + 1 < 2 ^ 32 }
         ensures { self.new ≡ with_line (place, offset) self.old }
@@ -113,7 +113,7 @@ impl State {
         }
     }
 
-    /// How many of the first lines of a chip are to be looked at for a name. Of those behind them none has it.
+    /// How many of the first lines of a chip are to be looked at for a name. Of those after them none has it.
     #[tactic(auto, using(crate::proofs::FindingLines::none_left))]
     fn lines_to_search(&self, place: u8, name: &Name) -> u32
         ensures within { result ≤ (chip_at self.now.chips place).lines }

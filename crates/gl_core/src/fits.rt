@@ -6,13 +6,13 @@ ghost use Rattle.std.specs.List.{list_all};
 ghost use Rattle.circular_buffer.specs.Buffer.{buffer};
 ghost use Rattle.gl_base.specs.Name.{is_name};
 ghost use Rattle.gl_base.specs.declared.limits.TheConstants.{LINES_MAX};
-ghost use Rattle.gl_model.specs.Asked.{capacity_asked, request_fault};
+ghost use Rattle.gl_model.specs.AskedLines.{capacity_asked, request_fault};
 ghost use Rattle.gl_uapi.specs.declared.layout.TheConstants.{LINE_REQUEST_SIZE};
 ghost use Rattle.gl_core.specs.Legal.{buffer_size};
 ghost use Rattle.gl_model.specs.declared.call.Part.TheVariants.{Ask};
 ghost use Rattle.gl_model.specs.Fits.{BringsRing, FitsBuffer, FitsBytes, FitsCall, FitsGift};
 
-use crate::asked::Asked;
+use crate::parsed_request::ParsedRequest;
 use gl_base::{Errno, LINES_MAX, Name, PLACES};
 use gl_model::{Call, Gift, Part};
 use gl_ring::EdgeRing;
@@ -163,7 +163,7 @@ fn asked_ring(bytes: &[u8; LINE_REQUEST_SIZE], alloc: Global) -> Result<Option<E
     ensures ok { IfOk result (λ ring. request_fault (take LINE_REQUEST_SIZE bytes.now) ≡ None → ring ≡ Some (buffer [] (capacity_asked (take LINE_REQUEST_SIZE bytes.now)))) }
     ensures memory_alone { IsOkUnless result Errno.NoMemory }
 {
-    match Asked::of(bytes) {
+    match ParsedRequest::of(bytes) {
         Err(_) => Ok(None),
         Ok(asked) => {
             let ring = EdgeRing::with_capacity(alloc, asked.capacity())?;

@@ -24,7 +24,7 @@ use std::alloc::Global;
 /// The first entry at which a history stops being legal, counted from 0, and none where it is legal. An entry is bad whose
 /// call is out of range, or has another reply than the machine's; a guarded call on a place that is Gone; and a recorded
 /// refusal on a place that is neither Leaving nor Gone. The history is made again on a core of its own, in one pass. It fails
-/// only for want of memory.
+/// only when out of memory.
 pub fn first_bad(history: &[Entry<Core>], alloc: Global) -> Result<Option<u32>, Errno>
     requires { length history.now < 2 ^ 32 }
     ensures first { IfOk result (IsFirstBad StandsFor history.now) }
@@ -42,7 +42,7 @@ pub fn first_bad(history: &[Entry<Core>], alloc: Global) -> Result<Option<u32>, 
 
 impl Core {
     /// Whether a history that led to the core may go on with an entry. If so, the core makes the entry's call, and what the machine writes
-    /// there stands at the start of the call's buffer; behind that the buffer stays. It fails only for want of memory. After `false` or a
+    /// there stands at the start of the call's buffer; after that the buffer stays. It fails only when out of memory. After `false` or a
     /// failure nothing is said of the core and of the buffer any more.
     pub fn goes_on_into(
         &mut self,

@@ -3,7 +3,6 @@
 //! What the machine is, its calls and its worlds, stands in `gl_model`.
 #![tactic(auto)]
 
-mod asked;
 mod chips;
 mod chosen;
 mod claiming;
@@ -24,9 +23,10 @@ mod machine;
 mod notify;
 mod open_files;
 mod opening;
+mod parsed_request;
 mod pins;
 mod places;
-mod plan;
+mod prepared_bank;
 mod pulls;
 mod reading;
 mod reading_changes;
@@ -36,6 +36,6 @@ mod step;
 mod tree;
 mod values;
 
-pub use asked::Asked;
 pub use gl_model::{Call, Gift, Origin, Part, Place, Reply};
 pub use machine::Core;
+pub use parsed_request::ParsedRequest;

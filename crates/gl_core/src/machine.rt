@@ -154,8 +154,8 @@ impl Machine for Core {
 }
 
 impl Core {
-    /// A machine as it opens: without a chip, an open file or a directory. It takes all memory that its calls need, but for
-    /// the gifts that some of them bring, and fails only for want of memory.
+    /// A machine as it opens: without a chip, an open file or a directory. It takes all memory that its calls need, except for
+    /// the gifts that some of them bring, and fails only when out of memory.
     pub fn new(alloc: Global) -> Result<Core, Errno>
         ensures ok { IfOk result (λ core. StandsFor core opening) }
         ensures memory_alone { IsOkUnless result Errno.NoMemory }

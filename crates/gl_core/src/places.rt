@@ -22,7 +22,7 @@ ghost use Rattle.gl_model.specs.Pins.{pin_refusal};
 ghost use Rattle.gl_core.specs.Shape.{AreNew, HasLine, HasPlace, with_irq_done, with_pin_done};
 
 use crate::pins::pin_at;
-use crate::plan::Plan;
+use crate::prepared_bank::PreparedBank;
 use gl_bank::{Bank, Change, flip};
 use gl_base::{
     Errno, IrqDo, Kind, Lines, Name, PLACES, PinDo, Settings, flag, has_bit, push_within,
@@ -130,7 +130,7 @@ fn free(places: &mut Vec<Place>, place: u8, lines: &Lines)
 }
 
 /// Gives the lines of a place the names of a plan, and holds its hogs.
-fn furnish(places: &mut Vec<Place>, place: u8, plan: &Plan)
+fn furnish(places: &mut Vec<Place>, place: u8, plan: &PreparedBank)
     ensures places { places.new.items ≡ change_at no_place place (furnished plan.now) places.old.items }
     ensures capacity { vec_capacity places.new ≡ vec_capacity places.old }
     ensures as_many { length places.new.items ≡ length places.old.items }
@@ -281,7 +281,7 @@ impl Places {
     }
 
     /// Gives the lines of a place the names of a plan, and holds its hogs.
-    pub(crate) fn furnish(&mut self, place: u8, plan: &Plan)
+    pub(crate) fn furnish(&mut self, place: u8, plan: &PreparedBank)
         ensures { self.new ≡ change_at no_place place (furnished plan.now) self.old }
     {
         furnish(&mut self.used, place, plan);

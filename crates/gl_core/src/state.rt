@@ -8,7 +8,7 @@ ghost use Rattle.gl_core.specs.Steps.{Tells};
 ghost use Rattle.gl_core.specs.WellKept.{HasItsTables};
 
 use crate::places::Places;
-use crate::plan::Plan;
+use crate::prepared_bank::PreparedBank;
 use gl_base::{Errno, PLACES, Phase};
 use gl_debounce::Timers;
 use gl_model::Origin;
@@ -30,7 +30,7 @@ pub(crate) struct State {
     pub(crate) requests: Requests,
     pub(crate) files: Watches,
     pub(crate) tree: Tree,
-    pub(crate) plan: Plan,
+    pub(crate) plan: PreparedBank,
     pub(crate) next: u32,
     pub(crate) mono: u64,
     pub(crate) real: u64,
@@ -50,7 +50,7 @@ impl Model for State {
 }
 
 impl State {
-    /// The state of a machine as it opens: without a chip, an open file or a directory. It fails only for want of memory.
+    /// The state of a machine as it opens: without a chip, an open file or a directory. It fails only when out of memory.
     pub(crate) fn new(alloc: Global) -> Result<State, Errno>
         ensures ok { IfOk result (λ state. StandsFor state opening) }
         ensures memory_alone { IsOkUnless result Errno.NoMemory }
@@ -62,7 +62,7 @@ impl State {
         let requests = Requests::new(alloc)?;
         let files = Watches::new(alloc)?;
         let tree = Tree::new(alloc)?;
-        let plan = Plan::new(alloc)?;
+        let plan = PreparedBank::new(alloc)?;
         Ok(State {
             chips,
             origins,

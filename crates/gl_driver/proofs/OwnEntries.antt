@@ -57,7 +57,7 @@ module _ {M C R G : Type 0} (m : Ghosts M C R G) where
     joined = same.joined;
   }
 
-  -- the pass's entries behind what it had seen are the driver's own
+  -- the pass's entries after what it had seen are the driver's own
   own_behind : (v w : View M C R G) (own : List (Entry M C R G)) (back : IsBack m v own w) → HasItsOwn v → HasItsOwn w → entries_of v.number back.seen.0 ≡ own
   own_behind v w own back before after = let rest : List (Entry M C R G) = back.seen.0 in
       let whole : entries_of v.number w.seen ≡ v.mine ++ own = ap (λ k. entries_of k w.seen) (sym back.number) ∙ (after ∙ back.mine) in

@@ -3,7 +3,7 @@ use Rattle.std.specs.Prelude.{◌≡◌, ℕ, Bool, true, if◌then◌else◌, L
 use Rattle.gl_base.specs.Count.{counted_up}
 use Rattle.gl_base.specs.Planned.{bits_for, planned_answer, planned_call, names_call}
 use Rattle.gl_base.specs.declared.op.Op.{Op}
-use Rattle.gl_driver.specs.declared.op.Asked.{Asked}
+use Rattle.gl_driver.specs.declared.op.DriverCall.{DriverCall}
 use Rattle.gl_driver.specs.declared.op.DriverFault.{DriverFault}
 
 -- how many driver calls went through the port, the call that its plan names by its number among them, the accepted bits, and the last call
@@ -11,7 +11,7 @@ pub record Told : Type 0 where
   pub calls : ℕ
   pub plan : Option ℕ
   pub bits : ℕ
-  pub last : Option Asked
+  pub last : Option DriverCall
 
 -- a new port tells no call, no plan and accepted bits 0
 abbrev pub new_port : Told

@@ -19,7 +19,7 @@ use std::marker::Model;
 use std::sync::Wait;
 use std::sync::atomic::{AtomicBool, AtomicU64, Ordering};
 
-/// A driver that keeps each of its first calls until the one behind them is answered, which shows that calls run side by
+/// A driver that keeps each of its first calls until the one after them is answered, which shows that calls run side by
 /// side. It answers 0 and fails as its port plans. A call that is kept for 100,000,000 turns fails too. Contracts
 /// see the driver as the number of the call that lets the others go on.
 #[derive(Drop)]
@@ -28,7 +28,7 @@ pub struct HoldDriver {
     kept: u64,
     /// How many calls were made.
     made: AtomicU64,
-    /// The call behind the kept ones was answered.
+    /// The call after the kept ones was answered.
     open: AtomicBool,
 }
 

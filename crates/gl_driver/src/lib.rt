@@ -17,6 +17,6 @@ pub use fake::FakeDriver;
 pub use gl_base::Op;
 pub use hold::HoldDriver;
 pub use latch::{FirstCallDriver, KeepsFirstCall, Latch, LatchDriver};
-pub use op::{Asked, DriverFault};
+pub use op::{DriverCall, DriverFault};
 pub use port::Port;
 pub use sim::{SimDriver, SimPort};

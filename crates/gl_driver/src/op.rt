@@ -8,7 +8,7 @@ pub struct DriverFault;
 
 /// One call of a driver.
 #[derive(Clone, Copy, PartialEq, Eq, Debug)]
-pub struct Asked {
+pub struct DriverCall {
     /// What it was asked.
     pub op: Op,
     /// What it answered, or nothing where it failed.

@@ -6,7 +6,7 @@ ghost use Rattle.gl_base.specs.Planned.{bits_for, names_call};
 ghost use Rattle.gl_driver.specs.Told.{new_port, with_call, answer_of, unless_planned, faults_after};
 
 use crate::driver::Driver;
-use crate::op::{Asked, DriverFault};
+use crate::op::{DriverCall, DriverFault};
 use crate::port::Port;
 use gl_base::{Op, count_up};
 use gl_gate::{Gate, Pass};
@@ -21,7 +21,7 @@ pub struct SimPort {
     plan: Option<u128>,
     /// The accepted bits.
     bits: u64,
-    last: Option<Asked>,
+    last: Option<DriverCall>,
     faults: u64,
 }
 
@@ -105,7 +105,7 @@ impl SimPort {
         ensures fault { IfErr result (λ _. Rises self.old.faults self.new.faults) }
     {
         self.calls = count_up(self.calls);
-        self.last = Some(Asked { op: *op, answer });
+        self.last = Some(DriverCall { op: *op, answer });
         match answer {
             Some(bits) => Ok(bits),
             None => {

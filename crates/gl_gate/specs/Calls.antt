@@ -86,7 +86,7 @@ module _ {M C R G : Type 0} (m : Ghosts M C R G) where
   abbrev pub RemovesNothing : View M C R G → Type 0
   RemovesNothing v = (p : ℕ) → Removes m (fold m v.seen) v.number p → ⊥
 
-  -- The call was made: its entry stands behind all that the pass had seen and what came between, and reply and bytes are the machine's there.
+  -- The call was made: its entry stands after all that the pass had seen and what came between, and reply and bytes are the machine's there.
   pub record Acts (v : View M C R G) (call : C) (reply : R) (old new : List ℕ) (w : View M C R G) : Type 0 where
     pub between : List (Entry M C R G)
     pub seen : w.seen ≡ (v.seen ++ between) ++ entry v.number call reply ∷ []

@@ -41,7 +41,7 @@ module _ {M C R G : Type 0} (m : Ghosts M C R G) where
     pub in_slot : InSlot m a.0.seen a.0.room held
     pub room_left : (length a.0.seen - a.0.room) + owes m a.0 ≤ 512
 
-  -- the call was made in the slot, as the machine answers it in the world of what was seen, and its entry stands behind that
+  -- the call was made in the slot, as the machine answers it in the world of what was seen, and its entry stands after that
   pub record Made (a : Seated M C R G) (actor : ℕ) (call : C) (reply : R) (old new : List ℕ) (b : Seated M C R G) : Type 0 where
     pub held : Held M C R G
     pub seat : b ≡ (a.0, (0, held) ∷ [])

@@ -16,7 +16,7 @@ impl<M: Machine> Gate<M> {
     /// Makes a call on the machine: waits for the pass's turn, and makes it then. The call's entry is the
     /// last that the pass has seen afterwards.
     ///
-    /// What it has seen is legal, so phases only go forward in it, and no guarded call stands in it behind the
+    /// What it has seen is legal, so phases only go forward in it, and no guarded call stands in it after the
     /// entry that made its place Gone. The same holds whatever happens, in whatever order. What the pass knows of
     /// closed and drained places stays as it is.
     ///

@@ -12,7 +12,7 @@ use crate::pass::Pass;
 use crate::turnstile::Turnstile;
 use atomic_table::Table;
 use gl_base::Errno;
-use gl_rule::{Held, JoinPass, Learn, Plan, SplitPass};
+use gl_rule::{GateSize, Held, JoinPass, Learn, SplitPass};
 use gl_world::{Entry, Machine};
 use std::alloc::{AllocError, Global};
 use std::sync::Mutex;
@@ -28,7 +28,7 @@ impl<M: Machine> Gate<M> {
     /// A gate for a new machine with so many places, and its first pass, whose number is 0. The history
     /// takes `room` entries, and 512 second entries more.
     ///
-    /// `NoMemory` where memory is wanted. The machine is dropped then.
+    /// `NoMemory` when out of memory. The machine is dropped then.
     pub fn new(
         alloc: Global,
         machine: M,
@@ -54,11 +54,11 @@ impl<M: Machine> Gate<M> {
         let Ok(words) = zeros(alloc, places as usize + 2) else {
             return Err(Errno::NoMemory);
         };
-        let plan = Plan {
+        let size = GateSize {
             room: room as u64,
             places: places as u64,
         };
-        match Table::new(alloc, words.as_slice(), slots, &plan) {
+        match Table::new(alloc, words.as_slice(), slots, &size) {
             Ok((table, seat)) => Ok((
                 Gate {
                     turnstile: Turnstile {

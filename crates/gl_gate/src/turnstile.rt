@@ -3,7 +3,7 @@ ghost use Rattle.std.specs.Prelude.{◌≡◌, ℕ, ◌+◌, ◌%◌, ◌^◌, �
 
 use crate::pass::GateSeat;
 use atomic_table::Table;
-use gl_rule::{Commit, FindTurn, GateRule, Held, PassOn, Plan, TakeTicket, View};
+use gl_rule::{Commit, FindTurn, GateRule, GateSize, Held, PassOn, TakeTicket, View};
 use gl_world::Machine;
 use std::alloc::Global;
 use std::hint::spin_loop;
@@ -33,7 +33,7 @@ fn pause() {
 /// The shared words, the slot with the machine, and the views of all passes.
 #[derive(Drop)]
 pub(crate) struct Turnstile<M: Machine> {
-    pub(crate) table: Table<Held<M>, View<M>, Plan, GateRule<M>, Global>,
+    pub(crate) table: Table<Held<M>, View<M>, GateSize, GateRule<M>, Global>,
     /// Who has it locked may draw a ticket, so that the ticket drawn is the one that is served next. The others
     /// look for a moment whether the door is open and then sleep at it, instead of looking again and again whether
     /// it is their turn.

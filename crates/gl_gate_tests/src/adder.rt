@@ -4,9 +4,9 @@ ghost use Rattle.std.proofs.Common.{arith};
 ghost use Rattle.gl_base.specs.declared.phase.Phase.TheVariants.{Absent};
 ghost use Rattle.gl_gate_tests.specs.Adder.{is_first, is_second};
 ghost use Rattle.gl_gate_tests.specs.AdderLaws.{never_both, no_member};
-ghost use Rattle.gl_gate_tests.specs.declared.kind.Kind.TheVariants.{Alone};
+ghost use Rattle.gl_gate_tests.specs.declared.adder_call.AdderCall.TheVariants.{Alone};
 
-use crate::kind::Kind;
+use crate::adder_call::AdderCall;
 use gl_base::Phase;
 use gl_world::Machine;
 
@@ -17,7 +17,7 @@ pub struct Adder {
 }
 
 impl Machine for Adder {
-    type Call = Kind;
+    type Call = AdderCall;
 
     type Reply = u64;
 
@@ -63,7 +63,7 @@ impl Machine for Adder {
 
     ghost awaited_call = { λ _ _. Alone };
 
-    fn step(&mut self, _actor: u8, _call: &Kind, _gift: &mut (), _out: &mut [u8]) -> u64 {
+    fn step(&mut self, _actor: u8, _call: &AdderCall, _gift: &mut (), _out: &mut [u8]) -> u64 {
         let old = self.value;
         self.value = old.wrapping_add(1);
         old
@@ -73,16 +73,16 @@ impl Machine for Adder {
         Phase::Absent
     }
 
-    fn place_of(_call: &Kind) -> Option<u8> {
+    fn place_of(_call: &AdderCall) -> Option<u8> {
         None
     }
 
-    fn begins(call: &Kind, _reply: &u64) -> bool {
-        matches!(call, Kind::First)
+    fn begins(call: &AdderCall, _reply: &u64) -> bool {
+        matches!(call, AdderCall::First)
     }
 
-    fn ends(call: &Kind) -> bool {
-        matches!(call, Kind::Second)
+    fn ends(call: &AdderCall) -> bool {
+        matches!(call, AdderCall::Second)
     }
 
     ghost fits_calls = { λ _ _ _ _. tt };

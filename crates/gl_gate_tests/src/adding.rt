@@ -6,10 +6,10 @@ ghost use Rattle.gl_rule.specs.Turn.{owes};
 ghost use Rattle.gl_gate_tests.specs.contracts.adder.AdderMachine.TheImpl.{ghosts};
 ghost use Rattle.gl_gate.specs.Values.{IsPassOf};
 ghost use Rattle.gl_gate.specs.Calls.{SamePass};
-ghost use Rattle.gl_gate_tests.specs.declared.kind.Kind.TheVariants.{Alone, First, Second};
+ghost use Rattle.gl_gate_tests.specs.declared.adder_call.AdderCall.TheVariants.{Alone, First, Second};
 
 use crate::adder::Adder;
-use crate::kind::Kind;
+use crate::adder_call::AdderCall;
 use gl_base::Errno;
 use gl_gate::{Gate, Pass};
 use std::sync::Wait;
@@ -24,7 +24,7 @@ pub fn add<R: Wait>(rt: &R, gate: &Gate<Adder>, pass: &mut Pass<Adder>) -> Resul
     ensures mine { IfOk result (λ old. pass.new.view.mine ≡ pass.old.view.mine ++ entry pass.old.view.number Alone old ∷ []) }
     ensures full { IfErr result (λ e. (e ≡ Full) × (pass.new.view.mine ≡ pass.old.view.mine)) }
 {
-    gate.act(rt, pass, Kind::Alone, &mut (), &mut [])
+    gate.act(rt, pass, AdderCall::Alone, &mut (), &mut [])
 }
 
 /// Adds 1 so many times, and gives the pass back with the number of calls that were answered.
@@ -57,8 +57,8 @@ pub fn add_two<R: Wait>(rt: &R, gate: &Gate<Adder>, pass: &mut Pass<Adder>) -> O
     ensures same { SamePass pass.old.view pass.new.view }
     ensures free { owes ghosts pass.new.view ≡ 0 }
 {
-    let first = gate.act(rt, pass, Kind::First, &mut (), &mut []).ok()?;
-    match gate.act(rt, pass, Kind::Second, &mut (), &mut []) {
+    let first = gate.act(rt, pass, AdderCall::First, &mut (), &mut []).ok()?;
+    match gate.act(rt, pass, AdderCall::Second, &mut (), &mut []) {
         Ok(second) => Some((first, second)),
         Err(_) => unreachable!(),
     }

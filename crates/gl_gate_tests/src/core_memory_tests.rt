@@ -4,7 +4,7 @@ use crate::core_passes::input_request;
 use gl_base::command::GET_LINE;
 use gl_base::{Errno, Kind, Name, Path};
 use gl_core::fits::{buffer_size, fill, fits_call, gift_for};
-use gl_core::{Asked, Call, Core, Gift, Part, Reply};
+use gl_core::{Call, Core, Gift, ParsedRequest, Part, Reply};
 use gl_world::Machine;
 use std::alloc::Global;
 
@@ -93,7 +93,7 @@ fn a_core_with_ample_memory_takes_what_calls_bring(rt: HostRuntime) {
 
 /// How many events a request of one line asks for room for, where it is one.
 fn capacity() -> Option<u32> {
-    match Asked::of(&input_request(0)) {
+    match ParsedRequest::of(&input_request(0)) {
         Ok(asked) => Some(asked.capacity()),
         Err(_) => None,
     }

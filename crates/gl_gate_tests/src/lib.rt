@@ -3,6 +3,7 @@
 
 #[cfg(test)]
 mod adder;
+mod adder_call;
 #[cfg(test)]
 mod adding;
 #[cfg(test)]
@@ -18,7 +19,6 @@ mod core_tests;
 mod errand;
 #[cfg(test)]
 mod house;
-mod kind;
 #[cfg(test)]
 mod noting;
 #[cfg(test)]

@@ -10,7 +10,7 @@ ghost use Rattle.gl_driver.specs.Calls.{FitsOp, MayMakeEntries, IsBack};
 ghost use Rattle.gl_gate_tests.specs.Noting.{AreNotes};
 
 use crate::adder::Adder;
-use crate::kind::Kind;
+use crate::adder_call::AdderCall;
 use gl_base::PLACES;
 use gl_driver::laws::{call_is_own, refusal_is_none};
 use gl_driver::{Driver, DriverFault, Op, Port};
@@ -71,7 +71,7 @@ impl Driver<Adder> for NotingDriver {
     ) -> Result<u64, DriverFault> {
         call_is_own::<Adder>();
         refusal_is_none::<Adder>();
-        match gate.act(rt, pass, Kind::Alone, &mut (), &mut []) {
+        match gate.act(rt, pass, AdderCall::Alone, &mut (), &mut []) {
             Ok(number) => Ok(number),
             Err(_) => {
                 port.faults = port.faults.saturating_add(1);

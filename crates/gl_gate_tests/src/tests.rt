@@ -198,7 +198,7 @@ fn a_removal_waits_for_those_inside(rt: HostRuntime) {
 }
 
 /// An answer of a driver, with the port and the pass through which it was asked.
-type Asked = (Option<Result<u64, DriverFault>>, SimPort, Pass<Adder>);
+type DriverAnswer = (Option<Result<u64, DriverFault>>, SimPort, Pass<Adder>);
 
 /// One call of a driver, through a port and a pass that come back.
 fn ask_once<R: Wait>(
@@ -206,7 +206,7 @@ fn ask_once<R: Wait>(
     driver: &HoldDriver,
     gate: &Gate<Adder>,
     mut pass: Pass<Adder>,
-) -> Asked
+) -> DriverAnswer
     requires gate { IsPassOf gate.now pass }
     requires place { 0 < gate.now.places }
     requires outside { pass.view.inside ≡ [] }
@@ -227,7 +227,7 @@ fn ask_in_two_threads<R: Threads + Wait + Sync>(
     gate: &Gate<Adder>,
     first: Pass<Adder>,
     second: Pass<Adder>,
-) -> (Asked, Asked)
+) -> (DriverAnswer, DriverAnswer)
     requires first { IsPassOf gate.now first × (first.view.inside ≡ []) × HoldsNoTurn first.view }
     requires second { IsPassOf gate.now second × (second.view.inside ≡ []) × HoldsNoTurn second.view }
     requires place { 0 < gate.now.places }
@@ -237,12 +237,12 @@ fn ask_in_two_threads<R: Threads + Wait + Sync>(
 {
     join(
         rt,
-        || -> Asked
+        || -> DriverAnswer
             requires pass { IsPassOf gate.now first × (first.view.inside ≡ []) × HoldsNoTurn first.view }
             requires place { 0 < gate.now.places }
             ensures pass { IsPassOf gate.entry.now result.2 × (result.2.view.number ≡ first.view.number) }
         { ask_once(rt, driver, gate, first) },
-        || -> Asked
+        || -> DriverAnswer
             requires pass { IsPassOf gate.now second × (second.view.inside ≡ []) × HoldsNoTurn second.view }
             requires place { 0 < gate.now.places }
             ensures pass { IsPassOf gate.entry.now result.2 × (result.2.view.number ≡ second.view.number) }

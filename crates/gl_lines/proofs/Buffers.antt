@@ -1,4 +1,4 @@
--- What stands in a buffer behind a structure.
+-- What stands in a buffer after a structure.
 use Rattle.std.proofs.Common.{◌≡◌, ℕ, List, ◌++◌, drop, replicate, ap, ◌∙◌, append-nil}
 use Rattle.std.proofs.lemmas.List.{drop-replicate}
 

@@ -12,10 +12,10 @@ use Rattle.gl_base.specs.Decimal.{decimal}
 use Rattle.gl_args.specs.declared.names.ToolName.{ToolName}
 use Rattle.gl_args.specs.Names.{requests_lines}
 use Rattle.gl_args.specs.Options.{Options}
-use Rattle.gl_args.specs.Program.{done, ask}
-use Rattle.gl_args.specs.Costs.{CostsAtMost}
+use Rattle.gl_client.specs.Program.{done, ask}
+use Rattle.gl_client.specs.Costs.{CostsAtMost}
 use Rattle.gl_args.specs.Values.{Line}
-use Rattle.gl_args.proofs.Costs.{costs_more}
+use Rattle.gl_client.proofs.Costs.{costs_more}
 use Rattle.gl_lines.specs.declared.found_line.FoundLine.{FoundLine}
 use Rattle.gl_lines.specs.Bytes.{request_sent}
 use Rattle.gl_lines.specs.FoundLines.{are_apart, place_of, offsets_of}
@@ -26,7 +26,7 @@ pub request_cost : Bool → ℕ
 request_cost true = 3
 request_cost false = 0
 
--- the entries of an opening that comes behind the looking
+-- the entries of an opening that comes after the looking
 abbrev late_opening : Bool → ℕ
 late_opening true = 0
 late_opening false = 2

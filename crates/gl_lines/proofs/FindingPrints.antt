@@ -15,8 +15,8 @@ use Rattle.gl_args.specs.Names.{requests_lines, tool_text}
 use Rattle.gl_args.specs.Options.{Options}
 use Rattle.gl_base.specs.TextLines.{ends_lines}
 use Rattle.gl_base.proofs.TextLines.{line_ends}
-use Rattle.gl_args.specs.Printing.{PrintsLines}
-use Rattle.gl_args.specs.Program.{done, ask}
+use Rattle.gl_client.specs.Printing.{PrintsLines}
+use Rattle.gl_client.specs.Program.{done, ask}
 use Rattle.gl_args.specs.Values.{Line}
 use Rattle.gl_lines.specs.declared.found_line.FoundLine.{FoundLine}
 use Rattle.gl_lines.specs.Bytes.{request_sent}

@@ -12,11 +12,11 @@ use Rattle.gl_base.specs.declared.operation.Got.{Got}
 use Rattle.gl_base.specs.declared.operation.Got.TheVariants.{Done, Number, Found as FoundAt, Text, Bytes, Ready, Refused}
 use Rattle.gl_args.specs.declared.names.ToolName.{ToolName}
 use Rattle.gl_args.specs.Names.{requests_lines}
-use Rattle.gl_args.specs.OpenSlots.{AreApart, NamesOpenSlots, SameSlots, one_if, times, with_slot}
+use Rattle.gl_client.specs.OpenSlots.{AreApart, NamesOpenSlots, SameSlots, one_if, times, with_slot}
 use Rattle.gl_args.specs.Options.{Options}
-use Rattle.gl_args.specs.Program.{done, ask}
+use Rattle.gl_client.specs.Program.{done, ask}
 use Rattle.gl_args.specs.Values.{Line}
-use Rattle.gl_args.proofs.OpenSlots.{Fits, Follows, counts, counts_with, names_open, with_one}
+use Rattle.gl_client.proofs.OpenSlots.{Fits, Follows, counts, counts_with, names_open, with_one}
 use Rattle.gl_lines.specs.declared.found_line.FoundLine.{FoundLine}
 use Rattle.gl_lines.specs.Bytes.{request_sent}
 use Rattle.gl_lines.specs.FoundLines.{are_apart, place_of, offsets_of}

@@ -1,9 +1,9 @@
 -- What a finder gives at its end.
 use Rattle.std.proofs.Common.{◌≡◌, ℕ, List}
 use Rattle.gl_args.specs.declared.names.ToolName.{ToolName}
-use Rattle.gl_args.specs.declared.next.Next.TheVariants.{End}
+use Rattle.gl_client.specs.declared.next.Next.TheVariants.{End}
 use Rattle.gl_args.specs.Options.{options_in, Options}
-use Rattle.gl_args.specs.Program.{done, Goes}
+use Rattle.gl_client.specs.Program.{done, Goes}
 use Rattle.gl_lines.specs.declared.finder.Finder.{Finder}
 use Rattle.gl_lines.specs.declared.finder.FinderStage.{FinderStage}
 use Rattle.gl_lines.specs.declared.finder.FinderStage.TheVariants.{OpeningNamed, Looking, OpeningFound, Requesting, Closing, ChipOpen, LineOpen, Leaving, Ended}

@@ -12,9 +12,9 @@ use Rattle.gl_base.specs.Decimal.{decimal}
 use Rattle.gl_args.specs.declared.names.ToolName.{ToolName}
 use Rattle.gl_args.specs.Names.{requests_lines}
 use Rattle.gl_args.specs.Options.{Options}
-use Rattle.gl_args.specs.Program.{done, ask}
+use Rattle.gl_client.specs.Program.{done, ask}
 use Rattle.gl_args.specs.Values.{Line}
-use Rattle.gl_args.specs.Gives.{Gives}
+use Rattle.gl_client.specs.Gives.{Gives}
 use Rattle.gl_lines.specs.declared.found_line.FoundLine.{FoundLine}
 use Rattle.gl_lines.specs.Bytes.{request_sent}
 use Rattle.gl_lines.specs.FoundLines.{are_apart, place_of, offsets_of}

@@ -12,7 +12,7 @@ use Rattle.gl_base.specs.Operation.{refusal}
 use Rattle.gl_args.specs.declared.names.ToolName.{ToolName}
 use Rattle.gl_args.specs.Names.{tool_text, requests_lines}
 use Rattle.gl_args.specs.Options.{options_in, Options}
-use Rattle.gl_args.specs.Program.{Program, done, print, ask, Left, goes_on, waits}
+use Rattle.gl_client.specs.Program.{Program, done, print, ask, Left, goes_on, waits}
 use Rattle.gl_args.specs.Values.{Line}
 use Rattle.gl_lines.specs.declared.finder.Finder.{Finder}
 use Rattle.gl_lines.specs.declared.finder.FinderStage.{FinderStage}
@@ -59,7 +59,7 @@ module _ (tool : ToolName) (base made : ℕ) (opts : Options) where
   abbrev pub fails_at : ℕ → Errno → Finding
   fails_at slot errno = print (failed_line (tool_text tool) errno) (leaves slot)
 
-  -- the chip was closed behind the request
+  -- the chip was closed after the request
   abbrev pub chip_closed : List FoundLine → Option Errno → Finding
   chip_closed found (Some errno) = fails_at made errno
   chip_closed found None = done (Some found)
@@ -106,7 +106,7 @@ module _ (tool : ToolName) (base made : ℕ) (opts : Options) where
   looks_for (Some offset) word next found = next (found ++ given_line offset ∷ [])
   looks_for None word next found = ask (Find chip_slot word) (λ got. looked next found word got)
 
-  -- the lines one after the other, behind those that are known
+  -- the lines one after the other, after those that are known
   abbrev pub looks : List Line → List FoundLine → Finding
   looks [] found = all_found found
   looks (line ∷ lines) found = looks_for (offset_said opts line.0) line.0 (looks lines) found

@@ -1,4 +1,4 @@
--- The slot of the file that is open behind the finding of lines: that of the request, or of the chip's file where a tool makes no
+-- The slot of the file that is open after the finding of lines: that of the request, or of the chip's file where a tool makes no
 -- request.
 use Rattle.std.specs.Prelude.{ℕ, if◌then◌else◌, List, Option, None, Some}
 use Rattle.gl_args.specs.declared.names.ToolName.{ToolName}

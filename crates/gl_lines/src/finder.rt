@@ -2,16 +2,17 @@
 ghost use Rattle.std.specs.Prelude.{◌≡◌, ℕ, ◌<◌, ◌≤◌, ◌&&◌, not, false, [], ◌∷◌, ◌++◌, length, drop, take, None, IfOk, OnOk, OnErr, IsOkUnless, MatchOption, is_some, option_copied};
 ghost use Rattle.gl_args.specs.declared.names.ToolName.{ToolName};
 ghost use Rattle.gl_args.specs.Options.{options_in};
-ghost use Rattle.gl_args.specs.Program.{Goes, given, goes_on, done};
+ghost use Rattle.gl_client.specs.Program.{Goes, given, goes_on, done};
 ghost use Rattle.gl_lines.specs.Finding.{offset_said, below_32_bits, word_at, named_line, fails, fails_at, fails_looking, leaves, chip_closed, requested, known, opened, all_found, looked, looks, chip_slot, named_opened, finds, has_found, left, Stays, StaysThere};
 
 use crate::bytes::request_sent;
 use crate::found_line::{FoundLine, are_apart, offsets_of, place_of};
 use crate::texts::failed_line;
 use crate::words::{path_of_name, path_of_number};
-use gl_args::{Next, Opts, ToolName};
+use gl_args::{Opts, ToolName};
 use gl_base::command::GET_LINE;
 use gl_base::{Do, Errno, Got, Name, read_decimal};
+use gl_client::Next;
 use std::alloc::Global;
 
 /// Where it stands.
@@ -25,7 +26,7 @@ pub enum FinderStage {
     OpeningFound,
     /// The lines are being requested.
     Requesting,
-    /// The chip is being closed behind the request.
+    /// The chip is being closed after the request.
     Closing,
     /// A refusal was printed, and the chip is open.
     ChipOpen,
@@ -79,7 +80,7 @@ impl Finder {
         }
     }
 
-    /// What it does next. Where memory is wanted, what is left is what was left: it may be called again with the same result.
+    /// What it does next. When out of memory, what is left is what was left: it may be called again with the same result.
     pub fn next(&mut self, alloc: Global, got: Option<&Got>) -> Result<Next, Errno>
         ensures goes { IfOk result (λ next. Goes (given (left self.old) (option_copied got.entry)) next (left self.new)) }
         ensures stays { Stays self.old self.new }
@@ -91,7 +92,7 @@ impl Finder {
         Ok(step)
     }
 
-    /// Puts into `step` what it does next, as `next` answers it. Where memory is wanted `step` means nothing.
+    /// Puts into `step` what it does next, as `next` answers it. When out of memory `step` means nothing.
     pub fn put_next(
         &mut self,
         alloc: Global,
@@ -152,7 +153,7 @@ impl Finder {
         }
     }
 
-    /// Begins: the first thing that it does. Where memory is wanted it may begin again.
+    /// Begins: the first thing that it does. When out of memory it may begin again.
     pub fn begin(&mut self, alloc: Global) -> Result<Next, Errno>
         ensures goes { IfOk result (λ next. Goes (finds self.old.tool self.old.base self.old.made (options_in self.old.opts)) next (left self.new)) }
         ensures stays { Stays self.old self.new }
@@ -164,7 +165,7 @@ impl Finder {
         Ok(step)
     }
 
-    /// Begins, and puts into `step` the first thing that it does, as `begin` answers it. Where memory is wanted `step` means
+    /// Begins, and puts into `step` the first thing that it does, as `begin` answers it. When out of memory `step` means
     /// nothing.
     pub fn put_first(&mut self, alloc: Global, step: &mut Next) -> Result<(), Errno>
         ensures goes { OnOk result (Goes (finds self.old.tool self.old.base self.old.made (options_in self.old.opts)) step.new (left self.new)) }
@@ -234,7 +235,7 @@ impl Finder {
         }
     }
 
-    /// The same; where memory is wanted there may be more lines behind those that were found.
+    /// The same; when out of memory there may be more lines after those that were found.
     fn look_on(&mut self, alloc: Global, step: &mut Next) -> Result<(), Errno>
         ensures goes { OnOk result (Goes (looks self.old.tool self.old.base self.old.made (options_in self.old.opts) (drop self.old.next self.old.opts.lines.items) self.old.found.items) step.new (left self.new)) }
         ensures stays { Stays self.old self.new }
@@ -267,7 +268,7 @@ impl Finder {
         None
     }
 
-    #[tactic(auto, using(gl_args::proofs::Programs::choices))]
+    #[tactic(auto, using(gl_client::proofs::Programs::choices))]
     fn looked(
         &mut self,
         alloc: Global,
@@ -298,7 +299,7 @@ impl Finder {
         }
     }
 
-    /// Looks for the further lines behind one that was found by its name.
+    /// Looks for the further lines after one that was found by its name.
     fn look_behind(
         &mut self,
         alloc: Global,
@@ -328,7 +329,7 @@ impl Finder {
     }
 
     /// All lines are known.
-    #[tactic(auto, using(gl_args::proofs::Programs::choices))]
+    #[tactic(auto, using(gl_client::proofs::Programs::choices))]
     fn all_found(&mut self, alloc: Global, step: &mut Next) -> Result<(), Errno>
         ensures goes { OnOk result (Goes (all_found self.old.tool self.old.base self.old.made (options_in self.old.opts) self.old.found.items) step.new (left self.new)) }
         ensures stays { Stays self.old self.new }
@@ -368,7 +369,7 @@ impl Finder {
     }
 
     /// All lines are known, and the chip is open: they are requested where the tool requests its lines.
-    #[tactic(auto, using(gl_args::proofs::Programs::choices))]
+    #[tactic(auto, using(gl_client::proofs::Programs::choices))]
     fn known(&mut self, alloc: Global, step: &mut Next) -> Result<(), Errno>
         ensures goes { OnOk result (Goes (known self.old.tool self.old.base self.old.made (options_in self.old.opts) self.old.found.items) step.new (left self.new)) }
         ensures stays { Stays self.old self.new }
@@ -467,7 +468,7 @@ impl Finder {
     }
 
     /// Prints a refusal while lines are looked for: the chip is open where it was named.
-    #[tactic(auto, using(gl_args::proofs::Programs::choices))]
+    #[tactic(auto, using(gl_client::proofs::Programs::choices))]
     fn fail_looking(&mut self, alloc: Global, errno: Errno, step: &mut Next) -> Result<(), Errno>
         ensures goes { OnOk result (Goes (fails_looking self.old.tool self.old.base self.old.made (options_in self.old.opts) errno) step.new (left self.new)) }
         ensures stays { Stays self.old self.new }

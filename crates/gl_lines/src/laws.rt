@@ -3,11 +3,11 @@
 ghost use Rattle.std.specs.Prelude.{◌≡◌, ℕ, ◌+◌, true, false, List, ◌∷◌, length};
 ghost use Rattle.gl_args.specs.declared.names.ToolName.{ToolName};
 ghost use Rattle.gl_args.specs.Options.{Options};
-ghost use Rattle.gl_args.specs.Costs.{CostsAtMost};
-ghost use Rattle.gl_args.specs.OpenSlots.{AreApart, NamesOpenSlots, SameSlots, with_slot};
+ghost use Rattle.gl_client.specs.Costs.{CostsAtMost};
+ghost use Rattle.gl_client.specs.OpenSlots.{AreApart, NamesOpenSlots, SameSlots, with_slot};
 ghost use Rattle.gl_lines.specs.FoundSlot.{found_slot};
 ghost use Rattle.gl_args.specs.Names.{requests_lines};
-ghost use Rattle.gl_args.specs.Printing.{PrintsLines};
+ghost use Rattle.gl_client.specs.Printing.{PrintsLines};
 ghost use Rattle.gl_lines.specs.Finding.{finds};
 
 /// To find lines makes at most an entry a line and two for the chip, and to request them three more.

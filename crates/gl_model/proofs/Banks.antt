@@ -40,7 +40,7 @@ use Rattle.gl_model.proofs.LedgerSteps.{configure_same}
 use Rattle.gl_hogs.specs.Hogs.{hog_settings, hogged_bank, hogged_descs}
 use Rattle.gl_simtree.specs.Plans.{planned_hogs, planned_lines, planned_names}
 use Rattle.gl_simtree.specs.declared.row.TreeRow.{TreeRow}
-use Rattle.gl_model.specs.Asked.{AskedLines, asked_in, request_fault}
+use Rattle.gl_model.specs.AskedLines.{AskedLines, asked_in, request_fault}
 use Rattle.gl_model.specs.Chips.{new_place, place_refusal, places_left}
 use Rattle.gl_model.specs.Tree.{place_of_bank, with_names, gone_live, read_outcome}
 use Rattle.gl_model.proofs.Holders.{lines_free}
@@ -257,7 +257,7 @@ configured_held : (kind : Kind) (settings : Settings) (l : Levels) → (configur
 configured_held Simulated settings l = directed_held settings (held_with settings l)
 configured_held Remote settings l = directed_held settings (held_with settings l)
 
--- the lines of a place agree, but for some that are held and not configured yet
+-- the lines of a place agree, except for some that are held and not configured yet
 record PendingAt (place : ℕ) (left : List ℕ) (p : ℕ) (x : Place) : Type 0 where
   as_many : length x.descs ≡ length x.bank
   lines : (offset : ℕ) → ((p ≡ place) × (list_any (nat_eq offset) left ≡ true)) ⊎ LineAgrees (desc_at x.descs offset).holder (levels_at x.bank offset)

@@ -14,7 +14,7 @@ use Rattle.gl_base.specs.declared.limits.TheConstants.{PLACES}
 use Rattle.gl_simtree.specs.Nodes.{node_at}
 use Rattle.gl_uapi.specs.declared.layout.TheConstants.{CHANGED_RELEASED, CHANGED_REQUESTED}
 use Rattle.gl_watch.specs.Files.{is_file}
-use Rattle.gl_model.specs.Asked.{asked_in, request_fault, AskedLines}
+use Rattle.gl_model.specs.AskedLines.{asked_in, request_fault, AskedLines}
 use Rattle.gl_model.specs.Places.{place_at, with_place}
 use Rattle.gl_model.specs.Removal.{is_unplugging, removed_places, unplug_refusal, change_where, end_at, is_removing_of, is_up_of, remove_begun, remove_ended, unplug_begun}
 use Rattle.gl_base.specs.declared.errno.Errno.{Errno}

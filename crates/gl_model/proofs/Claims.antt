@@ -14,7 +14,7 @@ use Rattle.gl_world.specs.declared.history.Entry.{Entry}
 use Rattle.gl_model.specs.declared.call.Call.{Call}
 use Rattle.gl_model.specs.declared.gift.Gift.{Gift}
 use Rattle.gl_model.specs.declared.reply.Reply.{Reply}
-use Rattle.gl_model.specs.Asked.{AskedLines, asked_in, request_fault}
+use Rattle.gl_model.specs.AskedLines.{AskedLines, asked_in, request_fault}
 use Rattle.gl_model.specs.Claiming.{claim_number, claim_refusal, held, is_claim_of, line_refusal, new_claim}
 use Rattle.gl_model.specs.Edges.{is_monitored, with_edge}
 use Rattle.gl_model.specs.Machine.{machine}

@@ -29,7 +29,7 @@ use Rattle.gl_model.specs.declared.call.Part.TheVariants.{Whole, Ask, Tell}
 use Rattle.gl_model.specs.declared.gift.Gift.{Gift}
 use Rattle.gl_model.specs.declared.reply.Reply.{Reply}
 use Rattle.gl_model.specs.declared.reply.Reply.TheVariants.{Go}
-use Rattle.gl_model.specs.Asked.{asked_in, request_fault}
+use Rattle.gl_model.specs.AskedLines.{asked_in, request_fault}
 use Rattle.gl_model.specs.Claiming.{claim, claim_at, claim_by, claim_lines, claim_refusal, get_line_ask, get_line_tell, held, hold_claim, is_claim_of, new_claim, told_claim, with_descs}
 use Rattle.gl_model.specs.Configuring.{configure, configure_each, configure_from, settings_of}
 use Rattle.gl_model.specs.Edges.{is_monitored, with_edge}
@@ -154,7 +154,7 @@ module _ (u : Request → Bool) where
     | false ↦ (λ a h. first_passes P rows c a h)
   ] all e
 
-  -- where the first row of those behind x passes, x has another number
+  -- where the first row of those after x passes, x has another number
   other_number : (x c : Request) (rows : List Request) → Each (λ (y : Request). nat_eq x.fd y.fd ≡ false) rows → find u rows ≡ Some c → (x.fd == c.fd) ≡ false
   other_number x c rows differ e = let other : nat_eq x.fd c.fd ≡ false = first_is (λ y. nat_eq x.fd y.fd ≡ false) rows c differ e in grind (arith, nat_tests)
 
@@ -165,7 +165,7 @@ module _ (u : Request → Bool) where
     | false ↦ (λ h. ap (λ b. cond b (Some x) (request_at rows c.fd)) (other_number x c rows differ.0 h) ∙ first_by_number rows c differ.1 h)
   ] e
 
-  -- no other row passes behind one that does
+  -- no other row passes after one that does
   one_passes : (x : Request) (rows : List Request) → u x ≡ true → length (filter u (x ∷ rows)) ≤ 1 → Each (λ (y : Request). ⊥) (filter u rows)
   one_passes x rows e one = empty_each (filter u rows) (subst (λ b. length (cond b (x ∷ filter u rows) (filter u rows)) ≤ 1) e one)
     where
@@ -389,14 +389,14 @@ StandsAt a at rows = ClaimsAt a at rows × HasAt a at rows
 -- an ask of GET_LINE
 
 -- after an ask that was answered Go the actor has a claim at its place, and else it has none
-abbrev Asked : ℕ → ℕ → Outcome → Type 0
-Asked a place out = StandsAt a (cond (is_go out.reply) (Some place) None) out.world.requests
+abbrev ClaimsOnGo : ℕ → ℕ → Outcome → Type 0
+ClaimsOnGo a place out = StandsAt a (cond (is_go out.reply) (Some place) None) out.world.requests
 
-asked_unless : (a place : ℕ) (r : Option Errno) (w : World) (out : Outcome) → ClaimsAt a None w.requests → Asked a place out → Asked a place (refused_or r w out)
+asked_unless : (a place : ℕ) (r : Option Errno) (w : World) (out : Outcome) → ClaimsAt a None w.requests → ClaimsOnGo a place out → ClaimsOnGo a place (refused_or r w out)
 asked_unless a place None w out none asked = asked
 asked_unless a place (Some errno) w out none asked = (none, tt)
 
-ask_claims : (a place fd len : ℕ) (bytes : List ℕ) (w : World) → ClaimsAt a None w.requests → Asked a place (checked a place fd len GetLine bytes Ask w)
+ask_claims : (a place fd len : ℕ) (bytes : List ℕ) (w : World) → ClaimsAt a None w.requests → ClaimsOnGo a place (checked a place fd len GetLine bytes Ask w)
 ask_claims a place fd len bytes w none =
     let structure : List ℕ = take (size_of GetLine) bytes in
     let asked = asked_in structure in
@@ -498,7 +498,7 @@ module _ (a : ℕ) (w : World) where
       by_command (λ out. StandsAt a new out.world.requests) x.call x.actor c.place c.fd c.cmd c.len c.bytes Whole is command call
       (subst (λ v. StandsAt a new v.requests) (sym (whole_refused a c.place c.fd c.len c.bytes w)) (subst (λ s. StandsAt a s w.requests) (before ∙ sym after) at))
   moves_claims x old new numbers one reply is (asks c command call before after) at =
-      let asked : Asked a c.place (step w x.actor x.call) = by_command (Asked a c.place) x.call x.actor c.place c.fd c.cmd c.len c.bytes Ask is command call
+      let asked : ClaimsOnGo a c.place (step w x.actor x.call) = by_command (ClaimsOnGo a c.place) x.call x.actor c.place c.fd c.cmd c.len c.bytes Ask is command call
       (ask_claims a c.place c.fd c.len c.bytes w (subst (λ s. StandsAt a s w.requests) before at).0) in
       subst (λ s. StandsAt a s (step w x.actor x.call).world.requests) (sym after)
       (subst (λ r. StandsAt a (cond (is_go r) (Some c.place) None) (step w x.actor x.call).world.requests) (sym reply) asked)

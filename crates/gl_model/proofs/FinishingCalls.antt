@@ -58,7 +58,7 @@ module _ {K : Type 0} (stands_for : K → World → Type 0) where
   get_line_named (Some SetValues) e = absurd (true≢false (sym e))
 
   module _ (actor : ℕ) where
-    -- the entries behind a first one that is no command GET_LINE, where the second is none
+    -- the entries after a first one that is no command GET_LINE, where the second is none
     rest_is_other : (second : Call) (own rest : List (Entry K Call Reply Gift)) (b : Bool) → is_get_line_call second ≡ false → NonePasses own → MakesRest actor b second own rest → NonePasses rest
     rest_is_other second own rest false other others makes = subst NonePasses (sym makes.0) tt
     rest_is_other second own rest true other others makes = subst NonePasses (sym makes.1) (with_last own others)

@@ -38,7 +38,7 @@ use Rattle.gl_model.specs.declared.call.Part.{Part}
 use Rattle.gl_model.specs.declared.call.Part.TheVariants.{Whole, Ask, Tell}
 use Rattle.gl_model.specs.declared.place.Place.{Place}
 use Rattle.gl_model.specs.declared.reply.Reply.TheVariants.{Go}
-use Rattle.gl_model.specs.Asked.{AskedLines, asked_in, request_fault}
+use Rattle.gl_model.specs.AskedLines.{AskedLines, asked_in, request_fault}
 use Rattle.gl_model.specs.Chips.{new_place, places_left}
 use Rattle.gl_model.specs.Claiming.{claim, claim_at, claim_by, claim_lines, claim_number, claim_refusal, errno_of, held, line_refusal, new_claim, told_claim, with_descs}
 use Rattle.gl_model.specs.Configuring.{configure_each, interrupt_fault, settings_of, set_config}

@@ -7,7 +7,7 @@ use Rattle.gl_base.specs.Refusals.{first_of, when}
 use Rattle.gl_base.specs.declared.errno.Errno.TheVariants.{BadF, Busy, Inval, NoSpc, Perm, NoEnt, Io, NxIo, Again, Fault, Exist, MFile, OpNotSupp}
 use Rattle.gl_uapi.specs.Fields.{number_at, number_bytes}
 use Rattle.gl_watch.specs.Files.{file_at, unwatch_refusal, watch_refusal}
-use Rattle.gl_model.specs.Asked.{asked_in, request_fault}
+use Rattle.gl_model.specs.AskedLines.{asked_in, request_fault}
 use Rattle.gl_model.specs.Commands.{info_refusal, offset_named, get_chip_info, with_watched, write_info}
 use Rattle.gl_model.specs.Places.{lines_at}
 use Rattle.gl_base.specs.declared.errno.Errno.{Errno}

@@ -179,7 +179,7 @@ module _ (P Q : Seat → Type 0) where
   each_pushed [] s h q e = (q, tt)
   each_pushed (x ∷ seats) s h q e = (h x e.0, each_pushed seats s h q e.1)
 
-  -- those behind one with a number have other numbers
+  -- those after one with a number have other numbers
   each_behind : (n : ℕ) (seats : List Seat) (ys : List ℕ) → ((x : Seat) → is_seat n x ≡ false → P x → Q x) → AllByRecursion (λ y. nat_eq n y ≡ false) (map seat_number seats ++ ys) → Each P seats → Each Q seats
   each_behind n [] ys h all e = tt
   each_behind n (x ∷ seats) ys h all e =
@@ -323,7 +323,7 @@ in_range (line ∷ lines) (suc offset) taken = let h : offset < length lines = i
 abbrev pub NobodyHas : List (List Desc) → Type 0
 NobodyHas more = (place offset : ℕ) → taken_by (holder_in more place offset) ≡ None
 
--- the line is as it was, or stands behind what there was
+-- the line is as it was, or stands after what there was
 abbrev pub IsOldOrNew : List (List Desc) → List (List Desc) → ℕ → ℕ → Type 0
 IsOldOrNew tables more place offset =
     (holder_in (tables ++ more) place offset ≡ holder_in tables place offset) ⊎ ((taken_by (holder_in (tables ++ more) place offset) ≡ None) × (holder_in tables place offset ≡ Free))

@@ -1,4 +1,4 @@
--- Which lines are hard behind a tell: line by line, each at its turn, and none before or behind it.
+-- Which lines are hard after a tell: line by line, each at its turn, and none before or after it.
 use Rattle.std.proofs.Common.{◌≡◌, ◌≢◌, ◌+◌, ◌*◌, ◌<◌, ◌≤◌, ℕ, zero, suc, List, [], ◌∷◌, length, take, set, get_or, refl, sym, ap, ◌∙◌, subst, Bool, true, false, cond, Option, Some, None, arith, inl, inr, length-set, get_or-set_same}
 use Rattle.std.specs.Prelude.{nat_eq, ◌==◌, ◌&&◌, ◌||◌, slice_index, slice_index_or}
 use Rattle.std.specs.Bool.{beq}

@@ -38,7 +38,7 @@ use Rattle.gl_model.specs.declared.call.Call.TheVariants.{Probe, Unplug, MakeDir
 use Rattle.gl_model.specs.declared.call.Part.{Part}
 use Rattle.gl_model.specs.declared.call.Part.TheVariants.{Whole, Ask, Tell}
 use Rattle.gl_model.specs.declared.place.Place.{Place}
-use Rattle.gl_model.specs.Asked.{asked_in, request_fault}
+use Rattle.gl_model.specs.AskedLines.{asked_in, request_fault}
 use Rattle.gl_model.specs.Claiming.{claim, claim_at, claim_by, claim_refusal, held, told_claim, with_descs}
 use Rattle.gl_model.specs.Clock.{clock_refusal, fire, settle, settle_each}
 use Rattle.gl_model.specs.Commands.{offset_named}

@@ -70,7 +70,7 @@ use Rattle.gl_model.specs.declared.call.Part.TheVariants.{Whole, Ask, Tell}
 use Rattle.gl_model.specs.declared.gift.Gift.{Gift}
 use Rattle.gl_model.specs.declared.place.Place.{Place}
 use Rattle.gl_model.specs.declared.reply.Reply.{Reply}
-use Rattle.gl_model.specs.Asked.{asked_in, request_fault}
+use Rattle.gl_model.specs.AskedLines.{asked_in, request_fault}
 use Rattle.gl_model.specs.Chips.{new_place, place_refusal, places_left}
 use Rattle.gl_model.specs.Claiming.{claim_at, claim_by, claim_refusal, held, hold_claim, new_claim, told_claim, with_descs}
 use Rattle.gl_model.specs.Clock.{clock_refusal, fire, settle, settle_each, tick}
@@ -677,7 +677,7 @@ pub names_stay : NamesStay
 names_stay = record { opens = opens; stay = stay; shown = shown }
 
 module _ {K : Type 0} (stands_for : K → World → Type 0) where
-  -- all names stay names behind a history of calls in range
+  -- all names stay names after a history of calls in range
   pub names_stay_behind : (w : World) (history : List (Entry K Call Reply Gift)) → HasAllNames w → AnsweredFrom (machine stands_for) w history → HasAllNames (fold_from (machine stands_for) w history)
   names_stay_behind w [] s h = s
   names_stay_behind w (e ∷ history) s h = names_stay_behind (step w e.actor e.call).world history (stay w e.actor e.call s h.1) h.2

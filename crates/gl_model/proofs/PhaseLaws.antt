@@ -1,4 +1,4 @@
--- The laws of the phases, but for that of sound worlds.
+-- The laws of the phases, except for that of sound worlds.
 use Rattle.std.proofs.Common.{◌≡◌, ◌+◌, ◌<◌, ◌≤◌, ℕ, zero, suc, List, [], ◌∷◌, length, refl, sym, ap, ◌∙◌, subst, Bool, true, false, cond, Option, Some, None, arith}
 use Rattle.std.specs.Prelude.{◌==◌, ◌&&◌, not, Contains, is_none}
 use Rattle.std.specs.List.{filter}

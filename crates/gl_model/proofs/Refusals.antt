@@ -41,7 +41,7 @@ use Rattle.gl_watch.specs.Files.{unwatch_refusal, watch_refusal}
 use Rattle.gl_watch.specs.declared.file.ChipFile.{ChipFile}
 use Rattle.gl_model.specs.declared.call.Part.{Part}
 use Rattle.gl_model.specs.declared.place.Place.{Place}
-use Rattle.gl_model.specs.Asked.{AskedLines, config_of, header_fault, num_lines, request_fault}
+use Rattle.gl_model.specs.AskedLines.{AskedLines, config_of, header_fault, num_lines, request_fault}
 use Rattle.gl_model.specs.Chips.{phase_at, place_refusal}
 use Rattle.gl_model.specs.Claiming.{claim_number, claim_refusal, errno_of, line_refusal}
 use Rattle.gl_model.specs.Clock.{clock_refusal}

@@ -1,4 +1,4 @@
--- A refused call leaves all as it was, but for the claim whose driver failed.
+-- A refused call leaves all as it was, except for the claim whose driver failed.
 use Rattle.std.proofs.Common.{◌≡◌, ℕ, Bool, true, false, ◌&&◌, not, nat_le, length, take, ◌==◌, refl, sym, ap, ◌∙◌, subst, cond, inl, inr, List, [], ◌∷◌, Option, Some, None, Result, Ok, Err}
 use Rattle.std.specs.Option.{option_and_then}
 use Rattle.std.specs.List.{find}
@@ -13,7 +13,7 @@ use Rattle.gl_simtree.specs.Nodes.{node_at}
 use Rattle.gl_uapi.specs.Fields.{number_at}
 use Rattle.gl_uapi.specs.declared.layout.TheConstants.{INFO_CHANGED_SIZE, LINE_EVENT_SIZE}
 use Rattle.gl_watch.specs.Files.{file_at, unwatch_refusal, watch_refusal}
-use Rattle.gl_model.specs.Asked.{asked_in, request_fault}
+use Rattle.gl_model.specs.AskedLines.{asked_in, request_fault}
 use Rattle.gl_model.specs.Chips.{place_refusal, places_left}
 use Rattle.gl_model.specs.Clock.{clock_refusal}
 use Rattle.gl_model.specs.Commands.{info_refusal, offset_named}

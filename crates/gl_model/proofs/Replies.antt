@@ -12,7 +12,7 @@ use Rattle.gl_simtree.specs.Nodes.{node_at}
 use Rattle.gl_uapi.specs.Fields.{number_at}
 use Rattle.gl_uapi.specs.declared.layout.TheConstants.{INFO_CHANGED_SIZE, LINE_EVENT_SIZE}
 use Rattle.gl_watch.specs.Files.{file_at, unwatch_refusal, watch_refusal}
-use Rattle.gl_model.specs.Asked.{asked_in, request_fault}
+use Rattle.gl_model.specs.AskedLines.{asked_in, request_fault}
 use Rattle.gl_model.specs.Chips.{place_refusal, places_left, phase_at, is_leaving}
 use Rattle.gl_model.specs.Clock.{clock_refusal}
 use Rattle.gl_model.specs.Commands.{info_refusal, offset_named}

@@ -32,7 +32,7 @@ use Rattle.gl_model.specs.declared.call.Call.TheVariants.{Probe, Unplug, MakeDir
 use Rattle.gl_model.specs.declared.call.Part.{Part}
 use Rattle.gl_model.specs.declared.call.Part.TheVariants.{Whole, Ask, Tell}
 use Rattle.gl_model.specs.declared.reply.Reply.TheVariants.{Go}
-use Rattle.gl_model.specs.Asked.{asked_in, request_fault}
+use Rattle.gl_model.specs.AskedLines.{asked_in, request_fault}
 use Rattle.gl_model.specs.Claiming.{claim, claim_at, claim_by, claim_lines, claim_refusal, held, hold_claim, new_claim, told_claim, with_descs}
 use Rattle.gl_model.specs.Clock.{clock_refusal, fire, settle, settle_each, tick}
 use Rattle.gl_model.specs.Configuring.{configure, configure_each, configure_from, settings_of, with_levels, config_refusal, is_directed, reconfigure, reconfigure_from, set_config, settings_after, with_settings}

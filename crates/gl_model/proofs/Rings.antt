@@ -14,7 +14,7 @@ use Rattle.gl_ring.proofs.Gaps.{after_append, gaps, given_append}
 use Rattle.gl_ring.proofs.Lasting.{left-waiting, pushed-waiting}
 use Rattle.gl_uapi.specs.declared.line_events.Event.{Event}
 use Rattle.gl_model.specs.declared.call.Call.{Call}
-use Rattle.gl_model.specs.Asked.{asked_in}
+use Rattle.gl_model.specs.AskedLines.{asked_in}
 use Rattle.gl_model.specs.Claiming.{held, new_claim}
 use Rattle.gl_model.specs.Edges.{is_monitored, with_edge}
 use Rattle.gl_model.specs.Reading.{events_waiting, read_from, events_for, read_refusal, take_events}
@@ -427,7 +427,7 @@ step_holds fd w actor (ReadEdges place number len) turns read agree sound h =
     (λ e. its_kind (is_chip_file place number w || is_request_file place number w) (is_request_file place number w) (nothing_first (request_file_refusal place number w) (first_of (behind ∷ [])) e).0) h
 step_holds fd w actor call turns read agree sound h = other_holds fd w actor call refl agree sound turns read h
 
--- the world behind the calls of a history
+-- the world after the calls of a history
 abbrev world_behind : {K : Type 0} → World → List (Entry K Call Reply Gift) → World
 world_behind w [] = w
 world_behind w (e ∷ history) = world_behind (step w e.actor e.call).world history

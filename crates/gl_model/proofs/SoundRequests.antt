@@ -22,7 +22,7 @@ use Rattle.gl_ring.specs.Waiting.{with_item}
 use Rattle.gl_uapi.specs.Fields.{is_zero_at}
 use Rattle.gl_uapi.specs.declared.layout.TheConstants.{REQUEST_PADDING, REQUEST_PADDING_SIZE}
 use Rattle.gl_base.specs.declared.limits.TheConstants.{LINES_PER_REQUEST}
-use Rattle.gl_model.specs.Asked.{AskedLines, asked_in, config_of, header_fault, num_lines, offset_asked, request_fault}
+use Rattle.gl_model.specs.AskedLines.{AskedLines, asked_in, config_of, header_fault, num_lines, offset_asked, request_fault}
 use Rattle.gl_model.specs.Claiming.{claim_number, claim_refusal, errno_of, held, line_refusal, new_claim}
 use Rattle.gl_model.specs.Configuring.{interrupt_fault, settings_of}
 use Rattle.gl_model.specs.Edges.{is_monitored, with_edge}

@@ -435,7 +435,7 @@ foreign_banks : (device other : List ℕ) (banks : List TreeRow) → bytes_eq de
 foreign_banks device other [] ne = tt
 foreign_banks device other (bank ∷ banks) ne = (ne, foreign_banks device other banks ne)
 
--- the chips of banks are up and of the device, and there is nothing behind them
+-- the chips of banks are up and of the device, and there is nothing after them
 banks_are : (device : List ℕ) (banks : List TreeRow) (k : ℕ)
     → ((is_device_named device (slice_index_or (map (origin_of_bank device) banks) k no_origin).device && is_up (chip_at (map chip_of_bank banks) k).phase) ≡ nat_lt k (length banks))
     × (is_leaving (chip_at (map chip_of_bank banks) k).phase ≡ false)

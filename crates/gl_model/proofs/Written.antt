@@ -41,7 +41,7 @@ use Rattle.gl_model.specs.declared.call.Part.{Part}
 use Rattle.gl_model.specs.declared.call.Part.TheVariants.{Whole, Ask, Tell}
 use Rattle.gl_model.specs.declared.reply.Reply.{Reply}
 use Rattle.gl_model.specs.declared.reply.Reply.TheVariants.{Go, Refused}
-use Rattle.gl_model.specs.Asked.{asked_in, request_fault}
+use Rattle.gl_model.specs.AskedLines.{asked_in, request_fault}
 use Rattle.gl_model.specs.Chips.{place_refusal, places_left}
 use Rattle.gl_model.specs.Claiming.{claim_at, claim_by, claim_refusal, told_claim}
 use Rattle.gl_model.specs.Clock.{clock_refusal}

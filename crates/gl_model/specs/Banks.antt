@@ -36,7 +36,7 @@ pub record PlaceAgrees (place : Place) : Type 0 where
 abbrev pub BanksAgree : World → Type 0
 BanksAgree w = (place : ℕ) → PlaceAgrees (place_at w place)
 
--- At first, and each call keeps it so, where requests and lines agree on who has what. So it is behind every legal history.
+-- At first, and each call keeps it so, where requests and lines agree on who has what. So it is after every legal history.
 pub record BanksStayAgreed : Type 0 where
   pub opens : BanksAgree opening
   pub stay : (w : World) (actor : ℕ) (call : Call) → HoldersAgree w → BanksAgree w → BanksAgree (step w actor call).world

@@ -19,7 +19,7 @@ use Rattle.gl_uapi.specs.Fields.{number_bytes, overwritten}
 use Rattle.gl_uapi.specs.declared.layout.TheConstants.{CHANGED_REQUESTED, REQUEST_FD}
 use Rattle.gl_model.specs.declared.place.Place.{Place}
 use Rattle.gl_model.specs.declared.reply.Reply.TheVariants.{Go, Number}
-use Rattle.gl_model.specs.Asked.{AskedLines, asked_in, request_fault}
+use Rattle.gl_model.specs.AskedLines.{AskedLines, asked_in, request_fault}
 use Rattle.gl_model.specs.Configuring.{configure_each, interrupt_fault, settings_of}
 use Rattle.gl_model.specs.Notify.{notify_each}
 use Rattle.gl_model.specs.OpenFiles.{number_refusal}

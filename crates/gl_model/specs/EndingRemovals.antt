@@ -23,7 +23,7 @@ module _ {K : Type 0} (stands_for : K → World → Type 0) where
     pub quiet : AllQuiet (machine stands_for) (entries_of actor since)
 
   -- The call that the removal of a place awaits is answered Done, if the place's remover makes it: in every world. And so is the
-  -- last call of a removal that an actor has begun, behind every legal history.
+  -- last call of a removal that an actor has begun, after every legal history.
   pub record LastCallsAreDone : Type 0 where
     pub of_a_place : (w : World) (actor place : ℕ) → Removes (machine stands_for) w actor place → (step w actor (awaited_call w place)).reply ≡ Done
     pub of_a_removal : Always stands_for (λ history. (actor : ℕ) (removal : RemovalOf) → HasBegun history actor removal

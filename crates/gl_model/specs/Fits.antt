@@ -13,7 +13,7 @@ use Rattle.gl_model.specs.declared.call.Part.TheVariants.{Whole, Ask, Tell}
 use Rattle.gl_model.specs.declared.gift.Gift.{Gift}
 use Rattle.gl_model.specs.declared.reply.Reply.{Reply}
 use Rattle.gl_model.specs.declared.reply.Reply.TheVariants.{Number, Go}
-use Rattle.gl_model.specs.Asked.{capacity_asked, request_fault}
+use Rattle.gl_model.specs.AskedLines.{capacity_asked, request_fault}
 use Rattle.gl_model.specs.Entries.{is_get_line}
 
 -- a number of a place

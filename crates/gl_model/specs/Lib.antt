@@ -1,6 +1,6 @@
 pub mod World
 pub mod Outcome
-pub mod Asked
+pub mod AskedLines
 pub mod Bits
 pub mod Chips
 pub mod Claiming

@@ -1,5 +1,5 @@
 -- Which lines their driver debounces: what becomes of the marks where a claim is held behind a driver's answer, where a request is
--- configured behind one, and where it is let go of. From the kernel's document on GPIO drivers (a controller that takes a debounce
+-- configured after one, and where it is let go of. From the kernel's document on GPIO drivers (a controller that takes a debounce
 -- period); that the driver's answer has a bit for each line of the request is this project's choice.
 use Rattle.std.specs.Prelude.{◌≡◌, ℕ, ◌*◌, ◌<◌, Bool, false, ◌==◌, ◌&&◌, nat_eq, if◌then◌else◌, List, Option, length, slice_index}
 use Rattle.std.specs.List.{list_any}

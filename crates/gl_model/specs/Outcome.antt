@@ -24,7 +24,7 @@ done w = replies Done w
 abbrev pub numbers : ℕ → World → Outcome
 numbers n w = replies (Number n) w
 
--- the call is refused, and this is the world after it: the one before it, but for a claim whose driver failed; nothing is written
+-- the call is refused, and this is the world after it: the one before it, except for a claim whose driver failed; nothing is written
 abbrev pub refused : Errno → World → Outcome
 refused errno w = replies (Refused errno) w
 

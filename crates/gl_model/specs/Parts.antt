@@ -78,7 +78,7 @@ module _ {M : Type 0} (actor : ℕ) where
   abbrev pub MakesOne : Call → List (Entry M Call Reply Gift) → Type 0
   MakesOne call made = (reply : Reply) × (made ≡ entry actor call reply ∷ [])
 
-  -- what stands behind a first entry: where it owes a second one, the entries between them and the second; else nothing
+  -- what stands after a first entry: where it owes a second one, the entries between them and the second; else nothing
   abbrev pub MakesRest : Bool → Call → List (Entry M Call Reply Gift) → List (Entry M Call Reply Gift) → Type 0
   MakesRest false second between rest = (rest ≡ []) × (between ≡ [])
   MakesRest true second between rest = (reply : Reply) × (rest ≡ between ++ entry actor second reply ∷ [])
@@ -115,6 +115,6 @@ module _ {M : Type 0} (actor : ℕ) where
   -- The entries that one call of the device makes: `closed` tells whether the closed bit stood at its guard, `answer` is
   -- what the driver answered, where it was asked, and `own` are the entries that the driver made for it: which these may be,
   -- the driver decides. What the caller is answered is their `last_reply`, and the bytes that the step writes there. A call that
-  -- is refused for want of memory, or because the history is full, makes none.
+  -- is refused when out of memory, or because the history is full, makes none.
   abbrev pub Makes : Bool → DeviceCall → Option ℕ → List (Entry M Call Reply Gift) → List (Entry M Call Reply Gift) → Type 0
   Makes closed call answer own made = (device_has call ≡ true) × MakesAt (guard_of call) closed call answer own made

@@ -49,7 +49,7 @@ abbrev pub is_failed_claim : Call → Reply → Bool
 is_failed_claim call reply = tells_claim call && is_io reply
 
 -- One row of a table is gone: the first that passes a test, as none in front of it does. The rows in front of it and those
--- behind it stay.
+-- after it stay.
 pub record LosesOne {X : Type 0} (test : X → Bool) (row : X) (before after : List X) : Type 0 where
   pub front : List X
   pub back : List X

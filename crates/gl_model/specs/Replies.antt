@@ -1,5 +1,5 @@
 -- What each call may be answered: the form of its reply, and the errors by which it may be refused. This is the project's
--- choice, but for which errors a command has (`linux/gpio.h` and the kernel's document on the GPIO character device).
+-- choice, except for which errors a command has (`linux/gpio.h` and the kernel's document on the GPIO character device).
 use Rattle.std.specs.Prelude.{◌≡◌, ◌^◌, ◌<◌, ℕ, Bool, true, false, not, ◌==◌, ◌&&◌, ◌||◌, ◌⊎◌, nat_lt, List, [], Option, Some, None, take, slice_index}
 use Rattle.gl_attrs.specs.Setting.{resolved_for}
 use Rattle.gl_base.specs.Bits.{has_bit}
@@ -23,7 +23,7 @@ use Rattle.gl_model.specs.declared.gift.Gift.{Gift}
 use Rattle.gl_model.specs.declared.place.Place.{Place}
 use Rattle.gl_model.specs.declared.reply.Reply.{Reply}
 use Rattle.gl_model.specs.declared.reply.Reply.TheVariants.{Number, Go, Found, Text, Ready, Refused}
-use Rattle.gl_model.specs.Asked.{asked_in}
+use Rattle.gl_model.specs.AskedLines.{asked_in}
 use Rattle.gl_model.specs.Configuring.{settings_of}
 use Rattle.gl_model.specs.Entries.{is_done}
 use Rattle.gl_model.specs.Machine.{Always}
@@ -61,7 +61,7 @@ abbrev pub is_ready : ℕ → Reply → Bool
 is_ready bits (Ready k) = k == bits
 is_ready bits _ = false
 
--- What a command is answered that isn't refused: Done, but for the two parts of GET_LINE and the asks of others, which are
+-- What a command is answered that isn't refused: Done, except for the two parts of GET_LINE and the asks of others, which are
 -- answered Go. Files have numbers below 2^31.
 abbrev pub command_form : Command → Part → Reply → Bool
 command_form GetLine Ask reply = is_go_below (2 ^ 31) reply

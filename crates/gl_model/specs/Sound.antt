@@ -23,7 +23,7 @@ HasAtMostOneDirectory device tree = length (filter (is_row_of (Device device)) t
 -- what is true of a device and of its chips
 pub record IsSoundFor (device : List ℕ) (w : World) : Type 0 where
   pub one_directory : HasAtMostOneDirectory device w.tree
-  -- those that are up stand one behind the other, from a first place on
+  -- those that are up stand one after the other, from a first place on
   pub first : ℕ
   pub count : ℕ
   pub within : first + count ≤ length w.chips

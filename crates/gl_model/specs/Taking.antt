@@ -34,7 +34,7 @@ pub record Takes {X : Type 0} (spell : X → List ℕ) (size len : ℕ) (before 
   pub number : n ≡ size * length given
 
 -- One row of a table was changed: the first that passes a test, as none in front of it does. The rows in front of it and those
--- behind it stay.
+-- after it stay.
 pub record ChangesOne {X : Type 0} (test : X → Bool) (change : X → X) (before after : List X) : Type 0 where
   pub front : List X
   pub row : X

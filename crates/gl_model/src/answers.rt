@@ -9,7 +9,7 @@ ghost use Rattle.gl_model.specs.Written.{ChangesKeepNames, LegalRepliesTellLengt
 
 use crate::image::Image;
 
-/// A refused call leaves the world as it was and writes nothing, but for one: where a request of lines is told
+/// A refused call leaves the world as it was and writes nothing, except for one: where a request of lines is told
 /// and refused with EIO. Then the driver failed, and the actor had an unfinished claim at that place; this claim
 /// is dropped with the holds of its lines, all else stays, and nothing is written.
 pub fn refusals_leave_all()
@@ -61,7 +61,7 @@ pub fn io_has_cause()
 /// What all reads of a request gave, joined in order, are some of the events that came to it, in order, be the request
 /// there still or closed since; what a read gave is what it wrote. While the request is there, the events that came are
 /// those of all its edges, and an edge is neither read nor waiting exactly where the edge as many numbers later as the
-/// request's capacity came before it was read. All this is so behind every legal history, whatever happens.
+/// request's capacity came before it was read. All this is so after every legal history, whatever happens.
 pub fn rings_keep_order<K: Image>()
     ensures order { ReadsInOrder K.Image.stands_for }
     ensures gaps { GapsAreOldest K.Image.stands_for }

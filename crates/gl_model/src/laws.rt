@@ -119,7 +119,7 @@ pub fn worlds_have_bounds<K: Image>()
 
 /// The call that ends the removal of a place is answered Done, if the place's remover makes it. So the last call of a
 /// removal is answered Done, where the actor's first call of this removal was and its entries since have nothing to do
-/// with removals: behind every legal history, whatever happens.
+/// with removals: after every legal history, whatever happens.
 pub fn last_calls_are_done<K: Image>()
     ensures { LastCallsAreDone K.Image.stands_for }
 {}

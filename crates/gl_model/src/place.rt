@@ -6,7 +6,7 @@ use gl_desc::Descs;
 use gl_irq::Irqs;
 use gl_pins::Pins;
 
-/// The tables of the lines of one chip: each has a row for each line, by offset, but for the pins.
+/// The tables of the lines of one chip: each has a row for each line, by offset, except for the pins.
 #[derive(Drop)]
 pub struct Place {
     /// The name of each line, and who has it.

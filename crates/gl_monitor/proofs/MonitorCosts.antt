@@ -8,9 +8,9 @@ use Rattle.gl_base.specs.declared.operation.Do.TheVariants.{ReadFile}
 use Rattle.gl_base.specs.Operation.{refusal, bytes_of, ready_of}
 use Rattle.gl_args.specs.declared.names.ToolName.TheVariants.{Watch as WatchName, Notify as NotifyName}
 use Rattle.gl_args.specs.Options.{Options, SaidTool, SaidDetect, SaidInfo, SaidGet, SaidSet, SaidWatch, SaidNotify}
-use Rattle.gl_args.specs.Program.{Program, done, ask}
-use Rattle.gl_args.specs.Costs.{CostsAtMost}
-use Rattle.gl_args.proofs.Costs.{costs_more, costs_then, costs_then_given}
+use Rattle.gl_client.specs.Program.{Program, done, ask}
+use Rattle.gl_client.specs.Costs.{CostsAtMost}
+use Rattle.gl_client.proofs.Costs.{costs_more, costs_then, costs_then_given}
 use Rattle.gl_lines.specs.declared.found_line.FoundLine.{FoundLine}
 use Rattle.gl_lines.specs.Finding.{finds}
 use Rattle.gl_lines.proofs.FindingCosts.{finds_requesting, finds_alone}

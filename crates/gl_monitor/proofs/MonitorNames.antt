@@ -9,10 +9,10 @@ use Rattle.gl_base.specs.Operation.{refusal, bytes_of, ready_of}
 use Rattle.gl_args.specs.declared.names.ToolName.{ToolName}
 use Rattle.gl_args.specs.declared.names.ToolName.TheVariants.{Watch as WatchName, Notify as NotifyName}
 use Rattle.gl_args.specs.Names.{requests_lines}
-use Rattle.gl_args.specs.OpenSlots.{AreApart, NamesOpenSlots, SameSlots, one_if, times, with_slot}
+use Rattle.gl_client.specs.OpenSlots.{AreApart, NamesOpenSlots, SameSlots, one_if, times, with_slot}
 use Rattle.gl_args.specs.Options.{Options, SaidTool, SaidDetect, SaidInfo, SaidGet, SaidSet, SaidWatch, SaidNotify}
-use Rattle.gl_args.specs.Program.{Program, done, ask}
-use Rattle.gl_args.proofs.OpenSlots.{Follows, counts, counts_with, follows_at, follows_then, names_open}
+use Rattle.gl_client.specs.Program.{Program, done, ask}
+use Rattle.gl_client.proofs.OpenSlots.{Follows, counts, counts_with, follows_at, follows_then, names_open}
 use Rattle.gl_lines.specs.declared.found_line.FoundLine.{FoundLine}
 use Rattle.gl_lines.specs.Finding.{finds}
 use Rattle.gl_lines.specs.FoundSlot.{found_slot}

@@ -12,9 +12,9 @@ use Rattle.gl_args.specs.Names.{requests_lines, tool_text}
 use Rattle.gl_args.specs.Options.{Options, SaidTool, SaidDetect, SaidInfo, SaidGet, SaidSet, SaidWatch, SaidNotify}
 use Rattle.gl_base.specs.TextLines.{ends_lines}
 use Rattle.gl_base.proofs.TextLines.{lines_end}
-use Rattle.gl_args.specs.Printing.{PrintsLines}
-use Rattle.gl_args.specs.Program.{Program, done, ask}
-use Rattle.gl_args.proofs.Printing.{prints_then}
+use Rattle.gl_client.specs.Printing.{PrintsLines}
+use Rattle.gl_client.specs.Program.{Program, done, ask}
+use Rattle.gl_client.proofs.Printing.{prints_then}
 use Rattle.gl_lines.specs.declared.found_line.FoundLine.{FoundLine}
 use Rattle.gl_lines.specs.Finding.{finds}
 use Rattle.gl_lines.proofs.FindingPrints.{failed_ended, finds_lines, line_ended}

@@ -8,11 +8,11 @@ use Rattle.gl_base.specs.declared.operation.Do.TheVariants.{ReadFile}
 use Rattle.gl_base.specs.Operation.{refusal, bytes_of, ready_of}
 use Rattle.gl_args.specs.declared.names.ToolName.{ToolName}
 use Rattle.gl_args.specs.declared.names.ToolName.TheVariants.{Watch as WatchName, Notify as NotifyName}
-use Rattle.gl_args.specs.Gives.{Gives}
+use Rattle.gl_client.specs.Gives.{Gives}
 use Rattle.gl_args.specs.Names.{requests_lines}
 use Rattle.gl_args.specs.Options.{Options, SaidTool, SaidDetect, SaidInfo, SaidGet, SaidSet, SaidWatch, SaidNotify}
-use Rattle.gl_args.specs.Program.{Program, done, ask}
-use Rattle.gl_args.proofs.Costs.{gives_any}
+use Rattle.gl_client.specs.Program.{Program, done, ask}
+use Rattle.gl_client.proofs.Costs.{gives_any}
 use Rattle.gl_lines.specs.declared.found_line.FoundLine.{FoundLine}
 use Rattle.gl_lines.specs.Finding.{finds}
 use Rattle.gl_monitor.specs.Items.{item_size, items_in}

@@ -1,7 +1,7 @@
--- What is left of a monitor where what finds its lines met want of memory.
+-- What is left of a monitor where what finds its lines ran out of memory.
 use Rattle.std.proofs.Common.{◌≡◌, ℕ, Option, Result, Ok, Err, OnErr, refl, sym, ◌∙◌, ap}
 use Rattle.gl_args.specs.Options.{options_in}
-use Rattle.gl_args.specs.Program.{goes_on, then_left}
+use Rattle.gl_client.specs.Program.{goes_on, then_left}
 use Rattle.gl_lines.specs.declared.finder.Finder.{Finder}
 use Rattle.gl_lines.specs.Finding.{Stays, left}
 use Rattle.gl_monitor.specs.declared.monitor.Monitor.{Monitor}

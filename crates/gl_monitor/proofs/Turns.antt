@@ -5,7 +5,7 @@ use Rattle.gl_uapi.specs.LineEvent.{event_in}
 use Rattle.std.proofs.lemmas.List.{drop_more, drop_all}
 use Rattle.gl_base.specs.declared.operation.Do.TheVariants.{Poll}
 use Rattle.gl_base.specs.Operation.{refusal, ready_of}
-use Rattle.gl_args.specs.Program.{ask}
+use Rattle.gl_client.specs.Program.{ask}
 use Rattle.gl_lines.specs.declared.found_line.FoundLine.{FoundLine}
 use Rattle.gl_monitor.specs.Monitor.{Watching, steps, polled}
 use Rattle.gl_monitor.specs.Items.{event_item, change_at, events_from, changes_from, to_items}

@@ -54,7 +54,7 @@ number_of_chip opts found = number_by opts.chip found
 abbrev pub given_text : Options → List FoundLine → ℕ → List ℕ
 given_text opts found offset = chip_name (number_of_chip opts found) ++ (32 ∷ decimal offset)
 
--- the word of a line that was found by its name, behind `CHIP OFFSET` where the chip was named
+-- the word of a line that was found by its name, after `CHIP OFFSET` where the chip was named
 abbrev pub named_text : Options → List FoundLine → ℕ → List ℕ → List ℕ
 named_text opts found offset name =
     if not (is_some opts.chip) then quoted opts.unquoted name else given_text opts found offset ++ (32 ∷ quoted opts.unquoted name)
@@ -68,7 +68,7 @@ abbrev pub line_text : Options → List FoundLine → ℕ → List ℕ
 line_text opts found offset = line_text_by opts found offset (name_at found offset)
 
 module _ (tool : ToolName) (opts : Options) (found : List FoundLine) where
-  -- what stands for the letter behind a percent sign; a pair that isn't here stands for itself
+  -- what stands for the letter after a percent sign; a pair that isn't here stands for itself
   abbrev pub expansion : Item → ℕ → List ℕ
   expansion item letter =
       if letter == 111 then decimal item.offset

@@ -11,7 +11,7 @@ use Rattle.gl_args.specs.declared.names.ToolName.{ToolName}
 use Rattle.gl_args.specs.declared.names.ToolName.TheVariants.{Watch as WatchName, Notify as NotifyName}
 use Rattle.gl_args.specs.Names.{tool_text, requests_lines}
 use Rattle.gl_args.specs.Options.{options_in, Options, SaidTool, SaidWatch, SaidNotify}
-use Rattle.gl_args.specs.Program.{Program, done, print, ask, Left, goes_on, waits, then_left, then_by}
+use Rattle.gl_client.specs.Program.{Program, done, print, ask, Left, goes_on, waits, then_left, then_by}
 use Rattle.gl_lines.specs.declared.finder.Finder.{Finder}
 use Rattle.gl_lines.specs.declared.found_line.FoundLine.{FoundLine}
 use Rattle.gl_lines.specs.Bytes.{info_sent}
@@ -44,7 +44,7 @@ abbrev pub room_of : Option ℕ → ℕ
 room_of None = 16
 room_of (Some missing) = min missing 16
 
--- how many items are missing behind so many
+-- how many items are missing after so many
 abbrev pub less_by : ℕ → Option ℕ → Option ℕ
 less_by count None = None
 less_by count (Some missing) = Some (missing - count)
@@ -53,7 +53,7 @@ abbrev pub is_complete : Option ℕ → Bool
 is_complete None = false
 is_complete (Some missing) = missing == 0
 
--- a file is closed behind a refusal
+-- a file is closed after a refusal
 abbrev pub leaves : ℕ → Program Watched
 leaves slot = ask (Close slot) (λ _. ends)
 
@@ -74,7 +74,7 @@ abbrev pub stops : Watched → Program Watched
 stops None = ends
 stops (Some w) = closes w
 
--- behind a read: the tool ends where no item is missing
+-- after a read: the tool ends where no item is missing
 abbrev pub goes_behind : Watching → Program Watched
 goes_behind w = if is_complete w.missing then closes w else done (Some w)
 
@@ -159,7 +159,7 @@ IsMonitorTool _ = ⊥
 abbrev pub watching_in : Monitor → Watching
 watching_in m = watching m.finder.tool m.finder.base m.finder.made (options_in m.finder.opts) m.finder.found.items m.missing
 
--- what is watched behind a finder that has found its lines
+-- what is watched after a finder that has found its lines
 abbrev pub first_watching : Finder → Watching
 first_watching f = watching f.tool f.base f.made (options_in f.opts) f.found.items f.opts.count
 

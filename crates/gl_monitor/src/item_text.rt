@@ -114,7 +114,7 @@ fn put_given(
     put_number(alloc, offset, text)
 }
 
-/// The word of a line that was found by its name, behind `CHIP OFFSET` where the chip was named.
+/// The word of a line that was found by its name, after `CHIP OFFSET` where the chip was named.
 fn put_named(
     alloc: Global,
     opts: &Opts,
@@ -235,7 +235,7 @@ fn put_front<'a>(
     }
 }
 
-/// What stands for the letter behind a percent sign.
+/// What stands for the letter after a percent sign.
 fn put_expansion(
     alloc: Global,
     tool: ToolName,

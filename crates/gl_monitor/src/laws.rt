@@ -2,10 +2,10 @@
 //! stands as the contract of a function that does nothing.
 ghost use Rattle.std.specs.Prelude.{◌≡◌, ℕ, ◌+◌, Bool, true, List, ◌∷◌};
 ghost use Rattle.gl_args.specs.Options.{SaidTool};
-ghost use Rattle.gl_args.specs.Costs.{CostsAtMost};
-ghost use Rattle.gl_args.specs.Gives.{Gives};
-ghost use Rattle.gl_args.specs.OpenSlots.{AreApart, NamesOpenSlots, SameSlots, with_slot};
-ghost use Rattle.gl_args.specs.Printing.{PrintsLines};
+ghost use Rattle.gl_client.specs.Costs.{CostsAtMost};
+ghost use Rattle.gl_client.specs.Gives.{Gives};
+ghost use Rattle.gl_client.specs.OpenSlots.{AreApart, NamesOpenSlots, SameSlots, with_slot};
+ghost use Rattle.gl_client.specs.Printing.{PrintsLines};
 ghost use Rattle.gl_monitor.specs.Costs.{monitor_cost};
 ghost use Rattle.gl_monitor.specs.Monitor.{Watched, monitor_program, steps_held, stops, watched_slot};
 ghost use Rattle.gl_monitor.specs.WatchedSlots.{WatchedPasses};

@@ -1,16 +1,17 @@
 //! gpiomon and gpionotify.
 ghost use Rattle.std.specs.Prelude.{◌≡◌, ◌+◌, ◌<◌, ◌^◌, ◌≤◌, [], ◌∷◌, true, false, not, is_some, None, drop, IfOk, IsSome, OnOk, OnErr, IsOkUnless, MatchOption, option_copied};
 ghost use Rattle.gl_args.specs.Options.{options_in, tool_in};
-ghost use Rattle.gl_args.specs.Program.{Goes, given, goes_on, done, then_by, MatchNext};
+ghost use Rattle.gl_client.specs.Program.{Goes, given, goes_on, done, then_by, MatchNext};
 ghost use Rattle.gl_lines.specs.declared.found_line.FoundLine.{FoundLine};
 ghost use Rattle.gl_lines.specs.Finding.{Finding, left};
 ghost use Rattle.gl_monitor.specs.Monitor.{IsMonitorTool, monitor_program, begins, watching_in, watched_by, watched_slot, has_ended, left_rest, monitor_left, room_of, less_by, is_complete, leaves, fails, closes, closed, stops, steps_held, started, first_watching, has_lines, watches, watched, goes_behind, shows, was_read, ready, polled, steps};
 
 use crate::item::{ITEMS_MAX, item_size, items_in};
 use crate::item_text::items_text;
-use gl_args::{Next, Opts, Tool, ToolName};
+use gl_args::{Opts, Tool, ToolName};
 use gl_base::command::GET_LINEINFO_WATCH;
 use gl_base::{ByteList, Do, Errno, Got, has_bit};
+use gl_client::Next;
 use gl_lines::{Finder, failed_line, info_sent};
 use std::alloc::Global;
 
@@ -33,7 +34,7 @@ pub enum MonitorStage {
     Shown,
     /// A refusal was printed.
     Failed,
-    /// Its file is being closed behind a refusal.
+    /// Its file is being closed after a refusal.
     Leaving,
     /// It was stopped.
     Stopped,
@@ -91,7 +92,7 @@ impl Monitor {
     /// What it does next. `got` is the result of the operation that it asked for last, if it asked for one. End means
     /// that the start, the step or the stop is done: then what is left is said by what it watches, and it has ended
     /// exactly where it watches nothing. Behind a Call or a Print it hasn't ended.
-    /// Where memory is wanted, what is left is what was left, and it watches what it watched: it may be called again with the
+    /// When out of memory, what is left is what was left, and it watches what it watched: it may be called again with the
     /// same result.
     pub fn next(&mut self, alloc: Global, got: Option<&Got>) -> Result<Next, Errno>
         ensures goes { IfOk result (λ next. Goes (given (monitor_left self.old) (option_copied got.entry)) next (monitor_left self.new)) }
@@ -105,7 +106,7 @@ impl Monitor {
         Ok(step)
     }
 
-    /// Puts into `step` what it does next, as `next` answers it. Where memory is wanted `step` means nothing.
+    /// Puts into `step` what it does next, as `next` answers it. When out of memory `step` means nothing.
     pub fn put_next(
         &mut self,
         alloc: Global,
@@ -256,7 +257,7 @@ impl Monitor {
         }
     }
 
-    /// Goes on behind a step of what finds its lines.
+    /// Goes on after a step of what finds its lines.
     fn go_on(&mut self, step: &mut Next)
         ensures goes { (p : Finding) → Goes p step.old (left self.old.finder) → Goes (then_by p (started self.old.finder.tool self.old.finder.base self.old.finder.made (options_in self.old.finder.opts))) step.new (monitor_left self.new) }
         ensures rests { MatchNext step.new (Unit {0}) (monitor_left self.new ≡ goes_on (done (watched_by self.new))) }
@@ -275,7 +276,7 @@ impl Monitor {
     }
 
     /// Its lines are found: gpionotify watches them, and gpiomon has them.
-    #[tactic(auto, using(gl_args::proofs::Programs::choices))]
+    #[tactic(auto, using(gl_client::proofs::Programs::choices))]
     fn watch_found(&mut self, step: &mut Next)
         ensures goes { Goes (has_lines (first_watching self.old.finder)) step.new (monitor_left self.new) }
         ensures rests { MatchNext step.new (Unit {0}) (monitor_left self.new ≡ goes_on (done (watched_by self.new))) }
@@ -447,7 +448,7 @@ impl Monitor {
     }
 
     /// Ends where all items were read; else the step is done.
-    #[tactic(auto, using(gl_args::proofs::Programs::choices))]
+    #[tactic(auto, using(gl_client::proofs::Programs::choices))]
     fn go_behind(&mut self, step: &mut Next)
         ensures goes { Goes (goes_behind (watching_in self.old)) step.new (monitor_left self.new) }
         ensures rests { MatchNext step.new (Unit {0}) (monitor_left self.new ≡ goes_on (done (watched_by self.new))) }
@@ -491,7 +492,7 @@ impl Monitor {
         Ok(())
     }
 
-    /// Closes its file behind a refusal.
+    /// Closes its file after a refusal.
     fn leave(&mut self, step: &mut Next)
         ensures goes { Goes (leaves (watching_in self.old).slot) step.new (monitor_left self.new) }
         ensures goes_on { MatchNext step.new (has_ended self.new.stage ≡ false) ⊥ }
@@ -556,7 +557,7 @@ fn room_of(missing: Option<u32>) -> u32
     }
 }
 
-/// How many items are missing behind so many.
+/// How many items are missing after so many.
 fn less_by(count: usize, missing: Option<u32>) -> Option<u32>
     ensures { result ≡ less_by count missing }
 {

@@ -2,7 +2,7 @@
 
 ghost use Rattle.std.specs.Prelude.{◌≡◌, ◌<◌, Some};
 ghost use Rattle.gl_ring.specs.Edges.{direction_flag};
-ghost use Rattle.gl_request.specs.Request.{claim_of, event_of, is_open_at, noted, row_of};
+ghost use Rattle.gl_request.specs.Request.{event_of, is_open_at, noted, row_of};
 
 use gl_base::{LINES_PER_REQUEST, Lines, Resolved, flag, has_bit};
 use gl_ring::EdgeRing;
@@ -72,19 +72,6 @@ impl RequestRow {
             ring,
             count: 0,
             line_counts: [0; LINES_PER_REQUEST as usize],
-        }
-    }
-
-    /// What the request was claimed as, with its settings as they are now.
-    pub(crate) fn claimed_as(&self) -> Claim
-        ensures { result ≡ claim_of self.now }
-    {
-        Claim {
-            fd: self.fd,
-            place: self.place,
-            actor: self.actor,
-            lines: self.lines,
-            settings: self.settings,
         }
     }
 

@@ -7,7 +7,7 @@ ghost use Rattle.gl_base.specs.Lines.{IsLineCount};
 ghost use Rattle.gl_base.specs.Rows.{Each, change_first, without_first};
 ghost use Rattle.gl_uapi.specs.LineEvent.{event_bytes};
 ghost use Rattle.gl_ring.specs.Waiting.{taken, taken_count};
-ghost use Rattle.gl_request.specs.Request.{HasLines, HaveDifferentNumbers, StandsAt, claim_by, claim_of, configured, event_of, held, is_claim_of, is_number, is_open_at, noted, read_from, request_at, row_of, settings_at, AreRising, IsBelow};
+ghost use Rattle.gl_request.specs.Request.{HasLines, HaveDifferentNumbers, StandsAt, claim_by, configured, event_of, held, is_claim_of, is_number, is_open_at, noted, read_from, request_at, row_of, settings_at, AreRising, IsBelow};
 
 use crate::row::{Claim, RequestAt, RequestRow};
 use gl_base::{Errno, FILES_MAX, LINES_PER_REQUEST, Lines, Resolved, Settings, push_within};
@@ -96,20 +96,26 @@ impl Requests {
     }
 
     /// The claim of this number is finished: its lines are held.
-    #[tactic(auto, using(crate::proofs::Found::kept))]
+    #[tactic(auto, using(crate::proofs::Found::found))]
     pub fn settle(&mut self, fd: u32)
         ensures { self.new ≡ change_first (is_number fd) held self.old }
     {
-        settle_row(&mut self.rows, fd);
+        match position_of(&self.rows, fd) {
+            Some(at) => self.settle_at(RequestAt { fd, at }),
+            None => {}
+        }
     }
 
     /// Takes the request of this number out, and answers its ring, or None where there is no such request.
-    #[tactic(auto, using(crate::proofs::Found::kept))]
+    #[tactic(auto, using(crate::proofs::Found::found))]
     pub fn release(&mut self, fd: u32) -> Option<EdgeRing>
         ensures rows { self.new ≡ without_first (is_number fd) self.old }
         ensures ring { result ≡ option_map (λ row. row.ring) (request_at self.old fd) }
     {
-        take_row(&mut self.rows, fd)
+        match position_of(&self.rows, fd) {
+            Some(at) => Some(self.take_at(RequestAt { fd, at }).ring),
+            None => None,
+        }
     }
 
     /// Where the request of this number stands, or None where there is no such request.
@@ -193,30 +199,6 @@ impl Requests {
         take_row_at(&mut self.rows, found)
     }
 
-    /// What the request of this number was claimed as, with its settings as they are now.
-    #[tactic(auto, using(crate::proofs::Found::found, crate::proofs::Found::lines_found))]
-    pub fn claimed_as(&self, fd: u32) -> Option<Claim>
-        ensures claim { result ≡ option_map claim_of (request_at self.now fd) }
-        ensures lines { IfSome result (λ claim. IsLineCount claim.lines.count) }
-    {
-        match position_of(&self.rows, fd) {
-            Some(at) => Some(self.rows[at].claimed_as()),
-            None => None,
-        }
-    }
-
-    /// Whether the request of this number is finished, so that its lines are held; false for a claim. None
-    /// comes exactly without such a request.
-    #[tactic(auto, using(crate::proofs::Found::found))]
-    pub fn is_held(&self, fd: u32) -> Option<bool>
-        ensures { result ≡ option_map (λ row. row.held) (request_at self.now fd) }
-    {
-        match position_of(&self.rows, fd) {
-            Some(at) => Some(self.rows[at].held),
-            None => None,
-        }
-    }
-
     /// The place of the chip of the request of this number.
     #[tactic(auto, using(crate::proofs::Found::found))]
     pub fn place(&self, fd: u32) -> Option<u8>
@@ -260,11 +242,14 @@ impl Requests {
     }
 
     /// The request of this number has these settings from now on. Its events and their numbers go on.
-    #[tactic(auto, using(crate::proofs::Found::kept))]
+    #[tactic(auto, using(crate::proofs::Found::found))]
     pub fn configure(&mut self, fd: u32, settings: &Resolved)
         ensures { self.new ≡ change_first (is_number fd) (configured settings.now) self.old }
     {
-        configure_row(&mut self.rows, fd, settings);
+        match position_of(&self.rows, fd) {
+            Some(at) => self.configure_at(RequestAt { fd, at }, settings),
+            None => {}
+        }
     }
 
     /// The same, at the request that was found.
@@ -278,13 +263,16 @@ impl Requests {
 
     /// An edge has come to the line at position `i`, 0 to 63, of the request of this number. Where its direction
     /// is monitored it is an event: it is numbered, waits, and is the answer.
-    #[tactic(auto, using(crate::proofs::Found::kept))]
+    #[tactic(auto, using(crate::proofs::Found::found))]
     pub fn edge(&mut self, fd: u32, i: u32, rising: bool, timestamp: u64) -> Option<Event>
         requires { i < LINES_PER_REQUEST }
         ensures rows { self.new ≡ change_first (is_number fd) (noted i rising timestamp) self.old }
         ensures event { result ≡ option_and_then (event_of i rising timestamp) (request_at self.old fd) }
     {
-        note_edge(&mut self.rows, fd, i, rising, timestamp)
+        match position_of(&self.rows, fd) {
+            Some(at) => self.edge_at(RequestAt { fd, at }, i, rising, timestamp),
+            None => None,
+        }
     }
 
     /// The same, at the request that was found.
@@ -317,7 +305,7 @@ impl Requests {
 
     /// Moves the first events of the request of this number that wait into `out`, at most `max` of them, as
     /// bytes one after the other, and answers how many. What stands behind them in `out` stays.
-    #[tactic(auto, using(crate::proofs::Found::kept))]
+    #[tactic(auto, using(crate::proofs::Found::found))]
     pub fn read(&mut self, fd: u32, max: u32, out: &mut [u8]) -> u32
         requires { LINE_EVENT_SIZE * max ≤ length out.old }
         ensures count { result ≡ option_map_or (λ row. taken_count max row.ring) (request_at self.old fd) 0 }
@@ -325,7 +313,10 @@ impl Requests {
         ensures out { out.new ≡ flat_map event_bytes (option_map_or (λ row. taken max row.ring) (request_at self.old fd) [])
             ++ drop (LINE_EVENT_SIZE * result) out.old }
     {
-        read_row(&mut self.rows, fd, max, out)
+        match position_of(&self.rows, fd) {
+            Some(at) => self.read_at(RequestAt { fd, at }, max, out),
+            None => 0,
+        }
     }
 
     /// The same, from the request that was found.
@@ -361,40 +352,12 @@ fn claim_position(rows: &[RequestRow], actor: u8) -> Option<usize>
 }
 
 #[tactic(auto, using(crate::proofs::Found::found))]
-fn settle_row(rows: &mut Vec<RequestRow>, fd: u32)
-    requires { AreRising rows.old.items }
-    ensures rows { rows.new.items ≡ change_first (is_number fd) held rows.old.items }
-    ensures capacity { vec_capacity rows.new ≡ vec_capacity rows.old }
-{
-    match position_of(rows, fd) {
-        Some(at) => settle_row_at(rows, RequestAt { fd, at }),
-        None => {}
-    }
-}
-
-#[tactic(auto, using(crate::proofs::Found::found))]
 fn settle_row_at(rows: &mut Vec<RequestRow>, found: RequestAt)
     requires { StandsAt found rows.old.items }
     ensures rows { rows.new.items ≡ change_first (is_number found.fd) held rows.old.items }
     ensures capacity { vec_capacity rows.new ≡ vec_capacity rows.old }
 {
     rows[found.at].held = true;
-}
-
-#[tactic(auto, using(crate::proofs::Found::found))]
-fn take_row(rows: &mut Vec<RequestRow>, fd: u32) -> Option<EdgeRing>
-    requires { AreRising rows.old.items }
-    ensures rows { rows.new.items ≡ without_first (is_number fd) rows.old.items }
-    ensures ring { result ≡ option_map (λ row. row.ring) (request_at rows.old.items fd) }
-    ensures capacity { vec_capacity rows.new ≡ vec_capacity rows.old }
-{
-    match position_of(rows, fd) {
-        Some(at) => {
-            let row = take_row_at(rows, RequestAt { fd, at });
-            Some(row.ring)
-        }
-        None => None,
-    }
 }
 
 #[tactic(auto, using(crate::proofs::Found::found))]
@@ -408,44 +371,12 @@ fn take_row_at(rows: &mut Vec<RequestRow>, found: RequestAt) -> RequestRow
 }
 
 #[tactic(auto, using(crate::proofs::Found::found))]
-fn configure_row(rows: &mut Vec<RequestRow>, fd: u32, settings: &Resolved)
-    requires { AreRising rows.old.items }
-    ensures rows { rows.new.items ≡ change_first (is_number fd) (configured settings.now) rows.old.items }
-    ensures capacity { vec_capacity rows.new ≡ vec_capacity rows.old }
-{
-    match position_of(rows, fd) {
-        Some(at) => configure_row_at(rows, RequestAt { fd, at }, settings),
-        None => {}
-    }
-}
-
-#[tactic(auto, using(crate::proofs::Found::found))]
 fn configure_row_at(rows: &mut Vec<RequestRow>, found: RequestAt, settings: &Resolved)
     requires { StandsAt found rows.old.items }
     ensures rows { rows.new.items ≡ change_first (is_number found.fd) (configured settings.now) rows.old.items }
     ensures capacity { vec_capacity rows.new ≡ vec_capacity rows.old }
 {
     rows[found.at].settings = *settings;
-}
-
-#[tactic(auto, using(crate::proofs::Found::found))]
-fn note_edge(
-    rows: &mut Vec<RequestRow>,
-    fd: u32,
-    i: u32,
-    rising: bool,
-    timestamp: u64,
-) -> Option<Event>
-    requires position { i < LINES_PER_REQUEST }
-    requires rising { AreRising rows.old.items }
-    ensures rows { rows.new.items ≡ change_first (is_number fd) (noted i rising timestamp) rows.old.items }
-    ensures event { result ≡ option_and_then (event_of i rising timestamp) (request_at rows.old.items fd) }
-    ensures capacity { vec_capacity rows.new ≡ vec_capacity rows.old }
-{
-    match position_of(rows, fd) {
-        Some(at) => note_edge_at(rows, RequestAt { fd, at }, i, rising, timestamp),
-        None => None,
-    }
 }
 
 #[tactic(auto, using(crate::proofs::Found::found))]
@@ -463,22 +394,6 @@ fn note_edge_at(
     ensures capacity { vec_capacity rows.new ≡ vec_capacity rows.old }
 {
     rows[found.at].note(i, rising, timestamp)
-}
-
-#[tactic(auto, using(crate::proofs::Found::found))]
-fn read_row(rows: &mut Vec<RequestRow>, fd: u32, max: u32, out: &mut [u8]) -> u32
-    requires room { LINE_EVENT_SIZE * max ≤ length out.old }
-    requires rising { AreRising rows.old.items }
-    ensures count { result ≡ option_map_or (λ row. taken_count max row.ring) (request_at rows.old.items fd) 0 }
-    ensures rows { rows.new.items ≡ change_first (is_number fd) (read_from max) rows.old.items }
-    ensures out { out.new ≡ flat_map event_bytes (option_map_or (λ row. taken max row.ring) (request_at rows.old.items fd) [])
-        ++ drop (LINE_EVENT_SIZE * result) out.old }
-    ensures capacity { vec_capacity rows.new ≡ vec_capacity rows.old }
-{
-    match position_of(rows, fd) {
-        Some(at) => read_row_at(rows, RequestAt { fd, at }, max, out),
-        None => 0,
-    }
 }
 
 #[tactic(auto, using(crate::proofs::Found::found))]

@@ -23,7 +23,7 @@ use Rattle.gl_rule.proofs.Sums.{total_set, total_append}
 use Rattle.gl_rule.proofs.Change.{inside_of, whole}
 use Rattle.gl_rule.proofs.Guards.{guards_join}
 
--- what stands in two lists, one behind the other
+-- what stands in two lists, one after the other
 at_either : {A : Type 0} (xs ys : List A) (k : ℕ) (a : A) → get_elem? (xs ++ ys) k ≡ some a → (get_elem? xs k ≡ some a) ⊎ ((i : ℕ) × (get_elem? ys i ≡ some a))
 at_either [] ys k a e = inr (k, e)
 at_either (x ∷ xs) ys zero a e = inl e

@@ -57,7 +57,7 @@ module _ {M C R G : Type 0} where
       × (after ≡ slice_set (slice_set before i (taking_in v w)) j joined_into_another)
 
 module _ {M C R G : Type 0} (m : Ghosts M C R G) (places : ℕ) where
-  -- one state of the table comes of another by these steps, and each state behind the first one meets the rule
+  -- one state of the table comes of another by these steps, and each state after the first one meets the rule
   abbrev pub ComesOf : State (Held M C R G) (View M C R G) → List (ViewStep M C R G) → State (Held M C R G) (View M C R G) → Type 0
   ComesOf s [] t = t ≡ s
   ComesOf s (step ∷ steps) t = (next : State (Held M C R G) (View M C R G)) × Rule m places next × IsStep s.views step next.views × ComesOf next steps t

@@ -22,7 +22,7 @@ module _ {M C R G : Type 0} where
   abbrev pub with_turn : View M C R G → List (Entry M C R G) → View M C R G
   with_turn v log = record v { seen = log; turn = true }
 
-  -- its entry stands behind all others, and its turn has ended
+  -- its entry stands after all others, and its turn has ended
   abbrev pub with_entry : View M C R G → Entry M C R G → View M C R G
   with_entry v e = record v { seen = v.seen ++ e ∷ []; mine = v.mine ++ e ∷ []; ticket = None; turn = false }
 

@@ -23,7 +23,7 @@ impl<M: Machine> Held<M> {
     /// The machine with an empty history that takes `room` entries, and 512 more for the second entries
     /// that passes owe: 256 passes owe two each at most.
     ///
-    /// Want of memory is the only error, and drops the machine.
+    /// Being out of memory is the only error, and drops the machine.
     pub fn new(alloc: Global, machine: M, room: u32) -> Result<Held<M>, AllocError>
         ensures machine { IfOk result (λ held. held.machine ≡ machine) }
         ensures empty { IfOk result (λ held. held.history.items ≡ []) }
@@ -45,7 +45,7 @@ impl<M: Machine> Held<M> {
         self.history.len() as u64 >= self.room
     }
 
-    /// Makes an actor's call on the machine, and puts its entry behind the history.
+    /// Makes an actor's call on the machine, and puts its entry after the history.
     pub fn make(&mut self, actor: u8, call: M::Call, gift: &mut M::Gift, out: &mut [u8]) -> M::Reply
         requires fits { M.Fits call gift.old out.old }
         requires space { vec_len self.old.history < vec_capacity self.old.history }

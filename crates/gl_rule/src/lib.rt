@@ -17,5 +17,5 @@ pub use plays::{
     BackOut, Close, Commit, CountInside, Enter, FindTurn, JoinPass, Learn, Leave, PassOn,
     SplitPass, TakeTicket,
 };
-pub use rule::{GateRule, Plan};
+pub use rule::{GateRule, GateSize};
 pub use view::{Joined, View};

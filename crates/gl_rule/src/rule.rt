@@ -8,7 +8,7 @@ use std::marker::PhantomData;
 
 /// What a gate is told when it is made, and what never changes.
 #[derive(Copy, Clone, Drop)]
-pub struct Plan {
+pub struct GateSize {
     /// How many entries the history takes before it is full.
     pub room: u64,
     /// How many places there are.
@@ -20,12 +20,12 @@ pub struct GateRule<M> {
     machine: PhantomData<M>,
 }
 
-impl<M: Machine> TableRule<Held<M>, View<M>, Plan> for GateRule<M> {
+impl<M: Machine> TableRule<Held<M>, View<M>, GateSize> for GateRule<M> {
     ghost use Rattle.std.specs.Prelude.{[]};
     ghost use Rattle.gl_rule.specs.Views.{newcomer};
     ghost use Rattle.gl_rule.specs.Rule.{Rule};
 
-    ghost holds = { λ plan s. Rule M.Machine plan.places s };
+    ghost holds = { λ size s. Rule M.Machine size.places s };
 
-    ghost first = { λ plan. newcomer 0 plan.room [] 1 [] [] };
+    ghost first = { λ size. newcomer 0 size.room [] 1 [] [] };
 }

@@ -150,7 +150,7 @@ module _ (served : ServedValue) (line : List ℕ) (answered : ℕ) (bytes writte
       last_line [] is_none = absurd (some is_none)
       last_line (byte ∷ rest) is_some = refl
 
--- the frame of a line's answer, made of what it printed behind nothing
+-- the frame of a line's answer, made of what it printed after nothing
 module _ (served : ServedValue) (line : List ℕ) (answered : ℕ) (bytes written : List ℕ) (has : HasServed served line answered bytes written) (answer : Answer) (none printed shown slice : List ℕ) (now : ServedValue)
     (count : ℕ) (frame : List ℕ) (empty : none ≡ []) (counted : count ≡ counted_up answered) (same : slice ≡ line) (told : shown ≡ printed) (is : frame ≡ frame_of count answer shown)
     (replied : (text : List ℕ) × (then : Said) × (printed ≡ none ++ text) × IsReply has.said slice answer text then × Keeps now then) where

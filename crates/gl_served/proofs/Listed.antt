@@ -5,7 +5,7 @@ use Rattle.std.proofs.lemmas.List.{append_assoc, append-nil}
 use Rattle.gl_base.specs.declared.op.Op.{Op}
 use Rattle.gl_base.specs.declared.operation.Do.{Do}
 use Rattle.gl_base.specs.declared.operation.Got.{Got}
-use Rattle.gl_args.specs.Program.{Program, done, print, ask}
+use Rattle.gl_client.specs.Program.{Program, done, print, ask}
 use Rattle.gl_asking.specs.Asking.{asking}
 use Rattle.gl_asking.specs.Driving.{op_asked}
 use Rattle.gl_asking.specs.declared.kinds.Asking.{Asking}

@@ -7,9 +7,9 @@ use Rattle.gl_asking.specs.Rows.{row_file}
 use Rattle.gl_base.specs.declared.errno.Errno.{Errno}
 use Rattle.gl_base.specs.declared.operation.Do.{Do}
 use Rattle.gl_base.specs.declared.operation.Got.{Got}
-use Rattle.gl_args.specs.Program.{Goes, Left, MatchNext, Program, done, print, ask, given, goes_on, then_by, waits}
-use Rattle.gl_args.specs.declared.next.Next.{Next}
-use Rattle.gl_args.specs.declared.next.Next.TheVariants.{Call, End, Print}
+use Rattle.gl_client.specs.Program.{Goes, Left, MatchNext, Program, done, print, ask, given, goes_on, then_by, waits}
+use Rattle.gl_client.specs.declared.next.Next.{Next}
+use Rattle.gl_client.specs.declared.next.Next.TheVariants.{Call, End, Print}
 use Rattle.gl_core.specs.Kept.{StandsFor}
 use Rattle.gl_script.specs.Columns.{columns}
 use Rattle.gl_script.specs.declared.served.LineKind.TheVariants.{Statement}
@@ -23,7 +23,7 @@ use Rattle.gl_served.specs.Questions.{IsData, IsReply, IsReplyTo, first_got, sho
 use Rattle.gl_served.specs.Served.{IsAnswer, Keeps, Said, ServedValue, carried_from, carried_out, counted, pair_after, said_after, start, stated, text_of}
 use Rattle.gl_served.specs.Slots.{lowest_free, pair_behind, slot_of}
 use Rattle.gl_served.specs.declared.limits.TheConstants.{PAIRS}
-use Rattle.gl_served.specs.UnderWay.{Advances, Asked, CanAnswer, CanAnswerBy, CarriedOut, HasBegun, HasGone, IsAsBefore, IsLeft, IsSameSession, IsTaken, IsUnderWay, does_behind, first_or, left_by, statement_for, text_shown, told_by}
+use Rattle.gl_served.specs.UnderWay.{Advances, IsStatementLine, CanAnswer, CanAnswerBy, CarriedOut, HasBegun, HasGone, IsAsBefore, IsLeft, IsSameSession, IsTaken, IsUnderWay, does_behind, first_or, left_by, statement_for, text_shown, told_by}
 use Rattle.gl_served.specs.declared.alone.Alone.{Alone}
 use Rattle.gl_served.specs.declared.answered.Answer.{Answer}
 use Rattle.gl_served.specs.declared.answered.Answer.TheVariants.{Text}
@@ -202,7 +202,7 @@ keeps_more served said line printed first stage count rests so = record {
   rests = rests;
 }
 
--- a statement that was begun behind what was accepted
+-- a statement that was begun after what was accepted
 pub begun_so : (served now : ServedValue) (said : Said) (line : List ℕ) (u : UnderWay) (pair : ℕ) → Keeps served said → now.stage ≡ served.stage → now.count ≡ counted (length said.statements + 1) → now.alone ≡ served.alone
     → Some pair ≡ pair_after said → left_by (left now.talk) (Told None) ≡ does (names_in served.talk) (slot_behind pair) (columns line) → u.step ≡ Told None → u.first ≡ None → u.printed.items ≡ [] → HasBegun u now said line
 begun_so served now said line u pair keeps stage count alone own is step first printed = record {
@@ -226,14 +226,14 @@ pub keeps_can : (served : ServedValue) (said : Said) (line : List ℕ) → Keeps
 keeps_can served said line keeps = subst (λ (u : Option UnderWay). CanAnswerBy u served said line) (sym keeps.rests) keeps
 
 -- and where it is left the line itself
-pub left_can : (u : Option UnderWay) (given line : List ℕ) (had reads : Bool) (served : ServedValue) (said : Said) (statement : List ℕ) → given ≡ line → had ≡ reads → statement ≡ statement_for reads said line → Asked reads said line
+pub left_can : (u : Option UnderWay) (given line : List ℕ) (had reads : Bool) (served : ServedValue) (said : Said) (statement : List ℕ) → given ≡ line → had ≡ reads → statement ≡ statement_for reads said line → IsStatementLine reads said line
     → IsLeft u given had served said statement → CanAnswerBy u served said line
 left_can None given line had reads served said statement same_line same_reads is asked left = absurd left
 left_can (Some u) given line had reads served said statement same_line same_reads is asked (line_is, reads_is, has) =
     let by : u.reads ≡ reads = reads_is ∙ same_reads in
     record {
       line_is = line_is ∙ same_line;
-      asked = subst (λ (r : Bool). Asked r said line) (sym by) asked;
+      asked = subst (λ (r : Bool). IsStatementLine r said line) (sym by) asked;
       has = subst (λ (r : Bool). HasBegun u served said (statement_for r said line)) (sym by) (subst (λ (l : List ℕ). HasBegun u served said l) is has);
     }
 
@@ -249,14 +249,14 @@ keeps_as served now said keeps stage count names alone under_way = record {
 }
 
 -- a line that was asked is answered as its statement
-pub reply_of : (reads : Bool) (said : Said) (line : List ℕ) (answer : Answer) (text : List ℕ) (then : Said) → Asked reads said line → IsTaken reads said (statement_for reads said line) (Ok Statement) answer text then
+pub reply_of : (reads : Bool) (said : Said) (line : List ℕ) (answer : Answer) (text : List ℕ) (then : Said) → IsStatementLine reads said line → IsTaken reads said (statement_for reads said line) (Ok Statement) answer text then
     → IsReply said line answer text then
 reply_of false said line answer text then (question, kind) so =
     subst (λ q. IsReplyTo q said line answer text then) (sym question) (subst (λ k. IsAnswer said line k answer text then) (sym kind) so)
 reply_of true said line answer text then (question, kind) so =
     subst (λ q. IsReplyTo q said line answer text then) (sym question) (subst (λ k. IsData said (stands_for (carried_out said.statements).value line) k answer text then) (sym kind) so)
 
-pub reply_by : (result : Result Answer Errno) (old new : List ℕ) (now : ServedValue) (said : Said) (reads : Bool) (line : List ℕ) → Asked reads said line
+pub reply_by : (result : Result Answer Errno) (old new : List ℕ) (now : ServedValue) (said : Said) (reads : Bool) (line : List ℕ) → IsStatementLine reads said line
     → IfOk result (λ answer. (text : List ℕ) × (then : Said) × (new ≡ old ++ text) × IsTaken reads said (statement_for reads said line) (Ok Statement) answer text then × Keeps now then)
     → IfOk result (λ answer. (text : List ℕ) × (then : Said) × (new ≡ old ++ text) × IsReply said line answer text then × Keeps now then)
 reply_by (Ok answer) old new now said reads line asked (text, then, is, taken, keeps) = (text, then, is, reply_of reads said line answer text then asked taken, keeps)
@@ -285,7 +285,7 @@ pub on_err_always : {T E X : Type 0} (r : Result T E) → X → OnErr r X
 on_err_always (Ok value) x = tt
 on_err_always (Err errno) x = x
 
--- a turn behind which there may be more doesn't end
+-- a turn after which there may be more doesn't end
 pub never_ends : (X : Type 0) (r : Result Bool Errno) → IfOk r (λ more. more ≡ true) → IfOk r (λ more. more ≡ false → X)
 never_ends X (Ok more) goes = λ ends. absurd (true≢false (sym goes ∙ ends))
 never_ends X (Err errno) goes = tt

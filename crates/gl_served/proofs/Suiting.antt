@@ -28,7 +28,7 @@ use Rattle.gl_model.specs.declared.device_call.DeviceCall.{DeviceCall}
 use Rattle.gl_model.specs.declared.device_call.DeviceCall.TheVariants.{Commanding}
 use Rattle.gl_model.specs.declared.reply.Reply.{Reply}
 use Rattle.gl_model.specs.declared.reply.Reply.TheVariants.{Done as DoneReply, Number, Refused as RefusedReply}
-use Rattle.gl_model.specs.Asked.{request_fault}
+use Rattle.gl_model.specs.AskedLines.{request_fault}
 use Rattle.gl_model.specs.Outcome.{Outcome}
 use Rattle.gl_model.specs.Parts.{in_ask, in_tell, in_whole, is_driver_asked}
 use Rattle.gl_model.specs.Step.{step}

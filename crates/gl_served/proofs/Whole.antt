@@ -2,7 +2,7 @@
 use Rattle.std.proofs.Common.{◌≡◌, ◌≤◌, ◌+◌, ℕ, List, [], ◌∷◌, ◌++◌, length, map, refl, sym, ◌∙◌, ap, arith}
 use Rattle.std.proofs.lemmas.List.{append-nil}
 use Rattle.gl_base.specs.Words.{Span, span}
-use Rattle.gl_args.specs.Program.{done}
+use Rattle.gl_client.specs.Program.{done}
 use Rattle.gl_script.specs.Columns.{columns}
 use Rattle.gl_script.specs.declared.section.SectionKind.TheVariants.{Setup}
 use Rattle.gl_talk.specs.Open.{Names, no_names, slots_in_order}

@@ -43,7 +43,7 @@ pub record HasServed (served : ServedValue) (line : List ℕ) (answered : ℕ) (
   pub line_is : line ≡ take (LINE_MAX + 1) rest
   pub count : answered ≡ count_after 0 lines
 
--- the same, and the sink holds these frames behind what it held
+-- the same, and the sink holds these frames after what it held
 pub record ServesTo (start now : Option (List ℕ)) (served : ServedValue) (line : List ℕ) (answered : ℕ) (bytes : List ℕ) : Type 0 where
   pub written : List ℕ
   pub has : HasServed served line answered bytes written

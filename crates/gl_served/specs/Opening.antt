@@ -7,7 +7,7 @@ use Rattle.gl_uapi.specs.Command.{command_of}
 use Rattle.gl_uapi.specs.declared.commands.Command.TheVariants.{GetLine}
 use Rattle.gl_uapi.specs.declared.layout.TheConstants.{LINE_REQUEST_SIZE}
 use Rattle.gl_asking.specs.Opened.{place_named}
-use Rattle.gl_model.specs.Asked.{lines_asked}
+use Rattle.gl_model.specs.AskedLines.{lines_asked}
 use Rattle.gl_model.specs.Written.{number_answered}
 use Rattle.gl_model.specs.declared.call.Call.{Call}
 use Rattle.gl_model.specs.declared.call.Call.TheVariants.{Ioctl, OpenChip}

@@ -3,7 +3,7 @@
 use Rattle.std.specs.Prelude.{◌≡◌, ℕ, ◌-◌, Bool, true, false, nat_eq, nat_lt, if◌then◌else◌, List, ◌++◌, length, drop, codes, Option, None, Some, Result, Ok, Err}
 use Rattle.std.specs.List.{starts_with}
 use Rattle.std.specs.Str.{bytes_eq}
-use Rattle.gl_args.specs.Program.{Program, done, print, ask}
+use Rattle.gl_client.specs.Program.{Program, done, print, ask}
 use Rattle.gl_base.specs.BytesText.{bytes_text}
 use Rattle.gl_base.specs.Decimal.{decimal}
 use Rattle.gl_base.specs.Words.{text_at}
@@ -96,7 +96,7 @@ abbrev pub shown : Option Got → List ℕ → List ℕ
 shown None text = text
 shown (Some got) text = shown_for got text
 
--- A `data` was read: the session goes on as behind the statement that it stands for, and prints the bytes.
+-- A `data` was read: the session goes on as after the statement that it stands for, and prints the bytes.
 pub record IsRead (said : Said) (line : List ℕ) (text : List ℕ) (after : Said) : Type 0 where
   pub extra : List ℕ
   pub after_is : after ≡ said_after Statement line said

@@ -27,11 +27,11 @@ use Rattle.gl_served.specs.declared.under_way.UnderWay.{UnderWay}
 abbrev pub start : Standing PlannedPort
 start = record { world = opening; files = []; source = unplanned; took = []; entries = 0 }
 
--- a statement behind so many others is carried out, over a planned driver
+-- a statement after so many others is carried out, over a planned driver
 abbrev pub stated : ℕ → Ran PlannedPort Names → List ℕ → Ran PlannedPort Names
 stated count ran line = behind_text ran.text (run from_plan (does ran.value (slot_of (pair_behind count ran.behind.files)) (columns line)) ran.behind)
 
--- statements in a row, behind so many others
+-- statements in a row, after so many others
 abbrev pub carried_from : ℕ → Ran PlannedPort Names → List (List ℕ) → Ran PlannedPort Names
 carried_from count ran [] = ran
 carried_from count ran (line ∷ lines) = carried_from (count + 1) (stated count ran line) lines

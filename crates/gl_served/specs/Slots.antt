@@ -27,7 +27,7 @@ within_pairs (Some pair) = if nat_lt pair PAIRS then Some pair else None
 abbrev pub lowest_free : List OpenFile → Option ℕ
 lowest_free files = within_pairs (first_free (suc (length files)) 0 files)
 
--- the pair of the statement behind so many others, where these files are open
+-- the pair of the statement after so many others, where these files are open
 abbrev pub pair_behind : ℕ → List OpenFile → Option ℕ
 pair_behind count files = if nat_lt count PAIRS then Some count else lowest_free files
 

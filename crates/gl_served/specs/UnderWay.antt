@@ -1,8 +1,8 @@
--- A line that is under way: what is left of it, and what it comes to. Where memory is wanted it stays as it is, and goes on when the line is
+-- A line that is under way: what is left of it, and what it comes to. When out of memory it stays as it is, and goes on when the line is
 -- given again. This project's choice.
 use Rattle.std.specs.Prelude.{◌≡◌, ℕ, ◌+◌, Bool, true, false, List, length, Option, None, Some, Result, Ok, Err}
-use Rattle.gl_args.specs.Program.{Goes, Left, MatchNext, Program, ask, done, given, goes_on, print}
-use Rattle.gl_args.specs.declared.next.Next.{Next}
+use Rattle.gl_client.specs.Program.{Goes, Left, MatchNext, Program, ask, done, given, goes_on, print}
+use Rattle.gl_client.specs.declared.next.Next.{Next}
 use Rattle.gl_base.specs.declared.errno.Errno.{Errno}
 use Rattle.gl_base.specs.declared.operation.Do.{Do}
 use Rattle.gl_base.specs.declared.operation.Got.{Got}
@@ -76,20 +76,20 @@ pub record IsSameSession (old new : ServedValue) : Type 0 where
   pub stage : new.stage ≡ old.stage
   pub under_way : new.under_way ≡ old.under_way
 
--- the program of a statement behind what was accepted
+-- the program of a statement after what was accepted
 abbrev pub does_behind : Said → List ℕ → Program Names
 does_behind said line = does (carried_out said.statements).value (slot_of (pair_after said)) (columns line)
 
--- a statement was begun behind what was accepted, and has gone so far
+-- a statement was begun after what was accepted, and has gone so far
 pub record HasBegun (u : UnderWay) (served : ServedValue) (said : Said) (line : List ℕ) : Type 0 where
   pub stage : served.stage ≡ said.stage
   pub count : served.count ≡ counted (length said.statements + 1)
   pub going : IsGoing (does_behind said line) (carried_out said.statements).behind u served
 
 -- the line is a statement, or a `data` that stands for one
-abbrev pub Asked : Bool → Said → List ℕ → Type 0
-Asked false said line = (question_of said.stage line ≡ Nothing) × (kind_after said line ≡ Ok Statement)
-Asked true said line = (question_of said.stage line ≡ Data) × (data_kind said line ≡ Ok Statement)
+abbrev pub IsStatementLine : Bool → Said → List ℕ → Type 0
+IsStatementLine false said line = (question_of said.stage line ≡ Nothing) × (kind_after said line ≡ Ok Statement)
+IsStatementLine true said line = (question_of said.stage line ≡ Data) × (data_kind said line ≡ Ok Statement)
 
 abbrev pub statement_for : Bool → Said → List ℕ → List ℕ
 statement_for false said line = line
@@ -100,10 +100,10 @@ abbrev pub IsTaken : Bool → Said → List ℕ → Result LineKind Spot → Ans
 IsTaken false said line kind answer text after = IsAnswer said line kind answer text after
 IsTaken true said line kind answer text after = IsData said line kind answer text after
 
--- The line is under way behind what was accepted: its statement has gone so far.
+-- The line is under way after what was accepted: its statement has gone so far.
 pub record IsUnderWay (u : UnderWay) (served : ServedValue) (said : Said) (line : List ℕ) : Type 0 where
   pub line_is : u.line.items ≡ line
-  pub asked : Asked u.reads said line
+  pub asked : IsStatementLine u.reads said line
   pub has : HasBegun u served said (statement_for u.reads said line)
 
 -- it is left so
@@ -111,7 +111,7 @@ abbrev pub IsLeft : Option UnderWay → List ℕ → Bool → ServedValue → Sa
 IsLeft None line reads served said statement = ⊥
 IsLeft (Some u) line reads served said statement = (u.line.items ≡ line) × (u.reads ≡ reads) × HasBegun u served said statement
 
--- This line can be answered behind what was accepted: no other one is under way.
+-- This line can be answered after what was accepted: no other one is under way.
 abbrev pub CanAnswerBy : Option UnderWay → ServedValue → Said → List ℕ → Type 0
 CanAnswerBy None served said line = Keeps served said
 CanAnswerBy (Some u) served said line = IsUnderWay u served said line

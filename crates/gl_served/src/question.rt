@@ -70,7 +70,7 @@ fn put_moment(moment: Option<u64>, out: &mut Vec<u8>) -> Result<(), Errno>
     }
 }
 
-/// The words behind `data`.
+/// The words after `data`.
 pub fn behind_data(line: &[u8]) -> &[u8]
     ensures { result.now ≡ drop 5 line.now }
 {
@@ -81,7 +81,7 @@ pub fn behind_data(line: &[u8]) -> &[u8]
     rest
 }
 
-/// The statement that a `data` with these words behind it stands for: `changes` of a chip's file, else `events`.
+/// The statement that a `data` with these words after it stands for: `changes` of a chip's file, else `events`.
 pub fn read_statement(alloc: Global, of_chip: bool, rest: &[u8]) -> Result<Vec<u8>, Errno>
     ensures ok { IfOk result (λ line. line.items ≡ read_word of_chip ++ rest.now) }
     ensures memory_alone { IsOkUnless result Errno.NoMemory }
@@ -141,7 +141,7 @@ fn line_of_bytes(alloc: Global, bytes: &[u8]) -> Result<ByteList, Errno>
     Ok(ByteList::of(line))
 }
 
-/// Appends the first of two texts, or the second where there is no first. Where memory is wanted nothing is appended.
+/// Appends the first of two texts, or the second where there is no first. When out of memory nothing is appended.
 pub fn put_text_or(first: &Option<ByteList>, text: &[u8], out: &mut Vec<u8>) -> Result<(), Errno>
     ensures ok { OnOk result (out.new.items ≡ out.old.items ++ text_or first.now text.now) }
     ensures kept { OnErr result (out.new.items ≡ out.old.items) }

@@ -1,7 +1,7 @@
 //! A session whose lines come one by one, each answered at once.
 
 ghost use Rattle.std.specs.Prelude.{◌≡◌, ◌≢◌, ◌<◌, ◌≤◌, ◌+◌, ◌++◌, ◌∷◌, [], ℕ, List, None, Some, Ok, Err, true, false, length, map, IfSome, IfOk, OnOk, OnErr, IsOkUnless};
-ghost use Rattle.gl_args.specs.Program.{Program, done};
+ghost use Rattle.gl_client.specs.Program.{Program, done};
 ghost use Rattle.gl_base.specs.Rows.{Each};
 ghost use Rattle.gl_asking.specs.Rows.{IsRow, row_file};
 ghost use Rattle.gl_script.specs.declared.served.LineKind.TheVariants.{Statement};
@@ -14,7 +14,7 @@ ghost use Rattle.gl_served.specs.Questions.{IsData, IsReply, data_kind, due_text
 ghost use Rattle.gl_served.specs.Served.{IsAnswer, Keeps, Said, carried_out, counted, kind_after, limited, nothing_said};
 ghost use Rattle.gl_served.specs.Slots.{pair_behind};
 ghost use Rattle.gl_served.specs.declared.limits.TheConstants.{LINE_MAX, PAIRS};
-ghost use Rattle.gl_served.specs.UnderWay.{Asked, CanAnswer, HasBegun, HasGone, IsAsBefore, IsGoing, IsLeft, IsOther, IsSameSession, IsTaken, IsUnderWay, left_by, statement_for, text_shown, told_by};
+ghost use Rattle.gl_served.specs.UnderWay.{IsStatementLine, CanAnswer, HasBegun, HasGone, IsAsBefore, IsGoing, IsLeft, IsOther, IsSameSession, IsTaken, IsUnderWay, left_by, statement_for, text_shown, told_by};
 ghost use Rattle.gl_served.specs.declared.question.Question.TheVariants.{Data, Nothing};
 
 use crate::alone::Alone;
@@ -246,7 +246,7 @@ impl Served {
         requires room { kind ≡ Statement → pair_behind self.old.count (map row_file self.old.alone.rows.items) ≢ None }
         ensures answered { (said : Said) → Keeps self.old said → IfOk result (λ answer. (text : List ℕ) × (then : Said)
             × (out.new.items ≡ out.old.items ++ text) × IsTaken reads said statement.now (Ok kind) answer text then × Keeps self.new then) }
-        ensures kept { (said : Said) → Keeps self.old said → (kind ≡ Statement → Asked reads said line.now) → statement.now ≡ statement_for reads said line.now → OnErr result (CanAnswer self.new said line.now) }
+        ensures kept { (said : Said) → Keeps self.old said → (kind ≡ Statement → IsStatementLine reads said line.now) → statement.now ≡ statement_for reads said line.now → OnErr result (CanAnswer self.new said line.now) }
         ensures out_kept { OnErr result (out.new.items ≡ out.old.items) }
         ensures memory_alone { IsOkUnless result Errno.NoMemory }
     {
@@ -284,7 +284,7 @@ impl Served {
         requires room { pair_behind self.old.count (map row_file self.old.alone.rows.items) ≢ None }
         ensures answered { (said : Said) → Keeps self.old said → IfOk result (λ answer. (text : List ℕ) × (then : Said)
             × (out.new.items ≡ out.old.items ++ text) × IsTaken reads said statement.now (Ok Statement) answer text then × Keeps self.new then) }
-        ensures kept { (said : Said) → Keeps self.old said → Asked reads said line.now → statement.now ≡ statement_for reads said line.now → OnErr result (CanAnswer self.new said line.now) }
+        ensures kept { (said : Said) → Keeps self.old said → IsStatementLine reads said line.now → statement.now ≡ statement_for reads said line.now → OnErr result (CanAnswer self.new said line.now) }
         ensures out_kept { OnErr result (out.new.items ≡ out.old.items) }
         ensures memory_alone { IsOkUnless result Errno.NoMemory }
     {
@@ -308,7 +308,7 @@ impl Served {
         requires within { pair < PAIRS }
         ensures answered { (said : Said) → Keeps self.old said → IfOk result (λ answer. (text : List ℕ) × (then : Said)
             × (out.new.items ≡ out.old.items ++ text) × IsTaken reads said statement.now (Ok Statement) answer text then × Keeps self.new then) }
-        ensures kept { (said : Said) → Keeps self.old said → Asked reads said line.now → statement.now ≡ statement_for reads said line.now → OnErr result (CanAnswer self.new said line.now) }
+        ensures kept { (said : Said) → Keeps self.old said → IsStatementLine reads said line.now → statement.now ≡ statement_for reads said line.now → OnErr result (CanAnswer self.new said line.now) }
         ensures out_kept { OnErr result (out.new.items ≡ out.old.items) }
         ensures memory_alone { IsOkUnless result Errno.NoMemory }
     {
@@ -319,7 +319,7 @@ impl Served {
         self.go_on(alloc, under_way, out)
     }
 
-    /// Goes on with a line that is under way. Where memory is wanted it is left so.
+    /// Goes on with a line that is under way. When out of memory it is left so.
     fn go_on(
         &mut self,
         alloc: Global,

@@ -8,7 +8,7 @@ ghost use Rattle.gl_served.specs.Slots.{first_free, is_taken, lowest_free, pair_
 use crate::limits::PAIRS;
 use gl_asking::FileRow;
 
-/// The pair of slots of the statement behind so many others: one of its own, or, where there is none, the lowest in which no file is open.
+/// The pair of slots of the statement after so many others: one of its own, or, where there is none, the lowest in which no file is open.
 pub fn pair_behind(count: u32, rows: &[FileRow]) -> Option<u32>
     ensures pair { result ≡ pair_behind count (map row_file rows.now) }
     ensures within { IfSome result (λ pair. pair < PAIRS) }

@@ -2,15 +2,15 @@
 
 ghost use Rattle.std.specs.Prelude.{true, false, ◌≡◌, ◌++◌, [], None, Some, IfOk, OnOk, OnErr, IsOkUnless};
 ghost use Rattle.std.specs.Str.{bytes_eq};
-ghost use Rattle.gl_args.specs.Program.{Left, Program, done};
+ghost use Rattle.gl_client.specs.Program.{Left, Program, done};
 ghost use Rattle.gl_talk.specs.Open.{Names};
 ghost use Rattle.gl_check.specs.One.{PlannedPort, Standing};
 ghost use Rattle.gl_served.specs.UnderWay.{Advances, CarriedOut, HasGone, IsAsBefore, first_or, left_by, text_shown, told_by};
 ghost use Rattle.gl_served.specs.declared.alone.Alone.{Alone};
 
 use crate::question::{bytes_line, put_text_or};
-use gl_args::Next;
 use gl_base::{ByteList, Do, Errno, Got};
+use gl_client::Next;
 use std::alloc::Global;
 
 /// What comes next of a line that is under way.
@@ -24,7 +24,7 @@ pub enum Step {
     Prints(ByteList),
 }
 
-/// A line that is under way. Where memory is wanted it stays as it is, and goes on when the line is given again.
+/// A line that is under way. When out of memory it stays as it is, and goes on when the line is given again.
 #[derive(Drop)]
 pub struct UnderWay {
     /// The line, as it was given.
@@ -66,7 +66,7 @@ impl UnderWay {
         self.line.as_slice() == line
     }
 
-    /// The talk was told this result, and does this next, or is at its end, where there is no more. Where memory is wanted it is still to be told.
+    /// The talk was told this result, and does this next, or is at its end, where there is no more. When out of memory it is still to be told.
     pub fn told(&mut self, next: Result<Next, Errno>, got: Option<Got>) -> Result<bool, Errno>
         ensures same { IsAsBefore self.old self.new }
         ensures gone { (p : Program Names) (s : Standing PlannedPort) (before after : Left Names) (names : Names) (a : Alone) → Advances next before got after names
@@ -95,7 +95,7 @@ impl UnderWay {
         }
     }
 
-    /// The operation was answered this, and there may be more. Where memory is wanted it is still to be carried out.
+    /// The operation was answered this, and there may be more. When out of memory it is still to be carried out.
     pub fn did(&mut self, what: &Do, got: Result<Got, Errno>) -> Result<bool, Errno>
         ensures same { IsAsBefore self.old self.new }
         ensures gone { (p : Program Names) (s : Standing PlannedPort) (left : Left Names) (a b : Alone) → CarriedOut what.now got a b
@@ -127,7 +127,7 @@ impl UnderWay {
         self.step = step;
     }
 
-    /// Prints a text, and there may be more. Where memory is wanted it is still to be printed.
+    /// Prints a text, and there may be more. When out of memory it is still to be printed.
     pub fn print(&mut self, text: ByteList) -> Result<bool, Errno>
         ensures same { IsAsBefore self.old self.new }
         ensures gone { (p : Program Names) (s : Standing PlannedPort) (left : Left Names) (a : Alone)
@@ -147,7 +147,7 @@ impl UnderWay {
         }
     }
 
-    /// Appends what the line prints, at the end of its statement. Where memory is wanted nothing is appended.
+    /// Appends what the line prints, at the end of its statement. When out of memory nothing is appended.
     pub fn give(&self, alloc: Global, out: &mut Vec<u8>) -> Result<(), Errno>
         ensures ok { OnOk result (out.new.items ≡ out.old.items ++ text_shown self.now.reads self.now.first self.now.printed.items) }
         ensures kept { OnErr result (out.new.items ≡ out.old.items) }

@@ -7,7 +7,7 @@ use Rattle.gl_base.specs.declared.errno.Errno.{Errno}
 use Rattle.gl_world.specs.History.{Legal, StartsWith, entries_of}
 use Rattle.gl_gate.specs.Calls.{HasAllOf}
 use Rattle.gl_rule.specs.Views.{newcomer}
-use Rattle.gl_args.specs.Program.{Program, done}
+use Rattle.gl_client.specs.Program.{Program, done}
 use Rattle.gl_driver.specs.Told.{Told}
 use Rattle.gl_script.specs.Section.{SaidSection}
 use Rattle.gl_talk.specs.Open.{Names}

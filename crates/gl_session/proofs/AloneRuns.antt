@@ -11,7 +11,7 @@ use Rattle.gl_world.specs.Deeds.{deeds_of, entries_in}
 use Rattle.gl_world.specs.History.{Answered, Placed}
 use Rattle.gl_world.specs.Laws.{Laws}
 use Rattle.gl_world.proofs.Deeds.{entries_in_append}
-use Rattle.gl_args.specs.Program.{Program, done}
+use Rattle.gl_client.specs.Program.{Program, done}
 use Rattle.gl_core.specs.Kept.{StandsFor}
 use Rattle.gl_driver.specs.Told.{PortAfter, Told, planned_for, with_bits, with_call, with_plan}
 use Rattle.gl_base.specs.declared.op.Op.{Op}

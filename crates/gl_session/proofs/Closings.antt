@@ -20,7 +20,7 @@ use Rattle.gl_world.specs.Deeds.{deed_in, deeds_from, deeds_of, entries_in}
 use Rattle.gl_world.specs.History.{AnsweredFrom, Legal, entries_of, fold, fold_from}
 use Rattle.gl_world.proofs.Deeds.{deeds_append, deeds_entries}
 use Rattle.gl_world.proofs.Histories.{answered_prefix, answered_rest, entries_append, fold_append, placed_prefix}
-use Rattle.gl_args.specs.Program.{Program, done, print, ask, then_by}
+use Rattle.gl_client.specs.Program.{Program, done, print, ask, then_by}
 use Rattle.gl_driver.specs.Told.{Told}
 use Rattle.gl_base.specs.declared.op.Op.{Op}
 use Rattle.gl_model.specs.Calling.{AreOfCalls, Called, IsCalled, made_by}
@@ -181,7 +181,7 @@ record Stands (actor : ℕ) (seen : List OneEntry) (files : List OpenFile) : Typ
   pub below : AreBelow (fold core seen).next files
   pub rises : Rises files
 
--- an actor's deeds are those up to here, and those behind
+-- an actor's deeds are those up to here, and those after
 record Parted (actor : ℕ) (w : World) (es : List OneEntry) (xs ys : List OneDeed) : Type 0 where
   pub before : List OneEntry
   pub behind : List OneEntry
@@ -374,7 +374,7 @@ claims_none a low (x ∷ rows) none = by (is_claim_of a x) refl none (λ rest. c
     by true same h later = let n : length (x ∷ filter (is_claim_of a) rows) ≡ 0 = ap (λ (l : List Request). length l) h in absurd (omega arith)
     by false same h later = ((λ is. absurd (true≢false (sym is ∙ same))), later h)
 
--- Turns one after another, over the entries of a legal history behind what the actor has seen: how the actor stands behind them, and what
+-- Turns one after another, over the entries of a legal history after what the actor has seen: how the actor stands after them, and what
 -- is left of the program and of the entries.
 module _ {A : Type 0} (is_planned : Bool) (actor : ℕ) (P : A → List Numbered → Type 0) (history : List OneEntry) (legal : Legal core history) where
   record Went (p q : Program A) (s r : Carried) (turns : List Turn) (low : ℕ) (more : List OneDeed) : Type 0 where
@@ -529,7 +529,7 @@ end_closes is_planned actor (Did e ∷ turns) (f ∷ fs) s r last open_are (next
       k.1,
     )
 
--- the last turns of a talk, by an actor that stands so behind its earlier ones
+-- the last turns of a talk, by an actor that stands so after its earlier ones
 module _ (is_planned : Bool) (actor : ℕ) (history : List OneEntry) (legal : Legal core history) where
   closes : (earlier turns : List Turn) (statements : Program Names) (s r : Carried) (last : Names) (seen es : List OneEntry) (more : List OneDeed) → history ≡ seen ++ es → Stands actor seen s.files
       → deeds_from core (fold core seen) actor es ≡ did_by turns ++ more → (AreKept earlier → NumbersFiles CloseByNumber (numbered s.files) statements)

@@ -9,8 +9,8 @@ use Rattle.gl_world.specs.Deeds.{deeds_from, deeds_of, entries_in}
 use Rattle.gl_world.specs.History.{entries_of, fold}
 use Rattle.gl_world.proofs.Deeds.{deeds_entries}
 use Rattle.gl_world.proofs.Histories.{entries_append, none_of}
-use Rattle.gl_args.specs.Costs.{CostsAtMost}
-use Rattle.gl_args.specs.Program.{Program, done}
+use Rattle.gl_client.specs.Costs.{CostsAtMost}
+use Rattle.gl_client.specs.Program.{Program, done}
 use Rattle.gl_driver.specs.Told.{Told}
 use Rattle.gl_script.specs.Cost.{session_cost, words_cost}
 use Rattle.gl_script.specs.Section.{SaidSection}

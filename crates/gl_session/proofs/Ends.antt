@@ -11,7 +11,7 @@ use Rattle.gl_world.proofs.Histories.{entries_append, entries_none}
 use Rattle.gl_gate.specs.Calls.{HasAllOf, HasItsOwn}
 use Rattle.gl_gate.proofs.Grown.{begins_further, grown_has_its_own}
 use Rattle.gl_rule.specs.Views.{newcomer}
-use Rattle.gl_args.specs.Program.{done}
+use Rattle.gl_client.specs.Program.{done}
 use Rattle.gl_driver.specs.Told.{Told}
 use Rattle.gl_script.specs.Section.{SaidSection}
 use Rattle.gl_talk.specs.Open.{Names}
@@ -39,7 +39,7 @@ append_cancel (x ∷ xs) ys zs e = append_cancel xs ys zs (ap rest_of e)
     rest_of [] = []
     rest_of (d ∷ ds) = ds
 
--- what stands behind a beginning that has all of an actor's entries has none of them
+-- what stands after a beginning that has all of an actor's entries has none of them
 none_behind : (n : ℕ) (seen rest mine : List OneEntry) → entries_of n (seen ++ rest) ≡ mine → entries_of n seen ≡ mine → entries_of n rest ≡ []
 none_behind n seen rest mine all before = nothing_more (entries_of n seen) (entries_of n rest) (sym (entries_append n seen rest) ∙ (all ∙ sym before))
 
@@ -68,7 +68,7 @@ module _ (is_planned : Bool) (sections : List SaidSection) (before left : ℕ �
     kept_played n [] h = tt
     kept_played n (t ∷ ts) h = (record { names = h.0.came.names; behind = carried h.0.came.files (left n); played = kept_deeds n t h.0; left_is = refl }, kept_played (n + 1) ts h.1)
 
-    -- and behind what the first actor had seen as it took them in, there is no entry of them
+    -- and after what the first actor had seen as it took them in, there is no entry of them
     kept_last : (last : List OneEntry) → history ≡ first.seen ++ last → (n : ℕ) (t : Result (List ℕ) Errno) → IsKept is_planned (program_of sections) before left v first n t → entries_of n last ≡ []
     kept_last last is n t k = let rest : List OneEntry = k.begins.0 in let whole : history ≡ k.saw ++ (rest ++ last) = is ∙ (ap (λ l. l ++ last) k.begins.1 ∙ append_assoc k.saw rest last) in
         none_last n rest last (none_behind n k.saw (rest ++ last) k.mine (ap (λ l. entries_of n l) (sym whole) ∙ all k.place (record { number = n; mine = k.mine }) k.joined) k.own)

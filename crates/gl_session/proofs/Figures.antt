@@ -6,8 +6,8 @@ use Rattle.gl_base.specs.Words.{Span}
 use Rattle.gl_script.specs.Meaning.{line_in}
 use Rattle.gl_script.specs.Section.{SaidSection, all_statements, statements_of}
 use Rattle.gl_script.specs.declared.section.Statement.{Statement}
-use Rattle.gl_words.specs.declared.asked.Task.{Task}
-use Rattle.gl_words.specs.declared.asked.Task.TheVariants.{Session, Load, Check}
+use Rattle.gl_words.specs.declared.task.Task.{Task}
+use Rattle.gl_words.specs.declared.task.Task.TheVariants.{Session, Load, Check}
 use Rattle.gl_session.specs.Figures.{statement_count}
 use Rattle.gl_check.specs.Many.{no_section}
 

@@ -25,7 +25,7 @@ told_same line count = by (stripped (codes "check ") line) refl
 told_back : (count : ℕ) → count < 1048577 → length_told (codes "check " ++ decimal count) ≡ Some count
 told_back count few = ap length_by (stripped_back (codes "check ") (decimal count)) ∙ (number_field 1048577 (omega arith)).back count few
 
--- parts that were read stand behind a line that tells of them
+-- parts that were read stand after a line that tells of them
 enough : (line rest : List ℕ) (count : ℕ) (parts : Parts) → line ≡ codes "check " ++ decimal count → count ≤ length rest
     → Some (record { session = take count rest; output = drop count rest }) ≡ Some parts → line ++ (10 ∷ rest) ≡ check_text parts.session parts.output
 enough line rest count parts told few e =

@@ -143,7 +143,7 @@ refused_verdict (NoEntry index) e = cc
 refused_verdict NoText e = cc
 refused_verdict Yes e = cc
 
--- a judgment is no fault of writing, and no want of memory
+-- a judgment is no fault of writing, and not out of memory
 pub no_fault_judged : {A : Type 0} (status : Status) → IsJudgment status → A ⊎ ((status ≡ WriteFault) ⊎ (status ≡ NoMemory)) → A
 no_fault_judged status j (inl a) = a
 no_fault_judged status (inl j) (inr (inl e)) = absurd (let other : Ran ≡ WriteFault = sym j ∙ e in cc)
@@ -158,7 +158,7 @@ pub ends_judged : {Rest : Type 0} (status : Status) (verdict : Verdict) → (sta
 ends_judged status verdict (inl e) = inl (subst (λ s. IsJudgment s) (sym e) (is_judgment verdict))
 ends_judged status verdict (inr r) = inr r
 
--- where nothing failed the answer is a judgment, or want of memory
+-- where nothing failed the answer is a judgment, or being out of memory
 pub judged_or_none : {WriteRises : Type 0} (status : Status) → IsJudgment status ⊎ ((status ≡ WriteFault) ⊎ (status ≡ NoMemory)) → (status ≡ WriteFault → WriteRises) → ¬ WriteRises → IsJudgment status ⊎ (status ≡ NoMemory)
 judged_or_none status (inl j) fault never = inl j
 judged_or_none status (inr (inl e)) fault never = absurd (never (fault e))

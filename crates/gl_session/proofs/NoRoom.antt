@@ -11,7 +11,7 @@ use Rattle.gl_rule.specs.Views.{newcomer}
 use Rattle.gl_gate.specs.Calls.{HasAllOf}
 use Rattle.gl_gate.specs.Grown.{Grew}
 use Rattle.gl_gate.proofs.Grown.{grows_on}
-use Rattle.gl_args.specs.Program.{done}
+use Rattle.gl_client.specs.Program.{done}
 use Rattle.gl_driver.specs.Told.{Told}
 use Rattle.gl_script.specs.Cost.{session_cost}
 use Rattle.gl_script.specs.Section.{SaidSection}

@@ -16,7 +16,7 @@ use Rattle.gl_model.specs.declared.call.Part.{Part}
 use Rattle.gl_model.specs.declared.call.Part.TheVariants.{Whole, Ask, Tell}
 use Rattle.gl_model.specs.declared.reply.Reply.{Reply}
 use Rattle.gl_model.specs.declared.reply.Reply.TheVariants.{Done, Number, Go, Found, Text, Ready, Refused}
-use Rattle.gl_model.specs.Asked.{asked_in}
+use Rattle.gl_model.specs.AskedLines.{asked_in}
 use Rattle.gl_model.specs.Claiming.{claim_at, claim_by, get_line_ask, get_line_tell, held, is_claim_of, new_claim, told_claim}
 use Rattle.gl_model.specs.Edges.{is_monitored, with_edge}
 use Rattle.gl_model.specs.Entries.{is_go}
@@ -225,7 +225,7 @@ next_entry a w (e ∷ es) x xs answered is = by (e.actor == a) is (λ own. next_
         let n = later own in
         record { before = e ∷ n.before; behind = n.behind; at = ap (λ (l : List OneEntry). e ∷ l) n.at; reply = n.reply; own = n.own; answered = n.answered }
 
--- the world behind that entry
+-- the world after that entry
 after_entry : (a : ℕ) (w : World) (es : List OneEntry) (x : OneEntry) (xs : List OneEntry) (n : NextEntry a w es x xs)
     → fold_from core w es ≡ fold_from core (step (fold_from core w n.before) x.actor x.call).world n.behind
 after_entry a w es x xs n = ap (λ (l : List OneEntry). fold_from core w l) n.at ∙ fold_append core w n.before (x ∷ n.behind)

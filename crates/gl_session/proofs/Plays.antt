@@ -1,12 +1,12 @@
--- Talks that are carried out turn by turn: turns one after another, and one program behind another.
+-- Talks that are carried out turn by turn: turns one after another, and one program after another.
 use Rattle.std.proofs.Common.{◌≡◌, ◌<◌, ◌+◌, ℕ, Bool, List, [], ◌∷◌, ◌++◌, length, map, drop, get_or, None, Some, refl, sym, ◌∙◌, ap, subst}
 use Rattle.std.proofs.lemmas.List.{append_assoc, append-nil, drop_more}
 use Rattle.gl_base.specs.declared.operation.Do.{Do}
 use Rattle.gl_base.specs.declared.operation.Got.{Got}
 use Rattle.gl_gate.specs.Grown.{Grew}
 use Rattle.gl_gate.proofs.Grown.{grows_on}
-use Rattle.gl_args.specs.Program.{Goes, Left, Program, done, given, goes_on, ask, then_by, waits}
-use Rattle.gl_args.specs.declared.next.Next.TheVariants.{Call, Print}
+use Rattle.gl_client.specs.Program.{Goes, Left, Program, done, given, goes_on, ask, then_by, waits}
+use Rattle.gl_client.specs.declared.next.Next.TheVariants.{Call, Print}
 use Rattle.gl_core.specs.Device.{OneDeed, core}
 use Rattle.gl_chip.specs.Values.{OneView}
 use Rattle.gl_script.specs.declared.section.Statement.{Statement}
@@ -84,7 +84,7 @@ module _ {A : Type 0} (is_planned : Bool) where
   }
 
 module _ {A B : Type 0} (is_planned : Bool) (f : A → Program B) where
-  -- with another program behind it
+  -- with another program after it
   pub plays_then : (p : Program A) (v : OneView) (s : Carried) (t0 : List ℕ) (q : Program A) (w : OneView) (r : Carried) (t1 : List ℕ)
       → PlaysOn is_planned p v s t0 q w r t1 → PlaysOn is_planned (then_by p f) v s t0 (then_by q f) w r t1
   plays_then p v s t0 q w r t1 played = record {
@@ -115,7 +115,7 @@ module _ {A : Type 0} (is_planned : Bool) (p q : Program A) where
       subst (λ (x : OneView × Carried × List ℕ × OneView × Carried × List ℕ). PlaysOn is_planned p x.0 x.1 x.2 q x.3 x.4 x.5)
       (λ i. (view i, record { files = files i; told = told i }, text i, sym view_then i, record { files = files_then i; told = sym told_then i }, sym text_then i)) played
 
-  -- the text was taken behind it
+  -- the text was taken after it
   pub text_taken : (v : OneView) (s : Carried) (t0 : List ℕ) (w : OneView) (r : Carried) (t1 : List ℕ) (w' : OneView) (r' : Carried) (t1' : List ℕ) → t0 ≡ [] → w' ≡ w → r' ≡ r → t1' ≡ t1
       → PlaysOn is_planned p v s t0 q w r t1 → PlaysOn is_planned p v s [] q w' r' t1'
   text_taken v s t0 w r t1 w' r' t1' empty view carried text played =
@@ -151,7 +151,7 @@ module _ {A : Type 0} (is_planned : Bool) (p : Program A) (v : OneView) (s : Car
   full_turn what (goes_on q) w goes full = absurd goes
   full_turn what (waits rest) w goes full = record { turns = []; what = what; rest = rest; then = s; view = v; follows = (goes, refl); grew = unmoved v; full = full }
 
--- The statements from one on: the one that is under way, and then those behind it.
+-- The statements from one on: the one that is under way, and then those after it.
 module _ (is_planned : Bool) (v : OneView) (s : Carried) (begun : ℕ) (statements : List Statement) (i : ℕ) (d : Statement) (names : Names) (p : Program Names) where
   abbrev behind_it : Names → Program Names
   behind_it = says (begun + 1) (map columns_in (drop (i + 1) statements)) (λ given_names. done given_names)

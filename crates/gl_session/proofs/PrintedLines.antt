@@ -1,10 +1,10 @@
--- What the actors of a session printed is whole lines, and so are their texts behind their headers.
+-- What the actors of a session printed is whole lines, and so are their texts after their headers.
 use Rattle.std.proofs.Common.{◌≡◌, ℕ, ◌+◌, ◌-◌, Bool, true, List, [], ◌∷◌, ◌++◌, length, get_or, Option, refl, sym, ◌∙◌, ap, subst}
 use Rattle.std.specs.Prelude.{codes}
 use Rattle.gl_base.specs.TextLines.{ends_lines, text_line}
 use Rattle.gl_base.proofs.TextLines.{line_ends, lines_end}
-use Rattle.gl_args.specs.Printing.{PrintsLines}
-use Rattle.gl_args.specs.Program.{Program, done}
+use Rattle.gl_client.specs.Printing.{PrintsLines}
+use Rattle.gl_client.specs.Program.{Program, done}
 use Rattle.gl_driver.specs.Told.{Told}
 use Rattle.gl_script.specs.Section.{SaidSection}
 use Rattle.gl_script.specs.declared.section.SectionKind.TheVariants.{Setup, After}

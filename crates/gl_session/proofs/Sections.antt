@@ -4,7 +4,7 @@ use Rattle.std.specs.Prelude.{if◌then◌else◌}
 use Rattle.std.proofs.lemmas.List.{drop_more}
 use Rattle.std.proofs.lemmas.Option.{slice_get-get_or}
 use Rattle.gl_base.specs.Words.{Span}
-use Rattle.gl_args.specs.Program.{Program, done, print, ask, then_by}
+use Rattle.gl_client.specs.Program.{Program, done, print, ask, then_by}
 use Rattle.gl_driver.specs.Told.{Told}
 use Rattle.gl_chip.specs.Values.{OneView}
 use Rattle.gl_script.specs.Columns.{columns}
@@ -21,7 +21,7 @@ use Rattle.gl_session.specs.Performed.{PlaysOn, StoppedFull}
 use Rattle.gl_check.specs.Turns.{Carried, carried}
 use Rattle.gl_session.proofs.Plays.{plays_on, plays_then, stops_on, stops_then}
 
--- The statements of a kind from one section on are those of this section, and those of the sections behind it.
+-- The statements of a kind from one section on are those of this section, and those of the sections after it.
 first_of_kind : (kind : SectionKind) (section : SaidSection) (rest : List SaidSection) → said_in_kind kind (section ∷ rest) ≡ said_of kind (Some section) ++ said_in_kind kind rest
 first_of_kind kind section rest = by (is_kind kind section.kind)
   where
@@ -50,14 +50,14 @@ in_turn (done value) f g = refl
 in_turn (print text p) f g = ap (print text) (in_turn p f g)
 in_turn (ask what p) f g = λ i. ask what (λ got. in_turn (p got) f g i)
 
--- what comes behind statements comes behind the names that they give
+-- what comes after statements comes after the names that they give
 pub says_then : {A : Type 0} (begun : ℕ) (statements : List (List Span)) (behind : Names → Program A) (names : Names) → says begun statements behind names ≡ then_by (says begun statements done names) behind
 says_then begun [] behind names = refl
 says_then begun (words ∷ statements) behind names =
     (λ i. then_by (does names (slot_behind begun) words) (λ value. says_then (begun + 1) statements behind value i))
     ∙ sym (in_turn (does names (slot_behind begun) words) (says (begun + 1) statements done) behind)
 
--- statements of one section and those behind them, where the first were carried out
+-- statements of one section and those after them, where the first were carried out
 module _ (is_planned : Bool) (v : OneView) (s : Carried) (begun : ℕ) (here later whole : List (List Span)) (names : Names) (whole_is : whole ≡ here ++ later) where
   abbrev behind_them : Names → Program Names
   behind_them = says (begun + length here) later done
@@ -78,7 +78,7 @@ module _ (is_planned : Bool) (v : OneView) (s : Carried) (begun : ℕ) (here lat
   section_stops w stopped =
       subst (λ (o : Program Names). StoppedFull is_planned o v s w) in_parts (stops_then is_planned behind_them (says begun here done names) v s w stopped)
 
--- behind statements in a row what is open is closed
+-- after statements in a row what is open is closed
 module _ (is_planned : Bool) (v : OneView) (s : Carried) (begun : ℕ) (statements : List (List Span)) (names : Names) where
   to_the_end : then_by (says begun statements done names) quits ≡ says begun statements quits names
   to_the_end = sym (says_then begun statements quits names)

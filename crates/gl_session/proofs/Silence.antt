@@ -11,7 +11,7 @@ use Rattle.gl_world.specs.Deeds.{deeds_from, deeds_of, entries_in}
 use Rattle.gl_world.specs.History.{entries_of, entry, fold}
 use Rattle.gl_world.proofs.Deeds.{deeds_entries, entries_in_append}
 use Rattle.gl_world.proofs.Histories.{entries_append}
-use Rattle.gl_args.specs.Program.{Program, done}
+use Rattle.gl_client.specs.Program.{Program, done}
 use Rattle.gl_driver.specs.Told.{PortAfter, Told, new_port, with_bits, with_call, with_plan}
 use Rattle.gl_base.specs.declared.op.Op.{Op}
 use Rattle.gl_model.specs.Entries.{begins}
@@ -66,7 +66,7 @@ module _ (is_planned : Bool) (n : ℕ) where
   nothing_told : (t : Told) (left : Option Told) → left ≡ Some t → TellsAfter t [] left
   nothing_told t left is = record { told = t; left_is = is; calls = refl; last = refl }
 
-  -- one call of the device, and what comes behind it
+  -- one call of the device, and what comes after it
   port_on : (op : Option Op) (answers : List (Option ℕ)) (t : Told) (before between left : Option Told) (rest : List (Option ℕ)) → before ≡ Some t → (few : length answers ≤ 1) → PortAfter is_planned op answers before between
       → ((u : Told) → between ≡ Some u → TellsAfter u rest left) → TellsAfter t (answers ++ rest) left
   port_on op [] t before between left rest is few h later = later t (h ∙ is)

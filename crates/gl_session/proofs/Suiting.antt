@@ -13,7 +13,7 @@ use Rattle.gl_base.specs.declared.operation.Got.TheVariants.{Done as GotDone, Re
 use Rattle.gl_uapi.specs.Command.{command_of, size_of}
 use Rattle.gl_uapi.specs.declared.commands.Command.{Command}
 use Rattle.gl_uapi.specs.declared.commands.Command.TheVariants.{GetLine}
-use Rattle.gl_model.specs.Asked.{lines_asked, request_fault}
+use Rattle.gl_model.specs.AskedLines.{lines_asked, request_fault}
 use Rattle.gl_model.specs.Replies.{has_form}
 use Rattle.gl_model.specs.Written.{number_answered}
 use Rattle.gl_model.specs.declared.call.Call.TheVariants.{Close, Find, OpenChip, PollChip, PollLine, ReadEdges, ReadInfo}
@@ -33,13 +33,13 @@ use Rattle.gl_asking.specs.declared.kinds.FileKind.{FileKind}
 use Rattle.gl_asking.specs.declared.kinds.FileKind.TheVariants.{Chip, Request}
 use Rattle.gl_asking.specs.declared.kinds.FileRow.{FileRow}
 use Rattle.gl_chip.specs.Called.{HasCalled}
-use Rattle.gl_chip.specs.Commanding.{IsOp}
+use Rattle.gl_chip.specs.DriverCommands.{IsOp}
 use Rattle.gl_chip.specs.Orders.{AnswersOrder, FitsFile, FitsOut, WroteTo, op_ordered}
 use Rattle.gl_chip.specs.Values.{OneView}
 use Rattle.gl_chip.proofs.OpenedChips.{named_within, opened_in}
 use Rattle.gl_session.specs.Player.{buffer_for, kind_of}
 
--- An operation suits its call, on a file of this kind: what the driver is asked for it, its buffer before the call and behind it, and the
+-- An operation suits its call, on a file of this kind: what the driver is asked for it, its buffer before the call and after it, and the
 -- files that it opens.
 pub record Suits (what : Do) (asked : Option Op) (on : FileKind) (call : DeviceCall) : Type 0 where
   pub file : FitsFile call on

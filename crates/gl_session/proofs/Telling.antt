@@ -33,7 +33,7 @@ use Rattle.gl_check.specs.Many.{Texts, actor_sections}
 use Rattle.gl_session.specs.Output.{AreTold, OutputTellsHistory, actors_text, entry_lines, history_text}
 use Rattle.gl_session.specs.Lines.{text_line}
 
--- the three last bytes, behind three bytes that stand before
+-- the three last bytes, after three bytes that stand before
 abbrev Three : Type 0
 Three = ℕ × ℕ × ℕ
 
@@ -61,7 +61,7 @@ second_told : (t : Three) (y : ℕ) (w : List ℕ) → t.2 ≢ 32 → NoBlank (y
 second_told t y [] last h = last
 second_told t y (z ∷ w) last h = second_told (t.1, t.2, y) z w h.0 h.1
 
--- a word behind a blank doesn't end so, where no `y` stands before the blank
+-- a word after a blank doesn't end so, where no `y` stands before the blank
 after_word : (a b x : ℕ) (w : List ℕ) → b ≢ 121 → NoBlank (x ∷ w) → ends (a, b, 32) (x ∷ w) ≡ Empty → ⊥
 after_word a b x [] other h e = other (ap (λ (t : Three). t.0) e)
 after_word a b x (y ∷ w) other h e = second_told (b, 32, x) y w h.0 h.1 (ap (λ (t : Three). t.1) e)
@@ -84,7 +84,7 @@ record IsWordOf (word : List ℕ) : Type 0 where
   pub is : word ≡ first ∷ rest
   pub no_blank : NoBlank (first ∷ rest)
 
--- no word ends a text so behind a blank and another byte than `y`
+-- no word ends a text so after a blank and another byte than `y`
 ends_word : (word : List ℕ) → IsWordOf word → (a b : ℕ) → b ≢ 121 → ends (a, b, 32) word ≡ Empty → ⊥
 ends_word word h a b other e = after_word a b h.first h.rest other h.no_blank (ap (λ w. ends (a, b, 32) w) (sym h.is) ∙ e)
 

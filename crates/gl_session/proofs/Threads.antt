@@ -16,7 +16,7 @@ use Rattle.gl_gate.specs.Values.{GateValue}
 use Rattle.gl_gate.specs.Grown.{Grew}
 use Rattle.gl_gate.proofs.Grown.{begins_further, grown_has_its_own, grows_on}
 use Rattle.gl_rule.specs.Views.{as_joined, newcomer, taking_in, with_one_more}
-use Rattle.gl_args.specs.Program.{Program, ask, done}
+use Rattle.gl_client.specs.Program.{Program, ask, done}
 use Rattle.gl_driver.specs.Told.{Told}
 use Rattle.gl_talk.specs.Open.{Names}
 use Rattle.gl_chip.specs.Values.{ActorValue, IsActorOf, OneView}
@@ -212,7 +212,7 @@ split_fresh told gate v a p of is port own = record {
   tells = ap told port;
 }
 
--- So many actors were made, each with the port of its number, and the ports behind them are in their places.
+-- So many actors were made, each with the port of its number, and the ports after them are in their places.
 pub record SplitSoFar {P : Type 0} (told : P → Option Told) (gate : GateValue) (v : OneView) (ports : List (Option P)) (count : ℕ) (w : OneView) (actors : List (ActorValue P)) (ports_then : List (Option P)) : Type 0 where
   pub split : HasSplit v count w
   pub len : length actors ≡ count

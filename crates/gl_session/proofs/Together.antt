@@ -6,7 +6,7 @@ use Rattle.gl_base.specs.Words.{Span}
 use Rattle.gl_world.specs.Deeds.{deeds_of, entries_in}
 use Rattle.gl_world.specs.History.{entries_of}
 use Rattle.gl_world.proofs.Deeds.{deeds_entries}
-use Rattle.gl_args.specs.Costs.{CostsAtMost}
+use Rattle.gl_client.specs.Costs.{CostsAtMost}
 use Rattle.gl_script.specs.Cost.{words_cost}
 use Rattle.gl_script.specs.Section.{SaidSection}
 use Rattle.gl_script.specs.declared.section.SectionKind.TheVariants.{Setup}

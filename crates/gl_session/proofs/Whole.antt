@@ -7,7 +7,7 @@ use Rattle.gl_rule.specs.Turn.{NoStrangers}
 use Rattle.gl_rule.specs.Views.{newcomer}
 use Rattle.gl_gate.specs.Grown.{Grew}
 use Rattle.gl_gate.proofs.Grown.{grows_on}
-use Rattle.gl_args.specs.Program.{Program, ask, done}
+use Rattle.gl_client.specs.Program.{Program, ask, done}
 use Rattle.gl_driver.specs.Told.{Told}
 use Rattle.gl_base.specs.declared.op.Op.{Op}
 use Rattle.gl_model.specs.declared.device_call.DeviceCall.{DeviceCall}

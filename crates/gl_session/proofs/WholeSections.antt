@@ -4,7 +4,7 @@ use Rattle.std.specs.Prelude.{if◌then◌else◌, option_map}
 use Rattle.std.proofs.lemmas.List.{drop_more, length-map}
 use Rattle.std.proofs.lemmas.Option.{slice_get-get_or}
 use Rattle.gl_base.specs.Words.{Span}
-use Rattle.gl_args.specs.Program.{Program, done, then_by}
+use Rattle.gl_client.specs.Program.{Program, done, then_by}
 use Rattle.gl_driver.specs.Told.{Told}
 use Rattle.gl_chip.specs.Values.{OneView}
 use Rattle.gl_script.specs.Columns.{columns}
@@ -100,7 +100,7 @@ actor_words_few (section ∷ sections) n lt = by (is_kind Actor section.kind) n 
     by true (suc n) lt later = let e = length-append said (said_in_kind Actor sections) in let l = later n (omega arith) in omega arith
     by false n lt later = later n lt
 
--- the section behind a head
+-- the section after a head
 module _ (sections : List SaidSection) (i : ℕ) (told : Bool) (head : Option SaidHead) (there : i < length sections) (is : told ≡ is_actor_head head) (at : head ≡ head_at i sections) where
   from_here : (b : Bool) → told ≡ b → actor_sections (drop i sections) ≡ from_one b (get_or sections i no_section) (drop (i + 1) sections)
   from_here b same = actors_from sections i told there (actor_head sections i head told there is at) ∙ ap (λ x. from_one x (get_or sections i no_section) (drop (i + 1) sections)) same

@@ -18,9 +18,9 @@ use Rattle.gl_uapi.specs.declared.commands.Command.{Command}
 use Rattle.gl_uapi.specs.declared.commands.Command.TheVariants.{ChipInfo, LineInfo, Watch, Unwatch, GetLine, SetConfig, GetValues, SetValues}
 use Rattle.gl_world.specs.Deeds.{entries_in}
 use Rattle.gl_world.specs.History.{entry}
-use Rattle.gl_args.specs.Costs.{CostsAtMost, entries_of}
-use Rattle.gl_args.specs.Entries.{command_made, entries_made}
-use Rattle.gl_args.specs.Program.{Program, done, ask}
+use Rattle.gl_client.specs.Costs.{CostsAtMost, entries_of}
+use Rattle.gl_client.specs.Entries.{command_made, entries_made}
+use Rattle.gl_client.specs.Program.{Program, done, ask}
 use Rattle.gl_base.specs.declared.lines.Lines.{Lines}
 use Rattle.gl_driver.specs.Told.{Told}
 use Rattle.gl_base.specs.declared.op.Op.{Op}
@@ -191,7 +191,7 @@ op_most files (DoClose slot) = on_file_most (file_in slot files) _ 1 (λ f. omeg
 op_most files (Plan nth) = tt
 op_most files (Accept bits) = tt
 
--- The open files behind an operation
+-- The open files after an operation
 
 one_more : (file : OpenFile) (files : List OpenFile) → length (files ++ file ∷ []) ≤ length files + 1
 one_more file files = let l = length-append files (file ∷ []) in omega arith
@@ -232,7 +232,7 @@ module _ (is_planned : Bool) (actor : ℕ) where
   asked_most (Accepts bits) op k e before after most is = no_deeds e.did k is.0.did
   asked_most (Refuses errno) op k e before after most is = no_deeds e.did k is.0.did
 
-  -- the entries of an operation and the files behind it come to what it costs and the files before it
+  -- the entries of an operation and the files after it come to what it costs and the files before it
   op_within : (files : List OpenFile) (what : Do) (e : Exchange) (before after : Option Told) → IsDone is_planned actor (asking files what) (op_asked files what) e before after
       → length e.did + length (files_behind what e.reply files) ≤ entries_of what + length files
   op_within files what e before after is = by what (asked_most (asking files what) (op_asked files what) (entries_made what) e before after (op_most files what) is) is

@@ -6,7 +6,7 @@ use Rattle.gl_world.specs.History.{Legal, StartsWith, entries_of}
 use Rattle.gl_rule.specs.Turn.{NoStrangers}
 use Rattle.gl_rule.specs.Views.{newcomer}
 use Rattle.gl_gate.specs.Grown.{Grew}
-use Rattle.gl_args.specs.Program.{Program}
+use Rattle.gl_client.specs.Program.{Program}
 use Rattle.gl_driver.specs.Told.{Told}
 use Rattle.gl_script.specs.Section.{SaidSection}
 use Rattle.gl_talk.specs.Open.{Names}

@@ -4,8 +4,8 @@ use Rattle.gl_base.specs.Ordered.{ordered}
 use Rattle.gl_base.specs.declared.operation.Do.{Do}
 use Rattle.gl_base.specs.declared.operation.Do.TheVariants.{Close}
 use Rattle.gl_world.specs.History.{Legal}
-use Rattle.gl_args.specs.Entries.{IsKept}
-use Rattle.gl_args.specs.Program.{Program, done}
+use Rattle.gl_client.specs.Entries.{IsKept}
+use Rattle.gl_client.specs.Program.{Program, done}
 use Rattle.gl_driver.specs.Told.{Told}
 use Rattle.gl_script.specs.Section.{SaidSection}
 use Rattle.gl_script.specs.declared.section.SectionKind.TheVariants.{Setup, Actor, After}
@@ -66,7 +66,7 @@ abbrev pub after_statements : List SaidSection → Names → Program Names
 after_statements sections names = says (length (said_in_kind Setup sections)) (said_in_kind After sections) done names
 
 -- So each actor's section ends in a legal history of several actors, and so does the talk of `setup` and `after`: of these the end
--- closes what either left open, and it stands behind `after`.
+-- closes what either left open, and it stands after `after`.
 pub record ActorsCloseByNumber : Type 0 where
   pub sections : (is_planned : Bool) (before left : ℕ → Option Told) (sections : List SaidSection) (history : List OneEntry) → Legal core history
       → (n : ℕ) (text : List ℕ) (actor : ActorPlayed is_planned before left sections history n text)

@@ -5,7 +5,7 @@ use Rattle.gl_base.specs.declared.errno.Errno.TheVariants.{Full, NoMemory}
 use Rattle.gl_base.specs.declared.operation.Do.{Do}
 use Rattle.gl_base.specs.declared.operation.Got.{Got}
 use Rattle.gl_gate.specs.Grown.{Grew}
-use Rattle.gl_args.specs.Program.{Program, ask}
+use Rattle.gl_client.specs.Program.{Program, ask}
 use Rattle.gl_chip.specs.Steps.{FoundNoRoom}
 use Rattle.gl_chip.specs.Values.{OneView}
 use Rattle.gl_core.specs.Device.{core}

@@ -4,7 +4,7 @@ use Rattle.gl_base.specs.declared.operation.Do.{Do}
 use Rattle.gl_base.specs.declared.operation.Got.{Got}
 use Rattle.gl_world.specs.Deeds.{deeds_of}
 use Rattle.gl_world.specs.History.{entries_of}
-use Rattle.gl_args.specs.Program.{Program, ask}
+use Rattle.gl_client.specs.Program.{Program, ask}
 use Rattle.gl_driver.specs.Told.{Told}
 use Rattle.gl_model.specs.declared.device_call.DeviceCall.{DeviceCall}
 use Rattle.gl_script.specs.Cost.{session_cost}

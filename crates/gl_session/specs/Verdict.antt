@@ -61,7 +61,7 @@ length_by (Some number) = number_below (SESSION_MAX + 1) number
 abbrev pub length_told : List ℕ → Option ℕ
 length_told line = length_by (stripped (codes "check ") line)
 
--- what stands behind the first line, where it has bytes enough
+-- what stands after the first line, where it has bytes enough
 abbrev pub parts_by : Option ℕ → List ℕ → Option Parts
 parts_by None rest = None
 parts_by (Some count) rest = if nat_le count (length rest) then Some (record { session = take count rest; output = drop count rest }) else None

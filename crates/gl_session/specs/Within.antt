@@ -2,8 +2,8 @@
 use Rattle.std.specs.Prelude.{◌≡◌, ◌<◌, ◌≤◌, ℕ, ◌+◌, Bool, List, [], ◌++◌, length, sum_by, Option}
 use Rattle.gl_base.specs.declared.operation.Do.{Do}
 use Rattle.gl_base.specs.declared.operation.Got.{Got}
-use Rattle.gl_args.specs.Costs.{CostsAtMost}
-use Rattle.gl_args.specs.Program.{Program, ask}
+use Rattle.gl_client.specs.Costs.{CostsAtMost}
+use Rattle.gl_client.specs.Program.{Program, ask}
 use Rattle.gl_driver.specs.Told.{Told}
 use Rattle.gl_model.specs.declared.device_call.DeviceCall.{DeviceCall}
 use Rattle.gl_script.specs.Cost.{session_cost, words_cost}

@@ -11,7 +11,7 @@ use Rattle.gl_world.specs.Deeds.{deeds_of}
 use Rattle.gl_world.specs.History.{Legal, StartsWith, entries_of}
 use Rattle.gl_gate.specs.Calls.{HasAllOf, HasItsOwn}
 use Rattle.gl_gate.specs.Values.{GateValue}
-use Rattle.gl_args.specs.Program.{Program, ask, done}
+use Rattle.gl_client.specs.Program.{Program, ask, done}
 use Rattle.gl_driver.specs.Told.{Told}
 use Rattle.gl_script.specs.Section.{SaidHead, SaidSection}
 use Rattle.gl_script.specs.declared.section.SectionKind.TheVariants.{Actor}

@@ -44,7 +44,7 @@ pub fn give_port<D: Driver<Core>>(ports: &mut [Option<D::Port>], n: usize, port:
     ports[n] = Some(port);
 }
 
-/// Puts an actor behind the others.
+/// Puts an actor after the others.
 fn put<D: Driver<Core>>(actors: &mut Vec<Actor<D>>, actor: Actor<D>) -> Result<(), Errno>
     ensures put { OnOk result (actors.new.items ≡ actors.old.items ++ actor ∷ []) }
     ensures memory_alone { IsOkUnless result Errno.NoMemory }
@@ -55,7 +55,7 @@ fn put<D: Driver<Core>>(actors: &mut Vec<Actor<D>>, actor: Actor<D>) -> Result<(
     }
 }
 
-/// One more actor, behind the others.
+/// One more actor, after the others.
 fn split_one<D: Driver<Core>>(
     device: &Gpio<D>,
     first: &mut Actor<D>,

@@ -62,7 +62,7 @@ fn length_told(line: &[u8]) -> Option<usize>
     }
 }
 
-/// What stands behind the word that the first line begins with.
+/// What stands after the word that the first line begins with.
 fn behind_check(line: &[u8]) -> Option<&[u8]>
     ensures { MatchOption result (stripped (codes "check ") line.now ≡ None) (λ rest. stripped (codes "check ") line.now ≡ Some rest.now) }
 {
@@ -72,7 +72,7 @@ fn behind_check(line: &[u8]) -> Option<&[u8]>
     None
 }
 
-/// The session of so many bytes and the output behind it, where there are enough.
+/// The session of so many bytes and the output after it, where there are enough.
 fn parts_of(count: Option<usize>, rest: &[u8]) -> Option<(&[u8], &[u8])>
     ensures { MatchOption result (parts_by count rest.now ≡ None) (λ parts. parts_by count rest.now ≡ Some (record { session = parts.0.now; output = parts.1.now })) }
 {

@@ -69,7 +69,7 @@ fn figures_of(
     Ok(out)
 }
 
-/// Runs the session that bytes say by one actor through the first port, which is put back behind it. Gives the four lines on it.
+/// Runs the session that bytes say by one actor through the first port, which is put back after it. Gives the four lines on it.
 ///
 /// `NoMemory` alone is refused, and then the first port may be missing.
 fn carry_bytes<R: Wait, D: Driver<Core>>(
@@ -98,7 +98,7 @@ fn carry_bytes<R: Wait, D: Driver<Core>>(
     }
 }
 
-/// Runs the load of a number by one actor through the first port, which is put back behind it. Gives the four lines on it: how many
+/// Runs the load of a number by one actor through the first port, which is put back after it. Gives the four lines on it: how many
 /// statements it has, how many entries it made, how many bytes it printed, and their sum modulo 2^32.
 ///
 /// `NoMemory` alone is refused, and then the first port may be missing.

@@ -1,7 +1,7 @@
 //! A session that one actor carries out on a device of its own: its sections one after the other.
 ghost use Rattle.std.specs.Prelude.{◌≡◌, ◌⊎◌, ◌+◌, ◌≤◌, List, [], IfOk, IfErr, OnOk, IsOkUnless, map, length};
 ghost use Rattle.gl_base.specs.declared.errno.Errno.TheVariants.{Full, NoMemory};
-ghost use Rattle.gl_args.specs.Program.{done};
+ghost use Rattle.gl_client.specs.Program.{done};
 ghost use Rattle.gl_rule.specs.Views.{newcomer};
 ghost use Rattle.gl_script.specs.Cost.{session_cost};
 ghost use Rattle.gl_script.specs.Meaning.{head_in};
@@ -71,7 +71,7 @@ fn statements_of_kind<'a>(
     statements
 }
 
-/// Carries out the statements of all sections of a kind, in a talk that may go on behind them.
+/// Carries out the statements of all sections of a kind, in a talk that may go on after them.
 pub fn play_kind<R: Wait, D: Driver<Core>>(
     rt: &R,
     alloc: Global,

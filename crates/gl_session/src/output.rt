@@ -109,7 +109,7 @@ fn put_history(history: &[Entry<Core>], out: &mut Vec<u8>) -> Result<(), Errno>
     put_entries(history, out)
 }
 
-/// The output of a session: the texts of `setup`, of its actors in order, and of `after`, each behind its header, and then the
+/// The output of a session: the texts of `setup`, of its actors in order, and of `after`, each after its header, and then the
 /// history. `NoMemory` alone is refused.
 pub fn output_of(
     alloc: Global,

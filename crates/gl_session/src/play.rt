@@ -1,14 +1,14 @@
 //! A talk, carried out by a player.
 ghost use Rattle.std.specs.Prelude.{◌≡◌, ◌⊎◌, ◌+◌, ◌≤◌, false, IfOk, IfErr, OnOk, IsTrue, None, map, length, option_copied};
 ghost use Rattle.gl_base.specs.declared.errno.Errno.TheVariants.{Full, NoMemory};
-ghost use Rattle.gl_args.specs.Program.{done, given};
+ghost use Rattle.gl_client.specs.Program.{done, given};
 ghost use Rattle.gl_talk.specs.Over.{columns_in};
 ghost use Rattle.gl_talk.specs.Talk.{left, names_in, says};
 ghost use Rattle.gl_session.specs.Performed.{PlaysOn, StoppedFull};
 
 use crate::player::Player;
-use gl_args::Next;
 use gl_base::{Errno, Got};
+use gl_client::Next;
 use gl_core::Core;
 use gl_driver::Driver;
 use gl_script::Statement;

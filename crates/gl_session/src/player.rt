@@ -158,7 +158,7 @@ impl<'d, D: Driver<Core>> Player<'d, D> {
         mem::replace(&mut self.files, files)
     }
 
-    /// Carries an operation out, and gives its result. Want of memory and a full history are no result, and are the errors here.
+    /// Carries an operation out, and gives its result. Being out of memory and a full history are no result, and are the errors here.
     pub fn perform<R: Wait>(&mut self, rt: &R, alloc: Global, what: &Do) -> Result<Got, Errno>
         requires none { D.ENTRIES ≡ 0 }
         ensures device { self.new.gate ≡ self.old.gate }

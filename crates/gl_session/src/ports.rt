@@ -20,7 +20,7 @@ use std::alloc::Global;
 use std::sync::Wait;
 use std::thread::Threads;
 
-/// Runs a session by one actor through the first port, which is put back behind it. Gives the text, and how many entries were made.
+/// Runs a session by one actor through the first port, which is put back after it. Gives the text, and how many entries were made.
 ///
 /// `NoMemory` alone is refused, and then the first port may be missing.
 pub fn run_alone<R: Wait, D: Driver<Core>>(

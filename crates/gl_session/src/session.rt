@@ -44,7 +44,7 @@ use std::thread::Threads;
 ///
 /// All other words write the line `usage`.
 ///
-/// The first cause decides: words that ask for nothing, a fault of reading, bytes that are no session, want of memory, a fault of
+/// The first cause decides: words that ask for nothing, a fault of reading, bytes that are no session, being out of memory, a fault of
 /// writing. There are 17 ports: that of the number of an actor is the one through which it
 /// asks the driver.
 pub fn run<R: Threads + Wait + Sync, S: Source, K: Sink, D: Driver<Core>>(
@@ -74,7 +74,7 @@ pub fn run<R: Threads + Wait + Sync, S: Source, K: Sink, D: Driver<Core>>(
         HasWrittenLoad D.is_planned n (told_at D.Port.told ports.old 0) (told_at D.Port.told ports.new 0) (K.held sink.old) (K.held sink.new) }
     ensures load_ends { (n : ℕ) → asks (texts words.now) ≡ Some (Task.Load n) → (result ≡ Status.Ran) ⊎ ((result ≡ Status.WriteFault) ⊎ (result ≡ Status.NoMemory)) }
 
-    // Words that ask for nothing are answered first, and where there are words nothing is read, but for a check.
+    // Words that ask for nothing are answered first, and where there are words nothing is read, except for a check.
     ensures usage { asks (texts words.now) ≡ None → (result ≡ Status.Usage) ⊎ (result ≡ Status.WriteFault) }
     ensures usage_only { result ≡ Status.Usage → asks (texts words.now) ≡ None }
     ensures usage_written { result ≡ Status.Usage → Appends (K.held sink.old) (K.held sink.new) usage_line }
@@ -110,7 +110,7 @@ pub fn run<R: Threads + Wait + Sync, S: Source, K: Sink, D: Driver<Core>>(
         × AppendsFront (K.held sink.old) (K.held sink.new) text }
     ensures usage_front { result ≡ Status.WriteFault → asks (texts words.now) ≡ None → AppendsFront (K.held sink.old) (K.held sink.new) usage_line }
 
-    // Want of memory may always be answered, and then nothing is written.
+    // Being out of memory may always be answered, and then nothing is written.
     ensures no_memory_writes_nothing { result ≡ Status.NoMemory → sink.new ≡ sink.old }
 
     // Where no fault was counted, a session runs, and so does a load.
@@ -121,7 +121,7 @@ pub fn run<R: Threads + Wait + Sync, S: Source, K: Sink, D: Driver<Core>>(
         (result ≡ Status.Ran) ⊎ (result ≡ Status.NoMemory) }
 
     // With the word `check` what is read is judged: a header, a session, and what is to be the output of its run. The judgment's line is
-    // written; its status is the answer, or else a fault of reading or writing, or want of memory. Only a check answers No.
+    // written; its status is the answer, or else a fault of reading or writing, or being out of memory. Only a check answers No.
     ensures check { asks (texts words.now) ≡ Some Task.Check → IsJudgment result → IfSome (S.left source.old) (λ input. (verdict : Verdict) × IsVerdict input verdict
         × (result ≡ verdict_status verdict) × Appends (K.held sink.old) (K.held sink.new) (verdict_line verdict)) }
     ensures check_front { result ≡ Status.WriteFault → asks (texts words.now) ≡ Some Task.Check → IfSome (S.left source.old) (λ input. (verdict : Verdict) × IsVerdict input verdict
@@ -139,7 +139,7 @@ pub fn run<R: Threads + Wait + Sync, S: Source, K: Sink, D: Driver<Core>>(
         ¬ Rises (S.fault_count source.old) (S.fault_count source.new) → ¬ Rises (K.fault_count sink.old) (K.fault_count sink.new) →
         (result ≡ Status.Ran) ⊎ (result ≡ Status.NoMemory)) }
 
-    // All ports are there again but for want of memory; those of numbers that no actor has are as they were, and so are all where nothing ran.
+    // All ports are there again except when out of memory; those of numbers that no actor has are as they were, and so are all where nothing ran.
     ensures ports_there { result ≢ Status.NoMemory → AreAllThere ports.new }
     ensures other_ports { result ≢ Status.NoMemory → words.now ≡ [] → IfSome (S.left source.old) (λ input.
         (sections : List SaidSection) → Sentence input sections → OthersStay sections ports.old ports.new) }

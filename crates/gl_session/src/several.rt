@@ -42,7 +42,7 @@ pub struct Printed {
 }
 
 /// The sections of all actors, each carried out by an actor of its own with the port of its number, which is in its place again
-/// behind it. Gives what each printed.
+/// after it. Gives what each printed.
 fn fork<R: Threads + Wait + Sync, D: Driver<Core>>(
     rt: &R,
     alloc: Global,

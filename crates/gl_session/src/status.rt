@@ -14,7 +14,7 @@ pub enum Status {
     ReadFault,
     /// The output could not be written.
     WriteFault,
-    /// Memory is wanted.
+    /// Out of memory.
     NoMemory,
     /// What was to be judged is no lawful run.
     No,

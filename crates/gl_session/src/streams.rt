@@ -15,7 +15,7 @@ const CHUNK: usize = 4096;
 pub enum ReadError {
     /// A read failed.
     Fault,
-    /// Memory is wanted.
+    /// Out of memory.
     NoMemory,
 }
 

@@ -23,7 +23,7 @@ pub fn put_texts(frames: &[u8], out: &mut Vec<u8>) -> Result<(), Errno> {
     Ok(())
 }
 
-/// What the first frame holds, and what comes behind it.
+/// What the first frame holds, and what comes after it.
 fn first_frame(bytes: &[u8]) -> Option<(&[u8], &[u8])> {
     let (head, behind) = split_first(bytes, b'\n');
     let count = usize::try_from(read_decimal(number_in(head)?)?).ok()?;

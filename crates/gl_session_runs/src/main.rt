@@ -16,13 +16,13 @@
 mod again;
 mod frames;
 mod meeting;
-mod plan;
 mod play;
+mod run_parameters;
 
 use gl_base::{Errno, read_decimal, split_first};
 use meeting::Meeting;
-use plan::Plan;
 use play::Session;
+use run_parameters::RunParameters;
 use std::io::{self, BufRead, BufReader, Write};
 use std::sync::Wait;
 use std::thread::Threads;
@@ -64,14 +64,14 @@ fn told<R: Threads + Wait + Sync>(
         session.add_lines(read_decimal(count), text)
     } else if let Some(name) = line.strip_prefix(b"session ") {
         session.begin(name)
-    } else if let Some(plan) = Plan::of(b"play ", line) {
-        session.put_run(rt, &plan, out)
+    } else if let Some(parameters) = RunParameters::of(b"play ", line) {
+        session.put_run(rt, &parameters, out)
     } else if let Some(meeting) = Meeting::of(line) {
         session.put_meeting(rt, meeting, out)
-    } else if let Some(plan) = Plan::of(b"serve ", line) {
-        session.put_texts(&plan, out)
-    } else if let Some(plan) = Plan::of(b"frames ", line) {
-        session.put_frames(&plan, out)
+    } else if let Some(parameters) = RunParameters::of(b"serve ", line) {
+        session.put_texts(&parameters, out)
+    } else if let Some(parameters) = RunParameters::of(b"frames ", line) {
+        session.put_frames(&parameters, out)
     } else if line == b"again".as_slice() {
         session.put_again(out)
     } else {

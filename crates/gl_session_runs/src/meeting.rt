@@ -1,8 +1,8 @@
 //! A session whose actors meet in the driver.
 ghost use Rattle.std.specs.Prelude.{◌≤◌, IfSome};
 
-use crate::plan::{Plan, word};
 use crate::play::{Session, new_ports};
+use crate::run_parameters::{RunParameters, word};
 use gl_base::{Errno, read_decimal};
 use gl_driver::HoldDriver;
 use gl_io::MemSink;
@@ -53,15 +53,15 @@ impl Session {
         requires { 1 ≤ meeting.calls }
     {
         let alloc = *out.allocator();
-        let plan = Plan {
+        let parameters = RunParameters {
             piece: 64,
             room: meeting.room,
             read: None,
             write: None,
             words: [b"", b""],
         };
-        let mut source = self.source(alloc, &plan)?;
-        let mut sink = MemSink::new(alloc, plan.room, plan.piece, Vec::new(alloc))?;
+        let mut source = self.source(alloc, &parameters)?;
+        let mut sink = MemSink::new(alloc, parameters.room, parameters.piece, Vec::new(alloc))?;
         let (driver, mut ports) = (HoldDriver::new(meeting.calls), new_ports());
         let status = run(rt, alloc, &[], &mut source, &mut sink, driver, &mut ports);
         self.put_judged(rt, status.number(), sink.as_slice(), meeting.front, out)
@@ -90,13 +90,13 @@ impl Session {
     ) -> Result<(), Errno> {
         let mut printed = Session::new(*out.allocator());
         self.put_printed(text, &mut printed)?;
-        let plan = Plan {
+        let parameters = RunParameters {
             piece: 4096,
             room: 64,
             read: None,
             write: None,
             words: [b"check", b""],
         };
-        printed.put_run(rt, &plan, out)
+        printed.put_run(rt, &parameters, out)
     }
 }

@@ -4,7 +4,7 @@ ghost use Rattle.gl_session.specs.Ports.{AreAllThere};
 
 use crate::again::give_all;
 use crate::frames::put_texts;
-use crate::plan::Plan;
+use crate::run_parameters::RunParameters;
 use gl_base::{Errno, put_decimal};
 use gl_driver::{SimDriver, SimPort};
 use gl_io::{MemSink, MemSource};
@@ -70,16 +70,21 @@ impl Session {
     pub fn put_run<R: Threads + Wait + Sync>(
         &self,
         rt: &R,
-        plan: &Plan<'_>,
+        parameters: &RunParameters<'_>,
         out: &mut Vec<u8>,
     ) -> Result<(), Errno>
-        requires { 0 < plan.now.piece }
+        requires { 0 < parameters.now.piece }
     {
         let alloc = *out.allocator();
-        let mut source = self.source(alloc, plan)?;
-        let mut sink = MemSink::new(alloc, plan.room, plan.piece, only(plan.write, alloc)?)?;
+        let mut source = self.source(alloc, parameters)?;
+        let mut sink = MemSink::new(
+            alloc,
+            parameters.room,
+            parameters.piece,
+            only(parameters.write, alloc)?,
+        )?;
         let (driver, mut ports) = (SimDriver::new(), new_ports());
-        let words = [text_of(plan.words[0]), text_of(plan.words[1])];
+        let words = [text_of(parameters.words[0]), text_of(parameters.words[1])];
         let count = count_words(&words);
         let status = run(
             rt,
@@ -94,19 +99,19 @@ impl Session {
     }
 
     /// Serves the session as planned, line by line, and appends its name, its status and the frames that were written.
-    pub fn put_frames(&self, plan: &Plan<'_>, out: &mut Vec<u8>) -> Result<(), Errno>
-        requires { 0 < plan.now.piece }
+    pub fn put_frames(&self, parameters: &RunParameters<'_>, out: &mut Vec<u8>) -> Result<(), Errno>
+        requires { 0 < parameters.now.piece }
     {
-        let (number, frames) = self.serve(*out.allocator(), plan)?;
+        let (number, frames) = self.serve(*out.allocator(), parameters)?;
         self.put_ended(number, &frames, out)
     }
 
     /// The same, with what the frames hold in place of them.
-    pub fn put_texts(&self, plan: &Plan<'_>, out: &mut Vec<u8>) -> Result<(), Errno>
-        requires { 0 < plan.now.piece }
+    pub fn put_texts(&self, parameters: &RunParameters<'_>, out: &mut Vec<u8>) -> Result<(), Errno>
+        requires { 0 < parameters.now.piece }
     {
         let alloc = *out.allocator();
-        let (number, frames) = self.serve(alloc, plan)?;
+        let (number, frames) = self.serve(alloc, parameters)?;
         let mut texts = Vec::new(alloc);
         put_texts(&frames, &mut texts)?;
         self.put_ended(number, &texts, out)
@@ -123,11 +128,16 @@ impl Session {
     }
 
     /// Serves the session as planned: the number of its end, and what was written.
-    fn serve(&self, alloc: Global, plan: &Plan<'_>) -> Result<(u8, Vec<u8>), Errno>
-        requires { 0 < plan.now.piece }
+    fn serve(&self, alloc: Global, parameters: &RunParameters<'_>) -> Result<(u8, Vec<u8>), Errno>
+        requires { 0 < parameters.now.piece }
     {
-        let mut source = self.source(alloc, plan)?;
-        let mut sink = MemSink::new(alloc, plan.room, plan.piece, only(plan.write, alloc)?)?;
+        let mut source = self.source(alloc, parameters)?;
+        let mut sink = MemSink::new(
+            alloc,
+            parameters.room,
+            parameters.piece,
+            only(parameters.write, alloc)?,
+        )?;
         let mut served = Served::new(alloc)?;
         let ended = serve(alloc, &mut served, &mut source, &mut sink);
         let mut frames = Vec::new(alloc);
@@ -136,12 +146,12 @@ impl Session {
     }
 
     /// The session's bytes as a source.
-    pub fn source(&self, alloc: Global, plan: &Plan<'_>) -> Result<MemSource, Errno>
-        requires { 0 < plan.now.piece }
+    pub fn source(&self, alloc: Global, parameters: &RunParameters<'_>) -> Result<MemSource, Errno>
+        requires { 0 < parameters.now.piece }
     {
         let mut bytes = Vec::new(alloc);
         bytes.extend_from_slice(&self.bytes)?;
-        Ok(MemSource::new(bytes, plan.piece, only(plan.read, alloc)?))
+        Ok(MemSource::new(bytes, parameters.piece, only(parameters.read, alloc)?))
     }
 
     /// Appends the session's name, the number that it ended with, and a text.

@@ -2,10 +2,10 @@
 use Rattle.std.proofs.Common.{◌≡◌, ℕ, List, [], ◌∷◌, ◌++◌, map, Option, None, Some, Result, Ok, Err, IfOk, OnOk, sym, ◌∙◌, ap, subst, refl}
 use Rattle.gl_base.specs.declared.errno.Errno.{Errno}
 use Rattle.gl_base.specs.declared.operation.Got.{Got}
-use Rattle.gl_args.specs.declared.next.Next.{Next}
-use Rattle.gl_args.specs.declared.next.Next.TheVariants.{Call, Print, End}
-use Rattle.gl_args.specs.Program.{Program, done, Left, goes_on, waits, then_left, given, Goes, MatchNext}
-use Rattle.gl_args.proofs.Programs.{goes_in_part, given_then}
+use Rattle.gl_client.specs.declared.next.Next.{Next}
+use Rattle.gl_client.specs.declared.next.Next.TheVariants.{Call, Print, End}
+use Rattle.gl_client.specs.Program.{Program, done, Left, goes_on, waits, then_left, given, Goes, MatchNext}
+use Rattle.gl_client.proofs.Programs.{goes_in_part, given_then}
 use Rattle.gl_monitor.specs.declared.monitor.Monitor.{Monitor}
 use Rattle.gl_monitor.specs.Monitor.{Watched, monitor_left}
 use Rattle.gl_talk.specs.Open.{Names}

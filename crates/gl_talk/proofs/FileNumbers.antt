@@ -11,11 +11,11 @@ use Rattle.gl_base.specs.declared.errno.Errno.{Errno}
 use Rattle.gl_base.specs.declared.operation.Do.{Do}
 use Rattle.gl_base.specs.declared.operation.Do.TheVariants.{Probe, Unplug, MakeDir, RemoveDir, Write, Read, Live, Tick, Pin, Irq, Pull, Level, OpenChip, Find, Ioctl, ReadFile, Poll, Close, Plan, Accept}
 use Rattle.gl_base.specs.declared.operation.Got.{Got}
-use Rattle.gl_args.specs.Entries.{IsKept}
-use Rattle.gl_args.specs.Gives.{Gives}
-use Rattle.gl_args.specs.OpenSlots.{NamesOpenSlots, SameSlots, Where, is_open, one_if, slots_behind, times, with_opened}
-use Rattle.gl_args.specs.Program.{Program, done, print, ask, then_by}
-use Rattle.gl_args.proofs.OpenSlots.{is_there, same_number, times_without}
+use Rattle.gl_client.specs.Entries.{IsKept}
+use Rattle.gl_client.specs.Gives.{Gives}
+use Rattle.gl_client.specs.OpenSlots.{NamesOpenSlots, SameSlots, Where, is_open, one_if, slots_behind, times, with_opened}
+use Rattle.gl_client.specs.Program.{Program, done, print, ask, then_by}
+use Rattle.gl_client.proofs.OpenSlots.{is_there, same_number, times_without}
 use Rattle.gl_talk.specs.Files.{AreOpen}
 use Rattle.gl_talk.specs.Numbers.{CloseByNumber, FilesCloseByNumber, Numbered, NumbersFiles, has_less, has_slot, numbered_behind, with_number}
 use Rattle.gl_talk.specs.Open.{Names, no_names, open_slots}
@@ -73,7 +73,7 @@ slots_same files (Close slot) got number = slots_less slot files
 slots_same files (Plan nth) got number = refl
 slots_same files (Accept bits) got number = refl
 
--- A file is opened later than another: it has a greater number, and behind one of before the statement a greater slot; behind one
+-- A file is opened later than another: it has a greater number, and after one of before the statement a greater slot; after one
 -- of the statement's own there are such alone.
 record Later (base : ℕ) (file other : Numbered) : Type 0 where
   pub number : file.number < other.number

@@ -1,6 +1,6 @@
 -- Statements in a row, in parts.
 use Rattle.std.proofs.Common.{◌≡◌, ◌+◌, [], ◌∷◌, ◌++◌, length, refl, sym, ◌∙◌, ap, arith}
-use Rattle.gl_args.specs.Program.{Program, done, print, ask, then_by}
+use Rattle.gl_client.specs.Program.{Program, done, print, ask, then_by}
 use Rattle.gl_talk.specs.InParts.{StatementsComeInParts, TalksAreStatementsAndTheEnd}
 use Rattle.gl_talk.specs.Talk.{does, quits, says, slot_behind, talks}
 
@@ -10,7 +10,7 @@ in_turn (done value) f g = refl
 in_turn (print text p) f g = ap (print text) (in_turn p f g)
 in_turn (ask what p) f g = λ i. ask what (λ got. in_turn (p got) f g i)
 
--- the same comes behind a program
+-- the same comes after a program
 same_behind : {A B : Type 0} (p : Program A) (f g : A → Program B) → ((value : A) → f value ≡ g value) → then_by p f ≡ then_by p g
 same_behind p f g h = λ i. then_by p (λ value. h value i)
 

@@ -10,33 +10,33 @@ use Rattle.gl_base.specs.declared.errno.Errno.{Errno}
 use Rattle.gl_base.specs.declared.operation.Do.{Do}
 use Rattle.gl_base.specs.declared.operation.Do.TheVariants.{Probe, Unplug, MakeDir, RemoveDir, Write, Read, Live, Tick, Pin, Irq, Pull, Level, OpenChip, Find, Ioctl, ReadFile, Poll, Close, Plan as PlanPort, Accept as AcceptPort}
 use Rattle.gl_base.specs.declared.operation.Got.{Got}
-use Rattle.gl_args.specs.Entries.{IsKept}
-use Rattle.gl_args.specs.Gives.{Gives}
-use Rattle.gl_args.specs.OpenSlots.{Where, one_if, times}
+use Rattle.gl_client.specs.Entries.{IsKept}
+use Rattle.gl_client.specs.Gives.{Gives}
+use Rattle.gl_client.specs.OpenSlots.{Where, one_if, times}
 use Rattle.gl_args.specs.Options.{SaidTool, SaidDetect, SaidInfo, SaidGet, SaidSet, SaidWatch, SaidNotify}
-use Rattle.gl_args.specs.Program.{Program, done, print, ask, then_by}
+use Rattle.gl_client.specs.Program.{Program, done, print, ask, then_by}
 use Rattle.gl_args.specs.Tools.{tool_said}
-use Rattle.gl_args.proofs.OpenSlots.{Fits, Follows, behind, counts, counts_with, same_number}
+use Rattle.gl_client.proofs.OpenSlots.{Fits, Follows, behind, counts, counts_with, same_number}
 use Rattle.gl_monitor.specs.Monitor.{Watched, monitor_program, steps_held, watched_slot}
 use Rattle.gl_monitor.specs.Monitor.{stops as stops_watching}
 use Rattle.gl_monitor.proofs.MonitorNames.{monitor_at, steps_held_at}
 use Rattle.gl_monitor.proofs.MonitorNames.{stops_at as watching_stops_at}
 use Rattle.gl_script.specs.Table.{keyword_of}
-use Rattle.gl_talk.specs.declared.files.FileKind.{FileKind}
-use Rattle.gl_talk.specs.declared.files.FileKind.TheVariants.{Chip, Request}
-use Rattle.gl_talk.specs.declared.plans.Plan.{Plan}
-use Rattle.gl_talk.specs.declared.plans.Plan.TheVariants.{Nothing, Refuse, Ask}
-use Rattle.gl_talk.specs.declared.plans.Reply.{Reply}
-use Rattle.gl_talk.specs.declared.plans.Reply.TheVariants.{Silent, Value, Level as LevelReply, Bytes, Edges, Infos, Ready, Opened, Closed, Made, OldBytes, OldEdges, OldMade}
-use Rattle.gl_talk.specs.declared.tools.Kind.{Kind}
-use Rattle.gl_talk.specs.declared.tools.Kind.TheVariants.{Plain, ToolAlone, Starting, Stepping, Stopping}
+use Rattle.gl_talk.specs.declared.files.TalkFileKind.{TalkFileKind}
+use Rattle.gl_talk.specs.declared.files.TalkFileKind.TheVariants.{Chip, Request}
+use Rattle.gl_talk.specs.declared.actions.Action.{Action}
+use Rattle.gl_talk.specs.declared.actions.Action.TheVariants.{Nothing, Refuse, Ask}
+use Rattle.gl_talk.specs.declared.actions.ResultFormat.{ResultFormat}
+use Rattle.gl_talk.specs.declared.actions.ResultFormat.TheVariants.{Silent, Value, Level as LevelFormat, Bytes, Edges, Infos, Ready, Opened, Closed, Made, OldBytes, OldEdges, OldMade}
+use Rattle.gl_talk.specs.declared.tools.StatementKind.{StatementKind}
+use Rattle.gl_talk.specs.declared.tools.StatementKind.TheVariants.{Plain, ToolAlone, Starting, Stepping, Stopping}
 use Rattle.gl_talk.specs.Old.{made_kind, old_command_word}
 use Rattle.gl_talk.specs.Open.{File, MonitorTool, Names, SetTool, has_tool, held_of_name, is_file, is_monitor, is_set, monitor_slots, set_slots, watched_of_name, without_monitor, without_set}
-use Rattle.gl_talk.specs.Plans.{planned}
+use Rattle.gl_talk.specs.Actions.{action_of}
 use Rattle.gl_talk.specs.Talk.{acts, does, does_by, file, keeps_monitor, keeps_set, replied_by, runs, starts, starts_said, starts_tool, steps, stops}
 use Rattle.gl_talk.specs.ToolWords.{kind_of, word_texts}
 use Rattle.gl_talk.specs.Words.{behind_three, behind_two, bytes_said, made_name, name_word, turns_word}
-use Rattle.gl_talk.proofs.TalkNames.{PlanFits, file_times, monitor_more, one_more, open_times, planned_at, set_more}
+use Rattle.gl_talk.proofs.TalkNames.{ActionFits, file_times, monitor_more, one_more, open_times, action_at, set_more}
 use Rattle.gl_values.specs.Client.{held_program, tool_program}
 use Rattle.gl_values.specs.Set.{Held}
 use Rattle.gl_values.specs.Set.{stops as stops_holding}
@@ -140,11 +140,11 @@ module _ (slot : ℕ) where
   keeps_monitor_opens name names watched = tt
 
   module _ (names : Names) (words : List Span) where
-    replied_opens : (fault : Option Errno) (reply : Reply) (got : Got) → Own (replied_by fault reply names slot words got)
+    replied_opens : (fault : Option Errno) (reply : ResultFormat) (got : Got) → Own (replied_by fault reply names slot words got)
     replied_opens (Some errno) reply got = tt
     replied_opens None Silent got = tt
     replied_opens None Value got = tt
-    replied_opens None (LevelReply is_pull) got = tt
+    replied_opens None (LevelFormat is_pull) got = tt
     replied_opens None Bytes got = tt
     replied_opens None Edges got = tt
     replied_opens None Infos got = tt
@@ -159,19 +159,19 @@ module _ (slot : ℕ) where
     own_first : is_own slot slot ≡ true
     own_first = ap (λ b. b || nat_eq slot (slot + 1)) (same_number slot)
 
-    asks : (what : Do) (reply : Reply) → Opens (is_own slot) what → Own (acts (Ask what reply) names slot words)
+    asks : (what : Do) (reply : ResultFormat) → Opens (is_own slot) what → Own (acts (Ask what reply) names slot words)
     asks what reply opens = (opens, λ got kept. replied_opens (refusal got) reply got)
 
     where_so : (b : Bool) (P : Type 0) → P → Where b P
     where_so true P h = h
     where_so false P h = tt
 
-    acts_open : (plan : Plan) → ((s : ℕ) → PlanFits s 0 names slot words plan) → Own (acts plan names slot words)
+    acts_open : (action : Action) → ((s : ℕ) → ActionFits s 0 names slot words action) → Own (acts action names slot words)
     acts_open Nothing fits = tt
     acts_open (Refuse errno) fits = tt
     acts_open (Ask what Silent) fits = asks what Silent (opens_what (is_own slot) (λ s. open_times s names) what (λ s e. (fits s).0))
     acts_open (Ask what Value) fits = asks what Value (opens_what (is_own slot) (λ s. open_times s names) what (λ s e. (fits s).0))
-    acts_open (Ask what (LevelReply is_pull)) fits = asks what (LevelReply is_pull) (opens_what (is_own slot) (λ s. open_times s names) what (λ s e. (fits s).0))
+    acts_open (Ask what (LevelFormat is_pull)) fits = asks what (LevelFormat is_pull) (opens_what (is_own slot) (λ s. open_times s names) what (λ s e. (fits s).0))
     acts_open (Ask what Bytes) fits = asks what Bytes (opens_what (is_own slot) (λ s. open_times s names) what (λ s e. (fits s).0))
     acts_open (Ask what Edges) fits = asks what Edges (opens_what (is_own slot) (λ s. open_times s names) what (λ s e. (fits s).0))
     acts_open (Ask what Infos) fits = asks what Infos (opens_what (is_own slot) (λ s. open_times s names) what (λ s e. (fits s).0))
@@ -220,8 +220,8 @@ module _ (slot : ℕ) where
         opens_then (is_own slot) (stops_watching watched) (keeps_monitor (text_at 1 words) (without_monitor (text_at 1 words) names)) (watching_stops_open watched)
         (keeps_monitor_opens (text_at 1 words) (without_monitor (text_at 1 words) names))
 
-    kind_opens : (kind : Kind) → Own (does_by kind names slot words)
-    kind_opens Plain = acts_open (planned (keyword_of (text_at 0 words)) names.files slot words) (λ s. planned_at s 0 names slot words (keyword_of (text_at 0 words)))
+    kind_opens : (kind : StatementKind) → Own (does_by kind names slot words)
+    kind_opens Plain = acts_open (action_of (keyword_of (text_at 0 words)) names.files slot words) (λ s. action_at s 0 names slot words (keyword_of (text_at 0 words)))
     kind_opens ToolAlone = runs_open (tool_said (word_texts words))
     kind_opens Starting = starts_open (has_tool (text_at 1 words) names)
     kind_opens Stepping = steps_open_in (watched_of_name (text_at 1 words) names.monitors) (held_of_name (text_at 1 words) names.sets)
@@ -297,15 +297,15 @@ module _ (slot : ℕ) where
     still : IsOneMore names
     still = omega (arith, none)
 
-    one_file : (name : List ℕ) (kind : FileKind) → IsOneMore (record names { files = names.files ++ file name slot kind ∷ [] })
+    one_file : (name : List ℕ) (kind : TalkFileKind) → IsOneMore (record names { files = names.files ++ file name slot kind ∷ [] })
     one_file name kind =
         omega (arith, none, one_more slot names.files (file name slot kind), one_more (slot + 1) names.files (file name slot kind), counts_two slot (Some slot))
 
-    one_replied : (fault : Option Errno) (reply : Reply) (got : Got) → Gives IsOneMore (replied_by fault reply names slot words got)
+    one_replied : (fault : Option Errno) (reply : ResultFormat) (got : Got) → Gives IsOneMore (replied_by fault reply names slot words got)
     one_replied (Some errno) reply got = still
     one_replied None Silent got = still
     one_replied None Value got = still
-    one_replied None (LevelReply is_pull) got = still
+    one_replied None (LevelFormat is_pull) got = still
     one_replied None Bytes got = still
     one_replied None Edges got = still
     one_replied None Infos got = still
@@ -317,7 +317,7 @@ module _ (slot : ℕ) where
     one_replied None OldEdges got = still
     one_replied None OldMade got = one_file (made_name words) (made_kind (old_command_word (text_at 2 words)) (bytes_said (behind_three words)))
 
-    one_acts : (plan : Plan) → Gives IsOneMore (acts plan names slot words)
+    one_acts : (action : Action) → Gives IsOneMore (acts action names slot words)
     one_acts Nothing = still
     one_acts (Refuse errno) = still
     one_acts (Ask what reply) = λ got. one_replied (refusal got) reply got
@@ -363,8 +363,8 @@ module _ (slot : ℕ) where
         gives_then IsOneMore (stops_watching watched) (keeps_monitor (text_at 1 words) (without_monitor (text_at 1 words) names))
         (λ after. one_monitor (text_at 1 words) (without_monitor (text_at 1 words) names) after monitor_gone)
 
-    one_kind : (kind : Kind) → Gives IsOneMore (does_by kind names slot words)
-    one_kind Plain = one_acts (planned (keyword_of (text_at 0 words)) names.files slot words)
+    one_kind : (kind : StatementKind) → Gives IsOneMore (does_by kind names slot words)
+    one_kind Plain = one_acts (action_of (keyword_of (text_at 0 words)) names.files slot words)
     one_kind ToolAlone = one_runs (tool_said (word_texts words))
     one_kind Starting = one_starts (has_tool (text_at 1 words) names)
     one_kind Stepping = one_steps (watched_of_name (text_at 1 words) names.monitors) (held_of_name (text_at 1 words) names.sets)

@@ -7,11 +7,11 @@ use Rattle.gl_base.specs.Words.{Span, text_at}
 use Rattle.gl_base.specs.declared.errno.Errno.{Errno}
 use Rattle.gl_base.specs.declared.operation.Got.{Got}
 use Rattle.gl_base.proofs.FirstRows.{Each-push, Each-without_first}
-use Rattle.gl_args.specs.Gives.{Gives}
+use Rattle.gl_client.specs.Gives.{Gives}
 use Rattle.gl_args.specs.Options.{SaidTool, SaidDetect, SaidInfo, SaidGet, SaidSet, SaidWatch, SaidNotify}
-use Rattle.gl_args.specs.Program.{done, then_by}
+use Rattle.gl_client.specs.Program.{done, then_by}
 use Rattle.gl_args.specs.Tools.{tool_said}
-use Rattle.gl_args.proofs.Costs.{gives_any, gives_then}
+use Rattle.gl_client.proofs.Costs.{gives_any, gives_then}
 use Rattle.gl_lines.specs.OwnSlots.{SlotPasses}
 use Rattle.gl_monitor.specs.Monitor.{Watched, monitor_program, steps_held}
 use Rattle.gl_monitor.specs.Monitor.{stops as stops_watching}
@@ -19,17 +19,17 @@ use Rattle.gl_monitor.specs.WatchedSlots.{WatchedPasses}
 use Rattle.gl_monitor.proofs.MonitorSlots.{monitor_slots, stepped_slots}
 use Rattle.gl_monitor.proofs.MonitorSlots.{stopped_slots as watching_stopped}
 use Rattle.gl_script.specs.Table.{keyword_of}
-use Rattle.gl_talk.specs.declared.files.FileKind.{FileKind}
-use Rattle.gl_talk.specs.declared.files.FileKind.TheVariants.{Chip, Request}
-use Rattle.gl_talk.specs.declared.plans.Plan.{Plan}
-use Rattle.gl_talk.specs.declared.plans.Plan.TheVariants.{Nothing, Refuse, Ask}
-use Rattle.gl_talk.specs.declared.plans.Reply.{Reply}
-use Rattle.gl_talk.specs.declared.plans.Reply.TheVariants.{Silent, Value, Level, Bytes, Edges, Infos, Ready, Opened, Closed, Made, OldBytes, OldEdges, OldMade}
-use Rattle.gl_talk.specs.declared.tools.Kind.{Kind}
-use Rattle.gl_talk.specs.declared.tools.Kind.TheVariants.{Plain, ToolAlone, Starting, Stepping, Stopping}
+use Rattle.gl_talk.specs.declared.files.TalkFileKind.{TalkFileKind}
+use Rattle.gl_talk.specs.declared.files.TalkFileKind.TheVariants.{Chip, Request}
+use Rattle.gl_talk.specs.declared.actions.Action.{Action}
+use Rattle.gl_talk.specs.declared.actions.Action.TheVariants.{Nothing, Refuse, Ask}
+use Rattle.gl_talk.specs.declared.actions.ResultFormat.{ResultFormat}
+use Rattle.gl_talk.specs.declared.actions.ResultFormat.TheVariants.{Silent, Value, Level, Bytes, Edges, Infos, Ready, Opened, Closed, Made, OldBytes, OldEdges, OldMade}
+use Rattle.gl_talk.specs.declared.tools.StatementKind.{StatementKind}
+use Rattle.gl_talk.specs.declared.tools.StatementKind.TheVariants.{Plain, ToolAlone, Starting, Stepping, Stopping}
 use Rattle.gl_talk.specs.Old.{made_kind, old_command_word}
 use Rattle.gl_talk.specs.Open.{File, MonitorTool, Names, SetTool, has_tool, held_of_name, is_file, is_monitor, is_set, watched_of_name, without_monitor, without_set}
-use Rattle.gl_talk.specs.Plans.{planned}
+use Rattle.gl_talk.specs.Actions.{action_of}
 use Rattle.gl_talk.specs.Slots.{OpenPass, SlotsAreOwn}
 use Rattle.gl_talk.specs.Talk.{acts, does_by, file, keeps_monitor, keeps_set, replied_by, runs, starts, starts_said, starts_tool, steps, stops}
 use Rattle.gl_talk.specs.ToolWords.{kind_of, word_texts}
@@ -72,14 +72,14 @@ module _ (test : ℕ → Bool) where
       record { files = held_open.files; sets = held_open.sets; monitors = Each-without_first (λ (tool : MonitorTool). WatchedPasses test tool.watched) (is_monitor name) names.monitors held_open.monitors }
 
   module _ (names : Names) (slot : ℕ) (held_open : OpenPass test names) (own : test slot ≡ true) (next : test (slot + 1) ≡ true) where
-    file_more : (name : List ℕ) (kind : FileKind) → OpenPass test (record names { files = names.files ++ file name slot kind ∷ [] })
+    file_more : (name : List ℕ) (kind : TalkFileKind) → OpenPass test (record names { files = names.files ++ file name slot kind ∷ [] })
     file_more name kind =
         record { files = Each-push (λ (f : File). test f.slot ≡ true) names.files (file name slot kind) held_open.files own; sets = held_open.sets; monitors = held_open.monitors }
 
     file_less : (name : List ℕ) → OpenPass test (record names { files = without_first (is_file name) names.files })
     file_less name = record { files = Each-without_first (λ (f : File). test f.slot ≡ true) (is_file name) names.files held_open.files; sets = held_open.sets; monitors = held_open.monitors }
 
-    replied_pass : (fault : Option Errno) (reply : Reply) (words : List Span) (got : Got) → Gives (OpenPass test) (replied_by fault reply names slot words got)
+    replied_pass : (fault : Option Errno) (reply : ResultFormat) (words : List Span) (got : Got) → Gives (OpenPass test) (replied_by fault reply names slot words got)
     replied_pass (Some errno) reply words got = held_open
     replied_pass None Silent words got = held_open
     replied_pass None Value words got = held_open
@@ -95,7 +95,7 @@ module _ (test : ℕ → Bool) where
     replied_pass None OldEdges words got = held_open
     replied_pass None OldMade words got = file_more (made_name words) (made_kind (old_command_word (text_at 2 words)) (bytes_said (behind_three words)))
 
-    acts_pass : (plan : Plan) (words : List Span) → Gives (OpenPass test) (acts plan names slot words)
+    acts_pass : (action : Action) (words : List Span) → Gives (OpenPass test) (acts action names slot words)
     acts_pass Nothing words = held_open
     acts_pass (Refuse errno) words = held_open
     acts_pass (Ask what reply) words = λ got. replied_pass (refusal got) reply words got
@@ -153,8 +153,8 @@ module _ (test : ℕ → Bool) where
         gives_then (WatchedPasses test) (OpenPass test) (stops_watching watched) (keeps_monitor name (without_monitor name names)) (watching_stopped test watched)
         (λ after h. keeps_monitor_pass (without_monitor name names) name after (without_monitor_pass names name held_open) h)
 
-    kind_pass : (kind : Kind) (words : List Span) → Gives (OpenPass test) (does_by kind names slot words)
-    kind_pass Plain words = acts_pass (planned (keyword_of (text_at 0 words)) names.files slot words) words
+    kind_pass : (kind : StatementKind) (words : List Span) → Gives (OpenPass test) (does_by kind names slot words)
+    kind_pass Plain words = acts_pass (action_of (keyword_of (text_at 0 words)) names.files slot words) words
     kind_pass ToolAlone words = runs_pass (tool_said (word_texts words)) words
     kind_pass Starting words = starts_pass (has_tool (text_at 1 words) names) words
     kind_pass Stepping words = steps_pass (watched_of_name (text_at 1 words) names.monitors) (held_of_name (text_at 1 words) names.sets) words refl

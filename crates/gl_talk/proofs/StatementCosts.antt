@@ -7,11 +7,11 @@ use Rattle.gl_base.specs.Operation.{refusal}
 use Rattle.gl_base.specs.Words.{Span, text_at}
 use Rattle.gl_base.specs.declared.errno.Errno.{Errno}
 use Rattle.gl_base.specs.declared.operation.Got.{Got}
-use Rattle.gl_args.specs.Costs.{CostsAtMost, entries_of, command_entries}
+use Rattle.gl_client.specs.Costs.{CostsAtMost, entries_of, command_entries}
 use Rattle.gl_args.specs.Options.{SaidTool, SaidDetect, SaidInfo, SaidGet, SaidSet, SaidWatch, SaidNotify}
-use Rattle.gl_args.specs.Program.{Program, done, then_by}
+use Rattle.gl_client.specs.Program.{Program, done, then_by}
 use Rattle.gl_args.specs.Tools.{tool_said}
-use Rattle.gl_args.proofs.Costs.{costs_more, costs_then}
+use Rattle.gl_client.proofs.Costs.{costs_more, costs_then}
 use Rattle.gl_monitor.specs.Costs.{monitor_cost}
 use Rattle.gl_monitor.specs.Monitor.{Watched, monitor_program, steps_held}
 use Rattle.gl_monitor.specs.Monitor.{stops as stops_watching}
@@ -29,20 +29,20 @@ use Rattle.gl_v1.specs.declared.sending.Sent.{Sent}
 use Rattle.gl_v1.specs.Commands.{command_for, sent_as, size_of}
 use Rattle.gl_v1.specs.To.{sent_for, sent_if, whole, without_bytes}
 use Rattle.gl_v1.specs.Words.{makes as makes_old, makes_file as makes_old_file, old_number_of}
-use Rattle.gl_talk.specs.declared.files.FileKind.{FileKind}
-use Rattle.gl_talk.specs.declared.files.FileKind.TheVariants.{Chip, Request, Old}
+use Rattle.gl_talk.specs.declared.files.TalkFileKind.{TalkFileKind}
+use Rattle.gl_talk.specs.declared.files.TalkFileKind.TheVariants.{Chip, Request, Old}
 use Rattle.gl_talk.specs.declared.paths.LineFile.{LineFile}
-use Rattle.gl_talk.specs.declared.plans.Plan.{Plan}
-use Rattle.gl_talk.specs.declared.plans.Plan.TheVariants.{Nothing, Refuse, Ask}
-use Rattle.gl_talk.specs.declared.plans.Reply.{Reply}
-use Rattle.gl_talk.specs.declared.plans.Reply.TheVariants.{Silent, Value, Level, Bytes, Edges, Infos, Ready, Opened, Closed, Made, OldBytes, OldEdges, OldMade}
-use Rattle.gl_talk.specs.declared.tools.Kind.{Kind}
-use Rattle.gl_talk.specs.declared.tools.Kind.TheVariants.{Plain, ToolAlone, Starting, Stepping, Stopping}
+use Rattle.gl_talk.specs.declared.actions.Action.{Action}
+use Rattle.gl_talk.specs.declared.actions.Action.TheVariants.{Nothing, Refuse, Ask}
+use Rattle.gl_talk.specs.declared.actions.ResultFormat.{ResultFormat}
+use Rattle.gl_talk.specs.declared.actions.ResultFormat.TheVariants.{Silent, Value, Level, Bytes, Edges, Infos, Ready, Opened, Closed, Made, OldBytes, OldEdges, OldMade}
+use Rattle.gl_talk.specs.declared.tools.StatementKind.{StatementKind}
+use Rattle.gl_talk.specs.declared.tools.StatementKind.TheVariants.{Plain, ToolAlone, Starting, Stepping, Stopping}
 use Rattle.gl_talk.specs.Costs.{StatementsKeepWithinCost, TalksKeepWithinCost}
 use Rattle.gl_talk.specs.Old.{sent_new, sent_old, takes_old_name}
 use Rattle.gl_talk.specs.Open.{File, Names, file_of, has_tool, held_of_name, is_chip, is_old_event, is_request, watched_of_name, slots_in_order, without_monitor, without_set}
 use Rattle.gl_talk.specs.Paths.{line_file, live_device}
-use Rattle.gl_talk.specs.Plans.{closes, ioctls, irqs, lives, old_ioctls, opens, pins, planned, polls, pulls, reads, reads_file, takes_name, unplugs, writes, writes_tree}
+use Rattle.gl_talk.specs.Actions.{closes, ioctls, irqs, lives, old_ioctls, opens, pins, action_of, polls, pulls, reads, reads_file, takes_name, unplugs, writes, writes_tree}
 use Rattle.gl_talk.specs.Talk.{acts, closes_all, does, does_by, keeps_monitor, keeps_set, replied_by, runs, quits, says, slot_behind, starts, starts_said, starts_tool, steps, stops}
 use Rattle.gl_talk.specs.ToolWords.{kind_of, word_texts}
 use Rattle.gl_talk.specs.Words.{behind_three, behind_two, bytes_said, live_word, or_else, place_word, pull_word, turns_word}
@@ -54,18 +54,18 @@ use Rattle.gl_values.specs.Set.{stops as stops_holding}
 use Rattle.gl_values.proofs.ToolCosts.{held_within, tool_within}
 use Rattle.gl_values.proofs.ToolCosts.{stops_within as held_stops_within}
 
--- the operation of a plan, if it asks one, makes at most so many entries
-abbrev PlanCosts : ℕ → Plan → Type 0
-PlanCosts n Nothing = Unit {0}
-PlanCosts n (Refuse errno) = Unit {0}
-PlanCosts n (Ask what reply) = entries_of what ≤ n
+-- the operation of an action, if it asks one, makes at most so many entries
+abbrev ActionCosts : ℕ → Action → Type 0
+ActionCosts n Nothing = Unit {0}
+ActionCosts n (Refuse errno) = Unit {0}
+ActionCosts n (Ask what reply) = entries_of what ≤ n
 
-plan_if : (n : ℕ) (test : Bool) (a b : Plan) → PlanCosts n a → PlanCosts n b → PlanCosts n (if test then a else b)
-plan_if n true a b p q = p
-plan_if n false a b p q = q
+action_if : (n : ℕ) (test : Bool) (a b : Action) → ActionCosts n a → ActionCosts n b → ActionCosts n (if test then a else b)
+action_if n true a b p q = p
+action_if n false a b p q = q
 
 -- what is told of a result asks nothing
-told_free : (n : ℕ) (fault : Option Errno) (reply : Reply) (names : Names) (slot : ℕ) (words : List Span) (got : Got) → CostsAtMost n (replied_by fault reply names slot words got)
+told_free : (n : ℕ) (fault : Option Errno) (reply : ResultFormat) (names : Names) (slot : ℕ) (words : List Span) (got : Got) → CostsAtMost n (replied_by fault reply names slot words got)
 told_free n (Some errno) reply names slot words got = tt
 told_free n None Silent names slot words got = tt
 told_free n None Value names slot words got = tt
@@ -81,53 +81,53 @@ told_free n None (OldBytes kind) names slot words got = tt
 told_free n None OldEdges names slot words got = tt
 told_free n None OldMade names slot words got = tt
 
-acts_cost : (n : ℕ) (plan : Plan) (names : Names) (slot : ℕ) (words : List Span) → PlanCosts n plan → CostsAtMost n (acts plan names slot words)
+acts_cost : (n : ℕ) (action : Action) (names : Names) (slot : ℕ) (words : List Span) → ActionCosts n action → CostsAtMost n (acts action names slot words)
 acts_cost n Nothing names slot words h = tt
 acts_cost n (Refuse errno) names slot words h = tt
 acts_cost n (Ask what reply) names slot words h = (h, λ got. told_free (n - entries_of what) (refusal got) reply names slot words got)
 
-unplugs_cost : (place : ℕ) → PlanCosts 2 (unplugs place)
+unplugs_cost : (place : ℕ) → ActionCosts 2 (unplugs place)
 unplugs_cost place = omega arith
 
-pins_cost : (place : ℕ) (words : List Span) → PlanCosts 1 (pins place words)
+pins_cost : (place : ℕ) (words : List Span) → ActionCosts 1 (pins place words)
 pins_cost place words = omega arith
 
-irqs_cost : (place : ℕ) (words : List Span) → PlanCosts 1 (irqs place words)
+irqs_cost : (place : ℕ) (words : List Span) → ActionCosts 1 (irqs place words)
 irqs_cost place words = omega arith
 
-reads_cost : (file : Option LineFile) (path : List ℕ) → PlanCosts 1 (reads file path)
+reads_cost : (file : Option LineFile) (path : List ℕ) → ActionCosts 1 (reads file path)
 reads_cost None path = omega arith
 reads_cost (Some file) path = omega arith
 
-pulls_cost : (file : LineFile) (up : Option Bool) → PlanCosts 2 (pulls file up)
+pulls_cost : (file : LineFile) (up : Option Bool) → ActionCosts 2 (pulls file up)
 pulls_cost file None = tt
 pulls_cost file (Some up) = omega arith
 
-lives_cost : (device : List ℕ) (up : Option Bool) → PlanCosts 2 (lives device up)
+lives_cost : (device : List ℕ) (up : Option Bool) → ActionCosts 2 (lives device up)
 lives_cost device None = tt
 lives_cost device (Some up) = omega arith
 
-tree_cost : (device : Option (List ℕ)) (path value : List ℕ) → PlanCosts 2 (writes_tree device path value)
+tree_cost : (device : Option (List ℕ)) (path value : List ℕ) → ActionCosts 2 (writes_tree device path value)
 tree_cost None path value = omega arith
 tree_cost (Some device) path value = lives_cost device (live_word value)
 
-writes_cost : (file : Option LineFile) (path value : List ℕ) → PlanCosts 2 (writes file path value)
+writes_cost : (file : Option LineFile) (path value : List ℕ) → ActionCosts 2 (writes file path value)
 writes_cost None path value = tree_cost (live_device path) path value
-writes_cost (Some file) path value = plan_if 2 file.is_pull _ _ (pulls_cost file (pull_word value)) tt
+writes_cost (Some file) path value = action_if 2 file.is_pull _ _ (pulls_cost file (pull_word value)) tt
 
-opens_cost : (taken : Bool) (slot : ℕ) (word : List ℕ) → PlanCosts 2 (opens taken slot word)
+opens_cost : (taken : Bool) (slot : ℕ) (word : List ℕ) → ActionCosts 2 (opens taken slot word)
 opens_cost true slot word = tt
 opens_cost false slot word = omega arith
 
-file_cost : (file : Option File) (can_be_read : FileKind → Bool) (len : ℕ) (reply : Reply) → PlanCosts 1 (reads_file file can_be_read len reply)
+file_cost : (file : Option File) (can_be_read : TalkFileKind → Bool) (len : ℕ) (reply : ResultFormat) → ActionCosts 1 (reads_file file can_be_read len reply)
 file_cost None can_be_read len reply = tt
-file_cost (Some file) can_be_read len reply = plan_if 1 (can_be_read file.kind) _ _ (omega arith) tt
+file_cost (Some file) can_be_read len reply = action_if 1 (can_be_read file.kind) _ _ (omega arith) tt
 
-polls_cost : (file : Option File) → PlanCosts 1 (polls file)
+polls_cost : (file : Option File) → ActionCosts 1 (polls file)
 polls_cost None = tt
 polls_cost (Some file) = omega arith
 
-closes_cost : (file : Option File) → PlanCosts 0 (closes file)
+closes_cost : (file : Option File) → ActionCosts 0 (closes file)
 closes_cost None = tt
 closes_cost (Some file) = omega arith
 
@@ -155,7 +155,7 @@ two_fits : (b : Bool) (n : ℕ) → n ≤ 2 → n ≤ cond b 3 2
 two_fits true n h = omega (arith, h)
 two_fits false n h = h
 
-new_fits : (kind : FileKind) (number : Option ℕ) (bytes : List ℕ) → command_entries (sent_new kind (or_else 0 number) bytes).cmd ≤ (if is_get_line number then 3 else 2)
+new_fits : (kind : TalkFileKind) (number : Option ℕ) (bytes : List ℕ) → command_entries (sent_new kind (or_else 0 number) bytes).cmd ≤ (if is_get_line number then 3 else 2)
 new_fits Chip number bytes = entries_fit number
 new_fits Request number bytes = entries_fit number
 new_fits (Old kind) number bytes = none_fits (is_get_line number)
@@ -194,7 +194,7 @@ event_fits : (a : Bool) (bytes : List ℕ) → command_entries (sent_if (cond a 
 event_fits true bytes = command_fits GetValues 1 bytes (omega arith)
 event_fits false bytes = omega arith
 
-old_fits_some : (kind : FileKind) (number : ℕ) (bytes : List ℕ) → command_entries (sent_old kind number bytes).cmd ≤ cond (makes_old (command_for OldChip number)) 3 2
+old_fits_some : (kind : TalkFileKind) (number : ℕ) (bytes : List ℕ) → command_entries (sent_old kind number bytes).cmd ≤ cond (makes_old (command_for OldChip number)) 3 2
 old_fits_some Chip number bytes = chip_fits (command_for OldChip number) 0 bytes
 old_fits_some Request number bytes = none_fits (makes_old (command_for OldChip number))
 old_fits_some (Old OldChip) number bytes = chip_fits (command_for OldChip number) 0 bytes
@@ -202,7 +202,7 @@ old_fits_some (Old (Handle lines)) number bytes =
     two_fits (makes_old (command_for OldChip number)) _ (handle_fits (0xC040B408 == number) (0xC040B409 == number) (0xC054B40A == number) lines bytes)
 old_fits_some (Old Event) number bytes = two_fits (makes_old (command_for OldChip number)) _ (event_fits (0xC040B408 == number) bytes)
 
-old_fits : (kind : FileKind) (number : Option ℕ) (bytes : List ℕ) → command_entries (sent_old kind (or_else 0 number) bytes).cmd ≤ (if makes_old_file number then 3 else 2)
+old_fits : (kind : TalkFileKind) (number : Option ℕ) (bytes : List ℕ) → command_entries (sent_old kind (or_else 0 number) bytes).cmd ≤ (if makes_old_file number then 3 else 2)
 old_fits Chip None bytes = omega arith
 old_fits Request None bytes = omega arith
 old_fits (Old OldChip) None bytes = omega arith
@@ -210,42 +210,42 @@ old_fits (Old (Handle lines)) None bytes = omega arith
 old_fits (Old Event) None bytes = omega arith
 old_fits kind (Some number) bytes = old_fits_some kind number bytes
 
-old_ioctls_cost : (file : Option File) (taken : Bool) (slot : ℕ) (first : Span) (words : List Span) → PlanCosts (cost OldIoctl words) (old_ioctls file taken slot (first ∷ words))
+old_ioctls_cost : (file : Option File) (taken : Bool) (slot : ℕ) (first : Span) (words : List Span) → ActionCosts (cost OldIoctl words) (old_ioctls file taken slot (first ∷ words))
 old_ioctls_cost None taken slot first words = tt
 old_ioctls_cost (Some file) taken slot first words =
-    plan_if (cost OldIoctl words) taken _ _ tt (old_fits file.kind (old_number_of (text_at 1 words)) (bytes_said (behind_three (first ∷ words))))
+    action_if (cost OldIoctl words) taken _ _ tt (old_fits file.kind (old_number_of (text_at 1 words)) (bytes_said (behind_three (first ∷ words))))
 
-ioctls_cost : (file : Option File) (taken : Bool) (slot : ℕ) (first : Span) (words : List Span) → PlanCosts (cost Ioctl words) (ioctls file taken slot (first ∷ words))
+ioctls_cost : (file : Option File) (taken : Bool) (slot : ℕ) (first : Span) (words : List Span) → ActionCosts (cost Ioctl words) (ioctls file taken slot (first ∷ words))
 ioctls_cost None taken slot first words = tt
-ioctls_cost (Some file) taken slot first words = plan_if (cost Ioctl words) taken _ _ tt (new_fits file.kind (command_number_of (text_at 1 words)) (bytes_said (behind_three (first ∷ words))))
+ioctls_cost (Some file) taken slot first words = action_if (cost Ioctl words) taken _ _ tt (new_fits file.kind (command_number_of (text_at 1 words)) (bytes_said (behind_three (first ∷ words))))
 
-planned_cost : (keyword : Keyword) (files : List File) (slot : ℕ) (first : Span) (words : List Span) → PlanCosts (cost keyword words) (planned (Some keyword) files slot (first ∷ words))
-planned_cost Probe files slot first words = omega arith
-planned_cost Unplug files slot first words = unplugs_cost (place_word (text_at 0 words))
-planned_cost MakeDir files slot first words = omega arith
-planned_cost RemoveDir files slot first words = omega arith
-planned_cost Write files slot first words = writes_cost (line_file (text_at 0 words)) (text_at 0 words) (text_at 1 words)
-planned_cost Read files slot first words = reads_cost (line_file (text_at 0 words)) (text_at 0 words)
-planned_cost Clock files slot first words = omega arith
-planned_cost Fault files slot first words = omega arith
-planned_cost Accept files slot first words = omega arith
-planned_cost Pin files slot first words = pins_cost (place_word (text_at 1 words)) (first ∷ words)
-planned_cost Irq files slot first words = irqs_cost (place_word (text_at 1 words)) (first ∷ words)
-planned_cost Open files slot first words = opens_cost (is_some (file_of (text_at 0 words) files)) slot (text_at 1 words)
-planned_cost Ioctl files slot first words = ioctls_cost (file_of (text_at 0 words) files) (takes_name (first ∷ words) files) slot first words
-planned_cost Events files slot first words = file_cost (file_of (text_at 0 words) files) is_request _ Edges
-planned_cost OldIoctl files slot first words = old_ioctls_cost (file_of (text_at 0 words) files) (takes_old_name (first ∷ words) files) slot first words
-planned_cost OldEvents files slot first words = file_cost (file_of (text_at 0 words) files) is_old_event _ OldEdges
-planned_cost Changes files slot first words = file_cost (file_of (text_at 0 words) files) is_chip _ Infos
-planned_cost Poll files slot first words = polls_cost (file_of (text_at 0 words) files)
-planned_cost Close files slot first words = closes_cost (file_of (text_at 0 words) files)
-planned_cost Detect files slot first words = tt
-planned_cost Info files slot first words = tt
-planned_cost Get files slot first words = tt
-planned_cost Set files slot first words = tt
-planned_cost Start files slot first words = tt
-planned_cost Step files slot first words = tt
-planned_cost Stop files slot first words = tt
+action_cost : (keyword : Keyword) (files : List File) (slot : ℕ) (first : Span) (words : List Span) → ActionCosts (cost keyword words) (action_of (Some keyword) files slot (first ∷ words))
+action_cost Probe files slot first words = omega arith
+action_cost Unplug files slot first words = unplugs_cost (place_word (text_at 0 words))
+action_cost MakeDir files slot first words = omega arith
+action_cost RemoveDir files slot first words = omega arith
+action_cost Write files slot first words = writes_cost (line_file (text_at 0 words)) (text_at 0 words) (text_at 1 words)
+action_cost Read files slot first words = reads_cost (line_file (text_at 0 words)) (text_at 0 words)
+action_cost Clock files slot first words = omega arith
+action_cost Fault files slot first words = omega arith
+action_cost Accept files slot first words = omega arith
+action_cost Pin files slot first words = pins_cost (place_word (text_at 1 words)) (first ∷ words)
+action_cost Irq files slot first words = irqs_cost (place_word (text_at 1 words)) (first ∷ words)
+action_cost Open files slot first words = opens_cost (is_some (file_of (text_at 0 words) files)) slot (text_at 1 words)
+action_cost Ioctl files slot first words = ioctls_cost (file_of (text_at 0 words) files) (takes_name (first ∷ words) files) slot first words
+action_cost Events files slot first words = file_cost (file_of (text_at 0 words) files) is_request _ Edges
+action_cost OldIoctl files slot first words = old_ioctls_cost (file_of (text_at 0 words) files) (takes_old_name (first ∷ words) files) slot first words
+action_cost OldEvents files slot first words = file_cost (file_of (text_at 0 words) files) is_old_event _ OldEdges
+action_cost Changes files slot first words = file_cost (file_of (text_at 0 words) files) is_chip _ Infos
+action_cost Poll files slot first words = polls_cost (file_of (text_at 0 words) files)
+action_cost Close files slot first words = closes_cost (file_of (text_at 0 words) files)
+action_cost Detect files slot first words = tt
+action_cost Info files slot first words = tt
+action_cost Get files slot first words = tt
+action_cost Set files slot first words = tt
+action_cost Start files slot first words = tt
+action_cost Step files slot first words = tt
+action_cost Stop files slot first words = tt
 
 -- a tool's statement
 runs_cost : (keyword : Keyword) (tool : Option SaidTool) (names : Names) (slot : ℕ) (first : Span) (words : List Span) → keyword_of first.text ≡ Some keyword → kind_of (Some keyword) ≡ ToolAlone
@@ -311,11 +311,11 @@ stops_cost (Some watched) held names first words =
     costs_then (stops_watching watched) (keeps_monitor (text_at 0 words) (without_monitor (text_at 0 words) names)) 0 0 (watched_stops_within watched) (λ value. tt)
 
 -- what a keyword begins, by its kind
-keyword_cost : (keyword : Keyword) (kind : Kind) (names : Names) (slot : ℕ) (first : Span) (words : List Span) → keyword_of first.text ≡ Some keyword → kind_of (Some keyword) ≡ kind
+keyword_cost : (keyword : Keyword) (kind : StatementKind) (names : Names) (slot : ℕ) (first : Span) (words : List Span) → keyword_of first.text ≡ Some keyword → kind_of (Some keyword) ≡ kind
     → CostsAtMost (cost keyword words) (does_by kind names slot (first ∷ words))
 keyword_cost keyword Plain names slot first words k e =
-    subst (λ o. CostsAtMost (cost keyword words) (acts (planned o names.files slot (first ∷ words)) names slot (first ∷ words))) (sym k)
-    (acts_cost (cost keyword words) (planned (Some keyword) names.files slot (first ∷ words)) names slot (first ∷ words) (planned_cost keyword names.files slot first words))
+    subst (λ o. CostsAtMost (cost keyword words) (acts (action_of o names.files slot (first ∷ words)) names slot (first ∷ words))) (sym k)
+    (acts_cost (cost keyword words) (action_of (Some keyword) names.files slot (first ∷ words)) names slot (first ∷ words) (action_cost keyword names.files slot first words))
 keyword_cost keyword ToolAlone names slot first words k e = runs_cost keyword (tool_said (word_texts (first ∷ words))) names slot first words k e refl
 keyword_cost Start Starting names slot first words k e = starts_cost (has_tool (text_at 0 words) names) names slot first words
 keyword_cost Step Stepping names slot first words k e =
@@ -400,7 +400,7 @@ keyword_cost Step Stopping names slot first words k e = cc
 
 some_keyword_cost : (keyword : Option Keyword) (names : Names) (slot : ℕ) (first : Span) (words : List Span) → keyword_of first.text ≡ keyword
     → CostsAtMost (cost_by keyword words) (does_by (kind_of keyword) names slot (first ∷ words))
-some_keyword_cost None names slot first words k = subst (λ o. CostsAtMost 0 (acts (planned o names.files slot (first ∷ words)) names slot (first ∷ words))) (sym k) tt
+some_keyword_cost None names slot first words k = subst (λ o. CostsAtMost 0 (acts (action_of o names.files slot (first ∷ words)) names slot (first ∷ words))) (sym k) tt
 some_keyword_cost (Some keyword) names slot first words k = keyword_cost keyword (kind_of (Some keyword)) names slot first words k refl
 
 pub statements_keep_within_cost : StatementsKeepWithinCost

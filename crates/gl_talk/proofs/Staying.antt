@@ -1,6 +1,6 @@
 -- What is left of a talk in which memory was wanted is what was left.
 use Rattle.std.proofs.Common.{◌≡◌, ℕ, ◌*◌, List, refl, sym, ◌∙◌, ap}
-use Rattle.gl_args.specs.Program.{done, then_left, waits}
+use Rattle.gl_client.specs.Program.{done, then_left, waits}
 use Rattle.gl_base.specs.Words.{Span, text_at}
 use Rattle.gl_script.specs.Columns.{columns}
 use Rattle.gl_talk.specs.declared.talk.Stage.{Stage}

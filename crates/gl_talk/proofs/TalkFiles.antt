@@ -5,11 +5,11 @@ use Rattle.std.proofs.lemmas.Bool.Decides.{nat_tests}
 use Rattle.gl_base.specs.Ordered.{ordered, put_in_order}
 use Rattle.gl_base.specs.Rows.{without_first}
 use Rattle.gl_base.specs.Words.{Span, text_at}
-use Rattle.gl_args.specs.Entries.{EntriesLeave}
-use Rattle.gl_args.specs.OpenSlots.{NamesOpenSlots, SameSlots, is_open, one_if, times}
-use Rattle.gl_args.specs.Program.{done}
-use Rattle.gl_args.proofs.Entries.{entries_at_most, made_within, one_less}
-use Rattle.gl_args.proofs.OpenSlots.{follows_at, is_there, names_open, names_then, not_both, same_number, times_without}
+use Rattle.gl_client.specs.Entries.{EntriesLeave}
+use Rattle.gl_client.specs.OpenSlots.{NamesOpenSlots, SameSlots, is_open, one_if, times}
+use Rattle.gl_client.specs.Program.{done}
+use Rattle.gl_client.proofs.Entries.{entries_at_most, made_within, one_less}
+use Rattle.gl_client.proofs.OpenSlots.{follows_at, is_there, names_open, names_then, not_both, same_number, times_without}
 use Rattle.gl_script.specs.Cost.{words_cost}
 use Rattle.gl_script.specs.Table.{keyword_of}
 use Rattle.gl_talk.specs.Costs.{TalksMakeAtMost}

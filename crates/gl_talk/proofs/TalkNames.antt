@@ -9,11 +9,11 @@ use Rattle.gl_base.specs.declared.errno.Errno.{Errno}
 use Rattle.gl_base.specs.declared.operation.Do.{Do}
 use Rattle.gl_base.specs.declared.operation.Do.TheVariants.{OpenChip, Ioctl as DoIoctl, Close as DoClose}
 use Rattle.gl_base.specs.declared.operation.Got.{Got}
-use Rattle.gl_args.specs.OpenSlots.{Where, one_if, times}
+use Rattle.gl_client.specs.OpenSlots.{Where, one_if, times}
 use Rattle.gl_args.specs.Options.{SaidTool, SaidDetect, SaidInfo, SaidGet, SaidSet, SaidWatch, SaidNotify}
-use Rattle.gl_args.specs.Program.{Program, done, then_by}
+use Rattle.gl_client.specs.Program.{Program, done, then_by}
 use Rattle.gl_args.specs.Tools.{tool_said}
-use Rattle.gl_args.proofs.OpenSlots.{Fits, Follows, behind, counts, counts_with, follows_at, follows_then, times_append, with_one}
+use Rattle.gl_client.proofs.OpenSlots.{Fits, Follows, behind, counts, counts_with, follows_at, follows_then, times_append, with_one}
 use Rattle.gl_monitor.specs.Monitor.{Watched, monitor_program, steps_held, watched_slot}
 use Rattle.gl_monitor.specs.Monitor.{stops as stops_watching}
 use Rattle.gl_monitor.proofs.MonitorNames.{monitor_at, steps_held_at}
@@ -23,18 +23,18 @@ use Rattle.gl_script.specs.declared.table.Keyword.{Keyword}
 use Rattle.gl_script.specs.declared.table.Keyword.TheVariants.{Probe, Unplug, MakeDir, RemoveDir, Write, Read, Clock, Fault, Accept, Pin, Irq, Open, Ioctl, Events, OldIoctl, OldEvents, Changes, Poll, Close, Detect, Info, Get, Set, Start, Step, Stop}
 use Rattle.gl_v1.specs.declared.commands.KindV1.{KindV1}
 use Rattle.gl_v1.specs.declared.sending.Sent.{Sent}
-use Rattle.gl_talk.specs.declared.files.FileKind.TheVariants.{Chip, Request}
+use Rattle.gl_talk.specs.declared.files.TalkFileKind.TheVariants.{Chip, Request}
 use Rattle.gl_talk.specs.declared.paths.LineFile.{LineFile}
-use Rattle.gl_talk.specs.declared.plans.Plan.{Plan}
-use Rattle.gl_talk.specs.declared.plans.Plan.TheVariants.{Nothing, Refuse, Ask}
-use Rattle.gl_talk.specs.declared.plans.Reply.{Reply}
-use Rattle.gl_talk.specs.declared.plans.Reply.TheVariants.{Silent, Value, Level, Bytes, Edges, Infos, Ready, Opened, Closed, Made, OldBytes, OldEdges, OldMade}
-use Rattle.gl_talk.specs.declared.tools.Kind.{Kind}
-use Rattle.gl_talk.specs.declared.tools.Kind.TheVariants.{Plain, ToolAlone, Starting, Stepping, Stopping}
+use Rattle.gl_talk.specs.declared.actions.Action.{Action}
+use Rattle.gl_talk.specs.declared.actions.Action.TheVariants.{Nothing, Refuse, Ask}
+use Rattle.gl_talk.specs.declared.actions.ResultFormat.{ResultFormat}
+use Rattle.gl_talk.specs.declared.actions.ResultFormat.TheVariants.{Silent, Value, Level, Bytes, Edges, Infos, Ready, Opened, Closed, Made, OldBytes, OldEdges, OldMade}
+use Rattle.gl_talk.specs.declared.tools.StatementKind.{StatementKind}
+use Rattle.gl_talk.specs.declared.tools.StatementKind.TheVariants.{Plain, ToolAlone, Starting, Stepping, Stopping}
 use Rattle.gl_talk.specs.Old.{kind_v1, made_kind, old_command_word, old_reply, sent_new, sent_old, takes_old_name}
 use Rattle.gl_talk.specs.Open.{File, Names, SetTool, MonitorTool, file_of, has_tool, held_of_name, is_chip, is_file, is_old_event, is_request, is_monitor, is_set, monitor_slots, open_slots, set_slots, watched_of_name, without_monitor, without_set}
 use Rattle.gl_talk.specs.Paths.{line_file, live_device}
-use Rattle.gl_talk.specs.Plans.{asks_for, closes, command_reply, ioctls, ioctls_bytes, irqs, lives, old_ioctls, opens, pins, planned, polls, pulls, reads, reads_file, takes_name, unplugs, writes, writes_tree}
+use Rattle.gl_talk.specs.Actions.{asks_for, closes, command_reply, ioctls, ioctls_bytes, irqs, lives, old_ioctls, opens, pins, action_of, polls, pulls, reads, reads_file, takes_name, unplugs, writes, writes_tree}
 use Rattle.gl_talk.specs.Talk.{acts, does_by, file, keeps_monitor, keeps_set, replied_by, runs, starts, starts_said, starts_tool, steps, stops}
 use Rattle.gl_talk.specs.ToolWords.{word_texts}
 use Rattle.gl_talk.specs.Words.{behind_two, bytes_said, behind_three, command_word, live_word, made_name, name_word, place_word, pull_word, turns_word}
@@ -134,27 +134,27 @@ module _ (s k : ℕ) where
     abbrev pub Makes : Do → ℕ → ℕ → ℕ → List ℕ → Type 0
     Makes what chip command len bytes = (what ≡ DoIoctl chip command len bytes slot) × ((command == GET_LINE) ≡ true) × (one_if (nat_eq s chip) ≤ open_times s names)
 
-    abbrev pub AskFits : Reply → Do → Type 0
+    abbrev pub AskFits : ResultFormat → Do → Type 0
     AskFits Opened what = (word : List ℕ) × (what ≡ OpenChip slot word)
     AskFits Closed what = (chip : ℕ) × (what ≡ DoClose chip) × FileTaken chip
     AskFits Made what = (chip : ℕ) × (command : ℕ) × (len : ℕ) × (bytes : List ℕ) × Makes what chip command len bytes
     AskFits OldMade what = (chip : ℕ) × (command : ℕ) × (len : ℕ) × (bytes : List ℕ) × Makes what chip command len bytes
     AskFits _ what = LeavesAll what
 
-    abbrev pub PlanFits : Plan → Type 0
-    PlanFits Nothing = Unit {0}
-    PlanFits (Refuse errno) = Unit {0}
-    PlanFits (Ask what reply) = AskFits reply what
+    abbrev pub ActionFits : Action → Type 0
+    ActionFits Nothing = Unit {0}
+    ActionFits (Refuse errno) = Unit {0}
+    ActionFits (Ask what reply) = AskFits reply what
 
     -- a reply that changes no names
-    abbrev IsPlainReply : Reply → Type 0
-    IsPlainReply Opened = ⊥
-    IsPlainReply Closed = ⊥
-    IsPlainReply Made = ⊥
-    IsPlainReply OldMade = ⊥
-    IsPlainReply _ = Unit {0}
+    abbrev IsPlainFormat : ResultFormat → Type 0
+    IsPlainFormat Opened = ⊥
+    IsPlainFormat Closed = ⊥
+    IsPlainFormat Made = ⊥
+    IsPlainFormat OldMade = ⊥
+    IsPlainFormat _ = Unit {0}
 
-    plain_at : (fault : Option Errno) (reply : Reply) (got : Got) → IsPlainReply reply → Keeps (open_times s names) (replied_by fault reply names slot words got)
+    plain_at : (fault : Option Errno) (reply : ResultFormat) (got : Got) → IsPlainFormat reply → Keeps (open_times s names) (replied_by fault reply names slot words got)
     plain_at (Some errno) reply got plain = refl
     plain_at None Silent got plain = refl
     plain_at None Value got plain = refl
@@ -187,7 +187,7 @@ module _ (s k : ℕ) where
     closed_at chip (Some errno) got taken kept = cc
     closed_at chip None got taken kept = omega (arith, taken)
 
-    ask_plain : (what : Do) (reply : Reply) → IsPlainReply reply → LeavesAll what → Keeps (open_times s names) (acts (Ask what reply) names slot words)
+    ask_plain : (what : Do) (reply : ResultFormat) → IsPlainFormat reply → LeavesAll what → Keeps (open_times s names) (acts (Ask what reply) names slot words)
     ask_plain what reply plain fits =
         (fits.0, λ got kept. follows_at s k (open_times s) (replied_by (refusal got) reply names slot words got) (open_times s names) (behind s k (open_times s names) what got) (sym (fits.1 got)) (plain_at (refusal got) reply got plain))
 
@@ -207,7 +207,7 @@ module _ (s k : ℕ) where
     taken_le chip taken = omega (arith, taken)
 
     module _ (room : open_times s names + one_if (nat_eq s slot) ≤ k) where
-      acts_at : (plan : Plan) → PlanFits plan → Keeps (open_times s names) (acts plan names slot words)
+      acts_at : (action : Action) → ActionFits action → Keeps (open_times s names) (acts action names slot words)
       acts_at Nothing fits = refl
       acts_at (Refuse errno) fits = refl
       acts_at (Ask what Silent) fits = ask_plain what Silent tt fits
@@ -236,43 +236,43 @@ module _ (s k : ℕ) where
 
   -- each row
   module _ (names : Names) (slot : ℕ) (words : List Span) where
-    abbrev Plans : Plan → Type 0
-    Plans plan = PlanFits names slot words plan
+    abbrev ActionsFit : Action → Type 0
+    ActionsFit action = ActionFits names slot words action
 
-    plan_if : (test : Bool) (a b : Plan) → Plans a → Plans b → Plans (if test then a else b)
-    plan_if true a b p q = p
-    plan_if false a b p q = q
+    action_if : (test : Bool) (a b : Action) → ActionsFit a → ActionsFit b → ActionsFit (if test then a else b)
+    action_if true a b p q = p
+    action_if false a b p q = q
 
-    unplugs_at : (place : ℕ) → Plans (unplugs place)
+    unplugs_at : (place : ℕ) → ActionsFit (unplugs place)
     unplugs_at place = (tt, λ got. refl)
 
-    pins_at : (place : ℕ) → Plans (pins place words)
+    pins_at : (place : ℕ) → ActionsFit (pins place words)
     pins_at place = (tt, λ got. refl)
 
-    irqs_at : (place : ℕ) → Plans (irqs place words)
+    irqs_at : (place : ℕ) → ActionsFit (irqs place words)
     irqs_at place = (tt, λ got. refl)
 
-    reads_at : (found : Option LineFile) (path : List ℕ) → Plans (reads found path)
+    reads_at : (found : Option LineFile) (path : List ℕ) → ActionsFit (reads found path)
     reads_at None path = (tt, λ got. refl)
     reads_at (Some found) path = (tt, λ got. refl)
 
-    pulls_at : (found : LineFile) (up : Option Bool) → Plans (pulls found up)
+    pulls_at : (found : LineFile) (up : Option Bool) → ActionsFit (pulls found up)
     pulls_at found None = tt
     pulls_at found (Some up) = (tt, λ got. refl)
 
-    lives_at : (device : List ℕ) (up : Option Bool) → Plans (lives device up)
+    lives_at : (device : List ℕ) (up : Option Bool) → ActionsFit (lives device up)
     lives_at device None = tt
     lives_at device (Some up) = (tt, λ got. refl)
 
-    tree_at : (device : Option (List ℕ)) (path value : List ℕ) → Plans (writes_tree device path value)
+    tree_at : (device : Option (List ℕ)) (path value : List ℕ) → ActionsFit (writes_tree device path value)
     tree_at None path value = (tt, λ got. refl)
     tree_at (Some device) path value = lives_at device (live_word value)
 
-    writes_at : (found : Option LineFile) (path value : List ℕ) → Plans (writes found path value)
+    writes_at : (found : Option LineFile) (path value : List ℕ) → ActionsFit (writes found path value)
     writes_at None path value = tree_at (live_device path) path value
-    writes_at (Some found) path value = plan_if found.is_pull _ _ (pulls_at found (pull_word value)) tt
+    writes_at (Some found) path value = action_if found.is_pull _ _ (pulls_at found (pull_word value)) tt
 
-    opens_at : (taken : Bool) (word : List ℕ) → Plans (opens taken slot word)
+    opens_at : (taken : Bool) (word : List ℕ) → ActionsFit (opens taken slot word)
     opens_at true word = tt
     opens_at false word = (_, refl)
 
@@ -301,7 +301,7 @@ module _ (s k : ℕ) where
     reply_if chip command len bytes false false false false true same le = plain_command chip command len bytes same le
     reply_if chip command len bytes false false false false false same le = plain_command chip command len bytes same le
 
-    by_sent : (found : File) (sent : Sent) → one_if (nat_eq s found.slot) ≤ open_times s names → Plans (asks_for found slot sent (command_reply sent.cmd))
+    by_sent : (found : File) (sent : Sent) → one_if (nat_eq s found.slot) ≤ open_times s names → ActionsFit (asks_for found slot sent (command_reply sent.cmd))
     by_sent found sent le =
         reply_if found.slot sent.cmd sent.len sent.bytes (sent.cmd == GET_LINE) (sent.cmd == GET_CHIPINFO) (sent.cmd == GET_LINEINFO) (sent.cmd == GET_LINEINFO_WATCH) (sent.cmd == LINE_GET_VALUES) refl le
 
@@ -314,70 +314,70 @@ module _ (s k : ℕ) where
     old_reply_if kind chip command len bytes false false false true same le = plain_command chip command len bytes same le
     old_reply_if kind chip command len bytes false false false false same le = plain_command chip command len bytes same le
 
-    by_old_sent : (found : File) (sent : Sent) → one_if (nat_eq s found.slot) ≤ open_times s names → Plans (asks_for found slot sent (old_reply found.kind sent.cmd))
+    by_old_sent : (found : File) (sent : Sent) → one_if (nat_eq s found.slot) ≤ open_times s names → ActionsFit (asks_for found slot sent (old_reply found.kind sent.cmd))
     by_old_sent found sent le =
         old_reply_if (kind_v1 found.kind) found.slot sent.cmd sent.len sent.bytes (sent.cmd == GET_LINE) (sent.cmd == GET_CHIPINFO) (sent.cmd == GET_LINEINFO) (sent.cmd == LINE_GET_VALUES) refl le
 
-    old_ioctls_at : (o : Option File) (taken : Bool) → file_of (text_at 1 words) names.files ≡ o → Plans (old_ioctls o taken slot words)
+    old_ioctls_at : (o : Option File) (taken : Bool) → file_of (text_at 1 words) names.files ≡ o → ActionsFit (old_ioctls o taken slot words)
     old_ioctls_at None taken e = tt
     old_ioctls_at (Some found) taken e =
-        plan_if taken _ _ tt (by_old_sent found (sent_old found.kind (old_command_word (text_at 2 words)) (bytes_said (behind_three words))) (there (text_at 1 words) found e))
+        action_if taken _ _ tt (by_old_sent found (sent_old found.kind (old_command_word (text_at 2 words)) (bytes_said (behind_three words))) (there (text_at 1 words) found e))
 
-    bytes_at : (found : File) (command : ℕ) (bytes : List ℕ) → one_if (nat_eq s found.slot) ≤ open_times s names → Plans (ioctls_bytes found slot command bytes)
+    bytes_at : (found : File) (command : ℕ) (bytes : List ℕ) → one_if (nat_eq s found.slot) ≤ open_times s names → ActionsFit (ioctls_bytes found slot command bytes)
     bytes_at found command bytes le = by_sent found (sent_new found.kind command bytes) le
 
-    ioctls_at : (o : Option File) (taken : Bool) → file_of (text_at 1 words) names.files ≡ o → Plans (ioctls o taken slot words)
+    ioctls_at : (o : Option File) (taken : Bool) → file_of (text_at 1 words) names.files ≡ o → ActionsFit (ioctls o taken slot words)
     ioctls_at None taken e = tt
-    ioctls_at (Some found) taken e = plan_if taken _ _ tt (bytes_at found (command_word (text_at 2 words)) (bytes_said (behind_three words)) (there (text_at 1 words) found e))
+    ioctls_at (Some found) taken e = action_if taken _ _ tt (bytes_at found (command_word (text_at 2 words)) (bytes_said (behind_three words)) (there (text_at 1 words) found e))
 
-    events_at : (o : Option File) (len : ℕ) → file_of (text_at 1 words) names.files ≡ o → Plans (reads_file o is_request len Edges)
+    events_at : (o : Option File) (len : ℕ) → file_of (text_at 1 words) names.files ≡ o → ActionsFit (reads_file o is_request len Edges)
     events_at None len e = tt
-    events_at (Some found) len e = plan_if (is_request found.kind) _ _ (there (text_at 1 words) found e, λ got. refl) tt
+    events_at (Some found) len e = action_if (is_request found.kind) _ _ (there (text_at 1 words) found e, λ got. refl) tt
 
-    old_events_at : (o : Option File) (len : ℕ) → file_of (text_at 1 words) names.files ≡ o → Plans (reads_file o is_old_event len OldEdges)
+    old_events_at : (o : Option File) (len : ℕ) → file_of (text_at 1 words) names.files ≡ o → ActionsFit (reads_file o is_old_event len OldEdges)
     old_events_at None len e = tt
-    old_events_at (Some found) len e = plan_if (is_old_event found.kind) _ _ (there (text_at 1 words) found e, λ got. refl) tt
+    old_events_at (Some found) len e = action_if (is_old_event found.kind) _ _ (there (text_at 1 words) found e, λ got. refl) tt
 
-    changes_at : (o : Option File) (len : ℕ) → file_of (text_at 1 words) names.files ≡ o → Plans (reads_file o is_chip len Infos)
+    changes_at : (o : Option File) (len : ℕ) → file_of (text_at 1 words) names.files ≡ o → ActionsFit (reads_file o is_chip len Infos)
     changes_at None len e = tt
-    changes_at (Some found) len e = plan_if (is_chip found.kind) _ _ (there (text_at 1 words) found e, λ got. refl) tt
+    changes_at (Some found) len e = action_if (is_chip found.kind) _ _ (there (text_at 1 words) found e, λ got. refl) tt
 
-    polls_at : (o : Option File) → file_of (text_at 1 words) names.files ≡ o → Plans (polls o)
+    polls_at : (o : Option File) → file_of (text_at 1 words) names.files ≡ o → ActionsFit (polls o)
     polls_at None e = tt
     polls_at (Some found) e = (there (text_at 1 words) found e, λ got. refl)
 
-    closes_at : (o : Option File) → file_of (text_at 1 words) names.files ≡ o → Plans (closes o)
+    closes_at : (o : Option File) → file_of (text_at 1 words) names.files ≡ o → ActionsFit (closes o)
     closes_at None e = tt
     closes_at (Some found) e = (found.slot, refl, one_less s (text_at 1 words) names.files found e)
 
-    pub planned_at : (keyword : Option Keyword) → Plans (planned keyword names.files slot words)
-    planned_at None = tt
-    planned_at (Some Probe) = (tt, λ got. refl)
-    planned_at (Some Unplug) = unplugs_at (place_word (text_at 1 words))
-    planned_at (Some MakeDir) = (tt, λ got. refl)
-    planned_at (Some RemoveDir) = (tt, λ got. refl)
-    planned_at (Some Write) = writes_at (line_file (text_at 1 words)) (text_at 1 words) (text_at 2 words)
-    planned_at (Some Read) = reads_at (line_file (text_at 1 words)) (text_at 1 words)
-    planned_at (Some Clock) = (tt, λ got. refl)
-    planned_at (Some Fault) = (tt, λ got. refl)
-    planned_at (Some Accept) = (tt, λ got. refl)
-    planned_at (Some Pin) = pins_at (place_word (text_at 2 words))
-    planned_at (Some Irq) = irqs_at (place_word (text_at 2 words))
-    planned_at (Some Open) = opens_at (is_some (file_of (text_at 1 words) names.files)) (text_at 2 words)
-    planned_at (Some Ioctl) = ioctls_at (file_of (text_at 1 words) names.files) (takes_name words names.files) refl
-    planned_at (Some Events) = events_at (file_of (text_at 1 words) names.files) _ refl
-    planned_at (Some OldIoctl) = old_ioctls_at (file_of (text_at 1 words) names.files) (takes_old_name words names.files) refl
-    planned_at (Some OldEvents) = old_events_at (file_of (text_at 1 words) names.files) _ refl
-    planned_at (Some Changes) = changes_at (file_of (text_at 1 words) names.files) _ refl
-    planned_at (Some Poll) = polls_at (file_of (text_at 1 words) names.files) refl
-    planned_at (Some Close) = closes_at (file_of (text_at 1 words) names.files) refl
-    planned_at (Some Detect) = tt
-    planned_at (Some Info) = tt
-    planned_at (Some Get) = tt
-    planned_at (Some Set) = tt
-    planned_at (Some Start) = tt
-    planned_at (Some Step) = tt
-    planned_at (Some Stop) = tt
+    pub action_at : (keyword : Option Keyword) → ActionsFit (action_of keyword names.files slot words)
+    action_at None = tt
+    action_at (Some Probe) = (tt, λ got. refl)
+    action_at (Some Unplug) = unplugs_at (place_word (text_at 1 words))
+    action_at (Some MakeDir) = (tt, λ got. refl)
+    action_at (Some RemoveDir) = (tt, λ got. refl)
+    action_at (Some Write) = writes_at (line_file (text_at 1 words)) (text_at 1 words) (text_at 2 words)
+    action_at (Some Read) = reads_at (line_file (text_at 1 words)) (text_at 1 words)
+    action_at (Some Clock) = (tt, λ got. refl)
+    action_at (Some Fault) = (tt, λ got. refl)
+    action_at (Some Accept) = (tt, λ got. refl)
+    action_at (Some Pin) = pins_at (place_word (text_at 2 words))
+    action_at (Some Irq) = irqs_at (place_word (text_at 2 words))
+    action_at (Some Open) = opens_at (is_some (file_of (text_at 1 words) names.files)) (text_at 2 words)
+    action_at (Some Ioctl) = ioctls_at (file_of (text_at 1 words) names.files) (takes_name words names.files) refl
+    action_at (Some Events) = events_at (file_of (text_at 1 words) names.files) _ refl
+    action_at (Some OldIoctl) = old_ioctls_at (file_of (text_at 1 words) names.files) (takes_old_name words names.files) refl
+    action_at (Some OldEvents) = old_events_at (file_of (text_at 1 words) names.files) _ refl
+    action_at (Some Changes) = changes_at (file_of (text_at 1 words) names.files) _ refl
+    action_at (Some Poll) = polls_at (file_of (text_at 1 words) names.files) refl
+    action_at (Some Close) = closes_at (file_of (text_at 1 words) names.files) refl
+    action_at (Some Detect) = tt
+    action_at (Some Info) = tt
+    action_at (Some Get) = tt
+    action_at (Some Set) = tt
+    action_at (Some Start) = tt
+    action_at (Some Step) = tt
+    action_at (Some Stop) = tt
 
   -- tools
   module _ (names : Names) (slot : ℕ) (room : open_times s names + one_if (nat_eq s slot) + one_if (nat_eq s (slot + 1)) ≤ k) where
@@ -442,9 +442,9 @@ module _ (s k : ℕ) where
   stops_at None (Some held) names words e f = set_taken names (text_at 1 words) held (stops_holding held) f (λ n. holding_stops_at s k n held)
   stops_at (Some watched) held names words e f = monitor_taken names (text_at 1 words) watched (stops_watching watched) e (λ n. watching_stops_at s k n watched)
 
-  pub kind_at : (kind : Kind) (names : Names) (slot : ℕ) (words : List Span) → open_times s names + one_if (nat_eq s slot) + one_if (nat_eq s (slot + 1)) ≤ k → Keeps (open_times s names) (does_by kind names slot words)
+  pub kind_at : (kind : StatementKind) (names : Names) (slot : ℕ) (words : List Span) → open_times s names + one_if (nat_eq s slot) + one_if (nat_eq s (slot + 1)) ≤ k → Keeps (open_times s names) (does_by kind names slot words)
   kind_at Plain names slot words room =
-      acts_at names slot words (omega (arith, room)) (planned (keyword_of (text_at 0 words)) names.files slot words) (planned_at names slot words (keyword_of (text_at 0 words)))
+      acts_at names slot words (omega (arith, room)) (action_of (keyword_of (text_at 0 words)) names.files slot words) (action_at names slot words (keyword_of (text_at 0 words)))
   kind_at ToolAlone names slot words room = runs_at names slot room (tool_said (word_texts words)) words
   kind_at Starting names slot words room = starts_at names slot room (has_tool (text_at 1 words) names) words
   kind_at Stepping names slot words room = steps_at (watched_of_name (text_at 1 words) names.monitors) (held_of_name (text_at 1 words) names.sets) names words refl

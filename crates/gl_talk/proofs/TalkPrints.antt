@@ -13,10 +13,10 @@ use Rattle.gl_base.specs.declared.operation.Got.{Got}
 use Rattle.gl_args.specs.Options.{SaidTool, SaidDetect, SaidInfo, SaidGet, SaidSet, SaidWatch, SaidNotify}
 use Rattle.gl_base.specs.TextLines.{ends_lines}
 use Rattle.gl_base.proofs.TextLines.{line_ends, lines_end}
-use Rattle.gl_args.specs.Printing.{PrintsLines}
-use Rattle.gl_args.specs.Program.{Program, done, then_by}
+use Rattle.gl_client.specs.Printing.{PrintsLines}
+use Rattle.gl_client.specs.Program.{Program, done, then_by}
 use Rattle.gl_args.specs.Tools.{tool_said}
-use Rattle.gl_args.proofs.Printing.{prints_then}
+use Rattle.gl_client.proofs.Printing.{prints_then}
 use Rattle.gl_lines.proofs.FindingPrints.{line_ended}
 use Rattle.gl_monitor.specs.Monitor.{Watched, monitor_program, steps_held}
 use Rattle.gl_monitor.specs.Monitor.{stops as stops_watching}
@@ -37,15 +37,15 @@ use Rattle.gl_values.specs.Set.{Held}
 use Rattle.gl_values.specs.Set.{stops as stops_holding}
 use Rattle.gl_values.proofs.ToolPrints.{held_lines, tool_lines}
 use Rattle.gl_values.proofs.ToolPrints.{stops_lines as held_stops_lines}
-use Rattle.gl_talk.specs.declared.plans.Plan.{Plan}
-use Rattle.gl_talk.specs.declared.plans.Plan.TheVariants.{Nothing, Refuse, Ask}
-use Rattle.gl_talk.specs.declared.plans.Reply.{Reply}
-use Rattle.gl_talk.specs.declared.plans.Reply.TheVariants.{Silent, Value, Level, Bytes, Edges, Infos, Ready, Opened, Closed, Made, OldBytes, OldEdges, OldMade}
-use Rattle.gl_talk.specs.declared.tools.Kind.{Kind}
-use Rattle.gl_talk.specs.declared.tools.Kind.TheVariants.{Plain, ToolAlone, Starting, Stepping, Stopping}
+use Rattle.gl_talk.specs.declared.actions.Action.{Action}
+use Rattle.gl_talk.specs.declared.actions.Action.TheVariants.{Nothing, Refuse, Ask}
+use Rattle.gl_talk.specs.declared.actions.ResultFormat.{ResultFormat}
+use Rattle.gl_talk.specs.declared.actions.ResultFormat.TheVariants.{Silent, Value, Level, Bytes, Edges, Infos, Ready, Opened, Closed, Made, OldBytes, OldEdges, OldMade}
+use Rattle.gl_talk.specs.declared.tools.StatementKind.{StatementKind}
+use Rattle.gl_talk.specs.declared.tools.StatementKind.TheVariants.{Plain, ToolAlone, Starting, Stepping, Stopping}
 use Rattle.gl_talk.specs.Old.{old_command_word, old_edge_line, old_edge_lines, old_edge_word, old_edges_text, old_structure}
 use Rattle.gl_talk.specs.Open.{Names, has_tool, held_of_name, slots_in_order, watched_of_name, without_monitor, without_set}
-use Rattle.gl_talk.specs.Plans.{planned}
+use Rattle.gl_talk.specs.Actions.{action_of}
 use Rattle.gl_talk.specs.Printed.{StatementsPrintLines, TalksPrintLines}
 use Rattle.gl_talk.specs.Replies.{edge_line, edge_lines, edge_word, edges_text, fd_of, info_line, info_lines, infos_text, kind_word, level_text, number_of, ready_text, size_or, structure_text, text_of}
 use Rattle.gl_talk.specs.Talk.{acts, closes_all, does_by, keeps_monitor, keeps_set, quits, refused, replied_by, runs, says, slot_behind, starts, starts_said, starts_tool, steps, stops, does}
@@ -101,7 +101,7 @@ old_edges_text_ends bytes = few_end (nat_le (length bytes) 49152) (old_edge_line
 refused_lines : (errno : Errno) (names : Names) → PrintsLines (refused errno names)
 refused_lines errno names = (line_ended (errno_name errno), tt)
 
-told_lines : (fault : Option Errno) (reply : Reply) (names : Names) (slot : ℕ) (words : List Span) (got : Got) → PrintsLines (replied_by fault reply names slot words got)
+told_lines : (fault : Option Errno) (reply : ResultFormat) (names : Names) (slot : ℕ) (words : List Span) (got : Got) → PrintsLines (replied_by fault reply names slot words got)
 told_lines (Some errno) reply names slot words got = refused_lines errno names
 told_lines None Silent names slot words got = tt
 told_lines None Value names slot words got = (line_ended (text_of got), tt)
@@ -119,7 +119,7 @@ told_lines None (OldBytes kind) names slot words got =
 told_lines None OldEdges names slot words got = (old_edges_text_ends (bytes_of got), tt)
 told_lines None OldMade names slot words got = (line_ended (codes "fd " ++ decimal (fd_of (bytes_of got))), tt)
 
-acts_lines : (plan : Plan) (names : Names) (slot : ℕ) (words : List Span) → PrintsLines (acts plan names slot words)
+acts_lines : (action : Action) (names : Names) (slot : ℕ) (words : List Span) → PrintsLines (acts action names slot words)
 acts_lines Nothing names slot words = tt
 acts_lines (Refuse errno) names slot words = refused_lines errno names
 acts_lines (Ask what reply) names slot words = λ got. told_lines (refusal got) reply names slot words got
@@ -161,8 +161,8 @@ stops_lines None (Some held) names words =
 stops_lines (Some watched) held names words =
     prints_then (stops_watching watched) (keeps_monitor (text_at 1 words) (without_monitor (text_at 1 words) names)) (watched_stops_lines watched) (λ value. tt)
 
-kind_lines : (kind : Kind) (names : Names) (slot : ℕ) (words : List Span) → PrintsLines (does_by kind names slot words)
-kind_lines Plain names slot words = acts_lines (planned (keyword_of (text_at 0 words)) names.files slot words) names slot words
+kind_lines : (kind : StatementKind) (names : Names) (slot : ℕ) (words : List Span) → PrintsLines (does_by kind names slot words)
+kind_lines Plain names slot words = acts_lines (action_of (keyword_of (text_at 0 words)) names.files slot words) names slot words
 kind_lines ToolAlone names slot words = runs_lines (tool_said (word_texts words)) names slot words
 kind_lines Starting names slot words = starts_lines (has_tool (text_at 1 words) names) names slot words
 kind_lines Stepping names slot words = steps_lines (watched_of_name (text_at 1 words) names.monitors) (held_of_name (text_at 1 words) names.sets) names words
@@ -179,7 +179,7 @@ closes_lines (slot ∷ slots) = λ got. closes_lines slots
 pub end_lines : (names : Names) → PrintsLines (quits names)
 end_lines names = closes_lines (slots_in_order names)
 
--- statements in a row, where what comes behind them does too
+-- statements in a row, where what comes after them does too
 pub says_lines : {A : Type 0} (begun : ℕ) (statements : List (List Span)) (behind : Names → Program A) → ((names : Names) → PrintsLines (behind names)) → (names : Names)
     → PrintsLines (says begun statements behind names)
 says_lines begun [] behind h names = h names

@@ -5,8 +5,8 @@ use Rattle.std.proofs.lemmas.Bool.Decides.{nat_tests}
 use Rattle.std.proofs.lemmas.List.{drop_more, drop_all}
 use Rattle.gl_base.specs.declared.operation.Do.{Do}
 use Rattle.gl_base.specs.declared.operation.Got.{Got}
-use Rattle.gl_args.specs.declared.next.Next.TheVariants.{Call, Print}
-use Rattle.gl_args.specs.Program.{Program, done, print, ask, then_by, Left, goes_on, waits, given, then_left, Goes}
+use Rattle.gl_client.specs.declared.next.Next.TheVariants.{Call, Print}
+use Rattle.gl_client.specs.Program.{Program, done, print, ask, then_by, Left, goes_on, waits, given, then_left, Goes}
 use Rattle.gl_script.specs.declared.section.Statement.{Statement}
 use Rattle.gl_talk.specs.declared.over.TalkedOver.{TalkedOver}
 use Rattle.gl_talk.specs.Open.{Names}
@@ -43,7 +43,7 @@ printed p more (goes_on q) results operations text h =
     (λ i. record { operations = operations ++ (talked q results).operations; text = append_assoc text more (talked q results).text i }) ∙ ap (λ r. front operations text (talked r results)) (sym h)
 printed p more (waits f) results operations text h = absurd h
 
--- The same for what the code has: l is left before a step of the talk, rest behind it, and f comes behind the statement.
+-- The same for what the code has: l is left before a step of the talk, rest after it, and f comes after the statement.
 module _ (over new : TalkedOver) (l rest : Left Names) (f : Names → Does) (got : Option Got) (results : List Got) (at : ℕ) where
   same_front : (operations : List Do) (text : List ℕ) (behind : Talked) → new.operations.items ≡ operations → new.text.items ≡ text → joined new behind ≡ front operations text behind
   same_front operations text behind e t = λ i. record { operations = e i ++ behind.operations; text = t i ++ behind.text }

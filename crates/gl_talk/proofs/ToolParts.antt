@@ -26,7 +26,7 @@ use Rattle.gl_script.specs.Table.{is_keyword, keyword_name, keyword_of}
 use Rattle.gl_script.specs.declared.table.Keyword.{Keyword}
 use Rattle.gl_script.specs.declared.table.Keyword.TheVariants.{Probe, Unplug, MakeDir, RemoveDir, Write, Read, Clock, Fault, Accept, Pin, Irq, Open, Ioctl, Events, OldIoctl, OldEvents, Changes, Poll, Close, Detect, Info, Get, Set, Start, Step, Stop}
 use Rattle.gl_script.specs.declared.table.TheConstants.{KEYWORDS}
-use Rattle.gl_talk.specs.declared.tools.Kind.TheVariants.{ToolAlone}
+use Rattle.gl_talk.specs.declared.tools.StatementKind.TheVariants.{ToolAlone}
 use Rattle.gl_talk.specs.ToolWords.{kind_of, word_texts}
 
 -- the texts of words are as many, and are bare and have a chip's option where the words do
@@ -159,7 +159,7 @@ tool_fits Start first words tool e t h = cc
 tool_fits Step first words tool e t h = cc
 tool_fits Stop first words tool e t h = cc
 
--- a tool that is started costs what its words say: `first` is the tool's name, and `count` words stand behind it
+-- a tool that is started costs what its words say: `first` is the tool's name, and `count` words stand after it
 module _ (text : List ℕ) (count : ℕ) where
   set_starts : (opts : Options) → text ≡ tool_text SetName → length opts.lines ≤ count → held_cost (SaidSet opts) ≤ start_cost text count
   set_starts opts e h = subst (λ t. held_cost (SaidSet opts) ≤ start_cost t count) (sym e) (omega (arith, h))

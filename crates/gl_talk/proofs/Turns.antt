@@ -19,7 +19,7 @@ info_step bytes i n m e = ap (info_lines bytes i) e
 next_info : (bytes : List ℕ) (i n : ℕ) → i < n → info_lines bytes i (n - i) ≡ info_line (changed_in (stretch (288 * i) 288 bytes)) ++ info_lines bytes (i + 1) (n - (i + 1))
 next_info bytes i n h = info_step bytes i (n - i) (n - (i + 1)) (omega arith)
 
--- the text behind one item more, and what is left
+-- the text after one item more, and what is left
 pub edge_put : (bytes old text start : List ℕ) (i n : ℕ) → i < n → text ≡ old ++ edge_line (event_in (stretch (48 * i) 48 bytes)) → old ++ edge_lines bytes i (n - i) ≡ start
     → text ++ edge_lines bytes (i + 1) (n - (i + 1)) ≡ start
 edge_put bytes old text start i n h put so_far =

@@ -15,7 +15,7 @@ use Rattle.gl_base.specs.declared.irq.IrqDo.TheVariants.{Lock, Unlock, Enable, D
 use Rattle.gl_base.specs.declared.pin.PinDo.TheVariants.{Range, Hold, Release}
 use Rattle.gl_script.specs.Forms.{is_path_byte, is_there, number_within}
 use Rattle.gl_v1.specs.Words.{old_number_of}
-use Rattle.gl_talk.specs.Plans.{small_word}
+use Rattle.gl_talk.specs.Actions.{small_word}
 use Rattle.gl_talk.specs.Readings.{CanStart, CommandsAreRead, HeldToolsAreRead, IrqsAreRead, LabelsAreRead, NamesAreRead, NumbersAreRead, OldCommandsAreRead, PathsAreRead, PinsAreRead, WordsAreRead, irq_name, pin_name}
 use Rattle.gl_talk.specs.Words.{or_else}
 

@@ -1,8 +1,8 @@
 -- What statements and whole talks cost: how many entries of a history they make at most. This project's choice.
 use Rattle.std.specs.Prelude.{ℕ, List, sum_by}
 use Rattle.gl_base.specs.Words.{Span}
-use Rattle.gl_args.specs.Costs.{CostsAtMost}
-use Rattle.gl_args.specs.Entries.{EntriesAtMost}
+use Rattle.gl_client.specs.Costs.{CostsAtMost}
+use Rattle.gl_client.specs.Entries.{EntriesAtMost}
 use Rattle.gl_script.specs.Cost.{words_cost}
 use Rattle.gl_talk.specs.Open.{Names, no_names}
 use Rattle.gl_talk.specs.Talk.{does, talks}

@@ -2,9 +2,9 @@
 -- is answered. This project's choice.
 use Rattle.std.specs.Prelude.{◌≡◌, ℕ, ◌+◌, ◌<◌, true, List, [], length, sum_by}
 use Rattle.gl_base.specs.Words.{Span}
-use Rattle.gl_args.specs.Entries.{EntriesLeave}
-use Rattle.gl_args.specs.OpenSlots.{AreApart, NamesOpenSlots, SameSlots, is_open}
-use Rattle.gl_args.specs.Program.{done}
+use Rattle.gl_client.specs.Entries.{EntriesLeave}
+use Rattle.gl_client.specs.OpenSlots.{AreApart, NamesOpenSlots, SameSlots, is_open}
+use Rattle.gl_client.specs.Program.{done}
 use Rattle.gl_script.specs.Cost.{words_cost}
 use Rattle.gl_talk.specs.Open.{Names, no_names, open_slots}
 use Rattle.gl_talk.specs.Talk.{quits, says, slot_behind, talks}
@@ -16,7 +16,7 @@ pub record AreOpen (begun : ℕ) (names : Names) (slots : List ℕ) : Type 0 whe
   pub apart : AreApart slots
   pub below : (slot : ℕ) → is_open slot slots ≡ true → slot < slot_behind begun
 
--- no slot is open behind a talk
+-- no slot is open after a talk
 abbrev pub AllClosed : Names → List ℕ → Type 0
 AllClosed names slots = slots ≡ []
 
@@ -24,7 +24,7 @@ AllClosed names slots = slots ≡ []
 abbrev pub NoneIsOpenBefore : Type 0
 NoneIsOpenBefore = AreOpen 0 no_names []
 
--- Statements in a row name open slots alone, and open files in free ones; behind them the slots of the files are open that the
+-- Statements in a row name open slots alone, and open files in free ones; after them the slots of the files are open that the
 -- names have then.
 abbrev pub StatementsFindTheirFiles : Type 0
 StatementsFindTheirFiles = (begun : ℕ) (statements : List (List Span)) (names : Names) (slots : List ℕ) → AreOpen begun names slots → NamesOpenSlots (AreOpen (begun + length statements)) slots (says begun statements done names)
@@ -33,7 +33,7 @@ StatementsFindTheirFiles = (begun : ℕ) (statements : List (List Span)) (names 
 abbrev pub EndClosesAll : Type 0
 EndClosesAll = (begun : ℕ) (names : Names) (slots : List ℕ) → AreOpen begun names slots → NamesOpenSlots AllClosed slots (quits names)
 
--- So does a whole talk, with none open behind it.
+-- So does a whole talk, with none open after it.
 abbrev pub TalksFindTheirFiles : Type 0
 TalksFindTheirFiles = (statements : List (List Span)) → NamesOpenSlots AllClosed [] (talks 0 statements no_names)
 
@@ -41,7 +41,7 @@ abbrev pub open_files : Names → ℕ
 open_files names = length (open_slots names)
 
 -- Statements in a row make at most as many entries as they cost together, and one for each file that was open; one for each file
--- that is open behind them is left.
+-- that is open after them is left.
 abbrev pub StatementsLeaveEntries : Type 0
 StatementsLeaveEntries = (begun : ℕ) (statements : List (List Span)) (names : Names) (slots : List ℕ) → AreOpen begun names slots
     → EntriesLeave open_files (sum_by words_cost statements + open_files names) (says begun statements done names)

@@ -6,7 +6,7 @@ pub mod Old
 pub mod Open
 pub mod Over
 pub mod Paths
-pub mod Plans
+pub mod Actions
 pub mod Printed
 pub mod Readings
 pub mod Replies

@@ -10,8 +10,8 @@ use Rattle.gl_base.specs.declared.errno.Errno.{Errno}
 use Rattle.gl_base.specs.declared.operation.Do.{Do}
 use Rattle.gl_base.specs.declared.operation.Do.TheVariants.{OpenChip, Ioctl, Close}
 use Rattle.gl_base.specs.declared.operation.Got.{Got}
-use Rattle.gl_args.specs.Entries.{IsKept}
-use Rattle.gl_args.specs.Program.{Program, done, print, ask}
+use Rattle.gl_client.specs.Entries.{IsKept}
+use Rattle.gl_client.specs.Program.{Program, done, print, ask}
 use Rattle.gl_talk.specs.Open.{Names, no_names, slots_in_order}
 use Rattle.gl_talk.specs.Talk.{says}
 
@@ -23,7 +23,7 @@ pub record Numbered : Type 0 where
 abbrev pub has_slot : ℕ → Numbered → Bool
 has_slot slot file = nat_eq slot file.slot
 
--- the files behind an operation: what succeeds in opening adds a file, which is given this number, and a closing takes one away
+-- the files after an operation: what succeeds in opening adds a file, which is given this number, and a closing takes one away
 abbrev pub with_number : Option Errno → ℕ → ℕ → List Numbered → List Numbered
 with_number None slot number files = files ++ record { slot = slot; number = number } ∷ []
 with_number (Some errno) slot number files = files
@@ -49,6 +49,6 @@ has_less file other = nat_lt file.number other.number
 abbrev pub CloseByNumber : Names → List Numbered → Type 0
 CloseByNumber names files = slots_in_order names ≡ map (λ file. file.slot) (ordered has_less files)
 
--- So it is behind the statements of each talk.
+-- So it is after the statements of each talk.
 abbrev pub FilesCloseByNumber : Type 0
 FilesCloseByNumber = (statements : List (List Span)) → NumbersFiles CloseByNumber [] (says 0 statements done no_names)

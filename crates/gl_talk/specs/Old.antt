@@ -17,10 +17,10 @@ use Rattle.gl_v1.specs.Back.{back, events_back}
 use Rattle.gl_v1.specs.Commands.{command_for, size_of}
 use Rattle.gl_v1.specs.To.{to, without_bytes}
 use Rattle.gl_v1.specs.Words.{makes_file, old_number_of}
-use Rattle.gl_talk.specs.declared.files.FileKind.{FileKind}
-use Rattle.gl_talk.specs.declared.files.FileKind.TheVariants.{Chip, Request, Old}
-use Rattle.gl_talk.specs.declared.plans.Reply.{Reply}
-use Rattle.gl_talk.specs.declared.plans.Reply.TheVariants.{Silent, OldBytes, OldMade}
+use Rattle.gl_talk.specs.declared.files.TalkFileKind.{TalkFileKind}
+use Rattle.gl_talk.specs.declared.files.TalkFileKind.TheVariants.{Chip, Request, Old}
+use Rattle.gl_talk.specs.declared.actions.ResultFormat.{ResultFormat}
+use Rattle.gl_talk.specs.declared.actions.ResultFormat.TheVariants.{Silent, OldBytes, OldMade}
 use Rattle.gl_talk.specs.Open.{File, file_of}
 use Rattle.gl_talk.specs.Words.{made_name, or_else}
 
@@ -33,24 +33,24 @@ abbrev pub first_bytes : List ℕ → List ℕ
 first_bytes bytes = padded 592 (take 592 bytes)
 
 -- what `ioctl` sends: a file of the first uAPI has no command of v2
-abbrev pub sent_new : FileKind → ℕ → List ℕ → Sent
+abbrev pub sent_new : TalkFileKind → ℕ → List ℕ → Sent
 sent_new Chip command bytes = record { cmd = command; len = min (length bytes) 1024; bytes = first_bytes bytes }
 sent_new Request command bytes = record { cmd = command; len = min (length bytes) 1024; bytes = first_bytes bytes }
 sent_new (Old kind) command bytes = without_bytes 0
 
 -- what `ioctl1` sends: a request of v2 has no command of the first uAPI
-abbrev pub sent_old : FileKind → ℕ → List ℕ → Sent
+abbrev pub sent_old : TalkFileKind → ℕ → List ℕ → Sent
 sent_old Chip command bytes = to OldChip command bytes
 sent_old Request command bytes = without_bytes 0
 sent_old (Old kind) command bytes = to kind command bytes
 
 -- the kind of a file in the first uAPI; a chip's file is the same in both, and a request of v2 has none
-abbrev pub kind_v1 : FileKind → KindV1
+abbrev pub kind_v1 : TalkFileKind → KindV1
 kind_v1 (Old kind) = kind
 kind_v1 _ = OldChip
 
 -- how the result is told goes by what was sent
-abbrev pub old_reply : FileKind → ℕ → Reply
+abbrev pub old_reply : TalkFileKind → ℕ → ResultFormat
 old_reply kind number =
     if number == GET_LINE then OldMade
     else if number == GET_CHIPINFO then OldBytes (kind_v1 kind)
@@ -63,7 +63,7 @@ abbrev pub takes_old_name : List Span → List File → Bool
 takes_old_name words files = makes_file (old_number_of (text_at 2 words)) && is_some (file_of (made_name words) files)
 
 -- the kind of the file that is made: a handle has the lines that its request says
-abbrev pub made_kind : ℕ → List ℕ → FileKind
+abbrev pub made_kind : ℕ → List ℕ → TalkFileKind
 made_kind command said = if command == LINE_EVENT then Old Event else Old (Handle (number_at 4 V1_HANDLE_LINES (first_bytes said)))
 
 -- the bytes of a structure, where those that went over are these and those that came back in v2 are those

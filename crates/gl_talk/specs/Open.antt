@@ -3,14 +3,14 @@ use Rattle.std.specs.Prelude.{ℕ, Bool, true, false, nat_lt, ◌||◌, List, []
 use Rattle.std.specs.Str.{bytes_eq}
 use Rattle.gl_base.specs.Ordered.{ordered}
 use Rattle.gl_base.specs.Rows.{without_first}
-use Rattle.gl_args.specs.OpenSlots.{with_slot}
+use Rattle.gl_client.specs.OpenSlots.{with_slot}
 use Rattle.gl_monitor.specs.Monitor.{Watched, watched_by, watched_slot}
 use Rattle.gl_values.specs.Client.{held_by}
 use Rattle.gl_values.specs.Set.{Held}
 use Rattle.gl_v1.specs.declared.commands.KindV1.TheVariants.{Event}
-use Rattle.gl_talk.specs.declared.files.FileKind.{FileKind}
-use Rattle.gl_talk.specs.declared.files.FileKind.TheVariants.{Chip, Request, Old}
-use Rattle.gl_talk.specs.declared.files.FileRow.{FileRow}
+use Rattle.gl_talk.specs.declared.files.TalkFileKind.{TalkFileKind}
+use Rattle.gl_talk.specs.declared.files.TalkFileKind.TheVariants.{Chip, Request, Old}
+use Rattle.gl_talk.specs.declared.files.TalkFile.{TalkFile}
 use Rattle.gl_talk.specs.declared.held.MonitorRow.{MonitorRow}
 use Rattle.gl_talk.specs.declared.held.SetRow.{SetRow}
 use Rattle.gl_talk.specs.Words.{name_word}
@@ -19,18 +19,18 @@ use Rattle.gl_talk.specs.Words.{name_word}
 pub record File : Type 0 where
   pub name : List ℕ
   pub slot : ℕ
-  pub kind : FileKind
+  pub kind : TalkFileKind
 
 -- it is a chip's file, a request of v2, a request for edges of the first uAPI
-abbrev pub is_chip : FileKind → Bool
+abbrev pub is_chip : TalkFileKind → Bool
 is_chip Chip = true
 is_chip _ = false
 
-abbrev pub is_request : FileKind → Bool
+abbrev pub is_request : TalkFileKind → Bool
 is_request Request = true
 is_request _ = false
 
-abbrev pub is_old_event : FileKind → Bool
+abbrev pub is_old_event : TalkFileKind → Bool
 is_old_event (Old Event) = true
 is_old_event _ = false
 
@@ -123,7 +123,7 @@ abbrev pub slots_in_order : Names → List ℕ
 slots_in_order names = ordered nat_lt (open_slots names)
 
 -- the rows of the code stand for these
-abbrev pub file_in : FileRow → File
+abbrev pub file_in : TalkFile → File
 file_in row = record { name = row.name; slot = row.slot; kind = row.kind }
 
 abbrev pub set_in : SetRow → SetTool
@@ -132,7 +132,7 @@ set_in row = record { name = row.name; held = held_by row.client }
 abbrev pub monitor_in : MonitorRow → MonitorTool
 monitor_in row = record { name = row.name; watched = watched_by row.monitor }
 
-abbrev pub is_row : List ℕ → FileRow → Bool
+abbrev pub is_row : List ℕ → TalkFile → Bool
 is_row name row = bytes_eq row.name name
 
 abbrev pub is_set_row : List ℕ → SetRow → Bool

@@ -14,6 +14,6 @@ columns_in statement = columns statement.line.now
 abbrev pub talk_in : TalkedOver → Talked
 talk_in over = record { operations = over.operations.items; text = over.text.items }
 
--- what was asked and printed so far, and what comes behind it
+-- what was asked and printed so far, and what comes after it
 abbrev pub joined : TalkedOver → Talked → Talked
 joined over behind = record { operations = over.operations.items ++ behind.operations; text = over.text.items ++ behind.text }

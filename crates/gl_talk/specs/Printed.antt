@@ -1,7 +1,7 @@
 -- Statements and whole talks print whole lines. This project's choice.
 use Rattle.std.specs.Prelude.{ℕ, List}
 use Rattle.gl_base.specs.Words.{Span}
-use Rattle.gl_args.specs.Printing.{PrintsLines}
+use Rattle.gl_client.specs.Printing.{PrintsLines}
 use Rattle.gl_talk.specs.Open.{Names}
 use Rattle.gl_talk.specs.Talk.{does, talks}
 

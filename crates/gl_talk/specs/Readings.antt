@@ -13,7 +13,7 @@ use Rattle.gl_script.specs.Forms.{meets, number_within}
 use Rattle.gl_script.specs.declared.table.Form.TheVariants.{FileName, Label, Path, Word, Number, Command, OldCommand, PinWord, IrqWord, HeldTool}
 use Rattle.gl_v1.specs.Words.{old_number_of}
 use Rattle.gl_talk.specs.Old.{old_command_word}
-use Rattle.gl_talk.specs.Plans.{pin_said}
+use Rattle.gl_talk.specs.Actions.{pin_said}
 use Rattle.gl_talk.specs.Words.{command_word, irq_word, name_word, number_word, path_word}
 
 -- the word of what is done with an interrupt, and with pins

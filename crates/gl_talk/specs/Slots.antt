@@ -2,7 +2,7 @@
 use Rattle.std.specs.Prelude.{◌≡◌, ℕ, ◌+◌, Bool, true, List}
 use Rattle.gl_base.specs.Rows.{Each}
 use Rattle.gl_base.specs.Words.{Span}
-use Rattle.gl_args.specs.Gives.{Gives}
+use Rattle.gl_client.specs.Gives.{Gives}
 use Rattle.gl_lines.specs.OwnSlots.{SlotPasses}
 use Rattle.gl_monitor.specs.WatchedSlots.{WatchedPasses}
 use Rattle.gl_talk.specs.Open.{Names}

@@ -1,5 +1,5 @@
 -- What each statement does: which operations it asks for, by their results so far, and what it prints; and what a whole talk
--- does, a statement at a time. A statement is a program that gives the names behind it. This project's choice.
+-- does, a statement at a time. A statement is a program that gives the names after it. This project's choice.
 use Rattle.std.specs.Prelude.{◌≡◌, ℕ, ◌+◌, ◌*◌, Bool, true, false, List, [], ◌∷◌, ◌++◌, map, Option, Some, None}
 use Rattle.gl_base.specs.Errno.{errno_name}
 use Rattle.gl_base.specs.Operation.{refusal, bytes_of, ready_of}
@@ -10,7 +10,7 @@ use Rattle.gl_base.specs.declared.operation.Do.{Do}
 use Rattle.gl_base.specs.declared.operation.Do.TheVariants.{Close as DoClose}
 use Rattle.gl_base.specs.declared.operation.Got.{Got}
 use Rattle.gl_args.specs.Options.{SaidTool, SaidSet, SaidWatch, SaidNotify}
-use Rattle.gl_args.specs.Program.{Program, done, print, ask, then_by, Left, goes_on, waits, then_left}
+use Rattle.gl_client.specs.Program.{Program, done, print, ask, then_by, Left, goes_on, waits, then_left}
 use Rattle.gl_args.specs.Tools.{tool_said}
 use Rattle.gl_lines.specs.Texts.{line}
 use Rattle.gl_monitor.specs.declared.monitor.Monitor.{Monitor}
@@ -21,25 +21,25 @@ use Rattle.gl_script.specs.Table.{keyword_of}
 use Rattle.gl_values.specs.Client.{tool_program, held_program, client_left}
 use Rattle.gl_values.specs.Set.{Held}
 use Rattle.gl_values.specs.Set.{stops as stops_holding}
-use Rattle.gl_talk.specs.declared.plans.Plan.{Plan}
-use Rattle.gl_talk.specs.declared.plans.Plan.TheVariants.{Nothing, Refuse, Ask}
-use Rattle.gl_talk.specs.declared.plans.Reply.{Reply}
-use Rattle.gl_talk.specs.declared.plans.Reply.TheVariants.{Silent, Value, Level, Bytes, Edges, Infos, Ready, Opened, Closed, Made, OldBytes, OldEdges, OldMade}
+use Rattle.gl_talk.specs.declared.actions.Action.{Action}
+use Rattle.gl_talk.specs.declared.actions.Action.TheVariants.{Nothing, Refuse, Ask}
+use Rattle.gl_talk.specs.declared.actions.ResultFormat.{ResultFormat}
+use Rattle.gl_talk.specs.declared.actions.ResultFormat.TheVariants.{Silent, Value, Level, Bytes, Edges, Infos, Ready, Opened, Closed, Made, OldBytes, OldEdges, OldMade}
 use Rattle.gl_talk.specs.declared.talk.Stage.{Stage}
 use Rattle.gl_talk.specs.declared.talk.Stage.TheVariants.{Idle, Begun, Waiting, Running, Holding, Watching, Quitting, Closing}
 use Rattle.gl_talk.specs.declared.talk.Talk.{Talk}
-use Rattle.gl_talk.specs.declared.tools.Kind.{Kind}
-use Rattle.gl_talk.specs.declared.tools.Kind.TheVariants.{Plain, ToolAlone, Starting, Stepping, Stopping}
-use Rattle.gl_talk.specs.declared.files.FileKind.{FileKind}
-use Rattle.gl_talk.specs.declared.files.FileKind.TheVariants.{Chip, Request}
+use Rattle.gl_talk.specs.declared.tools.StatementKind.{StatementKind}
+use Rattle.gl_talk.specs.declared.tools.StatementKind.TheVariants.{Plain, ToolAlone, Starting, Stepping, Stopping}
+use Rattle.gl_talk.specs.declared.files.TalkFileKind.{TalkFileKind}
+use Rattle.gl_talk.specs.declared.files.TalkFileKind.TheVariants.{Chip, Request}
 use Rattle.gl_talk.specs.Old.{made_kind, old_command_word, old_edges_text, old_structure_text}
 use Rattle.gl_talk.specs.Open.{File, Names, no_names, file_in, set_in, monitor_in, has_tool, held_of_name, watched_of_name, with_file, without_file, with_set, with_monitor, without_set, without_monitor, slots_in_order}
-use Rattle.gl_talk.specs.Plans.{planned}
+use Rattle.gl_talk.specs.Actions.{action_of}
 use Rattle.gl_talk.specs.Replies.{number_of, text_of, level_text, ready_text, structure_text, fd_text, edges_text, infos_text}
 use Rattle.gl_talk.specs.ToolWords.{kind_of, usage_text, word_texts}
 use Rattle.gl_talk.specs.Words.{behind_three, behind_two, bytes_said, command_word, made_name, name_word, turns_word}
 
--- a statement gives the names behind it
+-- a statement gives the names after it
 abbrev pub Does : Type 0
 Does = Program Names
 
@@ -52,11 +52,11 @@ abbrev pub shows : List ℕ → Names → Does
 shows text names = print text (done names)
 
 -- an open file of this name
-abbrev pub file : List ℕ → ℕ → FileKind → File
+abbrev pub file : List ℕ → ℕ → TalkFileKind → File
 file name slot kind = record { name = name_word name; slot = slot; kind = kind }
 
 -- how a result that is no refusal is told
-abbrev pub told : Reply → Names → ℕ → List Span → Got → Does
+abbrev pub told : ResultFormat → Names → ℕ → List Span → Got → Does
 told Silent names slot words got = done names
 told Value names slot words got = shows (line (text_of got)) names
 told (Level is_pull) names slot words got = shows (line (level_text is_pull (number_of got))) names
@@ -73,16 +73,16 @@ told OldEdges names slot words got = shows (old_edges_text (bytes_of got)) names
 told OldMade names slot words got =
     shows (fd_text (bytes_of got)) (with_file (file (made_name words) slot (made_kind (old_command_word (text_at 2 words)) (bytes_said (behind_three words)))) names)
 
-abbrev pub replied_by : Option Errno → Reply → Names → ℕ → List Span → Got → Does
+abbrev pub replied_by : Option Errno → ResultFormat → Names → ℕ → List Span → Got → Does
 replied_by (Some errno) reply names slot words got = refused errno names
 replied_by None reply names slot words got = told reply names slot words got
 
 -- how a result is told
-abbrev pub replied : Reply → Names → ℕ → List Span → Got → Does
+abbrev pub replied : ResultFormat → Names → ℕ → List Span → Got → Does
 replied reply names slot words got = replied_by (refusal got) reply names slot words got
 
 -- what a statement does that is no tool's
-abbrev pub acts : Plan → Names → ℕ → List Span → Does
+abbrev pub acts : Action → Names → ℕ → List Span → Does
 acts Nothing names slot words = done names
 acts (Refuse errno) names slot words = refused errno names
 acts (Ask what reply) names slot words = ask what (λ got. replied reply names slot words got)
@@ -92,7 +92,7 @@ abbrev pub runs : Option SaidTool → Names → ℕ → List Span → Does
 runs None names slot words = shows (usage_text (text_at 0 words)) names
 runs (Some tool) names slot words = then_by (tool_program tool slot) (λ _. done names)
 
--- behind its start, its step or its stop a tool has its name where it goes on
+-- after its start, its step or its stop a tool has its name where it goes on
 abbrev pub keeps_set : List ℕ → Names → Held → Does
 keeps_set name names held = done (with_set name held names)
 
@@ -128,8 +128,8 @@ stops (Some watched) held names words = then_by (stops_watching watched) (keeps_
 stops None (Some held) names words = then_by (stops_holding held) (keeps_set (text_at 1 words) (without_set (text_at 1 words) names))
 stops None None names words = refused BadF names
 
-abbrev pub does_by : Kind → Names → ℕ → List Span → Does
-does_by Plain names slot words = acts (planned (keyword_of (text_at 0 words)) names.files slot words) names slot words
+abbrev pub does_by : StatementKind → Names → ℕ → List Span → Does
+does_by Plain names slot words = acts (action_of (keyword_of (text_at 0 words)) names.files slot words) names slot words
 does_by ToolAlone names slot words = runs (tool_said (word_texts words)) names slot words
 does_by Starting names slot words = starts (has_tool (text_at 1 words) names) names slot words
 does_by Stepping names slot words = steps (watched_of_name (text_at 1 words) names.monitors) (held_of_name (text_at 1 words) names.sets) names words
@@ -153,7 +153,7 @@ quits names = closes_all (slots_in_order names)
 abbrev pub slot_behind : ℕ → ℕ
 slot_behind begun = 2 * (begun + 1)
 
--- Statements in a row, each by the names that the one before it gives; behind the last comes what `behind` says of the names
+-- Statements in a row, each by the names that the one before it gives; after the last comes what `after` says of the names
 -- that are there then. `begun` statements were begun before.
 abbrev pub says : {A : Type 0} → ℕ → List (List Span) → (Names → Program A) → Names → Program A
 says begun [] behind names = behind names
@@ -220,7 +220,7 @@ words_in t = columns t.line.items
 abbrev pub left : Talk → Left Names
 left t = left_at t (names_in t) (slot_in t) (words_in t) t.stage
 
--- what is left of a whole talk, with these statements behind the one that is under way
+-- what is left of a whole talk, with these statements after the one that is under way
 abbrev pub talk_left : Talk → List (List Span) → Left Names
 talk_left t statements = then_left (left t) (talks t.begun statements)
 

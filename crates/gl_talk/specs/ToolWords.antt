@@ -4,11 +4,11 @@ use Rattle.gl_base.specs.Words.{Span}
 use Rattle.gl_lines.specs.Texts.{line}
 use Rattle.gl_script.specs.declared.table.Keyword.{Keyword}
 use Rattle.gl_script.specs.declared.table.Keyword.TheVariants.{Detect, Info, Get, Set, Start, Step, Stop}
-use Rattle.gl_talk.specs.declared.tools.Kind.{Kind}
-use Rattle.gl_talk.specs.declared.tools.Kind.TheVariants.{Plain, ToolAlone, Starting, Stepping, Stopping}
+use Rattle.gl_talk.specs.declared.tools.StatementKind.{StatementKind}
+use Rattle.gl_talk.specs.declared.tools.StatementKind.TheVariants.{Plain, ToolAlone, Starting, Stepping, Stopping}
 
 -- a statement is a tool's, or starts, steps or stops one, or is another
-abbrev pub kind_of : Option Keyword → Kind
+abbrev pub kind_of : Option Keyword → StatementKind
 kind_of (Some Detect) = ToolAlone
 kind_of (Some Info) = ToolAlone
 kind_of (Some Get) = ToolAlone

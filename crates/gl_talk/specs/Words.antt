@@ -61,7 +61,7 @@ pull_word word = if bytes_eq word (codes "pull-up") then Some true else if bytes
 abbrev pub live_word : List ℕ → Option Bool
 live_word word = if bytes_eq word (codes "1") then Some true else if bytes_eq word (codes "0") then Some false else None
 
--- the words behind the first two, and behind the first three
+-- the words after the first two, and after the first three
 abbrev pub behind_two : List Span → List Span
 behind_two (a ∷ b ∷ words) = words
 behind_two _ = []
@@ -75,11 +75,11 @@ abbrev pub bytes_said : List Span → List ℕ
 bytes_said [] = []
 bytes_said (word ∷ words) = if bytes_eq word.text (codes "as") then [] else piece_bytes word.text ++ bytes_said words
 
--- the name behind `as`
+-- the name after `as`
 abbrev pub name_behind_as : List Span → List ℕ
 name_behind_as [] = []
 name_behind_as (word ∷ words) = if bytes_eq word.text (codes "as") then text_at 0 words else name_behind_as words
 
--- the name of the file that a command makes: the one behind `as`, which stands behind the statement's first three words (a file may have the name `as` too)
+-- the name of the file that a command makes: the one after `as`, which stands after the statement's first three words (a file may have the name `as` too)
 abbrev pub made_name : List Span → List ℕ
 made_name words = name_behind_as (behind_three words)

@@ -9,7 +9,7 @@ use gl_v1::KindV1;
 
 /// What kind of file it is.
 #[derive(Clone, Copy, PartialEq, Eq, Debug)]
-pub enum FileKind {
+pub enum TalkFileKind {
     /// A chip's file.
     Chip,
     /// A request of uAPI v2.
@@ -19,49 +19,50 @@ pub enum FileKind {
 }
 
 /// Whether it is a chip's file.
-pub fn is_chip(kind: FileKind) -> bool
+pub fn is_chip(kind: TalkFileKind) -> bool
     ensures { result ≡ is_chip kind }
 {
     match kind {
-        FileKind::Chip => true,
-        FileKind::Request | FileKind::Old(_) => false,
+        TalkFileKind::Chip => true,
+        TalkFileKind::Request | TalkFileKind::Old(_) => false,
     }
 }
 
 /// Whether it is a request of v2.
-pub fn is_request(kind: FileKind) -> bool
+pub fn is_request(kind: TalkFileKind) -> bool
     ensures { result ≡ is_request kind }
 {
     match kind {
-        FileKind::Request => true,
-        FileKind::Chip | FileKind::Old(_) => false,
+        TalkFileKind::Request => true,
+        TalkFileKind::Chip | TalkFileKind::Old(_) => false,
     }
 }
 
 /// Whether it is a request for edges of the first uAPI.
-pub fn is_old_event(kind: FileKind) -> bool
+pub fn is_old_event(kind: TalkFileKind) -> bool
     ensures { result ≡ is_old_event kind }
 {
     match kind {
-        FileKind::Old(KindV1::Event) => true,
-        FileKind::Old(KindV1::Chip | KindV1::Handle(_)) | FileKind::Chip | FileKind::Request =>
-            false,
+        TalkFileKind::Old(KindV1::Event) => true,
+        TalkFileKind::Old(KindV1::Chip | KindV1::Handle(_))
+        | TalkFileKind::Chip
+        | TalkFileKind::Request => false,
     }
 }
 
 /// An open file: its name, and the slot that its operations name.
 #[derive(Clone, Copy, Debug)]
-pub struct FileRow {
+pub struct TalkFile {
     /// Its name.
     pub name: Name,
     /// Its slot.
     pub slot: u32,
     /// What kind of file it is.
-    pub kind: FileKind,
+    pub kind: TalkFileKind,
 }
 
 /// The file of a name, if there is one.
-pub fn file_of(files: &[FileRow], name: &[u8]) -> Option<FileRow>
+pub fn file_of(files: &[TalkFile], name: &[u8]) -> Option<TalkFile>
     ensures { option_map file_in result ≡ file_of name.now (map file_in files.now) }
 {
     for file in files {
@@ -73,21 +74,21 @@ pub fn file_of(files: &[FileRow], name: &[u8]) -> Option<FileRow>
 }
 
 /// Whether there is a file of a name.
-pub fn has_file(files: &[FileRow], name: &[u8]) -> bool
+pub fn has_file(files: &[TalkFile], name: &[u8]) -> bool
     ensures { result ≡ is_some (file_of name.now (map file_in files.now)) }
 {
     file_of(files, name).is_some()
 }
 
 /// Where the file of a name stands.
-fn position_of(files: &[FileRow], name: &[u8]) -> Option<usize>
+fn position_of(files: &[TalkFile], name: &[u8]) -> Option<usize>
     ensures { result ≡ position (is_row name.now) files.now }
 {
     files.iter().position(|file| file.name.as_bytes() == name)
 }
 
 /// Takes out the file of a name.
-pub fn remove_file(files: &mut Vec<FileRow>, name: &[u8])
+pub fn remove_file(files: &mut Vec<TalkFile>, name: &[u8])
     ensures { map file_in files.new.items ≡ without_first (is_file name.now) (map file_in files.old.items) }
 {
     match position_of(files, name) {

@@ -2,7 +2,7 @@
 ghost use Rattle.std.specs.Prelude.{vec_len, vec_capacity, ◌≡◌, ◌+◌, ◌*◌, ◌<◌, ◌≤◌, None, IfOk, OnOk, OnErr, IsOkUnless, option_copied};
 ghost use Rattle.gl_base.specs.Words.{text_at};
 ghost use Rattle.gl_args.specs.Options.{tool_in};
-ghost use Rattle.gl_args.specs.Program.{Goes, MatchNext, given, goes_on, done, then_left};
+ghost use Rattle.gl_client.specs.Program.{Goes, MatchNext, given, goes_on, done, then_left};
 ghost use Rattle.gl_args.specs.Tools.{tool_said};
 ghost use Rattle.gl_monitor.specs.Monitor.{watched_by};
 ghost use Rattle.gl_values.specs.Client.{client_left, held_by};
@@ -15,8 +15,9 @@ use crate::held::{MonitorRow, SetRow, has_monitor, has_set, take_monitor, take_s
 use crate::talk::{Stage, Talk};
 use crate::tools::{started_tool_of, usage_text};
 use crate::words::{name_word, turns_word, word};
-use gl_args::{ArgFault, Next, Tool};
+use gl_args::{ArgFault, Tool};
 use gl_base::{Errno, Got};
+use gl_client::Next;
 use gl_monitor::Monitor;
 use gl_values::Client;
 use std::alloc::Global;

@@ -22,7 +22,7 @@ pub fn talks_keep_within_cost()
 
 /// Whatever a talk is answered, but that no closing is refused, each of its operations on a file is one on a file that is open
 /// then, in the slot that it names; and what it opens goes into a slot that is free. Behind its statements those slots are open
-/// that its names have, each once, and behind its end none: so whoever keeps the open files by their slots finds the file of each
+/// that its names have, each once, and after its end none: so whoever keeps the open files by their slots finds the file of each
 /// operation.
 pub fn talks_find_their_files()
     ensures before { NoneIsOpenBefore }
@@ -32,7 +32,7 @@ pub fn talks_find_their_files()
 {}
 
 /// Statements in a row make at most as many entries of a history as they cost together, and one for each file that was open
-/// before, where each closing is counted as it is made; and they leave so many of that number as files are open behind them. The
+/// before, where each closing is counted as it is made; and they leave so many of that number as files are open after them. The
 /// end makes one at most for each of these.
 pub fn statements_leave_entries()
     ensures statements { StatementsLeaveEntries }
@@ -58,7 +58,7 @@ pub fn files_close_by_number()
 {}
 
 /// Statements in a row are those of a first list and then those of a second one, so a talk may wait between the two; and what
-/// comes behind them comes behind the names that they give. A whole talk is its statements, and then the end.
+/// comes after them comes after the names that they give. A whole talk is its statements, and then the end.
 pub fn talks_are_statements_and_the_end()
     ensures parts { StatementsComeInParts }
     ensures end { TalksAreStatementsAndTheEnd }

@@ -1,6 +1,7 @@
 //! The statements of a session as clients of the device: names of files, what each statement asks, and what it prints.
 #![tactic(auto)]
 
+mod actions;
 mod closing;
 mod files;
 mod held;
@@ -9,7 +10,6 @@ mod laws;
 mod old;
 mod over;
 mod paths;
-mod plans;
 mod replies;
 mod steps;
 mod talk;

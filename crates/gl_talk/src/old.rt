@@ -11,8 +11,8 @@ ghost use Rattle.gl_talk.specs.Old.{first_bytes, kind_v1, made_kind, old_command
 ghost use Rattle.gl_talk.specs.Open.{file_in};
 ghost use Rattle.gl_talk.specs.Words.{behind_three, bytes_said};
 
-use crate::files::{FileKind, FileRow, has_file};
-use crate::plans::Reply;
+use crate::actions::ResultFormat;
+use crate::files::{TalkFile, TalkFileKind, has_file};
 use crate::replies::line_of;
 use crate::words::{bytes_said, first_bytes, made_name, word};
 use gl_base::command::{GET_CHIPINFO, GET_LINE, GET_LINEINFO, LINE_GET_VALUES};
@@ -51,69 +51,69 @@ fn no_command() -> Sent
 }
 
 /// What `ioctl` sends: a file of the first uAPI has no command of v2.
-pub fn sent_new(kind: FileKind, command: u32, bytes: &[u8]) -> Sent
+pub fn sent_new(kind: TalkFileKind, command: u32, bytes: &[u8]) -> Sent
     ensures { result ≡ sent_new kind command bytes.now }
 {
     match kind {
-        FileKind::Chip | FileKind::Request => Sent {
+        TalkFileKind::Chip | TalkFileKind::Request => Sent {
             cmd: command,
             len: bytes.len().min(1024) as u32,
             bytes: first_bytes(bytes),
         },
-        FileKind::Old(_) => no_command(),
+        TalkFileKind::Old(_) => no_command(),
     }
 }
 
 /// What `ioctl1` sends: a request of v2 has no command of the first uAPI.
-pub fn sent_old(kind: FileKind, command: u32, bytes: &[u8]) -> Sent
+pub fn sent_old(kind: TalkFileKind, command: u32, bytes: &[u8]) -> Sent
     ensures { result ≡ sent_old kind command bytes.now }
 {
     match kind {
-        FileKind::Chip => gl_v1::send(KindV1::Chip, command, bytes),
-        FileKind::Request => no_command(),
-        FileKind::Old(kind) => gl_v1::send(kind, command, bytes),
+        TalkFileKind::Chip => gl_v1::send(KindV1::Chip, command, bytes),
+        TalkFileKind::Request => no_command(),
+        TalkFileKind::Old(kind) => gl_v1::send(kind, command, bytes),
     }
 }
 
-fn kind_v1(kind: FileKind) -> KindV1
+fn kind_v1(kind: TalkFileKind) -> KindV1
     ensures { result ≡ kind_v1 kind }
 {
     match kind {
-        FileKind::Chip | FileKind::Request => KindV1::Chip,
-        FileKind::Old(kind) => kind,
+        TalkFileKind::Chip | TalkFileKind::Request => KindV1::Chip,
+        TalkFileKind::Old(kind) => kind,
     }
 }
 
 /// How the result of what was sent is told.
-pub fn old_reply(kind: FileKind, number: u32) -> Reply
+pub fn old_reply(kind: TalkFileKind, number: u32) -> ResultFormat
     ensures { result ≡ old_reply kind number }
 {
     match number {
-        GET_LINE => Reply::OldMade,
-        GET_CHIPINFO | GET_LINEINFO | LINE_GET_VALUES => Reply::OldBytes(kind_v1(kind)),
-        _ => Reply::Silent,
+        GET_LINE => ResultFormat::OldMade,
+        GET_CHIPINFO | GET_LINEINFO | LINE_GET_VALUES => ResultFormat::OldBytes(kind_v1(kind)),
+        _ => ResultFormat::Silent,
     }
 }
 
 /// Whether the name after `as` is one that the actor has.
-pub fn takes_old_name(files: &[FileRow], line: &[u8]) -> bool
+pub fn takes_old_name(files: &[TalkFile], line: &[u8]) -> bool
     ensures { result ≡ takes_old_name (columns line.now) (map file_in files.now) }
 {
     gl_v1::makes_file(gl_v1::command_number(word(2, line))) && has_file(files, made_name(line))
 }
 
 /// The kind of the file that is made: a handle has the lines that its request says.
-pub fn made_kind(command: u32, said: &[u8]) -> FileKind
+pub fn made_kind(command: u32, said: &[u8]) -> TalkFileKind
     ensures { result ≡ made_kind command said.now }
 {
     if command == gl_v1::LINE_EVENT {
-        return FileKind::Old(KindV1::Event);
+        return TalkFileKind::Old(KindV1::Event);
     }
-    FileKind::Old(KindV1::Handle(u32_at(&first_bytes(said), V1_HANDLE_LINES)))
+    TalkFileKind::Old(KindV1::Handle(u32_at(&first_bytes(said), V1_HANDLE_LINES)))
 }
 
 /// The kind of the file that a statement's command makes.
-pub fn made_kind_of(alloc: Global, line: &[u8]) -> Result<FileKind, Errno>
+pub fn made_kind_of(alloc: Global, line: &[u8]) -> Result<TalkFileKind, Errno>
     ensures ok { IfOk result (λ kind. kind ≡ made_kind (old_command_word (text_at 2 (columns line.now))) (bytes_said (behind_three (columns line.now)))) }
     ensures memory_alone { IsOkUnless result Errno.NoMemory }
 {

@@ -1,13 +1,13 @@
 //! A whole talk over given results.
 ghost use Rattle.std.specs.Prelude.{◌≡◌, ◌+◌, ◌≤◌, ◌<◌, [], length, drop, map, IfOk, OnOk, IsOkUnless, MatchOption};
-ghost use Rattle.gl_args.specs.Program.{given, then_left};
+ghost use Rattle.gl_client.specs.Program.{given, then_left};
 ghost use Rattle.gl_talk.specs.Open.{Names};
 ghost use Rattle.gl_talk.specs.Over.{columns_in, joined, talk_in};
 ghost use Rattle.gl_talk.specs.Talk.{Does, left, names_in, nothing_talked, talk, talked};
 
 use crate::talk::Talk;
-use gl_args::Next;
 use gl_base::{Do, Errno, Got};
+use gl_client::Next;
 use gl_script::Statement;
 use std::alloc::Global;
 
@@ -49,7 +49,7 @@ pub fn talk_over(
     Ok(over)
 }
 
-/// Goes on to the end of a statement, or of the talk, with the results from `at` on. It answers where the results behind
+/// Goes on to the end of a statement, or of the talk, with the results from `at` on. It answers where the results after
 /// it begin, or None where they were too few.
 fn finish(
     alloc: Global,

@@ -2,28 +2,29 @@
 ghost use Rattle.std.specs.Prelude.{◌≡◌, ◌+◌, ◌*◌, ◌<◌, ◌≤◌, ◌++◌, ◌∷◌, [], true, false, IfOk, OnOk, OnErr, IsOkUnless, option_copied};
 ghost use Rattle.gl_base.specs.Operation.{refusal, bytes_of};
 ghost use Rattle.gl_base.specs.Words.{text_at};
-ghost use Rattle.gl_args.specs.Program.{Goes, MatchNext, given, goes_on, waits, done, ask, then_left};
+ghost use Rattle.gl_client.specs.Program.{Goes, MatchNext, given, goes_on, waits, done, ask, then_left};
 ghost use Rattle.gl_args.specs.Tools.{tool_said};
 ghost use Rattle.gl_script.specs.Table.{keyword_of};
 ghost use Rattle.gl_values.specs.Client.{client_left};
 ghost use Rattle.gl_talk.specs.Open.{with_file};
-ghost use Rattle.gl_talk.specs.Plans.{planned};
+ghost use Rattle.gl_talk.specs.Actions.{action_of};
 ghost use Rattle.gl_talk.specs.Talk.{StaysBegun, StaysLeft, acts, closes_all, does, file, left, names_in, quits, refused, replied, runs, shows, slot_in, told, words_in};
 ghost use Rattle.gl_talk.specs.ToolWords.{word_texts};
 
+use crate::actions::{Action, ResultFormat, action_of};
 use crate::closing::slots_in_order;
-use crate::files::{FileKind, FileRow, remove_file};
+use crate::files::{TalkFile, TalkFileKind, remove_file};
 use crate::old::{made_kind_of, old_edges_text, old_structure_line};
-use crate::plans::{Plan, Reply, planned};
 use crate::replies::{
     edges_text, fd_text, infos_text, level_text, line_of, number_of, ready_text, structure_text,
     value_line,
 };
 use crate::talk::{Stage, Talk};
-use crate::tools::{Kind, kind_of, tool_of, usage_text};
+use crate::tools::{StatementKind, kind_of, tool_of, usage_text};
 use crate::words::{command_word, made_name, name_word, word};
-use gl_args::{ArgFault, Next};
+use gl_args::ArgFault;
 use gl_base::{ByteList, Do, Errno, Got};
+use gl_client::Next;
 use gl_script::keyword_of;
 use gl_values::Client;
 use std::alloc::Global;
@@ -74,29 +75,29 @@ impl Talk {
     {
         let keyword = keyword_of(word(0, &self.line));
         match kind_of(keyword) {
-            Kind::Plain => {
-                let plan = planned(alloc, keyword, &self.files, 2 * self.begun, &self.line)?;
-                self.act(alloc, &plan)
+            StatementKind::Plain => {
+                let action = action_of(alloc, keyword, &self.files, 2 * self.begun, &self.line)?;
+                self.act(alloc, &action)
             }
-            Kind::ToolAlone => self.start_tool(alloc),
-            Kind::Starting => self.start_held(alloc),
-            Kind::Stepping => self.step_held(alloc),
-            Kind::Stopping => self.stop_held(alloc),
+            StatementKind::ToolAlone => self.start_tool(alloc),
+            StatementKind::Starting => self.start_held(alloc),
+            StatementKind::Stepping => self.step_held(alloc),
+            StatementKind::Stopping => self.stop_held(alloc),
         }
     }
 
-    /// The first step of a plan.
-    fn act(&mut self, alloc: Global, plan: &Plan) -> Result<Next, Errno>
-        ensures goes { IfOk result (λ next. Goes (acts plan.now (names_in self.old) (slot_in self.old) (words_in self.old)) next (left self.new)) }
+    /// The first step of an action.
+    fn act(&mut self, alloc: Global, action: &Action) -> Result<Next, Errno>
+        ensures goes { IfOk result (λ next. Goes (acts action.now (names_in self.old) (slot_in self.old) (words_in self.old)) next (left self.new)) }
         ensures rests { IfOk result (λ next. MatchNext next (Unit {0}) (left self.new ≡ goes_on (done (names_in self.new)))) }
         ensures counted { OnOk result (self.new.begun ≡ self.old.begun) }
         ensures kept { OnErr result (self.new ≡ self.old) }
         ensures memory_alone { IsOkUnless result Errno.NoMemory }
     {
-        match plan {
-            Plan::Nothing => Ok(self.end()),
-            Plan::Refuse(errno) => self.refuse(alloc, *errno),
-            Plan::Ask(what, reply) => {
+        match action {
+            Action::Nothing => Ok(self.end()),
+            Action::Refuse(errno) => self.refuse(alloc, *errno),
+            Action::Ask(what, reply) => {
                 self.stage = Stage::Waiting(*reply);
                 Ok(Next::Call(*what))
             }
@@ -150,7 +151,7 @@ impl Talk {
     pub(crate) fn reply(
         &mut self,
         alloc: Global,
-        reply: Reply,
+        reply: ResultFormat,
         got: Option<&Got>,
     ) -> Result<Next, Errno>
         requires { self.old.begun ≤ 2147483647 }
@@ -172,7 +173,7 @@ impl Talk {
     }
 
     /// Tells a result that is no refusal.
-    fn tell(&mut self, alloc: Global, reply: Reply, got: &Got) -> Result<Next, Errno>
+    fn tell(&mut self, alloc: Global, reply: ResultFormat, got: &Got) -> Result<Next, Errno>
         requires { self.old.begun ≤ 2147483647 }
         ensures goes { IfOk result (λ next. Goes (told reply (names_in self.old) (slot_in self.old) (words_in self.old) got.now) next (left self.new)) }
         ensures rests { IfOk result (λ next. MatchNext next (Unit {0}) (left self.new ≡ goes_on (done (names_in self.new)))) }
@@ -181,22 +182,31 @@ impl Talk {
         ensures memory_alone { IsOkUnless result Errno.NoMemory }
     {
         let text = match reply {
-            Reply::Silent => return Ok(self.end()),
-            Reply::Opened => return self.opened(),
-            Reply::Closed => {
+            ResultFormat::Silent => return Ok(self.end()),
+            ResultFormat::Opened => return self.opened(),
+            ResultFormat::Closed => {
                 remove_file(&mut self.files, word(1, &self.line));
                 return Ok(self.end());
             }
-            Reply::Made => return self.made(alloc, got.bytes()),
-            Reply::OldMade => return self.old_made(alloc, got.bytes()),
-            Reply::OldBytes(kind) => old_structure_line(alloc, kind, &self.line, got.bytes())?,
-            Reply::OldEdges => old_edges_text(alloc, got.bytes())?,
-            Reply::Value => value_line(alloc, got)?,
-            Reply::Level(is_pull) => line_of(alloc, level_text(is_pull, number_of(got)))?,
-            Reply::Bytes => structure_text(alloc, command_word(word(2, &self.line)), got.bytes())?,
-            Reply::Edges => edges_text(alloc, got.bytes())?,
-            Reply::Infos => infos_text(alloc, got.bytes())?,
-            Reply::Ready => line_of(alloc, ready_text(got.ready()))?,
+            ResultFormat::Made => return self.made(alloc, got.bytes()),
+            ResultFormat::OldMade => return self.old_made(alloc, got.bytes()),
+            ResultFormat::OldBytes(kind) => old_structure_line(
+                alloc,
+                kind,
+                &self.line,
+                got.bytes(),
+            )?,
+            ResultFormat::OldEdges => old_edges_text(alloc, got.bytes())?,
+            ResultFormat::Value => value_line(alloc, got)?,
+            ResultFormat::Level(is_pull) => line_of(alloc, level_text(is_pull, number_of(got)))?,
+            ResultFormat::Bytes => structure_text(
+                alloc,
+                command_word(word(2, &self.line)),
+                got.bytes(),
+            )?,
+            ResultFormat::Edges => edges_text(alloc, got.bytes())?,
+            ResultFormat::Infos => infos_text(alloc, got.bytes())?,
+            ResultFormat::Ready => line_of(alloc, ready_text(got.ready()))?,
         };
         Ok(self.show(text))
     }
@@ -204,16 +214,16 @@ impl Talk {
     /// A chip's file was opened.
     fn opened(&mut self) -> Result<Next, Errno>
         requires { self.old.begun ≤ 2147483647 }
-        ensures goes { IfOk result (λ next. Goes (done (with_file (file (text_at 1 (words_in self.old)) (slot_in self.old) FileKind.Chip) (names_in self.old))) next (left self.new)) }
+        ensures goes { IfOk result (λ next. Goes (done (with_file (file (text_at 1 (words_in self.old)) (slot_in self.old) TalkFileKind.Chip) (names_in self.old))) next (left self.new)) }
         ensures rests { IfOk result (λ next. MatchNext next (Unit {0}) (left self.new ≡ goes_on (done (names_in self.new)))) }
         ensures counted { OnOk result (self.new.begun ≡ self.old.begun) }
         ensures kept { OnErr result (StaysLeft self.old self.new) }
         ensures memory_alone { IsOkUnless result Errno.NoMemory }
     {
-        self.files.push(FileRow {
+        self.files.push(TalkFile {
             name: name_word(word(1, &self.line)),
             slot: 2 * self.begun,
-            kind: FileKind::Chip,
+            kind: TalkFileKind::Chip,
         })?;
         Ok(self.end())
     }
@@ -221,17 +231,17 @@ impl Talk {
     /// A request was made.
     fn made(&mut self, alloc: Global, bytes: &[u8]) -> Result<Next, Errno>
         requires { self.old.begun ≤ 2147483647 }
-        ensures goes { IfOk result (λ next. Goes (told Reply.Made (names_in self.old) (slot_in self.old) (words_in self.old) (Got.Bytes bytes.now)) next (left self.new)) }
+        ensures goes { IfOk result (λ next. Goes (told ResultFormat.Made (names_in self.old) (slot_in self.old) (words_in self.old) (Got.Bytes bytes.now)) next (left self.new)) }
         ensures rests { IfOk result (λ next. MatchNext next (Unit {0}) (left self.new ≡ goes_on (done (names_in self.new)))) }
         ensures counted { OnOk result (self.new.begun ≡ self.old.begun) }
         ensures kept { OnErr result (StaysLeft self.old self.new) }
         ensures memory_alone { IsOkUnless result Errno.NoMemory }
     {
         let text = fd_text(alloc, bytes)?;
-        self.files.push(FileRow {
+        self.files.push(TalkFile {
             name: name_word(made_name(&self.line)),
             slot: 2 * self.begun,
-            kind: FileKind::Request,
+            kind: TalkFileKind::Request,
         })?;
         Ok(self.show(text))
     }
@@ -239,7 +249,7 @@ impl Talk {
     /// A file of the first uAPI was made.
     fn old_made(&mut self, alloc: Global, bytes: &[u8]) -> Result<Next, Errno>
         requires { self.old.begun ≤ 2147483647 }
-        ensures goes { IfOk result (λ next. Goes (told Reply.OldMade (names_in self.old) (slot_in self.old) (words_in self.old) (Got.Bytes bytes.now)) next (left self.new)) }
+        ensures goes { IfOk result (λ next. Goes (told ResultFormat.OldMade (names_in self.old) (slot_in self.old) (words_in self.old) (Got.Bytes bytes.now)) next (left self.new)) }
         ensures rests { IfOk result (λ next. MatchNext next (Unit {0}) (left self.new ≡ goes_on (done (names_in self.new)))) }
         ensures counted { OnOk result (self.new.begun ≡ self.old.begun) }
         ensures kept { OnErr result (StaysLeft self.old self.new) }
@@ -247,7 +257,7 @@ impl Talk {
     {
         let text = fd_text(alloc, bytes)?;
         let kind = made_kind_of(alloc, &self.line)?;
-        self.files.push(FileRow {
+        self.files.push(TalkFile {
             name: name_word(made_name(&self.line)),
             slot: 2 * self.begun,
             kind,

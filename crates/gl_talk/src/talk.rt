@@ -1,16 +1,16 @@
 //! Statements one after the other.
 ghost use Rattle.std.specs.Prelude.{◌≡◌, ◌+◌, ◌*◌, ◌<◌, ◌≤◌, [], ◌∷◌, List, IfOk, OnOk, OnErr, IsOkUnless, option_copied};
-ghost use Rattle.gl_args.specs.Program.{Goes, MatchNext, given, goes_on, done, then_left};
+ghost use Rattle.gl_client.specs.Program.{Goes, MatchNext, given, goes_on, done, then_left};
 ghost use Rattle.gl_base.specs.Words.{Span};
 ghost use Rattle.gl_script.specs.Columns.{columns};
 ghost use Rattle.gl_talk.specs.Open.{Names, file_of, is_chip_file, no_names};
 ghost use Rattle.gl_talk.specs.Talk.{Does, does, left, names_in, quits, slot_behind, talk_left, talks};
 
-use crate::files::{FileRow, file_of, is_chip};
+use crate::actions::ResultFormat;
+use crate::files::{TalkFile, file_of, is_chip};
 use crate::held::{MonitorRow, SetRow};
-use crate::plans::Reply;
-use gl_args::Next;
 use gl_base::{Errno, Got};
+use gl_client::Next;
 use gl_monitor::Monitor;
 use gl_values::Client;
 use std::alloc::Global;
@@ -23,7 +23,7 @@ pub enum Stage {
     /// A statement was begun.
     Begun,
     /// The result of its operation is awaited, which is then told in this way.
-    Waiting(Reply),
+    Waiting(ResultFormat),
     /// A tool runs as a statement of its own.
     Running,
     /// A gpioset is started or stopped.
@@ -43,7 +43,7 @@ pub struct Talk {
     /// The line of the statement that is under way.
     pub line: Vec<u8>,
     /// The open files, in the order in which they were opened.
-    pub files: Vec<FileRow>,
+    pub files: Vec<TalkFile>,
     /// The gpiosets that were started and hold their requests.
     pub sets: Vec<SetRow>,
     /// The monitors that were started and watch their lines.
@@ -118,8 +118,8 @@ impl Talk {
 
     /// What it does next. `got` is the result of the operation that it asked for last, if it asked for one. End means
     /// that the statement is done, or that all files are closed; the names that are there then are said by what is
-    /// left. With anything that may come behind it, it is what the whole does next; so with the talk's further statements.
-    /// Where memory is wanted, what is left is what was left: no tool and no file is lost, and it may be called again with the same
+    /// left. With anything that may come after it, it is what the whole does next; so with the talk's further statements.
+    /// When out of memory, what is left is what was left: no tool and no file is lost, and it may be called again with the same
     /// result. (`quit` gives up a statement that is under way: let it come to its end before.)
     pub fn next(&mut self, alloc: Global, got: Option<&Got>) -> Result<Next, Errno>
         requires { self.old.begun ≤ 2147483647 }

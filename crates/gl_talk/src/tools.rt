@@ -16,7 +16,7 @@ use std::alloc::Global;
 
 /// What kind of statement a word begins.
 #[derive(Clone, Copy, PartialEq, Eq, Debug)]
-pub enum Kind {
+pub enum StatementKind {
     /// It asks for one operation at most.
     Plain,
     /// It is a tool's own.
@@ -30,17 +30,17 @@ pub enum Kind {
 }
 
 /// The kind of the statement that a keyword begins.
-pub fn kind_of(keyword: Option<Keyword>) -> Kind
+pub fn kind_of(keyword: Option<Keyword>) -> StatementKind
     ensures { result ≡ kind_of keyword }
 {
     let Some(keyword) = keyword else {
-        return Kind::Plain;
+        return StatementKind::Plain;
     };
     match keyword {
-        Keyword::Detect | Keyword::Info | Keyword::Get | Keyword::Set => Kind::ToolAlone,
-        Keyword::Start => Kind::Starting,
-        Keyword::Step => Kind::Stepping,
-        Keyword::Stop => Kind::Stopping,
+        Keyword::Detect | Keyword::Info | Keyword::Get | Keyword::Set => StatementKind::ToolAlone,
+        Keyword::Start => StatementKind::Starting,
+        Keyword::Step => StatementKind::Stepping,
+        Keyword::Stop => StatementKind::Stopping,
         Keyword::Probe
         | Keyword::Unplug
         | Keyword::MakeDir
@@ -59,7 +59,7 @@ pub fn kind_of(keyword: Option<Keyword>) -> Kind
         | Keyword::OldEvents
         | Keyword::Changes
         | Keyword::Poll
-        | Keyword::Close => Kind::Plain,
+        | Keyword::Close => StatementKind::Plain,
     }
 }
 
@@ -105,7 +105,7 @@ fn words_of(alloc: Global, line: &[u8]) -> Result<Vec<&[u8]>, Errno>
     words_in(alloc, 1, line)
 }
 
-/// The words of a `start` behind its name: the tool's.
+/// The words of a `start` after its name: the tool's.
 fn started_words(alloc: Global, line: &[u8]) -> Result<Vec<&[u8]>, Errno>
     ensures ok { IfOk result (λ words. texts words.items ≡ word_texts (behind_two (columns line.now))) }
     ensures memory_alone { IsOkUnless result Errno.NoMemory }

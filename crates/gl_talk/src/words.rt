@@ -162,7 +162,7 @@ pub struct Rest<'a> {
     pub line: &'a [u8],
 }
 
-/// What is left behind the first two words.
+/// What is left after the first two words.
 pub fn behind_two(line: &[u8]) -> Rest<'_>
     ensures words { words_at result.at result.line.now ≡ behind_two (columns line.now) }
     ensures within { result.at + length result.line.now ≤ 1 + length line.now }
@@ -178,7 +178,7 @@ pub fn behind_two(line: &[u8]) -> Rest<'_>
     Rest { at: 0, line: &[] }
 }
 
-/// What is left behind the first three words.
+/// What is left after the first three words.
 fn behind_three(line: &[u8]) -> Rest<'_>
     ensures words { words_at result.at result.line.now ≡ behind_three (columns line.now) }
     ensures within { result.at + length result.line.now ≤ 1 + length line.now }
@@ -224,7 +224,7 @@ fn bytes_in(alloc: Global, at: usize, line: &[u8]) -> Result<Vec<u8>, Errno>
     Ok(bytes)
 }
 
-/// The name behind `as` in a command's statement.
+/// The name after `as` in a command's statement.
 pub fn made_name(line: &[u8]) -> &[u8]
     ensures { result.now ≡ made_name (columns line.now) }
 {
@@ -248,7 +248,7 @@ fn name_in(at: usize, line: &[u8]) -> &[u8]
     &[]
 }
 
-/// The first 592 bytes, and zeros behind them.
+/// The first 592 bytes, and zeros after them.
 pub fn first_bytes(bytes: &[u8]) -> [u8; 592]
     ensures { result ≡ padded 592 (take 592 bytes.now) }
 {

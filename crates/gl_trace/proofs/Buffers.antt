@@ -27,7 +27,7 @@ guess_zeros (suc j) m text =
     let one : suc j + m ≡ suc (j + m) = omega arith in
     ap (λ n. guess n (suc j) text) one ∙ ap (λ (x : Next). x.byte ∷ guess (j + m) x.zeros x.rest) (one_zero j text) ∙ ap (λ t. 0 ∷ t) (guess_zeros j m text)
 
--- zeros at the front, and what is behind
+-- zeros at the front, and what is after
 run_splits : (bytes : List ℕ) → bytes ≡ replicate (zero_run bytes) 0 ++ drop (zero_run bytes) bytes
 run_splits [] = refl
 run_splits (byte ∷ bytes) = by_test (byte == 0) refl (run_splits bytes)
@@ -71,7 +71,7 @@ zero_run_fits (byte ∷ bytes) = by_test (byte == 0) (zero_run_fits bytes)
     by_test true h = omega (arith, h)
     by_test false h = omega arith
 
--- behind a run
+-- after a run
 run_rest : (rest text : List ℕ) → RightFor rest → (left : List ℕ) × ((blank_before rest ++ byte_words false rest) ++ (32 ∷ text) ≡ 32 ∷ left) × (guess (length rest) 0 left ≡ rest)
 run_rest [] text h = (text, refl, refl)
 run_rest (byte ∷ rest) text h = (byte_words false (byte ∷ rest) ++ (32 ∷ text), refl, h text)
@@ -94,7 +94,7 @@ run_right bytes long small h k e = λ text.
     ∙ ap (λ t. 0 ∷ t) (guess_zeros k (length rest) behind.0 ∙ ap (λ t. replicate k 0 ++ t) behind.2)
     ∙ ap (λ n. replicate n 0 ++ rest) (sym e) ∙ sym split
 
--- behind a byte that is in no long run
+-- after a byte that is in no long run
 after_byte : (more text : List ℕ) → RightFor more → (mark : ℕ) × (left : List ℕ) × ((blank_if (has_long_run more) ++ byte_words false more) ++ (32 ∷ text) ≡ mark ∷ left) × (mark ≢ 42) × (guess (length more) 0 (unblank (mark ∷ left)) ≡ more)
 after_byte [] text h = (32, text, refl, (λ e. absurd (omega arith)), refl)
 after_byte (byte ∷ more) text h = by_test (has_long_run (byte ∷ more)) refl

@@ -7,8 +7,8 @@ use Rattle.gl_base.specs.Decimal.{decimal}
 use Rattle.gl_model.specs.declared.call.Call.TheVariants.{Ioctl}
 use Rattle.gl_model.specs.declared.call.Part.{Part}
 use Rattle.gl_model.specs.declared.call.Part.TheVariants.{Whole, Ask, Tell}
-use Rattle.gl_trace.specs.declared.verb.Asked.{Asked}
-use Rattle.gl_trace.specs.declared.verb.Asked.TheVariants.{Whole as WholeAsked, Ask as AskAsked, Tell as TellAsked}
+use Rattle.gl_trace.specs.declared.verb.CommandPart.{CommandPart}
+use Rattle.gl_trace.specs.declared.verb.CommandPart.TheVariants.{Whole as WholePart, Ask as AskPart, Tell as TellPart}
 use Rattle.gl_trace.specs.declared.verb.Verb.TheVariants.{Ioctl as IoctlVerb, Ask as AskVerb, Tell as TellVerb}
 use Rattle.gl_trace.specs.BufferRead.{whole_guess}
 use Rattle.gl_trace.specs.CallRead.{n8, n32, of_four}
@@ -37,7 +37,7 @@ header_back place fd cmd len text p q r s =
     ∙ ap (λ o. of_four (Some place) (Some fd) (Some cmd) o header) (f32.back len s)
 
 -- the bytes are read
-bytes_back : (h : Header) (asked : Asked) (bytes text : List ℕ) → length bytes ≡ 592 → AreBytes bytes → IsTrue (list_all (λ byte. byte == 0) (drop h.len bytes))
+bytes_back : (h : Header) (asked : CommandPart) (bytes text : List ℕ) → length bytes ≡ 592 → AreBytes bytes → IsTrue (list_all (λ byte. byte == 0) (drop h.len bytes))
     → with_bytes h asked (bytes_text (take h.len bytes) ++ (32 ∷ text)) ≡ in_part h bytes asked text
 bytes_back h asked bytes text size are zeros =
     let b = bytes_text (take h.len bytes) in
@@ -45,7 +45,7 @@ bytes_back h asked bytes text size are zeros =
     ∙ ap (filled h bytes asked) (stripped_back b (32 ∷ text))
     ∙ ap (unblanked h bytes asked) (stripped_back (codes " ") text)
 
-module _ (reads : Option Fields → Option Called) (asked : Asked) (is : (f : Fields) → reads (Some f) ≡ command_in (header_of f) asked f.rest) where
+module _ (reads : Option Fields → Option Called) (asked : CommandPart) (is : (f : Fields) → reads (Some f) ≡ command_in (header_of f) asked f.rest) where
   asked_back : (place fd cmd len : ℕ) (bytes text : List ℕ) (part : Part) → IsTypedCommand place fd cmd len bytes part → IsTrue (list_all (λ byte. byte == 0) (drop len bytes))
       → reads (four_of (before (numbers place fd cmd len) (bytes_text (take len bytes) ++ (32 ∷ text)))) ≡ in_part (header place fd cmd len) bytes asked text
   asked_back place fd cmd len bytes text part t zeros =
@@ -62,39 +62,39 @@ reading (word ∷ words) text = called_in word (before words text)
 
 pub command_back : (place fd cmd len : ℕ) (bytes : List ℕ) (part : Part) → IsTypedCommand place fd cmd len bytes part → IsTrue (list_all (λ byte. byte == 0) (drop len bytes)) → (text : List ℕ)
     → reading (command_words place fd cmd len bytes part) text ≡ Some (called (Ioctl place fd cmd len bytes part) text)
-command_back place fd cmd len bytes Whole t zeros text = asked_back (by_fields IoctlVerb) WholeAsked (λ f. refl) place fd cmd len bytes text Whole t zeros
-command_back place fd cmd len bytes Ask t zeros text = asked_back (by_fields AskVerb) AskAsked (λ f. refl) place fd cmd len bytes text Ask t zeros
+command_back place fd cmd len bytes Whole t zeros text = asked_back (by_fields IoctlVerb) WholePart (λ f. refl) place fd cmd len bytes text Whole t zeros
+command_back place fd cmd len bytes Ask t zeros text = asked_back (by_fields AskVerb) AskPart (λ f. refl) place fd cmd len bytes text Ask t zeros
 command_back place fd cmd len bytes (Tell answer) t zeros text =
     let h = header place fd cmd len in
-    asked_back (by_fields TellVerb) TellAsked (λ f. refl) place fd cmd len bytes (answer_word answer ++ (32 ∷ text)) (Tell answer) t zeros
+    asked_back (by_fields TellVerb) TellPart (λ f. refl) place fd cmd len bytes (answer_word answer ++ (32 ∷ text)) (Tell answer) t zeros
     ∙ ap (told h bytes) (answer_field.whole answer t.part_fits text) ∙ ap (λ o. told_by h bytes o text) (answer_field.back answer t.part_fits)
 
 -- the other way
 
 -- the bytes were read
-abbrev IsFilled : Header → Asked → List ℕ → Called → Type 0
+abbrev IsFilled : Header → CommandPart → List ℕ → Called → Type 0
 IsFilled h asked text got = (bytes : List ℕ) × (rest : List ℕ) × (text ≡ bytes_text (take h.len bytes) ++ (32 ∷ rest)) × (in_part h bytes asked rest ≡ Some got) × IsTrue (list_all (λ byte. byte == 0) (drop h.len bytes))
 
-blank_read : (h : Header) (bytes text rest : List ℕ) (asked : Asked) (got : Called) (o : Option (List ℕ)) → text ≡ bytes_text (take h.len bytes) ++ rest → stripped (codes " ") rest ≡ o → unblanked h bytes asked o ≡ Some got
+blank_read : (h : Header) (bytes text rest : List ℕ) (asked : CommandPart) (got : Called) (o : Option (List ℕ)) → text ≡ bytes_text (take h.len bytes) ++ rest → stripped (codes " ") rest ≡ o → unblanked h bytes asked o ≡ Some got
     → IsTrue (list_all (λ byte. byte == 0) (drop h.len bytes)) → IsFilled h asked text got
 blank_read h bytes text rest asked got None s p e z = cc
 blank_read h bytes text rest asked got (Some left) s p e z = (bytes, left, s ∙ ap (λ t. bytes_text (take h.len bytes) ++ t) (stripped_same (codes " ") rest left p), e, z)
 
-bytes_read : (h : Header) (bytes text : List ℕ) (asked : Asked) (got : Called) (o : Option (List ℕ)) → stripped (bytes_text (take h.len bytes)) text ≡ o → filled h bytes asked o ≡ Some got
+bytes_read : (h : Header) (bytes text : List ℕ) (asked : CommandPart) (got : Called) (o : Option (List ℕ)) → stripped (bytes_text (take h.len bytes)) text ≡ o → filled h bytes asked o ≡ Some got
     → IsTrue (list_all (λ byte. byte == 0) (drop h.len bytes)) → IsFilled h asked text got
 bytes_read h bytes text asked got None p e z = cc
 bytes_read h bytes text asked got (Some rest) p e z = blank_read h bytes text rest asked got (stripped (codes " ") rest) (stripped_same (bytes_text (take h.len bytes)) text rest p) refl e z
 
-bytes_same : (h : Header) (text : List ℕ) (asked : Asked) (got : Called) → with_bytes h asked text ≡ Some got → IsFilled h asked text got
+bytes_same : (h : Header) (text : List ℕ) (asked : CommandPart) (got : Called) → with_bytes h asked text ≡ Some got → IsFilled h asked text got
 bytes_same h text asked got e =
     let bytes = whole_guess (min h.len 592) text in
     bytes_read h bytes text asked got (stripped (bytes_text (take h.len bytes)) text) refl e (guess_zeros_past h.len text)
 
 -- the numbers were read
-abbrev IsHeaded : Asked → List ℕ → Called → Type 0
+abbrev IsHeaded : CommandPart → List ℕ → Called → Type 0
 IsHeaded asked text got = (h : Header) × (rest : List ℕ) × (text ≡ before (numbers h.place h.fd h.cmd h.len) rest) × (with_bytes h asked rest ≡ Some got)
 
-header_read : (asked : Asked) (text : List ℕ) (f : Fields) (got : Called) (a b c d : Option ℕ) → n8 f.first ≡ a → n32 f.second ≡ b → hex_of f.third ≡ c → n32 f.fourth ≡ d
+header_read : (asked : CommandPart) (text : List ℕ) (f : Fields) (got : Called) (a b c d : Option ℕ) → n8 f.first ≡ a → n32 f.second ≡ b → hex_of f.third ≡ c → n32 f.fourth ≡ d
     → command_in (of_four a b c d header) asked f.rest ≡ Some got → text ≡ before (f.first ∷ f.second ∷ f.third ∷ f.fourth ∷ []) f.rest → IsHeaded asked text got
 header_read asked text f got None b c d p q r s e h = cc
 header_read asked text f got (Some w) None c d p q r s e h = cc
@@ -108,7 +108,7 @@ header_read asked text f got (Some w) (Some x) (Some y) (Some z) p q r s e h = (
   e,
 )
 
-module _ (reads : Option Fields → Option Called) (asked : Asked) (none : reads None ≡ None) (is : (f : Fields) → reads (Some f) ≡ command_in (header_of f) asked f.rest) where
+module _ (reads : Option Fields → Option Called) (asked : CommandPart) (none : reads None ≡ None) (is : (f : Fields) → reads (Some f) ≡ command_in (header_of f) asked f.rest) where
   headed : (text : List ℕ) (got : Called) → reads (four_of text) ≡ Some got → IsHeaded asked text got
   headed text got e = by_fields_of (four_of text) refl e
     where
@@ -138,18 +138,18 @@ told_read h bytes text left got (Some f) s p e z = by_answer (answer_of f.word) 
 
 pub whole_same : (text : List ℕ) (got : Called) → by_fields IoctlVerb (four_of text) ≡ Some got → IsTextOf (codes "ioctl") text got
 whole_same text got e =
-    let head = headed (by_fields IoctlVerb) WholeAsked refl (λ f. refl) text got e in
-    let fill = bytes_same head.0 head.1 WholeAsked got head.3 in
+    let head = headed (by_fields IoctlVerb) WholePart refl (λ f. refl) text got e in
+    let fill = bytes_same head.0 head.1 WholePart got head.3 in
     written (codes "ioctl") Whole head.0 fill.0 text fill.1 fill.1 got fill.3 (head.2 ∙ ap (before (numbers head.0.place head.0.fd head.0.cmd head.0.len)) fill.2) refl refl fill.4
 
 pub ask_same : (text : List ℕ) (got : Called) → by_fields AskVerb (four_of text) ≡ Some got → IsTextOf (codes "ask") text got
 ask_same text got e =
-    let head = headed (by_fields AskVerb) AskAsked refl (λ f. refl) text got e in
-    let fill = bytes_same head.0 head.1 AskAsked got head.3 in
+    let head = headed (by_fields AskVerb) AskPart refl (λ f. refl) text got e in
+    let fill = bytes_same head.0 head.1 AskPart got head.3 in
     written (codes "ask") Ask head.0 fill.0 text fill.1 fill.1 got fill.3 (head.2 ∙ ap (before (numbers head.0.place head.0.fd head.0.cmd head.0.len)) fill.2) refl refl fill.4
 
 pub tell_same : (text : List ℕ) (got : Called) → by_fields TellVerb (four_of text) ≡ Some got → IsTextOf (codes "tell") text got
 tell_same text got e =
-    let head = headed (by_fields TellVerb) TellAsked refl (λ f. refl) text got e in
-    let fill = bytes_same head.0 head.1 TellAsked got head.3 in
+    let head = headed (by_fields TellVerb) TellPart refl (λ f. refl) text got e in
+    let fill = bytes_same head.0 head.1 TellPart got head.3 in
     told_read head.0 fill.0 text fill.1 got (front_of fill.1) (head.2 ∙ ap (before (numbers head.0.place head.0.fd head.0.cmd head.0.len)) fill.2) refl fill.3 fill.4

@@ -11,7 +11,7 @@ use Rattle.gl_trace.proofs.Fields.{both_true}
 use Rattle.gl_trace.proofs.Stripping.{starts_complete}
 use Rattle.gl_trace.proofs.TextPieces.{printable_other}
 
--- the code goes forwards: a place behind another one
+-- the code goes forwards: a place after another one
 abbrev pub shifted : ℕ → Option ℕ → Option ℕ
 shifted at None = None
 shifted at (Some k) = Some (at + k)
@@ -84,7 +84,7 @@ starts_there starts (byte ∷ text) at e = by (last_head (byte == 10) text) (is_
 pub whole_lines : (output : List ℕ) (at : ℕ) → last_head true output ≡ Some at → ends_lines (take at output) ≡ true
 whole_lines output at e = starts_ends (take at output) ∙ starts_there true output at e
 
--- a text whose last such line is its first, behind whole lines
+-- a text whose last such line is its first, after whole lines
 
 behind : (starts : Bool) (front text : List ℕ) (at : ℕ) → last_head (starts_line starts front) text ≡ Some at → last_head starts (front ++ text) ≡ Some (length front + at)
 behind starts [] text at e = let none : at ≡ 0 + at = omega arith in e ∙ ap Some none

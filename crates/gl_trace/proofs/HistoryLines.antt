@@ -36,7 +36,7 @@ counted_first line front head (next ∷ more) has = refl
 pub head_with_end : (text head rest front : List ℕ) (line : ℕ) → pieces 10 text ≡ head ∷ pieces 10 rest → history_from line front (pieces 10 text) ≡ counted line front (count_told head) (pieces 10 rest)
 head_with_end text head rest front line e = ap (history_from line front) e ∙ counted_first line front head (pieces 10 rest) (has_first 10 rest)
 
--- what is left behind the entries
+-- what is left after the entries
 
 onto_left : (line index byte : ℕ) (found : List (List ℕ)) → lines_read line index 0 (onto_first byte found) ≡ Broken line
 onto_left line index byte [] = refl

@@ -4,7 +4,7 @@ use Rattle.std.specs.Prelude.{Result, Ok, Err}
 use Rattle.gl_base.specs.declared.errno.Errno.{Errno}
 use Rattle.gl_trace.specs.Words.{before}
 
--- what comes behind words is behind the last blank
+-- what comes after words is after the last blank
 pub before_then : (words : List (List ℕ)) (text : List ℕ) → before words [] ++ text ≡ before words text
 before_then [] text = refl
 before_then (word ∷ words) text = append_assoc word (32 ∷ before words []) text ∙ ap (λ t. word ++ (32 ∷ t)) (before_then words text)

@@ -32,7 +32,7 @@ run_next (Some f) = next 0 (or_zero (plain_number_of_text f.word) - 1) f.rest
 abbrev pub pair_next : ℕ → ℕ → List ℕ → Next
 pair_next high low rest = next (or_zero (pair_byte (hex_value high) (hex_value low))) 0 (unblank rest)
 
--- the byte at the front of a text: of a run, which has a star (42) behind its pair, or of a pair
+-- the byte at the front of a text: of a run, which has a star (42) after its pair, or of a pair
 abbrev pub next_of : List ℕ → Next
 next_of text =
     if nat_lt (length text) 3 then next 0 0 []

@@ -6,8 +6,8 @@ use Rattle.gl_model.specs.declared.call.Call.TheVariants.{Ioctl}
 use Rattle.gl_model.specs.declared.call.Part.{Part}
 use Rattle.gl_model.specs.declared.call.Part.TheVariants.{Whole, Ask, Tell}
 use Rattle.gl_model.specs.declared.reply.Reply.{Reply}
-use Rattle.gl_trace.specs.declared.verb.Asked.{Asked}
-use Rattle.gl_trace.specs.declared.verb.Asked.TheVariants.{Whole as WholeAsked, Ask as AskAsked, Tell as TellAsked}
+use Rattle.gl_trace.specs.declared.verb.CommandPart.{CommandPart}
+use Rattle.gl_trace.specs.declared.verb.CommandPart.TheVariants.{Whole as WholePart, Ask as AskPart, Tell as TellPart}
 use Rattle.gl_trace.specs.declared.verb.Verb.{Verb}
 use Rattle.gl_trace.specs.BufferRead.{whole_guess}
 use Rattle.gl_trace.specs.CallRead.{call_of, n8, n32, of_four}
@@ -30,7 +30,7 @@ header place fd cmd len = record { place = place; fd = fd; cmd = cmd; len = len 
 abbrev pub header_of : Fields → Option Header
 header_of f = of_four (n8 f.first) (n32 f.second) (hex_of f.third) (n32 f.fourth) header
 
--- a call, and what stands behind its words
+-- a call, and what stands after its words
 pub record Called : Type 0 where
   pub call : Call
   pub rest : List ℕ
@@ -54,30 +54,30 @@ told h bytes None = None
 told h bytes (Some f) = told_by h bytes (answer_of f.word) f.rest
 
 -- the part of a command
-abbrev pub in_part : Header → List ℕ → Asked → List ℕ → Option Called
-in_part h bytes WholeAsked rest = Some (called (command h bytes Whole) rest)
-in_part h bytes AskAsked rest = Some (called (command h bytes Ask) rest)
-in_part h bytes TellAsked rest = told h bytes (front_of rest)
+abbrev pub in_part : Header → List ℕ → CommandPart → List ℕ → Option Called
+in_part h bytes WholePart rest = Some (called (command h bytes Whole) rest)
+in_part h bytes AskPart rest = Some (called (command h bytes Ask) rest)
+in_part h bytes TellPart rest = told h bytes (front_of rest)
 
-abbrev pub unblanked : Header → List ℕ → Asked → Option (List ℕ) → Option Called
+abbrev pub unblanked : Header → List ℕ → CommandPart → Option (List ℕ) → Option Called
 unblanked h bytes asked None = None
 unblanked h bytes asked (Some rest) = in_part h bytes asked rest
 
-abbrev pub filled : Header → List ℕ → Asked → Option (List ℕ) → Option Called
+abbrev pub filled : Header → List ℕ → CommandPart → Option (List ℕ) → Option Called
 filled h bytes asked None = None
 filled h bytes asked (Some rest) = unblanked h bytes asked (stripped (codes " ") rest)
 
--- the bytes of a command, and what stands behind them; `text` is what stands behind its numbers
-abbrev pub with_bytes : Header → Asked → List ℕ → Option Called
+-- the bytes of a command, and what stands after them; `text` is what stands after its numbers
+abbrev pub with_bytes : Header → CommandPart → List ℕ → Option Called
 with_bytes h asked text =
     let bytes = whole_guess (min h.len 592) text in
     filled h bytes asked (stripped (bytes_text (take h.len bytes)) text)
 
-abbrev pub command_in : Option Header → Asked → List ℕ → Option Called
+abbrev pub command_in : Option Header → CommandPart → List ℕ → Option Called
 command_in None asked text = None
 command_in (Some h) asked text = with_bytes h asked text
 
-abbrev pub by_asked : Option Asked → Verb → Fields → Option Called
+abbrev pub by_asked : Option CommandPart → Verb → Fields → Option Called
 by_asked None verb f = plainly (call_of verb f) f.rest
 by_asked (Some asked) verb f = command_in (header_of f) asked f.rest
 

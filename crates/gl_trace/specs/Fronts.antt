@@ -1,9 +1,9 @@
--- The words at the front of a text, each with a blank (32) behind it. This project's choice.
+-- The words at the front of a text, each with a blank (32) after it. This project's choice.
 use Rattle.std.specs.Prelude.{ℕ, ◌==◌, if◌then◌else◌, List, [], ◌∷◌, Option, Some, None}
 use Rattle.gl_trace.specs.declared.verb.Count.{Count}
 use Rattle.gl_trace.specs.declared.verb.Count.TheVariants.{One, Two, Three, Four}
 
--- a word, and what stands behind its blank
+-- a word, and what stands after its blank
 pub record Front : Type 0 where
   pub word : List ℕ
   pub rest : List ℕ
@@ -20,7 +20,7 @@ abbrev pub front_of : List ℕ → Option Front
 front_of [] = None
 front_of (byte ∷ bytes) = if byte == 32 then Some (front [] bytes) else onto_front byte (front_of bytes)
 
--- up to four words, and what stands behind them
+-- up to four words, and what stands after them
 pub record Fields : Type 0 where
   pub first : List ℕ
   pub second : List ℕ

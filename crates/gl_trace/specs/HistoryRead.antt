@@ -1,5 +1,5 @@
 -- The history at the end of an output, read: the last line that begins with `== history ` tells how many entries there are, and these
--- stand in the lines behind it, one a line and nothing more. Every line ends with 0x0A. This project's choice.
+-- stand in the lines after it, one a line and nothing more. Every line ends with 0x0A. This project's choice.
 use Rattle.std.specs.Prelude.{◌≡◌, ℕ, zero, suc, ◌+◌, ◌≤◌, Bool, true, false, ◌&&◌, ◌==◌, nat_eq, if◌then◌else◌, List, [], ◌∷◌, ◌++◌, length, take, drop, option_map, Option, None, Some, codes}
 use Rattle.std.specs.List.{starts_with}
 use Rattle.gl_base.specs.TextLines.{ends_lines}
@@ -42,7 +42,7 @@ abbrev pub line_count : List (List ℕ) → ℕ
 line_count [] = 0
 line_count (line ∷ more) = one_line line more + line_count more
 
--- the number of the line behind a text's, counted from 1
+-- the number of the line after a text's, counted from 1
 abbrev pub next_line : List ℕ → ℕ
 next_line text = line_count (pieces 10 text) + 1
 
@@ -68,7 +68,7 @@ abbrev pub behind_line : ℕ → Option OneEntry → Lines → Lines
 behind_line line None more = Broken line
 behind_line line (Some e) more = in_front (e ∷ []) more
 
--- The lines from the one of this number on, which are to be just so many entries from this index on. What stands behind the last end of
+-- The lines from the one of this number on, which are to be just so many entries from this index on. What stands after the last end of
 -- a line is the last piece: there is nothing, or it is a line without its end.
 abbrev pub lines_read : ℕ → ℕ → ℕ → List (List ℕ) → Lines
 lines_read line index zero ([] ∷ []) = Whole []
@@ -106,16 +106,16 @@ abbrev pub history_by : Option ℕ → List ℕ → History
 history_by None output = Bad (next_line output)
 history_by (Some at) output = history_from (next_line (take at output)) (take at output) (pieces 10 (drop at output))
 
--- the history at the end of an output; where no line begins so, the line behind the last one is missing
+-- the history at the end of an output; where no line begins so, the line after the last one is missing
 abbrev pub history_in : List ℕ → History
 history_in output = history_by (last_head true output) output
 
--- What is written is read: behind whole lines a history's text is read as it is, where it isn't longer than a session's may be.
+-- What is written is read: after whole lines a history's text is read as it is, where it isn't longer than a session's may be.
 abbrev pub HistoriesAreReadBack : Type 0
 HistoriesAreReadBack = (front : List ℕ) (history : List OneEntry) → ends_lines front ≡ true → length history ≤ COST_MAX → AreTold 0 history
     → history_in (front ++ history_text history) ≡ Good front history
 
--- And what is read is what would be written: whole lines, and behind them the text of no more entries than a session may cost.
+-- And what is read is what would be written: whole lines, and after them the text of no more entries than a session may cost.
 abbrev pub HistoriesAreReadAlone : Type 0
 HistoriesAreReadAlone = (output front : List ℕ) (history : List OneEntry) → history_in output ≡ Good front history
     → (output ≡ front ++ history_text history) × (ends_lines front ≡ true) × (length history ≤ COST_MAX)

@@ -5,7 +5,7 @@ use Rattle.std.specs.Str.{bytes_eq}
 use Rattle.gl_base.specs.BytesText.{pair}
 use Rattle.gl_base.specs.Words.{is_nonempty}
 
--- a byte that is written as it is: from `!` (33) to `~` (126), but for `\` (92)
+-- a byte that is written as it is: from `!` (33) to `~` (126), except for `\` (92)
 abbrev pub is_plain_byte : ℕ → Bool
 is_plain_byte byte = nat_le 33 byte && (nat_le byte 126 && not (byte == 92))
 

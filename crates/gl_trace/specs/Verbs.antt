@@ -1,8 +1,8 @@
 -- The words with which the texts of calls begin. This project's choice.
 use Rattle.std.specs.Prelude.{ℕ, Bool, List, Option, find, Some, None, codes}
 use Rattle.std.specs.Str.{bytes_eq}
-use Rattle.gl_trace.specs.declared.verb.Asked.{Asked}
-use Rattle.gl_trace.specs.declared.verb.Asked.TheVariants.{Whole, Ask as AskPart, Tell as TellPart}
+use Rattle.gl_trace.specs.declared.verb.CommandPart.{CommandPart}
+use Rattle.gl_trace.specs.declared.verb.CommandPart.TheVariants.{Whole, Ask as AskPart, Tell as TellPart}
 use Rattle.gl_trace.specs.declared.verb.Count.{Count}
 use Rattle.gl_trace.specs.declared.verb.Count.TheVariants.{One, Two, Three, Four}
 use Rattle.gl_trace.specs.declared.verb.TheConstants.{VERBS}
@@ -51,7 +51,7 @@ is_verb word verb = bytes_eq (verb_word verb) word
 abbrev pub verb_of : List ℕ → Option Verb
 verb_of word = find (is_verb word) VERBS
 
--- how many words stand behind it, before the bytes of a command
+-- how many words stand after it, before the bytes of a command
 abbrev pub verb_count : Verb → Count
 verb_count Probe = Three
 verb_count Unplug = Two
@@ -87,7 +87,7 @@ verb_count Close = One
 verb_count Refused = Two
 
 -- the part of a command that it is of, if it is of one
-abbrev pub asked_of : Verb → Option Asked
+abbrev pub asked_of : Verb → Option CommandPart
 asked_of Ioctl = Some Whole
 asked_of Ask = Some AskPart
 asked_of Tell = Some TellPart

@@ -9,7 +9,7 @@ use Rattle.gl_base.specs.declared.kind.Kind.{Kind}
 use Rattle.gl_base.specs.declared.kind.Kind.TheVariants.{Simulated, Remote}
 use Rattle.gl_trace.specs.TextWord.{is_plain}
 
--- what stands behind a text, if it is at the front
+-- what stands after a text, if it is at the front
 abbrev pub stripped : List ℕ → List ℕ → Option (List ℕ)
 stripped front text = if starts_with nat_eq text front then Some (drop (length front) text) else None
 

@@ -2,7 +2,7 @@
 use Rattle.std.specs.Prelude.{ℕ, ◌/◌, ◌%◌, ◌^◌, List, [], ◌∷◌, ◌++◌, codes}
 use Rattle.gl_base.specs.BytesText.{pair}
 
--- words with a blank (32) behind each, and then a text
+-- words with a blank (32) after each, and then a text
 abbrev pub before : List (List ℕ) → List ℕ → List ℕ
 before [] text = text
 before (word ∷ words) text = word ++ (32 ∷ before words text)

@@ -146,7 +146,7 @@ struct Left<'a, 'b> {
     text: &'a [u8],
 }
 
-/// What stands behind the one spelling of bytes, if it is at the front of a text.
+/// What stands after the one spelling of bytes, if it is at the front of a text.
 pub(crate) fn behind_bytes<'a>(bytes: &[u8], text: &'a [u8]) -> Option<&'a [u8]>
     ensures { MatchOption result (stripped (bytes_text bytes.now) text.now ≡ None) (λ rest. stripped (bytes_text bytes.now) text.now ≡ Some rest.now) }
 {

@@ -4,16 +4,16 @@ ghost use Rattle.gl_trace.specs.Fronts.{fields, fields_of, four_of, front, front
 
 use crate::verb::Count;
 
-/// A word, and what stands behind its blank.
+/// A word, and what stands after its blank.
 #[derive(Clone, Copy, Debug)]
 pub(crate) struct Front<'a> {
     /// The word.
     pub word: &'a [u8],
-    /// What stands behind its blank.
+    /// What stands after its blank.
     pub rest: &'a [u8],
 }
 
-/// Up to four words, and what stands behind them. Words that weren't asked for are empty.
+/// Up to four words, and what stands after them. Words that weren't asked for are empty.
 #[derive(Clone, Copy, Debug)]
 pub(crate) struct Fields<'a> {
     /// The first word.
@@ -24,7 +24,7 @@ pub(crate) struct Fields<'a> {
     pub third: &'a [u8],
     /// The fourth.
     pub fourth: &'a [u8],
-    /// What stands behind the last blank.
+    /// What stands after the last blank.
     pub rest: &'a [u8],
 }
 

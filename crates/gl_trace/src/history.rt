@@ -33,7 +33,7 @@ pub struct OutputHistory<'a> {
 pub enum NoHistory {
     /// The line of this number is at fault or missing, counted from 1, and none before it from the history's first on.
     Line(u64),
-    /// Memory is wanted.
+    /// Out of memory.
     NoMemory,
 }
 
@@ -76,7 +76,7 @@ fn history_from<'a>(
     }
 }
 
-/// How many entries the line at the front of a text tells, and what stands behind it; none where it isn't one above entries.
+/// How many entries the line at the front of a text tells, and what stands after it; none where it isn't one above entries.
 fn first_line(text: &[u8]) -> Option<(u32, &[u8])>
     ensures count { MatchOption result
         ((line : ℕ) (front : List ℕ) → history_from line front (pieces 10 text.now) ≡ Bad line)
@@ -162,7 +162,7 @@ fn count_told(head: &[u8]) -> Option<u32>
     }
 }
 
-/// The entry of an index at the front of a text, in a line that has its end, and what stands behind that line.
+/// The entry of an index at the front of a text, in a line that has its end, and what stands after that line.
 fn next_entry(index: u32, text: &[u8]) -> Option<(Entry<Core>, &[u8])>
     ensures entry { MatchOption result
         ((line count : ℕ) → lines_read line index (suc count) (pieces 10 text.now) ≡ Broken line)
@@ -204,14 +204,14 @@ fn room(count: u32, text: &[u8]) -> usize
     u64::from(count).min(count_lines(text)) as usize
 }
 
-/// Whether nothing stands behind the entries that are told of.
+/// Whether nothing stands after the entries that are told of.
 fn is_end(text: &[u8]) -> bool
     ensures { result ≡ (length text.now == 0) }
 {
     text.is_empty()
 }
 
-/// So many entries, a line each from the one of this number on, and nothing behind them.
+/// So many entries, a line each from the one of this number on, and nothing after them.
 fn read_lines(
     alloc: Global,
     line: u64,

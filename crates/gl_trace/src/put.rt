@@ -15,7 +15,7 @@ use gl_world::Entry;
 
 /// Appends the text of an entry with its index, counted from 0, as `3 1 close 3 -> ok`; no line's end. The entry has to have
 /// a text, as each entry of a legal history has (`laws::legal_entries_have_texts`). The form is this project's choice. Only
-/// want of memory is an error, and then `out` is as it was.
+/// being out of memory is an error, and then `out` is as it was.
 pub fn put_entry(index: u32, entry: &Entry<Core>, out: &mut Vec<u8>) -> Result<(), Errno>
     requires { HasText entry.now }
     ensures ok { OnOk result (out.new.items ≡ out.old.items ++ entry_text index entry.now) }

@@ -12,7 +12,7 @@ use crate::words::{put_buffer, put_hex, put_long_hex, put_number, put_text, put_
 use gl_base::{Errno, IrqDo, Kind, PinDo};
 use gl_core::{Call, Part};
 
-/// Appends the words of a call, each with a blank behind it.
+/// Appends the words of a call, each with a blank after it.
 pub(crate) fn put_call(call: &Call, out: &mut Vec<u8>) -> Result<(), Errno>
     ensures ok { OnOk result (out.new.items ≡ out.old.items ++ before (call_words call.now) []) }
     ensures memory_alone { IsOkUnless result Errno.NoMemory }

@@ -21,18 +21,18 @@ use crate::form::Form;
 use crate::fronts::{Fields, first_word, first_words};
 use crate::put_call::first_bytes;
 use crate::reply_read::reply_of;
-use crate::verb::{Asked, Count, Verb};
+use crate::verb::{CommandPart, Count, Verb};
 use crate::word_read::{answer_of, behind, hex_of, number8, number32};
 use gl_core::{Call, Core, Part, Reply};
 use gl_uapi::Command;
 use gl_world::Entry;
 
-/// A call, and what stands behind its words.
+/// A call, and what stands after its words.
 #[derive(Clone, Copy)]
 struct Called<'a> {
     /// The call.
     call: Call,
-    /// What stands behind.
+    /// What stands after.
     rest: &'a [u8],
 }
 
@@ -153,7 +153,7 @@ fn plainly<'a>(verb: Verb, words: &Fields<'a>) -> Option<Called<'a>>
 }
 
 /// A part of a command.
-fn command_in<'a>(asked: Asked, words: &Fields<'a>) -> Option<Called<'a>>
+fn command_in<'a>(asked: CommandPart, words: &Fields<'a>) -> Option<Called<'a>>
     ensures { let f = fields words.now.first.now words.now.second.now words.now.third.now words.now.fourth.now words.now.rest.now in MatchOption result (command_in (header_of f) asked f.rest ≡ None) (λ got. command_in (header_of f) asked f.rest ≡ Some (called got.call got.rest.now)) }
 {
     match header_of(words.first, words.second, words.third, words.fourth) {
@@ -187,7 +187,7 @@ fn header_of(first: &[u8], second: &[u8], third: &[u8], fourth: &[u8]) -> Option
 }
 
 /// The bytes of a command and what follows them.
-fn with_bytes(head: Header, asked: Asked, text: &[u8]) -> Option<Called<'_>>
+fn with_bytes(head: Header, asked: CommandPart, text: &[u8]) -> Option<Called<'_>>
     ensures { let h = header head.place head.fd head.cmd head.len in MatchOption result (with_bytes h asked text.now ≡ None) (λ got. with_bytes h asked text.now ≡ Some (called got.call got.rest.now)) }
 {
     let count = (head.len as usize).min(592);
@@ -199,7 +199,12 @@ fn with_bytes(head: Header, asked: Asked, text: &[u8]) -> Option<Called<'_>>
 }
 
 /// What follows the bytes of a command: a blank, and its part.
-fn filled<'a>(head: Header, bytes: &[u8; 592], asked: Asked, text: &'a [u8]) -> Option<Called<'a>>
+fn filled<'a>(
+    head: Header,
+    bytes: &[u8; 592],
+    asked: CommandPart,
+    text: &'a [u8],
+) -> Option<Called<'a>>
     ensures { let h = header head.place head.fd head.cmd head.len in MatchOption result (filled h bytes.now asked (Some text.now) ≡ None) (λ got. filled h bytes.now asked (Some text.now) ≡ Some (called got.call got.rest.now)) }
 {
     match behind(b" ", text) {
@@ -208,13 +213,18 @@ fn filled<'a>(head: Header, bytes: &[u8; 592], asked: Asked, text: &'a [u8]) -> 
     }
 }
 
-fn in_part<'a>(head: Header, bytes: &[u8; 592], asked: Asked, rest: &'a [u8]) -> Option<Called<'a>>
+fn in_part<'a>(
+    head: Header,
+    bytes: &[u8; 592],
+    asked: CommandPart,
+    rest: &'a [u8],
+) -> Option<Called<'a>>
     ensures { let h = header head.place head.fd head.cmd head.len in MatchOption result (in_part h bytes.now asked rest.now ≡ None) (λ got. in_part h bytes.now asked rest.now ≡ Some (called got.call got.rest.now)) }
 {
     match asked {
-        Asked::Whole => Some(as_called(head, bytes, Part::Whole, rest)),
-        Asked::Ask => Some(as_called(head, bytes, Part::Ask, rest)),
-        Asked::Tell => told(head, bytes, rest),
+        CommandPart::Whole => Some(as_called(head, bytes, Part::Whole, rest)),
+        CommandPart::Ask => Some(as_called(head, bytes, Part::Ask, rest)),
+        CommandPart::Tell => told(head, bytes, rest),
     }
 }
 
@@ -248,7 +258,7 @@ fn told<'a>(head: Header, bytes: &[u8; 592], text: &'a [u8]) -> Option<Called<'a
     }
 }
 
-/// The reply behind an arrow, where this call was made.
+/// The reply after an arrow, where this call was made.
 fn of_arrow(call: &Call, text: &[u8]) -> Option<Reply>
     ensures { result ≡ of_arrow call.now (stripped (codes "-> ") text.now) }
 {

@@ -2,7 +2,7 @@
 ghost use Rattle.std.specs.Prelude.{◌≡◌, find, option_copied};
 ghost use Rattle.gl_trace.specs.Verbs.{asked_of, is_verb, verb_count, verb_of, verb_word};
 
-/// How many words stand behind a verb, before the bytes of a command.
+/// How many words stand after a verb, before the bytes of a command.
 #[derive(Clone, Copy, PartialEq, Eq, Debug)]
 pub enum Count {
     /// One.
@@ -17,7 +17,7 @@ pub enum Count {
 
 /// The part of a command that a verb is of.
 #[derive(Clone, Copy, PartialEq, Eq, Debug)]
-pub enum Asked {
+pub enum CommandPart {
     /// A command that needs no driver.
     Whole,
     /// A command that is asked for.
@@ -172,7 +172,7 @@ impl Verb {
         }
     }
 
-    /// How many words stand behind it, before the bytes of a command.
+    /// How many words stand after it, before the bytes of a command.
     pub fn count(self) -> Count
         ensures { result ≡ verb_count self }
     {
@@ -203,13 +203,13 @@ impl Verb {
     }
 
     /// The part of a command that it is of, if it is of one.
-    pub fn asked(self) -> Option<Asked>
+    pub fn asked(self) -> Option<CommandPart>
         ensures { result ≡ asked_of self }
     {
         match self {
-            Verb::Ioctl => Some(Asked::Whole),
-            Verb::Ask => Some(Asked::Ask),
-            Verb::Tell => Some(Asked::Tell),
+            Verb::Ioctl => Some(CommandPart::Whole),
+            Verb::Ask => Some(CommandPart::Ask),
+            Verb::Tell => Some(CommandPart::Tell),
             _ => None,
         }
     }

@@ -8,7 +8,7 @@ use gl_base::{Kind, Name, Path, read_plain_decimal};
 /// How many bytes a text has at most.
 pub(crate) const TEXT_MAX: usize = 127;
 
-/// What stands behind `front`, if it is at the front of a text.
+/// What stands after `front`, if it is at the front of a text.
 pub(crate) fn behind<'a>(front: &[u8], text: &'a [u8]) -> Option<&'a [u8]>
     ensures { MatchOption result (stripped front.now text.now ≡ None) (λ rest. stripped front.now text.now ≡ Some rest.now) }
 {
@@ -137,12 +137,12 @@ pub(crate) fn pair_byte(high: u8, low: u8) -> Option<u8>
     }
 }
 
-/// A byte, and what stands behind its pair.
+/// A byte, and what stands after its pair.
 #[derive(Clone, Copy, Debug)]
 struct Pair<'a> {
     /// The byte.
     byte: u8,
-    /// What stands behind.
+    /// What stands after.
     rest: &'a [u8],
 }
 

@@ -1,4 +1,4 @@
-//! Words that are appended, each with a blank behind it.
+//! Words that are appended, each with a blank after it.
 ghost use Rattle.std.specs.Prelude.{◌≡◌, ◌++◌, [], ◌∷◌, ◌<◌, ◌^◌, OnOk, IsOkUnless, codes};
 ghost use Rattle.std.specs.List.{list_all};
 ghost use Rattle.gl_base.specs.BytesText.{pair, hex_digit, bytes_text};

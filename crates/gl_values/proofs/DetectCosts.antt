@@ -2,9 +2,9 @@
 use Rattle.std.proofs.Common.{◌≤◌, ◌+◌, ◌-◌, ◌*◌, ℕ, suc, Bool, true, false, cond, ◌&&◌, not, List, [], ◌∷◌, length, Option, None, Some, arith}
 use Rattle.gl_base.specs.declared.errno.Errno.{Errno}
 use Rattle.gl_base.specs.Operation.{refusal, bytes_of}
-use Rattle.gl_args.specs.Program.{Program, done, print}
-use Rattle.gl_args.specs.Costs.{CostsAtMost}
-use Rattle.gl_args.proofs.Costs.{costs_more}
+use Rattle.gl_client.specs.Program.{Program, done, print}
+use Rattle.gl_client.specs.Costs.{CostsAtMost}
+use Rattle.gl_client.proofs.Costs.{costs_more}
 use Rattle.gl_values.specs.declared.chip.Chip.{Chip}
 use Rattle.gl_values.specs.Chips.{chip_told, is_absent, words_from}
 use Rattle.gl_values.specs.Costs.{detect_cost}

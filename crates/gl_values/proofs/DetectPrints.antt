@@ -4,8 +4,8 @@ use Rattle.std.specs.Prelude.{codes}
 use Rattle.gl_base.specs.declared.errno.Errno.{Errno}
 use Rattle.gl_base.specs.Decimal.{decimal}
 use Rattle.gl_base.specs.Operation.{refusal, bytes_of}
-use Rattle.gl_args.specs.Printing.{PrintsLines}
-use Rattle.gl_args.specs.Program.{Program, done, print}
+use Rattle.gl_client.specs.Printing.{PrintsLines}
+use Rattle.gl_client.specs.Program.{Program, done, print}
 use Rattle.gl_lines.specs.Texts.{failed_line}
 use Rattle.gl_lines.proofs.FindingPrints.{failed_ended, line_ended}
 use Rattle.gl_values.specs.declared.chip.Chip.{Chip}

@@ -6,9 +6,9 @@ use Rattle.gl_base.specs.declared.errno.Errno.{Errno}
 use Rattle.gl_base.specs.Operation.{refusal, bytes_of}
 use Rattle.gl_uapi.specs.declared.line_infos.Info.{Info}
 use Rattle.gl_args.specs.Options.{Options}
-use Rattle.gl_args.specs.Program.{Program, done, print}
-use Rattle.gl_args.specs.Costs.{CostsAtMost}
-use Rattle.gl_args.proofs.Costs.{costs_more}
+use Rattle.gl_client.specs.Program.{Program, done, print}
+use Rattle.gl_client.specs.Costs.{CostsAtMost}
+use Rattle.gl_client.proofs.Costs.{costs_more}
 use Rattle.gl_values.specs.declared.chip.Chip.{Chip}
 use Rattle.gl_values.specs.Chips.{chip_told, chip_head, is_absent, words_from, to_words}
 use Rattle.gl_values.specs.Costs.{info_cost}

@@ -4,7 +4,7 @@ use Rattle.gl_base.specs.declared.command.TheConstants.{GET_LINEINFO}
 use Rattle.gl_base.specs.declared.operation.Do.TheVariants.{Ioctl, Close}
 use Rattle.gl_base.specs.Operation.{refusal, bytes_of}
 use Rattle.gl_args.specs.Options.{Options}
-use Rattle.gl_args.specs.Program.{Program, ask}
+use Rattle.gl_client.specs.Program.{Program, ask}
 use Rattle.gl_lines.specs.Bytes.{info_sent}
 use Rattle.gl_values.specs.Info.{lines_from, line_told, closed}
 

@@ -9,8 +9,8 @@ use Rattle.gl_uapi.specs.declared.line_infos.Info.{Info}
 use Rattle.gl_args.specs.Options.{Options}
 use Rattle.gl_base.specs.TextLines.{ends_lines}
 use Rattle.gl_base.proofs.TextLines.{lines_end}
-use Rattle.gl_args.specs.Printing.{PrintsLines}
-use Rattle.gl_args.specs.Program.{Program, done, print}
+use Rattle.gl_client.specs.Printing.{PrintsLines}
+use Rattle.gl_client.specs.Program.{Program, done, print}
 use Rattle.gl_lines.specs.Texts.{failed_line}
 use Rattle.gl_lines.proofs.FindingPrints.{failed_ended, line_ended}
 use Rattle.gl_values.specs.declared.chip.Chip.{Chip}

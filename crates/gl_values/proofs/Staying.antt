@@ -1,7 +1,7 @@
--- What is left of gpioget and gpioset where what finds their lines met want of memory.
+-- What is left of gpioget and gpioset where what finds their lines ran out of memory.
 use Rattle.std.proofs.Common.{◌≡◌, Option, None, Some, Result, Ok, Err, OnErr, refl, sym, ◌∙◌, ap}
 use Rattle.gl_args.specs.Options.{options_in}
-use Rattle.gl_args.specs.Program.{goes_on, then_by, then_left}
+use Rattle.gl_client.specs.Program.{goes_on, then_by, then_left}
 use Rattle.gl_lines.specs.declared.finder.Finder.{Finder}
 use Rattle.gl_lines.specs.Finding.{Stays, finds, left}
 use Rattle.gl_values.specs.declared.get.Get.{Get}

@@ -6,10 +6,10 @@ use Rattle.gl_base.specs.declared.errno.Errno.{Errno}
 use Rattle.gl_base.specs.Operation.{refusal, bytes_of}
 use Rattle.gl_uapi.specs.declared.line_infos.Info.{Info}
 use Rattle.gl_args.specs.declared.names.ToolName.TheVariants.{Get as GetName, Set as SetName}
-use Rattle.gl_args.specs.OpenSlots.{AreApart, NamesOpenSlots, SameSlots, one_if, times, with_slot}
+use Rattle.gl_client.specs.OpenSlots.{AreApart, NamesOpenSlots, SameSlots, one_if, times, with_slot}
 use Rattle.gl_args.specs.Options.{Options, SaidTool, SaidDetect, SaidInfo, SaidGet, SaidSet, SaidWatch, SaidNotify}
-use Rattle.gl_args.specs.Program.{Program, done, print}
-use Rattle.gl_args.proofs.OpenSlots.{Follows, counts, counts_with, follows_at, follows_then, names_open, with_one}
+use Rattle.gl_client.specs.Program.{Program, done, print}
+use Rattle.gl_client.proofs.OpenSlots.{Follows, counts, counts_with, follows_at, follows_then, names_open, with_one}
 use Rattle.gl_lines.specs.declared.found_line.FoundLine.{FoundLine}
 use Rattle.gl_lines.specs.Finding.{finds}
 use Rattle.gl_lines.specs.FoundSlot.{found_slot}
@@ -125,7 +125,7 @@ module _ (s k n : ℕ) where
   gets_at base made opts room =
       follows_then s k (λ o. counts s (found_slot GetName base made o) + n) (λ _. n) (finds GetName base made opts) (get made opts) n (finds_slots s k n GetName base made opts room) (get_at base made opts)
 
-  -- gpioset; `count` says how often s is open behind it
+  -- gpioset; `count` says how often s is open after it
   module _ (count : Held → ℕ) (none : count None ≡ n) where
     set_closed_at : (m : ℕ) (r : Option Errno) → m ≡ n → Follows s k count m (set_closed r)
     set_closed_at m (Some errno) e = e ∙ sym none

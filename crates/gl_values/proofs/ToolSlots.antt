@@ -3,9 +3,9 @@ use Rattle.std.proofs.Common.{◌≡◌, ◌+◌, ℕ, Bool, true, List, Option,
 use Rattle.gl_base.specs.declared.errno.Errno.{Errno}
 use Rattle.gl_base.specs.Operation.{refusal}
 use Rattle.gl_args.specs.declared.names.ToolName.TheVariants.{Set as SetName}
-use Rattle.gl_args.specs.Gives.{Gives}
+use Rattle.gl_client.specs.Gives.{Gives}
 use Rattle.gl_args.specs.Options.{SaidTool, SaidDetect, SaidInfo, SaidGet, SaidSet, SaidWatch, SaidNotify}
-use Rattle.gl_args.proofs.Costs.{gives_any}
+use Rattle.gl_client.proofs.Costs.{gives_any}
 use Rattle.gl_lines.specs.declared.found_line.FoundLine.{FoundLine}
 use Rattle.gl_lines.specs.Finding.{finds}
 use Rattle.gl_values.specs.Client.{held_program}

@@ -10,7 +10,7 @@ use Rattle.gl_base.specs.declared.operation.Do.{Do}
 use Rattle.gl_base.specs.declared.operation.Do.TheVariants.{Ioctl, Close}
 use Rattle.gl_uapi.specs.Fields.{number_at, stretch}
 use Rattle.gl_uapi.specs.declared.layout.TheConstants.{CHIP_INFO_SIZE, CHIP_NAME, CHIP_LABEL, CHIP_LINES, NAME_SIZE}
-use Rattle.gl_args.specs.Program.{Program, done, ask}
+use Rattle.gl_client.specs.Program.{Program, done, ask}
 use Rattle.gl_lines.specs.Texts.{line}
 use Rattle.gl_values.specs.declared.chip.Chip.{Chip}
 
@@ -45,7 +45,7 @@ abbrev pub places_from : ℕ → ℕ → List (List ℕ)
 places_from i zero = []
 places_from i (suc n) = decimal i ∷ places_from (suc i) n
 
--- the chip words that are left behind the first `next`: those that were given, or the numbers of all places
+-- the chip words that are left after the first `next`: those that were given, or the numbers of all places
 abbrev pub words_from : List (List ℕ) → ℕ → List (List ℕ)
 words_from [] next = places_from next (PLACES - next)
 words_from (word ∷ words) next = drop next (word ∷ words)

@@ -1,7 +1,7 @@
 -- The four tools as one client.
 use Rattle.std.specs.Prelude.{ℕ, ◌+◌, Bool, true, false, None}
 use Rattle.gl_args.specs.Options.{SaidTool, SaidDetect, SaidInfo, SaidGet, SaidSet}
-use Rattle.gl_args.specs.Program.{Program, done, then_by, Left, goes_on, then_left}
+use Rattle.gl_client.specs.Program.{Program, done, then_by, Left, goes_on, then_left}
 use Rattle.gl_values.specs.declared.client.Client.{Client}
 use Rattle.gl_values.specs.declared.client.Client.TheVariants.{Detect, Info, Get, Set, Nothing}
 use Rattle.gl_values.specs.declared.set.Hold.TheVariants.{No, Yes}

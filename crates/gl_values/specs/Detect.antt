@@ -6,7 +6,7 @@ use Rattle.gl_base.specs.declared.operation.Do.TheVariants.{OpenChip, Close}
 use Rattle.gl_base.specs.Operation.{refusal, bytes_of}
 use Rattle.gl_args.specs.declared.names.ToolName.TheVariants.{Detect as DetectName}
 use Rattle.gl_args.specs.Names.{tool_text}
-use Rattle.gl_args.specs.Program.{Program, print, ask, Left, goes_on, waits}
+use Rattle.gl_client.specs.Program.{Program, print, ask, Left, goes_on, waits}
 use Rattle.gl_lines.specs.Texts.{failed_line}
 use Rattle.gl_values.specs.declared.chip.Chip.{Chip}
 use Rattle.gl_values.specs.declared.detect.Detect.{Detect}
@@ -41,7 +41,7 @@ abbrev pub chips : ℕ → Bool → List (List ℕ) → Program (Unit {0})
 chips base is_named [] = ends
 chips base is_named (word ∷ words) = ask (OpenChip base word) (λ got. opened base (chips base is_named words) is_named (refusal got))
 
--- what is left behind the chips before `next`
+-- what is left after the chips before `next`
 abbrev pub chips_from : List (List ℕ) → ℕ → ℕ → Program (Unit {0})
 chips_from words next base = chips base (is_named_by words) (words_from words next)
 

@@ -10,7 +10,7 @@ use Rattle.gl_uapi.specs.declared.layout.TheConstants.{LINE_VALUES_SIZE, VALUES_
 use Rattle.gl_args.specs.declared.names.ToolName.TheVariants.{Get as GetName}
 use Rattle.gl_args.specs.Names.{tool_text}
 use Rattle.gl_args.specs.Options.{options_in, Options}
-use Rattle.gl_args.specs.Program.{Program, done, print, ask, Left, goes_on, waits, then_left, then_by}
+use Rattle.gl_client.specs.Program.{Program, done, print, ask, Left, goes_on, waits, then_left, then_by}
 use Rattle.gl_lines.specs.declared.found_line.FoundLine.{FoundLine}
 use Rattle.gl_lines.specs.Bytes.{values_sent}
 use Rattle.gl_lines.specs.Finding.{finds, left}

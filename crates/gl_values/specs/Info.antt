@@ -13,7 +13,7 @@ use Rattle.gl_uapi.specs.LineInfo.{info_in}
 use Rattle.gl_args.specs.declared.names.ToolName.TheVariants.{Info as InfoName}
 use Rattle.gl_args.specs.Names.{tool_text}
 use Rattle.gl_args.specs.Options.{options_in, Options}
-use Rattle.gl_args.specs.Program.{Program, print, ask, Left, goes_on, waits}
+use Rattle.gl_client.specs.Program.{Program, print, ask, Left, goes_on, waits}
 use Rattle.gl_lines.specs.Bytes.{info_sent}
 use Rattle.gl_lines.specs.Texts.{failed_line}
 use Rattle.gl_values.specs.declared.chip.Chip.{Chip}
@@ -45,7 +45,7 @@ module _ (base : ℕ) (opts : Options) where
   line_told rest total left text (Some errno) bytes = print (failed_line tool errno) (leaves base)
   line_told rest total left text None bytes = line_read rest (total - left - 1) text (info_told bytes)
 
-  -- the last lines of so many are asked, behind the chip's text so far
+  -- the last lines of so many are asked, after the chip's text so far
   abbrev pub lines_from : Program (Unit {0}) → ℕ → ℕ → List ℕ → Program (Unit {0})
   lines_from next total zero text = ask (Close base) (λ got. closed next text (refusal got))
   lines_from next total (suc left) text =
@@ -74,7 +74,7 @@ module _ (base : ℕ) (opts : Options) where
   chips [] = ends
   chips (word ∷ words) = ask (OpenChip base word) (λ got. opened (chips words) (refusal got))
 
-  -- what is left behind the chips before `next`
+  -- what is left after the chips before `next`
   abbrev pub chips_from : ℕ → Program (Unit {0})
   chips_from next = chips (words_from (to_words opts.chip) next)
 

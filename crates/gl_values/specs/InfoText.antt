@@ -8,7 +8,7 @@ use Rattle.gl_base.specs.declared.flag.TheConstants.{USED, ACTIVE_LOW, OUTPUT, E
 use Rattle.gl_uapi.specs.declared.line_infos.Info.{Info}
 use Rattle.gl_lines.specs.Texts.{quoted}
 
--- a text in so many columns, with blanks behind it; a longer text is written whole
+-- a text in so many columns, with blanks after it; a longer text is written whole
 abbrev pub left_justified : ℕ → List ℕ → List ℕ
 left_justified columns text = text ++ replicate (columns - length text) 32
 

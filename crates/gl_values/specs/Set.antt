@@ -7,7 +7,7 @@ use Rattle.gl_base.specs.Operation.{refusal}
 use Rattle.gl_args.specs.declared.names.ToolName.TheVariants.{Set as SetName}
 use Rattle.gl_args.specs.Names.{tool_text}
 use Rattle.gl_args.specs.Options.{options_in, Options}
-use Rattle.gl_args.specs.Program.{Program, done, print, ask, Left, goes_on, waits, then_left, then_by}
+use Rattle.gl_client.specs.Program.{Program, done, print, ask, Left, goes_on, waits, then_left, then_by}
 use Rattle.gl_lines.specs.declared.found_line.FoundLine.{FoundLine}
 use Rattle.gl_lines.specs.Finding.{finds, left}
 use Rattle.gl_lines.specs.Texts.{failed_line}

@@ -47,7 +47,7 @@ pub(crate) fn passes_over(errno: Errno, is_named: bool) -> bool
     is_absent(errno) && !is_named
 }
 
-/// The chip word behind the first `next`: of those that were given, or of the numbers of all places.
+/// The chip word after the first `next`: of those that were given, or of the numbers of all places.
 #[tactic(auto, using(crate::proofs::ChipWords::words))]
 pub(crate) fn word_at(words: &[Name], next: usize) -> Option<Path>
     ensures word { MatchOption result (words_from words.now next ≡ []) (λ word. words_from words.now next ≡ word ∷ words_from words.now (next + 1)) }

@@ -1,7 +1,7 @@
 //! The four tools as one client.
 ghost use Rattle.std.specs.Prelude.{◌≡◌, ◌+◌, ◌<◌, ◌^◌, true, false, not, is_some, None, IfOk, OnOk, OnErr, IsOkUnless, option_copied};
 ghost use Rattle.gl_args.specs.Options.{tool_in};
-ghost use Rattle.gl_args.specs.Program.{Program, Left, Goes, given, goes_on, done, MatchNext};
+ghost use Rattle.gl_client.specs.Program.{Program, Left, Goes, given, goes_on, done, MatchNext};
 ghost use Rattle.gl_values.specs.Set.{stops};
 ghost use Rattle.gl_values.specs.Client.{tool_program, held_program, client_left, has_ended, held_by, holding_nothing, nothing_held};
 
@@ -9,8 +9,9 @@ use crate::detect::Detect;
 use crate::get::Get;
 use crate::info::InfoTool;
 use crate::set::{Hold, Set};
-use gl_args::{Next, Tool};
+use gl_args::Tool;
 use gl_base::{Errno, Got};
+use gl_client::Next;
 use std::alloc::Global;
 
 /// gpiodetect, gpioinfo, gpioget or gpioset, as a client of the device: its program is that of its tool.
@@ -64,7 +65,7 @@ impl Client {
     /// What it does next. `got` is the result of the operation that it asked for last, if it asked for one. End means
     /// that the statement, the start or the stop is done: then what is left is said by what it holds, and it has
     /// ended exactly where it holds nothing. Behind a Call or a Print it hasn't ended.
-    /// Where memory is wanted, what is left is what was left, and it holds what it held: it may be called again with the same
+    /// When out of memory, what is left is what was left, and it holds what it held: it may be called again with the same
     /// result.
     pub fn next(&mut self, alloc: Global, got: Option<&Got>) -> Result<Next, Errno>
         ensures goes { IfOk result (λ next. Goes (given (client_left self.old) (option_copied got.entry)) next (client_left self.new)) }
@@ -78,7 +79,7 @@ impl Client {
         Ok(step)
     }
 
-    /// Puts into `step` what it does next, as `next` answers it. Where memory is wanted `step` means nothing.
+    /// Puts into `step` what it does next, as `next` answers it. When out of memory `step` means nothing.
     pub fn put_next(
         &mut self,
         alloc: Global,

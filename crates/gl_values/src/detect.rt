@@ -1,13 +1,14 @@
 //! gpiodetect.
 ghost use Rattle.std.specs.Prelude.{◌≡◌, ◌+◌, ◌<◌, ◌^◌, [], ◌∷◌, IfOk, IsSome, OnOk, OnErr, IsOkUnless, MatchOption, option_copied};
-ghost use Rattle.gl_args.specs.Program.{print, Goes, given, goes_on};
+ghost use Rattle.gl_client.specs.Program.{print, Goes, given, goes_on};
 ghost use Rattle.gl_lines.specs.Texts.{failed_line};
 ghost use Rattle.gl_values.specs.Chips.{ends, is_named_by, leaves, passes_over, words_from};
 ghost use Rattle.gl_values.specs.Detect.{tool, detects, left, chips_from, opened, asked, closed};
 
 use crate::chip::{Chip, chip_line, chip_query, chip_told, passes_over, word_at};
-use gl_args::{Next, ToolName};
+use gl_args::ToolName;
 use gl_base::{Do, Errno, Got, Name, Path};
+use gl_client::Next;
 use gl_lines::failed_line;
 use std::alloc::Global;
 
@@ -56,7 +57,7 @@ impl Detect {
         }
     }
 
-    /// What it does next. Where memory is wanted it is as it was, and may be called again with the same result.
+    /// What it does next. When out of memory it is as it was, and may be called again with the same result.
     pub fn next(&mut self, alloc: Global, got: Option<&Got>) -> Result<Next, Errno>
         ensures goes { IfOk result (λ next. Goes (given (left self.old) (option_copied got.entry)) next (left self.new)) }
         ensures kept { OnErr result (self.new ≡ self.old) }
@@ -67,7 +68,7 @@ impl Detect {
         Ok(step)
     }
 
-    /// Puts into `step` what it does next, as `next` answers it. Where memory is wanted `step` means nothing.
+    /// Puts into `step` what it does next, as `next` answers it. When out of memory `step` means nothing.
     pub(crate) fn put_next(
         &mut self,
         alloc: Global,

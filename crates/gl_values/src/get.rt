@@ -1,16 +1,17 @@
 //! gpioget.
 ghost use Rattle.std.specs.Prelude.{◌≡◌, List, Some, IfOk, OnOk, OnErr, IsOkUnless, option_copied};
 ghost use Rattle.gl_args.specs.Options.{options_in};
-ghost use Rattle.gl_args.specs.Program.{Goes, given, goes_on, print, then_by};
+ghost use Rattle.gl_client.specs.Program.{Goes, given, goes_on, print, then_by};
 ghost use Rattle.gl_lines.specs.declared.found_line.FoundLine.{FoundLine};
 ghost use Rattle.gl_lines.specs.Finding.{Finding, left};
 ghost use Rattle.gl_lines.specs.Texts.{failed_line};
 ghost use Rattle.gl_values.specs.Get.{tool, gets, get, asked, closed, leaves, bits_in, get_left};
 
 use crate::get_text::values_line;
-use gl_args::{Next, Opts, ToolName};
+use gl_args::{Opts, ToolName};
 use gl_base::command::LINE_GET_VALUES;
 use gl_base::{Do, Errno, Got};
+use gl_client::Next;
 use gl_lines::{Finder, failed_line, values_sent};
 use gl_uapi::ValuesRef;
 use std::alloc::Global;
@@ -54,7 +55,7 @@ impl Get {
         }
     }
 
-    /// What it does next. Where memory is wanted, what is left is what was left.
+    /// What it does next. When out of memory, what is left is what was left.
     pub fn next(&mut self, alloc: Global, got: Option<&Got>) -> Result<Next, Errno>
         ensures goes { IfOk result (λ next. Goes (given (get_left self.old) (option_copied got.entry)) next (get_left self.new)) }
         ensures kept { OnErr result (get_left self.new ≡ get_left self.old) }
@@ -65,7 +66,7 @@ impl Get {
         Ok(step)
     }
 
-    /// Puts into `step` what it does next, as `next` answers it. Where memory is wanted `step` means nothing.
+    /// Puts into `step` what it does next, as `next` answers it. When out of memory `step` means nothing.
     pub(crate) fn put_next(
         &mut self,
         alloc: Global,
@@ -107,7 +108,7 @@ impl Get {
         }
     }
 
-    /// Goes on behind a step of what finds its lines.
+    /// Goes on after a step of what finds its lines.
     fn go_on(&mut self, step: &mut Next)
         ensures { (p : Finding) → Goes p step.old (left self.old.finder) → Goes (then_by p (get self.old.finder.made (options_in self.old.finder.opts))) step.new (get_left self.new) }
     {

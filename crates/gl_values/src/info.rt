@@ -1,16 +1,17 @@
 //! gpioinfo.
 ghost use Rattle.std.specs.Prelude.{◌≡◌, ◌+◌, ◌<◌, ◌^◌, [], ◌∷◌, IfOk, IsSome, OnOk, OnErr, IsOkUnless, MatchOption, option_copied, is_some};
 ghost use Rattle.gl_args.specs.Options.{options_in};
-ghost use Rattle.gl_args.specs.Program.{print, Goes, given, goes_on};
+ghost use Rattle.gl_client.specs.Program.{print, Goes, given, goes_on};
 ghost use Rattle.gl_lines.specs.Texts.{failed_line};
 ghost use Rattle.gl_values.specs.Chips.{ends, leaves, passes_over, words_from, to_words};
 ghost use Rattle.gl_values.specs.Info.{tool, infos, info_left, chips_from, opened, asked, told, lines_from, line_told, info_told, closed};
 
 use crate::chip::{Chip, chip_head, chip_query, chip_told, passes_over, word_at};
 use crate::info_text::put_line;
-use gl_args::{Next, Opts, ToolName};
+use gl_args::{Opts, ToolName};
 use gl_base::command::GET_LINEINFO;
 use gl_base::{ByteList, Do, Errno, Got, LINES_MAX, Name, Path};
+use gl_client::Next;
 use gl_lines::{failed_line, info_sent};
 use gl_uapi::{Info, InfoRef};
 use std::alloc::Global;
@@ -47,7 +48,7 @@ pub struct InfoTool {
     pub base: u32,
     /// How many lines of the chip are asked.
     pub total: u32,
-    /// How many of them are left, behind the one that is asked.
+    /// How many of them are left, after the one that is asked.
     pub left: u32,
     /// The chip's text so far.
     pub text: ByteList,
@@ -71,7 +72,7 @@ impl InfoTool {
         }
     }
 
-    /// What it does next. Where memory is wanted it is as it was, and may be called again with the same result.
+    /// What it does next. When out of memory it is as it was, and may be called again with the same result.
     pub fn next(&mut self, alloc: Global, got: Option<&Got>) -> Result<Next, Errno>
         ensures goes { IfOk result (λ next. Goes (given (info_left self.old) (option_copied got.entry)) next (info_left self.new)) }
         ensures kept { OnErr result (self.new ≡ self.old) }
@@ -82,7 +83,7 @@ impl InfoTool {
         Ok(step)
     }
 
-    /// Puts into `step` what it does next, as `next` answers it. Where memory is wanted `step` means nothing.
+    /// Puts into `step` what it does next, as `next` answers it. When out of memory `step` means nothing.
     pub(crate) fn put_next(
         &mut self,
         alloc: Global,

@@ -13,7 +13,7 @@ const OFFSET_COLUMNS: usize = 3;
 /// How many columns a name has.
 const NAME_COLUMNS: usize = 16;
 
-/// Appends what is printed for a line: its offset, its name, and words on how it is used. Where memory is wanted the text is as
+/// Appends what is printed for a line: its offset, its name, and words on how it is used. When out of memory the text is as
 /// it was.
 pub(crate) fn put_line(
     alloc: Global,

@@ -2,10 +2,10 @@
 //! stands as the contract of a function that does nothing.
 ghost use Rattle.std.specs.Prelude.{◌≡◌, ℕ, ◌+◌, Bool, true, List, ◌∷◌};
 ghost use Rattle.gl_args.specs.Options.{SaidTool};
-ghost use Rattle.gl_args.specs.Costs.{CostsAtMost};
-ghost use Rattle.gl_args.specs.Gives.{Gives};
-ghost use Rattle.gl_args.specs.OpenSlots.{AreApart, NamesOpenSlots, SameSlots, with_slot};
-ghost use Rattle.gl_args.specs.Printing.{PrintsLines};
+ghost use Rattle.gl_client.specs.Costs.{CostsAtMost};
+ghost use Rattle.gl_client.specs.Gives.{Gives};
+ghost use Rattle.gl_client.specs.OpenSlots.{AreApart, NamesOpenSlots, SameSlots, with_slot};
+ghost use Rattle.gl_client.specs.Printing.{PrintsLines};
 ghost use Rattle.gl_values.specs.Client.{tool_program, held_program};
 ghost use Rattle.gl_values.specs.Costs.{tool_cost, held_cost};
 ghost use Rattle.gl_lines.specs.OwnSlots.{SlotPasses};

@@ -1,12 +1,13 @@
 //! gpioset.
 ghost use Rattle.std.specs.Prelude.{◌≡◌, true, false, not, is_some, None, IfOk, OnOk, OnErr, IsOkUnless, option_copied};
 ghost use Rattle.gl_args.specs.Options.{options_in};
-ghost use Rattle.gl_args.specs.Program.{Goes, given, goes_on, done, then_by, MatchNext};
+ghost use Rattle.gl_client.specs.Program.{Goes, given, goes_on, done, then_by, MatchNext};
 ghost use Rattle.gl_lines.specs.Finding.{Finding, left};
 ghost use Rattle.gl_values.specs.Set.{sets, behind, stops, closes, closed, has_ended, held_of, set_left};
 
-use gl_args::{Next, Opts, ToolName};
+use gl_args::{Opts, ToolName};
 use gl_base::{Do, Errno, Got};
+use gl_client::Next;
 use gl_lines::{Finder, failed_line};
 use std::alloc::Global;
 
@@ -61,7 +62,7 @@ impl Set {
         }
     }
 
-    /// What it does next. Where memory is wanted, what is left is what was left, and it holds what it held.
+    /// What it does next. When out of memory, what is left is what was left, and it holds what it held.
     pub fn next(&mut self, alloc: Global, got: Option<&Got>) -> Result<Next, Errno>
         ensures goes { IfOk result (λ next. Goes (given (set_left self.old) (option_copied got.entry)) next (set_left self.new)) }
         ensures rests { IfOk result (λ next. MatchNext next (Unit {0}) (set_left self.new ≡ goes_on (done (held_of self.new)))) }
@@ -74,7 +75,7 @@ impl Set {
         Ok(step)
     }
 
-    /// Puts into `step` what it does next, as `next` answers it. Where memory is wanted `step` means nothing.
+    /// Puts into `step` what it does next, as `next` answers it. When out of memory `step` means nothing.
     pub(crate) fn put_next(
         &mut self,
         alloc: Global,
@@ -171,7 +172,7 @@ impl Set {
         }
     }
 
-    /// Goes on behind a step of what finds its lines.
+    /// Goes on after a step of what finds its lines.
     fn go_on(&mut self, step: &mut Next)
         ensures goes { (p : Finding) → Goes p step.old (left self.old.finder) → Goes (then_by p (behind self.old.hold self.old.finder.made)) step.new (set_left self.new) }
         ensures rests { MatchNext step.new (Unit {0}) (set_left self.new ≡ goes_on (done (held_of self.new))) }

@@ -40,21 +40,7 @@ pub(crate) fn remove_file(files: &mut Vec<ChipFile>, fd: u32) -> Option<InfoQueu
     }
 }
 
-/// Sets whether a file watches a line.
-#[tactic(auto, using(crate::proofs::Found::found))]
-pub(crate) fn set_watch(files: &mut Vec<ChipFile>, fd: u32, offset: u32, watch: bool)
-    requires { offset < LINES_MAX }
-    ensures files { files.new.items ≡ change_first (is_file fd) (with_watch offset watch) files.old.items }
-    ensures capacity { vec_capacity files.new ≡ vec_capacity files.old }
-    ensures as_many { length files.new.items ≡ length files.old.items }
-{
-    match position_of(files, fd) {
-        Some(at) => set_watch_at(files, FileAt { fd, at }, offset, watch),
-        None => {}
-    }
-}
-
-/// The same, of the file that was found.
+/// Sets whether the file that was found watches a line.
 #[tactic(auto, using(crate::proofs::Found::found))]
 pub(crate) fn set_watch_at(files: &mut Vec<ChipFile>, found: FileAt, offset: u32, watch: bool)
     requires offset { offset < LINES_MAX }
@@ -78,23 +64,7 @@ pub(crate) fn notify_all(files: &mut Vec<ChipFile>, place: u8, changed: &Changed
     }
 }
 
-/// Moves a file's first changes into `out`.
-#[tactic(auto, using(crate::proofs::Found::found))]
-pub(crate) fn read_file(files: &mut Vec<ChipFile>, fd: u32, max: u32, out: &mut [u8]) -> u32
-    requires { INFO_CHANGED_SIZE * max ≤ length out.old }
-    ensures count { result ≡ min max (length (waiting_in (file_at fd files.old.items))) }
-    ensures files { files.new.items ≡ change_first (is_file fd) (without_changes result) files.old.items }
-    ensures out { out.new ≡ flat_map changed_bytes (take result (waiting_in (file_at fd files.old.items))) ++ drop (INFO_CHANGED_SIZE * result) out.old }
-    ensures capacity { vec_capacity files.new ≡ vec_capacity files.old }
-    ensures as_many { length files.new.items ≡ length files.old.items }
-{
-    match position_of(files, fd) {
-        Some(at) => read_file_at(files, FileAt { fd, at }, max, out),
-        None => 0,
-    }
-}
-
-/// The same, of the file that was found.
+/// Moves the first changes of the file that was found into `out`.
 #[tactic(auto, using(crate::proofs::Found::found))]
 pub(crate) fn read_file_at(
     files: &mut Vec<ChipFile>,

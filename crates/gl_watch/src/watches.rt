@@ -9,9 +9,7 @@ ghost use Rattle.gl_uapi.specs.InfoChanged.{changed_bytes};
 use crate::file::{ChipFile, FileAt};
 use crate::lines::WatchedLines;
 use crate::queue::InfoQueue;
-use crate::table::{
-    file_at, notify_all, position_of, read_file, read_file_at, remove_file, set_watch, set_watch_at,
-};
+use crate::table::{file_at, notify_all, position_of, read_file_at, remove_file, set_watch_at};
 use gl_base::{Errno, FILES_MAX, LINES_MAX, push_within};
 use gl_uapi::Changed;
 use gl_uapi::layout::INFO_CHANGED_SIZE;
@@ -129,21 +127,16 @@ impl Watches {
 
     /// Makes a file watch a line. `Busy` comes exactly where this file watches it, and then nothing changes;
     /// without such a file nothing changes either.
+    #[tactic(auto, using(crate::proofs::Found::found))]
     pub fn watch(&mut self, fd: u32, offset: u32) -> Result<(), Errno>
         requires { offset < LINES_MAX }
         ensures answer { result ≡ answer (watch_refusal offset (file_at fd self.old)) tt }
         ensures files { self.new ≡ unless (watch_refusal offset (file_at fd self.old)) (change_first (is_file fd) (with_watch offset true) self.old) self.old }
     {
-        match file_at(&self.files, fd) {
-            Some(file) => {
-                if file.is_watching(offset) {
-                    return Err(Errno::Busy);
-                }
-            }
-            None => {}
+        match position_of(&self.files, fd) {
+            Some(at) => self.watch_at(FileAt { fd, at }, offset),
+            None => Ok(()),
         }
-        set_watch(&mut self.files, fd, offset, true);
-        Ok(())
     }
 
     /// The same, of the file that was found.
@@ -163,21 +156,16 @@ impl Watches {
 
     /// Makes a file watch a line no more. `Busy` comes exactly where this file doesn't watch it, and then
     /// nothing changes; without such a file nothing changes either.
+    #[tactic(auto, using(crate::proofs::Found::found))]
     pub fn unwatch(&mut self, fd: u32, offset: u32) -> Result<(), Errno>
         requires { offset < LINES_MAX }
         ensures answer { result ≡ answer (unwatch_refusal offset (file_at fd self.old)) tt }
         ensures files { self.new ≡ unless (unwatch_refusal offset (file_at fd self.old)) (change_first (is_file fd) (with_watch offset false) self.old) self.old }
     {
-        match file_at(&self.files, fd) {
-            Some(file) => {
-                if !file.is_watching(offset) {
-                    return Err(Errno::Busy);
-                }
-            }
-            None => {}
+        match position_of(&self.files, fd) {
+            Some(at) => self.unwatch_at(FileAt { fd, at }, offset),
+            None => Ok(()),
         }
-        set_watch(&mut self.files, fd, offset, false);
-        Ok(())
     }
 
     /// The same, of the file that was found.
@@ -204,11 +192,12 @@ impl Watches {
     }
 
     /// How many changes wait for a file; 0 without such a file.
+    #[tactic(auto, using(crate::proofs::Found::found))]
     pub fn waiting(&self, fd: u32) -> u32
         ensures { result ≡ length (waiting_in (file_at fd self.now)) }
     {
-        match file_at(&self.files, fd) {
-            Some(file) => file.changes.len(),
+        match position_of(&self.files, fd) {
+            Some(at) => self.waiting_at(FileAt { fd, at }),
             None => 0,
         }
     }
@@ -224,13 +213,17 @@ impl Watches {
 
     /// Moves a file's first changes into `out`, at most `max` of them, as bytes one after the other, and
     /// answers how many. What stands behind them in `out` stays.
+    #[tactic(auto, using(crate::proofs::Found::found))]
     pub fn read(&mut self, fd: u32, max: u32, out: &mut [u8]) -> u32
         requires { INFO_CHANGED_SIZE * max ≤ length out.old }
         ensures count { result ≡ min max (length (waiting_in (file_at fd self.old))) }
         ensures files { self.new ≡ change_first (is_file fd) (without_changes result) self.old }
         ensures out { out.new ≡ flat_map changed_bytes (take result (waiting_in (file_at fd self.old))) ++ drop (INFO_CHANGED_SIZE * result) out.old }
     {
-        read_file(&mut self.files, fd, max, out)
+        match position_of(&self.files, fd) {
+            Some(at) => self.read_at(FileAt { fd, at }, max, out),
+            None => 0,
+        }
     }
 
     /// The same, of the file that was found.

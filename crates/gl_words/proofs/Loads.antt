@@ -18,7 +18,7 @@ use Rattle.gl_base.specs.Decimal.{decimal, plain_number_of_text}
 use Rattle.gl_base.proofs.Decimals.{decimal-plain_number, digits-decimal}
 use Rattle.gl_script.specs.Forms.{within}
 use Rattle.gl_script.specs.declared.limits.TheConstants.{TURNS_MAX}
-use Rattle.gl_words.specs.declared.asked.Task.TheVariants.{Check, Load}
+use Rattle.gl_words.specs.declared.task.Task.TheVariants.{Check, Load}
 use Rattle.gl_words.specs.Command.{load_command}
 use Rattle.gl_words.specs.Words.{asks}
 

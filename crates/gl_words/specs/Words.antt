@@ -1,4 +1,4 @@
--- What the words behind the program's name ask for: none ask for a session, `check` for a check, and `--generate N` for a load of N
+-- What the words after the program's name ask for: none ask for a session, `check` for a check, and `--generate N` for a load of N
 -- turns. All others ask for nothing. This project's choice.
 use Rattle.std.specs.Prelude.{◌≡◌, ℕ, if◌then◌else◌, List, [], ◌∷◌, map, option_map, codes, Option, Some, None}
 use Rattle.std.specs.Borrow.{Bor}
@@ -6,8 +6,8 @@ use Rattle.std.specs.Str.{bytes_eq}
 use Rattle.gl_base.specs.Decimal.{plain_number_of_text}
 use Rattle.gl_script.specs.Forms.{within}
 use Rattle.gl_script.specs.declared.limits.TheConstants.{TURNS_MAX}
-use Rattle.gl_words.specs.declared.asked.Task.{Task}
-use Rattle.gl_words.specs.declared.asked.Task.TheVariants.{Session, Load, Check}
+use Rattle.gl_words.specs.declared.task.Task.{Task}
+use Rattle.gl_words.specs.declared.task.Task.TheVariants.{Session, Load, Check}
 
 -- the texts of words that are lent
 abbrev pub texts : List (Bor (List ℕ)) → List (List ℕ)

@@ -1,7 +1,7 @@
 //! What makes the definition of the program's words trustworthy.
 ghost use Rattle.std.specs.Prelude.{◌≡◌, ◌≤◌, ℕ, List, Some};
 ghost use Rattle.gl_words.specs.Words.{asks};
-ghost use Rattle.gl_words.specs.declared.asked.Task.TheVariants.{Load};
+ghost use Rattle.gl_words.specs.declared.task.Task.TheVariants.{Load};
 
 use gl_script::TURNS_MAX;
 

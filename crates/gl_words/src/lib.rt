@@ -1,8 +1,8 @@
 //! What the program's words ask for.
 #![tactic(auto)]
 
-mod asked;
 mod laws;
+mod task;
 
-pub use asked::{Task, WordsFault, read_words};
 pub use laws::loads_are_within;
+pub use task::{Task, WordsFault, read_words};

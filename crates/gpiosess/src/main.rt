@@ -29,7 +29,7 @@ fn main(rt: HostRuntime) -> ExitCode {
     ExitCode::from(status.number())
 }
 
-/// Carries out what the words behind the program's own name ask for.
+/// Carries out what the words after the program's own name ask for.
 fn carry_out_args<R: Threads + Wait + Sync, S: Source, K: Sink>(
     rt: &R,
     alloc: Global,

@@ -7,7 +7,7 @@ ghost use Rattle.gl_script.specs.declared.refusal.Refusal.{Refusal};
 ghost use Rattle.gl_script.specs.Section.{SaidSection};
 ghost use Rattle.gl_script.specs.Sentence.{Sentence, first_fault};
 ghost use Rattle.gl_words.specs.Words.{asks, texts};
-ghost use Rattle.gl_words.specs.declared.asked.Task.TheVariants.{Check, Load};
+ghost use Rattle.gl_words.specs.declared.task.Task.TheVariants.{Check, Load};
 ghost use Rattle.gl_session.specs.Ports.{AreAllThere};
 ghost use Rattle.gl_session.specs.Run.{IsRefusal, refused_line, usage_line};
 ghost use Rattle.gl_session.specs.Verdict.{IsJudgment, IsLawful, IsVerdict, verdict_line, verdict_status, yes_line};
@@ -65,7 +65,7 @@ pub fn carry_out<R: Threads + Wait + Sync, S: Source, K: Sink>(
         (result ≡ Status.Ran) ⊎ (result ≡ Status.NoMemory)) }
     ensures no_only { result ≡ Status.No → asks (texts words.now) ≡ Some Check }
 
-    // Words that ask for nothing are answered first, and where there are words nothing is read, but for a check.
+    // Words that ask for nothing are answered first, and where there are words nothing is read, except for a check.
     ensures usage { asks (texts words.now) ≡ None → (result ≡ Status.Usage) ⊎ (result ≡ Status.WriteFault) }
     ensures usage_only { result ≡ Status.Usage → asks (texts words.now) ≡ None }
     ensures usage_written { result ≡ Status.Usage → Appends (K.held sink.old) (K.held sink.new) usage_line }

@@ -1,6 +1,6 @@
 use Rattle.std.proofs.Common.{ap, ◌∙◌, arith}
 use Rattle.gl_base.proofs.AtPositions.{table_from-filled}
-use Rattle.gl_model.specs.Asked.{lines_asked, offset_asked}
+use Rattle.gl_model.specs.AskedLines.{lines_asked, offset_asked}
 use Rattle.gl_asking.proofs.commanding.lines_in.Goals as goal
 
 pub returns : goal.returns

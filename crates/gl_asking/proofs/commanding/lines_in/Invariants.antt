@@ -1,6 +1,6 @@
 -- the offsets so far
 use Rattle.std.proofs.Common.{◌≡◌, ◌<◌, ℕ, length, get_or}
-use Rattle.gl_model.specs.Asked.{offset_asked}
+use Rattle.gl_model.specs.AskedLines.{offset_asked}
 use Rattle.gl_asking.proofs.commanding.lines_in.Given as goal
 
 abbrev pub invariant-loop-i : goal.invariant-loop-i

@@ -1,6 +1,6 @@
 use Rattle.std.proofs.Common.{◌≡◌, ◌<◌, ap, sym, ◌∙◌, arith}
 use Rattle.gl_base.proofs.AtPositions.{first_fault_here}
-use Rattle.gl_model.specs.Asked.{AskedLines}
+use Rattle.gl_model.specs.AskedLines.{AskedLines}
 use Rattle.gl_model.specs.Claiming.{line_refusal}
 use Rattle.gl_core.proofs.claiming.first_refusal.Goals as goal
 

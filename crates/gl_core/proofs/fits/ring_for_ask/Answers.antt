@@ -3,7 +3,7 @@ use Rattle.std.proofs.Common.{◌≡◌, Option, Some, None, [], take}
 use Rattle.circular_buffer.specs.Buffer.{Buffer, buffer}
 use Rattle.gl_uapi.specs.declared.line_events.Event.{Event}
 use Rattle.gl_uapi.specs.declared.layout.TheConstants.{LINE_REQUEST_SIZE}
-use Rattle.gl_model.specs.Asked.{capacity_asked, request_fault}
+use Rattle.gl_model.specs.AskedLines.{capacity_asked, request_fault}
 use Rattle.gl_model.specs.declared.call.Part.TheVariants.{Ask}
 use Rattle.gl_model.specs.Fits.{BringsRing}
 use Rattle.gl_core.proofs.fits.ring_for_ask.Goals as goal

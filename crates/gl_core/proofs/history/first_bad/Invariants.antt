@@ -1,4 +1,4 @@
--- the entries so far are legal, and the core stands for the world behind them
+-- the entries so far are legal, and the core stands for the world after them
 use Rattle.std.proofs.Common.{take}
 use Rattle.gl_model.specs.Machine.{IsLegal, world_of}
 use Rattle.gl_core.specs.Kept.{StandsFor}

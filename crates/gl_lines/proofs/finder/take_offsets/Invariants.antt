@@ -4,7 +4,7 @@ use Rattle.gl_args.specs.declared.names.ToolName.{ToolName}
 use Rattle.gl_lines.specs.Finding.{looks}
 use Rattle.gl_lines.proofs.finder.take_offsets.Given as goal
 
--- what is done with the lines that are left, behind those that were found, is what was to be done; those of before stay in front
+-- what is done with the lines that are left, after those that were found, is what was to be done; those of before stay in front
 abbrev pub invariant-loop-i : goal.invariant-loop-i
 invariant-loop-i l =
     ((tool : ToolName) (base made : ℕ) →

@@ -1,5 +1,5 @@
 use Rattle.std.proofs.Common.{◌≡◌, ◌+◌, drop, length}
-use Rattle.gl_args.specs.Program.{done}
+use Rattle.gl_client.specs.Program.{done}
 use Rattle.gl_script.specs.Script.{sections_of}
 use Rattle.gl_talk.specs.Talk.{names_in, says}
 use Rattle.gl_check.specs.One.{said_in_kind}
@@ -7,7 +7,7 @@ use Rattle.gl_session.specs.OneActor.{count_in_kind}
 use Rattle.gl_session.specs.Performed.{PlaysOn}
 use Rattle.gl_session.proofs.one_actor.play_kind.Given as goal
 
--- the sections were carried out so far, and those that are left come behind
+-- the sections were carried out so far, and those that are left come after
 abbrev pub invariant-loop-section : goal.invariant-loop-section
 invariant-loop-section g l =
     (l.player.gate ≡ l.initial.player.gate)

@@ -1,5 +1,5 @@
 use Rattle.std.proofs.Common.{inl, inr, ⊎_elim, ap, None}
-use Rattle.gl_args.specs.Program.{given}
+use Rattle.gl_client.specs.Program.{given}
 use Rattle.gl_script.specs.Script.{sections_of}
 use Rattle.gl_talk.specs.Talk.{names_in}
 use Rattle.gl_check.specs.One.{said_in_kind}

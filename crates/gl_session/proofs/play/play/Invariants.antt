@@ -1,5 +1,5 @@
 use Rattle.std.proofs.Common.{◌≡◌, None}
-use Rattle.gl_args.specs.Program.{given}
+use Rattle.gl_client.specs.Program.{given}
 use Rattle.gl_talk.specs.Talk.{left}
 use Rattle.gl_session.specs.Performed.{PlaysOn}
 use Rattle.gl_session.proofs.play.play.Given as goal

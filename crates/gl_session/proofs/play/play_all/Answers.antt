@@ -1,5 +1,5 @@
 use Rattle.std.proofs.Common.{◌≡◌, ℕ, List, inl, inr, ⊎_elim, ap, ◌∙◌, None, arith, refl}
-use Rattle.gl_args.specs.Program.{given, goes_on}
+use Rattle.gl_client.specs.Program.{given, goes_on}
 use Rattle.gl_script.specs.Columns.{columns}
 use Rattle.gl_talk.specs.declared.talk.Talk.{Talk}
 use Rattle.gl_talk.specs.Open.{Names}

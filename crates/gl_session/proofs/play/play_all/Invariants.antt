@@ -1,11 +1,11 @@
 use Rattle.std.proofs.Common.{◌≡◌, ◌+◌, drop, map}
-use Rattle.gl_args.specs.Program.{done}
+use Rattle.gl_client.specs.Program.{done}
 use Rattle.gl_talk.specs.Over.{columns_in}
 use Rattle.gl_talk.specs.Talk.{names_in, says}
 use Rattle.gl_session.specs.Performed.{PlaysOn}
 use Rattle.gl_session.proofs.play.play_all.Given as goal
 
--- the statements were carried out so far, and those that are left come behind
+-- the statements were carried out so far, and those that are left come after
 abbrev pub invariant-loop-statement : goal.invariant-loop-statement
 invariant-loop-statement g l =
     (l.player.gate ≡ l.initial.player.gate)

@@ -1,6 +1,6 @@
 use Rattle.std.proofs.Common.{rules, inl, inr, ⊎_elim}
-use Rattle.gl_args.specs.Program.{Goes, given}
-use Rattle.gl_args.specs.declared.next.Next.TheVariants.{Call, Print}
+use Rattle.gl_client.specs.Program.{Goes, given}
+use Rattle.gl_client.specs.declared.next.Next.TheVariants.{Call, Print}
 use Rattle.gl_talk.specs.Talk.{left}
 use Rattle.gl_session.proofs.Plays.{did_turn, full_turn, printed_turn}
 use Rattle.gl_session.proofs.play.turn.Goals as goal

@@ -1,5 +1,5 @@
 use Rattle.std.proofs.Common.{◌≡◌, [], Option, arith, inl, inr, ⊎_elim, refl, subst, ◌∙◌}
-use Rattle.gl_args.specs.Program.{done}
+use Rattle.gl_client.specs.Program.{done}
 use Rattle.gl_driver.specs.Told.{Told}
 use Rattle.gl_script.specs.Script.{sections_of}
 use Rattle.gl_script.specs.declared.section.SectionKind.TheVariants.{After, Setup}

@@ -1,5 +1,5 @@
 use Rattle.std.proofs.Common.{ap, inl, inr, map, sym, subst, ⊎_elim, None, Option, List, ℕ, ◌∙◌}
-use Rattle.gl_args.specs.Program.{given}
+use Rattle.gl_client.specs.Program.{given}
 use Rattle.gl_talk.specs.Open.{no_names}
 use Rattle.gl_talk.specs.Over.{columns_in}
 use Rattle.gl_talk.specs.Talk.{talks}

@@ -1,6 +1,6 @@
 use Rattle.std.proofs.Common.{◌≡◌, drop, None}
 use Rattle.std.specs.Option.{option_copied}
-use Rattle.gl_args.specs.Program.{given, then_left}
+use Rattle.gl_client.specs.Program.{given, then_left}
 use Rattle.gl_talk.specs.Open.{Names}
 use Rattle.gl_talk.specs.Over.{joined}
 use Rattle.gl_talk.specs.Talk.{Does, left, talked}

@@ -1,5 +1,5 @@
 use Rattle.std.proofs.Common.{[], ◌∙◌, arith, drop}
-use Rattle.gl_args.specs.Program.{done}
+use Rattle.gl_client.specs.Program.{done}
 use Rattle.gl_talk.specs.Talk.{left, names_in, talks}
 use Rattle.gl_talk.proofs.TalkedSteps.{finishing, none_left}
 use Rattle.gl_talk.proofs.over.talk_over.Goals as goal

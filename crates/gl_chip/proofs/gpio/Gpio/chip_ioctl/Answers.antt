@@ -2,10 +2,10 @@ use Rattle.std.proofs.Common.{◌≡◌, ℕ, List, [], ◌++◌, length, take, 
 use Rattle.gl_base.specs.declared.errno.Errno.TheVariants.{NoMemory}
 use Rattle.gl_base.specs.declared.lines.Lines.{Lines}
 use Rattle.gl_uapi.specs.declared.layout.TheConstants.{LINE_REQUEST_SIZE}
-use Rattle.gl_model.specs.Asked.{lines_asked}
+use Rattle.gl_model.specs.AskedLines.{lines_asked}
 use Rattle.gl_model.specs.declared.device_call.DeviceCall.TheVariants.{Commanding}
 use Rattle.gl_chip.specs.Answering.{AnswersInOrder}
-use Rattle.gl_chip.specs.Commanding.{CommandsOut, request_in, requested_of}
+use Rattle.gl_chip.specs.DriverCommands.{CommandsOut, request_in, requested_of}
 use Rattle.gl_asking.specs.Driving.{op_for}
 use Rattle.gl_asking.specs.Opened.{ChipFile}
 use Rattle.gl_chip.specs.Files.{LineFile}

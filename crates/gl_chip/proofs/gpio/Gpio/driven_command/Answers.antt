@@ -1,7 +1,7 @@
 use Rattle.std.proofs.Common.{rules, ◌≡◌, ℕ, List, ◌++◌, length, drop, sym, refl, ap, subst, ◌∙◌}
 use Rattle.std.proofs.lemmas.Bool.{true≢false}
 use Rattle.gl_rule.specs.Sums.{without}
-use Rattle.gl_chip.specs.Commanding.{HasCommanded}
+use Rattle.gl_chip.specs.DriverCommands.{HasCommanded}
 use Rattle.gl_asking.specs.Handed.{command_in}
 use Rattle.gl_core.specs.Device.{core}
 use Rattle.gl_chip.proofs.CommandCalls.{called_command, idle_commanded, inside_after, left_place, refused_no_number, turned_away}

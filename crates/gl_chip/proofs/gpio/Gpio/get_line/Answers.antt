@@ -4,9 +4,9 @@ use Rattle.gl_base.specs.declared.lines.Lines.{Lines}
 use Rattle.gl_base.specs.declared.op.Op.{Op}
 use Rattle.gl_uapi.specs.Command.{command_of}
 use Rattle.gl_uapi.specs.declared.layout.TheConstants.{LINE_REQUEST_SIZE}
-use Rattle.gl_model.specs.Asked.{lines_asked}
+use Rattle.gl_model.specs.AskedLines.{lines_asked}
 use Rattle.gl_model.specs.declared.device_call.DeviceCall.TheVariants.{Commanding}
-use Rattle.gl_chip.specs.Commanding.{HasCommanded, IsOp, request_in, requested_of}
+use Rattle.gl_chip.specs.DriverCommands.{HasCommanded, IsOp, request_in, requested_of}
 use Rattle.gl_asking.specs.Driving.{op_for}
 use Rattle.gl_chip.specs.Files.{LineFile}
 use Rattle.gl_asking.specs.Handed.{command_in, handed_in}

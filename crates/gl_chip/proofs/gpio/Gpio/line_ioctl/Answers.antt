@@ -4,7 +4,7 @@ use Rattle.gl_base.specs.declared.op.Op.{Op}
 use Rattle.gl_uapi.specs.Command.{command_of}
 use Rattle.gl_base.specs.Count.{Rises}
 use Rattle.gl_chip.specs.Answering.{AnswersInOrder, ConfiguresInOrder}
-use Rattle.gl_chip.specs.Commanding.{CommandsOut, HasCommanded}
+use Rattle.gl_chip.specs.DriverCommands.{CommandsOut, HasCommanded}
 use Rattle.gl_asking.specs.Driving.{op_for, op_of}
 use Rattle.gl_chip.specs.Files.{LineFile}
 use Rattle.gl_asking.specs.Handed.{command_in}

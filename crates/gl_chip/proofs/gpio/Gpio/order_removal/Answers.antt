@@ -1,4 +1,4 @@
-use Rattle.gl_chip.specs.Removing.{removal_of}
+use Rattle.gl_chip.specs.Removals.{removal_of}
 use Rattle.gl_chip.proofs.OrderedCalls.{removal_done, was_full_removing}
 use Rattle.gl_chip.proofs.gpio.Gpio.order_removal.Goals as goal
 

@@ -2,7 +2,7 @@ use Rattle.std.proofs.Common.{rules, ◌≡◌, ℕ, List, length, sym, ◌∙�
 use Rattle.std.proofs.lemmas.Bool.{true≢false}
 use Rattle.gl_model.specs.declared.device_call.DeviceCall.TheVariants.{Removing}
 use Rattle.gl_chip.specs.Called.{HasCalled}
-use Rattle.gl_chip.specs.Removing.{AllDrained, RemovedBy, removal_of}
+use Rattle.gl_chip.specs.Removals.{AllDrained, RemovedBy, removal_of}
 use Rattle.gl_chip.proofs.GoneChips.{ended_not_gone, refused_as_gone}
 use Rattle.gl_chip.proofs.RemovalCalls.{done_not_undone, first_is_refused, full_removal, unplug_drains, has_begun, not_begun, refused_idle, refused_removal, removed_at_first, removed_whole, two_are, whole_removal}
 use Rattle.gl_chip.proofs.WholeCalls.{idle_called, seen_from}

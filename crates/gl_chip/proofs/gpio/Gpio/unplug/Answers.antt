@@ -3,7 +3,7 @@ use Rattle.gl_model.specs.declared.device_call.DeviceCall.TheVariants.{Removing}
 use Rattle.gl_model.specs.declared.device_call.RemovalOf.TheVariants.{OfChip}
 use Rattle.gl_gate.specs.Calls.{KnowsClosed, KnowsDrained}
 use Rattle.gl_chip.specs.Opened.{LastFinds}
-use Rattle.gl_chip.specs.Removing.{is_gone_outside}
+use Rattle.gl_chip.specs.Removals.{is_gone_outside}
 use Rattle.gl_chip.proofs.GoneChips.{gone_is_told}
 use Rattle.gl_chip.proofs.RemovalCalls.{ends_as_begun, ok_is_done, removes_out}
 use Rattle.gl_chip.proofs.gpio.Gpio.unplug.Goals as goal

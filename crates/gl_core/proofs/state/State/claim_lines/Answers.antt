@@ -2,7 +2,7 @@ use Rattle.std.proofs.Common.{◌≡◌, List, length, [], ap, sym, subst, ◌�
 use Rattle.circular_buffer.specs.Buffer.{buffer}
 use Rattle.gl_base.specs.Lines.{offsets_of}
 use Rattle.gl_desc.specs.Desc.{claimed}
-use Rattle.gl_model.specs.Asked.{AskedLines}
+use Rattle.gl_model.specs.AskedLines.{AskedLines}
 use Rattle.gl_model.specs.Claiming.{claim_lines}
 use Rattle.gl_model.specs.declared.place.Place.{Place}
 use Rattle.gl_core.specs.Claims.{AreFree, NumbersAreBelow}

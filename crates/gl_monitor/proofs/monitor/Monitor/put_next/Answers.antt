@@ -1,4 +1,4 @@
-use Rattle.gl_args.proofs.Programs.{given_then}
+use Rattle.gl_client.proofs.Programs.{given_then}
 use Rattle.gl_monitor.proofs.Staying.{on_err, begin_stays, finding_stays}
 use Rattle.gl_monitor.proofs.monitor.Monitor.put_next.Goals as goal
 

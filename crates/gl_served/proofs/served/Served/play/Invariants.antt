@@ -1,4 +1,4 @@
-use Rattle.gl_args.specs.Program.{Program}
+use Rattle.gl_client.specs.Program.{Program}
 use Rattle.gl_talk.specs.Open.{Names}
 use Rattle.gl_check.specs.One.{PlannedPort, Standing}
 use Rattle.gl_served.specs.UnderWay.{IsAsBefore, IsGoing, IsSameSession}

@@ -1,5 +1,5 @@
 use Rattle.std.proofs.Common.{IfOk, ap, rules}
-use Rattle.gl_args.specs.Program.{Goes, given}
+use Rattle.gl_client.specs.Program.{Goes, given}
 use Rattle.gl_talk.specs.Talk.{left, names_in}
 use Rattle.gl_served.specs.Alone.{alone_in}
 use Rattle.gl_served.specs.Served.{ServedValue}

@@ -1,7 +1,7 @@
 use Rattle.std.proofs.Common.{◌≡◌, ℕ, Vec, Global, None, Result, Ok, ap, refl, ◌∙◌, subst, rules}
-use Rattle.gl_args.specs.Program.{given}
-use Rattle.gl_args.specs.declared.next.Next.{Next}
-use Rattle.gl_args.specs.declared.next.Next.TheVariants.{Call, End, Print}
+use Rattle.gl_client.specs.Program.{given}
+use Rattle.gl_client.specs.declared.next.Next.{Next}
+use Rattle.gl_client.specs.declared.next.Next.TheVariants.{Call, End, Print}
 use Rattle.gl_base.specs.declared.errno.Errno.{Errno}
 use Rattle.gl_served.specs.UnderWay.{Advances, first_or, left_by, told_by}
 use Rattle.gl_served.specs.declared.under_way.Step.TheVariants.{Told, Asks, Prints}

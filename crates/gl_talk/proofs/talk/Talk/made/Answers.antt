@@ -1,6 +1,6 @@
 use Rattle.std.proofs.Common.{map, ap, ◌∙◌, List, ℕ}
 use Rattle.gl_script.specs.Columns.{columns}
-use Rattle.gl_talk.specs.declared.files.FileKind.TheVariants.{Request}
+use Rattle.gl_talk.specs.declared.files.TalkFileKind.TheVariants.{Request}
 use Rattle.gl_talk.specs.Open.{File, file_in, with_file}
 use Rattle.gl_talk.specs.Talk.{names_in, slot_in}
 use Rattle.gl_talk.specs.Words.{made_name, name_word}

@@ -1,6 +1,6 @@
 use Rattle.std.specs.Option.{option_copied}
-use Rattle.gl_args.specs.declared.next.Next.TheVariants.{Call, Print}
-use Rattle.gl_args.specs.Program.{done}
+use Rattle.gl_client.specs.declared.next.Next.TheVariants.{Call, Print}
+use Rattle.gl_client.specs.Program.{done}
 use Rattle.gl_values.specs.Client.{client_left}
 use Rattle.gl_talk.specs.Talk.{names_in}
 use Rattle.gl_talk.proofs.Continuing.{part_step}

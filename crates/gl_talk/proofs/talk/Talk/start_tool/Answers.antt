@@ -1,6 +1,6 @@
 use Rattle.std.proofs.Common.{sym, subst, ap, ◌∙◌, ◌≡◌, Some, None}
 use Rattle.gl_args.specs.Options.{tool_in}
-use Rattle.gl_args.specs.Program.{Goes, done, given, then_left}
+use Rattle.gl_client.specs.Program.{Goes, done, given, then_left}
 use Rattle.gl_args.specs.Tools.{tool_said}
 use Rattle.gl_script.specs.Columns.{columns}
 use Rattle.gl_talk.specs.Talk.{names_in, left, runs, slot_in, words_in}

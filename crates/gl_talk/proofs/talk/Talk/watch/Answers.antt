@@ -1,7 +1,7 @@
 use Rattle.std.proofs.Common.{List, map, rules, sym, ap, subst}
 use Rattle.std.specs.Option.{option_copied}
-use Rattle.gl_args.specs.declared.next.Next.TheVariants.{Call, Print}
-use Rattle.gl_args.specs.Program.{Goes, given, then_left}
+use Rattle.gl_client.specs.declared.next.Next.TheVariants.{Call, Print}
+use Rattle.gl_client.specs.Program.{Goes, given, then_left}
 use Rattle.gl_base.specs.Words.{text_at}
 use Rattle.gl_monitor.specs.Monitor.{monitor_left}
 use Rattle.gl_talk.specs.Open.{MonitorTool, monitor_in}

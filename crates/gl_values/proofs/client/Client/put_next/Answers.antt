@@ -1,5 +1,5 @@
 use Rattle.std.proofs.Common.{refl}
-use Rattle.gl_args.proofs.Programs.{given_then}
+use Rattle.gl_client.proofs.Programs.{given_then}
 use Rattle.gl_values.specs.Detect.{left}
 use Rattle.gl_values.specs.Get.{get_left}
 use Rattle.gl_values.specs.Info.{info_left}

@@ -1,7 +1,7 @@
 use Rattle.std.proofs.Common.{◌≡◌, Some, sym, ap, ◌∙◌, subst}
-use Rattle.gl_args.specs.declared.next.Next.TheVariants.{End}
+use Rattle.gl_client.specs.declared.next.Next.TheVariants.{End}
 use Rattle.gl_args.specs.Options.{options_in}
-use Rattle.gl_args.specs.Program.{Goes, done, then_by}
+use Rattle.gl_client.specs.Program.{Goes, done, then_by}
 use Rattle.gl_lines.specs.Finding.{left, found_where}
 use Rattle.gl_lines.proofs.FoundEnds.{finder_ends}
 use Rattle.gl_values.specs.Get.{get, get_left}

@@ -1,4 +1,4 @@
-use Rattle.gl_args.proofs.Programs.{given_then}
+use Rattle.gl_client.proofs.Programs.{given_then}
 use Rattle.gl_values.proofs.Staying.{on_err, get_stays}
 use Rattle.gl_values.proofs.get.Get.put_next.Goals as goal
 

@@ -1,0 +1,138 @@
+//! Commands on open files, by their numbers.
+
+ghost use Rattle.std.specs.Prelude.{◌≡◌, ◌≢◌, ◌<◌, ◌^◌, ◌++◌, ℕ, List, false, true, Some, Err, length, take, drop, is_some, IfOk};
+ghost use Rattle.gl_base.specs.Count.{Rises};
+ghost use Rattle.gl_base.specs.declared.errno.Errno.TheVariants.{NoMemory};
+ghost use Rattle.gl_uapi.specs.Command.{command_of};
+ghost use Rattle.gl_uapi.specs.declared.commands.Command.TheVariants.{SetConfig};
+ghost use Rattle.gl_uapi.specs.declared.layout.TheConstants.{LINE_REQUEST_SIZE};
+ghost use Rattle.gl_model.specs.AskedLines.{lines_asked};
+ghost use Rattle.gl_model.specs.Entries.{is_get_line};
+ghost use Rattle.gl_model.specs.Parts.{is_driver_asked};
+ghost use Rattle.gl_chip.specs.Answering.{AnswersInOrder, ConfiguresInOrder, RequestsInOrder, WasLetIn};
+ghost use Rattle.gl_chip.specs.DriverCommands.{CommandsOut, TakesMemory, requested_of};
+ghost use Rattle.gl_asking.specs.Driving.{op_for};
+ghost use Rattle.gl_asking.specs.Handed.{command_in};
+ghost use Rattle.gl_asking.specs.Results.{done_of};
+ghost use Rattle.gl_chip.specs.Values.{IsActorOf, IsSameActor};
+
+use crate::actor::Actor;
+use crate::driver_operations::line_op;
+use crate::files::{ChipFd, LineFd};
+use crate::get_line::without_file;
+use crate::gpio::Gpio;
+use crate::inner::nothing;
+use crate::plain_commands::{OpenFile, is_driver_asked};
+use crate::results;
+use gl_asking::handed_in;
+use gl_base::Errno;
+use gl_core::Core;
+use gl_driver::Driver;
+use std::alloc::Global;
+use std::sync::Wait;
+
+impl<D: Driver<Core>> Gpio<D> {
+    /// A command on an open chip, by its number in `linux/gpio.h`, with its structure in the buffer.
+    ///
+    /// GET_LINE asks the driver, once, where the machine lets it; where it succeeds, and only there, it gives a file, of the lines
+    /// that the buffer named. Its ring is taken before its first entry: when out of memory, nothing was done.
+    ///
+    /// `NoDev` where the removal of the chip had closed the place; `BadF` where no open file has this number at this place;
+    /// `Inval` where the command isn't one of the file that has this number here (a chip's, where the file is of this device);
+    /// `Fault` where the buffer is shorter than the command's structure; then the command's own refusals; `Full` where the
+    /// history is full. GET_LINE is refused for its bytes alone, with `MFile` where no more file can be open, and then for
+    /// its first faulty line: `Inval` where the chip has no such line, `Busy` where somebody has it, it stands earlier in the
+    /// request or its pin is held, `NxIo` where it is to tell of edges and has no interrupt, `Io` where it is to be an output
+    /// and is locked as an enabled interrupt. `Io` also comes where the driver failed, which its port has counted, and
+    /// `NoMemory` where the ring found none.
+    pub fn chip_ioctl<R: Wait>(
+        &self,
+        rt: &R,
+        alloc: Global,
+        actor: &mut Actor<D>,
+        fd: &ChipFd,
+        cmd: u32,
+        buf: &mut [u8],
+    ) -> Result<Option<LineFd>, Errno>
+        requires actor { IsActorOf self.now actor.old }
+        requires length { length buf.old < 2 ^ 32 }
+        ensures actor { IsActorOf self.now actor.new }
+        ensures same { IsSameActor actor.old.pass.view actor.new.pass.view }
+        ensures memory { result ≡ Err NoMemory → TakesMemory (command_in fd.now.place fd.now.fd true cmd buf.old) × (actor.new ≡ actor.old) × (buf.new ≡ buf.old) }
+        ensures called { result ≢ Err NoMemory → let c = command_in fd.now.place fd.now.fd true cmd buf.old in
+            let lines = lines_asked (take LINE_REQUEST_SIZE c.bytes) in
+            (bytes : List ℕ) × (buf.new ≡ bytes ++ drop (length bytes) buf.old)
+            × CommandsOut D.Port.told D.Port.faults D.OwnEntries D.ENTRIES D.is_planned
+            (requested_of fd.now.place lines) result (op_for lines c) actor.old c bytes actor.new }
+        ensures file { IfOk result (λ file. is_some file ≡ is_get_line (command_of cmd)) }
+        ensures told { is_driver_asked true (length buf.old) (command_of cmd) ≡ true → WasLetIn result → let c = command_in fd.now.place fd.now.fd true cmd buf.old in
+            AnswersInOrder (requested_of fd.now.place (lines_asked (take LINE_REQUEST_SIZE c.bytes))) result actor.old.pass.view actor.new.pass.view c }
+        ensures first_faulty { is_driver_asked true (length buf.old) (command_of cmd) ≡ true → WasLetIn result → let c = command_in fd.now.place fd.now.fd true cmd buf.old in
+            RequestsInOrder (Rises (D.Port.faults actor.old.port) (D.Port.faults actor.new.port)) result actor.old.pass.view actor.new.pass.view c }
+    {
+        let (place, fd) = (fd.place, fd.fd);
+        if is_driver_asked(true, buf.len() as u32, cmd) {
+            return self.get_line(rt, alloc, actor, place, fd, cmd, buf);
+        }
+        let file = OpenFile {
+            place,
+            fd,
+            of_chip: true,
+        };
+        match self.whole_command(rt, actor, file, cmd, buf) {
+            Ok(reply) => without_file(reply),
+            Err(errno) => Err(errno),
+        }
+    }
+
+    /// A command on an open request, by its number in `linux/gpio.h`, with its structure in the buffer.
+    ///
+    /// SET_CONFIG, GET_VALUES and SET_VALUES ask the driver, once, where the machine lets them; GET_VALUES writes its structure.
+    ///
+    /// `NoDev` where the removal of the chip had closed the place; `BadF` where no open file has this number at this place;
+    /// `Inval` where the command isn't one of the file that has this number here (a request, where the file is of this
+    /// device); `Fault` where the buffer is shorter than the command's structure; then the command's own refusals; `Io` where
+    /// the driver failed, which its port has counted; `Full` where the history is full. SET_CONFIG is refused for its bytes
+    /// alone, and then, before the driver is asked and again after it, for the first faulty line among those to which it
+    /// gives a direction: `NxIo` where it is to tell of edges and has no interrupt, `Io` where it is to be an output and is
+    /// locked as an enabled interrupt.
+    pub fn line_ioctl<R: Wait>(
+        &self,
+        rt: &R,
+        actor: &mut Actor<D>,
+        fd: &LineFd,
+        cmd: u32,
+        buf: &mut [u8],
+    ) -> Result<(), Errno>
+        requires actor { IsActorOf self.now actor.old }
+        requires length { length buf.old < 2 ^ 32 }
+        ensures actor { IsActorOf self.now actor.new }
+        ensures same { IsSameActor actor.old.pass.view actor.new.pass.view }
+        ensures called { let c = command_in fd.now.place fd.now.fd false cmd buf.old in
+            (bytes : List ℕ) × (buf.new ≡ bytes ++ drop (length bytes) buf.old)
+            × CommandsOut D.Port.told D.Port.faults D.OwnEntries D.ENTRIES D.is_planned
+            done_of result (op_for fd.now.lines c) actor.old c bytes actor.new }
+        ensures told { is_driver_asked false (length buf.old) (command_of cmd) ≡ true → WasLetIn result → let c = command_in fd.now.place fd.now.fd false cmd buf.old in
+            AnswersInOrder done_of result actor.old.pass.view actor.new.pass.view c }
+        ensures first_faulty { command_of cmd ≡ Some SetConfig → is_driver_asked false (length buf.old) (command_of cmd) ≡ true → WasLetIn result
+            → let c = command_in fd.now.place fd.now.fd false cmd buf.old in
+            ConfiguresInOrder (Rises (D.Port.faults actor.old.port) (D.Port.faults actor.new.port)) result actor.new.pass.view c }
+    {
+        let file = OpenFile {
+            place: fd.place,
+            fd: fd.fd,
+            of_chip: false,
+        };
+        let bytes = handed_in(buf);
+        match line_op(&fd.lines, cmd, buf.len() as u32, &bytes) {
+            None => self.done_by_command(rt, actor, file, cmd, buf),
+            Some(op) => {
+                let mut gift = nothing();
+                match self.driven_command(rt, actor, file, cmd, &bytes, &Some(op), &mut gift, buf) {
+                    Ok(reply) => results::done(reply),
+                    Err(errno) => Err(errno),
+                }
+            }
+        }
+    }
+}

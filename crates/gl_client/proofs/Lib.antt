@@ -1,0 +1,5 @@
+pub mod Costs
+pub mod Entries
+pub mod OpenSlots
+pub mod Printing
+pub mod Programs

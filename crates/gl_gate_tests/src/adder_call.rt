@@ -1,0 +1,9 @@
+//! Calls of the adder.
+
+/// A call alone, or the first or the second of two.
+#[derive(Copy, Clone, PartialEq, Eq, Debug)]
+pub enum AdderCall {
+    Alone,
+    First,
+    Second,
+}

@@ -1,9 +1,0 @@
-//! Calls of the adder.
-
-/// A call alone, or the first or the second of two.
-#[derive(Copy, Clone, PartialEq, Eq, Debug)]
-pub enum Kind {
-    Alone,
-    First,
-    Second,
-}
