@@ -4,6 +4,8 @@
 #[cfg(test)]
 mod chip_files;
 #[cfg(test)]
+mod device_tests;
+#[cfg(test)]
 mod devices;
 #[cfg(test)]
 mod joining;
