@@ -34,15 +34,15 @@ pub struct OnChipFile {
 }
 
 impl OnChipFile {
-    /// All calls were refused for one reason, but that the poll was answered so.
-    pub fn refused(errno: Errno, poll: Result<u8, Errno>) -> OnChipFile {
+    /// All calls were refused for one reason.
+    pub fn refused(errno: Errno) -> OnChipFile {
         OnChipFile {
             chip_info: Err(errno),
             line_info: Err(errno),
             watch: Err(errno),
             unwatch: Err(errno),
             get_line: Err(errno),
-            poll,
+            poll: Err(errno),
             read: Err(errno),
             short_read: Err(errno),
         }

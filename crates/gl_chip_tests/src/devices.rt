@@ -3,14 +3,11 @@
 ghost use Rattle.std.specs.Prelude.{◌≡◌, ◌<◌, ◌≤◌, ◌^◌, length};
 ghost use Rattle.gl_base.specs.declared.limits.TheConstants.{LINES_MAX, PLACES};
 
-use crate::on_requests::{OnRequest, call_on_request};
 use crate::requesting::{get_values, open, request, set_values};
 use gl_base::{Errno, IrqDo, Kind, Name, Path, PinDo};
 use gl_chip::{Actor, ChipFd, Gpio, LineFd};
 use gl_core::Core;
-use gl_core::laws::first_bad;
 use gl_driver::Driver;
-use gl_world::Entry;
 use std::alloc::Global;
 use std::marker::Model;
 use std::sync::Wait;
@@ -52,14 +49,6 @@ impl<D: Driver<Core>> Device<D> {
         }
     }
 
-    /// The history, the port of the actor, and the number that it had.
-    pub fn finish(self) -> (Vec<Entry<Core>>, D::Port, u8) {
-        let Device { gpio, actor } = self;
-        let number = actor.number();
-        let (_core, history, port) = gpio.finish(actor);
-        (history, port, number)
-    }
-
     /// Makes a chip.
     pub fn probe<R: Wait>(
         &mut self,
@@ -72,15 +61,6 @@ impl<D: Driver<Core>> Device<D> {
         requires few { lines ≤ LINES_MAX }
     {
         self.gpio.probe(rt, &mut self.actor, label, lines, kind)
-    }
-
-    /// Makes a simulated chip of so many lines without a label, and opens the chip of place 0.
-    pub fn opened<R: Wait>(&mut self, rt: &R, alloc: Global, lines: u32) -> Result<ChipFd, Errno>
-        requires some { 1 ≤ lines }
-        requires few { lines ≤ LINES_MAX }
-    {
-        self.probe(rt, Name::empty(), lines, Kind::Simulated)?;
-        self.open(rt, alloc, b"gpiochip0")
     }
 
     /// Removes a chip.
@@ -266,11 +246,6 @@ impl<D: Driver<Core>> Device<D> {
         set_values(rt, &self.gpio, &mut self.actor, line, mask, bits)
     }
 
-    /// Makes each call on a request.
-    pub fn call_on_request<R: Wait>(&mut self, rt: &R, line: &LineFd) -> OnRequest {
-        call_on_request(rt, &self.gpio, &mut self.actor, line)
-    }
-
     /// Polls a chip file.
     pub fn poll_chip<R: Wait>(&mut self, rt: &R, file: &ChipFd) -> Result<u8, Errno> {
         self.gpio.poll_chip(rt, &mut self.actor, file)
@@ -328,12 +303,4 @@ impl<D: Driver<Core>> Device<D> {
             }),
         }
     }
-}
-
-/// The first entry of a history that the machine can't have, if there is one. The histories of these tests are short.
-pub fn bad_entry(alloc: Global, history: &[Entry<Core>]) -> Result<Option<u32>, Errno> {
-    if history.len() > 100_000 {
-        return Err(Errno::Full);
-    }
-    first_bad(history, alloc)
 }

@@ -1,13 +1,11 @@
 //! What the calls on a request are answered.
 
-ghost use Rattle.std.specs.Prelude.{◌<◌, ◌^◌, length};
-ghost use Rattle.gl_chip.specs.Values.{IsActorOf};
-ghost use Rattle.gl_chip_tests.specs.Same.{IsSame};
+ghost use Rattle.std.specs.Prelude.{◌≤◌};
 
-use crate::requesting::{get_values, set_values};
+use crate::devices::Device;
 use gl_base::Errno;
 use gl_base::command::LINE_SET_CONFIG;
-use gl_chip::{Actor, Gpio, LineFd};
+use gl_chip::LineFd;
 use gl_core::Core;
 use gl_driver::Driver;
 use gl_uapi::layout::LINE_CONFIG_SIZE;
@@ -31,45 +29,54 @@ pub struct OnRequest {
 }
 
 impl OnRequest {
-    /// All calls were refused for one reason, but that the poll was answered so.
-    pub fn refused(errno: Errno, poll: Result<u8, Errno>) -> OnRequest {
+    /// All calls were refused for one reason.
+    pub fn refused(errno: Errno) -> OnRequest {
         OnRequest {
             set_config: Err(errno),
             set_values: Err(errno),
             get_values: Err(errno),
-            poll,
+            poll: Err(errno),
             read: Err(errno),
             short_read: Err(errno),
         }
     }
 }
 
+/// Configures a request with no flags.
+fn set_config<D: Driver<Core>, R: Wait>(
+    rt: &R,
+    device: &mut Device<D>,
+    line: &LineFd,
+) -> Result<(), Errno> {
+    let mut config = [0; LINE_CONFIG_SIZE];
+    device.line_ioctl(rt, line, LINE_SET_CONFIG, &mut config)
+}
+
+/// Reads a request into a buffer of so many bytes.
+fn read<D: Driver<Core>, R: Wait>(
+    rt: &R,
+    device: &mut Device<D>,
+    line: &LineFd,
+    size: usize,
+) -> Result<u32, Errno>
+    requires size { size ≤ 48 }
+{
+    let mut events = [0; 48];
+    device.read_edges(rt, line, &mut events[..size])
+}
+
 /// Configures a request, sets and gets the value of its first line, polls it, and reads it twice.
 pub fn call_on_request<D: Driver<Core>, R: Wait>(
     rt: &R,
-    gpio: &Gpio<D>,
-    actor: &mut Actor<D>,
+    device: &mut Device<D>,
     line: &LineFd,
-) -> OnRequest
-    requires actor { IsActorOf gpio.now actor.old }
-    ensures actor { IsActorOf gpio.now actor.new }
-    ensures same { IsSame actor.old.pass.view actor.new.pass.view }
-{
-    let mut config = [0; LINE_CONFIG_SIZE];
-    let set_config = gpio.line_ioctl(rt, actor, line, LINE_SET_CONFIG, &mut config);
-    let set = set_values(rt, gpio, actor, line, 1, 1);
-    let got = get_values(rt, gpio, actor, line, 1);
-    let poll = gpio.poll_line(rt, actor, line);
-    let mut events = [0; 48];
-    let read = gpio.read_edges(rt, actor, line, &mut events);
-    let mut short = [0; 47];
-    let short_read = gpio.read_edges(rt, actor, line, &mut short);
+) -> OnRequest {
     OnRequest {
-        set_config,
-        set_values: set,
-        get_values: got,
-        poll,
-        read,
-        short_read,
+        set_config: set_config(rt, device, line),
+        set_values: device.set_values(rt, line, 1, 1),
+        get_values: device.get_values(rt, line, 1),
+        poll: device.poll_line(rt, line),
+        read: read(rt, device, line, 48),
+        short_read: read(rt, device, line, 47),
     }
 }

@@ -3,7 +3,7 @@ ghost use Rattle.std.specs.Prelude.{◌≤◌, length};
 use crate::chip_files::{OnChipFile, call_on_chip_file};
 use crate::devices::{Device, HandedBack};
 use crate::on_places::{OnPlace, call_on_place};
-use crate::on_requests::OnRequest;
+use crate::on_requests::{OnRequest, call_on_request};
 use gl_base::command::LINE_SET_CONFIG;
 use gl_base::{Errno, Kind, Name, flag};
 use gl_chip::{ChipFd, LineFd};
@@ -15,64 +15,32 @@ use std::sync::Wait;
 /// A device with simulated chips of four lines at the places 0 and 1.
 fn with_two_chips<R: Wait>(rt: &R, alloc: Global, room: u32) -> Result<Device<SimDriver>, Errno> {
     let mut device = Device::new(alloc, SimDriver::new(), SimPort::new(), room)?;
-    probe_both(rt, &mut device)?;
-    Ok(device)
-}
-
-/// Makes these two chips.
-fn probe_both<R: Wait>(rt: &R, device: &mut Device<SimDriver>) -> Result<(), Errno> {
-    device.probe(rt, Name::empty(), 4, Kind::Simulated)?;
-    device.probe(rt, Name::empty(), 4, Kind::Simulated)?;
-    Ok(())
-}
-
-/// A file of the chip at place 1, whose number is 3, and a request of these lines of it, whose number is 4.
-fn open_both<R: Wait>(
-    rt: &R,
-    alloc: Global,
-    device: &mut Device<SimDriver>,
-    offsets: &[u32],
-    flags: u64,
-) -> Result<(ChipFd, LineFd), Errno>
-    requires few { length offsets.now ≤ 64 }
-{
-    let file = device.open(rt, alloc, b"/dev/gpiochip1")?;
-    let line = device.request(rt, alloc, &file, offsets, flags)?;
-    Ok((file, line))
-}
-
-/// What the calls on a chip file and on a request are answered.
-#[derive(Clone, Copy, PartialEq, Eq)]
-struct OnBoth {
-    on_chip_file: OnChipFile,
-    on_request: OnRequest,
-}
-
-impl OnBoth {
-    /// All calls were refused for one reason, but that the polls were answered so.
-    fn refused(errno: Errno, poll: Result<u8, Errno>) -> OnBoth {
-        OnBoth {
-            on_chip_file: OnChipFile::refused(errno, poll),
-            on_request: OnRequest::refused(errno, poll),
-        }
+    let chips = [
+        device.probe(rt, Name::empty(), 4, Kind::Simulated),
+        device.probe(rt, Name::empty(), 4, Kind::Simulated),
+    ];
+    if chips == [Ok(0), Ok(1)] {
+        Ok(device)
+    } else {
+        Err(Errno::Again)
     }
 }
 
-/// Makes all calls on a chip file and on a request.
-fn call_on_both<R: Wait>(
+/// Whether all calls on a chip file and on a request are refused for this reason.
+fn refuse_both<R: Wait>(
     rt: &R,
     alloc: Global,
     device: &mut Device<SimDriver>,
     file: &ChipFd,
     line: &LineFd,
-) -> OnBoth {
-    OnBoth {
-        on_chip_file: call_on_chip_file(rt, alloc, device, file),
-        on_request: device.call_on_request(rt, line),
-    }
+    errno: Errno,
+) -> bool {
+    let on_chip_file = call_on_chip_file(rt, alloc, device, file);
+    let on_request = call_on_request(rt, device, line);
+    on_chip_file == OnChipFile::refused(errno) && on_request == OnRequest::refused(errno)
 }
 
-/// Closes the request and the chip file. Whether both were handed back, with their numbers and places, for this reason.
+/// Closes the request of the number 4 and the chip file of the number 3 at place 1. Whether both are handed back for this reason.
 fn are_handed_back<R: Wait>(
     rt: &R,
     device: &mut Device<SimDriver>,
@@ -94,51 +62,52 @@ fn are_handed_back<R: Wait>(
     device.close_line(rt, line) == Err(line_back) && device.close_chip(rt, file) == Err(file_back)
 }
 
-/// Two files of the chip at place 1.
-fn open_twice<R: Wait>(
-    rt: &R,
-    alloc: Global,
-    device: &mut Device<SimDriver>,
-) -> Result<(ChipFd, ChipFd), Errno> {
-    let third = device.open(rt, alloc, b"1")?;
-    let fourth = device.open(rt, alloc, b"1")?;
-    Ok((third, fourth))
-}
-
-/// Calls each device with the files of the other one, which are of another kind, and then closed. Whether each call is answered so, in
-/// this order.
-fn mix_up<R: Wait>(
+/// Calls each device with a file of the other one, which is of another kind there. Whether each call is refused.
+fn are_of_another_kind<R: Wait>(
     rt: &R,
     alloc: Global,
     first: &mut Device<SimDriver>,
     second: &mut Device<SimDriver>,
-) -> Result<[bool; 8], Errno> {
-    let (file, line) = open_both(rt, alloc, first, &[3], 1 << flag::OUTPUT)?;
-    let (third, fourth) = open_twice(rt, alloc, second)?;
-    let unlike = OnBoth::refused(Errno::Inval, Err(Errno::Inval));
-    let closed = OnBoth::refused(Errno::BadF, Err(Errno::BadF));
-    Ok([
-        third.number() == file.number(),
-        fourth.number() == line.number(),
-        call_on_chip_file(rt, alloc, first, &fourth) == unlike.on_chip_file,
-        second.call_on_request(rt, &line) == unlike.on_request,
-        second.close_chip(rt, third).is_ok(),
-        second.close_chip(rt, fourth).is_ok(),
-        call_on_both(rt, alloc, second, &file, &line) == closed,
-        are_handed_back(rt, second, file, line, Errno::BadF),
-    ])
-}
-
-/// The same on two new devices.
-fn mix_up_new<R: Wait>(rt: &R, alloc: Global) -> Result<[bool; 8], Errno> {
-    let mut first = with_two_chips(rt, alloc, 100)?;
-    let mut second = with_two_chips(rt, alloc, 100)?;
-    mix_up(rt, alloc, &mut first, &mut second)
+    line: &LineFd,
+    fourth: &ChipFd,
+) -> [bool; 2] {
+    [
+        call_on_chip_file(rt, alloc, first, fourth) == OnChipFile::refused(Errno::Inval),
+        call_on_request(rt, second, line) == OnRequest::refused(Errno::Inval),
+    ]
 }
 
 #[test]
 fn a_file_of_another_kind_is_refused_and_so_is_a_closed_one(rt: HostRuntime) {
-    assert_eq!(rt; mix_up_new(&rt, rt.alloc()), Ok([true; 8]));
+    let Ok(mut first) = with_two_chips(&rt, rt.alloc(), 100) else {
+        panic!(rt; "no chips")
+    };
+    let Ok(file) = first.open(&rt, rt.alloc(), b"/dev/gpiochip1") else {
+        panic!(rt; "no file")
+    };
+    let Ok(line) = first.request(&rt, rt.alloc(), &file, &[3], 1 << flag::OUTPUT) else {
+        panic!(rt; "no request")
+    };
+    let Ok(mut second) = with_two_chips(&rt, rt.alloc(), 100) else {
+        panic!(rt; "no chips")
+    };
+    let Ok(third) = second.open(&rt, rt.alloc(), b"1") else {
+        panic!(rt; "no file")
+    };
+    let Ok(fourth) = second.open(&rt, rt.alloc(), b"1") else {
+        panic!(rt; "no file")
+    };
+    let numbers = [file.number(), line.number()];
+    assert!(rt; [third.number(), fourth.number()] == numbers);
+    let unlike = are_of_another_kind(&rt, rt.alloc(), &mut first, &mut second, &line, &fourth);
+    assert!(rt; unlike == [true; 2]);
+    let closed = [
+        second.close_chip(&rt, third).is_ok(),
+        second.close_chip(&rt, fourth).is_ok(),
+    ];
+    assert!(rt; closed == [true; 2]);
+    assert!(rt; refuse_both(&rt, rt.alloc(), &mut second, &file, &line, Errno::BadF));
+    assert!(rt; are_handed_back(&rt, &mut second, file, line, Errno::BadF));
 }
 
 /// Configures a request so that of its lines the ones of a mask are inputs and outputs, and the others inputs.
@@ -158,96 +127,106 @@ fn set_faulty<R: Wait>(
     device.line_ioctl(rt, line, LINE_SET_CONFIG, &mut config)
 }
 
-/// Calls a device with a request of two lines of another one, whose number is here that of a request of one line. Whether each call is
-/// answered as by the latter, in this order: its second line doesn't count.
-fn take_for_another<R: Wait>(
+/// Configures a request of two lines of the first device on both devices; its number is on the second one that of a request of one line.
+/// Whether each call is answered as by the latter, in this order: its second line doesn't count.
+fn are_of_one_line<R: Wait>(
     rt: &R,
-    alloc: Global,
     first: &mut Device<SimDriver>,
     second: &mut Device<SimDriver>,
-) -> Result<[bool; 6], Errno> {
-    let (_file, line) = open_both(rt, alloc, first, &[0, 1], 1 << flag::INPUT)?;
-    let (_other_file, other) = open_both(rt, alloc, second, &[0], 1 << flag::INPUT)?;
-    Ok([
-        other.number() == line.number(),
+    line: &LineFd,
+) -> [bool; 5] {
+    [
         second.set_pull(rt, 1, 0, true).is_ok(),
-        set_faulty(rt, first, &line, 2) == Err(Errno::Inval),
-        set_faulty(rt, second, &line, 2) == Ok(()),
-        second.get_values(rt, &line, 1) == Ok(1),
-        set_faulty(rt, second, &line, 1) == Err(Errno::Inval),
-    ])
+        set_faulty(rt, first, line, 2) == Err(Errno::Inval),
+        set_faulty(rt, second, line, 2) == Ok(()),
+        second.get_values(rt, line, 1) == Ok(1),
+        set_faulty(rt, second, line, 1) == Err(Errno::Inval),
+    ]
 }
 
-/// The same on two new devices.
-fn take_for_another_new<R: Wait>(rt: &R, alloc: Global) -> Result<[bool; 6], Errno> {
-    let mut first = with_two_chips(rt, alloc, 100)?;
-    let mut second = with_two_chips(rt, alloc, 100)?;
-    take_for_another(rt, alloc, &mut first, &mut second)
+/// A request of the first lines of the chip at place 1 as inputs.
+fn inputs<R: Wait>(
+    rt: &R,
+    alloc: Global,
+    device: &mut Device<SimDriver>,
+    offsets: &[u32],
+) -> Result<LineFd, Errno>
+    requires few { length offsets.now ≤ 64 }
+{
+    match device.open(rt, alloc, b"gpiochip1") {
+        Ok(file) => device.request(rt, alloc, &file, offsets, 1 << flag::INPUT),
+        Err(errno) => Err(errno),
+    }
 }
 
 #[test]
 fn a_file_of_another_device_is_the_one_of_its_number(rt: HostRuntime) {
-    assert_eq!(rt; take_for_another_new(&rt, rt.alloc()), Ok([true; 6]));
+    let Ok(mut first) = with_two_chips(&rt, rt.alloc(), 100) else {
+        panic!(rt; "no chips")
+    };
+    let Ok(line) = inputs(&rt, rt.alloc(), &mut first, &[0, 1]) else {
+        panic!(rt; "no request")
+    };
+    let Ok(mut second) = with_two_chips(&rt, rt.alloc(), 100) else {
+        panic!(rt; "no chips")
+    };
+    let Ok(other) = inputs(&rt, rt.alloc(), &mut second, &[0]) else {
+        panic!(rt; "no request")
+    };
+    assert!(rt; other.number() == line.number());
+    assert!(rt; are_of_one_line(&rt, &mut first, &mut second, &line) == [true; 5]);
 }
 
-/// Makes each call on a device whose history is full once both files are open. Whether each is answered so, in this order.
-fn fill_up<R: Wait>(
-    rt: &R,
-    alloc: Global,
-    device: &mut Device<SimDriver>,
-) -> Result<[bool; 3], Errno> {
-    let (file, line) = open_both(rt, alloc, device, &[3], 1 << flag::OUTPUT)?;
-    let full = OnBoth::refused(Errno::Full, Err(Errno::Full));
-    Ok([
+/// Which calls of the tree and the clock are refused for want of room, in this order.
+fn are_full_on_the_tree<R: Wait>(rt: &R, device: &mut Device<SimDriver>) -> [bool; 7] {
+    let name = Name::filled(b"d");
+    [
+        device.mkdir(rt, b"d") == Err(Errno::Full),
+        device.rmdir(rt, b"d") == Err(Errno::Full),
+        device.write(rt, b"d/b/label", &name) == Err(Errno::Full),
+        device.read(rt, b"d/live") == Err(Errno::Full),
+        device.live(rt, &name, true) == Err(Errno::Full),
+        device.live(rt, &name, false) == Err(Errno::Full),
+        device.tick(rt, 1, 1) == Err(Errno::Full),
+    ]
+}
+
+/// Which calls on chips are refused for want of room, in this order.
+fn are_full_on_chips<R: Wait>(rt: &R, alloc: Global, device: &mut Device<SimDriver>) -> [bool; 7] {
+    let name = Name::filled(b"d");
+    [
+        device.probe(rt, name, 4, Kind::Simulated) == Err(Errno::Full),
+        device.probe(rt, name, 4, Kind::Remote) == Err(Errno::Full),
+        device.unplug(rt, 0) == Err(Errno::Full),
+        matches!(device.open(rt, alloc, b"0"), Err(Errno::Full)),
+        device.find(rt, &name) == Err(Errno::Full),
+        device.find_at(rt, 0, &name) == Err(Errno::Full),
         call_on_place(rt, device, 0, 1) == OnPlace::refused(Errno::Full),
-        call_on_both(rt, alloc, device, &file, &line) == full,
-        are_handed_back(rt, device, file, line, Errno::Full),
-    ])
-}
-
-/// The same on a new device.
-fn fill_up_new<R: Wait>(rt: &R, alloc: Global) -> Result<[bool; 3], Errno> {
-    let mut device = with_two_chips(rt, alloc, 4)?;
-    fill_up(rt, alloc, &mut device)
+    ]
 }
 
 #[test]
 fn a_full_history_refuses_every_call(rt: HostRuntime) {
-    assert_eq!(rt; fill_up_new(&rt, rt.alloc()), Ok([true; 3]));
-}
-
-/// Whether a call was refused for want of room.
-fn is_full<X>(answer: &Result<X, Errno>) -> bool {
-    matches!(answer, Err(Errno::Full))
-}
-
-/// Which calls that name no open file are refused for want of room, in this order.
-fn are_full<R: Wait>(rt: &R, alloc: Global, device: &mut Device<SimDriver>) -> [bool; 13] {
-    let name = Name::filled(b"d");
-    [
-        is_full(&device.probe(rt, name, 4, Kind::Simulated)),
-        is_full(&device.probe(rt, name, 4, Kind::Remote)),
-        is_full(&device.mkdir(rt, b"d")),
-        is_full(&device.rmdir(rt, b"d")),
-        is_full(&device.write(rt, b"d/b/label", &name)),
-        is_full(&device.read(rt, b"d/live")),
-        is_full(&device.live(rt, &name, true)),
-        is_full(&device.live(rt, &name, false)),
-        is_full(&device.unplug(rt, 0)),
-        is_full(&device.open(rt, alloc, b"0")),
-        is_full(&device.tick(rt, 1, 1)),
-        is_full(&device.find(rt, &name)),
-        is_full(&device.find_at(rt, 0, &name)),
-    ]
-}
-
-/// The same on a new device without room.
-fn are_full_new<R: Wait>(rt: &R, alloc: Global) -> Result<[bool; 13], Errno> {
-    let mut device = Device::new(alloc, SimDriver::new(), SimPort::new(), 0)?;
-    Ok(are_full(rt, alloc, &mut device))
+    let Ok(mut device) = with_two_chips(&rt, rt.alloc(), 4) else {
+        panic!(rt; "no chips")
+    };
+    let Ok(file) = device.open(&rt, rt.alloc(), b"gpiochip1") else {
+        panic!(rt; "no file")
+    };
+    let Ok(line) = device.request(&rt, rt.alloc(), &file, &[3], 1 << flag::OUTPUT) else {
+        panic!(rt; "no request")
+    };
+    assert!(rt; are_full_on_the_tree(&rt, &mut device) == [true; 7]);
+    assert!(rt; are_full_on_chips(&rt, rt.alloc(), &mut device) == [true; 7]);
+    assert!(rt; refuse_both(&rt, rt.alloc(), &mut device, &file, &line, Errno::Full));
+    assert!(rt; are_handed_back(&rt, &mut device, file, line, Errno::Full));
 }
 
 #[test]
 fn a_device_without_room_refuses_the_first_call(rt: HostRuntime) {
-    assert_eq!(rt; are_full_new(&rt, rt.alloc()), Ok([true; 13]));
+    let Ok(mut device) = Device::new(rt.alloc(), SimDriver::new(), SimPort::new(), 0) else {
+        panic!(rt; "no memory")
+    };
+    assert!(rt; are_full_on_the_tree(&rt, &mut device) == [true; 7]);
+    assert!(rt; are_full_on_chips(&rt, rt.alloc(), &mut device) == [true; 7]);
 }

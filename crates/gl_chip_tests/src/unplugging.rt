@@ -1,14 +1,16 @@
-//! Two actors unplug one chip at once.
+//! Two actors: the second one's driver call fails, and then both unplug one chip at once.
 
 ghost use Rattle.std.specs.Prelude.{◌≡◌};
 ghost use Rattle.gl_chip.specs.Values.{IsActorOf};
 ghost use Rattle.gl_chip_tests.specs.Same.{IsSame};
 
-use crate::devices::{Device, bad_entry};
-use gl_base::{Errno, Kind, Name, Phase};
-use gl_chip::{Actor, Gpio};
+use crate::devices::Device;
+use crate::requesting::request;
+use gl_base::{Errno, Phase, flag};
+use gl_chip::{Actor, ChipFd, Gpio};
 use gl_core::Core;
-use gl_driver::{SimDriver, SimPort};
+use gl_core::laws::first_bad;
+use gl_driver::{Port, SimDriver, SimPort};
 use gl_world::{Entry, Machine};
 use std::alloc::Global;
 use std::sync::Wait;
@@ -56,17 +58,19 @@ fn unplug_in_two_threads<R: Threads + Wait + Sync>(
     )
 }
 
-/// What came of two actors that unplugged one chip.
-#[derive(Clone, Copy)]
-struct Race {
-    /// What the first actor was answered.
-    first: Result<(), Errno>,
-    /// What the second actor was answered.
-    second: Result<(), Errno>,
-    /// The phase of the chip afterwards.
-    phase: Phase,
-    /// The first entry of the history that the machine can't have, if there is one.
-    bad: Option<u32>,
+/// What came of two actors of one device.
+#[derive(Drop)]
+pub struct Ended {
+    /// Their numbers.
+    numbers: [u8; 2],
+    /// What the second one was answered, whose driver call failed.
+    requested: Result<(), Errno>,
+    /// What they were answered that unplugged the chip at once.
+    unplugged: [Result<(), Errno>; 2],
+    /// How many failures their ports counted.
+    faults: [u64; 2],
+    core: Core,
+    history: Vec<Entry<Core>>,
 }
 
 /// Whether an actor was told that another one unplugs the chip, or has unplugged it.
@@ -74,65 +78,75 @@ fn is_late(answer: Result<(), Errno>) -> bool {
     matches!(answer, Err(Errno::Busy) | Err(Errno::NoDev))
 }
 
-impl Race {
-    /// One actor unplugged the chip, the other was late, and the history is one that the machine can have.
+impl Ended {
+    /// One actor unplugged the chip, and the other was late.
     fn has_one_winner(&self) -> bool {
-        let one = if self.first == Ok(()) {
-            is_late(self.second)
+        let (first, second) = (self.unplugged[0], self.unplugged[1]);
+        if first == Ok(()) {
+            is_late(second)
         } else {
-            is_late(self.first) && self.second == Ok(())
-        };
-        one && self.phase == Phase::Gone && self.bad == None
+            is_late(first) && second == Ok(())
+        }
+    }
+
+    /// The second actor's driver call failed, by the count of its own port alone.
+    fn has_failed_once(&self) -> bool {
+        self.numbers == [0, 1] && self.requested == Err(Errno::Io) && self.faults == [0, 1]
+    }
+
+    /// Whether one actor failed, one unplugged the chip, the chip is gone, and the history is one that the machine can have.
+    pub fn is_right(&self, alloc: Global) -> bool {
+        self.has_failed_once()
+            && self.has_one_winner()
+            && self.core.phase(0) == Phase::Gone
+            && has_no_bad_entry(&self.history, alloc)
     }
 }
 
-/// What the two actors were answered, the core and the history.
-#[derive(Drop)]
-struct Ended {
-    first: Result<(), Errno>,
-    second: Result<(), Errno>,
-    core: Core,
-    history: Vec<Entry<Core>>,
+/// Whether a short history is one that the machine can have.
+fn has_no_bad_entry(history: &[Entry<Core>], alloc: Global) -> bool {
+    history.len() <= 100 && first_bad(history, alloc) == Ok(None)
 }
 
-/// Two actors unplug the chip of place 0 at once, and the device ends.
-fn unplug_and_end<R: Threads + Wait + Sync>(rt: &R, device: Device<SimDriver>) -> Ended {
+/// Requests line 0 as an input, while the first driver call fails.
+fn request_and_fail<R: Wait>(
+    rt: &R,
+    alloc: Global,
+    gpio: &Gpio<SimDriver>,
+    actor: &mut Actor<SimDriver>,
+    file: &ChipFd,
+) -> Result<(), Errno>
+    requires actor { IsActorOf gpio.now actor.old }
+    ensures actor { IsActorOf gpio.now actor.new }
+    ensures same { IsSame actor.old.pass.view actor.new.pass.view }
+{
+    actor.plan(1);
+    match request(rt, alloc, gpio, actor, file, &[0], 1 << flag::INPUT) {
+        Ok(_) => Ok(()),
+        Err(errno) => Err(errno),
+    }
+}
+
+/// A second actor requests a line in vain, both unplug the chip of place 0 at once, and the device ends.
+pub fn unplug_and_end<R: Threads + Wait + Sync>(
+    rt: &R,
+    alloc: Global,
+    device: Device<SimDriver>,
+    file: &ChipFd,
+) -> Ended {
     let Device { gpio, mut actor } = device;
-    let other = gpio.split(&mut actor, SimPort::new());
+    let mut other = gpio.split(&mut actor, SimPort::new());
+    let numbers = [actor.number(), other.number()];
+    let requested = request_and_fail(rt, alloc, &gpio, &mut other, file);
     let ((mut actor, first), (other, second)) = unplug_in_two_threads(rt, &gpio, actor, other);
-    gpio.join(&mut actor, other);
-    let (core, history, _port) = gpio.finish(actor);
+    let port = gpio.join(&mut actor, other);
+    let (core, history, first_port) = gpio.finish(actor);
     Ended {
-        first,
-        second,
+        numbers,
+        requested,
+        unplugged: [first, second],
+        faults: [first_port.faults(), port.faults()],
         core,
         history,
-    }
-}
-
-/// What came of these two actors.
-fn race_of(alloc: Global, ended: &Ended) -> Result<Race, Errno> {
-    let bad = bad_entry(alloc, ended.history.as_slice())?;
-    Ok(Race {
-        first: ended.first,
-        second: ended.second,
-        phase: ended.core.phase(0),
-        bad,
-    })
-}
-
-/// On a new device two actors unplug one chip at once.
-fn unplug_twice<R: Threads + Wait + Sync>(rt: &R, alloc: Global) -> Result<Race, Errno> {
-    let mut device = Device::new(alloc, SimDriver::new(), SimPort::new(), 10)?;
-    device.probe(rt, Name::empty(), 4, Kind::Simulated)?;
-    let ended = unplug_and_end(rt, device);
-    race_of(alloc, &ended)
-}
-
-/// On a new device two actors unplug one chip at once, and one of them does it.
-pub fn has_one_winner<R: Threads + Wait + Sync>(rt: &R, alloc: Global) -> bool {
-    match unplug_twice(rt, alloc) {
-        Ok(race) => race.has_one_winner(),
-        Err(_) => false,
     }
 }

@@ -3,4 +3,4 @@ pub mod AdderLaws
 pub mod House
 pub mod HouseLaws
 pub mod Noting
-pub mod CorePasses
+pub mod Bench

@@ -1,9 +1,10 @@
 //! Calls of drivers by passes of the adder's gate.
-ghost use Rattle.std.specs.Prelude.{◌≡◌, ℕ, ◌<◌, false, []};
+ghost use Rattle.std.specs.Prelude.{◌≡◌, []};
 ghost use Rattle.gl_gate.specs.Values.{IsPassOf};
-ghost use Rattle.gl_gate.specs.Calls.{IsOutside, HoldsNoTurn};
+ghost use Rattle.gl_gate.specs.Calls.{HoldsNoTurn};
 ghost use Rattle.gl_driver.specs.Calls.{FitsOp};
 ghost use Rattle.gl_rule.specs.Turn.{owes};
+ghost use Rattle.gl_gate_tests.specs.Bench.{IsAlone};
 ghost use Rattle.gl_gate_tests.specs.contracts.adder.AdderMachine.TheImpl.{ghosts};
 
 use crate::adder::Adder;
@@ -23,35 +24,9 @@ fn levels_of_two() -> Op
     }
 }
 
-/// Asks a driver for the levels of lines 0 and 2 of the chip at place 0. Nothing where the place is closed.
+/// Asks a driver, which may make entries of its own, for the levels of lines 0 and 2 of the chip at place 0. Nothing where the place is
+/// closed.
 pub fn ask<R: Wait, D: Driver<Adder>>(
-    rt: &R,
-    driver: &D,
-    gate: &Gate<Adder>,
-    port: &mut D::Port,
-    pass: &mut Pass<Adder>,
-) -> Option<Result<u64, DriverFault>>
-    requires entries { D.ENTRIES ≡ 0 }
-    requires gate { IsPassOf gate.now pass.old }
-    requires place { 0 < gate.now.places }
-    requires outside { IsOutside pass.old.view 0 }
-    requires no_turn { HoldsNoTurn pass.old.view }
-    ensures gate { IsPassOf gate.now pass.new }
-    ensures no_turn { HoldsNoTurn pass.new.view }
-    ensures inside { pass.new.view.inside ≡ pass.old.view.inside }
-    ensures number { pass.new.view.number ≡ pass.old.view.number }
-{
-    let op = levels_of_two();
-    if !gate.enter(pass, 0) {
-        return None;
-    }
-    let answer = driver.call(rt, gate, port, pass, 0, &op);
-    gate.leave(pass, 0);
-    Some(answer)
-}
-
-/// The same of a driver that may make entries of its own.
-pub fn ask_for_entries<R: Wait, D: Driver<Adder>>(
     rt: &R,
     driver: &D,
     gate: &Gate<Adder>,
@@ -61,13 +36,10 @@ pub fn ask_for_entries<R: Wait, D: Driver<Adder>>(
     requires gate { IsPassOf gate.now pass.old }
     requires places { gate.now.places ≡ PLACES }
     requires free { owes ghosts pass.old.view ≡ 0 }
-    requires outside { pass.old.view.inside ≡ [] }
-    requires no_turn { HoldsNoTurn pass.old.view }
+    requires alone { IsAlone pass.old.view }
     ensures gate { IsPassOf gate.now pass.new }
-    ensures no_turn { HoldsNoTurn pass.new.view }
     ensures free { owes ghosts pass.new.view ≡ 0 }
-    ensures outside { pass.new.view.inside ≡ [] }
-    ensures number { pass.new.view.number ≡ pass.old.view.number }
+    ensures alone { IsAlone pass.new.view }
 {
     let op = levels_of_two();
     if !gate.enter(pass, 0) {

@@ -1,4 +1,4 @@
-//! Small machines and the core behind a gate, and threads that make calls on them.
+//! Small machines behind a gate, drivers that are asked through it, and threads that make calls on it.
 #![tactic(auto)]
 
 #[cfg(test)]
@@ -9,13 +9,9 @@ mod adding;
 #[cfg(test)]
 mod asking;
 #[cfg(test)]
-mod core_calls;
+mod bench;
 #[cfg(test)]
-mod core_memory_tests;
-#[cfg(test)]
-mod core_passes;
-#[cfg(test)]
-mod core_tests;
+mod driver_tests;
 mod errand;
 #[cfg(test)]
 mod house;

@@ -115,6 +115,7 @@ impl<'d, D: Driver<Core>> Player<'d, D> {
 
     /// The number of the actor. It knows its own entries, and of other actors those alone that some actor may have made.
     pub fn number(&self) -> u8
+        ensures number { result ≡ self.now.view.number }
         ensures own { HasItsOwn self.now.view }
         ensures strangers { NoStrangers self.now.view self.now.view.seen }
     {

@@ -8,16 +8,19 @@
 //! the status is 1, or 2 where that line had been begun, and another one had to wait.
 //! A line `meet CALLS ROOM FRONT` runs it over a driver that answers its first call once CALLS were made, each of another actor, and tells
 //! no more than FRONT bytes of what the sink held, since the history of such a run differs from run to run. Then it is judged, and so it is
-//! told.
+//! told. A line `ring ROOM BEGINNINGS` runs it over a driver by whose calls actors wait for each other (`bells.rt`), and tells what is the
+//! same in every run (`same.rt`).
 //! What is told of a run is a line with its name and its status, and what the sink held in the end; of `serve` what its frames hold, and of
 //! `again` what the lines print.
 #![tactic(auto)]
 
 mod again;
+mod bells;
 mod frames;
 mod meeting;
 mod play;
 mod run_parameters;
+mod same;
 
 use gl_base::{Errno, read_decimal, split_first};
 use meeting::Meeting;
@@ -67,7 +70,7 @@ fn told<R: Threads + Wait + Sync>(
     } else if let Some(parameters) = RunParameters::of(b"play ", line) {
         session.put_run(rt, &parameters, out)
     } else if let Some(meeting) = Meeting::of(line) {
-        session.put_meeting(rt, meeting, out)
+        session.put_meeting(rt, &meeting, out)
     } else if let Some(parameters) = RunParameters::of(b"serve ", line) {
         session.put_texts(&parameters, out)
     } else if let Some(parameters) = RunParameters::of(b"frames ", line) {

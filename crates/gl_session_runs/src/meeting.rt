@@ -1,10 +1,11 @@
 //! A session whose actors meet in the driver.
 ghost use Rattle.std.specs.Prelude.{◌≤◌, IfSome};
 
+use crate::bells::BellDriver;
 use crate::play::{Session, new_ports};
 use crate::run_parameters::{RunParameters, word};
-use gl_base::{Errno, read_decimal};
-use gl_driver::HoldDriver;
+use crate::same::put_same;
+use gl_base::{Errno, read_decimal, split_first};
 use gl_io::MemSink;
 use gl_session::run;
 use std::sync::Wait;
@@ -12,28 +13,63 @@ use std::thread::Threads;
 
 /// How a session runs whose actors meet in the driver.
 #[derive(Clone, Copy, Debug)]
-pub struct Meeting {
+pub struct Meeting<'a> {
     /// How many calls of the driver are there before it answers the first.
     pub calls: u32,
     /// For how many bytes the sink has room.
     pub room: u32,
-    /// How many bytes of what was written are told.
-    pub front: u32,
+    /// What is told of what was written.
+    pub told: Front<'a>,
 }
 
-impl Meeting {
-    /// What a line `meet CALLS ROOM FRONT` says.
-    pub fn of(line: &[u8]) -> Option<Meeting>
+/// What is told of what a run wrote.
+#[derive(Clone, Copy, Debug)]
+pub enum Front<'a> {
+    /// So many bytes.
+    Bytes(u32),
+    /// What is the same in every run, with the entries that begin so.
+    Same(&'a [u8]),
+}
+
+impl<'a> Meeting<'a> {
+    /// What a line `meet CALLS ROOM FRONT` or `ring ROOM BEGINNINGS` says.
+    pub fn of(line: &'a [u8]) -> Option<Meeting<'a>>
         ensures some { IfSome result (λ meeting. 1 ≤ meeting.calls) }
     {
-        let mut rest = line.strip_prefix(b"meet ")?;
+        match line.strip_prefix(b"ring ") {
+            Some(rest) => Meeting::of_bells(rest),
+            None => Meeting::of_calls(line.strip_prefix(b"meet ")?),
+        }
+    }
+
+    /// What the words `CALLS ROOM FRONT` say.
+    fn of_calls(words: &'a [u8]) -> Option<Meeting<'a>>
+        ensures some { IfSome result (λ meeting. 1 ≤ meeting.calls) }
+    {
+        let mut rest = words;
         let calls = number(&mut rest)?;
         let room = number(&mut rest)?;
         let front = number(&mut rest)?;
         if calls == 0 {
             return None;
         }
-        Some(Meeting { calls, room, front })
+        Some(Meeting {
+            calls,
+            room,
+            told: Front::Bytes(front),
+        })
+    }
+
+    /// What the words `ROOM BEGINNINGS` say.
+    fn of_bells(words: &'a [u8]) -> Option<Meeting<'a>>
+        ensures some { IfSome result (λ meeting. 1 ≤ meeting.calls) }
+    {
+        let (room, beginnings) = split_first(words, b' ');
+        Some(Meeting {
+            calls: 1,
+            room: u32::try_from(read_decimal(room)?).ok()?,
+            told: Front::Same(beginnings?),
+        })
     }
 }
 
@@ -43,14 +79,15 @@ fn number(rest: &mut &[u8]) -> Option<u32> {
 }
 
 impl Session {
-    /// Runs the session over such a driver, and appends its name, its status and the front of what was written.
+    /// Runs the session over such a driver, and appends its name, its status, what is told of what was written, and how all of that is
+    /// judged.
     pub fn put_meeting<R: Threads + Wait + Sync>(
         &self,
         rt: &R,
-        meeting: Meeting,
+        meeting: &Meeting<'_>,
         out: &mut Vec<u8>,
     ) -> Result<(), Errno>
-        requires { 1 ≤ meeting.calls }
+        requires { 1 ≤ meeting.now.calls }
     {
         let alloc = *out.allocator();
         let parameters = RunParameters {
@@ -62,22 +99,30 @@ impl Session {
         };
         let mut source = self.source(alloc, &parameters)?;
         let mut sink = MemSink::new(alloc, parameters.room, parameters.piece, Vec::new(alloc))?;
-        let (driver, mut ports) = (HoldDriver::new(meeting.calls), new_ports());
+        let (driver, mut ports) = (BellDriver::new(meeting.calls), new_ports());
         let status = run(rt, alloc, &[], &mut source, &mut sink, driver, &mut ports);
-        self.put_judged(rt, status.number(), sink.as_slice(), meeting.front, out)
+        self.put_judged(rt, status.number(), sink.as_slice(), meeting.told, out)
     }
 
-    /// Appends the session's name, the number that its run ended with, the front of what that wrote, and how all of it is judged.
+    /// Appends the session's name, the number that its run ended with, what is told of what that wrote, and how all of it is judged.
     fn put_judged<R: Threads + Wait + Sync>(
         &self,
         rt: &R,
         number: u8,
         text: &[u8],
-        front: u32,
+        told: Front<'_>,
         out: &mut Vec<u8>,
     ) -> Result<(), Errno> {
-        let front = text.len().min(front as usize);
-        self.put_ended(number, &text[..front], out)?;
+        match told {
+            Front::Bytes(front) => {
+                let front = text.len().min(front as usize);
+                self.put_ended(number, &text[..front], out)?;
+            }
+            Front::Same(beginnings) => {
+                self.put_ended(number, b"", out)?;
+                put_same(text, beginnings, out)?;
+            }
+        }
         self.put_judgment(rt, text, out)
     }
 
