@@ -1,8 +1,9 @@
 //! The table of requests.
 
-ghost use Rattle.std.specs.Prelude.{◌≡◌, ◌*◌, ◌<◌, ◌≤◌, ◌++◌, ◌∷◌, [], None, IfOk, IfSome, IsOkUnless, Some, length, drop, is_some, vec_capacity, find, position};
+ghost use Rattle.std.specs.Prelude.{◌≡◌, ◌*◌, ◌<◌, ◌≤◌, ◌++◌, ◌∷◌, [], None, IfOk, IfSome, IsOkUnless, Some, length, drop, is_some, find, position};
 ghost use Rattle.std.specs.List.{flat_map};
 ghost use Rattle.std.specs.Option.{option_and_then, option_map, option_map_or};
+ghost use Rattle.std.specs.VecDeque.{deque_capacity};
 ghost use Rattle.gl_base.specs.Lines.{IsLineCount};
 ghost use Rattle.gl_base.specs.Rows.{Each, change_first, without_first};
 ghost use Rattle.gl_uapi.specs.LineEvent.{event_bytes};
@@ -10,22 +11,25 @@ ghost use Rattle.gl_ring.specs.Waiting.{taken, taken_count};
 ghost use Rattle.gl_request.specs.Request.{HasLines, HaveDifferentNumbers, StandsAt, claim_by, configured, event_of, held, is_claim_of, is_number, is_open_at, noted, read_from, request_at, row_of, settings_at, AreRising, IsBelow};
 
 use crate::row::{Claim, RequestAt, RequestRow};
-use gl_base::{Errno, FILES_MAX, LINES_PER_REQUEST, Lines, Resolved, Settings, push_within};
+use gl_base::{Errno, FILES_MAX, LINES_PER_REQUEST, Lines, Resolved, Settings};
 use gl_ring::EdgeRing;
 use gl_uapi::Event;
 use gl_uapi::layout::LINE_EVENT_SIZE;
 use std::alloc::Global;
+use std::collections::VecDeque;
 use std::marker::Model;
 
 /// The requests, in the order of their claims, which is that of their numbers, since each claim has a higher
-/// number than those before. So a request is found by halving. Contracts see the list of them.
+/// number than those before. So a request is found by halving. Where one is taken out, those on its shorter side move: none
+/// where it is the oldest or the newest. Contracts see the list of them.
 #[derive(Drop)]
 pub struct Requests {
-    rows: Vec<RequestRow>,
+    rows: VecDeque<RequestRow>,
 }
 
 impl Model for Requests {
-    ghost use Rattle.std.specs.Prelude.{List, ◌≡◌, ◌≤◌, length, vec_capacity};
+    ghost use Rattle.std.specs.Prelude.{List, ◌≡◌, ◌≤◌, length};
+    ghost use Rattle.std.specs.VecDeque.{deque_capacity};
     ghost use Rattle.gl_base.specs.Rows.{Each};
     ghost use Rattle.gl_base.specs.declared.limits.TheConstants.{FILES_MAX};
     ghost use Rattle.gl_request.specs.declared.row.RequestRow.{RequestRow};
@@ -36,7 +40,7 @@ impl Model for Requests {
 
     ghost view = { λ r. r.rows.items };
 
-    ghost invariant = { λ r. (vec_capacity r.rows ≡ FILES_MAX) × (length r.rows.items ≤ FILES_MAX) × Each HasLines r.rows.items
+    ghost invariant = { λ r. (deque_capacity r.rows ≡ FILES_MAX) × (length r.rows.items ≤ FILES_MAX) × Each HasLines r.rows.items
         × AreRising r.rows.items };
 }
 
@@ -46,7 +50,7 @@ impl Requests {
         ensures ok { IfOk result (λ requests. requests ≡ []) }
         ensures memory_alone { IsOkUnless result Errno.NoMemory }
     {
-        let rows = Vec::with_capacity(alloc, FILES_MAX as usize)?;
+        let rows = VecDeque::with_capacity(alloc, FILES_MAX as usize)?;
         Ok(Requests { rows })
     }
 
@@ -81,7 +85,7 @@ impl Requests {
         requires empty { ring.items ≡ [] }
         ensures { self.new ≡ self.old ++ row_of claim ring ∷ [] }
     {
-        push_within(&mut self.rows, RequestRow::begin(claim, ring));
+        push_row(&mut self.rows, RequestRow::begin(claim, ring));
     }
 
     /// The number of an actor's unfinished claim, or None where the actor has none.
@@ -333,10 +337,19 @@ impl Requests {
     }
 }
 
+/// Adds a row behind the others, where there is room.
+fn push_row(rows: &mut VecDeque<RequestRow>, row: RequestRow)
+    requires { length rows.old.items < deque_capacity rows.old }
+    ensures items { rows.new.items ≡ rows.old.items ++ row ∷ [] }
+    ensures capacity { deque_capacity rows.new ≡ deque_capacity rows.old }
+{
+    rows.push_back_reserved(row);
+}
+
 /// Where the request of a number stands, found by halving.
-fn position_of(rows: &[RequestRow], fd: u32) -> Option<usize>
-    requires { AreRising rows.now }
-    ensures { result ≡ position (is_number fd) rows.now }
+fn position_of(rows: &VecDeque<RequestRow>, fd: u32) -> Option<usize>
+    requires { AreRising rows.now.items }
+    ensures { result ≡ position (is_number fd) rows.now.items }
 {
     match rows.binary_search_by_key(&fd, |row| row.fd) {
         Ok(at) => Some(at),
@@ -345,43 +358,46 @@ fn position_of(rows: &[RequestRow], fd: u32) -> Option<usize>
 }
 
 /// Where an actor's unfinished claim stands.
-fn claim_position(rows: &[RequestRow], actor: u8) -> Option<usize>
-    ensures { result ≡ position (is_claim_of actor) rows.now }
+fn claim_position(rows: &VecDeque<RequestRow>, actor: u8) -> Option<usize>
+    ensures { result ≡ position (is_claim_of actor) rows.now.items }
 {
     rows.iter().position(|row| !row.held && row.actor == actor)
 }
 
 #[tactic(auto, using(crate::proofs::Found::found))]
-fn settle_row_at(rows: &mut Vec<RequestRow>, found: RequestAt)
+fn settle_row_at(rows: &mut VecDeque<RequestRow>, found: RequestAt)
     requires { StandsAt found rows.old.items }
     ensures rows { rows.new.items ≡ change_first (is_number found.fd) held rows.old.items }
-    ensures capacity { vec_capacity rows.new ≡ vec_capacity rows.old }
+    ensures capacity { deque_capacity rows.new ≡ deque_capacity rows.old }
 {
     rows[found.at].held = true;
 }
 
 #[tactic(auto, using(crate::proofs::Found::found))]
-fn take_row_at(rows: &mut Vec<RequestRow>, found: RequestAt) -> RequestRow
+fn take_row_at(rows: &mut VecDeque<RequestRow>, found: RequestAt) -> RequestRow
     requires { StandsAt found rows.old.items }
     ensures rows { rows.new.items ≡ without_first (is_number found.fd) rows.old.items }
     ensures row { request_at rows.old.items found.fd ≡ Some result }
-    ensures capacity { vec_capacity rows.new ≡ vec_capacity rows.old }
+    ensures capacity { deque_capacity rows.new ≡ deque_capacity rows.old }
 {
-    rows.remove(found.at)
+    match rows.remove(found.at) {
+        Some(row) => row,
+        None => unreachable!(),
+    }
 }
 
 #[tactic(auto, using(crate::proofs::Found::found))]
-fn configure_row_at(rows: &mut Vec<RequestRow>, found: RequestAt, settings: &Resolved)
+fn configure_row_at(rows: &mut VecDeque<RequestRow>, found: RequestAt, settings: &Resolved)
     requires { StandsAt found rows.old.items }
     ensures rows { rows.new.items ≡ change_first (is_number found.fd) (configured settings.now) rows.old.items }
-    ensures capacity { vec_capacity rows.new ≡ vec_capacity rows.old }
+    ensures capacity { deque_capacity rows.new ≡ deque_capacity rows.old }
 {
     rows[found.at].settings = *settings;
 }
 
 #[tactic(auto, using(crate::proofs::Found::found))]
 fn note_edge_at(
-    rows: &mut Vec<RequestRow>,
+    rows: &mut VecDeque<RequestRow>,
     found: RequestAt,
     i: u32,
     rising: bool,
@@ -391,20 +407,20 @@ fn note_edge_at(
     requires stands { StandsAt found rows.old.items }
     ensures rows { rows.new.items ≡ change_first (is_number found.fd) (noted i rising timestamp) rows.old.items }
     ensures event { result ≡ option_and_then (event_of i rising timestamp) (request_at rows.old.items found.fd) }
-    ensures capacity { vec_capacity rows.new ≡ vec_capacity rows.old }
+    ensures capacity { deque_capacity rows.new ≡ deque_capacity rows.old }
 {
     rows[found.at].note(i, rising, timestamp)
 }
 
 #[tactic(auto, using(crate::proofs::Found::found))]
-fn read_row_at(rows: &mut Vec<RequestRow>, found: RequestAt, max: u32, out: &mut [u8]) -> u32
+fn read_row_at(rows: &mut VecDeque<RequestRow>, found: RequestAt, max: u32, out: &mut [u8]) -> u32
     requires room { LINE_EVENT_SIZE * max ≤ length out.old }
     requires stands { StandsAt found rows.old.items }
     ensures count { result ≡ option_map_or (λ row. taken_count max row.ring) (request_at rows.old.items found.fd) 0 }
     ensures rows { rows.new.items ≡ change_first (is_number found.fd) (read_from max) rows.old.items }
     ensures out { out.new ≡ flat_map event_bytes (option_map_or (λ row. taken max row.ring) (request_at rows.old.items found.fd) [])
         ++ drop (LINE_EVENT_SIZE * result) out.old }
-    ensures capacity { vec_capacity rows.new ≡ vec_capacity rows.old }
+    ensures capacity { deque_capacity rows.new ≡ deque_capacity rows.old }
 {
     rows[found.at].ring.read(max, out)
 }

@@ -9,21 +9,26 @@ ghost use Rattle.gl_uapi.specs.InfoChanged.{changed_bytes};
 use crate::file::{ChipFile, FileAt};
 use crate::lines::WatchedLines;
 use crate::queue::InfoQueue;
-use crate::table::{file_at, notify_all, position_of, read_file_at, remove_file, set_watch_at};
-use gl_base::{Errno, FILES_MAX, LINES_MAX, push_within};
+use crate::table::{
+    file_at, notify_all, position_of, push_file, read_file_at, remove_file, set_watch_at,
+};
+use gl_base::{Errno, FILES_MAX, LINES_MAX};
 use gl_uapi::Changed;
 use gl_uapi::layout::INFO_CHANGED_SIZE;
 use std::alloc::Global;
+use std::collections::VecDeque;
 use std::marker::Model;
 
-/// The open chip files. Contracts see the list of them, in order of their opening.
+/// The open chip files. Where one is closed, those on its shorter side move: none where it is the oldest or the newest.
+/// Contracts see the list of them, in order of their opening.
 #[derive(Drop)]
 pub struct Watches {
-    files: Vec<ChipFile>,
+    files: VecDeque<ChipFile>,
 }
 
 impl Model for Watches {
-    ghost use Rattle.std.specs.Prelude.{◌≡◌, ◌≤◌, List, length, vec_capacity};
+    ghost use Rattle.std.specs.Prelude.{◌≡◌, ◌≤◌, List, length};
+    ghost use Rattle.std.specs.VecDeque.{deque_capacity};
     ghost use Rattle.gl_base.specs.declared.limits.TheConstants.{FILES_MAX};
     ghost use Rattle.gl_watch.specs.declared.file.ChipFile.{ChipFile};
 
@@ -31,7 +36,7 @@ impl Model for Watches {
 
     ghost view = { λ w. w.files.items };
 
-    ghost invariant = { λ w. (vec_capacity w.files ≡ FILES_MAX) × (length w.files.items ≤ FILES_MAX) };
+    ghost invariant = { λ w. (deque_capacity w.files ≡ FILES_MAX) × (length w.files.items ≤ FILES_MAX) };
 }
 
 impl Watches {
@@ -43,7 +48,7 @@ impl Watches {
         ensures ok { IfOk result (λ watches. watches ≡ []) }
         ensures memory_alone { IsOkUnless result Errno.NoMemory }
     {
-        match Vec::with_capacity(alloc, FILES_MAX as usize) {
+        match VecDeque::with_capacity(alloc, FILES_MAX as usize) {
             Ok(files) => Ok(Watches { files }),
             Err(_) => Err(Errno::NoMemory),
         }
@@ -62,7 +67,7 @@ impl Watches {
             watched: WatchedLines::none(),
             changes: queue,
         };
-        push_within(&mut self.files, file);
+        push_file(&mut self.files, file);
     }
 
     /// How many files are open.

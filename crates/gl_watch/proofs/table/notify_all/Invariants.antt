@@ -1,4 +1,5 @@
-use Rattle.std.proofs.Common.{◌≡◌, ◌++◌, length, map, take, drop, vec_capacity}
+use Rattle.std.proofs.Common.{◌≡◌, ◌++◌, length, map, take, drop}
+use Rattle.std.specs.VecDeque.{deque_capacity}
 use Rattle.gl_watch.specs.Files.{notified}
 use Rattle.gl_watch.proofs.table.notify_all.Given as goal
 
@@ -7,4 +8,4 @@ abbrev pub invariant-loop-i : goal.invariant-loop-i
 invariant-loop-i l =
     (l.files.items ≡ map (notified l.place l.changed) (take l.i l.initial.files.items) ++ drop l.i l.initial.files.items)
     × (length l.files.items ≡ length l.initial.files.items)
-    × (vec_capacity l.files ≡ vec_capacity l.initial.files)
+    × (deque_capacity l.files ≡ deque_capacity l.initial.files)
