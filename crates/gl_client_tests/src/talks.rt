@@ -47,7 +47,7 @@ fn finish_all(
 ) -> Result<(), Errno> {
     for statement in statements {
         if talk.begun < 1000 {
-            talk.begin(alloc, statement.line())?;
+            talk.begin(alloc, statement)?;
         }
         finish(alloc, talk, left, form, out)?;
     }

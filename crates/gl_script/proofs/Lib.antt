@@ -3,6 +3,7 @@ pub mod Blaming
 pub mod FirstBytes
 pub mod Loads
 pub mod Missing
+pub mod Saying
 pub mod ServingLines
 pub mod Spelling
 pub mod Sums

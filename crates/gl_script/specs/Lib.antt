@@ -8,6 +8,7 @@ pub mod FirstBytes
 pub mod Meaning
 pub mod Reading
 pub mod Refusal
+pub mod Said
 pub mod Script
 pub mod Section
 pub mod Sentence

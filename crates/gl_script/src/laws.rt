@@ -2,6 +2,7 @@
 ghost use Rattle.std.specs.Prelude.{◌≡◌, ◌≤◌, ℕ, List};
 ghost use Rattle.gl_script.specs.Blame.{FaultsAreOfTheText};
 ghost use Rattle.gl_script.specs.Gen.{IsSession, load_text};
+ghost use Rattle.gl_script.specs.Said.{SaidIsSpelled, StatementsAreSaid, VersionsAreSaid};
 ghost use Rattle.gl_script.specs.Section.{SaidSection};
 ghost use Rattle.gl_script.specs.Sentence.{Sentence};
 ghost use Rattle.gl_script.specs.ServedLines.{AcceptedLinesHaveNoFault, AcceptedTextsAreSessions, RefusedLinesHaveTheirFault};
@@ -38,6 +39,14 @@ pub fn loads_are_sessions()
 /// Each statement is the one that its word begins: the table of statements has a row for each.
 pub fn statements_have_their_words()
     ensures { StatementsHaveTheirWords }
+{}
+
+/// Words say something exactly where they have no fault as a statement, in a session of either version; and what they say is what they
+/// spell: no word is read as a default.
+pub fn statements_are_said()
+    ensures faultless { StatementsAreSaid }
+    ensures versions { VersionsAreSaid }
+    ensures spelled { SaidIsSpelled }
 {}
 
 /// Lines that are accepted one after the other (`line_kind`) are together a session with its statements in `setup`, unless it is too

@@ -12,6 +12,7 @@ mod limits;
 mod load;
 mod reading;
 mod refusal;
+mod said;
 mod script;
 mod section;
 mod served;
@@ -23,12 +24,13 @@ pub use feed::Feed;
 pub use forms::number_within;
 pub use laws::{
     faults_are_of_the_text, limits_by_value, loads_are_sessions, sentence_is_single,
-    sentences_are_spelled, served_lines_are_sessions, spelled_are_sentences,
+    sentences_are_spelled, served_lines_are_sessions, spelled_are_sentences, statements_are_said,
     statements_have_their_words,
 };
 pub use limits::{SESSION_MAX, TURNS_MAX};
 pub use load::generate;
 pub use refusal::{Refusal, RefusalKind, Spot};
+pub use said::Said;
 pub use script::Script;
 pub use section::{Head, SectionKind, Statement};
 pub use served::{LineKind, Stage, line_kind};

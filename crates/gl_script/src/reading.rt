@@ -1,9 +1,11 @@
 //! A session is read line by line.
-ghost use Rattle.std.specs.Prelude.{◌≡◌, ◌<◌, ◌≤◌, ◌+◌, ◌^◌, [], ◌∷◌, Some, map, length, count_by, OnOk, IfOk, IsOkUnless};
+ghost use Rattle.std.specs.Prelude.{◌≡◌, ◌<◌, ◌≤◌, ◌+◌, ◌^◌, [], ◌∷◌, None, Some, true, is_some, map, length, count_by, OnOk, IfOk, IsOkUnless};
 ghost use Rattle.std.specs.List.{list_any};
 ghost use Rattle.gl_base.specs.Words.{span, text_at, words_at};
+ghost use Rattle.gl_script.specs.Columns.{columns};
 ghost use Rattle.gl_script.specs.Faults.{spot};
 ghost use Rattle.gl_script.specs.Meaning.{said_in, current_in};
+ghost use Rattle.gl_script.specs.Said.{said_of};
 ghost use Rattle.gl_script.specs.Reading.{before_in};
 ghost use Rattle.gl_script.specs.Sentence.{nothing, is_comment, kind_of, is_actor, is_after, is_out_of_order, actor_count, is_named, names_current, is_used, actor_fault, section_fault, counted_fault, line_fault, with_statement, behind, sections_in};
 
@@ -164,8 +166,9 @@ impl<'a> Reading<'a> {
 }
 
 impl<'a> Reading<'a> {
-    /// Takes a line in.
+    /// Takes a line without a fault in.
     pub fn read(&mut self, alloc: Global, at: usize, line: &'a [u8]) -> Result<(), Errno>
+        requires { line_fault (before_in self.old) line.now ≡ None }
         ensures ok { OnOk result (before_in self.new ≡ behind (before_in self.old) (span at line.now)) }
         ensures few { OnOk result (length (sections_in (before_in self.new)) ≤ length (sections_in (before_in self.old)) + 1) }
         ensures memory_alone { IsOkUnless result Errno.NoMemory }
@@ -204,14 +207,15 @@ impl<'a> Reading<'a> {
         Ok(())
     }
 
-    /// Adds a statement to the section.
+    /// Adds the statement of a line to the section.
     fn add(&mut self, at: usize, line: &'a [u8]) -> Result<(), Errno>
+        requires { is_some (said_of (columns line.now)) ≡ true }
         ensures ok { OnOk result (before_in self.new ≡ record { version = self.old.version; complete = (before_in self.old).complete; current = with_statement (span at line.now) (current_in self.old.current) }) }
         ensures memory_alone { IsOkUnless result Errno.NoMemory }
     {
         match &mut self.current {
             Some(section) => {
-                section.statements.push(Statement { at, line })?;
+                section.statements.push(Statement::of(at, line))?;
                 Ok(())
             }
             None => Ok(()),

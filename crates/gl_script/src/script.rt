@@ -22,8 +22,10 @@ pub struct Script<'a> {
 }
 
 impl<'a> Script<'a> {
-    ghost use Rattle.std.specs.Prelude.{◌≢◌, ◌⊎◌, ◌+◌, ◌≤◌, None, Some, option_map, slice_get, IfOk, IfErr, MatchOption};
+    ghost use Rattle.std.specs.Prelude.{◌≢◌, ◌⊎◌, ◌+◌, ◌≤◌, None, Some, option_map, slice_get, IfSome, IfOk, IfErr, MatchOption};
+    ghost use Rattle.gl_script.specs.Columns.{columns};
     ghost use Rattle.gl_script.specs.Meaning.{line_in, head_in};
+    ghost use Rattle.gl_script.specs.Said.{said_of};
     ghost use Rattle.gl_script.specs.Script.{sections_of};
     ghost use Rattle.gl_script.specs.Section.{head_at, statement_at, statements_of};
     ghost use Rattle.gl_script.specs.Sentence.{Sentence, first_fault};
@@ -82,9 +84,11 @@ impl<'a> Script<'a> {
         Some(head_of(section.kind, section.name))
     }
 
-    /// A statement of a section, both counted from 0; None exactly past the last section and its last statement.
+    /// A statement of a section, both counted from 0; None exactly past the last section and its last statement. It says what its
+    /// words say.
     pub fn statement(&self, section: u32, i: u32) -> Option<Statement<'a>>
-        ensures { option_map line_in result ≡ statement_at section i (sections_of self.now) }
+        ensures line { option_map line_in result ≡ statement_at section i (sections_of self.now) }
+        ensures read { IfSome result (λ s. said_of (columns s.line.now) ≡ Some s.said) }
     {
         let section = self.sections.get(section as usize)?;
         section.statements.get(i as usize).copied()

@@ -1,6 +1,10 @@
 //! Sections and their statements, as stretches of the source.
-ghost use Rattle.std.specs.Prelude.{◌≡◌, ◌<◌, ◌≤◌, length, MatchOption};
+ghost use Rattle.std.specs.Prelude.{◌≡◌, ◌<◌, ◌≤◌, Some, true, is_some, length, MatchOption};
+ghost use Rattle.std.specs.Coded.{Coded-set, coded_option};
+ghost use Rattle.gl_script.specs.Columns.{columns};
+ghost use Rattle.gl_script.specs.Said.{said_of};
 
+use crate::said::{Said, values_of};
 use gl_base::nth_word;
 
 /// The kind of a section.
@@ -25,11 +29,13 @@ pub enum Head<'a> {
     After,
 }
 
-/// A statement: the line of the source that it stands in.
+/// A statement: the line of the source that it stands in, and what its words say, which were read once.
 #[derive(Clone, Copy, Debug)]
 pub struct Statement<'a> {
     pub(crate) at: usize,
     pub(crate) line: &'a [u8],
+    pub(crate) said: Said,
+    pub ghost read: { said_of (columns line.now) ≡ Some said } by { Coded-set (coded_option said-code) (said_of (columns line.now)) (Some said) },
 }
 
 /// A section: its kind, an actor's name, and its statements.
@@ -41,8 +47,21 @@ pub struct Section<'a> {
 }
 
 impl<'a> Statement<'a> {
-    ghost use Rattle.gl_base.specs.Words.{text_at};
-    ghost use Rattle.gl_script.specs.Columns.{columns};
+    ghost use Rattle.gl_base.specs.Words.{span, text_at};
+    ghost use Rattle.gl_script.specs.Meaning.{line_in};
+    ghost use Rattle.gl_script.specs.Said.{Spells};
+
+    /// The statement of a line that is one, which begins at a place in the source. (`line_kind` says which lines are.)
+    #[tactic(auto, using(crate::proofs::Saying::values_said))]
+    pub fn of(at: usize, line: &'a [u8]) -> Statement<'a>
+        requires { is_some (said_of (columns line.now)) ≡ true }
+        ensures { line_in result ≡ span at line.now }
+    {
+        match values_of(line) {
+            Some(said) => Statement { at, line, said },
+            None => unreachable!(),
+        }
+    }
 
     /// Where its line begins in the source, in bytes counted from 0.
     pub fn at(&self) -> usize
@@ -56,6 +75,14 @@ impl<'a> Statement<'a> {
         ensures { result.now ≡ self.now.line.now }
     {
         self.line
+    }
+
+    /// What its words say.
+    pub fn said(&self) -> Said
+        ensures read { said_of (columns self.now.line.now) ≡ Some result }
+        ensures spelled { Spells (columns self.now.line.now) result }
+    {
+        self.said
     }
 
     /// Its word of the number `i`, counted from 0, as it stands in the source; None exactly past the last word.

@@ -1,6 +1,8 @@
 //! The lines of a session that is answered line by line.
-ghost use Rattle.std.specs.Prelude.{◌≡◌, ◌<◌, ◌+◌, ◌^◌, ◌∷◌, Ok, length};
+ghost use Rattle.std.specs.Prelude.{◌≡◌, ◌<◌, ◌+◌, ◌^◌, ◌∷◌, Ok, true, is_some, length};
 ghost use Rattle.gl_base.specs.Words.{span, words_at};
+ghost use Rattle.gl_script.specs.Columns.{columns};
+ghost use Rattle.gl_script.specs.Said.{said_of};
 ghost use Rattle.gl_script.specs.Served.{headed_kind, line_kind, open_kind, opened, opening_kind, stage_after, unless, words_kind};
 ghost use Rattle.gl_script.specs.Sentence.{kind_of, version_of};
 
@@ -59,10 +61,11 @@ fn opened(stage: Stage) -> Stage
     }
 }
 
-/// What a line is at a stage, or its first fault.
+/// What a line is at a stage, or its first fault. A line that is a statement is one that `Statement::of` reads.
 pub fn line_kind(stage: Stage, line: &[u8]) -> Result<LineKind, Spot>
     requires { length line.now + 2 < 2 ^ 32 }
-    ensures { result ≡ line_kind stage line.now }
+    ensures kind { result ≡ line_kind stage line.now }
+    ensures statement { result ≡ Ok LineKind.Statement → is_some (said_of (columns line.now)) ≡ true }
 {
     if let Some(fault) = byte_fault(1, line) {
         return Err(fault);

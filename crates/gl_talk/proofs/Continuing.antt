@@ -8,8 +8,12 @@ use Rattle.gl_client.specs.Program.{Program, done, Left, goes_on, waits, then_le
 use Rattle.gl_client.proofs.Programs.{goes_in_part, given_then}
 use Rattle.gl_monitor.specs.declared.monitor.Monitor.{Monitor}
 use Rattle.gl_monitor.specs.Monitor.{Watched, monitor_left}
+use Rattle.gl_base.specs.Words.{Span, text_at}
+use Rattle.gl_script.specs.Table.{keyword_of}
 use Rattle.gl_talk.specs.Open.{Names}
-use Rattle.gl_talk.specs.Talk.{shows, some_left}
+use Rattle.gl_talk.specs.Talk.{does, does_by, shows, some_left}
+use Rattle.gl_talk.specs.ToolWords.{kind_of}
+use Rattle.gl_talk.specs.declared.tools.StatementKind.{StatementKind}
 
 -- a part of a program makes its step
 pub part_step : {A B : Type 0} (l rest : Left A) (f : A → Program B) (got : Option Got) (next : Next) → Goes (given l got) next rest
@@ -64,6 +68,11 @@ pub if_ok : {A E : Type 0} (result : Result A E) (P Q : A → Type 0) → ((valu
 if_ok (Ok value) P Q f h = f value h
 if_ok (Err fault) P Q f h = h
 
+-- what is true where a result is Ok
+pub on_ok : {A E : Type 0} (result : Result A E) (P Q : Type 0) → (P → Q) → OnOk result P → OnOk result Q
+on_ok (Ok value) P Q f h = f h
+on_ok (Err fault) P Q f h = h
+
 -- the same whatever the result is
 pub any_result : {A : Type 0} (p : Program A) (got : Option Got) (next : Next) (rest : Left A) → Goes p next rest → Goes (given (waits (λ _. p)) got) next rest
 any_result p None next rest h = h
@@ -73,3 +82,8 @@ any_result p (Some got) next rest h = h
 pub row_added : {Row Item : Type 0} (meaning : Row → Item) (rows : List Row) (row : Row) → map meaning (rows ++ row ∷ []) ≡ map meaning rows ++ meaning row ∷ []
 row_added meaning [] row = refl
 row_added meaning (first ∷ rows) row = ap (λ items. meaning first ∷ items) (row_added meaning rows row)
+
+-- what a statement does, by its kind
+pub started : (kind : StatementKind) (names : Names) (slot : ℕ) (words : List Span) (next : Next) (rest : Left Names) → kind_of (keyword_of (text_at 0 words)) ≡ kind
+    → Goes (does_by kind names slot words) next rest → Goes (does names slot words) next rest
+started kind names slot words next rest is h = subst (λ k. Goes (does_by k names slot words) next rest) (sym is) h

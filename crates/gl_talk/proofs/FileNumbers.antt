@@ -11,9 +11,8 @@ use Rattle.gl_base.specs.declared.errno.Errno.{Errno}
 use Rattle.gl_base.specs.declared.operation.Do.{Do}
 use Rattle.gl_base.specs.declared.operation.Do.TheVariants.{Probe, Unplug, MakeDir, RemoveDir, Write, Read, Live, Tick, Pin, Irq, Pull, Level, OpenChip, Find, Ioctl, ReadFile, Poll, Close, Plan, Accept}
 use Rattle.gl_base.specs.declared.operation.Got.{Got}
-use Rattle.gl_client.specs.Entries.{IsKept}
 use Rattle.gl_client.specs.Gives.{Gives}
-use Rattle.gl_client.specs.OpenSlots.{NamesOpenSlots, SameSlots, Where, is_open, one_if, slots_behind, times, with_opened}
+use Rattle.gl_client.specs.OpenSlots.{NamesOpenSlots, SameSlots, Where, one_if, slots_behind, times, with_opened}
 use Rattle.gl_client.specs.Program.{Program, done, print, ask, then_by}
 use Rattle.gl_client.proofs.OpenSlots.{is_there, same_number, times_without}
 use Rattle.gl_talk.specs.Files.{AreOpen}

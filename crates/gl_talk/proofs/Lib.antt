@@ -16,4 +16,5 @@ pub mod TalkPrints
 pub mod TalkedSteps
 pub mod ToolParts
 pub mod Turns
+pub mod TypedActions
 pub mod WordReadings

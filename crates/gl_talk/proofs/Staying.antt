@@ -7,7 +7,7 @@ use Rattle.gl_talk.specs.declared.talk.Stage.{Stage}
 use Rattle.gl_talk.specs.declared.talk.Stage.TheVariants.{Idle, Begun, Waiting, Running, Holding, Watching, Quitting, Closing}
 use Rattle.gl_talk.specs.declared.talk.Talk.{Talk}
 use Rattle.gl_talk.specs.Open.{Names}
-use Rattle.gl_talk.specs.Talk.{StaysBegun, StaysLeft, closes_all, does, keeps_monitor, keeps_set, left, left_at, names_in, slot_in, words_in}
+use Rattle.gl_talk.specs.Talk.{StaysBegun, StaysLeft, closes_all, keeps_monitor, keeps_set, left, left_at, names_in, slot_in, words_in}
 
 -- at each stage
 at_stage : (old new : Talk) (names : Names) (slot : ℕ) (words : List Span) (stage : Stage) → StaysLeft old new → left_at new names slot words stage ≡ left_at old names slot words stage

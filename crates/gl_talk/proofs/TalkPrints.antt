@@ -14,7 +14,7 @@ use Rattle.gl_args.specs.Options.{SaidTool, SaidDetect, SaidInfo, SaidGet, SaidS
 use Rattle.gl_base.specs.TextLines.{ends_lines}
 use Rattle.gl_base.proofs.TextLines.{line_ends, lines_end}
 use Rattle.gl_client.specs.Printing.{PrintsLines}
-use Rattle.gl_client.specs.Program.{Program, done, then_by}
+use Rattle.gl_client.specs.Program.{Program, done}
 use Rattle.gl_args.specs.Tools.{tool_said}
 use Rattle.gl_client.proofs.Printing.{prints_then}
 use Rattle.gl_lines.proofs.FindingPrints.{line_ended}

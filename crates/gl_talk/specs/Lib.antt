@@ -1,3 +1,4 @@
+pub mod Copied
 pub mod Costs
 pub mod Files
 pub mod InParts
@@ -10,6 +11,7 @@ pub mod Actions
 pub mod Printed
 pub mod Readings
 pub mod Replies
+pub mod SaidActions
 pub mod Slots
 pub mod Talk
 pub mod ToolWords

@@ -1,5 +1,5 @@
 -- The statements of the first uAPI: which call of v2 each makes, and how its result goes back. This project's choice.
-use Rattle.std.specs.Prelude.{ℕ, zero, suc, ◌+◌, ◌*◌, ◌/◌, Bool, true, false, ◌&&◌, ◌==◌, nat_le, if◌then◌else◌, List, [], ◌++◌, length, min, take, is_some, Option, Some, None, codes}
+use Rattle.std.specs.Prelude.{ℕ, zero, suc, ◌+◌, ◌*◌, ◌/◌, Bool, ◌&&◌, ◌==◌, nat_le, if◌then◌else◌, List, [], ◌++◌, length, min, take, is_some, Option, Some, None, codes}
 use Rattle.gl_base.specs.BytesText.{bytes_text}
 use Rattle.gl_base.specs.Decimal.{decimal}
 use Rattle.gl_base.specs.Padded.{padded}

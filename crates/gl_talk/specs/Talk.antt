@@ -215,7 +215,7 @@ abbrev pub slot_in : Talk → ℕ
 slot_in t = 2 * t.begun
 
 abbrev pub words_in : Talk → List Span
-words_in t = columns t.line.items
+words_in t = columns t.line
 
 abbrev pub left : Talk → Left Names
 left t = left_at t (names_in t) (slot_in t) (words_in t) t.stage
@@ -228,7 +228,7 @@ talk_left t statements = then_left (left t) (talks t.begun statements)
 pub record StaysLeft (old new : Talk) : Type 0 where
   pub stage : new.stage ≡ old.stage
   pub begun : new.begun ≡ old.begun
-  pub line : new.line.items ≡ old.line.items
+  pub line : new.line ≡ old.line
   pub names : names_in new ≡ names_in old
   pub client : client_left new.client ≡ client_left old.client
   pub monitor : some_left new.monitor ≡ some_left old.monitor
@@ -238,5 +238,5 @@ pub record StaysLeft (old new : Talk) : Type 0 where
 pub record StaysBegun (old new : Talk) : Type 0 where
   pub stage : new.stage ≡ old.stage
   pub begun : new.begun ≡ old.begun
-  pub line : new.line.items ≡ old.line.items
+  pub line : new.line ≡ old.line
   pub names : names_in new ≡ names_in old

@@ -1,23 +1,24 @@
 //! What a statement that is no tool's asks of the device.
-ghost use Rattle.std.specs.Prelude.{◌≡◌, ◌*◌, ◌/◌, ◌<◌, ◌≤◌, map, is_some, option_map, option_copied, IfOk, IfSome, IsOkUnless, true, false};
+ghost use Rattle.std.specs.Prelude.{◌≡◌, ◌==◌, ◌*◌, ◌/◌, ◌<◌, ◌≤◌, map, is_some, Some, option_map, option_copied, IfOk, IfSome, IsOkUnless, true, false};
 ghost use Rattle.gl_base.specs.Words.{text_at};
+ghost use Rattle.gl_base.specs.declared.command.TheConstants.{GET_LINE};
 ghost use Rattle.gl_script.specs.Columns.{columns};
-ghost use Rattle.gl_talk.specs.Old.{takes_old_name};
+ghost use Rattle.gl_script.specs.Table.{keyword_of};
+ghost use Rattle.gl_v1.specs.Words.{makes_file};
 ghost use Rattle.gl_talk.specs.Open.{file_in, file_of, is_chip, is_old_event, is_request};
 ghost use Rattle.gl_talk.specs.Paths.{line_file, live_device};
-ghost use Rattle.gl_talk.specs.Actions.{accepts, asks_for, clocks, closes, command_reply, faults, ioctls, ioctls_bytes, irqs, lives, old_ioctls, old_ioctls_bytes, opens, pin_said, pins, action_of, polls, probes, pulls, read_if, reads, reads_file, takes_name, unplugs, writes, writes_line, writes_tree};
-ghost use Rattle.gl_talk.specs.Words.{number_word};
+ghost use Rattle.gl_talk.specs.Actions.{asks_for, closes, command_reply, ioctls_bytes, lives, old_ioctls_bytes, opens, action_of, polls, pulls, read_if, reads, reads_file, writes, writes_line, writes_tree};
+ghost use Rattle.gl_talk.specs.SaidActions.{action_said, ioctls_said, old_ioctls_said, takes};
+ghost use Rattle.gl_talk.specs.Words.{behind_three, bytes_said, name_word};
 
+use crate::copied::CopiedStatement;
 use crate::files::{TalkFile, file_of, has_file, is_chip, is_old_event, is_request};
-use crate::old::{old_command_word, old_reply, sent_new, sent_old, takes_old_name};
+use crate::old::{old_reply, sent_new, sent_old};
 use crate::paths::{LineFile, line_file, live_device};
-use crate::words::{
-    bytes_said, command_word, irq_word, live_word, made_name, name_word, number_word, path_word,
-    place_word, pull_word, small_word, word,
-};
+use crate::words::{bytes_said, live_word, made_name, name_word, path_word, pull_word, word};
 use gl_base::command::{GET_CHIPINFO, GET_LINE, GET_LINEINFO, GET_LINEINFO_WATCH, LINE_GET_VALUES};
-use gl_base::{Do, Errno, LINES_MAX, PinDo};
-use gl_script::Keyword;
+use gl_base::{Do, Errno};
+use gl_script::Said;
 use gl_v1::{KindV1, Sent};
 use std::alloc::Global;
 
@@ -63,147 +64,89 @@ pub enum Action {
     Ask(Do, ResultFormat),
 }
 
-/// The greatest number of 64 bits.
-const MOST: u64 = 0xFFFF_FFFF_FFFF_FFFF;
-
-/// What a statement does first: one row a statement. `slot` is a slot of its own.
+/// What a statement does first. `slot` is a slot of its own.
 pub fn action_of(
     alloc: Global,
-    keyword: Option<Keyword>,
     files: &[TalkFile],
     slot: u32,
-    line: &[u8],
+    line: &CopiedStatement,
 ) -> Result<Action, Errno>
-    ensures ok { IfOk result (λ what. what ≡ action_of keyword (map file_in files.now) slot (columns line.now)) }
+    ensures ok { IfOk result (λ what. what ≡ action_of (keyword_of (text_at 0 (columns line.now))) (map file_in files.now) slot (columns line.now)) }
     ensures memory_alone { IsOkUnless result Errno.NoMemory }
 {
-    let Some(keyword) = keyword else {
-        return Ok(Action::Nothing);
-    };
-    match keyword {
-        Keyword::Probe => Ok(probes(word(1, line), word(2, line))),
-        Keyword::Unplug => Ok(unplugs(place_word(word(1, line)))),
-        Keyword::MakeDir => Ok(Action::Ask(
-            Do::MakeDir(path_word(word(1, line))),
-            ResultFormat::Silent,
-        )),
-        Keyword::RemoveDir => Ok(Action::Ask(
-            Do::RemoveDir(path_word(word(1, line))),
-            ResultFormat::Silent,
-        )),
-        Keyword::Write => Ok(writes(word(1, line), word(2, line))),
-        Keyword::Read => Ok(reads(word(1, line))),
-        Keyword::Clock => Ok(clocks(word(1, line), word(2, line))),
-        Keyword::Fault => Ok(faults(word(1, line))),
-        Keyword::Accept => Ok(accepts(word(1, line))),
-        Keyword::Pin => Ok(pins(place_word(word(2, line)), line)),
-        Keyword::Irq => Ok(irqs(place_word(word(2, line)), line)),
-        Keyword::Open => Ok(opens(has_file(files, word(1, line)), slot, word(2, line))),
-        Keyword::Ioctl => commands(alloc, files, slot, line),
-        Keyword::Events => Ok(events(file_of(files, word(1, line)), word(2, line))),
-        Keyword::OldIoctl => old_commands(alloc, files, slot, line),
-        Keyword::OldEvents => Ok(old_events(file_of(files, word(1, line)), word(2, line))),
-        Keyword::Changes => Ok(changes(file_of(files, word(1, line)), word(2, line))),
-        Keyword::Poll => Ok(polls(file_of(files, word(1, line)))),
-        Keyword::Close => Ok(closes(file_of(files, word(1, line)))),
-        Keyword::Detect
-        | Keyword::Info
-        | Keyword::Get
-        | Keyword::Set
-        | Keyword::Start
-        | Keyword::Step
-        | Keyword::Stop => Ok(Action::Nothing),
+    match line.said() {
+        Some(said) => action_said(alloc, said, files, slot, line),
+        None => Ok(Action::Nothing),
     }
 }
 
-fn probes(label: &[u8], lines: &[u8]) -> Action
-    ensures { result ≡ probes label.now lines.now }
+/// What a statement that says this does first: one row a statement.
+fn action_said(
+    alloc: Global,
+    said: Said,
+    files: &[TalkFile],
+    slot: u32,
+    line: &CopiedStatement,
+) -> Result<Action, Errno>
+    ensures ok { IfOk result (λ what. what ≡ action_said said (map file_in files.now) slot (columns line.now)) }
+    ensures memory_alone { IsOkUnless result Errno.NoMemory }
+{
+    match said {
+        Said::Probe { lines } => Ok(probes(word(1, line), lines)),
+        Said::Unplug { chip } => Ok(Action::Ask(Do::Unplug { place: chip }, ResultFormat::Silent)),
+        Said::MakeDir => Ok(Action::Ask(
+            Do::MakeDir(path_word(word(1, line))),
+            ResultFormat::Silent,
+        )),
+        Said::RemoveDir => Ok(Action::Ask(
+            Do::RemoveDir(path_word(word(1, line))),
+            ResultFormat::Silent,
+        )),
+        Said::Write => Ok(writes(word(1, line), word(2, line))),
+        Said::Read => Ok(reads(word(1, line))),
+        Said::Clock { mono, real } => Ok(Action::Ask(
+            Do::Tick { mono, real },
+            ResultFormat::Silent,
+        )),
+        Said::Fault { nth } => Ok(Action::Ask(Do::Plan { nth }, ResultFormat::Silent)),
+        Said::Accept { bits } => Ok(Action::Ask(Do::Accept { bits }, ResultFormat::Silent)),
+        Said::Pin { chip, what } => Ok(Action::Ask(
+            Do::Pin { place: chip, what },
+            ResultFormat::Silent,
+        )),
+        Said::Irq { what, chip, offset } => Ok(Action::Ask(
+            Do::Irq {
+                place: chip,
+                offset,
+                what,
+            },
+            ResultFormat::Silent,
+        )),
+        Said::Open => Ok(opens(has_file(files, word(1, line)), slot, word(2, line))),
+        Said::Ioctl { command } => commands(alloc, files, slot, command, line),
+        Said::Events { len } => Ok(events(file_of(files, word(1, line)), len)),
+        Said::OldIoctl { command } => old_commands(alloc, files, slot, command, line),
+        Said::OldEvents { len } => Ok(old_events(file_of(files, word(1, line)), len)),
+        Said::Changes { len } => Ok(changes(file_of(files, word(1, line)), len)),
+        Said::Poll => Ok(polls(file_of(files, word(1, line)))),
+        Said::Close => Ok(closes(file_of(files, word(1, line)))),
+        Said::Detect
+        | Said::Info
+        | Said::Get
+        | Said::Set
+        | Said::Start
+        | Said::Step { .. }
+        | Said::Stop => Ok(Action::Nothing),
+    }
+}
+
+fn probes(label: &[u8], lines: u32) -> Action
+    ensures { result ≡ Action.Ask (Do.Probe (name_word label.now) lines) ResultFormat.Silent }
 {
     Action::Ask(
         Do::Probe {
             label: name_word(label),
-            lines: number_word(1, u64::from(LINES_MAX), lines) as u32,
-        },
-        ResultFormat::Silent,
-    )
-}
-
-fn clocks(mono: &[u8], real: &[u8]) -> Action
-    ensures { result ≡ clocks mono.now real.now }
-{
-    Action::Ask(
-        Do::Tick {
-            mono: number_word(0, MOST, mono),
-            real: number_word(0, MOST, real),
-        },
-        ResultFormat::Silent,
-    )
-}
-
-fn faults(nth: &[u8]) -> Action
-    ensures { result ≡ faults nth.now }
-{
-    Action::Ask(
-        Do::Plan {
-            nth: number_word(1, 1_000_000, nth) as u32,
-        },
-        ResultFormat::Silent,
-    )
-}
-
-fn accepts(bits: &[u8]) -> Action
-    ensures { result ≡ accepts bits.now }
-{
-    Action::Ask(
-        Do::Accept {
-            bits: number_word(0, MOST, bits),
-        },
-        ResultFormat::Silent,
-    )
-}
-
-fn unplugs(place: u8) -> Action
-    ensures { result ≡ unplugs place }
-{
-    Action::Ask(Do::Unplug { place }, ResultFormat::Silent)
-}
-
-fn pin_said(line: &[u8]) -> PinDo
-    ensures { result ≡ pin_said (columns line.now) }
-{
-    if word(1, line) == b"range".as_slice() {
-        return PinDo::Range {
-            offset: small_word(word(3, line)),
-            pin: small_word(word(4, line)),
-            count: small_word(word(5, line)),
-        };
-    }
-    if word(1, line) == b"hold".as_slice() {
-        return PinDo::Hold(small_word(word(3, line)));
-    }
-    PinDo::Release(small_word(word(3, line)))
-}
-
-fn pins(place: u8, line: &[u8]) -> Action
-    ensures { result ≡ pins place (columns line.now) }
-{
-    Action::Ask(
-        Do::Pin {
-            place,
-            what: pin_said(line),
-        },
-        ResultFormat::Silent,
-    )
-}
-
-fn irqs(place: u8, line: &[u8]) -> Action
-    ensures { result ≡ irqs place (columns line.now) }
-{
-    Action::Ask(
-        Do::Irq {
-            place,
-            offset: small_word(word(3, line)),
-            what: irq_word(word(1, line)),
+            lines,
         },
         ResultFormat::Silent,
     )
@@ -298,11 +241,11 @@ fn opens(is_taken: bool, slot: u32, word: &[u8]) -> Action
     )
 }
 
-/// Whether the name after `as` is one that the actor has.
-fn takes_name(files: &[TalkFile], line: &[u8]) -> bool
-    ensures { result ≡ takes_name (columns line.now) (map file_in files.now) }
+/// Whether a command makes a file, and the name after `as` is one that the actor has.
+fn takes(makes: bool, files: &[TalkFile], line: &CopiedStatement) -> bool
+    ensures { result ≡ takes makes (columns line.now) (map file_in files.now) }
 {
-    command_word(word(2, line)) == GET_LINE && has_file(files, made_name(line))
+    makes && has_file(files, made_name(line))
 }
 
 /// How the result of a command is told.
@@ -316,12 +259,19 @@ fn command_reply(number: u32) -> ResultFormat
     }
 }
 
-fn commands(alloc: Global, files: &[TalkFile], slot: u32, line: &[u8]) -> Result<Action, Errno>
-    ensures ok { IfOk result (λ what. what ≡ ioctls (file_of (text_at 1 (columns line.now)) (map file_in files.now)) (takes_name (columns line.now) (map file_in files.now)) slot (columns line.now)) }
+fn commands(
+    alloc: Global,
+    files: &[TalkFile],
+    slot: u32,
+    command: u32,
+    line: &CopiedStatement,
+) -> Result<Action, Errno>
+    ensures ok { IfOk result (λ what. what ≡ ioctls_said (file_of (text_at 1 (columns line.now)) (map file_in files.now)) (takes (command == GET_LINE) (columns line.now) (map file_in files.now)) slot command (bytes_said (behind_three (columns line.now)))) }
     ensures memory_alone { IsOkUnless result Errno.NoMemory }
 {
     let file = file_of(files, word(1, line));
-    ioctls(alloc, file, takes_name(files, line), slot, line)
+    let is_taken = takes(command == GET_LINE, files, line);
+    ioctls(alloc, file, is_taken, slot, command, line)
 }
 
 fn ioctls(
@@ -329,9 +279,10 @@ fn ioctls(
     file: Option<TalkFile>,
     is_taken: bool,
     slot: u32,
-    line: &[u8],
+    command: u32,
+    line: &CopiedStatement,
 ) -> Result<Action, Errno>
-    ensures ok { IfOk result (λ what. what ≡ ioctls (option_map file_in file) is_taken slot (columns line.now)) }
+    ensures ok { IfOk result (λ what. what ≡ ioctls_said (option_map file_in file) is_taken slot command (bytes_said (behind_three (columns line.now)))) }
     ensures memory_alone { IsOkUnless result Errno.NoMemory }
 {
     let Some(file) = file else {
@@ -341,7 +292,7 @@ fn ioctls(
         return Ok(Action::Refuse(Errno::Exist));
     }
     let bytes = bytes_said(alloc, line)?;
-    Ok(ioctls_bytes(&file, slot, command_word(word(2, line)), &bytes))
+    Ok(ioctls_bytes(&file, slot, command, &bytes))
 }
 
 fn ioctls_bytes(file: &TalkFile, slot: u32, command: u32, bytes: &[u8]) -> Action
@@ -367,12 +318,19 @@ fn asks_for(file: &TalkFile, slot: u32, sent: &Sent, reply: ResultFormat) -> Act
     )
 }
 
-fn old_commands(alloc: Global, files: &[TalkFile], slot: u32, line: &[u8]) -> Result<Action, Errno>
-    ensures ok { IfOk result (λ what. what ≡ old_ioctls (file_of (text_at 1 (columns line.now)) (map file_in files.now)) (takes_old_name (columns line.now) (map file_in files.now)) slot (columns line.now)) }
+fn old_commands(
+    alloc: Global,
+    files: &[TalkFile],
+    slot: u32,
+    command: u32,
+    line: &CopiedStatement,
+) -> Result<Action, Errno>
+    ensures ok { IfOk result (λ what. what ≡ old_ioctls_said (file_of (text_at 1 (columns line.now)) (map file_in files.now)) (takes (makes_file (Some command)) (columns line.now) (map file_in files.now)) slot command (bytes_said (behind_three (columns line.now)))) }
     ensures memory_alone { IsOkUnless result Errno.NoMemory }
 {
     let file = file_of(files, word(1, line));
-    old_ioctls(alloc, file, takes_old_name(files, line), slot, line)
+    let is_taken = takes(gl_v1::makes_file(Some(command)), files, line);
+    old_ioctls(alloc, file, is_taken, slot, command, line)
 }
 
 fn old_ioctls(
@@ -380,9 +338,10 @@ fn old_ioctls(
     file: Option<TalkFile>,
     is_taken: bool,
     slot: u32,
-    line: &[u8],
+    command: u32,
+    line: &CopiedStatement,
 ) -> Result<Action, Errno>
-    ensures ok { IfOk result (λ what. what ≡ old_ioctls (option_map file_in file) is_taken slot (columns line.now)) }
+    ensures ok { IfOk result (λ what. what ≡ old_ioctls_said (option_map file_in file) is_taken slot command (bytes_said (behind_three (columns line.now)))) }
     ensures memory_alone { IsOkUnless result Errno.NoMemory }
 {
     let Some(file) = file else {
@@ -392,7 +351,7 @@ fn old_ioctls(
         return Ok(Action::Refuse(Errno::Exist));
     }
     let bytes = bytes_said(alloc, line)?;
-    Ok(old_ioctls_bytes(&file, slot, old_command_word(word(2, line)), &bytes))
+    Ok(old_ioctls_bytes(&file, slot, command, &bytes))
 }
 
 fn old_ioctls_bytes(file: &TalkFile, slot: u32, command: u32, bytes: &[u8]) -> Action
@@ -402,42 +361,42 @@ fn old_ioctls_bytes(file: &TalkFile, slot: u32, command: u32, bytes: &[u8]) -> A
     asks_for(file, slot, &sent, old_reply(file.kind, sent.cmd))
 }
 
-fn events(file: Option<TalkFile>, len: &[u8]) -> Action
-    ensures { result ≡ reads_file (option_map file_in file) is_request (number_word 0 49152 len.now) ResultFormat.Edges }
+fn events(file: Option<TalkFile>, len: u16) -> Action
+    ensures { result ≡ reads_file (option_map file_in file) is_request len ResultFormat.Edges }
 {
     match file {
         Some(file) => read_if(
             is_request(file.kind),
             file.slot,
-            number_word(0, 49_152, len) as u32,
+            u32::from(len),
             ResultFormat::Edges,
         ),
         None => Action::Refuse(Errno::BadF),
     }
 }
 
-fn old_events(file: Option<TalkFile>, len: &[u8]) -> Action
-    ensures { result ≡ reads_file (option_map file_in file) is_old_event (48 * (number_word 0 16384 len.now / 16)) ResultFormat.OldEdges }
+fn old_events(file: Option<TalkFile>, len: u16) -> Action
+    ensures { result ≡ reads_file (option_map file_in file) is_old_event (48 * (len / 16)) ResultFormat.OldEdges }
 {
     match file {
         Some(file) => read_if(
             is_old_event(file.kind),
             file.slot,
-            48 * (number_word(0, 16_384, len) as u32 / 16),
+            48 * (u32::from(len) / 16),
             ResultFormat::OldEdges,
         ),
         None => Action::Refuse(Errno::BadF),
     }
 }
 
-fn changes(file: Option<TalkFile>, len: &[u8]) -> Action
-    ensures { result ≡ reads_file (option_map file_in file) is_chip (number_word 0 9216 len.now) ResultFormat.Infos }
+fn changes(file: Option<TalkFile>, len: u16) -> Action
+    ensures { result ≡ reads_file (option_map file_in file) is_chip len ResultFormat.Infos }
 {
     match file {
         Some(file) => read_if(
             is_chip(file.kind),
             file.slot,
-            number_word(0, 9216, len) as u32,
+            u32::from(len),
             ResultFormat::Infos,
         ),
         None => Action::Refuse(Errno::BadF),

@@ -4,17 +4,19 @@ ghost use Rattle.gl_base.specs.Words.{text_at};
 ghost use Rattle.gl_args.specs.Options.{tool_in};
 ghost use Rattle.gl_client.specs.Program.{Goes, MatchNext, given, goes_on, done, then_left};
 ghost use Rattle.gl_args.specs.Tools.{tool_said};
+ghost use Rattle.gl_script.specs.Table.{keyword_of};
 ghost use Rattle.gl_monitor.specs.Monitor.{watched_by};
 ghost use Rattle.gl_values.specs.Client.{client_left, held_by};
 ghost use Rattle.gl_talk.specs.Open.{has_tool, held_of_name, watched_of_name};
 ghost use Rattle.gl_talk.specs.Talk.{StaysBegun, StaysLeft, keeps_monitor, keeps_set, left, names_in, slot_in, some_left, some_watched, starts, starts_said, starts_tool, steps, stops, words_in};
-ghost use Rattle.gl_talk.specs.ToolWords.{word_texts};
+ghost use Rattle.gl_talk.specs.ToolWords.{kind_of, word_texts};
+ghost use Rattle.gl_talk.specs.declared.tools.StatementKind.TheVariants.{Stepping};
 ghost use Rattle.gl_talk.specs.Words.{behind_two};
 
 use crate::held::{MonitorRow, SetRow, has_monitor, has_set, take_monitor, take_set};
 use crate::talk::{Stage, Talk};
-use crate::tools::{started_tool_of, usage_text};
-use crate::words::{name_word, turns_word, word};
+use crate::tools::{started_tool_of, turns_of, usage_text};
+use crate::words::{name_word, word};
 use gl_args::{ArgFault, Tool};
 use gl_base::{Errno, Got};
 use gl_client::Next;
@@ -25,18 +27,18 @@ use std::mem;
 
 impl Talk {
     /// The first step of a `start`.
-    pub(crate) fn start_held(&mut self, alloc: Global) -> Result<Next, Errno>
+    pub(crate) fn start_held(&mut self, alloc: Global, step: &mut Next) -> Result<(), Errno>
         requires { self.old.begun ≤ 2147483647 }
-        ensures goes { IfOk result (λ next. Goes (starts (has_tool (text_at 1 (words_in self.old)) (names_in self.old)) (names_in self.old) (slot_in self.old) (words_in self.old)) next (left self.new)) }
-        ensures rests { IfOk result (λ next. MatchNext next (Unit {0}) (left self.new ≡ goes_on (done (names_in self.new)))) }
+        ensures goes { OnOk result (Goes (starts (has_tool (text_at 1 (words_in self.old)) (names_in self.old)) (names_in self.old) (slot_in self.old) (words_in self.old)) step.new (left self.new)) }
+        ensures rests { OnOk result (MatchNext step.new (Unit {0}) (left self.new ≡ goes_on (done (names_in self.new)))) }
         ensures counted { OnOk result (self.new.begun ≡ self.old.begun) }
         ensures kept { OnErr result (StaysBegun self.old self.new) }
         ensures memory_alone { IsOkUnless result Errno.NoMemory }
     {
         if self.has_tool() {
-            return self.refuse(alloc, Errno::Exist);
+            return self.refuse(alloc, Errno::Exist, step);
         }
-        self.start_free(alloc)
+        self.start_free(alloc, step)
     }
 
     /// Whether a tool has the statement's name.
@@ -48,29 +50,33 @@ impl Talk {
     }
 
     /// The first step of a `start` whose name is free.
-    fn start_free(&mut self, alloc: Global) -> Result<Next, Errno>
+    fn start_free(&mut self, alloc: Global, step: &mut Next) -> Result<(), Errno>
         requires { self.old.begun ≤ 2147483647 }
-        ensures goes { IfOk result (λ next. Goes (starts_said (tool_said (word_texts (behind_two (words_in self.old)))) (names_in self.old) (slot_in self.old) (words_in self.old)) next (left self.new)) }
-        ensures rests { IfOk result (λ next. MatchNext next (Unit {0}) (left self.new ≡ goes_on (done (names_in self.new)))) }
+        ensures goes { OnOk result (Goes (starts_said (tool_said (word_texts (behind_two (words_in self.old)))) (names_in self.old) (slot_in self.old) (words_in self.old)) step.new (left self.new)) }
+        ensures rests { OnOk result (MatchNext step.new (Unit {0}) (left self.new ≡ goes_on (done (names_in self.new)))) }
         ensures counted { OnOk result (self.new.begun ≡ self.old.begun) }
         ensures kept { OnErr result (StaysBegun self.old self.new) }
         ensures memory_alone { IsOkUnless result Errno.NoMemory }
     {
         match started_tool_of(alloc, &self.line) {
-            Ok(tool) => self.start_said(alloc, tool),
+            Ok(tool) => {
+                self.start_said(alloc, tool, step)?;
+                Ok(())
+            }
             Err(ArgFault::Usage) => {
                 let text = usage_text(alloc, word(2, &self.line))?;
-                Ok(self.show(text))
+                self.show(text, step);
+                Ok(())
             }
             Err(ArgFault::NoMemory) => Err(Errno::NoMemory),
         }
     }
 
     /// The first step of a tool that is started.
-    fn start_said(&mut self, alloc: Global, tool: Tool) -> Result<Next, Errno>
+    fn start_said(&mut self, alloc: Global, tool: Tool, step: &mut Next) -> Result<(), Errno>
         requires { self.old.begun ≤ 2147483647 }
-        ensures goes { IfOk result (λ next. Goes (starts_tool (tool_in tool) (names_in self.old) (slot_in self.old) (text_at 1 (words_in self.old))) next (left self.new)) }
-        ensures rests { IfOk result (λ next. MatchNext next (Unit {0}) (left self.new ≡ goes_on (done (names_in self.new)))) }
+        ensures goes { OnOk result (Goes (starts_tool (tool_in tool) (names_in self.old) (slot_in self.old) (text_at 1 (words_in self.old))) step.new (left self.new)) }
+        ensures rests { OnOk result (MatchNext step.new (Unit {0}) (left self.new ≡ goes_on (done (names_in self.new)))) }
         ensures counted { OnOk result (self.new.begun ≡ self.old.begun) }
         ensures kept { OnErr result (StaysBegun self.old self.new) }
         ensures memory_alone { IsOkUnless result Errno.NoMemory }
@@ -79,24 +85,28 @@ impl Talk {
         match tool {
             Tool::Set(opts) => {
                 self.client = Client::held(alloc, Tool::Set(opts), base);
-                self.hold(alloc, None)
+                self.hold(alloc, None, step)
             }
             Tool::Watch(opts) => {
                 self.monitor = Some(Monitor::new(alloc, Tool::Watch(opts), base));
-                self.watch(alloc, None)
+                self.watch(alloc, None, step)
             }
             Tool::Notify(opts) => {
                 self.monitor = Some(Monitor::new(alloc, Tool::Notify(opts), base));
-                self.watch(alloc, None)
+                self.watch(alloc, None, step)
             }
-            Tool::Detect(_) | Tool::Info(_) | Tool::Get(_) => Ok(self.end()),
+            Tool::Detect(_) | Tool::Info(_) | Tool::Get(_) => {
+                self.end(step);
+                Ok(())
+            }
         }
     }
 
     /// The first step of a `step`: a monitor makes its turns, and a gpioset has none.
-    pub(crate) fn step_held(&mut self, alloc: Global) -> Result<Next, Errno>
-        ensures goes { IfOk result (λ next. Goes (steps (watched_of_name (text_at 1 (words_in self.old)) (names_in self.old).monitors) (held_of_name (text_at 1 (words_in self.old)) (names_in self.old).sets) (names_in self.old) (words_in self.old)) next (left self.new)) }
-        ensures rests { IfOk result (λ next. MatchNext next (Unit {0}) (left self.new ≡ goes_on (done (names_in self.new)))) }
+    pub(crate) fn step_held(&mut self, alloc: Global, step: &mut Next) -> Result<(), Errno>
+        requires { kind_of (keyword_of (text_at 0 (words_in self.old))) ≡ Stepping }
+        ensures goes { OnOk result (Goes (steps (watched_of_name (text_at 1 (words_in self.old)) (names_in self.old).monitors) (held_of_name (text_at 1 (words_in self.old)) (names_in self.old).sets) (names_in self.old) (words_in self.old)) step.new (left self.new)) }
+        ensures rests { OnOk result (MatchNext step.new (Unit {0}) (left self.new ≡ goes_on (done (names_in self.new)))) }
         ensures counted { OnOk result (self.new.begun ≡ self.old.begun) }
         ensures kept { left self.old ≡ goes_on (steps (watched_of_name (text_at 1 (words_in self.old)) (names_in self.old).monitors) (held_of_name (text_at 1 (words_in self.old)) (names_in self.old).sets) (names_in self.old) (words_in self.old)) → OnErr result ((left self.new ≡ left self.old) × (self.new.begun ≡ self.old.begun)) }
         ensures memory_alone { IsOkUnless result Errno.NoMemory }
@@ -105,24 +115,27 @@ impl Talk {
         match take_monitor(&mut self.monitors, name) {
             Some(monitor) => {
                 let mut monitor = monitor;
-                monitor.step(turns_word(word(2, &self.line)));
+                monitor.step(turns_of(&self.line));
                 self.monitor = Some(monitor);
                 self.stage = Stage::Watching;
-                self.watch(alloc, None)
+                self.watch(alloc, None, step)?;
+                Ok(())
             }
             None => {
                 if has_set(&self.sets, name) {
-                    return self.refuse(alloc, Errno::Inval);
+                    self.refuse(alloc, Errno::Inval, step)?;
+                    return Ok(());
                 }
-                self.refuse(alloc, Errno::BadF)
+                self.refuse(alloc, Errno::BadF, step)?;
+                Ok(())
             }
         }
     }
 
     /// The first step of a `stop`.
-    pub(crate) fn stop_held(&mut self, alloc: Global) -> Result<Next, Errno>
-        ensures goes { IfOk result (λ next. Goes (stops (watched_of_name (text_at 1 (words_in self.old)) (names_in self.old).monitors) (held_of_name (text_at 1 (words_in self.old)) (names_in self.old).sets) (names_in self.old) (words_in self.old)) next (left self.new)) }
-        ensures rests { IfOk result (λ next. MatchNext next (Unit {0}) (left self.new ≡ goes_on (done (names_in self.new)))) }
+    pub(crate) fn stop_held(&mut self, alloc: Global, step: &mut Next) -> Result<(), Errno>
+        ensures goes { OnOk result (Goes (stops (watched_of_name (text_at 1 (words_in self.old)) (names_in self.old).monitors) (held_of_name (text_at 1 (words_in self.old)) (names_in self.old).sets) (names_in self.old) (words_in self.old)) step.new (left self.new)) }
+        ensures rests { OnOk result (MatchNext step.new (Unit {0}) (left self.new ≡ goes_on (done (names_in self.new)))) }
         ensures counted { OnOk result (self.new.begun ≡ self.old.begun) }
         ensures kept { left self.old ≡ goes_on (stops (watched_of_name (text_at 1 (words_in self.old)) (names_in self.old).monitors) (held_of_name (text_at 1 (words_in self.old)) (names_in self.old).sets) (names_in self.old) (words_in self.old)) → OnErr result ((left self.new ≡ left self.old) × (self.new.begun ≡ self.old.begun)) }
         ensures memory_alone { IsOkUnless result Errno.NoMemory }
@@ -133,16 +146,20 @@ impl Talk {
                 monitor.stop();
                 self.monitor = Some(monitor);
                 self.stage = Stage::Watching;
-                self.watch(alloc, None)
+                self.watch(alloc, None, step)?;
+                Ok(())
             }
-            None => self.stop_set(alloc),
+            None => {
+                self.stop_set(alloc, step)?;
+                Ok(())
+            }
         }
     }
 
     /// The first step of a `stop` of a name that no monitor has.
-    fn stop_set(&mut self, alloc: Global) -> Result<Next, Errno>
-        ensures goes { IfOk result (λ next. Goes (stops None (held_of_name (text_at 1 (words_in self.old)) (names_in self.old).sets) (names_in self.old) (words_in self.old)) next (left self.new)) }
-        ensures rests { IfOk result (λ next. MatchNext next (Unit {0}) (left self.new ≡ goes_on (done (names_in self.new)))) }
+    fn stop_set(&mut self, alloc: Global, step: &mut Next) -> Result<(), Errno>
+        ensures goes { OnOk result (Goes (stops None (held_of_name (text_at 1 (words_in self.old)) (names_in self.old).sets) (names_in self.old) (words_in self.old)) step.new (left self.new)) }
+        ensures rests { OnOk result (MatchNext step.new (Unit {0}) (left self.new ≡ goes_on (done (names_in self.new)))) }
         ensures counted { OnOk result (self.new.begun ≡ self.old.begun) }
         ensures kept { left self.old ≡ goes_on (stops None (held_of_name (text_at 1 (words_in self.old)) (names_in self.old).sets) (names_in self.old) (words_in self.old)) → OnErr result ((left self.new ≡ left self.old) × (self.new.begun ≡ self.old.begun)) }
         ensures memory_alone { IsOkUnless result Errno.NoMemory }
@@ -153,39 +170,52 @@ impl Talk {
                 client.stop();
                 self.client = client;
                 self.stage = Stage::Holding;
-                self.hold(alloc, None)
+                self.hold(alloc, None, step)?;
+                Ok(())
             }
-            None => self.refuse(alloc, Errno::BadF),
+            None => {
+                self.refuse(alloc, Errno::BadF, step)?;
+                Ok(())
+            }
         }
     }
 
     /// The next step of a gpioset that is started or stopped.
-    pub(crate) fn hold(&mut self, alloc: Global, got: Option<&Got>) -> Result<Next, Errno>
-        ensures goes { IfOk result (λ next. Goes (given (then_left (client_left self.old.client) (keeps_set (text_at 1 (words_in self.old)) (names_in self.old))) (option_copied got.entry)) next (left self.new)) }
-        ensures rests { IfOk result (λ next. MatchNext next (Unit {0}) (left self.new ≡ goes_on (done (names_in self.new)))) }
+    pub(crate) fn hold(
+        &mut self,
+        alloc: Global,
+        got: Option<&Got>,
+        step: &mut Next,
+    ) -> Result<(), Errno>
+        ensures goes { OnOk result (Goes (given (then_left (client_left self.old.client) (keeps_set (text_at 1 (words_in self.old)) (names_in self.old))) (option_copied got.entry)) step.new (left self.new)) }
+        ensures rests { OnOk result (MatchNext step.new (Unit {0}) (left self.new ≡ goes_on (done (names_in self.new)))) }
         ensures counted { OnOk result (self.new.begun ≡ self.old.begun) }
         ensures kept { OnErr result (StaysLeft self.old self.new) }
         ensures memory_alone { IsOkUnless result Errno.NoMemory }
     {
         self.sets.reserve(1)?;
-        match self.client.next(alloc, got)? {
-            Next::Call(what) => {
+        self.client.put_next(alloc, got, step)?;
+        match &*step {
+            Next::Call(_) => {
                 self.stage = Stage::Holding;
-                Ok(Next::Call(what))
+                Ok(())
             }
-            Next::Print(text) => {
+            Next::Print(_) => {
                 self.stage = Stage::Holding;
-                Ok(Next::Print(text))
+                Ok(())
             }
-            Next::End => Ok(self.keep_set()),
+            Next::End => {
+                self.keep_set(step);
+                Ok(())
+            }
         }
     }
 
     /// The gpioset has its name from now on, where it holds its request.
-    fn keep_set(&mut self) -> Next
+    fn keep_set(&mut self, step: &mut Next)
         requires room { vec_len self.old.sets + 1 ≤ vec_capacity self.old.sets }
-        ensures goes { Goes (keeps_set (text_at 1 (words_in self.old)) (names_in self.old) (held_by self.old.client)) result (left self.new) }
-        ensures rests { MatchNext result (Unit {0}) (left self.new ≡ goes_on (done (names_in self.new))) }
+        ensures goes { Goes (keeps_set (text_at 1 (words_in self.old)) (names_in self.old) (held_by self.old.client)) step.new (left self.new) }
+        ensures rests { MatchNext step.new (Unit {0}) (left self.new ≡ goes_on (done (names_in self.new))) }
         ensures counted { self.new.begun ≡ self.old.begun }
     {
         let client = mem::replace(&mut self.client, Client::Nothing);
@@ -196,18 +226,23 @@ impl Talk {
                     client,
                 };
                 match self.sets.push(row) {
-                    Ok(()) => self.end(),
+                    Ok(()) => self.end(step),
                     Err(_) => unreachable!(),
                 }
             }
-            None => self.end(),
+            None => self.end(step),
         }
     }
 
     /// The next step of a monitor that is started or stopped, or makes a step.
-    pub(crate) fn watch(&mut self, alloc: Global, got: Option<&Got>) -> Result<Next, Errno>
-        ensures goes { IfOk result (λ next. Goes (given (then_left (some_left self.old.monitor) (keeps_monitor (text_at 1 (words_in self.old)) (names_in self.old))) (option_copied got.entry)) next (left self.new)) }
-        ensures rests { IfOk result (λ next. MatchNext next (Unit {0}) (left self.new ≡ goes_on (done (names_in self.new)))) }
+    pub(crate) fn watch(
+        &mut self,
+        alloc: Global,
+        got: Option<&Got>,
+        step: &mut Next,
+    ) -> Result<(), Errno>
+        ensures goes { OnOk result (Goes (given (then_left (some_left self.old.monitor) (keeps_monitor (text_at 1 (words_in self.old)) (names_in self.old))) (option_copied got.entry)) step.new (left self.new)) }
+        ensures rests { OnOk result (MatchNext step.new (Unit {0}) (left self.new ≡ goes_on (done (names_in self.new)))) }
         ensures counted { OnOk result (self.new.begun ≡ self.old.begun) }
         ensures kept { OnErr result (StaysLeft self.old self.new) }
         ensures memory_alone { IsOkUnless result Errno.NoMemory }
@@ -216,42 +251,50 @@ impl Talk {
         match self.monitor.take() {
             Some(monitor) => {
                 let mut monitor = monitor;
-                let step = monitor.next(alloc, got);
+                let told = monitor.put_next(alloc, got, step);
                 self.monitor = Some(monitor);
-                match step {
-                    Ok(Next::Call(what)) => {
-                        self.stage = Stage::Watching;
-                        Ok(Next::Call(what))
-                    }
-                    Ok(Next::Print(text)) => {
-                        self.stage = Stage::Watching;
-                        Ok(Next::Print(text))
-                    }
-                    Ok(Next::End) => Ok(self.keep_monitor()),
+                match told {
+                    Ok(()) => match &*step {
+                        Next::Call(_) => {
+                            self.stage = Stage::Watching;
+                            Ok(())
+                        }
+                        Next::Print(_) => {
+                            self.stage = Stage::Watching;
+                            Ok(())
+                        }
+                        Next::End => {
+                            self.keep_monitor(step);
+                            Ok(())
+                        }
+                    },
                     Err(errno) => Err(errno),
                 }
             }
-            None => Ok(self.end()),
+            None => {
+                self.end(step);
+                Ok(())
+            }
         }
     }
 
     /// The monitor has its name from now on, where it watches its lines.
-    fn keep_monitor(&mut self) -> Next
+    fn keep_monitor(&mut self, step: &mut Next)
         requires room { vec_len self.old.monitors + 1 ≤ vec_capacity self.old.monitors }
-        ensures goes { Goes (keeps_monitor (text_at 1 (words_in self.old)) (names_in self.old) (some_watched self.old.monitor)) result (left self.new) }
-        ensures rests { MatchNext result (Unit {0}) (left self.new ≡ goes_on (done (names_in self.new))) }
+        ensures goes { Goes (keeps_monitor (text_at 1 (words_in self.old)) (names_in self.old) (some_watched self.old.monitor)) step.new (left self.new) }
+        ensures rests { MatchNext step.new (Unit {0}) (left self.new ≡ goes_on (done (names_in self.new))) }
         ensures counted { self.new.begun ≡ self.old.begun }
     {
         match self.monitor.take() {
-            Some(monitor) => self.keep_watching(monitor),
-            None => self.end(),
+            Some(monitor) => self.keep_watching(monitor, step),
+            None => self.end(step),
         }
     }
 
-    fn keep_watching(&mut self, monitor: Monitor) -> Next
+    fn keep_watching(&mut self, monitor: Monitor, step: &mut Next)
         requires room { vec_len self.old.monitors + 1 ≤ vec_capacity self.old.monitors }
-        ensures goes { Goes (keeps_monitor (text_at 1 (words_in self.old)) (names_in self.old) (watched_by monitor)) result (left self.new) }
-        ensures rests { MatchNext result (Unit {0}) (left self.new ≡ goes_on (done (names_in self.new))) }
+        ensures goes { Goes (keeps_monitor (text_at 1 (words_in self.old)) (names_in self.old) (watched_by monitor)) step.new (left self.new) }
+        ensures rests { MatchNext step.new (Unit {0}) (left self.new ≡ goes_on (done (names_in self.new))) }
         ensures counted { self.new.begun ≡ self.old.begun }
     {
         match monitor.watched_slot() {
@@ -261,11 +304,11 @@ impl Talk {
                     monitor,
                 };
                 match self.monitors.push(row) {
-                    Ok(()) => self.end(),
+                    Ok(()) => self.end(step),
                     Err(_) => unreachable!(),
                 }
             }
-            None => self.end(),
+            None => self.end(step),
         }
     }
 }

@@ -6,6 +6,7 @@ ghost use Rattle.gl_talk.specs.Files.{EndClosesAll, EndMakesAtMost, NoneIsOpenBe
 ghost use Rattle.gl_talk.specs.Numbers.{FilesCloseByNumber};
 ghost use Rattle.gl_talk.specs.InParts.{StatementsComeInParts, TalksAreStatementsAndTheEnd};
 ghost use Rattle.gl_talk.specs.Printed.{StatementsPrintLines, TalksPrintLines};
+ghost use Rattle.gl_talk.specs.SaidActions.{StatementsAskWhatTheySay};
 ghost use Rattle.gl_talk.specs.Readings.{CommandsAreRead, HeldToolsAreRead, IrqsAreRead, LabelsAreRead, NamesAreRead, NumbersAreRead, OldCommandsAreRead, PathsAreRead, PinsAreRead, WordsAreRead};
 
 /// A statement makes at most as many entries of a history as it costs. The closing of a file is
@@ -69,6 +70,11 @@ pub fn talks_are_statements_and_the_end()
 pub fn talks_print_lines()
     ensures statements { StatementsPrintLines }
     ensures whole { TalksPrintLines }
+{}
+
+/// A statement that is no tool's asks what it says: the row of its words is that of what was read of them once.
+pub fn statements_ask_what_they_say()
+    ensures { StatementsAskWhatTheySay }
 {}
 
 /// A word that is of its form is read as what it is: no statement of a session is read with a default in a word's place.

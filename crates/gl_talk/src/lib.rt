@@ -3,6 +3,7 @@
 
 mod actions;
 mod closing;
+mod copied;
 mod files;
 mod held;
 mod holding;
@@ -17,9 +18,10 @@ mod tools;
 mod words;
 
 pub use laws::{
-    files_close_by_number, slots_are_own, statements_keep_within_cost, statements_leave_entries,
-    talks_are_statements_and_the_end, talks_find_their_files, talks_keep_within_cost,
-    talks_make_at_most, talks_print_lines, words_are_read_as_they_are,
+    files_close_by_number, slots_are_own, statements_ask_what_they_say,
+    statements_keep_within_cost, statements_leave_entries, talks_are_statements_and_the_end,
+    talks_find_their_files, talks_keep_within_cost, talks_make_at_most, talks_print_lines,
+    words_are_read_as_they_are,
 };
 pub use over::{TalkedOver, talk_over};
 pub use talk::Talk;

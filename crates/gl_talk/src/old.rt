@@ -1,5 +1,5 @@
 //! The statements of the first uAPI: which call of v2 each makes, and how its result goes back.
-ghost use Rattle.std.specs.Prelude.{◌≡◌, ◌+◌, ◌*◌, ◌/◌, ◌<◌, ◌≤◌, ◌++◌, length, map, IfSome, IsSome, IfOk, OnOk, IsOkUnless};
+ghost use Rattle.std.specs.Prelude.{◌≡◌, ◌+◌, ◌*◌, ◌/◌, ◌<◌, ◌≤◌, ◌++◌, length, IfSome, IsSome, IfOk, OnOk, IsOkUnless};
 ghost use Rattle.gl_base.specs.BytesText.{bytes_text};
 ghost use Rattle.gl_base.specs.Words.{text_at};
 ghost use Rattle.gl_script.specs.Columns.{columns};
@@ -7,14 +7,14 @@ ghost use Rattle.gl_uapi.specs.Fields.{stretch, zeros};
 ghost use Rattle.gl_v1.specs.Back.{back, events_back};
 ghost use Rattle.gl_v1.specs.Commands.{command_for, size_of};
 ghost use Rattle.gl_v1.specs.To.{without_bytes};
-ghost use Rattle.gl_talk.specs.Old.{first_bytes, kind_v1, made_kind, old_command_word, old_edge_line, old_edge_lines, old_edge_word, old_edges_text, old_reply, old_structure, old_structure_text, sent_new, sent_old, takes_old_name};
-ghost use Rattle.gl_talk.specs.Open.{file_in};
+ghost use Rattle.gl_talk.specs.Old.{first_bytes, kind_v1, made_kind, old_command_word, old_edge_line, old_edge_lines, old_edge_word, old_edges_text, old_reply, old_structure, old_structure_text, sent_new, sent_old};
 ghost use Rattle.gl_talk.specs.Words.{behind_three, bytes_said};
 
 use crate::actions::ResultFormat;
-use crate::files::{TalkFile, TalkFileKind, has_file};
+use crate::copied::CopiedStatement;
+use crate::files::TalkFileKind;
 use crate::replies::line_of;
-use crate::words::{bytes_said, first_bytes, made_name, word};
+use crate::words::{bytes_said, first_bytes, word};
 use gl_base::command::{GET_CHIPINFO, GET_LINE, GET_LINEINFO, LINE_GET_VALUES};
 use gl_base::{ByteList, Errno, put_bytes, put_decimal};
 use gl_uapi::fields::{bytes_at, u32_at, u64_at};
@@ -95,13 +95,6 @@ pub fn old_reply(kind: TalkFileKind, number: u32) -> ResultFormat
     }
 }
 
-/// Whether the name after `as` is one that the actor has.
-pub fn takes_old_name(files: &[TalkFile], line: &[u8]) -> bool
-    ensures { result ≡ takes_old_name (columns line.now) (map file_in files.now) }
-{
-    gl_v1::makes_file(gl_v1::command_number(word(2, line))) && has_file(files, made_name(line))
-}
-
 /// The kind of the file that is made: a handle has the lines that its request says.
 pub fn made_kind(command: u32, said: &[u8]) -> TalkFileKind
     ensures { result ≡ made_kind command said.now }
@@ -113,7 +106,7 @@ pub fn made_kind(command: u32, said: &[u8]) -> TalkFileKind
 }
 
 /// The kind of the file that a statement's command makes.
-pub fn made_kind_of(alloc: Global, line: &[u8]) -> Result<TalkFileKind, Errno>
+pub fn made_kind_of(alloc: Global, line: &CopiedStatement) -> Result<TalkFileKind, Errno>
     ensures ok { IfOk result (λ kind. kind ≡ made_kind (old_command_word (text_at 2 (columns line.now))) (bytes_said (behind_three (columns line.now)))) }
     ensures memory_alone { IsOkUnless result Errno.NoMemory }
 {
@@ -125,7 +118,7 @@ pub fn made_kind_of(alloc: Global, line: &[u8]) -> Result<TalkFileKind, Errno>
 pub fn old_structure_line(
     alloc: Global,
     kind: KindV1,
-    line: &[u8],
+    line: &CopiedStatement,
     got: &[u8],
 ) -> Result<ByteList, Errno>
     ensures ok { IfOk result (λ printed. printed ≡ old_structure_text kind (old_command_word (text_at 2 (columns line.now))) (bytes_said (behind_three (columns line.now))) got.now) }

@@ -38,7 +38,7 @@ pub fn talk_over(
     let mut talk = Talk::new(alloc)?;
     let mut at = 0;
     for statement in statements {
-        talk.begin(alloc, statement.line())?;
+        talk.begin(alloc, statement)?;
         match finish(alloc, &mut talk, results, at, &mut over)? {
             Some(next) => at = next,
             None => return Ok(over),

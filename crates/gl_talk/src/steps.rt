@@ -25,90 +25,115 @@ use crate::words::{command_word, made_name, name_word, word};
 use gl_args::ArgFault;
 use gl_base::{ByteList, Do, Errno, Got};
 use gl_client::Next;
-use gl_script::keyword_of;
 use gl_values::Client;
 use std::alloc::Global;
 
 impl Talk {
     /// The statement is done.
-    pub(crate) fn end(&mut self) -> Next
-        ensures goes { Goes (done (names_in self.old)) result (left self.new) }
-        ensures rests { MatchNext result (Unit {0}) (left self.new ≡ goes_on (done (names_in self.new))) }
+    pub(crate) fn end(&mut self, step: &mut Next)
+        ensures goes { Goes (done (names_in self.old)) step.new (left self.new) }
+        ensures rests { MatchNext step.new (Unit {0}) (left self.new ≡ goes_on (done (names_in self.new))) }
         ensures counted { self.new.begun ≡ self.old.begun }
     {
         self.stage = Stage::Idle;
-        Next::End
+        *step = Next::End;
     }
 
     /// Prints a text, and then the statement is done.
-    pub(crate) fn show(&mut self, text: ByteList) -> Next
-        ensures goes { Goes (shows text (names_in self.old)) result (left self.new) }
-        ensures rests { MatchNext result (Unit {0}) (left self.new ≡ goes_on (done (names_in self.new))) }
+    pub(crate) fn show(&mut self, text: ByteList, step: &mut Next)
+        ensures goes { Goes (shows text (names_in self.old)) step.new (left self.new) }
+        ensures rests { MatchNext step.new (Unit {0}) (left self.new ≡ goes_on (done (names_in self.new))) }
         ensures counted { self.new.begun ≡ self.old.begun }
     {
         self.stage = Stage::Idle;
-        Next::Print(text)
+        *step = Next::Print(text);
     }
 
     /// Prints a refusal, and then the statement is done.
-    pub(crate) fn refuse(&mut self, alloc: Global, errno: Errno) -> Result<Next, Errno>
-        ensures goes { IfOk result (λ next. Goes (refused errno (names_in self.old)) next (left self.new)) }
-        ensures rests { IfOk result (λ next. MatchNext next (Unit {0}) (left self.new ≡ goes_on (done (names_in self.new)))) }
+    pub(crate) fn refuse(
+        &mut self,
+        alloc: Global,
+        errno: Errno,
+        step: &mut Next,
+    ) -> Result<(), Errno>
+        ensures goes { OnOk result (Goes (refused errno (names_in self.old)) step.new (left self.new)) }
+        ensures rests { OnOk result (MatchNext step.new (Unit {0}) (left self.new ≡ goes_on (done (names_in self.new)))) }
         ensures counted { OnOk result (self.new.begun ≡ self.old.begun) }
         ensures kept { OnErr result (self.new ≡ self.old) }
         ensures memory_alone { IsOkUnless result Errno.NoMemory }
     {
         let text = line_of(alloc, errno.name().as_bytes())?;
-        Ok(self.show(text))
+        self.show(text, step);
+        Ok(())
     }
 
     /// The first step of the statement that was begun.
     #[tactic(auto, using(crate::proofs::Staying::begun_stays))]
-    pub(crate) fn start(&mut self, alloc: Global) -> Result<Next, Errno>
+    pub(crate) fn start(&mut self, alloc: Global, step: &mut Next) -> Result<(), Errno>
         requires begun { self.old.begun ≤ 2147483647 }
         requires stage { self.old.stage ≡ Stage.Begun }
-        ensures goes { IfOk result (λ next. Goes (does (names_in self.old) (slot_in self.old) (words_in self.old)) next (left self.new)) }
-        ensures rests { IfOk result (λ next. MatchNext next (Unit {0}) (left self.new ≡ goes_on (done (names_in self.new)))) }
+        ensures goes { OnOk result (Goes (does (names_in self.old) (slot_in self.old) (words_in self.old)) step.new (left self.new)) }
+        ensures rests { OnOk result (MatchNext step.new (Unit {0}) (left self.new ≡ goes_on (done (names_in self.new)))) }
         ensures counted { OnOk result (self.new.begun ≡ self.old.begun) }
         ensures kept { OnErr result ((left self.new ≡ left self.old) × (self.new.begun ≡ self.old.begun)) }
         ensures memory_alone { IsOkUnless result Errno.NoMemory }
     {
-        let keyword = keyword_of(word(0, &self.line));
-        match kind_of(keyword) {
+        match kind_of(&self.line) {
             StatementKind::Plain => {
-                let action = action_of(alloc, keyword, &self.files, 2 * self.begun, &self.line)?;
-                self.act(alloc, &action)
+                self.start_plain(alloc, step)?;
+                Ok(())
             }
-            StatementKind::ToolAlone => self.start_tool(alloc),
-            StatementKind::Starting => self.start_held(alloc),
-            StatementKind::Stepping => self.step_held(alloc),
-            StatementKind::Stopping => self.stop_held(alloc),
+            StatementKind::ToolAlone => {
+                self.start_tool(alloc, step)?;
+                Ok(())
+            }
+            StatementKind::Starting => {
+                self.start_held(alloc, step)?;
+                Ok(())
+            }
+            StatementKind::Stepping => {
+                self.step_held(alloc, step)?;
+                Ok(())
+            }
+            StatementKind::Stopping => {
+                self.stop_held(alloc, step)?;
+                Ok(())
+            }
         }
     }
 
-    /// The first step of an action.
-    fn act(&mut self, alloc: Global, action: &Action) -> Result<Next, Errno>
-        ensures goes { IfOk result (λ next. Goes (acts action.now (names_in self.old) (slot_in self.old) (words_in self.old)) next (left self.new)) }
-        ensures rests { IfOk result (λ next. MatchNext next (Unit {0}) (left self.new ≡ goes_on (done (names_in self.new)))) }
+    /// The first step of a statement that asks for one operation at most.
+    fn start_plain(&mut self, alloc: Global, step: &mut Next) -> Result<(), Errno>
+        requires { self.old.begun ≤ 2147483647 }
+        ensures goes { OnOk result (Goes (acts (action_of (keyword_of (text_at 0 (words_in self.old))) (names_in self.old).files (slot_in self.old) (words_in self.old)) (names_in self.old) (slot_in self.old) (words_in self.old)) step.new (left self.new)) }
+        ensures rests { OnOk result (MatchNext step.new (Unit {0}) (left self.new ≡ goes_on (done (names_in self.new)))) }
         ensures counted { OnOk result (self.new.begun ≡ self.old.begun) }
         ensures kept { OnErr result (self.new ≡ self.old) }
         ensures memory_alone { IsOkUnless result Errno.NoMemory }
     {
-        match action {
-            Action::Nothing => Ok(self.end()),
-            Action::Refuse(errno) => self.refuse(alloc, *errno),
+        let action = action_of(alloc, &self.files, 2 * self.begun, &self.line)?;
+        match &action {
+            Action::Nothing => {
+                self.end(step);
+                Ok(())
+            }
+            Action::Refuse(errno) => {
+                self.refuse(alloc, *errno, step)?;
+                Ok(())
+            }
             Action::Ask(what, reply) => {
                 self.stage = Stage::Waiting(*reply);
-                Ok(Next::Call(*what))
+                *step = Next::Call(*what);
+                Ok(())
             }
         }
     }
 
     /// The first step of a tool.
-    fn start_tool(&mut self, alloc: Global) -> Result<Next, Errno>
+    fn start_tool(&mut self, alloc: Global, step: &mut Next) -> Result<(), Errno>
         requires { self.old.begun ≤ 2147483647 }
-        ensures goes { IfOk result (λ next. Goes (runs (tool_said (word_texts (words_in self.old))) (names_in self.old) (slot_in self.old) (words_in self.old)) next (left self.new)) }
-        ensures rests { IfOk result (λ next. MatchNext next (Unit {0}) (left self.new ≡ goes_on (done (names_in self.new)))) }
+        ensures goes { OnOk result (Goes (runs (tool_said (word_texts (words_in self.old))) (names_in self.old) (slot_in self.old) (words_in self.old)) step.new (left self.new)) }
+        ensures rests { OnOk result (MatchNext step.new (Unit {0}) (left self.new ≡ goes_on (done (names_in self.new)))) }
         ensures counted { OnOk result (self.new.begun ≡ self.old.begun) }
         ensures kept { OnErr result (StaysBegun self.old self.new) }
         ensures memory_alone { IsOkUnless result Errno.NoMemory }
@@ -116,34 +141,44 @@ impl Talk {
         match tool_of(alloc, &self.line) {
             Ok(tool) => {
                 self.client = Client::new(alloc, tool, 2 * self.begun);
-                self.run(alloc, None)
+                self.run(alloc, None, step)
             }
             Err(ArgFault::Usage) => {
                 let text = usage_text(alloc, word(0, &self.line))?;
-                Ok(self.show(text))
+                self.show(text, step);
+                Ok(())
             }
             Err(ArgFault::NoMemory) => Err(Errno::NoMemory),
         }
     }
 
     /// The next step of the tool that runs.
-    pub(crate) fn run(&mut self, alloc: Global, got: Option<&Got>) -> Result<Next, Errno>
-        ensures goes { IfOk result (λ next. Goes (given (then_left (client_left self.old.client) (λ _. done (names_in self.old))) (option_copied got.entry)) next (left self.new)) }
-        ensures rests { IfOk result (λ next. MatchNext next (Unit {0}) (left self.new ≡ goes_on (done (names_in self.new)))) }
+    pub(crate) fn run(
+        &mut self,
+        alloc: Global,
+        got: Option<&Got>,
+        step: &mut Next,
+    ) -> Result<(), Errno>
+        ensures goes { OnOk result (Goes (given (then_left (client_left self.old.client) (λ _. done (names_in self.old))) (option_copied got.entry)) step.new (left self.new)) }
+        ensures rests { OnOk result (MatchNext step.new (Unit {0}) (left self.new ≡ goes_on (done (names_in self.new)))) }
         ensures counted { OnOk result (self.new.begun ≡ self.old.begun) }
         ensures kept { OnErr result (StaysLeft self.old self.new) }
         ensures memory_alone { IsOkUnless result Errno.NoMemory }
     {
-        match self.client.next(alloc, got)? {
-            Next::Call(what) => {
+        self.client.put_next(alloc, got, step)?;
+        match &*step {
+            Next::Call(_) => {
                 self.stage = Stage::Running;
-                Ok(Next::Call(what))
+                Ok(())
             }
-            Next::Print(text) => {
+            Next::Print(_) => {
                 self.stage = Stage::Running;
-                Ok(Next::Print(text))
+                Ok(())
             }
-            Next::End => Ok(self.end()),
+            Next::End => {
+                self.end(step);
+                Ok(())
+            }
         }
     }
 
@@ -153,10 +188,11 @@ impl Talk {
         alloc: Global,
         reply: ResultFormat,
         got: Option<&Got>,
-    ) -> Result<Next, Errno>
+        step: &mut Next,
+    ) -> Result<(), Errno>
         requires { self.old.begun ≤ 2147483647 }
-        ensures goes { IfOk result (λ next. Goes (given (waits (λ got. replied reply (names_in self.old) (slot_in self.old) (words_in self.old) got)) (option_copied got.entry)) next (left self.new)) }
-        ensures rests { IfOk result (λ next. MatchNext next (Unit {0}) (left self.new ≡ goes_on (done (names_in self.new)))) }
+        ensures goes { OnOk result (Goes (given (waits (λ got. replied reply (names_in self.old) (slot_in self.old) (words_in self.old) got)) (option_copied got.entry)) step.new (left self.new)) }
+        ensures rests { OnOk result (MatchNext step.new (Unit {0}) (left self.new ≡ goes_on (done (names_in self.new)))) }
         ensures counted { OnOk result (self.new.begun ≡ self.old.begun) }
         ensures kept { OnErr result (StaysLeft self.old self.new) }
         ensures memory_alone { IsOkUnless result Errno.NoMemory }
@@ -167,29 +203,39 @@ impl Talk {
             None => &none,
         };
         match got.refusal() {
-            Some(errno) => self.refuse(alloc, errno),
-            None => self.tell(alloc, reply, got),
+            Some(errno) => self.refuse(alloc, errno, step),
+            None => self.tell(alloc, reply, got, step),
         }
     }
 
     /// Tells a result that is no refusal.
-    fn tell(&mut self, alloc: Global, reply: ResultFormat, got: &Got) -> Result<Next, Errno>
+    fn tell(
+        &mut self,
+        alloc: Global,
+        reply: ResultFormat,
+        got: &Got,
+        step: &mut Next,
+    ) -> Result<(), Errno>
         requires { self.old.begun ≤ 2147483647 }
-        ensures goes { IfOk result (λ next. Goes (told reply (names_in self.old) (slot_in self.old) (words_in self.old) got.now) next (left self.new)) }
-        ensures rests { IfOk result (λ next. MatchNext next (Unit {0}) (left self.new ≡ goes_on (done (names_in self.new)))) }
+        ensures goes { OnOk result (Goes (told reply (names_in self.old) (slot_in self.old) (words_in self.old) got.now) step.new (left self.new)) }
+        ensures rests { OnOk result (MatchNext step.new (Unit {0}) (left self.new ≡ goes_on (done (names_in self.new)))) }
         ensures counted { OnOk result (self.new.begun ≡ self.old.begun) }
         ensures kept { OnErr result (StaysLeft self.old self.new) }
         ensures memory_alone { IsOkUnless result Errno.NoMemory }
     {
         let text = match reply {
-            ResultFormat::Silent => return Ok(self.end()),
-            ResultFormat::Opened => return self.opened(),
+            ResultFormat::Silent => {
+                self.end(step);
+                return Ok(());
+            }
+            ResultFormat::Opened => return self.opened(step),
             ResultFormat::Closed => {
                 remove_file(&mut self.files, word(1, &self.line));
-                return Ok(self.end());
+                self.end(step);
+                return Ok(());
             }
-            ResultFormat::Made => return self.made(alloc, got.bytes()),
-            ResultFormat::OldMade => return self.old_made(alloc, got.bytes()),
+            ResultFormat::Made => return self.made(alloc, got.bytes(), step),
+            ResultFormat::OldMade => return self.old_made(alloc, got.bytes(), step),
             ResultFormat::OldBytes(kind) => old_structure_line(
                 alloc,
                 kind,
@@ -208,14 +254,15 @@ impl Talk {
             ResultFormat::Infos => infos_text(alloc, got.bytes())?,
             ResultFormat::Ready => line_of(alloc, ready_text(got.ready()))?,
         };
-        Ok(self.show(text))
+        self.show(text, step);
+        Ok(())
     }
 
     /// A chip's file was opened.
-    fn opened(&mut self) -> Result<Next, Errno>
+    fn opened(&mut self, step: &mut Next) -> Result<(), Errno>
         requires { self.old.begun ≤ 2147483647 }
-        ensures goes { IfOk result (λ next. Goes (done (with_file (file (text_at 1 (words_in self.old)) (slot_in self.old) TalkFileKind.Chip) (names_in self.old))) next (left self.new)) }
-        ensures rests { IfOk result (λ next. MatchNext next (Unit {0}) (left self.new ≡ goes_on (done (names_in self.new)))) }
+        ensures goes { OnOk result (Goes (done (with_file (file (text_at 1 (words_in self.old)) (slot_in self.old) TalkFileKind.Chip) (names_in self.old))) step.new (left self.new)) }
+        ensures rests { OnOk result (MatchNext step.new (Unit {0}) (left self.new ≡ goes_on (done (names_in self.new)))) }
         ensures counted { OnOk result (self.new.begun ≡ self.old.begun) }
         ensures kept { OnErr result (StaysLeft self.old self.new) }
         ensures memory_alone { IsOkUnless result Errno.NoMemory }
@@ -225,14 +272,15 @@ impl Talk {
             slot: 2 * self.begun,
             kind: TalkFileKind::Chip,
         })?;
-        Ok(self.end())
+        self.end(step);
+        Ok(())
     }
 
     /// A request was made.
-    fn made(&mut self, alloc: Global, bytes: &[u8]) -> Result<Next, Errno>
+    fn made(&mut self, alloc: Global, bytes: &[u8], step: &mut Next) -> Result<(), Errno>
         requires { self.old.begun ≤ 2147483647 }
-        ensures goes { IfOk result (λ next. Goes (told ResultFormat.Made (names_in self.old) (slot_in self.old) (words_in self.old) (Got.Bytes bytes.now)) next (left self.new)) }
-        ensures rests { IfOk result (λ next. MatchNext next (Unit {0}) (left self.new ≡ goes_on (done (names_in self.new)))) }
+        ensures goes { OnOk result (Goes (told ResultFormat.Made (names_in self.old) (slot_in self.old) (words_in self.old) (Got.Bytes bytes.now)) step.new (left self.new)) }
+        ensures rests { OnOk result (MatchNext step.new (Unit {0}) (left self.new ≡ goes_on (done (names_in self.new)))) }
         ensures counted { OnOk result (self.new.begun ≡ self.old.begun) }
         ensures kept { OnErr result (StaysLeft self.old self.new) }
         ensures memory_alone { IsOkUnless result Errno.NoMemory }
@@ -243,14 +291,15 @@ impl Talk {
             slot: 2 * self.begun,
             kind: TalkFileKind::Request,
         })?;
-        Ok(self.show(text))
+        self.show(text, step);
+        Ok(())
     }
 
     /// A file of the first uAPI was made.
-    fn old_made(&mut self, alloc: Global, bytes: &[u8]) -> Result<Next, Errno>
+    fn old_made(&mut self, alloc: Global, bytes: &[u8], step: &mut Next) -> Result<(), Errno>
         requires { self.old.begun ≤ 2147483647 }
-        ensures goes { IfOk result (λ next. Goes (told ResultFormat.OldMade (names_in self.old) (slot_in self.old) (words_in self.old) (Got.Bytes bytes.now)) next (left self.new)) }
-        ensures rests { IfOk result (λ next. MatchNext next (Unit {0}) (left self.new ≡ goes_on (done (names_in self.new)))) }
+        ensures goes { OnOk result (Goes (told ResultFormat.OldMade (names_in self.old) (slot_in self.old) (words_in self.old) (Got.Bytes bytes.now)) step.new (left self.new)) }
+        ensures rests { OnOk result (MatchNext step.new (Unit {0}) (left self.new ≡ goes_on (done (names_in self.new)))) }
         ensures counted { OnOk result (self.new.begun ≡ self.old.begun) }
         ensures kept { OnErr result (StaysLeft self.old self.new) }
         ensures memory_alone { IsOkUnless result Errno.NoMemory }
@@ -262,35 +311,37 @@ impl Talk {
             slot: 2 * self.begun,
             kind,
         })?;
-        Ok(self.show(text))
+        self.show(text, step);
+        Ok(())
     }
 
     /// Closes all open files, that which was opened first before the others.
-    pub(crate) fn close_all(&mut self, alloc: Global) -> Result<Next, Errno>
-        ensures goes { IfOk result (λ next. Goes (quits (names_in self.old)) next (left self.new)) }
-        ensures rests { IfOk result (λ next. MatchNext next (Unit {0}) (left self.new ≡ goes_on (done (names_in self.new)))) }
+    pub(crate) fn close_all(&mut self, alloc: Global, step: &mut Next) -> Result<(), Errno>
+        ensures goes { OnOk result (Goes (quits (names_in self.old)) step.new (left self.new)) }
+        ensures rests { OnOk result (MatchNext step.new (Unit {0}) (left self.new ≡ goes_on (done (names_in self.new)))) }
         ensures counted { OnOk result (self.new.begun ≡ self.old.begun) }
         ensures kept { OnErr result (self.new ≡ self.old) }
         ensures memory_alone { IsOkUnless result Errno.NoMemory }
     {
         self.closing = slots_in_order(alloc, &self.files, &self.sets, &self.monitors)?;
-        Ok(self.close())
+        self.close(step);
+        Ok(())
     }
 
     /// Closes the first of the files that are still to be closed, or ends where none is; then no name is there.
-    pub(crate) fn close(&mut self) -> Next
-        ensures goes { Goes (closes_all self.old.closing.items) result (left self.new) }
-        ensures rests { MatchNext result (Unit {0}) (left self.new ≡ goes_on (done (names_in self.new))) }
+    pub(crate) fn close(&mut self, step: &mut Next)
+        ensures goes { Goes (closes_all self.old.closing.items) step.new (left self.new) }
+        ensures rests { MatchNext step.new (Unit {0}) (left self.new ≡ goes_on (done (names_in self.new))) }
         ensures counted { self.new.begun ≡ self.old.begun }
     {
         if self.closing.is_empty() {
             self.files.clear();
             self.sets.clear();
             self.monitors.clear();
-            return self.end();
+            return self.end(step);
         }
         let slot = self.closing.remove(0);
         self.stage = Stage::Closing;
-        Next::Call(Do::Close { slot })
+        *step = Next::Call(Do::Close { slot });
     }
 }

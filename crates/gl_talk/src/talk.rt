@@ -2,16 +2,18 @@
 ghost use Rattle.std.specs.Prelude.{◌≡◌, ◌+◌, ◌*◌, ◌<◌, ◌≤◌, [], ◌∷◌, List, IfOk, OnOk, OnErr, IsOkUnless, option_copied};
 ghost use Rattle.gl_client.specs.Program.{Goes, MatchNext, given, goes_on, done, then_left};
 ghost use Rattle.gl_base.specs.Words.{Span};
-ghost use Rattle.gl_script.specs.Columns.{columns};
 ghost use Rattle.gl_talk.specs.Open.{Names, file_of, is_chip_file, no_names};
+ghost use Rattle.gl_talk.specs.Over.{columns_in};
 ghost use Rattle.gl_talk.specs.Talk.{Does, does, left, names_in, quits, slot_behind, talk_left, talks};
 
 use crate::actions::ResultFormat;
+use crate::copied::CopiedStatement;
 use crate::files::{TalkFile, file_of, is_chip};
 use crate::held::{MonitorRow, SetRow};
 use gl_base::{Errno, Got};
 use gl_client::Next;
 use gl_monitor::Monitor;
+use gl_script::Statement;
 use gl_values::Client;
 use std::alloc::Global;
 
@@ -40,8 +42,8 @@ pub enum Stage {
 /// of files and of started tools live from one to the next.
 #[derive(Drop)]
 pub struct Talk {
-    /// The line of the statement that is under way.
-    pub line: Vec<u8>,
+    /// The statement that is under way.
+    pub line: CopiedStatement,
     /// The open files, in the order in which they were opened.
     pub files: Vec<TalkFile>,
     /// The gpiosets that were started and hold their requests.
@@ -67,7 +69,7 @@ impl Talk {
         ensures memory_alone { IsOkUnless result Errno.NoMemory }
     {
         Ok(Talk {
-            line: Vec::new(alloc),
+            line: CopiedStatement::none(alloc),
             files: Vec::new(alloc),
             sets: Vec::new(alloc),
             monitors: Vec::new(alloc),
@@ -79,18 +81,17 @@ impl Talk {
         })
     }
 
-    /// Begins the statement of a line, which has two slots of its own. The line is copied; `NoMemory` alone is refused, and then all
-    /// is as it was.
-    pub fn begin(&mut self, alloc: Global, line: &[u8]) -> Result<(), Errno>
+    /// Begins a statement, which has two slots of its own. It is copied; `NoMemory` alone is refused, and then all is as it was.
+    pub fn begin(&mut self, alloc: Global, statement: &Statement<'_>) -> Result<(), Errno>
         requires { self.old.begun < 2147483647 }
-        ensures begun { OnOk result (left self.new ≡ goes_on (does (names_in self.old) (slot_behind self.old.begun) (columns line.now))) }
+        ensures begun { OnOk result (left self.new ≡ goes_on (does (names_in self.old) (slot_behind self.old.begun) (columns_in statement.now))) }
         ensures counted { OnOk result (self.new.begun ≡ self.old.begun + 1) }
         ensures whole { (statements : List (List Span)) →
-            OnOk result (talk_left self.new statements ≡ goes_on (talks self.old.begun (columns line.now ∷ statements) (names_in self.old))) }
+            OnOk result (talk_left self.new statements ≡ goes_on (talks self.old.begun (columns_in statement.now ∷ statements) (names_in self.old))) }
         ensures kept { OnErr result (self.new ≡ self.old) }
         ensures memory_alone { IsOkUnless result Errno.NoMemory }
     {
-        let line = line.to_vec(alloc)?;
+        let line = CopiedStatement::of(alloc, statement)?;
         self.line = line;
         self.begun += 1;
         self.stage = Stage::Begun;
@@ -135,29 +136,42 @@ impl Talk {
         ensures kept { OnErr result ((left self.new ≡ left self.old) × (self.new.begun ≡ self.old.begun)) }
         ensures memory_alone { IsOkUnless result Errno.NoMemory }
     {
-        self.advance(alloc, got)
+        let mut step = Next::End;
+        self.put_next(alloc, got, &mut step)?;
+        Ok(step)
     }
 
-    /// What the statement or the end does next.
+    /// Puts into `step` what it does next, as `next` answers it. When out of memory `step` means nothing.
     #[tactic(auto, using(crate::proofs::Staying::left_stays))]
-    fn advance(&mut self, alloc: Global, got: Option<&Got>) -> Result<Next, Errno>
+    pub fn put_next(
+        &mut self,
+        alloc: Global,
+        got: Option<&Got>,
+        step: &mut Next,
+    ) -> Result<(), Errno>
         requires { self.old.begun ≤ 2147483647 }
-        ensures goes { IfOk result (λ next. Goes (given (left self.old) (option_copied got.entry)) next (left self.new)) }
-        ensures rests { IfOk result (λ next. MatchNext next (Unit {0}) (left self.new ≡ goes_on (done (names_in self.new)))) }
+        ensures goes { OnOk result (Goes (given (left self.old) (option_copied got.entry)) step.new (left self.new)) }
+        ensures rests { OnOk result (MatchNext step.new (Unit {0}) (left self.new ≡ goes_on (done (names_in self.new)))) }
         ensures counted { OnOk result (self.new.begun ≡ self.old.begun) }
         ensures kept { OnErr result ((left self.new ≡ left self.old) × (self.new.begun ≡ self.old.begun)) }
         ensures memory_alone { IsOkUnless result Errno.NoMemory }
     {
         let stage = self.stage;
         match &stage {
-            Stage::Idle => Ok(self.end()),
-            Stage::Begun => self.start(alloc),
-            Stage::Waiting(reply) => self.reply(alloc, *reply, got),
-            Stage::Running => self.run(alloc, got),
-            Stage::Holding => self.hold(alloc, got),
-            Stage::Watching => self.watch(alloc, got),
-            Stage::Quitting => self.close_all(alloc),
-            Stage::Closing => Ok(self.close()),
+            Stage::Idle => {
+                self.end(step);
+                Ok(())
+            }
+            Stage::Begun => self.start(alloc, step),
+            Stage::Waiting(reply) => self.reply(alloc, *reply, got, step),
+            Stage::Running => self.run(alloc, got, step),
+            Stage::Holding => self.hold(alloc, got, step),
+            Stage::Watching => self.watch(alloc, got, step),
+            Stage::Quitting => self.close_all(alloc, step),
+            Stage::Closing => {
+                self.close(step);
+                Ok(())
+            }
         }
     }
 }

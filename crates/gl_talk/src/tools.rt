@@ -3,15 +3,19 @@ ghost use Rattle.std.specs.Prelude.{Some, None, IsErrOf, ◌≡◌, ◌+◌, ◌
 ghost use Rattle.gl_args.specs.Items.{texts};
 ghost use Rattle.gl_args.specs.Options.{tool_in};
 ghost use Rattle.gl_args.specs.Tools.{tool_said};
-ghost use Rattle.gl_base.specs.Words.{words_at};
+ghost use Rattle.gl_base.specs.Words.{text_at, words_at};
 ghost use Rattle.gl_script.specs.Columns.{columns};
+ghost use Rattle.gl_script.specs.Said.{keyword_said};
+ghost use Rattle.gl_script.specs.Table.{keyword_of};
+ghost use Rattle.gl_talk.specs.SaidActions.{turns_said};
 ghost use Rattle.gl_talk.specs.ToolWords.{kind_of, usage_text, word_texts};
-ghost use Rattle.gl_talk.specs.Words.{behind_two};
+ghost use Rattle.gl_talk.specs.Words.{behind_two, turns_word};
 
+use crate::copied::CopiedStatement;
 use crate::words::behind_two;
 use gl_args::{ArgFault, Tool, read_tool};
 use gl_base::{ByteList, Errno, next_word};
-use gl_script::Keyword;
+use gl_script::Said;
 use std::alloc::Global;
 
 /// What kind of statement a word begins.
@@ -29,37 +33,65 @@ pub enum StatementKind {
     Stopping,
 }
 
-/// The kind of the statement that a keyword begins.
-pub fn kind_of(keyword: Option<Keyword>) -> StatementKind
-    ensures { result ≡ kind_of keyword }
+/// The kind of a statement.
+pub fn kind_of(line: &CopiedStatement) -> StatementKind
+    ensures { result ≡ kind_of (keyword_of (text_at 0 (columns line.now))) }
 {
-    let Some(keyword) = keyword else {
-        return StatementKind::Plain;
-    };
-    match keyword {
-        Keyword::Detect | Keyword::Info | Keyword::Get | Keyword::Set => StatementKind::ToolAlone,
-        Keyword::Start => StatementKind::Starting,
-        Keyword::Step => StatementKind::Stepping,
-        Keyword::Stop => StatementKind::Stopping,
-        Keyword::Probe
-        | Keyword::Unplug
-        | Keyword::MakeDir
-        | Keyword::RemoveDir
-        | Keyword::Write
-        | Keyword::Read
-        | Keyword::Clock
-        | Keyword::Fault
-        | Keyword::Accept
-        | Keyword::Pin
-        | Keyword::Irq
-        | Keyword::Open
-        | Keyword::Ioctl
-        | Keyword::Events
-        | Keyword::OldIoctl
-        | Keyword::OldEvents
-        | Keyword::Changes
-        | Keyword::Poll
-        | Keyword::Close => StatementKind::Plain,
+    match line.said() {
+        Some(said) => kind_said(said),
+        None => StatementKind::Plain,
+    }
+}
+
+/// The kind of what a statement says.
+fn kind_said(said: Said) -> StatementKind
+    ensures { result ≡ kind_of (Some (keyword_said said)) }
+{
+    match said {
+        Said::Detect | Said::Info | Said::Get | Said::Set => StatementKind::ToolAlone,
+        Said::Start => StatementKind::Starting,
+        Said::Step { .. } => StatementKind::Stepping,
+        Said::Stop => StatementKind::Stopping,
+        Said::Probe { .. }
+        | Said::Unplug { .. }
+        | Said::MakeDir
+        | Said::RemoveDir
+        | Said::Write
+        | Said::Read
+        | Said::Clock { .. }
+        | Said::Fault { .. }
+        | Said::Accept { .. }
+        | Said::Pin { .. }
+        | Said::Irq { .. }
+        | Said::Open
+        | Said::Ioctl { .. }
+        | Said::Events { .. }
+        | Said::OldIoctl { .. }
+        | Said::OldEvents { .. }
+        | Said::Changes { .. }
+        | Said::Poll
+        | Said::Close => StatementKind::Plain,
+    }
+}
+
+/// How many turns the tool of a `step` makes.
+pub fn turns_of(line: &CopiedStatement) -> u32
+    requires { kind_of (keyword_of (text_at 0 (columns line.now))) ≡ StatementKind.Stepping }
+    ensures { result ≡ turns_word (text_at 2 (columns line.now)) }
+{
+    match line.said() {
+        Some(said) => turns_said(said),
+        None => 0,
+    }
+}
+
+/// How many turns a step has; no other statement has any.
+fn turns_said(said: Said) -> u32
+    ensures { result ≡ turns_said said }
+{
+    match said {
+        Said::Step { turns } => turns,
+        _ => 0,
     }
 }
 
@@ -76,7 +108,7 @@ pub fn usage_text(alloc: Global, tool: &[u8]) -> Result<ByteList, Errno>
 }
 
 /// The tool that a line's words are.
-pub fn tool_of(alloc: Global, line: &[u8]) -> Result<Tool, ArgFault>
+pub fn tool_of(alloc: Global, line: &CopiedStatement) -> Result<Tool, ArgFault>
     ensures ok { IfOk result (λ tool. tool_said (word_texts (columns line.now)) ≡ Some (tool_in tool)) }
     ensures usage { IsErrOf result ArgFault.Usage → tool_said (word_texts (columns line.now)) ≡ None }
 {
@@ -87,7 +119,7 @@ pub fn tool_of(alloc: Global, line: &[u8]) -> Result<Tool, ArgFault>
 }
 
 /// The tool that the words of a `start` after its name are.
-pub fn started_tool_of(alloc: Global, line: &[u8]) -> Result<Tool, ArgFault>
+pub fn started_tool_of(alloc: Global, line: &CopiedStatement) -> Result<Tool, ArgFault>
     ensures ok { IfOk result (λ tool. tool_said (word_texts (behind_two (columns line.now))) ≡ Some (tool_in tool)) }
     ensures usage { IsErrOf result ArgFault.Usage → tool_said (word_texts (behind_two (columns line.now))) ≡ None }
 {
@@ -98,19 +130,19 @@ pub fn started_tool_of(alloc: Global, line: &[u8]) -> Result<Tool, ArgFault>
 }
 
 /// The words of a line.
-fn words_of(alloc: Global, line: &[u8]) -> Result<Vec<&[u8]>, Errno>
+fn words_of(alloc: Global, line: &CopiedStatement) -> Result<Vec<&[u8]>, Errno>
     ensures ok { IfOk result (λ words. texts words.items ≡ word_texts (columns line.now)) }
     ensures memory_alone { IsOkUnless result Errno.NoMemory }
 {
-    words_in(alloc, 1, line)
+    words_in(alloc, 1, line.as_slice())
 }
 
 /// The words of a `start` after its name: the tool's.
-fn started_words(alloc: Global, line: &[u8]) -> Result<Vec<&[u8]>, Errno>
+fn started_words(alloc: Global, line: &CopiedStatement) -> Result<Vec<&[u8]>, Errno>
     ensures ok { IfOk result (λ words. texts words.items ≡ word_texts (behind_two (columns line.now))) }
     ensures memory_alone { IsOkUnless result Errno.NoMemory }
 {
-    let rest = behind_two(line);
+    let rest = behind_two(line.as_slice());
     words_in(alloc, rest.at, rest.line)
 }
 

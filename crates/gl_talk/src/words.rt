@@ -1,24 +1,20 @@
 //! The values of a statement's words.
-ghost use Rattle.std.specs.Prelude.{◌≡◌, ◌+◌, ◌<◌, ◌≤◌, ◌^◌, ◌++◌, ◌*◌, length, take, IfOk, IfSome, IsOkUnless};
+ghost use Rattle.std.specs.Prelude.{◌≡◌, ◌+◌, ◌<◌, ◌≤◌, ◌^◌, ◌++◌, length, take, IfOk, IsOkUnless};
 ghost use Rattle.gl_base.specs.Padded.{padded};
 ghost use Rattle.gl_base.specs.Words.{text_at, words_at};
 ghost use Rattle.gl_script.specs.Columns.{columns};
-ghost use Rattle.gl_talk.specs.Words.{behind_two, behind_three, bytes_said, command_word, irq_word, live_word, made_name, name_behind_as, name_word, number_word, or_else, path_word, place_of, place_word, pull_word, turns_word};
+ghost use Rattle.gl_talk.specs.Words.{behind_two, behind_three, bytes_said, command_word, live_word, made_name, name_behind_as, name_word, path_word, pull_word};
 
-use gl_base::{
-    Errno, IrqDo, Name, PLACES, Path, chip_number, command_number, next_word, put_piece,
-};
-use gl_script::{number_within, text_at};
+use crate::copied::CopiedStatement;
+use gl_base::{Errno, Name, Path, command_number, next_word, put_piece};
+use gl_script::text_at;
 use std::alloc::Global;
 
-/// How many turns a step has at most.
-const TURNS_MAX: u64 = 1000;
-
-/// The word of a line that has the number `i`, counted from 0; no bytes where it is missing.
-pub fn word(i: u32, line: &[u8]) -> &[u8]
+/// The word of a statement that has the number `i`, counted from 0; no bytes where it is missing.
+pub fn word(i: u32, line: &CopiedStatement) -> &[u8]
     ensures { result.now ≡ text_at i (columns line.now) }
 {
-    text_at(i, 1, line)
+    text_at(i, 1, line.as_slice())
 }
 
 /// A word as a name.
@@ -41,89 +37,13 @@ pub fn path_word(word: &[u8]) -> Path
     }
 }
 
-/// A word as a number of 64 bits, from `low` to `high`.
-pub fn number_word(low: u64, high: u64, word: &[u8]) -> u64
-    requires { low ≤ high }
-    ensures number { result ≡ number_word low high word.now }
-    ensures high { result ≤ high }
-{
-    or_else(low, high, number_within(low, high, word))
-}
-
-fn or_else(low: u64, high: u64, number: Option<u64>) -> u64
-    requires low { low ≤ high }
-    requires high { IfSome number (λ n. n ≤ high) }
-    ensures number { result ≡ or_else low number }
-    ensures high { result ≤ high }
-{
-    match number {
-        Some(number) => number,
-        None => low,
-    }
-}
-
-/// A word as a number of 32 bits.
-pub fn small_word(word: &[u8]) -> u32
-    ensures { result ≡ number_word 0 0xFFFFFFFF word.now }
-{
-    number_word(0, 0xFFFF_FFFF, word) as u32
-}
-
-/// How many turns a step has; none where the word is of another form.
-pub fn turns_word(word: &[u8]) -> u32
-    ensures { result ≡ turns_word word.now }
-{
-    match number_within(1, TURNS_MAX, word) {
-        Some(turns) => turns as u32,
-        None => 0,
-    }
-}
-
-/// The place of the chip that a word names; the first one for a word of another form.
-pub fn place_word(word: &[u8]) -> u8
-    ensures { result ≡ place_word word.now }
-{
-    place_of(chip_number(word))
-}
-
-fn place_of(number: Option<u64>) -> u8
-    ensures { result ≡ place_of number }
-{
-    match number {
-        Some(number) => {
-            if number < u64::from(PLACES) {
-                return number as u8;
-            }
-            0
-        }
-        None => 0,
-    }
-}
-
-/// The number of the command that a word stands for.
+/// The number of the command that a word stands for, whose structure is printed.
 pub fn command_word(word: &[u8]) -> u32
     ensures { result ≡ command_word word.now }
 {
     match command_number(word) {
         Some(number) => number,
         None => 0,
-    }
-}
-
-/// What is done with an interrupt.
-pub fn irq_word(word: &[u8]) -> IrqDo
-    ensures { result ≡ irq_word word.now }
-{
-    if word == b"lock".as_slice() {
-        IrqDo::Lock
-    } else if word == b"unlock".as_slice() {
-        IrqDo::Unlock
-    } else if word == b"enable".as_slice() {
-        IrqDo::Enable
-    } else if word == b"disable".as_slice() {
-        IrqDo::Disable
-    } else {
-        IrqDo::Never
     }
 }
 
@@ -197,11 +117,11 @@ fn behind_three(line: &[u8]) -> Rest<'_>
 }
 
 /// The bytes that the pieces of a command's statement say.
-pub fn bytes_said(alloc: Global, line: &[u8]) -> Result<Vec<u8>, Errno>
+pub fn bytes_said(alloc: Global, line: &CopiedStatement) -> Result<Vec<u8>, Errno>
     ensures ok { IfOk result (λ bytes. bytes.items ≡ bytes_said (behind_three (columns line.now))) }
     ensures memory_alone { IsOkUnless result Errno.NoMemory }
 {
-    let rest = behind_three(line);
+    let rest = behind_three(line.as_slice());
     bytes_in(alloc, rest.at, rest.line)
 }
 
@@ -225,10 +145,10 @@ fn bytes_in(alloc: Global, at: usize, line: &[u8]) -> Result<Vec<u8>, Errno>
 }
 
 /// The name after `as` in a command's statement.
-pub fn made_name(line: &[u8]) -> &[u8]
+pub fn made_name(line: &CopiedStatement) -> &[u8]
     ensures { result.now ≡ made_name (columns line.now) }
 {
-    let rest = behind_three(line);
+    let rest = behind_three(line.as_slice());
     name_in(rest.at, rest.line)
 }
 

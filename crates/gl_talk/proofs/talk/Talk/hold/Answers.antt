@@ -14,19 +14,19 @@ returns-in-Call-clause-goes c =
     let t = c.args.self.now in
     let name = text_at 1 (words_in t) in
     let before = client_left t.client in
-    let after = client_left c.next.new.self in
+    let after = client_left c.put_next.new.self in
     subst
-    (λ (sets : List SetTool). Goes (given (then_left before (keeps_set name (names_in t))) (option_copied c.args.got)) (Call c.in-Call.what) (then_left after (keeps_set name (record (names_in t) { sets = sets }))))
+    (λ (sets : List SetTool). Goes (given (then_left before (keeps_set name (names_in t))) (option_copied c.args.got)) c.put_next.new.step (then_left after (keeps_set name (record (names_in t) { sets = sets }))))
     (ap (map set_in) (sym c.reserve.ensures.items))
-    (part_step before after (keeps_set name (names_in t)) (option_copied c.args.got) (Call c.in-Call.what) (rw c.in-Call.is at c.in_ok-what.ensures.goes))
+    (rw c.in-Call.is (part_step before after (keeps_set name (names_in t)) (option_copied c.args.got) (Call _) (rw c.in-Call.is at c.in_ok-put_next.ensures.goes)))
 
 pub returns-in-Print-clause-goes : goal.returns-in-Print-clause-goes
 returns-in-Print-clause-goes c =
     let t = c.args.self.now in
     let name = text_at 1 (words_in t) in
     let before = client_left t.client in
-    let after = client_left c.next.new.self in
+    let after = client_left c.put_next.new.self in
     subst
-    (λ (sets : List SetTool). Goes (given (then_left before (keeps_set name (names_in t))) (option_copied c.args.got)) (Print c.in-Print.text) (then_left after (keeps_set name (record (names_in t) { sets = sets }))))
+    (λ (sets : List SetTool). Goes (given (then_left before (keeps_set name (names_in t))) (option_copied c.args.got)) c.put_next.new.step (then_left after (keeps_set name (record (names_in t) { sets = sets }))))
     (ap (map set_in) (sym c.reserve.ensures.items))
-    (part_step before after (keeps_set name (names_in t)) (option_copied c.args.got) (Print c.in-Print.text) (rw c.in-Print.is at c.in_ok-what.ensures.goes))
+    (rw c.in-Print.is (part_step before after (keeps_set name (names_in t)) (option_copied c.args.got) (Print _) (rw c.in-Print.is at c.in_ok-put_next.ensures.goes)))

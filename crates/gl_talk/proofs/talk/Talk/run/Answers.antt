@@ -8,8 +8,8 @@ use Rattle.gl_talk.proofs.talk.Talk.run.Goals as goal
 
 pub returns-in-Call-clause-goes : goal.returns-in-Call-clause-goes
 returns-in-Call-clause-goes c =
-    part_step (client_left c.args.self.now.client) (client_left c.next.new.self) (λ _. done (names_in c.args.self.now)) (option_copied c.args.got) (Call c.in-Call.what) (rw c.in-Call.is at c.in_ok-what.ensures.goes)
+    rw c.in-Call.is (part_step (client_left c.args.self.now.client) (client_left c.put_next.new.self) (λ _. done (names_in c.args.self.now)) (option_copied c.args.got) (Call _) (rw c.in-Call.is at c.in_ok-put_next.ensures.goes))
 
 pub returns-in-Print-clause-goes : goal.returns-in-Print-clause-goes
 returns-in-Print-clause-goes c =
-    part_step (client_left c.args.self.now.client) (client_left c.next.new.self) (λ _. done (names_in c.args.self.now)) (option_copied c.args.got) (Print c.in-Print.text) (rw c.in-Print.is at c.in_ok-what.ensures.goes)
+    rw c.in-Print.is (part_step (client_left c.args.self.now.client) (client_left c.put_next.new.self) (λ _. done (names_in c.args.self.now)) (option_copied c.args.got) (Print _) (rw c.in-Print.is at c.in_ok-put_next.ensures.goes))

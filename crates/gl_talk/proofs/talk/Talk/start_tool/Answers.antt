@@ -1,19 +1,18 @@
-use Rattle.std.proofs.Common.{sym, subst, ap, ◌∙◌, ◌≡◌, Some, None}
+use Rattle.std.proofs.Common.{sym, subst, ◌≡◌, Some, None}
 use Rattle.gl_args.specs.Options.{tool_in}
 use Rattle.gl_client.specs.Program.{Goes, done, given, then_left}
 use Rattle.gl_args.specs.Tools.{tool_said}
-use Rattle.gl_script.specs.Columns.{columns}
 use Rattle.gl_talk.specs.Talk.{names_in, left, runs, slot_in, words_in}
 use Rattle.gl_talk.specs.ToolWords.{word_texts}
-use Rattle.gl_talk.proofs.Continuing.{if_ok}
+use Rattle.gl_talk.proofs.Continuing.{on_ok}
 use Rattle.gl_talk.proofs.talk.Talk.start_tool.Goals as goal
 
 pub returns-in-Ok-clause-goes : goal.returns-in-Ok-clause-goes
 returns-in-Ok-clause-goes c =
     let t = c.args.self.now in
-    let said : tool_said (word_texts (words_in t)) ≡ Some (tool_in c.in-Ok.tool) = ap (λ l. tool_said (word_texts (columns l))) (sym c.deref.ensures.value) ∙ c.in-Ok.ensures.ok in
-    if_ok c.run.result _ _
-    (λ next g.
-    subst (λ tool. Goes (runs tool (names_in t) (slot_in t) (words_in t)) next (left c.run.new.self)) (sym said)
-    (subst (λ l. Goes (given (then_left l (λ _. done (names_in t))) None) next (left c.run.new.self)) c.new.ensures g))
+    let said : tool_said (word_texts (words_in t)) ≡ Some (tool_in c.in-Ok.tool) = c.in-Ok.ensures.ok in
+    on_ok c.run.result _ _
+    (λ g.
+    subst (λ tool. Goes (runs tool (names_in t) (slot_in t) (words_in t)) c.run.new.step (left c.run.new.self)) (sym said)
+    (subst (λ l. Goes (given (then_left l (λ _. done (names_in t))) None) c.run.new.step (left c.run.new.self)) c.new.ensures g))
     c.run.ensures.goes

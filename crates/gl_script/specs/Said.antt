@@ -1,0 +1,216 @@
+-- What a statement says beside the words that stand for themselves: its numbers, its commands, and what is done with pins and
+-- interrupts. Names, labels, values, paths and the words of tools stand for themselves. This project's choice.
+use Rattle.std.specs.Prelude.{◌≡◌, ℕ, true, not, if◌then◌else◌, List, [], ◌∷◌, is_some, Option, None, Some, codes}
+use Rattle.std.specs.Str.{bytes_eq}
+use Rattle.gl_base.specs.ChipWord.{chip_number_of}
+use Rattle.gl_base.specs.CommandWord.{command_number_of}
+use Rattle.gl_base.specs.Words.{Span, text_at}
+use Rattle.gl_base.specs.declared.irq.IrqDo.{IrqDo}
+use Rattle.gl_base.specs.declared.irq.IrqDo.TheVariants.{Lock, Unlock, Enable, Disable, Never}
+use Rattle.gl_base.specs.declared.limits.TheConstants.{LINES_MAX}
+use Rattle.gl_base.specs.declared.pin.PinDo.{PinDo}
+use Rattle.gl_base.specs.declared.pin.PinDo.TheVariants.{Range, Hold, Release}
+use Rattle.gl_v1.specs.Words.{old_number_of}
+use Rattle.gl_script.specs.declared.refusal.Spot.{Spot}
+use Rattle.gl_script.specs.declared.said.Said.{Said}
+use Rattle.gl_script.specs.declared.said.Said.TheVariants.{Probe as SaidProbe, Unplug as SaidUnplug, MakeDir as SaidMakeDir, RemoveDir as SaidRemoveDir, Write as SaidWrite, Read as SaidRead, Clock as SaidClock, Fault as SaidFault, Accept as SaidAccept, Pin as SaidPin, Irq as SaidIrq, Open as SaidOpen, Ioctl as SaidIoctl, Events as SaidEvents, OldIoctl as SaidOldIoctl, OldEvents as SaidOldEvents, Changes as SaidChanges, Poll as SaidPoll, Close as SaidClose, Detect as SaidDetect, Info as SaidInfo, Get as SaidGet, Set as SaidSet, Start as SaidStart, Step as SaidStep, Stop as SaidStop}
+use Rattle.gl_script.specs.declared.table.Keyword.{Keyword}
+use Rattle.gl_script.specs.declared.table.Keyword.TheVariants.{Probe, Unplug, MakeDir, RemoveDir, Write, Read, Clock, Fault, Accept, Pin, Irq, Open, Ioctl, Events, OldIoctl, OldEvents, Changes, Poll, Close, Detect, Info, Get, Set, Start, Step, Stop}
+use Rattle.gl_script.specs.declared.version.Version.{Version}
+use Rattle.gl_script.specs.Faults.{statement_fault}
+use Rattle.gl_script.specs.Forms.{number_within, within}
+use Rattle.gl_script.specs.Table.{keyword_in, keyword_of}
+
+-- the number of the chip that a word names
+abbrev pub chip_of : List ℕ → Option ℕ
+chip_of word = within 0 63 (chip_number_of word)
+
+-- a number of 32 bits, and one of 64
+abbrev pub small_of : List ℕ → Option ℕ
+small_of word = number_within 0 0xFFFFFFFF word
+
+abbrev pub wide_of : List ℕ → Option ℕ
+wide_of word = number_within 0 0xFFFFFFFFFFFFFFFF word
+
+-- what is done with an interrupt: each has its word
+abbrev pub irq_name : IrqDo → List ℕ
+irq_name Lock = codes "lock"
+irq_name Unlock = codes "unlock"
+irq_name Enable = codes "enable"
+irq_name Disable = codes "disable"
+irq_name Never = codes "none"
+
+abbrev pub irq_of : List ℕ → Option IrqDo
+irq_of word =
+    if bytes_eq word (codes "lock") then Some Lock
+    else if bytes_eq word (codes "unlock") then Some Unlock
+    else if bytes_eq word (codes "enable") then Some Enable
+    else if bytes_eq word (codes "disable") then Some Disable
+    else if bytes_eq word (codes "none") then Some Never
+    else None
+
+-- what is done with pins, by the words behind `pin`: each has its word, and behind the chip its numbers
+abbrev pub pin_name : PinDo → List ℕ
+pin_name (Range offset pin count) = codes "range"
+pin_name (Hold pin) = codes "hold"
+pin_name (Release pin) = codes "drop"
+
+abbrev pub range_of : Option ℕ → Option ℕ → Option ℕ → Option PinDo
+range_of None pin count = None
+range_of (Some offset) None count = None
+range_of (Some offset) (Some pin) None = None
+range_of (Some offset) (Some pin) (Some count) = Some (Range offset pin count)
+
+abbrev pub hold_of : Option ℕ → Option PinDo
+hold_of None = None
+hold_of (Some pin) = Some (Hold pin)
+
+abbrev pub release_of : Option ℕ → Option PinDo
+release_of None = None
+release_of (Some pin) = Some (Release pin)
+
+abbrev pub pin_of : List Span → Option PinDo
+pin_of words =
+    if bytes_eq (text_at 0 words) (codes "range") then range_of (small_of (text_at 2 words)) (small_of (text_at 3 words)) (small_of (text_at 4 words))
+    else if bytes_eq (text_at 0 words) (codes "hold") then hold_of (small_of (text_at 2 words))
+    else if bytes_eq (text_at 0 words) (codes "drop") then release_of (small_of (text_at 2 words))
+    else None
+
+-- a statement of one number, and those of more
+abbrev pub one : (ℕ → Said) → Option ℕ → Option Said
+one says None = None
+one says (Some n) = Some (says n)
+
+abbrev pub clock_said : Option ℕ → Option ℕ → Option Said
+clock_said None real = None
+clock_said (Some mono) None = None
+clock_said (Some mono) (Some real) = Some (SaidClock mono real)
+
+abbrev pub pin_said : Option ℕ → Option PinDo → Option Said
+pin_said None what = None
+pin_said (Some chip) None = None
+pin_said (Some chip) (Some what) = Some (SaidPin chip what)
+
+abbrev pub irq_said : Option IrqDo → Option ℕ → Option ℕ → Option Said
+irq_said None chip offset = None
+irq_said (Some what) None offset = None
+irq_said (Some what) (Some chip) None = None
+irq_said (Some what) (Some chip) (Some offset) = Some (SaidIrq what chip offset)
+
+-- What the words behind that of a statement say, one row a statement; None where a word that is to be read isn't of its form.
+abbrev pub values : Keyword → List Span → Option Said
+values Probe words = one (λ n. SaidProbe n) (number_within 1 LINES_MAX (text_at 1 words))
+values Unplug words = one (λ n. SaidUnplug n) (chip_of (text_at 0 words))
+values MakeDir words = Some SaidMakeDir
+values RemoveDir words = Some SaidRemoveDir
+values Write words = Some SaidWrite
+values Read words = Some SaidRead
+values Clock words = clock_said (wide_of (text_at 0 words)) (wide_of (text_at 1 words))
+values Fault words = one (λ n. SaidFault n) (number_within 1 1000000 (text_at 0 words))
+values Accept words = one (λ n. SaidAccept n) (wide_of (text_at 0 words))
+values Pin words = pin_said (chip_of (text_at 1 words)) (pin_of words)
+values Irq words = irq_said (irq_of (text_at 0 words)) (chip_of (text_at 1 words)) (small_of (text_at 2 words))
+values Open words = Some SaidOpen
+values Ioctl words = one (λ n. SaidIoctl n) (command_number_of (text_at 1 words))
+values Events words = one (λ n. SaidEvents n) (number_within 0 49152 (text_at 1 words))
+values OldIoctl words = one (λ n. SaidOldIoctl n) (old_number_of (text_at 1 words))
+values OldEvents words = one (λ n. SaidOldEvents n) (number_within 0 16384 (text_at 1 words))
+values Changes words = one (λ n. SaidChanges n) (number_within 0 9216 (text_at 1 words))
+values Poll words = Some SaidPoll
+values Close words = Some SaidClose
+values Detect words = Some SaidDetect
+values Info words = Some SaidInfo
+values Get words = Some SaidGet
+values Set words = Some SaidSet
+values Start words = Some SaidStart
+values Step words = one (λ n. SaidStep n) (number_within 1 1000 (text_at 1 words))
+values Stop words = Some SaidStop
+
+abbrev pub unless_fault : Option Spot → Option Said → Option Said
+unless_fault None said = said
+unless_fault (Some fault) said = None
+
+abbrev pub said_by : Option Keyword → Span → List Span → Option Said
+said_by None first words = None
+said_by (Some keyword) first words = unless_fault (statement_fault (Some keyword) first words) (values keyword words)
+
+-- What words say as a statement of `session 2`, which has all statements; None where they are none.
+unfoldable pub said_of : List Span → Option Said
+said_of [] = None
+said_of (first ∷ words) = said_by (keyword_of first.text) first words
+
+-- the same, of words that are a statement
+abbrev pub values_by : Option Keyword → List Span → Option Said
+values_by None words = None
+values_by (Some keyword) words = values keyword words
+
+abbrev pub values_of : List Span → Option Said
+values_of [] = None
+values_of (first ∷ words) = values_by (keyword_of first.text) words
+
+-- Words say something exactly where they have no fault as a statement, and they have none where they have none in a session of either version.
+abbrev pub StatementsAreSaid : Type 0
+StatementsAreSaid = (first : Span) (words : List Span) → is_some (said_of (first ∷ words)) ≡ not (is_some (statement_fault (keyword_of first.text) first words))
+
+abbrev pub VersionsAreSaid : Type 0
+VersionsAreSaid = (version : Version) (first : Span) (words : List Span) → statement_fault (keyword_in version first.text) first words ≡ None → is_some (said_of (first ∷ words)) ≡ true
+
+-- the statement that is said
+abbrev pub keyword_said : Said → Keyword
+keyword_said (SaidProbe lines) = Probe
+keyword_said (SaidUnplug chip) = Unplug
+keyword_said SaidMakeDir = MakeDir
+keyword_said SaidRemoveDir = RemoveDir
+keyword_said SaidWrite = Write
+keyword_said SaidRead = Read
+keyword_said (SaidClock mono real) = Clock
+keyword_said (SaidFault nth) = Fault
+keyword_said (SaidAccept bits) = Accept
+keyword_said (SaidPin chip what) = Pin
+keyword_said (SaidIrq what chip offset) = Irq
+keyword_said SaidOpen = Open
+keyword_said (SaidIoctl command) = Ioctl
+keyword_said (SaidEvents len) = Events
+keyword_said (SaidOldIoctl command) = OldIoctl
+keyword_said (SaidOldEvents len) = OldEvents
+keyword_said (SaidChanges len) = Changes
+keyword_said SaidPoll = Poll
+keyword_said SaidClose = Close
+keyword_said SaidDetect = Detect
+keyword_said SaidInfo = Info
+keyword_said SaidGet = Get
+keyword_said SaidSet = Set
+keyword_said SaidStart = Start
+keyword_said (SaidStep turns) = Step
+keyword_said SaidStop = Stop
+
+-- the numbers of what is done with pins are those of these words
+abbrev pub ArePins : PinDo → List Span → Type 0
+ArePins (Range offset pin count) words = (small_of (text_at 3 words) ≡ Some offset) × (small_of (text_at 4 words) ≡ Some pin) × (small_of (text_at 5 words) ≡ Some count)
+ArePins (Hold pin) words = small_of (text_at 3 words) ≡ Some pin
+ArePins (Release pin) words = small_of (text_at 3 words) ≡ Some pin
+
+-- each value is that of its word
+abbrev pub AreValues : Said → List Span → Type 0
+AreValues (SaidProbe lines) words = number_within 1 LINES_MAX (text_at 2 words) ≡ Some lines
+AreValues (SaidUnplug chip) words = chip_of (text_at 1 words) ≡ Some chip
+AreValues (SaidClock mono real) words = (wide_of (text_at 1 words) ≡ Some mono) × (wide_of (text_at 2 words) ≡ Some real)
+AreValues (SaidFault nth) words = number_within 1 1000000 (text_at 1 words) ≡ Some nth
+AreValues (SaidAccept bits) words = wide_of (text_at 1 words) ≡ Some bits
+AreValues (SaidPin chip what) words = (pin_name what ≡ text_at 1 words) × (chip_of (text_at 2 words) ≡ Some chip) × ArePins what words
+AreValues (SaidIrq what chip offset) words = (irq_name what ≡ text_at 1 words) × (chip_of (text_at 2 words) ≡ Some chip) × (small_of (text_at 3 words) ≡ Some offset)
+AreValues (SaidIoctl command) words = command_number_of (text_at 2 words) ≡ Some command
+AreValues (SaidEvents len) words = number_within 0 49152 (text_at 2 words) ≡ Some len
+AreValues (SaidOldIoctl command) words = old_number_of (text_at 2 words) ≡ Some command
+AreValues (SaidOldEvents len) words = number_within 0 16384 (text_at 2 words) ≡ Some len
+AreValues (SaidChanges len) words = number_within 0 9216 (text_at 2 words) ≡ Some len
+AreValues (SaidStep turns) words = number_within 1 1000 (text_at 2 words) ≡ Some turns
+AreValues _ words = Unit {0}
+
+-- what is said is what the words spell: their statement, and each value the one that its word spells
+pub record Spells (words : List Span) (said : Said) : Type 0 where
+  pub keyword : keyword_of (text_at 0 words) ≡ Some (keyword_said said)
+  pub each : AreValues said words
+
+abbrev pub SaidIsSpelled : Type 0
+SaidIsSpelled = (words : List Span) (said : Said) → said_of words ≡ Some said → Spells words said
