@@ -65,6 +65,14 @@ pub copied_is : (count : ℕ) (buffer copied : List ℕ) → count ≡ min (leng
 unfolding handed_in
 copied_is count buffer copied is was = copied_over LINE_REQUEST_SIZE count buffer copied is was
 
+-- a buffer with room for the longest structure is handed in as it begins
+pub chunk_is_handed : (buffer chunk : List ℕ) → LINE_REQUEST_SIZE ≤ length buffer → chunk ≡ take LINE_REQUEST_SIZE buffer → chunk ≡ handed_in buffer
+unfolding handed_in
+chunk_is_handed buffer chunk enough is =
+    let long : length chunk ≡ LINE_REQUEST_SIZE = ap (λ (xs : List ℕ). length xs) is ∙ (length-take LINE_REQUEST_SIZE buffer ∙ min-eq_left enough) in
+    let none : LINE_REQUEST_SIZE - length chunk ≡ 0 = omega (arith, long) in
+    sym (ap (λ (xs : List ℕ). padded LINE_REQUEST_SIZE xs) (sym is) ∙ (ap (λ n. chunk ++ replicate n 0) none ∙ append-nil chunk))
+
 pub handed_fits : (buffer : List ℕ) → FitsBytes (length buffer) (handed_in buffer)
 unfolding handed_in
 handed_fits buffer = record { whole = padded_length LINE_REQUEST_SIZE buffer; zeros = padded_zeros LINE_REQUEST_SIZE buffer }

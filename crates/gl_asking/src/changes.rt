@@ -64,13 +64,20 @@ fn lines_asked(len: u32, bytes: &[u8; LINE_REQUEST_SIZE]) -> Lines
     lines_named(&handed_of(len, bytes))
 }
 
-/// A request of these lines that was made on a file, into a slot.
-fn made(slot: u32, row: Option<FileRow>, lines: &Lines, reply: Reply) -> Change
+/// A request of the lines that the structure in this command's buffer names, which was made on a file, into a slot. Only then are they
+/// read.
+fn made(
+    slot: u32,
+    row: Option<FileRow>,
+    len: u32,
+    bytes: &[u8; LINE_REQUEST_SIZE],
+    reply: Reply,
+) -> Change
     requires number { number_answered reply < 2 ^ 32 }
     requires row { IsSomeRow row }
-    requires lines { (fd : ℕ) → reply ≡ Number fd → IsLineCount lines.now.count }
+    requires lines { (fd : ℕ) → reply ≡ Number fd → IsLineCount (lines_named (buffer_of len bytes.now)).count }
     ensures row { IsChange result }
-    ensures told { (files : List OpenFile) → made_on slot (file_of row) lines.now reply files ≡ changed result files }
+    ensures told { (files : List OpenFile) → made_on slot (file_of row) (lines_named (buffer_of len bytes.now)) reply files ≡ changed result files }
 {
     match (row, reply) {
         (
@@ -86,7 +93,7 @@ fn made(slot: u32, row: Option<FileRow>, lines: &Lines, reply: Reply) -> Change
             slot,
             place,
             fd: number as u32,
-            kind: FileKind::Request(*lines),
+            kind: FileKind::Request(lines_asked(len, bytes)),
         }),
         _ => Change::Stays,
     }
@@ -110,7 +117,7 @@ pub fn files_behind(what: &Do, row: Option<FileRow>, reply: Reply) -> Change
             ..
         } => {
             if *cmd == GET_LINE {
-                made(*slot, row, &lines_asked(*len, bytes), reply)
+                made(*slot, row, *len, bytes, reply)
             } else {
                 Change::Stays
             }

@@ -11,8 +11,8 @@ ghost use Rattle.gl_asking.specs.Handed.{command_in, handed_in};
 ghost use Rattle.gl_asking.specs.Rows.{IsRow, is_chip};
 
 use crate::kinds::{FileKind, FileRow};
-use gl_base::{LINES_PER_REQUEST, Lines};
-use gl_model::CommandIn;
+use gl_base::Lines;
+use gl_model::{CommandIn, lines_in};
 use gl_uapi::RequestRef;
 use gl_uapi::layout::LINE_REQUEST_SIZE;
 
@@ -21,28 +21,24 @@ use gl_uapi::layout::LINE_REQUEST_SIZE;
 pub fn handed_in(buffer: &[u8]) -> [u8; LINE_REQUEST_SIZE]
     ensures { result ≡ handed_in buffer.now }
 {
+    match buffer.first_chunk::<LINE_REQUEST_SIZE>() {
+        Some(whole) => *whole,
+        None => with_zeros(buffer),
+    }
+}
+
+/// The same of a buffer that is shorter than the longest structure.
+fn with_zeros(buffer: &[u8]) -> [u8; LINE_REQUEST_SIZE]
+    ensures { result ≡ handed_in buffer.now }
+{
     let mut bytes = [0; LINE_REQUEST_SIZE];
     let count = buffer.len().min(LINE_REQUEST_SIZE);
     bytes[..count].copy_from_slice(&buffer[..count]);
     bytes
 }
 
-/// The lines that a request names, in order, as many as its bytes say.
-pub fn lines_in(request: &RequestRef<'_>) -> Lines
-    ensures { result ≡ lines_asked request.now }
-{
-    let mut offsets = [0; LINES_PER_REQUEST as usize];
-    for i in 0..LINES_PER_REQUEST {
-        offsets[i as usize] = request.offset(i);
-    }
-    Lines {
-        count: request.num_lines(),
-        offsets,
-    }
-}
-
 /// The lines that the bytes of a request name, in order, as many as the bytes say.
-pub fn lines_named(bytes: &[u8; LINE_REQUEST_SIZE]) -> Lines
+pub(crate) fn lines_named(bytes: &[u8; LINE_REQUEST_SIZE]) -> Lines
     ensures { result ≡ lines_asked (take LINE_REQUEST_SIZE bytes.now) }
 {
     lines_in(&RequestRef::of(bytes).unwrap())

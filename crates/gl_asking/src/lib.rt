@@ -12,6 +12,6 @@ mod operations;
 
 pub use answers::got_of;
 pub use changes::{files_behind, place_named};
-pub use commanding::{handed_in, lines_in, lines_named};
+pub use commanding::handed_in;
 pub use kinds::{Asking, Change, FileKind, FileRow};
 pub use operations::asking_of;

@@ -1,20 +1,27 @@
 //! What each operation is on the device.
+//!
+//! A call has some 600 bytes, and a function begins by zeroing each value of that size that any of its branches makes. So a branch that
+//! makes a call is a function.
 
-ghost use Rattle.std.specs.Prelude.{◌≡◌, ◌≤◌, ◌<◌, ℕ, List, Some, true, IsTrue};
+ghost use Rattle.std.specs.Prelude.{◌≡◌, ◌≤◌, ◌<◌, ℕ, List, None, Some, true, IsTrue};
 ghost use Rattle.gl_base.specs.declared.limits.TheConstants.{LINES_MAX, PLACES};
 ghost use Rattle.gl_model.specs.Fits.{FitsCall};
 ghost use Rattle.gl_model.specs.Parts.{is_single};
-ghost use Rattle.gl_model.specs.declared.call.Call.TheVariants.{Irq, Level, Pin, Pull, Write};
+ghost use Rattle.gl_model.specs.declared.call.Call.TheVariants.{Close, Find, Irq, Level, MakeDir, OpenChip, Pin, Pull, Read, RemoveDir, Tick, Write};
+ghost use Rattle.gl_model.specs.declared.device_call.DeviceCall.TheVariants.{Commanding, Removing};
+ghost use Rattle.gl_model.specs.declared.device_call.RemovalOf.TheVariants.{OfChip};
 ghost use Rattle.gl_asking.specs.Fitting.{FitsAsking, FitsDevice};
 ghost use Rattle.gl_asking.specs.declared.kinds.Asking.TheVariants.{Calls};
-ghost use Rattle.gl_asking.specs.Asking.{asking, at_place, file_for, has_lines, lives, once, polls, probes, reads_from};
+ghost use Rattle.gl_asking.specs.Asking.{asking, at_place, buffer_of, file_for, has_lines, lives, once, polls, probes, reads_from};
 ghost use Rattle.gl_asking.specs.Files.{OpenFile};
-ghost use Rattle.gl_asking.specs.Rows.{IsRow, IsSomeRow, file_of, row_file};
+ghost use Rattle.gl_asking.specs.Handed.{command_in};
+ghost use Rattle.gl_asking.specs.Rows.{IsRow, IsSomeRow, file_of, is_chip, row_file};
 
 use crate::commanding::{command_on, is_chip};
 use crate::kinds::{Asking, FileRow};
 use gl_base::{Do, Errno, IrqDo, Kind, LINES_MAX, Name, PLACES, Path, PinDo};
 use gl_model::{Call, DeviceCall, RemovalOf};
+use gl_uapi::layout::LINE_REQUEST_SIZE;
 
 /// A simulated chip may have so many lines.
 fn has_lines(lines: u32) -> bool
@@ -106,6 +113,53 @@ fn polls(row: &FileRow) -> Call
     }
 }
 
+/// Lines are looked for on the chip of a file.
+fn finds_on(row: &FileRow, name: &Name) -> Asking
+    requires { IsRow row.now }
+    ensures told { result ≡ once (Find (Some row.now.place) name.now) }
+    ensures fits { FitsAsking result }
+{
+    once(Call::Find {
+        place: Some(row.place),
+        name: *name,
+    })
+}
+
+/// A command on a file, with a buffer of this length that begins with these bytes.
+fn commands(row: &FileRow, cmd: u32, len: u32, bytes: &[u8; LINE_REQUEST_SIZE]) -> Asking
+    requires { IsRow row.now }
+    ensures told { result ≡ Calls (Commanding (command_in row.now.place row.now.fd (is_chip row.now.kind) cmd (buffer_of len bytes.now))) }
+    ensures fits { FitsAsking result }
+{
+    Asking::Calls(DeviceCall::Commanding(command_on(row, cmd, len, bytes)))
+}
+
+/// A file is read.
+fn reads_file(row: &FileRow, len: u32) -> Asking
+    requires { IsRow row.now }
+    ensures told { result ≡ once (reads_from len (row_file row.now)) }
+    ensures fits { FitsAsking result }
+{
+    once(reads_from(len, row))
+}
+
+/// A file is polled.
+fn polls_file(row: &FileRow) -> Asking
+    requires { IsRow row.now }
+    ensures told { result ≡ once (polls (row_file row.now)) }
+    ensures fits { FitsAsking result }
+{
+    once(polls(row))
+}
+
+/// A file is closed.
+fn closes(row: &FileRow) -> Asking
+    ensures told { result ≡ once (Close row.now.fd) }
+    ensures fits { FitsAsking result }
+{
+    once(Call::Close { fd: row.fd })
+}
+
 /// What an operation on this file is.
 fn on_file(row: &FileRow, what: &Do) -> Asking
     requires { IsRow row.now }
@@ -113,19 +167,16 @@ fn on_file(row: &FileRow, what: &Do) -> Asking
     ensures fits { FitsAsking result }
 {
     match what {
-        Do::Find { name, .. } => Asking::Calls(DeviceCall::Once(Call::Find {
-            place: Some(row.place),
-            name: *name,
-        })),
+        Do::Find { name, .. } => finds_on(row, name),
         Do::Ioctl {
             cmd,
             len,
             bytes,
             ..
-        } => Asking::Calls(DeviceCall::Commanding(command_on(row, *cmd, *len, bytes))),
-        Do::ReadFile { len, .. } => Asking::Calls(DeviceCall::Once(reads_from(*len, row))),
-        Do::Poll { .. } => Asking::Calls(DeviceCall::Once(polls(row))),
-        Do::Close { .. } => Asking::Calls(DeviceCall::Once(Call::Close { fd: row.fd })),
+        } => commands(row, *cmd, *len, bytes),
+        Do::ReadFile { len, .. } => reads_file(row, *len),
+        Do::Poll { .. } => polls_file(row),
+        Do::Close { .. } => closes(row),
         _ => Asking::Refuses(Errno::BadF),
     }
 }
@@ -181,6 +232,65 @@ fn once(call: Call) -> Asking
     Asking::Calls(DeviceCall::Once(call))
 }
 
+/// A chip is removed.
+fn unplugs(place: u8) -> Asking
+    ensures told { result ≡ at_place place (Calls (Removing (OfChip place))) }
+    ensures fits { FitsAsking result }
+{
+    at_place(place, DeviceCall::Removing(RemovalOf::OfChip(place)))
+}
+
+/// A directory of the tree is made.
+fn makes_dir(path: &Path) -> Asking
+    ensures told { result ≡ once (MakeDir path.now) }
+    ensures fits { FitsAsking result }
+{
+    once(Call::MakeDir { path: *path })
+}
+
+/// A directory of the tree is removed.
+fn removes_dir(path: &Path) -> Asking
+    ensures told { result ≡ once (RemoveDir path.now) }
+    ensures fits { FitsAsking result }
+{
+    once(Call::RemoveDir { path: *path })
+}
+
+/// A value of the tree is read.
+fn reads(path: &Path) -> Asking
+    ensures told { result ≡ once (Read path.now) }
+    ensures fits { FitsAsking result }
+{
+    once(Call::Read { path: *path })
+}
+
+/// The clocks are set.
+fn ticks(mono: u64, real: u64) -> Asking
+    ensures told { result ≡ once (Tick mono real) }
+    ensures fits { FitsAsking result }
+{
+    once(Call::Tick { mono, real })
+}
+
+/// The chip of a word is opened.
+fn opens_chip(word: &Path) -> Asking
+    ensures told { result ≡ once (OpenChip word.now) }
+    ensures fits { FitsAsking result }
+{
+    once(Call::OpenChip { word: *word })
+}
+
+/// Lines are looked for on all chips.
+fn finds_on_all(name: &Name) -> Asking
+    ensures told { result ≡ once (Find None name.now) }
+    ensures fits { FitsAsking result }
+{
+    once(Call::Find {
+        place: None,
+        name: *name,
+    })
+}
+
 /// What an operation is, by the row of the open file that it names; None where it names none, or that isn't open.
 ///
 /// An operation on a slot without a file is refused with `BadF`; `NoEnt` where it names a place that no device has; a chip of no line,
@@ -193,16 +303,13 @@ pub fn asking_of(what: &Do, row: Option<FileRow>) -> Asking
 {
     match what {
         Do::Probe { label, lines } => probes(*label, *lines),
-        Do::Unplug { place } => at_place(*place, DeviceCall::Removing(RemovalOf::OfChip(*place))),
-        Do::MakeDir(path) => once(Call::MakeDir { path: *path }),
-        Do::RemoveDir(path) => once(Call::RemoveDir { path: *path }),
+        Do::Unplug { place } => unplugs(*place),
+        Do::MakeDir(path) => makes_dir(path),
+        Do::RemoveDir(path) => removes_dir(path),
         Do::Write { path, value } => writes(path, value),
-        Do::Read(path) => once(Call::Read { path: *path }),
+        Do::Read(path) => reads(path),
         Do::Live { device, up } => lives(*device, *up),
-        Do::Tick { mono, real } => once(Call::Tick {
-            mono: *mono,
-            real: *real,
-        }),
+        Do::Tick { mono, real } => ticks(*mono, *real),
         Do::Pin { place, what } => pins(*place, *what),
         Do::Irq {
             place,
@@ -215,11 +322,8 @@ pub fn asking_of(what: &Do, row: Option<FileRow>) -> Asking
             offset,
             pull,
         } => level(*place, *offset, *pull),
-        Do::OpenChip { word, .. } => once(Call::OpenChip { word: *word }),
-        Do::Find { slot: None, name } => once(Call::Find {
-            place: None,
-            name: *name,
-        }),
+        Do::OpenChip { word, .. } => opens_chip(word),
+        Do::Find { slot: None, name } => finds_on_all(name),
         Do::Plan { nth } => Asking::Plans(*nth),
         Do::Accept { bits } => Asking::Accepts(*bits),
         _ => match row {

@@ -11,7 +11,6 @@ pub mod Notified
 pub mod OneHolder
 pub mod RequestLines
 pub mod OpenRequests
-pub mod Parts
 pub mod Silent
 pub mod Spare
 pub mod TakingChanges

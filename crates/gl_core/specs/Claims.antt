@@ -1,6 +1,5 @@
 -- What a claim of lines needs, and what it takes of what a call brings.
-use Rattle.std.specs.Prelude.{◌≡◌, ℕ, ◌+◌, ◌<◌, ◌^◌, false, if◌then◌else◌, List, [], length, take, slice_index_or, Option, Some, None}
-use Rattle.circular_buffer.specs.Buffer.{buffer}
+use Rattle.std.specs.Prelude.{◌≡◌, ℕ, ◌+◌, ◌<◌, ◌^◌, if◌then◌else◌, List, length, take, slice_index_or, Option, Some, None}
 use Rattle.gl_base.specs.declared.limits.TheConstants.{FILES_MAX}
 use Rattle.gl_base.specs.Lines.{offsets_of}
 use Rattle.gl_base.specs.Rows.{Each, change_first}
@@ -11,9 +10,10 @@ use Rattle.gl_request.specs.declared.row.RequestRow.{RequestRow}
 use Rattle.gl_uapi.specs.declared.commands.Command.{Command}
 use Rattle.gl_uapi.specs.declared.commands.Command.TheVariants.{GetLine}
 use Rattle.gl_uapi.specs.declared.layout.TheConstants.{LINE_REQUEST_SIZE}
-use Rattle.gl_model.specs.AskedLines.{AskedLines, capacity_asked, request_fault}
+use Rattle.gl_model.specs.AskedLines.{AskedLines}
 use Rattle.gl_model.specs.Claiming.{held, with_descs}
-use Rattle.gl_model.specs.Entries.{is_get_line, is_tell}
+use Rattle.gl_model.specs.Entries.{is_get_line}
+use Rattle.gl_model.specs.Fits.{HoldsRequest}
 use Rattle.gl_model.specs.Places.{no_place, with_place}
 use Rattle.gl_model.specs.World.{Request, World, has_number}
 use Rattle.gl_model.specs.declared.call.Part.{Part}
@@ -37,6 +37,11 @@ pub record MayClaim (k : Kept) (place : ℕ) (asked : AskedLines) : Type 0 where
 -- each request's number is below the next number of a file
 pub record NumbersAreBelow (k : Kept) : Type 0 where
   pub each : Each (IsBelow k.next) k.requests
+
+-- what is left of a ring that a request of lines brought: one that was answered Go took it
+abbrev pub ring_left : {X : Type 0} → Reply → Option X → Option X
+ring_left (Go number) ring = None
+ring_left _ ring = ring
 
 -- what is left of a gift after a request of lines: one that was answered Go took the ring
 abbrev pub without_ring : Reply → Gift → Gift
@@ -62,12 +67,6 @@ left_by_part (Tell answer) reply gift = gift
 abbrev pub left_by : Command → Part → Reply → Gift → Gift
 left_by command part reply gift = if is_get_line (Some command) then left_by_part part reply gift else gift
 
--- an ask of lines whose bytes have no fault brings an empty ring of the capacity that they ask for
-abbrev pub BringsItsRing : Command → List ℕ → Part → Gift → Type 0
-BringsItsRing command bytes part gift =
-    command ≡ GetLine → part ≡ Ask → request_fault (take LINE_REQUEST_SIZE bytes) ≡ None
-    → gift.ring ≡ Some (buffer [] (capacity_asked (take LINE_REQUEST_SIZE bytes)))
-
--- a tell of lines isn't one of the commands that are checked
-abbrev pub IsNotTold : Command → Part → Type 0
-IsNotTold command part = command ≡ GetLine → is_tell part ≡ false
+-- an ask of lines brings what it asks for
+abbrev pub BringsItsRequest : Command → List ℕ → Part → Gift → Type 0
+BringsItsRequest command bytes part gift = command ≡ GetLine → part ≡ Ask → HoldsRequest (take LINE_REQUEST_SIZE bytes) gift

@@ -1,5 +1,6 @@
 pub mod Chosen
 pub mod Claims
+pub mod Commanded
 pub mod Device
 pub mod FoundLines
 pub mod HeldLines

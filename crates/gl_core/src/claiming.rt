@@ -1,31 +1,30 @@
 //! GET_LINE: lines are claimed when they are asked for, and held when the driver has answered.
 
-ghost use Rattle.std.specs.Prelude.{◌≡◌, ◌<◌, ◌++◌, [], IfNone, IfSome, None, Some, drop, is_some, length, take};
+ghost use Rattle.std.specs.Prelude.{◌≡◌, ◌<◌, ◌++◌, [], IfNone, IfSome, Some, drop, is_some, length, take};
 ghost use Rattle.circular_buffer.specs.Buffer.{buffer};
 ghost use Rattle.gl_base.specs.Lines.{IsLineCount, offsets_of};
 ghost use Rattle.gl_base.specs.Positions.{first_fault};
 ghost use Rattle.gl_base.specs.Rows.{Each};
 ghost use Rattle.gl_base.specs.declared.limits.TheConstants.{LINES_PER_REQUEST};
-ghost use Rattle.gl_model.specs.AskedLines.{capacity_asked, request_fault};
 ghost use Rattle.gl_model.specs.Claiming.{claim, claim_at, claim_by, claim_lines, claim_number, claim_refusal, drop_claim, errno_of, get_line_ask, get_line_tell, hold_claim, line_refusal, with_fd};
+ghost use Rattle.gl_model.specs.Fits.{HoldsRequest};
 ghost use Rattle.gl_model.specs.Places.{place_at};
 ghost use Rattle.gl_model.specs.World.{Request};
 ghost use Rattle.gl_request.specs.Request.{StandsAt, held, request_at as row_at};
 ghost use Rattle.gl_request.specs.declared.row.RequestRow.{RequestRow};
 ghost use Rattle.std.specs.Option.{option_map};
 ghost use Rattle.gl_uapi.specs.declared.layout.TheConstants.{LINE_REQUEST_SIZE};
-ghost use Rattle.gl_core.specs.Claims.{AreFree, MayClaim, row_found, settled_claim, without_ring, NumbersAreBelow};
+ghost use Rattle.gl_core.specs.Claims.{AreFree, MayClaim, NumbersAreBelow, ring_left, row_found, settled_claim, without_ring};
 ghost use Rattle.gl_core.specs.Kept.{kept_request};
 ghost use Rattle.gl_core.specs.Reached.{IsReached};
 ghost use Rattle.gl_core.specs.Shape.{HasLine, HasLines, KeepsLines};
 ghost use Rattle.gl_core.specs.Steps.{Follows, Steps, StepsInto, Tells};
 
 use crate::configuring::interrupt_fault;
-use crate::parsed_request::ParsedRequest;
 use crate::state::State;
 use gl_base::{Errno, Lines};
 use gl_desc::LineFault;
-use gl_model::{Gift, Place, Reply};
+use gl_model::{Asked, Gift, Place, Reply, request_fault};
 use gl_request::{Claim, RequestAt};
 use gl_ring::EdgeRing;
 use gl_uapi::layout::{CHANGED_REQUESTED, LINE_REQUEST_SIZE};
@@ -43,28 +42,32 @@ fn errno_of(fault: LineFault) -> Errno
 
 /// What is wrong with the line at position `i` of a request, first case first: the chip has no such line; somebody has the
 /// line, or it stands earlier in the request; its pin is held for another function; its settings don't go with its interrupt.
-fn line_refusal(tables: &Place, asked: &ParsedRequest, i: u32) -> Option<Errno>
+fn line_refusal(tables: &Place, asked: &Asked, i: u32) -> Option<Errno>
     requires i { i < LINES_PER_REQUEST }
     requires tables { HasLines (length tables.now.descs) tables.now }
     ensures { result ≡ line_refusal tables.now asked.now i }
 {
-    if let Some(fault) = tables.descs.line_fault(&asked.lines, i) {
+    let lines = asked.lines();
+    if let Some(fault) = tables.descs.line_fault(lines, i) {
         return Some(errno_of(fault));
     }
-    let offset = asked.lines.offsets[i as usize];
+    let offset = lines.offsets[i as usize];
     if tables.pins.is_held(offset) {
         return Some(Errno::Busy);
     }
-    interrupt_fault(&asked.settings.lines[i as usize], tables.irqs.line(offset))
+    interrupt_fault(
+        &asked.settings().lines[i as usize],
+        tables.irqs.line(offset),
+    )
 }
 
 /// What is wrong with the first faulty line of a request.
 #[tactic(auto, using(gl_base::proofs::AtPositions::first_fault_more, gl_base::proofs::AtPositions::first_fault_here, gl_base::proofs::AtPositions::first_fault_all))]
-fn first_refusal(tables: &Place, asked: &ParsedRequest) -> Option<Errno>
+fn first_refusal(tables: &Place, asked: &Asked) -> Option<Errno>
     requires { HasLines (length tables.now.descs) tables.now }
     ensures { result ≡ first_fault (line_refusal tables.now asked.now) 0 asked.now.lines.count }
 {
-    for i in 0..asked.lines.count {
+    for i in 0..asked.lines().count {
         if let Some(errno) = line_refusal(tables, asked, i) {
             return Some(errno);
         }
@@ -89,7 +92,7 @@ impl State {
     }
 
     /// What is wrong with the first faulty line of a request.
-    fn lines_refusal(&self, place: u8, asked: &ParsedRequest) -> Option<Errno>
+    fn lines_refusal(&self, place: u8, asked: &Asked) -> Option<Errno>
         requires { IsLineCount asked.now.lines.count }
         ensures told { Tells (λ w. first_fault (line_refusal (place_at w place) asked.now) 0 asked.now.lines.count) self.now result }
         ensures free { IfNone result (AreFree self.now place asked.now) }
@@ -102,7 +105,7 @@ impl State {
 
     /// Why a request is refused, first case first: `MFile` where no more file can be open; `Busy` where the actor's last claim is
     /// unfinished; what is wrong with one of the lines, in order.
-    fn claim_refusal(&self, place: u8, actor: u8, asked: &ParsedRequest) -> Option<Errno>
+    fn claim_refusal(&self, place: u8, actor: u8, asked: &Asked) -> Option<Errno>
         requires { IsLineCount asked.now.lines.count }
         ensures told { Tells (claim_refusal place actor asked.now) self.now result }
         ensures may { IfNone result (MayClaim self.now place asked.now) }
@@ -117,7 +120,7 @@ impl State {
     }
 
     /// Claims the lines of a request that isn't refused, by a request of the next number.
-    fn claim_lines(&mut self, place: u8, actor: u8, asked: &ParsedRequest, ring: EdgeRing)
+    fn claim_lines(&mut self, place: u8, actor: u8, asked: &Asked, ring: EdgeRing)
         requires lines { IsLineCount asked.now.lines.count }
         requires may { MayClaim self.old place asked.now }
         requires numbers { NumbersAreBelow self.old }
@@ -125,41 +128,42 @@ impl State {
         ensures { Follows (claim_lines place actor asked.now) self.old self.new }
     {
         let fd = self.next;
-        self.places.claim(place, &asked.lines, fd, asked.consumer);
+        let lines = asked.lines();
+        self.places.claim(place, lines, fd, asked.consumer());
         let claim = Claim {
             fd,
             place,
             actor,
-            lines: asked.lines,
-            settings: asked.settings,
+            lines: *lines,
+            settings: *asked.settings(),
         };
         self.requests.claim(claim, ring);
         self.next = fd + 1;
     }
 
     /// Claims what a request asks for, or refuses it. A claim takes the ring.
-    fn claim(&mut self, place: u8, actor: u8, asked: &ParsedRequest, gift: &mut Gift) -> Reply
+    fn claim(&mut self, place: u8, actor: u8, asked: &Asked, ring: &mut Option<EdgeRing>) -> Reply
         requires lines { IsLineCount asked.now.lines.count }
         requires numbers { NumbersAreBelow self.old }
-        requires ring { gift.old.ring ≡ Some (buffer [] asked.now.capacity) }
+        requires ring { ring.old ≡ Some (buffer [] asked.now.capacity) }
         ensures steps { Steps (claim place actor asked.now) self.old self.new result }
-        ensures gift { gift.new ≡ without_ring result gift.old }
+        ensures ring { ring.new ≡ ring_left result ring.old }
     {
         match self.claim_refusal(place, actor, asked) {
             Some(errno) => Reply::Refused(errno),
             None => {
                 let fd = self.next;
-                let ring = gift.ring.take().unwrap();
+                let ring = ring.take().unwrap();
                 self.claim_lines(place, actor, asked, ring);
                 Reply::Go(fd)
             }
         }
     }
 
-    /// GET_LINE is asked for. What the bytes alone decide comes first; then `MFile` where no more file can be open; `Busy` where
-    /// the actor's last claim is unfinished; and what is wrong with one of the lines, in order. A refused call changes nothing
-    /// and leaves the gift. Else the lines are claimed, the claim takes the ring, and the answer is Go with the number of the
-    /// request.
+    /// GET_LINE is asked for, with what its bytes ask for in the gift. What the bytes alone decide comes first; then `MFile` where no
+    /// more file can be open; `Busy` where the actor's last claim is unfinished; and what is wrong with one of the lines, in order. A
+    /// refused call changes nothing and leaves the gift. Else the lines are claimed, the claim takes the ring, and the answer is Go
+    /// with the number of the request.
     pub(crate) fn get_line_ask(
         &mut self,
         place: u8,
@@ -168,13 +172,18 @@ impl State {
         gift: &mut Gift,
     ) -> Reply
         requires reached { IsReached self.old }
-        requires brings { request_fault (take LINE_REQUEST_SIZE bytes.now) ≡ None → gift.old.ring ≡ Some (buffer [] (capacity_asked (take LINE_REQUEST_SIZE bytes.now))) }
+        requires brings { HoldsRequest (take LINE_REQUEST_SIZE bytes.now) gift.old }
         ensures steps { Steps (get_line_ask place actor (take LINE_REQUEST_SIZE bytes.now)) self.old self.new result }
         ensures gift { gift.new ≡ without_ring result gift.old }
     {
-        match ParsedRequest::of(bytes) {
-            Err(errno) => Reply::Refused(errno),
-            Ok(asked) => self.claim(place, actor, &asked, gift),
+        let Gift { ring, asked, .. } = gift;
+        match &*asked {
+            None => Reply::Refused(request_fault(bytes).unwrap()),
+            Some(asked) => {
+                // That they are 1 to 64 is known once they were asked for.
+                let _lines = asked.lines();
+                self.claim(place, actor, asked, ring)
+            }
         }
     }
 

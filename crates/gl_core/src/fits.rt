@@ -1,20 +1,19 @@
 //! Which calls are in range, and what a call needs: the memory that it brings, and its buffer.
 
-ghost use Rattle.std.specs.Prelude.{◌≡◌, ◌≤◌, ◌==◌, Some, None, [], take, drop, length, IfOk, IsOkUnless, IsTrue};
+ghost use Rattle.std.specs.Prelude.{◌≡◌, ◌≤◌, ◌==◌, ℕ, List, None, take, drop, length, IfErr, IfOk, IsOkUnless, IsTrue};
 ghost use Rattle.std.specs.Bool.{Decides};
 ghost use Rattle.std.specs.List.{list_all};
-ghost use Rattle.circular_buffer.specs.Buffer.{buffer};
 ghost use Rattle.gl_base.specs.Name.{is_name};
+ghost use Rattle.gl_base.specs.declared.errno.Errno.TheVariants.{NoMemory};
 ghost use Rattle.gl_base.specs.declared.limits.TheConstants.{LINES_MAX};
-ghost use Rattle.gl_model.specs.AskedLines.{capacity_asked, request_fault};
+ghost use Rattle.gl_model.specs.AskedLines.{asked_by, request_fault};
 ghost use Rattle.gl_uapi.specs.declared.layout.TheConstants.{LINE_REQUEST_SIZE};
 ghost use Rattle.gl_core.specs.Legal.{buffer_size};
 ghost use Rattle.gl_model.specs.declared.call.Part.TheVariants.{Ask};
-ghost use Rattle.gl_model.specs.Fits.{BringsRing, FitsBuffer, FitsBytes, FitsCall, FitsGift};
+ghost use Rattle.gl_model.specs.Fits.{BringsRequest, FitsBuffer, FitsBytes, FitsCall, FitsGift, HoldsRequest};
 
-use crate::parsed_request::ParsedRequest;
 use gl_base::{Errno, LINES_MAX, Name, PLACES};
-use gl_model::{Call, Gift, Part};
+use gl_model::{Asked, Call, Gift, Part};
 use gl_ring::EdgeRing;
 use gl_uapi::Command;
 use gl_uapi::layout::LINE_REQUEST_SIZE;
@@ -97,8 +96,8 @@ fn bytes_from(bytes: &[u8], from: usize) -> &[u8]
     &bytes[from.min(bytes.len())..]
 }
 
-/// The memory that a call brings: an empty queue for an open, and for an ask of GET_LINE an empty ring of the capacity that
-/// it states, where its bytes are without fault. `NoMemory` is its only error.
+/// What a call brings: an empty queue for an open, and for an ask of GET_LINE what its bytes ask for with an empty ring of the
+/// capacity that they state, where they are without fault. `NoMemory` is its only error.
 pub fn gift_for(call: &Call, alloc: Global) -> Result<Gift, Errno>
     ensures ok { IfOk result (λ gift. FitsGift call.now gift) }
     ensures memory_alone { IsOkUnless result Errno.NoMemory }
@@ -109,6 +108,7 @@ pub fn gift_for(call: &Call, alloc: Global) -> Result<Gift, Errno>
             Ok(Gift {
                 ring: None,
                 queue: Some(queue),
+                asked: None,
             })
         }
         Call::Ioctl {
@@ -116,59 +116,76 @@ pub fn gift_for(call: &Call, alloc: Global) -> Result<Gift, Errno>
             bytes,
             part,
             ..
-        } => {
-            let ring = ring_for(*cmd, bytes, part, alloc)?;
-            Ok(Gift { ring, queue: None })
-        }
-        _ => Ok(Gift {
-            ring: None,
-            queue: None,
-        }),
+        } => gift_in_part(*cmd, bytes, part, alloc),
+        _ => Ok(nothing()),
     }
 }
 
-/// The ring that a part of a command brings, if it brings one.
-fn ring_for(
+/// A gift with nothing in it.
+fn nothing() -> Gift
+    ensures { result.asked ≡ None }
+{
+    Gift {
+        ring: None,
+        queue: None,
+        asked: None,
+    }
+}
+
+/// What a part of a command brings, if it brings anything.
+fn gift_in_part(
     cmd: u32,
     bytes: &[u8; LINE_REQUEST_SIZE],
     part: &Part,
     alloc: Global,
-) -> Result<Option<EdgeRing>, Errno>
-    ensures ok { IfOk result (λ ring. BringsRing cmd bytes.now part.now (record { ring = ring; queue = None })) }
+) -> Result<Gift, Errno>
+    ensures ok { IfOk result (λ gift. BringsRequest cmd bytes.now part.now gift) }
     ensures memory_alone { IsOkUnless result Errno.NoMemory }
 {
     match part {
-        Part::Ask => ring_for_ask(cmd, bytes, alloc),
-        Part::Whole | Part::Tell(_) => Ok(None),
+        Part::Ask => gift_for_ask(cmd, bytes, alloc),
+        Part::Whole | Part::Tell(_) => Ok(nothing()),
     }
 }
 
-/// The ring that the ask of a command brings, if it brings one.
-fn ring_for_ask(
-    cmd: u32,
-    bytes: &[u8; LINE_REQUEST_SIZE],
-    alloc: Global,
-) -> Result<Option<EdgeRing>, Errno>
-    ensures ok { IfOk result (λ ring. BringsRing cmd bytes.now Ask (record { ring = ring; queue = None })) }
+/// What the ask of a command brings, if it brings anything.
+fn gift_for_ask(cmd: u32, bytes: &[u8; LINE_REQUEST_SIZE], alloc: Global) -> Result<Gift, Errno>
+    ensures ok { IfOk result (λ gift. BringsRequest cmd bytes.now Ask gift) }
     ensures memory_alone { IsOkUnless result Errno.NoMemory }
 {
     match Command::of(cmd) {
-        Some(Command::GetLine) => asked_ring(bytes, alloc),
-        _ => Ok(None),
+        Some(Command::GetLine) => gift_for_lines(bytes, alloc),
+        _ => Ok(nothing()),
     }
 }
 
-/// An empty ring of the capacity that a request states, where its bytes are without fault.
-fn asked_ring(bytes: &[u8; LINE_REQUEST_SIZE], alloc: Global) -> Result<Option<EdgeRing>, Errno>
-    ensures ok { IfOk result (λ ring. request_fault (take LINE_REQUEST_SIZE bytes.now) ≡ None → ring ≡ Some (buffer [] (capacity_asked (take LINE_REQUEST_SIZE bytes.now)))) }
-    ensures memory_alone { IsOkUnless result Errno.NoMemory }
+/// What an ask of GET_LINE with these bytes brings: what they ask for and an empty ring of the capacity that they state, or nothing
+/// where they have a fault. `NoMemory` is its only error, and comes only where they have none.
+pub fn gift_for_lines(bytes: &[u8; LINE_REQUEST_SIZE], alloc: Global) -> Result<Gift, Errno>
+    ensures ok { IfOk result (HoldsRequest (take LINE_REQUEST_SIZE bytes.now)) }
+    ensures memory { IfErr result (λ errno. (errno ≡ NoMemory) × (request_fault (take LINE_REQUEST_SIZE bytes.now) ≡ None)) }
 {
-    match ParsedRequest::of(bytes) {
-        Err(_) => Ok(None),
-        Ok(asked) => {
-            let ring = EdgeRing::with_capacity(alloc, asked.capacity())?;
-            Ok(Some(ring))
-        }
+    match Asked::of(bytes, alloc) {
+        Err(errno) => Err(errno),
+        Ok(asked) => gift_of(asked, alloc),
+    }
+}
+
+/// What is asked for, with an empty ring of the capacity that it states; nothing where nothing is.
+fn gift_of(asked: Option<Asked>, alloc: Global) -> Result<Gift, Errno>
+    ensures ok { IfOk result (λ gift. (bytes : List ℕ) → asked ≡ asked_by bytes → HoldsRequest bytes gift) }
+    ensures memory { IfErr result (λ errno. (errno ≡ NoMemory) × ((bytes : List ℕ) → asked ≡ asked_by bytes → request_fault bytes ≡ None)) }
+{
+    match asked {
+        None => Ok(nothing()),
+        Some(asked) => match EdgeRing::with_capacity(alloc, asked.capacity()) {
+            Err(errno) => Err(errno),
+            Ok(ring) => Ok(Gift {
+                ring: Some(ring),
+                queue: None,
+                asked: Some(asked),
+            }),
+        },
     }
 }
 

@@ -1,25 +1,25 @@
 //! The commands on open files, by their numbers.
 
-ghost use Rattle.std.specs.Prelude.{◌≡◌, ◌≤◌, ℕ, false, true, length, take};
+ghost use Rattle.std.specs.Prelude.{◌≡◌, ◌≤◌, ℕ, false, length, take};
 ghost use Rattle.gl_uapi.specs.Command.{size_of};
 ghost use Rattle.gl_uapi.specs.declared.commands.Command.TheVariants.{GetLine};
-ghost use Rattle.gl_model.specs.Fits.{BringsRing, Leaves};
+ghost use Rattle.gl_model.specs.Entries.{is_tell};
+ghost use Rattle.gl_model.specs.Fits.{BringsRequest, Leaves};
 ghost use Rattle.gl_model.specs.Ioctl.{act_on, checked, in_part, ioctl};
-ghost use Rattle.gl_model.specs.OpenFiles.{is_for_chips};
 ghost use Rattle.gl_model.specs.declared.call.Call.TheVariants.{Ioctl};
-ghost use Rattle.gl_model.specs.declared.call.Part.TheVariants.{Ask};
+ghost use Rattle.gl_model.specs.declared.call.Part.{Part as APart};
 ghost use Rattle.gl_watch.specs.Files.{StandsAt};
-ghost use Rattle.gl_core.specs.Claims.{BringsItsRing, IsNotTold, left_by};
+ghost use Rattle.gl_core.specs.Claims.{BringsItsRequest, left_by, left_by_part};
+ghost use Rattle.gl_core.specs.Commanded.{chip_command, request_command};
 ghost use Rattle.gl_core.specs.OpenRequests.{IsOpenAt};
 ghost use Rattle.gl_core.specs.Reached.{IsReached};
 ghost use Rattle.gl_core.specs.Steps.{StepsInto};
 
+use crate::commanded::{ChipCommand, Commanded, RequestCommand};
 use crate::state::State;
-use gl_base::Errno;
 use gl_model::{Gift, Part, Reply};
 use gl_request::RequestAt;
 use gl_uapi::Command;
-use gl_uapi::layout::LINE_REQUEST_SIZE;
 use gl_watch::FileAt;
 
 impl State {
@@ -29,56 +29,47 @@ impl State {
     pub(crate) fn ioctl(
         &mut self,
         actor: u8,
-        place: u8,
-        fd: u32,
         cmd: u32,
-        len: u32,
-        bytes: &[u8; LINE_REQUEST_SIZE],
-        part: &Part,
+        commanded: &Commanded<'_>,
         gift: &mut Gift,
         out: &mut [u8],
     ) -> Reply
         requires reached { IsReached self.old }
-        requires brings { BringsRing cmd bytes.now part.now gift.old }
-        requires room { length out.old ≡ len }
-        ensures steps { StepsInto (ioctl actor place fd cmd len bytes.now part.now) self.old self.new result out.old out.new }
-        ensures gift { Leaves (Ioctl place fd cmd len bytes.now part.now) result gift.old gift.new }
+        requires brings { BringsRequest cmd commanded.now.bytes.now commanded.now.part gift.old }
+        requires room { length out.old ≡ commanded.now.len }
+        ensures steps { let c = commanded.now in StepsInto (ioctl actor c.place c.fd cmd c.len c.bytes.now c.part) self.old self.new result out.old out.new }
+        ensures gift { let c = commanded.now in Leaves (Ioctl c.place c.fd cmd c.len c.bytes.now c.part) result gift.old gift.new }
     {
         match Command::of(cmd) {
-            None => Reply::Refused(self.unknown_refusal(place, fd)),
-            Some(command) => {
-                self.in_part(actor, place, fd, len, command, bytes, part, gift, out)
-            }
+            None => Reply::Refused(self.unknown_refusal(commanded.place, commanded.fd)),
+            Some(command) => self.in_part(actor, command, commanded, gift, out),
         }
     }
 
-    /// A command in one of its parts; the claim alone decides the tell of GET_LINE.
+    /// A command in one of its parts, by the file that it is for. A request of lines alone looks at the gift.
     fn in_part(
         &mut self,
         actor: u8,
-        place: u8,
-        fd: u32,
-        len: u32,
         command: Command,
-        bytes: &[u8; LINE_REQUEST_SIZE],
-        part: &Part,
+        commanded: &Commanded<'_>,
         gift: &mut Gift,
         out: &mut [u8],
     ) -> Reply
         requires reached { IsReached self.old }
-        requires brings { BringsItsRing command bytes.now part.now gift.old }
-        requires room { length out.old ≡ len }
-        ensures steps { StepsInto (in_part actor place fd len command bytes.now part.now) self.old self.new result out.old out.new }
-        ensures gift { gift.new ≡ left_by command part.now result gift.old }
+        requires brings { BringsItsRequest command commanded.now.bytes.now commanded.now.part gift.old }
+        requires room { length out.old ≡ commanded.now.len }
+        ensures steps { let c = commanded.now in StepsInto (in_part actor c.place c.fd c.len command c.bytes.now c.part) self.old self.new result out.old out.new }
+        ensures gift { gift.new ≡ left_by command commanded.now.part result gift.old }
     {
         match command {
-            Command::GetLine => self.get_line(actor, place, fd, len, bytes, part, gift, out),
-            Command::ChipInfo | Command::LineInfo | Command::Watch | Command::Unwatch => {
-                self.on_chip(actor, place, fd, len, command, bytes, part, gift, out)
-            }
-            Command::SetConfig | Command::GetValues | Command::SetValues => {
-                self.on_request(place, fd, len, command, bytes, part, out)
-            }
+            Command::ChipInfo => self.on_chip(ChipCommand::ChipInfo, commanded, out),
+            Command::LineInfo => self.on_chip(ChipCommand::LineInfo, commanded, out),
+            Command::Watch => self.on_chip(ChipCommand::Watch, commanded, out),
+            Command::Unwatch => self.on_chip(ChipCommand::Unwatch, commanded, out),
+            Command::GetLine => self.get_line(actor, commanded, gift, out),
+            Command::SetConfig => self.on_request(RequestCommand::SetConfig, commanded, out),
+            Command::GetValues => self.on_request(RequestCommand::GetValues, commanded, out),
+            Command::SetValues => self.on_request(RequestCommand::SetValues, commanded, out),
         }
     }
 
@@ -86,136 +77,119 @@ impl State {
     fn get_line(
         &mut self,
         actor: u8,
-        place: u8,
-        fd: u32,
-        len: u32,
-        bytes: &[u8; LINE_REQUEST_SIZE],
-        part: &Part,
+        commanded: &Commanded<'_>,
         gift: &mut Gift,
         out: &mut [u8],
     ) -> Reply
         requires reached { IsReached self.old }
-        requires brings { BringsItsRing GetLine bytes.now part.now gift.old }
-        requires room { length out.old ≡ len }
-        ensures steps { StepsInto (in_part actor place fd len GetLine bytes.now part.now) self.old self.new result out.old out.new }
-        ensures gift { gift.new ≡ left_by GetLine part.now result gift.old }
+        requires brings { BringsItsRequest GetLine commanded.now.bytes.now commanded.now.part gift.old }
+        requires room { length out.old ≡ commanded.now.len }
+        ensures steps { let c = commanded.now in StepsInto (in_part actor c.place c.fd c.len GetLine c.bytes.now c.part) self.old self.new result out.old out.new }
+        ensures gift { gift.new ≡ left_by_part commanded.now.part result gift.old }
     {
-        match part {
-            Part::Tell(answer) => self.get_line_tell(place, actor, *answer, bytes, out),
-            Part::Whole | Part::Ask => {
-                let command = Command::GetLine;
-                self.on_chip(actor, place, fd, len, command, bytes, part, gift, out)
+        match commanded.part {
+            Part::Tell(answer) => {
+                self.get_line_tell(commanded.place, actor, answer, commanded.bytes, out)
             }
+            Part::Whole | Part::Ask => self.ask_for_lines(actor, commanded, gift, out),
         }
     }
 
-    /// A command of chip files, after the refusals with which every command begins.
-    fn on_chip(
+    /// GET_LINE that isn't told, after the refusals with which every command begins.
+    fn ask_for_lines(
         &mut self,
         actor: u8,
-        place: u8,
-        fd: u32,
-        len: u32,
-        command: Command,
-        bytes: &[u8; LINE_REQUEST_SIZE],
-        part: &Part,
+        commanded: &Commanded<'_>,
         gift: &mut Gift,
         out: &mut [u8],
     ) -> Reply
         requires reached { IsReached self.old }
-        requires for_chips { is_for_chips command ≡ true }
-        requires brings { BringsItsRing command bytes.now part.now gift.old }
-        requires told { IsNotTold command part.now }
-        requires room { length out.old ≡ len }
-        ensures steps { StepsInto (checked actor place fd len command bytes.now part.now) self.old self.new result out.old out.new }
-        ensures gift { gift.new ≡ left_by command part.now result gift.old }
+        requires brings { BringsItsRequest GetLine commanded.now.bytes.now commanded.now.part gift.old }
+        requires told { is_tell commanded.now.part ≡ false }
+        requires room { length out.old ≡ commanded.now.len }
+        ensures steps { let c = commanded.now in StepsInto (checked actor c.place c.fd c.len GetLine c.bytes.now c.part) self.old self.new result out.old out.new }
+        ensures gift { gift.new ≡ left_by_part commanded.now.part result gift.old }
     {
-        match self.file_of_command(place, fd, len, command, part) {
+        match self.file_of_command(Command::GetLine, commanded) {
             Err(errno) => Reply::Refused(errno),
-            Ok(found) => { self.act_on_chip(actor, place, found, command, bytes, part, gift, out) }
+            Ok(_) => self.get_line_ask(commanded.place, actor, commanded.bytes, gift),
         }
     }
 
-    /// What a command of chip files does once its file, its buffer's length and its part are right.
+    /// A command on a chip file that asks no driver, after the refusals with which every command begins. It is the same for
+    /// every actor.
+    fn on_chip(&mut self, command: ChipCommand, commanded: &Commanded<'_>, out: &mut [u8]) -> Reply
+        requires room { length out.old ≡ commanded.now.len }
+        ensures { (actor : ℕ) → let c = commanded.now in StepsInto (checked actor c.place c.fd c.len (chip_command command) c.bytes.now c.part) self.old self.new result out.old out.new }
+    {
+        match self.file_of_command(command.command(), commanded) {
+            Err(errno) => Reply::Refused(errno),
+            Ok(found) => self.act_on_chip(found, command, commanded, out),
+        }
+    }
+
+    /// What such a command does once its file, its buffer's length and its part are right.
     fn act_on_chip(
         &mut self,
-        actor: u8,
-        place: u8,
         found: FileAt,
-        command: Command,
-        bytes: &[u8; LINE_REQUEST_SIZE],
-        part: &Part,
-        gift: &mut Gift,
+        command: ChipCommand,
+        commanded: &Commanded<'_>,
         out: &mut [u8],
     ) -> Reply
         requires stands { StandsAt found self.old.files }
-        requires reached { IsReached self.old }
-        requires for_chips { is_for_chips command ≡ true }
-        requires ask { command ≡ GetLine → part.now ≡ Ask }
-        requires brings { BringsItsRing command bytes.now part.now gift.old }
-        requires room { size_of command ≤ length out.old }
-        ensures steps { StepsInto (act_on actor place found.fd command (take (size_of command) bytes.now) part.now) self.old self.new result out.old out.new }
-        ensures gift { gift.new ≡ left_by command part.now result gift.old }
+        requires room { size_of (chip_command command) ≤ length out.old }
+        ensures { (actor : ℕ) (part : APart) → let c = commanded.now in
+            StepsInto (act_on actor c.place found.fd (chip_command command) (take (size_of (chip_command command)) c.bytes.now) part) self.old self.new result out.old out.new }
     {
+        let place = commanded.place;
+        let bytes = commanded.bytes;
         match command {
-            Command::ChipInfo => self.get_chip_info(place, out),
-            Command::LineInfo => self.get_line_info(place, bytes, out),
-            Command::Watch => self.watch_line(place, found, bytes, out),
-            Command::Unwatch => self.unwatch_line(place, found, bytes, out),
-            Command::GetLine => self.get_line_ask(place, actor, bytes, gift),
-            Command::SetConfig | Command::GetValues | Command::SetValues => {
-                Reply::Refused(Errno::Inval)
-            }
+            ChipCommand::ChipInfo => self.get_chip_info(place, out),
+            ChipCommand::LineInfo => self.get_line_info(place, bytes, out),
+            ChipCommand::Watch => self.watch_line(place, found, bytes, out),
+            ChipCommand::Unwatch => self.unwatch_line(place, found, bytes, out),
         }
     }
 
-    /// A command of requests, after the refusals with which every command begins. It is the same for every actor.
+    /// A command on a request, after the refusals with which every command begins. It is the same for every actor.
     fn on_request(
         &mut self,
-        place: u8,
-        fd: u32,
-        len: u32,
-        command: Command,
-        bytes: &[u8; LINE_REQUEST_SIZE],
-        part: &Part,
+        command: RequestCommand,
+        commanded: &Commanded<'_>,
         out: &mut [u8],
     ) -> Reply
         requires reached { IsReached self.old }
-        requires for_requests { is_for_chips command ≡ false }
-        requires room { length out.old ≡ len }
-        ensures { (actor : ℕ) → StepsInto (checked actor place fd len command bytes.now part.now) self.old self.new result out.old out.new }
+        requires room { length out.old ≡ commanded.now.len }
+        ensures { (actor : ℕ) → let c = commanded.now in StepsInto (checked actor c.place c.fd c.len (request_command command) c.bytes.now c.part) self.old self.new result out.old out.new }
     {
-        match self.request_of_command(place, fd, len, command, part) {
+        match self.request_of_command(command.command(), commanded) {
             Err(errno) => Reply::Refused(errno),
-            Ok(found) => self.act_on_request(place, found, command, bytes, part, out),
+            Ok(found) => self.act_on_request(found, command, commanded, out),
         }
     }
 
-    /// What a command of requests does once its file, its buffer's length and its part are right.
+    /// What a command on a request does once its file, its buffer's length and its part are right.
     fn act_on_request(
         &mut self,
-        place: u8,
         found: RequestAt,
-        command: Command,
-        bytes: &[u8; LINE_REQUEST_SIZE],
-        part: &Part,
+        command: RequestCommand,
+        commanded: &Commanded<'_>,
         out: &mut [u8],
     ) -> Reply
         requires reached { IsReached self.old }
-        requires opened { IsOpenAt self.old place found }
-        requires for_requests { is_for_chips command ≡ false }
-        requires room { size_of command ≤ length out.old }
-        ensures { (actor : ℕ) → StepsInto (act_on actor place found.fd command (take (size_of command) bytes.now) part.now) self.old self.new result out.old out.new }
+        requires opened { IsOpenAt self.old commanded.now.place found }
+        requires room { size_of (request_command command) ≤ length out.old }
+        ensures { (actor : ℕ) → let c = commanded.now in
+            StepsInto (act_on actor c.place found.fd (request_command command) (take (size_of (request_command command)) c.bytes.now) c.part) self.old self.new result out.old out.new }
     {
+        let place = commanded.place;
+        let bytes = commanded.bytes;
         match command {
-            Command::SetConfig => self.set_config(place, found, bytes, part),
-            Command::GetValues => self.get_values(place, found, bytes, part, out),
-            Command::SetValues => self.set_values(place, found, bytes, part),
-            Command::ChipInfo
-            | Command::LineInfo
-            | Command::Watch
-            | Command::Unwatch
-            | Command::GetLine => Reply::Refused(Errno::Inval),
+            RequestCommand::SetConfig => self.set_config(place, found, bytes, &commanded.part),
+            RequestCommand::GetValues => {
+                self.get_values(place, found, bytes, &commanded.part, out)
+            }
+            RequestCommand::SetValues => self.set_values(place, found, bytes, &commanded.part),
         }
     }
 }

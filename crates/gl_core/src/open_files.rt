@@ -10,6 +10,7 @@ ghost use Rattle.gl_watch.specs.Files.{StandsAt};
 ghost use Rattle.gl_core.specs.OpenRequests.{IsOpenAt};
 ghost use Rattle.gl_core.specs.Steps.{Tells};
 
+use crate::commanded::Commanded;
 use crate::state::State;
 use gl_base::{Errno, FILES_MAX};
 use gl_model::Part;
@@ -87,23 +88,20 @@ impl State {
     /// shorter than the command's structure; `Inval` where the command hasn't this part.
     pub(crate) fn file_of_command(
         &self,
-        place: u8,
-        fd: u32,
-        len: u32,
         command: Command,
-        part: &Part,
+        commanded: &Commanded<'_>,
     ) -> Result<FileAt, Errno>
         requires { is_for_chips command ≡ true }
-        ensures number { IfOk result (λ found. found.fd ≡ fd) }
+        ensures number { IfOk result (λ found. found.fd ≡ commanded.now.fd) }
         ensures stands { IfOk result (λ found. StandsAt found self.now.files) }
-        ensures long { IfOk result (λ _. size_of command ≤ len) }
-        ensures part { IfOk result (λ _. has_part command part.now ≡ true) }
-        ensures passed { IfOk result (λ _. Tells (command_refusal place fd len command part.now) self.now None) }
-        ensures refused { IfErr result (λ errno. Tells (command_refusal place fd len command part.now) self.now (Some errno)) }
+        ensures long { IfOk result (λ _. size_of command ≤ commanded.now.len) }
+        ensures part { IfOk result (λ _. has_part command commanded.now.part ≡ true) }
+        ensures passed { let c = commanded.now in IfOk result (λ _. Tells (command_refusal c.place c.fd c.len command c.part) self.now None) }
+        ensures refused { let c = commanded.now in IfErr result (λ errno. Tells (command_refusal c.place c.fd c.len command c.part) self.now (Some errno)) }
     {
-        match self.open_chip_file(place, fd) {
+        match self.open_chip_file(commanded.place, commanded.fd) {
             Err(errno) => Err(errno),
-            Ok(found) => match part_refusal(len, command, part) {
+            Ok(found) => match part_refusal(command, commanded) {
                 Some(errno) => Err(errno),
                 None => Ok(found),
             },
@@ -115,22 +113,19 @@ impl State {
     /// shorter than the command's structure; `Inval` where the command hasn't this part.
     pub(crate) fn request_of_command(
         &self,
-        place: u8,
-        fd: u32,
-        len: u32,
         command: Command,
-        part: &Part,
+        commanded: &Commanded<'_>,
     ) -> Result<RequestAt, Errno>
         requires { is_for_chips command ≡ false }
-        ensures number { IfOk result (λ found. found.fd ≡ fd) }
-        ensures opened { IfOk result (IsOpenAt self.now place) }
-        ensures long { IfOk result (λ _. size_of command ≤ len) }
-        ensures passed { IfOk result (λ _. Tells (command_refusal place fd len command part.now) self.now None) }
-        ensures refused { IfErr result (λ errno. Tells (command_refusal place fd len command part.now) self.now (Some errno)) }
+        ensures number { IfOk result (λ found. found.fd ≡ commanded.now.fd) }
+        ensures opened { IfOk result (IsOpenAt self.now commanded.now.place) }
+        ensures long { IfOk result (λ _. size_of command ≤ commanded.now.len) }
+        ensures passed { let c = commanded.now in IfOk result (λ _. Tells (command_refusal c.place c.fd c.len command c.part) self.now None) }
+        ensures refused { let c = commanded.now in IfErr result (λ errno. Tells (command_refusal c.place c.fd c.len command c.part) self.now (Some errno)) }
     {
-        match self.open_request(place, fd) {
+        match self.open_request(commanded.place, commanded.fd) {
             Err(errno) => Err(errno),
-            Ok(found) => match part_refusal(len, command, part) {
+            Ok(found) => match part_refusal(command, commanded) {
                 Some(errno) => Err(errno),
                 None => Ok(found),
             },
@@ -175,15 +170,15 @@ fn is_place(place: u8, found: Option<u8>) -> bool
 }
 
 /// Why a command is refused whose file is of its kind.
-fn part_refusal(len: u32, command: Command, part: &Part) -> Option<Errno>
-    ensures told { result ≡ first_of (when (nat_lt len (size_of command)) Fault ∷ when (not (has_part command part.now)) Inval ∷ []) }
-    ensures long { IfNone result (size_of command ≤ len) }
-    ensures part { IfNone result (has_part command part.now ≡ true) }
+fn part_refusal(command: Command, commanded: &Commanded<'_>) -> Option<Errno>
+    ensures told { result ≡ first_of (when (nat_lt commanded.now.len (size_of command)) Fault ∷ when (not (has_part command commanded.now.part)) Inval ∷ []) }
+    ensures long { IfNone result (size_of command ≤ commanded.now.len) }
+    ensures part { IfNone result (has_part command commanded.now.part ≡ true) }
 {
-    if len < command.size() {
+    if commanded.len < command.size() {
         return Some(Errno::Fault);
     }
-    if !has_part(command, part) {
+    if !has_part(command, &commanded.part) {
         return Some(Errno::Inval);
     }
     None

@@ -8,6 +8,7 @@ ghost use Rattle.gl_model.specs.declared.call.Call.TheVariants.{Remove, Unplug};
 ghost use Rattle.gl_core.specs.Reached.{IsReached};
 ghost use Rattle.gl_core.specs.Steps.{StepsInto};
 
+use crate::commanded::Commanded;
 use crate::state::State;
 use gl_base::{Errno, Name};
 use gl_model::{Call, Gift, Reply};
@@ -52,7 +53,16 @@ impl State {
                 len,
                 bytes,
                 part,
-            } => { self.ioctl(actor, *place, *fd, *cmd, *len, bytes, part, gift, out) }
+            } => {
+                let commanded = Commanded {
+                    place: *place,
+                    fd: *fd,
+                    len: *len,
+                    bytes,
+                    part: *part,
+                };
+                self.ioctl(actor, *cmd, &commanded, gift, out)
+            }
             Call::ReadEdges { place, fd, len } => self.read_edges(*place, *fd, *len, out),
             Call::ReadInfo { place, fd, len } => self.read_info(*place, *fd, *len, out),
             Call::PollLine { place, fd } => self.poll_line(*place, *fd),

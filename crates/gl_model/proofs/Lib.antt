@@ -17,6 +17,7 @@ pub mod Claims
 pub mod Finishing
 pub mod FinishingCalls
 pub mod Written
+pub mod AskedFor
 pub mod SoundRequests
 pub mod BeginsOnce
 pub mod MachineLaws

@@ -13,7 +13,7 @@ use Rattle.gl_model.specs.declared.call.Part.TheVariants.{Whole, Ask, Tell}
 use Rattle.gl_model.specs.declared.gift.Gift.{Gift}
 use Rattle.gl_model.specs.declared.reply.Reply.{Reply}
 use Rattle.gl_model.specs.declared.reply.Reply.TheVariants.{Number, Go}
-use Rattle.gl_model.specs.AskedLines.{capacity_asked, request_fault}
+use Rattle.gl_model.specs.AskedLines.{asked_by, capacity_asked, request_fault}
 use Rattle.gl_model.specs.Entries.{is_get_line}
 
 -- a number of a place
@@ -50,18 +50,22 @@ FitsCall (PollChip place fd) = IsPlace place
 FitsCall (RefusedCall place poll) = IsPlace place
 FitsCall _ = Unit {0}
 
--- an ask of GET_LINE whose header and configuration have no fault brings an empty ring of the capacity that it states
-abbrev pub BringsRing : ℕ → List ℕ → Part → Gift → Type 0
-BringsRing cmd bytes Whole gift = Unit {0}
-BringsRing cmd bytes Ask gift =
-    is_get_line (command_of cmd) ≡ true → request_fault (take LINE_REQUEST_SIZE bytes) ≡ None
-    → gift.ring ≡ Some (buffer [] (capacity_asked (take LINE_REQUEST_SIZE bytes)))
-BringsRing cmd bytes (Tell answer) gift = Unit {0}
+-- What an ask of GET_LINE with this structure brings: what it asks for, exactly where its header and configuration have no fault,
+-- and then an empty ring of the capacity that it states.
+pub record HoldsRequest (bytes : List ℕ) (gift : Gift) : Type 0 where
+  pub asked : gift.asked ≡ asked_by bytes
+  pub ring : request_fault bytes ≡ None → gift.ring ≡ Some (buffer [] (capacity_asked bytes))
 
--- an open brings an empty queue, and an ask of GET_LINE its ring
+-- the ask of a command brings its request where it is one of GET_LINE
+abbrev pub BringsRequest : ℕ → List ℕ → Part → Gift → Type 0
+BringsRequest cmd bytes Whole gift = Unit {0}
+BringsRequest cmd bytes Ask gift = is_get_line (command_of cmd) ≡ true → HoldsRequest (take LINE_REQUEST_SIZE bytes) gift
+BringsRequest cmd bytes (Tell answer) gift = Unit {0}
+
+-- an open brings an empty queue, and an ask of GET_LINE its request
 abbrev pub FitsGift : Call → Gift → Type 0
 FitsGift (OpenChip word) gift = gift.queue ≡ Some []
-FitsGift (Ioctl place fd cmd len bytes part) gift = BringsRing cmd bytes part gift
+FitsGift (Ioctl place fd cmd len bytes part) gift = BringsRequest cmd bytes part gift
 FitsGift _ gift = Unit {0}
 
 -- The buffer has the length that the call names: two bytes for the first call of a removal. That of a command begins with
@@ -81,7 +85,7 @@ pub record Fits (call : Call) (gift : Gift) (out : List ℕ) : Type 0 where
   pub buffer_fits : FitsBuffer call out
 
 -- What is left of a gift after a call with this reply: an open that was answered took the queue, an ask of GET_LINE that was
--- answered Go took the ring, and every other call leaves the gift as it was.
+-- answered Go took the ring, and leaves what it asks for; every other call leaves the gift as it was.
 abbrev pub gift_left : Call → Reply → Gift → Gift
 gift_left (OpenChip word) (Number fd) gift = record gift { queue = None }
 gift_left (Ioctl place fd cmd len bytes Ask) (Go number) gift = if is_get_line (command_of cmd) then record gift { ring = None } else gift

@@ -3,17 +3,21 @@
 #![tactic(auto)]
 
 pub mod answers;
+mod asked;
 mod call;
 mod device_call;
 mod gift;
 mod image;
 pub mod laws;
+mod parsed_request;
 mod place;
 mod reply;
 
+pub use asked::{Asked, request_fault};
 pub use call::{Call, Part};
 pub use device_call::{CommandIn, DeviceCall, RemovalOf};
 pub use gift::Gift;
 pub use image::Image;
+pub use parsed_request::lines_in;
 pub use place::{Origin, Place};
 pub use reply::Reply;

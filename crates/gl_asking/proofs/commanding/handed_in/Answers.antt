@@ -1,5 +1,5 @@
-use Rattle.gl_asking.proofs.HandedBytes.{copied_is}
+use Rattle.gl_asking.proofs.HandedBytes.{chunk_is_handed}
 use Rattle.gl_asking.proofs.commanding.handed_in.Goals as goal
 
-pub returns : goal.returns
-returns c = copied_is _ c.args.buffer.now c.copy_from_slice.new.self c.min-count.ensures c.copy_from_slice.ensures.after
+pub returns-in-Some : goal.returns-in-Some
+returns-in-Some c = chunk_is_handed c.args.buffer.now c.in-Some.whole.now c.in-Some.ensures.cases.enough c.in-Some.ensures.cases.same

@@ -1,33 +1,34 @@
 use Rattle.std.proofs.Common.{take, sym, subst}
 use Rattle.gl_uapi.specs.Command.{size_of}
-use Rattle.gl_uapi.specs.declared.commands.Command.{Command}
 use Rattle.gl_uapi.specs.declared.layout.TheConstants.{LINE_CONFIG_SIZE, LINE_VALUES_SIZE}
 use Rattle.gl_model.specs.Configuring.{set_config}
 use Rattle.gl_model.specs.Ioctl.{act_on}
 use Rattle.gl_model.specs.OpenFiles.{on_request}
 use Rattle.gl_model.specs.Values.{set_values}
 use Rattle.gl_model.specs.World.{request_at}
+use Rattle.gl_core.specs.Commanded.{request_command}
+use Rattle.gl_core.specs.declared.commanded.RequestCommand.{RequestCommand}
 use Rattle.gl_core.specs.Steps.{StepsInto}
 use Rattle.gl_core.proofs.Silent.{config_silent, silent, values_silent}
 use Rattle.gl_core.proofs.state.State.act_on_request.Goals as goal
 
 pub returns-in-SetConfig : goal.returns-in-SetConfig
 returns-in-SetConfig c actor =
-    let bytes = take LINE_CONFIG_SIZE c.args.bytes.now in
-    let P : Command → Type 0 = λ command. StepsInto (act_on actor c.args.place c.args.found.fd command (take (size_of command) c.args.bytes.now) c.args.part.now) c.args.self.now c.set_config.new.self c.set_config.result c.args.out.now c.args.out.now in
+    let bytes = take LINE_CONFIG_SIZE c.args.commanded.now.bytes.now in
+    let P : RequestCommand → Type 0 = λ command. StepsInto (act_on actor c.args.commanded.now.place c.args.found.fd (request_command command) (take (size_of (request_command command)) c.args.commanded.now.bytes.now) c.args.commanded.now.part) c.args.self.now c.set_config.new.self c.set_config.result c.args.out.now c.args.out.now in
     subst P (sym c.in-SetConfig.is)
-    (silent (λ w. on_request (set_config c.args.place c.args.found.fd bytes c.args.part.now) (request_at w.requests c.args.found.fd) w) c.args.self.now c.set_config.new.self c.set_config.result c.args.out.now
-    (λ w. config_silent c.args.place c.args.found.fd bytes c.args.part.now (request_at w.requests c.args.found.fd) w) c.set_config.ensures)
+    (silent (λ w. on_request (set_config c.args.commanded.now.place c.args.found.fd bytes c.args.commanded.now.part) (request_at w.requests c.args.found.fd) w) c.args.self.now c.set_config.new.self c.set_config.result c.args.out.now
+    (λ w. config_silent c.args.commanded.now.place c.args.found.fd bytes c.args.commanded.now.part (request_at w.requests c.args.found.fd) w) c.set_config.ensures)
 
 pub returns-in-GetValues : goal.returns-in-GetValues
 returns-in-GetValues c actor =
-    let P : Command → Type 0 = λ command. StepsInto (act_on actor c.args.place c.args.found.fd command (take (size_of command) c.args.bytes.now) c.args.part.now) c.args.self.now c.args.self.now c.get_values.result c.args.out.now c.get_values.new.out in
+    let P : RequestCommand → Type 0 = λ command. StepsInto (act_on actor c.args.commanded.now.place c.args.found.fd (request_command command) (take (size_of (request_command command)) c.args.commanded.now.bytes.now) c.args.commanded.now.part) c.args.self.now c.args.self.now c.get_values.result c.args.out.now c.get_values.new.out in
     subst P (sym c.in-GetValues.is) c.get_values.ensures
 
 pub returns-in-SetValues : goal.returns-in-SetValues
 returns-in-SetValues c actor =
-    let bytes = take LINE_VALUES_SIZE c.args.bytes.now in
-    let P : Command → Type 0 = λ command. StepsInto (act_on actor c.args.place c.args.found.fd command (take (size_of command) c.args.bytes.now) c.args.part.now) c.args.self.now c.set_values.new.self c.set_values.result c.args.out.now c.args.out.now in
+    let bytes = take LINE_VALUES_SIZE c.args.commanded.now.bytes.now in
+    let P : RequestCommand → Type 0 = λ command. StepsInto (act_on actor c.args.commanded.now.place c.args.found.fd (request_command command) (take (size_of (request_command command)) c.args.commanded.now.bytes.now) c.args.commanded.now.part) c.args.self.now c.set_values.new.self c.set_values.result c.args.out.now c.args.out.now in
     subst P (sym c.in-SetValues.is)
-    (silent (λ w. on_request (set_values c.args.place bytes c.args.part.now) (request_at w.requests c.args.found.fd) w) c.args.self.now c.set_values.new.self c.set_values.result c.args.out.now
-    (λ w. values_silent c.args.place bytes c.args.part.now (request_at w.requests c.args.found.fd) w) c.set_values.ensures)
+    (silent (λ w. on_request (set_values c.args.commanded.now.place bytes c.args.commanded.now.part) (request_at w.requests c.args.found.fd) w) c.args.self.now c.set_values.new.self c.set_values.result c.args.out.now
+    (λ w. values_silent c.args.commanded.now.place bytes c.args.commanded.now.part (request_at w.requests c.args.found.fd) w) c.set_values.ensures)

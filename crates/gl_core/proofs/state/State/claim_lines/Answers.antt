@@ -1,22 +1,19 @@
-use Rattle.std.proofs.Common.{◌≡◌, List, length, [], ap, sym, subst, ◌∙◌}
-use Rattle.circular_buffer.specs.Buffer.{buffer}
+use Rattle.std.proofs.Common.{List, sym, subst}
 use Rattle.gl_base.specs.Lines.{offsets_of}
 use Rattle.gl_desc.specs.Desc.{claimed}
-use Rattle.gl_model.specs.AskedLines.{AskedLines}
-use Rattle.gl_model.specs.Claiming.{claim_lines}
 use Rattle.gl_model.specs.declared.place.Place.{Place}
 use Rattle.gl_core.specs.Claims.{AreFree, NumbersAreBelow}
 use Rattle.gl_core.specs.Kept.{Kept, StandsFor}
 use Rattle.gl_core.specs.Shape.{IsShaped}
 use Rattle.gl_core.specs.View.{view_of}
-use Rattle.gl_core.proofs.Claims.{claim_stands, with_claim}
+use Rattle.gl_core.proofs.Claims.{claim_stands}
 use Rattle.gl_core.proofs.Shapes.{shape_with_descs}
 use Rattle.gl_core.proofs.state.State.claim_lines.Goals as goal
 
 pub invariant_of-self : goal.invariant_of-self
 invariant_of-self c = (
   subst (λ (ps : List Place). IsShaped c.self.inside.chips c.self.inside.origins.items ps) (sym c.claim.ensures)
-      (shape_with_descs c.self.inside.chips c.self.inside.origins.items c.self.inside.places c.args.place (offsets_of c.asked.inside.lines) (claimed c.self.inside.next c.asked.inside.consumer) c.self.invariant.0),
+      (shape_with_descs c.self.inside.chips c.self.inside.origins.items c.self.inside.places c.args.place (offsets_of c.lines-lines.result.now) (claimed c.self.inside.next c.consumer.result) c.self.invariant.0),
   c.self.invariant.1,
 )
 
@@ -31,8 +28,5 @@ returns c w s =
     let k : Kept = view_of c.self.inside in
     let before : StandsFor k w = subst (λ k. StandsFor k w) (sym c.self.view_is) s in
     let free : AreFree k c.args.place c.args.asked.now = subst (λ k. AreFree k c.args.place c.args.asked.now) (sym c.self.view_is) c.requires.may.free in
-    let size : length c.args.asked.now.lines.offsets ≡ 64 = ap (λ (a : AskedLines). length a.lines.offsets) (sym c.asked.view_is) ∙ c.asked.invariant.1 in
-    let ring : c.args.ring ≡ buffer [] c.asked.inside.capacity = c.requires.ring ∙ ap (λ (a : AskedLines). buffer [] a.capacity) (sym c.asked.view_is) in
-    rw (c.claim.ensures, c.claim-2.ensures, ring)
-    (subst (λ (a : AskedLines). StandsFor (with_claim c.args.place c.args.actor a k) (claim_lines c.args.place c.args.actor c.args.asked.now w)) (sym c.asked.view_is)
-    (claim_stands k w c.args.place c.args.actor c.args.asked.now before size c.requires.lines free))
+    rw (c.claim.ensures, c.claim-2.ensures, c.lines-lines.ensures.lines, c.consumer.ensures, c.settings.ensures.settings, c.requires.ring)
+    (claim_stands k w c.args.place c.args.actor c.args.asked.now before c.lines-lines.ensures.size c.requires.lines free)

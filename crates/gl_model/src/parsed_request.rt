@@ -3,7 +3,7 @@
 ghost use Rattle.std.specs.Prelude.{◌≡◌, ◌≤◌, None, Some, IfErr, IfOk, take};
 ghost use Rattle.gl_ring.specs.declared.ring.TheConstants.{RING_EVENTS_MAX};
 ghost use Rattle.gl_base.specs.Lines.{IsLineCount};
-ghost use Rattle.gl_model.specs.AskedLines.{asked_in, capacity_for, lines_asked, num_lines, request_fault};
+ghost use Rattle.gl_model.specs.AskedLines.{asked_in, capacity_for, lines_asked, request_fault};
 
 use gl_attrs::resolve;
 use gl_base::{Errno, LINES_PER_REQUEST, Lines, Name, Resolved};
@@ -12,9 +12,9 @@ use gl_uapi::RequestRef;
 use gl_uapi::layout::LINE_REQUEST_SIZE;
 use std::marker::Model;
 
-/// What a request asks for. It has 1 to 64 lines, and asks for room for 1 to 1024 events.
+/// What a request asks for. It has 1 to 64 lines, as many settings, and asks for room for 1 to 1024 events.
 #[derive(Drop)]
-pub struct ParsedRequest {
+pub(crate) struct ParsedRequest {
     pub(crate) lines: Lines,
     pub(crate) consumer: Name,
     pub(crate) settings: Resolved,
@@ -32,30 +32,19 @@ impl Model for ParsedRequest {
 
     ghost view = { λ a. record { lines = a.lines; consumer = a.consumer; settings = a.settings; capacity = a.capacity } };
 
-    ghost invariant = { λ a. IsLineCount a.lines.count × (length a.lines.offsets ≡ LINES_PER_REQUEST) × (1 ≤ a.capacity) × (a.capacity ≤ RING_EVENTS_MAX) };
+    ghost invariant = { λ a. IsLineCount a.lines.count × (length a.lines.offsets ≡ LINES_PER_REQUEST) × (a.settings.count ≡ a.lines.count) × (1 ≤ a.capacity) × (a.capacity ≤ RING_EVENTS_MAX) };
 }
 
 impl ParsedRequest {
-    ghost use Rattle.gl_ring.specs.declared.ring.TheConstants.{RING_EVENTS_MAX};
-
     /// What the bytes of a request ask for, or why they alone have it refused, first case first: `Inval` where they ask for no
     /// line or for more than 64, and where their padding isn't zero; then what is wrong with the configuration of the lines.
-    pub fn of(bytes: &[u8; LINE_REQUEST_SIZE]) -> Result<ParsedRequest, Errno>
+    pub(crate) fn of(bytes: &[u8; LINE_REQUEST_SIZE]) -> Result<ParsedRequest, Errno>
         ensures ok { IfOk result (λ asked. asked ≡ asked_in (take LINE_REQUEST_SIZE bytes.now)) }
         ensures lines { IfOk result (λ asked. IsLineCount asked.lines.count) }
         ensures passed { IfOk result (λ _. request_fault (take LINE_REQUEST_SIZE bytes.now) ≡ None) }
         ensures refused { IfErr result (λ errno. request_fault (take LINE_REQUEST_SIZE bytes.now) ≡ Some errno) }
     {
         asked_in(&RequestRef::of(bytes).unwrap())
-    }
-
-    /// For how many events the request asks for room, 1 to 1024.
-    pub fn capacity(&self) -> u32
-        ensures capacity { result ≡ self.now.capacity }
-        ensures some { 1 ≤ result }
-        ensures few { result ≤ RING_EVENTS_MAX }
-    {
-        self.capacity
     }
 }
 
@@ -76,7 +65,7 @@ fn asked_in(request: &RequestRef<'_>) -> Result<ParsedRequest, Errno>
     match resolve(request.config(), count) {
         Err(errno) => Err(errno),
         Ok(settings) => Ok(ParsedRequest {
-            lines: lines_asked(request, count),
+            lines: lines_in(request),
             consumer: Name::read(request.consumer()),
             settings,
             capacity: capacity_for(count, request.event_buffer_size()),
@@ -84,16 +73,18 @@ fn asked_in(request: &RequestRef<'_>) -> Result<ParsedRequest, Errno>
     }
 }
 
-/// The lines that a request names, in order.
-fn lines_asked(request: &RequestRef<'_>, count: u32) -> Lines
-    requires { count ≡ num_lines request.now }
+/// The lines that a request names, in order, as many as its bytes say.
+pub fn lines_in(request: &RequestRef<'_>) -> Lines
     ensures { result ≡ lines_asked request.now }
 {
     let mut offsets = [0; LINES_PER_REQUEST as usize];
     for i in 0..LINES_PER_REQUEST {
         offsets[i as usize] = request.offset(i);
     }
-    Lines { count, offsets }
+    Lines {
+        count: request.num_lines(),
+        offsets,
+    }
 }
 
 /// For how many events there is room: as many as are asked for, at most 1024; where none are asked for, 16 a line.
