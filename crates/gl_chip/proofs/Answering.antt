@@ -5,6 +5,7 @@ use Rattle.std.proofs.lemmas.Bool.{true≢false}
 use Rattle.gl_base.specs.Count.{Rises}
 use Rattle.gl_base.specs.declared.errno.Errno.{Errno}
 use Rattle.gl_base.specs.declared.errno.Errno.TheVariants.{Io, NoDev}
+use Rattle.gl_driver.specs.declared.map.Map.{Map}
 use Rattle.gl_driver.specs.Told.{Told}
 use Rattle.gl_base.specs.declared.op.Op.{Op}
 use Rattle.gl_uapi.specs.Command.{command_of, size_of}
@@ -38,7 +39,7 @@ use Rattle.gl_chip.specs.Answering.{AnswersInOrder, AtFirst, AtLast, ConfigRefus
 use Rattle.gl_chip.specs.Called.{HasCalled, first_entry, last_entry}
 use Rattle.gl_chip.specs.DriverCommands.{HasCommanded, PortOf, WasAsked, is_asked}
 use Rattle.gl_asking.specs.Results.{value_of}
-use Rattle.gl_chip.specs.Values.{ActorValue, IsIdle, OneView}
+use Rattle.gl_chip.specs.Values.{ActorValue, FollowsRelation, IsIdle, OneView, OwnRelation}
 use Rattle.gl_core.specs.Device.{OneEntry, core}
 use Rattle.gl_chip.proofs.CommandCalls.{go_is, last_entry_on, last_reply_snoc}
 use Rattle.gl_chip.proofs.CommandResults.{entry_or}
@@ -237,8 +238,8 @@ abbrev is_some_answer : Option ℕ → Bool
 is_some_answer (Some bits) = true
 is_some_answer None = false
 
-module _ {P : Type 0} (told : P → Option Told) (faults : P → ℕ) (Own : P → ℕ → Op → List OneEntry → Type 0) (limit : ℕ) (planned : Bool) {X : Type 0} (value : Reply → X) where
-  module _ (result : Result X Errno) (op : Option Op) (a b : ActorValue P) (c : CommandIn) (reply : Reply) (bytes : List ℕ) (did : HasCommanded told faults Own limit planned op a c reply bytes b)
+module _ {P : Type 0} (told : P → Option Told) (faults : P → ℕ) (maps : P → List Map) (maps_left : P → ℕ) (Own : OwnRelation) (Follows : FollowsRelation) (limit : ℕ) {X : Type 0} (value : Reply → X) where
+  module _ (result : Result X Errno) (op : Option Op) (a b : ActorValue P) (c : CommandIn) (reply : Reply) (bytes : List ℕ) (did : HasCommanded told faults maps maps_left Own Follows limit op a c reply bytes b)
       (is : result ≡ value_of value reply) (asks : is_driver_asked c.of_chip c.len (command_of c.cmd) ≡ true) (let_in : result ≢ Err NoDev) where
     abbrev n : ℕ
     n = a.pass.view.number
@@ -255,8 +256,8 @@ module _ {P : Type 0} (told : P → Option Told) (faults : P → ℕ) (Own : P �
     -- a failure of the driver is counted
     failed : AskedAndTold n c did.called.answer did.called.own made reply → did.called.answer ≡ None → Counted
     failed both none =
-        let was : WasAsked told faults Own limit planned op c.place did.called.answer did.called.own a.port b.port =
-        subst (λ (l : List OneEntry). PortOf told faults Own limit planned (is_asked l) op c.place did.called.answer did.called.own a.port b.port) both.is did.port in was.counted none
+        let was : WasAsked told faults maps maps_left Own Follows limit op c.place did.called.answer did.called.own a.pass.view.room (length did.called.last.at.0) a.port b.port =
+        subst (λ (l : List OneEntry). PortOf told faults maps maps_left Own Follows limit (is_asked l) op c.place did.called.answer did.called.own a.pass.view.room (length did.called.last.at.0) a.port b.port) both.is did.port in was.counted none
 
     last_of_two : AskedAndTold n c did.called.answer did.called.own made reply → LastTold b.pass.view (entry n (in_tell did.called.answer c) reply)
     last_of_two both = last_told limit a.pass.view b.pass.view c reply bytes did.called (entry n (in_tell did.called.answer c) reply)

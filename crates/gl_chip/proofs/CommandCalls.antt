@@ -1,19 +1,20 @@
 -- A command that asks the driver, as a whole call of the device.
-use Rattle.std.proofs.Common.{◌≡◌, ◌≢◌, ℕ, ◌<◌, ◌≤◌, List, [], ◌∷◌, ◌++◌, length, take, drop, sym, refl, ap, ◌∙◌, subst, arith, Bool, true, false, Option, Some, None, Result, Ok, Err, IfOk, IfErr, inl, inr}
-use Rattle.std.specs.Prelude.{IfSome}
+use Rattle.std.proofs.Common.{◌≡◌, ◌≢◌, ℕ, suc, ◌+◌, ◌<◌, ◌≤◌, List, [], ◌∷◌, ◌++◌, length, length-append, take, drop, sym, refl, ap, ◌∙◌, subst, arith, Bool, true, false, Option, Some, None, Result, Ok, Err, IfOk, IfErr, inl, inr}
 use Rattle.std.proofs.lemmas.Bool.{true≢false}
 use Rattle.std.proofs.lemmas.List.{append_assoc, append-nil}
 use Rattle.gl_base.specs.Count.{Rises}
 use Rattle.gl_base.specs.declared.errno.Errno.{Errno}
 use Rattle.gl_base.specs.declared.errno.Errno.TheVariants.{Full, Io, NoDev}
-use Rattle.gl_driver.specs.Calls.{FitsOp}
-use Rattle.gl_driver.specs.Told.{Told, faults_after, planned_for, with_call}
+use Rattle.gl_driver.specs.declared.map.Map.{Map}
+use Rattle.gl_driver.specs.Calls.{Drives, FitsOp}
+use Rattle.gl_driver.specs.Maps.{map_for}
+use Rattle.gl_driver.specs.Told.{Told, faults_after}
 use Rattle.gl_base.specs.declared.op.Op.{Op}
 use Rattle.gl_uapi.specs.Command.{command_of}
 use Rattle.gl_uapi.specs.declared.commands.Command.{Command}
 use Rattle.gl_uapi.specs.declared.commands.Command.TheVariants.{ChipInfo, LineInfo, Watch, Unwatch, GetLine, SetConfig, GetValues, SetValues}
 use Rattle.gl_uapi.specs.declared.layout.TheConstants.{LINE_REQUEST_SIZE}
-use Rattle.gl_world.specs.Deeds.{entries_in}
+use Rattle.gl_world.specs.Deeds.{deeds_of, entries_in}
 use Rattle.gl_world.specs.History.{Answered, Legal, StartsWith, entry, entries_of, fold}
 use Rattle.gl_world.proofs.Deeds.{entries_in_append}
 use Rattle.gl_world.proofs.Histories.{answered_prefix, answered_rest, placed_prefix}
@@ -47,12 +48,12 @@ use Rattle.gl_model.proofs.IoCauses.{io_has_cause}
 use Rattle.gl_model.proofs.Replies.{replies_have_form}
 use Rattle.gl_core.specs.Device.{OneDeed, OneEntry, core, last_bytes}
 use Rattle.gl_chip.specs.Called.{last_entry}
-use Rattle.gl_chip.specs.DriverCommands.{CommandedInside, HasCommanded, IoComesOf, IsOp, PortOf}
+use Rattle.gl_chip.specs.DriverCommands.{CommandedInside, HasCommanded, IoComesOf, IsOp, PortOf, is_asked}
 use Rattle.gl_asking.specs.Handed.{command_in}
 use Rattle.gl_asking.proofs.HandedBytes.{handed_fits, handed_start}
 use Rattle.gl_base.specs.declared.limits.TheConstants.{PLACES}
-use Rattle.gl_chip.specs.Steps.{CalledOnce, Drove, EndsWith, IsAsk, IsTell, StoodFull, deed_of}
-use Rattle.gl_chip.specs.Values.{ActorValue, IsIdle, MayOwn, OneView}
+use Rattle.gl_chip.specs.Steps.{CalledOnce, EndsWith, IsAsk, IsTell, StoodFull, deed_of}
+use Rattle.gl_chip.specs.Values.{ActorValue, FollowsRelation, IsIdle, MayOwn, OneView, OwnRelation}
 use Rattle.gl_chip.proofs.GateSteps.{knows_on, knows_same}
 use Rattle.gl_chip.proofs.WholeCalls.{idle_called, idle_still, none_not_some, place_or}
 
@@ -172,10 +173,24 @@ pub fits_after_go : (v w : OneView) (c : CommandIn) (op : Option Op) (reply : Re
     → ((world : World) (actor n : ℕ) → core.reply_of world actor (in_ask c) ≡ Go n → IsOp op) → IsOp op
 fits_after_go v w c op reply old new step go fits = let g = go_is reply go in let a = step.answered in fits (fold core a.before) v.number g.0 (sym a.reply_is ∙ g.1)
 
-module _ {P : Type 0} (told : P → Option Told) (faults : P → ℕ) (Own : P → ℕ → Op → List OneEntry → Type 0) (limit : ℕ) (planned : Bool) where
+-- a pass does as many deeds as it makes entries
+entries_length : (did : List OneDeed) → length (entries_in did) ≡ length did
+entries_length [] = refl
+entries_length (d ∷ ds) = let e = entries_length ds in omega (arith, e)
+
+-- before the last entry stand at least those that its pass had seen when it made it
+fewer_by : (n : ℕ) (v : List OneEntry) (d : OneDeed) (rest before : List OneEntry) (e : OneEntry) → v ++ rest ≡ before ++ e ∷ [] → deeds_of core n (v ++ rest) ≡ deeds_of core n v ++ d ∷ [] → length v ≤ length before
+fewer_by n v d [] before e at did = let same : deeds_of core n v ≡ deeds_of core n v ++ d ∷ [] = ap (λ l. deeds_of core n l) (sym (append-nil v)) ∙ did in
+    let long : length (deeds_of core n v) ≡ length (deeds_of core n v) + 1 = ap (λ l. length l) same ∙ length-append (deeds_of core n v) (d ∷ []) in absurd (omega arith)
+fewer_by n v d (x ∷ xs) before e at did = let long : length v + suc (length xs) ≡ length before + 1 = sym (length-append v (x ∷ xs)) ∙ (ap (λ l. length l) at ∙ length-append before (e ∷ [])) in omega arith
+
+saw_fewer : (u x : OneView) (d : OneDeed) (e : OneEntry) → Grew core u (d ∷ []) x → (last : EndsWith x.seen e) → length u.seen ≤ length last.0
+saw_fewer u x d e grew last = fewer_by u.number u.seen d grew.seen.0 last.0 e (sym grew.seen.1 ∙ last.1) (ap (λ l. deeds_of core u.number l) (sym grew.seen.1) ∙ grew.deeds)
+
+module _ {P : Type 0} (told : P → Option Told) (faults : P → ℕ) (maps : P → List Map) (maps_left : P → ℕ) (Own : OwnRelation) (Follows : FollowsRelation) (limit : ℕ) where
   -- the driver wasn't asked
   pub not_asked : (op : Option Op) (v w : OneView) (p : P) (c : CommandIn) (reply : Reply) (old new : List ℕ) → CalledOnce core v (in_ask c) reply old new w → is_go reply ≡ false
-      → CommandedInside told faults Own limit planned op v p c reply old new w p
+      → CommandedInside told faults maps maps_left Own Follows limit op v p c reply old new w p
   not_asked op v w p c reply old new step unasked = record {
     answer = None;
     own = [];
@@ -189,7 +204,7 @@ module _ {P : Type 0} (told : P → Option Told) (faults : P → ℕ) (Own : P �
     legal = step.legal;
     reply_is = refl;
     bytes = step.bytes;
-    port = subst (λ b. PortOf told faults Own limit planned b op c.place None [] p p) (sym unasked) refl;
+    port = subst (λ b. PortOf told faults maps maps_left Own Follows limit b op c.place None [] v.room (length step.last.0) p p) (sym unasked) refl;
     never_falls = omega arith;
     io = λ is. io_asked (Rises (faults p) (faults p)) (fold core step.last.0) c.place c.fd (command_of c.cmd) c.bytes
         (io_has_cause (fold core step.last.0) v.number c.place c.fd c.cmd c.len c.bytes Ask (sym (answered_last v w (in_ask c) reply step.last step.legal) ∙ is));
@@ -199,27 +214,31 @@ module _ {P : Type 0} (told : P → Option Told) (faults : P → ℕ) (Own : P �
   }
 
   -- it was asked, and the machine told
-  pub asked_and_told : (op : Option Op) (asked_for : Op) (v w u x : OneView) (p q : P) (c : CommandIn) (first : Reply) (answer : Option ℕ) (own : List OneEntry) (did : List OneDeed) (reply : Reply) (old mid new : List ℕ)
-      → CalledOnce core v (in_ask c) first old mid w → is_go first ≡ true → op ≡ Some asked_for → FitsOp asked_for → Own p c.place asked_for own → MayOwn own → Drove core limit w own did u → CalledOnce core u (in_tell answer c) reply mid new x
-      → told q ≡ with_call asked_for answer (told p) → faults p ≤ faults q → (answer ≡ None → Rises (faults p) (faults q)) → faults q ≡ faults_after answer (faults p) → (planned ≡ true → IfSome (told p) (λ t. answer ≡ planned_for asked_for t))
-      → CommandedInside told faults Own limit planned op v p c reply old new x q
-  asked_and_told op asked_for v w u x p q c first answer own did reply old mid new step go this fits its may drove last told_then never counted after plan =
-      let number : u.number ≡ v.number = drove.grew.number ∙ step.grew.number in
+  pub asked_and_told : (op : Option Op) (asked_for : Op) (v w u x : OneView) (p q : P) (c : CommandIn) (first : Reply) (answer : Option ℕ) (reply : Reply) (old mid new : List ℕ)
+      → CalledOnce core v (in_ask c) first old mid w → is_go first ≡ true → op ≡ Some asked_for → FitsOp asked_for
+      → (drives : Drives core limit Own Follows (map_for limit c.place (maps p)) asked_for (told p) (told q) answer w u) → MayOwn (entries_in drives.did) → CalledOnce core u (in_tell answer c) reply mid new x
+      → maps q ≡ maps p → maps_left q ≡ maps_left p → faults p ≤ faults q → (answer ≡ None → Rises (faults p) (faults q)) → faults q ≡ faults_after answer (faults p)
+      → CommandedInside told faults maps maps_left Own Follows limit op v p c reply old new x q
+  asked_and_told op asked_for v w u x p q c first answer reply old mid new step go this fits drives may last same_maps same_left never counted after =
+      let did : List OneDeed = drives.did in
+      let own : List OneEntry = entries_in did in
+      let grew = drives.back.grew in
+      let number : u.number ≡ v.number = grew.number ∙ step.grew.number in
       let second : OneEntry = entry v.number (in_tell answer c) reply in
       let told_deed : OneDeed = deed_of v.number (in_tell answer c) reply last.wrote in
       let ask_deed : OneDeed = deed_of v.number (in_ask c) first step.wrote in
-      let entries : entries_in (did ++ told_deed ∷ []) ≡ own ++ second ∷ [] = entries_in_append did (told_deed ∷ []) ∙ ap (λ l. l ++ second ∷ []) drove.own_are in
+      let entries : entries_in (did ++ told_deed ∷ []) ≡ own ++ second ∷ [] = entries_in_append did (told_deed ∷ []) in
       let ends : EndsWith x.seen second = (last.last.0, last.last.1 ∙ ap (λ n. last.last.0 ++ entry n (in_tell answer c) reply ∷ []) number) in
       let answered : reply ≡ core.reply_of (fold core ends.0) v.number (in_tell answer c) = answered_last v x (in_tell answer c) reply ends last.legal in
-      let seen : StartsWith x.seen w.seen = begins_further x.seen u.seen w.seen last.grew.seen drove.grew.seen in
+      let seen : StartsWith x.seen w.seen = begins_further x.seen u.seen w.seen last.grew.seen grew.seen in
       record {
         answer = answer;
         own = own;
         did = ask_deed ∷ (did ++ told_deed ∷ []);
         makes = (first, own ++ second ∷ [], ap (λ l. entry v.number (in_ask c) first ∷ l) entries, subst (λ b. MakesRest {M = Kept} v.number b (in_tell answer c) own (own ++ second ∷ [])) (sym go) (reply, refl));
-        few_own = drove.few_own;
+        few_own = let few = drives.few in let same = entries_length did in omega (arith, few, same);
         may_own = may;
-        grew = grows_on core v w x (ask_deed ∷ []) (did ++ told_deed ∷ []) step.grew (grows_on core w u x did (told_deed ∷ []) drove.grew (subst (λ n. Grew core u (deed_of n (in_tell answer c) reply last.wrote ∷ []) x) number last.grew));
+        grew = grows_on core v w x (ask_deed ∷ []) (did ++ told_deed ∷ []) step.grew (grows_on core w u x did (told_deed ∷ []) grew (subst (λ n. Grew core u (deed_of n (in_tell answer c) reply last.wrote ∷ []) x) number last.grew));
         last = record { last = second; is_last = ap (λ l. last_entry (entry v.number (in_ask c) first ∷ l)) entries ∙ last_entry_on (entry v.number (in_ask c) first) own second; at = ends };
         had_room = record {
           first = entry v.number (in_ask c) first;
@@ -233,7 +252,21 @@ module _ {P : Type 0} (told : P → Option Told) (faults : P → ℕ) (Own : P �
         legal = last.legal;
         reply_is = ap (λ l. last_reply (entry v.number (in_ask c) first ∷ l)) entries ∙ last_reply_snoc (entry v.number (in_ask c) first ∷ own) second;
         bytes = subst (λ (l : List ℕ). new ≡ l ++ drop (length l) old) (sym (last_bytes_snoc (ask_deed ∷ did) told_deed)) (subst (λ (m : List ℕ). new ≡ last.wrote ++ drop (length last.wrote) m) (go_left_buffer v w c first old mid step go) last.bytes);
-        port = subst (λ b. PortOf told faults Own limit planned b op c.place answer own p q) (sym go) record { asked_for = asked_for; is_this = this; told_then = told_then; own_entries = its; counted = counted; as_planned = plan; count_after = after };
+        port = subst (λ b. PortOf told faults maps maps_left Own Follows limit b op c.place answer own v.room (length last.last.0) p q) (sym go) record {
+          asked_for = asked_for;
+          is_this = this;
+          did = did;
+          did_own = refl;
+          seen = length u.seen;
+          seen_before = saw_fewer u x (deed_of u.number (in_tell answer c) reply last.wrote) (entry u.number (in_tell answer c) reply) last.grew last.last;
+          own_entries = drives.own;
+          follows = subst (λ k. Follows (map_for limit c.place (maps p)) (told p) asked_for did k (length u.seen) answer) step.grew.room drives.follows;
+          told_then = drives.told;
+          counted = counted;
+          count_after = after;
+          same_maps = same_maps;
+          same_left = same_left;
+        };
         never_falls = never;
         io = λ is. io_told (Rises (faults p) (faults q)) answer (fold core ends.0) c.place c.fd (command_of c.cmd) c.bytes counted
             (io_has_cause (fold core ends.0) v.number c.place c.fd c.cmd c.len c.bytes (Tell answer) (sym answered ∙ is));
@@ -243,14 +276,14 @@ module _ {P : Type 0} (told : P → Option Told) (faults : P → ℕ) (Own : P �
               (subst (λ r. has_form (in_tell answer c) r ≡ true) (sym answered ∙ is) (replies_have_form.form (fold core ends.0) v.number (in_tell answer c))),
           subst (λ (o : Option Op). IsOp o) (sym this) fits,
         );
-        knows_as_much = knows_on v w x (knows_same v w step.same.closed step.same.drained) (knows_on w u x drove.knows_as_much (knows_same u x last.same.closed last.same.drained));
+        knows_as_much = knows_on v w x (knows_same v w step.same.closed step.same.drained) (knows_on w u x drives.back.knows (knows_same u x last.same.closed last.same.drained));
       }
 
   -- a command whose actor entered its place and left it again
   pub called_command : (op : Option Op) (a b : ActorValue P) (v w : OneView) (c : CommandIn) (reply : Reply) (old new : List ℕ) → is_driver_asked c.of_chip c.len (command_of c.cmd) ≡ true
-      → Moved core a.pass.view v → KnowsAsMuch a.pass.view v → (KnowsClosed a.pass.view c.place → ⊥) → CommandedInside told faults Own limit planned op v a.port c reply old new w b.port
+      → Moved core a.pass.view v → KnowsAsMuch a.pass.view v → (KnowsClosed a.pass.view c.place → ⊥) → CommandedInside told faults maps maps_left Own Follows limit op v a.port c reply old new w b.port
       → Moved core w b.pass.view → b.pass.view.closed ≡ w.closed → b.pass.view.drained ≡ w.drained
-      → (bytes : List ℕ) × (new ≡ bytes ++ drop (length bytes) old) × HasCommanded told faults Own limit planned op a c reply bytes b
+      → (bytes : List ℕ) × (new ≡ bytes ++ drop (length bytes) old) × HasCommanded told faults maps maps_left Own Follows limit op a c reply bytes b
   called_command op a b v w c reply old new asks entered knows unknown did left closed drained =
       let n = entered.number in (
         last_bytes did.did,
@@ -279,7 +312,7 @@ module _ {P : Type 0} (told : P → Option Told) (faults : P → ℕ) (Own : P �
             };
             knows_as_much = knows_on a.pass.view v b.pass.view knows (knows_on v w b.pass.view did.knows_as_much (knows_same w b.pass.view closed drained));
           };
-          port = did.port;
+          port = subst (λ k. PortOf told faults maps maps_left Own Follows limit (is_asked (entries_in did.did)) op c.place did.answer did.own k (length did.last.at.0) a.port b.port) entered.room did.port;
           never_falls = did.never_falls;
           io = did.io;
         },
@@ -288,7 +321,7 @@ module _ {P : Type 0} (told : P → Option Told) (faults : P → ℕ) (Own : P �
   -- a command whose actor found its place closed
   pub turned_away : (op : Option Op) (a b : ActorValue P) (v : OneView) (c : CommandIn) (reply : Reply) (old new : List ℕ)
       → Moved core a.pass.view v → KnowsAsMuch a.pass.view v → KnowsClosed v c.place → CalledOnce core v (RefusedCall c.place false) reply old new b.pass.view → b.port ≡ a.port
-      → (bytes : List ℕ) × (new ≡ bytes ++ drop (length bytes) old) × HasCommanded told faults Own limit planned op a c reply bytes b
+      → (bytes : List ℕ) × (new ≡ bytes ++ drop (length bytes) old) × HasCommanded told faults maps maps_left Own Follows limit op a c reply bytes b
   turned_away op a b v c reply old new moved knows shut step same =
       let w = b.pass.view in
       let call : Call = RefusedCall c.place false in
@@ -344,8 +377,8 @@ pub left_place : (place : ℕ) (x y : OnePass) → y ≡ knowing x (without_insi
 left_place place x y is = ap (λ (z : OnePass). z.view.inside) is
 
 -- an actor that made a command, or found no room for it, is idle again
-pub idle_commanded : {P : Type 0} (told : P → Option Told) (faults : P → ℕ) (Own : P → ℕ → Op → List OneEntry → Type 0) (limit : ℕ) (planned : Bool)
+pub idle_commanded : {P : Type 0} (told : P → Option Told) (faults : P → ℕ) (maps : P → List Map) (maps_left : P → ℕ) (Own : OwnRelation) (Follows : FollowsRelation) (limit : ℕ)
     (r : Result Reply Errno) (op : Option Op) (a b : ActorValue P) (c : CommandIn) (old new : List ℕ) → IsIdle a.pass.view → IsFree core b.pass.view
-    → IfOk r (λ reply. (bytes : List ℕ) × (new ≡ bytes ++ drop (length bytes) old) × HasCommanded told faults Own limit planned op a c reply bytes b) → IfErr r (λ e. Grew core a.pass.view [] b.pass.view) → IsIdle b.pass.view
-idle_commanded told faults Own limit planned (Ok reply) op a b c old new idle free did full = idle_called limit a.pass.view b.pass.view (Commanding c) reply did.0 idle free did.2.called
-idle_commanded told faults Own limit planned (Err errno) op a b c old new idle free did full = idle_still a.pass.view b.pass.view idle free full
+    → IfOk r (λ reply. (bytes : List ℕ) × (new ≡ bytes ++ drop (length bytes) old) × HasCommanded told faults maps maps_left Own Follows limit op a c reply bytes b) → IfErr r (λ e. Grew core a.pass.view [] b.pass.view) → IsIdle b.pass.view
+idle_commanded told faults maps maps_left Own Follows limit (Ok reply) op a b c old new idle free did full = idle_called limit a.pass.view b.pass.view (Commanding c) reply did.0 idle free did.2.called
+idle_commanded told faults maps maps_left Own Follows limit (Err errno) op a b c old new idle free did full = idle_still a.pass.view b.pass.view idle free full

@@ -1,9 +1,10 @@
 -- Commands on open files, as their callers get them.
-use Rattle.std.proofs.Common.{◌≡◌, ℕ, ◌≤◌, List, [], ◌∷◌, sym, refl, ap, ◌∙◌, subst, arith, Bool, true, false, Option, Some, None, Result, Err, inl, inr}
+use Rattle.std.proofs.Common.{◌≡◌, ℕ, ◌≤◌, List, [], ◌∷◌, length, sym, refl, ap, ◌∙◌, subst, arith, Bool, true, false, Option, Some, None, Result, Err, inl, inr}
 use Rattle.std.proofs.lemmas.Bool.{true≢false}
 use Rattle.gl_base.specs.Count.{Rises}
 use Rattle.gl_base.specs.declared.errno.Errno.{Errno}
 use Rattle.gl_base.specs.declared.errno.Errno.TheVariants.{Full, Io, NoMemory}
+use Rattle.gl_driver.specs.declared.map.Map.{Map}
 use Rattle.gl_driver.specs.Told.{Told}
 use Rattle.gl_base.specs.declared.op.Op.{Op}
 use Rattle.gl_uapi.specs.Command.{command_of}
@@ -29,7 +30,7 @@ use Rattle.gl_chip.specs.Called.{ComesOut, HasCalled, last_entry}
 use Rattle.gl_chip.specs.DriverCommands.{CommandsOut, HasCommanded, IoComesOf, PortOf, is_asked}
 use Rattle.gl_asking.specs.Results.{value_of}
 use Rattle.gl_chip.specs.Steps.{FoundNoRoom}
-use Rattle.gl_chip.specs.Values.{ActorValue, OneView}
+use Rattle.gl_chip.specs.Values.{ActorValue, FollowsRelation, OneView, OwnRelation}
 use Rattle.gl_core.specs.Device.{OneEntry, core}
 use Rattle.gl_chip.proofs.CommandCalls.{not_gone_io}
 use Rattle.gl_chip.proofs.WholeCalls.{called_not_full, called_not_memory, errno_is_told, last_reply_is, reply_or}
@@ -80,10 +81,10 @@ called_last limit v w c reply bytes called = let l = called.last in (
   ap (reply_or reply) (sym (last_reply_is (entries_in called.did) l.last l.is_last) ∙ called.reply_is),
 )
 
-module _ {P : Type 0} (told : P → Option Told) (faults : P → ℕ) (Own : P → ℕ → Op → List OneEntry → Type 0) (limit : ℕ) (planned : Bool) where
+module _ {P : Type 0} (told : P → Option Told) (faults : P → ℕ) (maps : P → List Map) (maps_left : P → ℕ) (Own : OwnRelation) (Follows : FollowsRelation) (limit : ℕ) where
   -- a command for which the driver isn't asked
   pub whole_commanded : (op : Option Op) (a b : ActorValue P) (c : CommandIn) (reply : Reply) (bytes : List ℕ) → is_driver_asked c.of_chip c.len (command_of c.cmd) ≡ false
-      → HasCalled 0 a.pass.view (Commanding c) reply bytes b.pass.view → b.port ≡ a.port → HasCommanded told faults Own limit planned op a c reply bytes b
+      → HasCalled 0 a.pass.view (Commanding c) reply bytes b.pass.view → b.port ≡ a.port → HasCommanded told faults maps maps_left Own Follows limit op a c reply bytes b
   whole_commanded op a b c reply bytes not_asked called same = record {
     called = record {
       closed = called.closed;
@@ -102,7 +103,7 @@ module _ {P : Type 0} (told : P → Option Told) (faults : P → ℕ) (Own : P �
       guard = called.guard;
       knows_as_much = called.knows_as_much;
     };
-    port = subst (λ asked. PortOf told faults Own limit planned asked op c.place called.answer called.own a.port b.port)
+    port = subst (λ asked. PortOf told faults maps maps_left Own Follows limit asked op c.place called.answer called.own a.pass.view.room (length called.last.at.0) a.port b.port)
         (sym (none_asked a.pass.view.number called.closed c called.answer called.own (entries_in called.did) not_asked called.makes.1)) same;
     never_falls = subst (λ x. faults a.port ≤ faults x) (sym same) (omega arith);
     io = λ is. let h = called_last 0 a.pass.view b.pass.view c reply bytes called in
@@ -111,7 +112,7 @@ module _ {P : Type 0} (told : P → Option Told) (faults : P → ℕ) (Own : P �
 
   -- a command that was made comes out as its reply
   pub command_is_made : {X : Type 0} (value : Reply → X) (result : Result X Errno) (op : Option Op) (a b : ActorValue P) (c : CommandIn) (bytes : List ℕ) (reply : Reply) → result ≡ value_of value reply
-      → HasCommanded told faults Own limit planned op a c reply bytes b → CommandsOut told faults Own limit planned (λ r. value_of value r) result op a c bytes b
+      → HasCommanded told faults maps maps_left Own Follows limit op a c reply bytes b → CommandsOut told faults maps maps_left Own Follows limit (λ r. value_of value r) result op a c bytes b
   command_is_made value result op a b c bytes reply is did = inl record {
     reply = reply;
     result_is = is;
@@ -122,11 +123,11 @@ module _ {P : Type 0} (told : P → Option Told) (faults : P → ℕ) (Own : P �
 
   -- and one for which the history had no room
   pub command_is_full : {X : Type 0} (value : Reply → X) (errno : Errno) (op : Option Op) (a b : ActorValue P) (c : CommandIn) → errno ≡ Full → FoundNoRoom core a.pass.view b.pass.view → b.port ≡ a.port
-      → CommandsOut told faults Own limit planned {X = X} (λ r. value_of value r) (Err errno) op a c [] b
+      → CommandsOut told faults maps maps_left Own Follows limit {X = X} (λ r. value_of value r) (Err errno) op a c [] b
   command_is_full value errno op a b c is full same = inr (ap Err is, full, same, refl)
 
   -- a command for which the driver isn't asked, as its caller gets it
   pub whole_comes_out : {X : Type 0} (value : Reply → X) (result : Result X Errno) (op : Option Op) (a b : ActorValue P) (c : CommandIn) (bytes : List ℕ) → is_driver_asked c.of_chip c.len (command_of c.cmd) ≡ false
-      → ComesOut (λ r. value_of value r) result a.pass.view (Commanding c) bytes b.pass.view → b.port ≡ a.port → CommandsOut told faults Own limit planned {X = X} (λ r. value_of value r) result op a c bytes b
+      → ComesOut (λ r. value_of value r) result a.pass.view (Commanding c) bytes b.pass.view → b.port ≡ a.port → CommandsOut told faults maps maps_left Own Follows limit {X = X} (λ r. value_of value r) result op a c bytes b
   whole_comes_out value result op a b c bytes not_asked (inl made) same = command_is_made value result op a b c bytes made.reply made.result_is (whole_commanded op a b c made.reply bytes not_asked made.called same)
   whole_comes_out value result op a b c bytes not_asked (inr full) same = inr (full.0, full.1, same, full.2)

@@ -6,10 +6,9 @@ use Rattle.std.proofs.lemmas.List.{append-nil}
 use Rattle.gl_world.specs.declared.machine.Machine.{Ghosts}
 use Rattle.gl_world.specs.declared.history.Entry.{Entry}
 use Rattle.gl_world.specs.History.{Legal, Answered, entry, entries_of, fold, owed}
-use Rattle.gl_world.specs.Deeds.{Deed}
+use Rattle.gl_world.specs.Deeds.{Deed, entries_in}
 use Rattle.gl_world.specs.Removal.{Removes, AllQuiet, QuietEntriesKeepRemovals}
 use Rattle.gl_driver.specs.Calls.{IsBack}
-use Rattle.gl_driver.proofs.OwnEntries.{own_entries_are_deeds}
 use Rattle.gl_world.proofs.Histories.{answered_prefix, entries_append, placed_prefix}
 use Rattle.gl_rule.specs.declared.view.View.{View}
 use Rattle.gl_rule.specs.Sums.{times}
@@ -18,8 +17,8 @@ use Rattle.gl_rule.specs.Views.{with_closed, with_inside, without_inside}
 use Rattle.gl_gate.specs.Values.{PassValue, knowing}
 use Rattle.gl_gate.specs.Calls.{KnowsClosed, KnowsAsMuch, SamePass, HasItsOwn, Acts, Refuses}
 use Rattle.gl_gate.specs.Grown.{Grew, Moved, IsFree}
-use Rattle.gl_gate.proofs.Grown.{acts_are_deeds, grows_on, moves_do_nothing, refusals_do_nothing, still_removes_nothing}
-use Rattle.gl_chip.specs.Steps.{CalledGuarded, CalledOnce, Drove, FoundNoRoom, IsAsk, IsTell, IsWhole, Owes, StoodFull, deed_of}
+use Rattle.gl_gate.proofs.Grown.{acts_are_deeds, grown_has_its_own, grows_on, moves_do_nothing, refusals_do_nothing, still_removes_nothing}
+use Rattle.gl_chip.specs.Steps.{CalledGuarded, CalledOnce, FoundNoRoom, IsAsk, IsTell, IsWhole, Owes, StoodFull, deed_of}
 
 -- what is true of a result's value
 pub if_ok : {X E : Type 0} (r : Result X E) (P Q : X → Type 0) → ((x : X) → P x → Q x) → IfOk r P → IfOk r Q
@@ -191,29 +190,17 @@ module _ {M C R G : Type 0} (m : Ghosts M C R G) where
   }
 
   -- the pass's entries after what it had seen are the driver's own
-  own_behind : (v w : View M C R G) (own : List (Entry M C R G)) (back : IsBack m v own w) → HasItsOwn v → HasItsOwn w → entries_of v.number back.seen.0 ≡ own
-  own_behind v w own back before after = let rest : List (Entry M C R G) = back.seen.0 in
-      let whole : entries_of v.number w.seen ≡ v.mine ++ own = ap (λ k. entries_of k w.seen) (sym back.number) ∙ (after ∙ back.mine) in
-      let parts : entries_of v.number w.seen ≡ v.mine ++ entries_of v.number rest = ap (λ l. entries_of v.number l) back.seen.1 ∙ (entries_append v.number v.seen rest ∙ ap (λ l. l ++ entries_of v.number rest) before) in
-      rest_is v.mine (entries_of v.number rest) own (sym parts ∙ whole)
+  own_behind : (v w : View M C R G) (did : List (Deed M C R G)) (back : IsBack m v did w) → HasItsOwn v → entries_of v.number back.grew.seen.0 ≡ entries_in did
+  own_behind v w did back before =
+      let rest : List (Entry M C R G) = back.grew.seen.0 in
+      let after : entries_of v.number w.seen ≡ v.mine ++ entries_in did = ap (λ k. entries_of k w.seen) (sym back.grew.number) ∙ (grown_has_its_own m v w did before back.grew ∙ back.grew.mine) in
+      let parts : entries_of v.number w.seen ≡ v.mine ++ entries_of v.number rest = ap (λ l. entries_of v.number l) back.grew.seen.1 ∙ (entries_append v.number v.seen rest ∙ ap (λ l. l ++ entries_of v.number rest) before) in
+      rest_is v.mine (entries_of v.number rest) (entries_in did) (sym parts ∙ after)
 
-  -- a driver's call
-  pub drove : {Own : List (Entry M C R G) → Type 0} (limit : ℕ) (v w : View M C R G) (own : List (Entry M C R G)) → length own ≤ limit → Own own → IsBack m v own w → HasItsOwn v → HasItsOwn w → Owes m v 1 → Legal m w.seen → AllQuiet m own → QuietEntriesKeepRemovals m
-      → (own : List (Entry M C R G)) × (did : List (Deed M C R G)) × Own own × Drove m limit v own did w
-  drove limit v w own few its back before after owes legal quiet law = let h = own_entries_are_deeds m v own w back before after in (
-    own,
-    h.0,
-    its,
-    record {
-      own_are = h.1;
-      few_own = few;
-      grew = h.2;
-      inside = back.inside;
-      owes_one = record {
-        owed = back.owed ∙ owes.owed;
-        removes_nothing = λ p r. owes.removes_nothing p ((law v.number v.seen back.seen.0 (subst (λ l. Answered m l) back.seen.1 legal.0) (subst (λ l. AllQuiet m l) (sym (own_behind v w own back before after)) quiet) p).1
-            (subst (λ (x : List (Entry M C R G) × ℕ). Removes m (fold m x.0) x.1 p) (λ i. (back.seen.1 i, back.number i)) r));
-      };
-      knows_as_much = back.knows;
-    },
-  )
+  -- what is owed and removed after a driver's call
+  pub owes_driven : (v w : View M C R G) (did : List (Deed M C R G)) → IsBack m v did w → HasItsOwn v → Owes m v 1 → Legal m w.seen → AllQuiet m (entries_in did) → QuietEntriesKeepRemovals m → Owes m w 1
+  owes_driven v w did back before owes legal quiet law = record {
+    owed = back.owed ∙ owes.owed;
+    removes_nothing = λ p r. owes.removes_nothing p ((law v.number v.seen back.grew.seen.0 (subst (λ l. Answered m l) back.grew.seen.1 legal.0) (subst (λ l. AllQuiet m l) (sym (own_behind v w did back before)) quiet) p).1
+        (subst (λ (x : List (Entry M C R G) × ℕ). Removes m (fold m x.0) x.1 p) (λ i. (back.grew.seen.1 i, back.grew.number i)) r));
+  }

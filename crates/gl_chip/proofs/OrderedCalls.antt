@@ -4,6 +4,7 @@ use Rattle.std.specs.Prelude.{◌^◌}
 use Rattle.std.proofs.lemmas.Bool.{true≢false}
 use Rattle.gl_base.specs.declared.errno.Errno.{Errno}
 use Rattle.gl_base.specs.declared.errno.Errno.TheVariants.{Full, NoMemory}
+use Rattle.gl_driver.specs.declared.map.Map.{Map}
 use Rattle.gl_driver.specs.Told.{Told}
 use Rattle.gl_base.specs.declared.op.Op.{Op}
 use Rattle.gl_uapi.specs.Command.{command_of}
@@ -21,27 +22,27 @@ use Rattle.gl_asking.specs.declared.kinds.FileKind.TheVariants.{Chip}
 use Rattle.gl_chip.specs.Orders.{CouldNot, HasDone}
 use Rattle.gl_chip.specs.Removals.{AllDrained}
 use Rattle.gl_chip.specs.Steps.{FoundNoRoom}
-use Rattle.gl_chip.specs.Values.{ActorValue}
-use Rattle.gl_core.specs.Device.{OneEntry, core}
+use Rattle.gl_chip.specs.Values.{ActorValue, FollowsRelation, OwnRelation}
+use Rattle.gl_core.specs.Device.{core}
 use Rattle.gl_chip.proofs.CommandResults.{whole_commanded}
 use Rattle.gl_chip.proofs.GateSteps.{if_err, if_ok}
 use Rattle.gl_chip.proofs.RequestedLines.{whole_no_number}
 
-module _ {P : Type 0} (told : P → Option Told) (faults : P → ℕ) (Own : P → ℕ → Op → List OneEntry → Type 0) (limit : ℕ) (planned : Bool) where
+module _ {P : Type 0} (told : P → Option Told) (faults : P → ℕ) (maps : P → List Map) (maps_left : P → ℕ) (Own : OwnRelation) (Follows : FollowsRelation) (limit : ℕ) where
   -- a command with the buffer that it is called with, and what the driver is asked for it
   pub as_ordered : (result : Result Reply Errno) (op wanted : Option Op) (a b : ActorValue P) (c d : CommandIn) (old new : List ℕ) → c ≡ d → wanted ≡ op
-      → IfOk result (λ r. (bytes : List ℕ) × (new ≡ bytes ++ drop (length bytes) old) × HasCommanded told faults Own limit planned op a d r bytes b)
-      → IfOk result (λ r. (bytes : List ℕ) × (new ≡ bytes ++ drop (length bytes) old) × HasCommanded told faults Own limit planned wanted a c r bytes b)
+      → IfOk result (λ r. (bytes : List ℕ) × (new ≡ bytes ++ drop (length bytes) old) × HasCommanded told faults maps maps_left Own Follows limit op a d r bytes b)
+      → IfOk result (λ r. (bytes : List ℕ) × (new ≡ bytes ++ drop (length bytes) old) × HasCommanded told faults maps maps_left Own Follows limit wanted a c r bytes b)
   as_ordered result op wanted a b c d old new is wants h =
-      subst (λ (o : Option Op). IfOk result (λ r. (bytes : List ℕ) × (new ≡ bytes ++ drop (length bytes) old) × HasCommanded told faults Own limit planned o a c r bytes b)) (sym wants)
-      (subst (λ (x : CommandIn). IfOk result (λ r. (bytes : List ℕ) × (new ≡ bytes ++ drop (length bytes) old) × HasCommanded told faults Own limit planned op a x r bytes b)) (sym is) h)
+      subst (λ (o : Option Op). IfOk result (λ r. (bytes : List ℕ) × (new ≡ bytes ++ drop (length bytes) old) × HasCommanded told faults maps maps_left Own Follows limit o a c r bytes b)) (sym wants)
+      (subst (λ (x : CommandIn). IfOk result (λ r. (bytes : List ℕ) × (new ≡ bytes ++ drop (length bytes) old) × HasCommanded told faults maps maps_left Own Follows limit op a x r bytes b)) (sym is) h)
 
   -- one for which the driver isn't asked
   pub whole_ordered : (result : Result Reply Errno) (op : Option Op) (a b : ActorValue P) (c d : CommandIn) (old new : List ℕ) → c ≡ d → is_driver_asked d.of_chip d.len (command_of d.cmd) ≡ false → b.port ≡ a.port
       → IfOk result (λ r. (bytes : List ℕ) × (new ≡ bytes ++ drop (length bytes) old) × HasCalled 0 a.pass.view (Commanding d) r bytes b.pass.view)
-      → IfOk result (λ r. (bytes : List ℕ) × (new ≡ bytes ++ drop (length bytes) old) × HasCommanded told faults Own limit planned op a c r bytes b)
+      → IfOk result (λ r. (bytes : List ℕ) × (new ≡ bytes ++ drop (length bytes) old) × HasCommanded told faults maps maps_left Own Follows limit op a c r bytes b)
   whole_ordered result op a b c d old new is not_asked same h =
-      as_ordered result op op a b c d old new is refl (if_ok result _ _ (λ r k. (k.0, k.1, whole_commanded told faults Own limit planned op a b d r k.0 not_asked k.2 same)) h)
+      as_ordered result op op a b c d old new is refl (if_ok result _ _ (λ r k. (k.0, k.1, whole_commanded told faults maps maps_left Own Follows limit op a b d r k.0 not_asked k.2 same)) h)
 
 abbrev is_number : Reply → Bool
 is_number (Number n) = true
@@ -76,10 +77,10 @@ module _ {P : Type 0} where
   was_full_removing result a b same h = if_err result _ _ (λ e k. inr (k.0, same, k.1)) h
 
 -- a removal that was made
-module _ {P : Type 0} (told : P → Option Told) (faults : P → ℕ) (Own : P → ℕ → Op → List OneEntry → Type 0) (limit : ℕ) (planned : Bool) where
+module _ {P : Type 0} (told : P → Option Told) (faults : P → ℕ) (maps : P → List Map) (maps_left : P → ℕ) (Own : OwnRelation) (Follows : FollowsRelation) (limit : ℕ) where
   pub removal_done : (result : Result Reply Errno) (a b : ActorValue P) (removal given : RemovalOf) → given ≡ removal → b.port ≡ a.port
       → IfOk result (λ r. (bytes : List ℕ) × (called : HasCalled 0 a.pass.view (Removing given) r bytes b.pass.view) × AllDrained called.did b.pass.view)
-      → IfOk result (λ r. (bytes : List ℕ) × HasDone told faults Own limit planned (Removing removal) Chip a r bytes b)
+      → IfOk result (λ r. (bytes : List ℕ) × HasDone told faults maps maps_left Own Follows limit (Removing removal) Chip a r bytes b)
   removal_done result a b removal given is same h =
       if_ok result _ _ (λ r k. (k.0, (k.1, k.2, same)))
       (subst (λ (x : RemovalOf). IfOk result (λ r. (bytes : List ℕ) × (called : HasCalled 0 a.pass.view (Removing x) r bytes b.pass.view) × AllDrained called.did b.pass.view)) is h)

@@ -4,12 +4,12 @@ use Rattle.std.specs.Prelude.{IfSome}
 use Rattle.std.specs.Option.{option_and_then}
 use Rattle.std.proofs.lemmas.Bool.{true≢false}
 use Rattle.gl_base.proofs.FirstRows.{Each-find}
-use Rattle.gl_base.specs.Lines.{IsLineCount}
 use Rattle.gl_base.specs.Rows.{Each}
 use Rattle.gl_base.specs.declared.errno.Errno.{Errno}
 use Rattle.gl_base.specs.declared.lines.Lines.{Lines}
 use Rattle.gl_driver.specs.Calls.{FitsOp}
 use Rattle.gl_base.specs.declared.op.Op.{Op}
+use Rattle.gl_base.specs.declared.op.Op.TheVariants.{Apply, Get, Set}
 use Rattle.gl_uapi.specs.Command.{command_of, size_of}
 use Rattle.gl_uapi.specs.declared.commands.Command.{Command}
 use Rattle.gl_uapi.specs.declared.commands.Command.TheVariants.{ChipInfo, LineInfo, Watch, Unwatch, GetLine, SetConfig, GetValues, SetValues}
@@ -17,12 +17,14 @@ use Rattle.gl_uapi.specs.declared.layout.TheConstants.{LINE_REQUEST_SIZE}
 use Rattle.gl_watch.specs.declared.file.ChipFile.{ChipFile}
 use Rattle.gl_model.specs.declared.call.Call.TheVariants.{Ioctl}
 use Rattle.gl_model.specs.declared.call.Part.TheVariants.{Whole, Ask, Tell}
+use Rattle.gl_model.specs.declared.gift.Gift.{Gift}
 use Rattle.gl_model.specs.declared.reply.Reply.{Reply}
 use Rattle.gl_model.specs.declared.reply.Reply.TheVariants.{Done, Number, Go, Found, Text, Ready, Refused}
-use Rattle.gl_model.specs.AskedLines.{asked_in, lines_asked, request_fault}
+use Rattle.gl_model.specs.AskedLines.{asked_in, asked_where, lines_asked, request_fault}
 use Rattle.gl_model.specs.Bounds.{HasBounds}
 use Rattle.gl_model.specs.Claiming.{claim, claim_at, claim_by, claim_number, told_claim}
 use Rattle.gl_model.specs.Entries.{is_go}
+use Rattle.gl_model.specs.Fits.{HoldsRequest}
 use Rattle.gl_model.specs.Ioctl.{act_on, by_number, checked}
 use Rattle.gl_model.specs.Machine.{reply_of}
 use Rattle.gl_model.specs.OpenFiles.{command_refusal}
@@ -32,7 +34,7 @@ use Rattle.gl_model.specs.Replies.{numbered_form}
 use Rattle.gl_model.specs.World.{World, Request, has_number, request_at}
 use Rattle.gl_model.specs.Written.{number_answered}
 use Rattle.gl_model.proofs.Requests.{claim_by_any}
-use Rattle.gl_chip.specs.DriverCommands.{IsOp, IsOpAfterGo, TakesMemory}
+use Rattle.gl_chip.specs.DriverCommands.{IsApplied, IsAppliedTo, IsOp, IsOpAfterGo, TakesMemory, op_brought}
 use Rattle.gl_asking.specs.Driving.{op_of, op_requested}
 use Rattle.gl_asking.specs.Handed.{command_in, handed_in}
 
@@ -71,11 +73,6 @@ go_has_no_fault w actor n place fd cmd len bytes is e = go_by_number w actor pla
 pub op_after_go : (fault : Option Errno) (bytes : List ℕ) (op : Option Op) → op ≡ op_requested fault bytes → IfSome op (λ o. FitsOp o) → fault ≡ None → IsOp op
 op_after_go fault bytes op is fits none = let there = is ∙ ap (λ (f : Option Errno). op_requested f bytes) none in
     subst (λ (o : Option Op). IsOp o) (sym there) (subst (λ (o : Option Op). IfSome o (λ x. FitsOp x)) there fits)
-
--- and it is on lines that the bytes name
-pub lines_of_op : (fault : Option Errno) (bytes : List ℕ) → IsOp (op_requested fault bytes) → IsLineCount (lines_asked bytes).count
-lines_of_op None bytes op = op.0
-lines_of_op (Some errno) bytes op = absurd op
 
 -- numbers
 
@@ -149,10 +146,13 @@ number_below (Text t) X h = omega arith
 number_below (Ready b) X h = omega arith
 number_below (Refused errno) X h = omega arith
 
--- where there is an operation the bytes have no fault
-pub fault_is_none : (fault : Option Errno) (bytes : List ℕ) (op : Option Op) → op ≡ op_requested fault bytes → (op ≡ None → ⊥) → fault ≡ None
-fault_is_none None bytes op is there = refl
-fault_is_none (Some errno) bytes op is there = absurd (there is)
+-- what the driver is asked for is what the bytes ask for
+op_by_fault : (fault : Option Errno) (bytes : List ℕ) → op_brought (asked_where fault bytes) ≡ op_requested fault bytes
+op_by_fault None bytes = refl
+op_by_fault (Some errno) bytes = refl
+
+pub op_is_requested : (bytes : List ℕ) (gift : Gift) (op : Option Op) → op ≡ op_brought gift.asked → HoldsRequest bytes gift → op ≡ op_requested (request_fault bytes) bytes
+op_is_requested bytes gift op is holds = is ∙ (ap op_brought holds.asked ∙ op_by_fault (request_fault bytes) bytes)
 
 -- what the driver is asked for GET_LINE, by the bytes that were handed in
 pub op_is_for : (lines : Lines) (command : Option Command) (bytes handed : List ℕ) (op : Option Op) → command ≡ Some GetLine → handed ≡ bytes → op ≡ op_requested (request_fault (take LINE_REQUEST_SIZE handed)) (take LINE_REQUEST_SIZE handed)
@@ -166,15 +166,28 @@ op_goes place fd cmd len bytes handed op is same asked fits w actor n e =
     op_after_go (request_fault (take LINE_REQUEST_SIZE handed)) (take LINE_REQUEST_SIZE handed) op asked fits
     (ap (λ (b : List ℕ). request_fault (take LINE_REQUEST_SIZE b)) same ∙ go_has_no_fault w actor n place fd cmd len bytes is e)
 
--- the lines of a request that was answered a number
-pub lines_are_some : (handed : List ℕ) (op : Option Op) (lines : Lines) → op ≡ op_requested (request_fault (take LINE_REQUEST_SIZE handed)) (take LINE_REQUEST_SIZE handed) → lines ≡ lines_asked (take LINE_REQUEST_SIZE handed) → IsOp op → IsLineCount lines.count
-lines_are_some handed op lines asked are there = subst (λ (l : Lines). IsLineCount l.count) (sym are) (lines_of_op (request_fault (take LINE_REQUEST_SIZE handed)) (take LINE_REQUEST_SIZE handed) (subst (λ (o : Option Op). IsOp o) asked there))
+-- and it applies settings to the lines that the bytes name
+applied : (fault : Option Errno) (bytes : List ℕ) (op : Option Op) → op ≡ op_requested fault bytes → IsOp op → IsApplied op × IsAppliedTo (lines_asked bytes) op
+applied None bytes op is there = subst (λ (o : Option Op). IsApplied o × IsAppliedTo (lines_asked bytes) o) (sym is) ((subst (λ (o : Option Op). IsOp o) is there).0, refl)
+applied (Some errno) bytes op is there = absurd (subst (λ (o : Option Op). IsOp o) is there)
+
+pub applied_to_named : (bytes handed : List ℕ) (op : Option Op) → handed ≡ bytes → op ≡ op_requested (request_fault (take LINE_REQUEST_SIZE handed)) (take LINE_REQUEST_SIZE handed)
+    → IsOp op → IsApplied op × IsAppliedTo (lines_asked (take LINE_REQUEST_SIZE bytes)) op
+applied_to_named bytes handed op same asked there = subst (λ (b : List ℕ). IsApplied op × IsAppliedTo (lines_asked (take LINE_REQUEST_SIZE b)) op) same
+    (applied (request_fault (take LINE_REQUEST_SIZE handed)) (take LINE_REQUEST_SIZE handed) op asked there)
+
+-- there is one list of lines to which it applies them
+pub one_list : (op : Option Op) (a b : Lines) → IsAppliedTo a op → IsAppliedTo b op → a ≡ b
+one_list None a b is its = absurd is
+one_list (Some (Get on)) a b is its = absurd is
+one_list (Some (Set on mask bits)) a b is its = absurd is
+one_list (Some (Apply on settings)) a b is its = sym is ∙ its
 
 -- memory was wanted for it
-pub takes_memory : (place fd cmd : ℕ) (buffer handed : List ℕ) (op : Option Op) → is_driver_asked true (length buffer) (command_of cmd) ≡ true → handed ≡ handed_in buffer
-    → op ≡ op_requested (request_fault (take LINE_REQUEST_SIZE handed)) (take LINE_REQUEST_SIZE handed) → (op ≡ None → ⊥) → TakesMemory (command_in place fd true cmd buffer)
-takes_memory place fd cmd buffer handed op asks same asked there = (
+pub takes_memory : (place fd cmd : ℕ) (buffer handed : List ℕ) → is_driver_asked true (length buffer) (command_of cmd) ≡ true → handed ≡ handed_in buffer
+    → request_fault (take LINE_REQUEST_SIZE handed) ≡ None → TakesMemory (command_in place fd true cmd buffer)
+takes_memory place fd cmd buffer handed asks same faultless = (
   asks,
   only_get_line (length buffer) (command_of cmd) asks,
-  ap (λ (b : List ℕ). request_fault (take LINE_REQUEST_SIZE b)) (sym same) ∙ fault_is_none (request_fault (take LINE_REQUEST_SIZE handed)) (take LINE_REQUEST_SIZE handed) op asked there,
+  ap (λ (b : List ℕ). request_fault (take LINE_REQUEST_SIZE b)) (sym same) ∙ faultless,
 )

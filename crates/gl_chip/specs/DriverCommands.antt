@@ -1,23 +1,27 @@
 -- What a command on an open file did that may ask the driver: its entries, and what went through the actor's port.
-use Rattle.std.specs.Prelude.{◌≡◌, ◌≢◌, ◌⊎◌, ◌<◌, ◌≤◌, ◌^◌, ℕ, Bool, true, false, List, [], ◌∷◌, ◌++◌, length, take, drop, Option, Some, None, IfSome, Result, Err}
+use Rattle.std.specs.Prelude.{◌≡◌, ◌≢◌, ◌⊎◌, ◌<◌, ◌≤◌, ◌^◌, ℕ, Bool, true, false, List, [], ◌∷◌, ◌++◌, length, take, drop, Option, Some, None, Result, Err}
 use Rattle.gl_base.specs.Count.{Rises}
 use Rattle.gl_base.specs.declared.errno.Errno.{Errno}
 use Rattle.gl_base.specs.declared.errno.Errno.TheVariants.{Full, Io, NoMemory}
 use Rattle.gl_base.specs.declared.lines.Lines.{Lines}
+use Rattle.gl_base.specs.Lines.{IsLineCount}
 use Rattle.gl_driver.specs.Calls.{FitsOp}
-use Rattle.gl_driver.specs.Told.{Told, faults_after, planned_for, with_call}
+use Rattle.gl_driver.specs.declared.map.Map.{Map}
+use Rattle.gl_driver.specs.Maps.{map_for}
+use Rattle.gl_driver.specs.Told.{Told, counts_for, faults_after, with_call_counting}
 use Rattle.gl_base.specs.declared.op.Op.{Op}
+use Rattle.gl_base.specs.declared.op.Op.TheVariants.{Apply, Get, Set}
 use Rattle.gl_uapi.specs.Command.{command_of, size_of}
 use Rattle.gl_uapi.specs.declared.commands.Command.{Command}
 use Rattle.gl_uapi.specs.declared.commands.Command.TheVariants.{GetLine, SetConfig, GetValues, SetValues}
 use Rattle.gl_world.specs.Deeds.{entries_in}
-use Rattle.gl_world.specs.History.{Legal, fold}
+use Rattle.gl_world.specs.History.{Legal, ended_in, fold}
 use Rattle.gl_gate.specs.Calls.{KnowsAsMuch}
 use Rattle.gl_gate.specs.Grown.{Grew}
 use Rattle.gl_model.specs.declared.call.Call.{Call}
 use Rattle.gl_model.specs.declared.reply.Reply.{Reply}
 use Rattle.gl_model.specs.declared.reply.Reply.TheVariants.{Number, Go, Refused}
-use Rattle.gl_model.specs.AskedLines.{request_fault}
+use Rattle.gl_model.specs.AskedLines.{AskedLines, request_fault}
 use Rattle.gl_model.specs.Entries.{begins}
 use Rattle.gl_model.specs.Machine.{reply_of}
 use Rattle.gl_model.specs.declared.device_call.CommandIn.{CommandIn}
@@ -32,12 +36,31 @@ use Rattle.gl_core.specs.Device.{OneDeed, OneEntry, core, last_bytes}
 use Rattle.gl_chip.specs.Files.{LineFile}
 use Rattle.gl_asking.specs.Results.{value_of}
 use Rattle.gl_chip.specs.Steps.{FoundNoRoom}
-use Rattle.gl_chip.specs.Values.{ActorValue, MayOwn, OneView}
+use Rattle.gl_chip.specs.Values.{ActorValue, FollowsRelation, MayOwn, OneView, OwnRelation}
 
 -- there is an operation, on 1 to 64 lines
 abbrev pub IsOp : Option Op → Type 0
 IsOp None = ⊥
 IsOp (Some op) = FitsOp op
+
+-- what the driver is asked for a request of lines that asks for this, if it asks for something
+abbrev pub op_brought : Option AskedLines → Option Op
+op_brought None = None
+op_brought (Some asked) = Some (Apply asked.lines asked.settings)
+
+-- there is an operation, and it applies settings to 1 to 64 lines
+abbrev pub IsApplied : Option Op → Type 0
+IsApplied None = ⊥
+IsApplied (Some (Get lines)) = ⊥
+IsApplied (Some (Set lines mask bits)) = ⊥
+IsApplied (Some (Apply lines settings)) = IsLineCount lines.count
+
+-- and these are the lines
+abbrev pub IsAppliedTo : Lines → Option Op → Type 0
+IsAppliedTo lines None = ⊥
+IsAppliedTo lines (Some (Get on)) = ⊥
+IsAppliedTo lines (Some (Set on mask bits)) = ⊥
+IsAppliedTo lines (Some (Apply on settings)) = on ≡ lines
 
 -- the file of a request of these lines at this place: its number is the one that was answered; nothing where none was
 abbrev pub request_in : ℕ → Lines → Reply → Option LineFile
@@ -70,32 +93,38 @@ IoComesOf Counted w place fd _ bytes = ⊥
 abbrev pub IsOpAfterGo : Call → Option Op → Type 0
 IsOpAfterGo call op = (w : World) (actor n : ℕ) → reply_of w actor call ≡ Go n → IsOp op
 
--- A driver and its ports: what a port tells, how many failures it has counted, which entries of its own the driver may make for a
--- call, how many at most, and whether its answers are planned.
-module _ {P : Type 0} (told : P → Option Told) (faults : P → ℕ) (Own : P → ℕ → Op → List OneEntry → Type 0) (limit : ℕ) (planned : Bool) where
-  -- The driver was asked once, through this port: for just that operation, and it answered so. It made these entries of its own.
-  -- Where it failed, the port has counted that, and nothing else changes its count. A planned driver answered as the port plans and
-  -- accepts.
-  pub record WasAsked (op : Option Op) (place : ℕ) (answer : Option ℕ) (own : List OneEntry) (p q : P) : Type 0 where
+-- A driver and its ports: what a port tells, how many failures it has counted, the maps that it keeps and how many more it takes; which
+-- entries of its own the driver may make for a call, the answer that follows, and how many entries it makes at most.
+module _ {P : Type 0} (told : P → Option Told) (faults : P → ℕ) (maps : P → List Map) (maps_left : P → ℕ) (Own : OwnRelation) (Follows : FollowsRelation) (limit : ℕ) where
+  -- The driver was asked once, through this port: for just that operation, and it answered so. It made these entries of its own, and the
+  -- answer is one that follows, by what the actor did meanwhile: its room is this, and it had seen no more entries then than stand before the
+  -- tell. Where the driver failed, the port has counted that, and nothing else changes its count. The port's maps are what they were.
+  pub record WasAsked (op : Option Op) (place : ℕ) (answer : Option ℕ) (own : List OneEntry) (room before : ℕ) (p q : P) : Type 0 where
     pub asked_for : Op
     pub is_this : op ≡ Some asked_for
-    pub told_then : told q ≡ with_call asked_for answer (told p)
-    pub own_entries : Own p place asked_for own
+    pub did : List OneDeed
+    pub did_own : entries_in did ≡ own
+    pub seen : ℕ
+    pub seen_before : seen ≤ before
+    pub own_entries : Own (map_for limit place (maps p)) asked_for own
+    pub follows : Follows (map_for limit place (maps p)) (told p) asked_for did room seen answer
+    pub told_then : told q ≡ with_call_counting (counts_for (map_for limit place (maps p)) (ended_in core own)) asked_for answer (told p)
     pub counted : answer ≡ None → Rises (faults p) (faults q)
-    pub as_planned : planned ≡ true → IfSome (told p) (λ t. answer ≡ planned_for asked_for t)
     pub count_after : faults q ≡ faults_after answer (faults p)
+    pub same_maps : maps q ≡ maps p
+    pub same_left : maps_left q ≡ maps_left p
 
   -- the port after a command that asked the driver, or didn't
-  abbrev pub PortOf : Bool → Option Op → ℕ → Option ℕ → List OneEntry → P → P → Type 0
-  PortOf true op place answer own p q = WasAsked op place answer own p q
-  PortOf false op place answer own p q = q ≡ p
+  abbrev pub PortOf : Bool → Option Op → ℕ → Option ℕ → List OneEntry → ℕ → ℕ → P → P → Type 0
+  PortOf true op place answer own room before p q = WasAsked op place answer own room before p q
+  PortOf false op place answer own room before p q = q ≡ p
 
   -- One command, by an actor who was a and is b then, for which the driver is asked this if it is asked. It is a call of the device
   -- (`HasCalled`). After Go, and only then, the driver was asked once, and the tell holds what it answered. EIO comes only from the
   -- driver, whose port has counted that, or from a line that is locked.
   pub record HasCommanded (op : Option Op) (a : ActorValue P) (c : CommandIn) (reply : Reply) (bytes : List ℕ) (b : ActorValue P) : Type 0 where
     pub called : HasCalled limit a.pass.view (Commanding c) reply bytes b.pass.view
-    pub port : PortOf (is_asked (entries_in called.did)) op c.place called.answer called.own a.port b.port
+    pub port : PortOf (is_asked (entries_in called.did)) op c.place called.answer called.own a.pass.view.room (length called.last.at.0) a.port b.port
     pub never_falls : faults a.port ≤ faults b.port
     pub io : reply ≡ Refused Io → IoComesOf (Rises (faults a.port) (faults b.port)) (fold core called.last.at.0) c.place c.fd (command_of c.cmd) c.bytes
 
@@ -113,7 +142,7 @@ module _ {P : Type 0} (told : P → Option Told) (faults : P → ℕ) (Own : P �
     pub legal : Legal core w.seen
     pub reply_is : last_reply (entries_in did) ≡ Some reply
     pub bytes : new ≡ last_bytes did ++ drop (length (last_bytes did)) old
-    pub port : PortOf (is_asked (entries_in did)) op c.place answer own p q
+    pub port : PortOf (is_asked (entries_in did)) op c.place answer own v.room (length last.at.0) p q
     pub never_falls : faults p ≤ faults q
     pub io : reply ≡ Refused Io → IoComesOf (Rises (faults p) (faults q)) (fold core last.at.0) c.place c.fd (command_of c.cmd) c.bytes
     pub let_in : reply ≢ guard_reply false

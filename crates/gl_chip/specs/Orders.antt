@@ -1,8 +1,9 @@
 -- Any call of the device as one value, and how it comes out.
-use Rattle.std.specs.Prelude.{◌≡◌, ◌⊎◌, ℕ, ◌<◌, ◌^◌, Bool, false, List, ◌++◌, length, take, drop, Option, None}
+use Rattle.std.specs.Prelude.{◌≡◌, ◌⊎◌, ℕ, ◌<◌, ◌^◌, false, List, ◌++◌, length, take, drop, Option, None}
 use Rattle.gl_base.specs.declared.errno.Errno.{Errno}
 use Rattle.gl_base.specs.declared.errno.Errno.TheVariants.{Full, NoMemory}
 use Rattle.gl_base.specs.declared.lines.Lines.{Lines}
+use Rattle.gl_driver.specs.declared.map.Map.{Map}
 use Rattle.gl_driver.specs.Told.{Told}
 use Rattle.gl_base.specs.declared.op.Op.{Op}
 use Rattle.gl_uapi.specs.declared.layout.TheConstants.{LINE_REQUEST_SIZE}
@@ -25,8 +26,8 @@ use Rattle.gl_chip.specs.DriverCommands.{HasCommanded, IsOp}
 use Rattle.gl_asking.specs.Driving.{op_for}
 use Rattle.gl_chip.specs.Removals.{AllDrained}
 use Rattle.gl_chip.specs.Steps.{FoundNoRoom}
-use Rattle.gl_chip.specs.Values.{ActorValue}
-use Rattle.gl_core.specs.Device.{OneEntry, core}
+use Rattle.gl_chip.specs.Values.{ActorValue, FollowsRelation, OwnRelation}
+use Rattle.gl_core.specs.Device.{core}
 
 -- the lines that a command is on: on a chip those that its structure names, on a request the request's
 abbrev pub lines_on : FileKind → CommandIn → Lines
@@ -74,11 +75,11 @@ AnswersOrder (Commanding c) on reply = (n : ℕ) → reply ≡ Number n → (n <
 abbrev pub CouldNot : {P : Type 0} → Errno → ActorValue P → ActorValue P → Type 0
 CouldNot errno a b = ((errno ≡ NoMemory) × (b ≡ a)) ⊎ ((errno ≡ Full) × (b.port ≡ a.port) × FoundNoRoom core a.pass.view b.pass.view)
 
-module _ {P : Type 0} (told : P → Option Told) (faults : P → ℕ) (Own : P → ℕ → Op → List OneEntry → Type 0) (limit : ℕ) (planned : Bool) where
+module _ {P : Type 0} (told : P → Option Told) (faults : P → ℕ) (maps : P → List Map) (maps_left : P → ℕ) (Own : OwnRelation) (Follows : FollowsRelation) (limit : ℕ) where
   -- What a call did, by what it is. One call of the machine and a removal leave the port as it was, and each place whose removal
   -- was begun is closed and drained; a command asks the driver as it says (`HasCommanded`).
   abbrev pub HasDone : DeviceCall → FileKind → ActorValue P → Reply → List ℕ → ActorValue P → Type 0
   HasDone (Once call) on a reply bytes b = HasCalled 0 a.pass.view (Once call) reply bytes b.pass.view × (b.port ≡ a.port)
   HasDone (Removing removal) on a reply bytes b =
       (called : HasCalled 0 a.pass.view (Removing removal) reply bytes b.pass.view) × AllDrained called.did b.pass.view × (b.port ≡ a.port)
-  HasDone (Commanding c) on a reply bytes b = HasCommanded told faults Own limit planned (op_for (lines_on on c) c) a c reply bytes b
+  HasDone (Commanding c) on a reply bytes b = HasCommanded told faults maps maps_left Own Follows limit (op_for (lines_on on c) c) a c reply bytes b

@@ -3,7 +3,7 @@ use Rattle.std.specs.Prelude.{◌≡◌, ℕ, ◌<◌, ◌≤◌, Bool, true, fa
 use Rattle.gl_world.specs.declared.machine.Machine.{Ghosts}
 use Rattle.gl_world.specs.declared.history.Entry.{Entry}
 use Rattle.gl_world.specs.History.{Legal, entry, entries_of, fold}
-use Rattle.gl_world.specs.Deeds.{Deed, entries_in}
+use Rattle.gl_world.specs.Deeds.{Deed}
 use Rattle.gl_rule.specs.declared.view.View.{View}
 use Rattle.gl_rule.specs.Turn.{owes}
 use Rattle.gl_gate.specs.Calls.{KnowsClosed, KnowsAsMuch, RemovesNothing, SamePass}
@@ -90,13 +90,4 @@ module _ {M C R G : Type 0} (m : Ghosts M C R G) where
     pub grew : Grew m v [] w
     pub full : v.room ≤ length w.seen
     pub legal : Legal m w.seen
-    pub knows_as_much : KnowsAsMuch v w
-
-  -- a driver was asked, and made these entries of its own
-  pub record Drove (limit : ℕ) (v : View M C R G) (own : List (Entry M C R G)) (did : List (Deed M C R G)) (w : View M C R G) : Type 0 where
-    pub own_are : entries_in did ≡ own
-    pub few_own : length own ≤ limit
-    pub grew : Grew m v did w
-    pub inside : w.inside ≡ v.inside
-    pub owes_one : Owes w 1
     pub knows_as_much : KnowsAsMuch v w

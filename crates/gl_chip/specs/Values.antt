@@ -1,5 +1,5 @@
 -- What contracts see of the device and of its actors.
-use Rattle.std.specs.Prelude.{◌≡◌, ℕ, false, List}
+use Rattle.std.specs.Prelude.{◌≡◌, ℕ, false, List, Option}
 use Rattle.gl_base.specs.Rows.{Each}
 use Rattle.gl_world.specs.Removal.{AllQuiet}
 use Rattle.gl_world.specs.History.{StartsWith}
@@ -8,12 +8,14 @@ use Rattle.gl_gate.specs.Values.{GateValue, PassValue, IsPassOf}
 use Rattle.gl_gate.specs.Calls.{KnowsAsMuch}
 use Rattle.gl_gate.specs.Grown.{IsFree}
 use Rattle.gl_base.specs.declared.op.Op.{Op}
+use Rattle.gl_driver.specs.declared.map.Map.{Map}
+use Rattle.gl_driver.specs.Told.{Told}
 use Rattle.gl_model.specs.declared.call.Call.{Call}
 use Rattle.gl_model.specs.declared.gift.Gift.{Gift}
 use Rattle.gl_model.specs.declared.reply.Reply.{Reply}
 use Rattle.gl_model.specs.Calling.{AreOfCalls}
 use Rattle.gl_model.specs.Entries.{is_get_line_call}
-use Rattle.gl_core.specs.Device.{OneEntry, core}
+use Rattle.gl_core.specs.Device.{OneDeed, OneEntry, core}
 use Rattle.gl_core.specs.Kept.{Kept, StandsFor}
 
 -- what a pass of its gate knows
@@ -45,11 +47,20 @@ pub record IsIdle (v : OneView) : Type 0 where
   pub free : IsFree core v
   pub whole_calls : AreOfCalls StandsFor v.number v.mine
 
+-- the entries of its own that a driver may make: of the map by which it goes at the place, the operation, and the entries
+abbrev pub OwnRelation : Type 1
+OwnRelation = Option Map → Op → List OneEntry → Type 0
+
+-- the answer of a driver that follows: of that map, what the port told before, the operation, what the actor did in the call, its room, how
+-- many entries it had seen at the end, and the answer
+abbrev pub FollowsRelation : Type 1
+FollowsRelation = Option Map → Option Told → Op → List OneDeed → ℕ → ℕ → Option ℕ → Type 0
+
 -- entries that a driver may make of its own: they have nothing to do with removals, and request no lines
 pub record MayOwn (own : List OneEntry) : Type 0 where
   pub quiet : AllQuiet core own
   pub no_claims : Each (λ (e : OneEntry). is_get_line_call e.call ≡ false) own
 
 -- all own entries of a driver are such
-abbrev pub IsQuietDriver : {P : Type 0} → (P → ℕ → Op → List OneEntry → Type 0) → Type 0
-IsQuietDriver {P} Own = (port : P) (place : ℕ) (op : Op) (own : List OneEntry) → Own port place op own → MayOwn own
+abbrev pub IsQuietDriver : OwnRelation → Type 0
+IsQuietDriver Own = (map : Option Map) (op : Op) (own : List OneEntry) → Own map op own → MayOwn own

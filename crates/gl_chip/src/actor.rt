@@ -1,7 +1,7 @@
 //! Actors.
 
 use gl_core::Core;
-use gl_driver::{Driver, Port};
+use gl_driver::{Driver, Map, Port};
 use gl_gate::Pass;
 use std::marker::Model;
 
@@ -25,10 +25,11 @@ impl<D: Driver<Core>> Model for Actor<D> {
 }
 
 impl<D: Driver<Core>> Actor<D> {
-    ghost use Rattle.std.specs.Prelude.{◌≡◌};
+    ghost use Rattle.std.specs.Prelude.{◌≡◌, None};
     ghost use Rattle.gl_world.specs.History.{Legal};
     ghost use Rattle.gl_rule.specs.Turn.{NoStrangers};
     ghost use Rattle.gl_gate.specs.Calls.{HasItsOwn};
+    ghost use Rattle.gl_driver.specs.Maps.{FitsMap, left_behind, map_at, with_map};
     ghost use Rattle.gl_driver.specs.Told.{with_bits, with_plan};
     ghost use Rattle.gl_core.specs.Device.{core};
     ghost use Rattle.gl_chip.specs.Values.{IsIdle};
@@ -53,6 +54,8 @@ impl<D: Driver<Core>> Actor<D> {
         ensures pass { self.new.pass ≡ self.old.pass }
         ensures port { D.Port.told self.new.port ≡ with_plan nth (D.Port.told self.old.port) }
         ensures faults { D.Port.faults self.new.port ≡ D.Port.faults self.old.port }
+        ensures maps { D.Port.maps self.new.port ≡ D.Port.maps self.old.port }
+        ensures maps_left { D.Port.maps_left self.new.port ≡ D.Port.maps_left self.old.port }
     {
         self.port.plan(nth);
     }
@@ -63,7 +66,36 @@ impl<D: Driver<Core>> Actor<D> {
         ensures pass { self.new.pass ≡ self.old.pass }
         ensures port { D.Port.told self.new.port ≡ with_bits bits (D.Port.told self.old.port) }
         ensures faults { D.Port.faults self.new.port ≡ D.Port.faults self.old.port }
+        ensures maps { D.Port.maps self.new.port ≡ D.Port.maps self.old.port }
+        ensures maps_left { D.Port.maps_left self.new.port ≡ D.Port.maps_left self.old.port }
     {
         self.port.accept(bits);
+    }
+
+    /// How many maps more this actor's port takes.
+    pub fn maps_left(&self) -> u32
+        ensures { result ≡ D.Port.maps_left self.now.port }
+    {
+        self.port.maps_left()
+    }
+
+    /// The map of a place that this actor's port keeps, if it has one.
+    pub fn map(&self, place: u8) -> Option<Map>
+        ensures { result ≡ map_at place (D.Port.maps self.now.port) }
+    {
+        self.port.map(place)
+    }
+
+    /// Has this actor's port keep a map, for a place that has none. A port that takes none more stays as it was.
+    pub fn learn(&mut self, map: &Map)
+        requires new { map_at map.now.place (D.Port.maps self.old.port) ≡ None }
+        requires fits { FitsMap map.now }
+        ensures pass { self.new.pass ≡ self.old.pass }
+        ensures maps { D.Port.maps self.new.port ≡ with_map (D.Port.maps_left self.old.port) map.now (D.Port.maps self.old.port) }
+        ensures maps_left { D.Port.maps_left self.new.port ≡ left_behind (D.Port.maps_left self.old.port) }
+        ensures port { D.Port.told self.new.port ≡ D.Port.told self.old.port }
+        ensures faults { D.Port.faults self.new.port ≡ D.Port.faults self.old.port }
+    {
+        self.port.learn(map);
     }
 }

@@ -29,7 +29,7 @@ impl<D: Driver<Core>> Gpio<D> {
     ) -> Result<(), Errno>
         requires actor { IsActorOf self.now actor.old }
         requires single { is_single call.now ≡ true }
-        requires fits { Fits call.now (record { ring = None; queue = None }) [] }
+        requires fits { Fits call.now (record { ring = None; queue = None; asked = None }) [] }
         ensures actor { IsActorOf self.now actor.new }
         ensures same { IsSameActor actor.old.pass.view actor.new.pass.view }
         ensures port { actor.new.port ≡ actor.old.port }

@@ -74,7 +74,7 @@ impl<D: Driver<Core>> Gpio<D> {
         ensures gate { IsPassOf self.now pass.new }
         ensures owes { Owes core pass.new.view 0 }
         ensures inside { pass.new.view.inside ≡ pass.old.view.inside }
-        ensures called { IfOk result (λ r. CommandedInside D.Port.told D.Port.faults D.OwnEntries D.ENTRIES D.is_planned op.now
+        ensures called { IfOk result (λ r. CommandedInside D.Port.told D.Port.faults D.Port.maps D.Port.maps_left D.OwnEntries D.Follows D.ENTRIES op.now
             pass.old.view port.old (command_in file.place file.fd file.of_chip cmd out.old) r out.old out.new pass.new.view port.new) }
         ensures full { IfErr result (λ e. (e ≡ Full) × (out.new ≡ out.old) × (port.new ≡ port.old)
             × StoodFull core pass.old.view pass.new.view) }
@@ -132,7 +132,7 @@ impl<D: Driver<Core>> Gpio<D> {
         ensures actor { IsActorOf self.now actor.new }
         ensures same { IsSameActor actor.old.pass.view actor.new.pass.view }
         ensures commanded { IfOk result (λ r. (bytes : List ℕ) × (out.new ≡ bytes ++ drop (length bytes) out.old)
-            × HasCommanded D.Port.told D.Port.faults D.OwnEntries D.ENTRIES D.is_planned op.now
+            × HasCommanded D.Port.told D.Port.faults D.Port.maps D.Port.maps_left D.OwnEntries D.Follows D.ENTRIES op.now
             actor.old (command_in file.place file.fd file.of_chip cmd out.old) r bytes actor.new) }
         ensures number { IfOk result (λ r. (n : ℕ) → r ≡ Number n → (n < 2 ^ 31) × IsOp op.now) }
         ensures full { IfErr result (λ e. (e ≡ Full) × (out.new ≡ out.old) × (actor.new.port ≡ actor.old.port)

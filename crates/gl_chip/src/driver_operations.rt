@@ -1,20 +1,19 @@
 //! What the driver is asked for a command.
 
-ghost use Rattle.std.specs.Prelude.{◌≡◌, ◌≤◌, true, false, take, Some, None, IfSome, IfNone};
+ghost use Rattle.std.specs.Prelude.{◌≡◌, true, false, Some, IfSome, IfNone};
 ghost use Rattle.gl_base.specs.Lines.{IsLineCount};
 ghost use Rattle.gl_driver.specs.Calls.{FitsOp};
-ghost use Rattle.gl_uapi.specs.Command.{command_of, size_of};
-ghost use Rattle.gl_uapi.specs.declared.layout.TheConstants.{LINE_REQUEST_SIZE};
-ghost use Rattle.gl_model.specs.AskedLines.{request_fault};
+ghost use Rattle.gl_uapi.specs.Command.{command_of};
 ghost use Rattle.gl_model.specs.Parts.{is_driver_asked};
-ghost use Rattle.gl_asking.specs.Driving.{op_of, op_requested};
+ghost use Rattle.gl_asking.specs.Driving.{op_of};
+ghost use Rattle.gl_chip.specs.DriverCommands.{op_brought};
 
-use gl_asking::lines_in;
-use gl_attrs::{resolve, settings_of};
-use gl_base::{LINES_PER_REQUEST, Lines};
+use gl_attrs::settings_of;
+use gl_base::Lines;
+use gl_core::Gift;
 use gl_driver::Op;
 use gl_uapi::layout::LINE_REQUEST_SIZE;
-use gl_uapi::{Command, ConfigRef, RequestRef, ValuesRef};
+use gl_uapi::{Command, ConfigRef, ValuesRef};
 
 /// Sets those of the lines that the mask names.
 fn op_of_values(lines: &Lines, bytes: &[u8; LINE_REQUEST_SIZE]) -> Op
@@ -79,31 +78,17 @@ pub(crate) fn line_op(
     }
 }
 
-/// What the driver is asked for a request of lines: nothing, where its bytes alone have it refused.
-fn op_in(request: &RequestRef<'_>) -> Option<Op>
-    ensures op { result ≡ op_requested (request_fault request.now) request.now }
+/// What the driver is asked for a request of lines, by what its ask brings: to apply the settings to the lines; nothing, where
+/// the bytes alone have it refused.
+pub(crate) fn request_op(gift: &Gift) -> Option<Op>
+    ensures op { result ≡ op_brought gift.now.asked }
     ensures fits { IfSome result (λ op. FitsOp op) }
 {
-    let count = request.num_lines();
-    if count == 0 || count > LINES_PER_REQUEST {
-        return None;
-    }
-    if !request.padding_is_zero() {
-        return None;
-    }
-    match resolve(request.config(), count) {
-        Err(_) => None,
-        Ok(settings) => Some(Op::Apply {
-            lines: lines_in(request),
-            settings,
+    match &gift.asked {
+        None => None,
+        Some(asked) => Some(Op::Apply {
+            lines: *asked.lines(),
+            settings: *asked.settings(),
         }),
     }
-}
-
-/// What the driver is asked for a request of lines with these bytes: nothing, where the bytes alone have it refused.
-pub(crate) fn request_op(bytes: &[u8; LINE_REQUEST_SIZE]) -> Option<Op>
-    ensures op { result ≡ op_requested (request_fault (take LINE_REQUEST_SIZE bytes.now)) (take LINE_REQUEST_SIZE bytes.now) }
-    ensures fits { IfSome result (λ op. FitsOp op) }
-{
-    op_in(&RequestRef::of(bytes).unwrap())
 }

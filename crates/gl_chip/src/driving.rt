@@ -1,17 +1,18 @@
 //! The steps of a command that asks the driver: the ask, the driver's call, the tell. They are the same for every machine.
 
-ghost use Rattle.std.specs.Prelude.{◌≡◌, ℕ, ◌≤◌, cond, true, false, List, None, IfOk, IfErr, IfSome};
+ghost use Rattle.std.specs.Prelude.{◌≡◌, ℕ, ◌≤◌, cond, true, false, List, Option, None, IfOk, IfErr};
 ghost use Rattle.gl_base.specs.declared.errno.Errno.TheVariants.{Full};
 ghost use Rattle.gl_base.specs.declared.limits.TheConstants.{PLACES};
 ghost use Rattle.gl_base.specs.Count.{Rises};
 ghost use Rattle.gl_world.specs.declared.history.Entry.{Entry};
-ghost use Rattle.gl_world.specs.Deeds.{Deed};
 ghost use Rattle.gl_world.specs.Removal.{AllQuiet};
 ghost use Rattle.gl_gate.specs.Values.{IsPassOf};
 ghost use Rattle.gl_gate.specs.Calls.{IsInside, MayName};
-ghost use Rattle.gl_driver.specs.Calls.{FitsOp};
-ghost use Rattle.gl_driver.specs.Told.{faults_after, planned_for, with_call};
-ghost use Rattle.gl_chip.specs.Steps.{CalledOnce, Drove, IsAsk, IsTell, Owes, StoodFull};
+ghost use Rattle.gl_driver.specs.declared.map.Map.{Map};
+ghost use Rattle.gl_driver.specs.Calls.{Drives, FitsOp};
+ghost use Rattle.gl_driver.specs.Maps.{map_for};
+ghost use Rattle.gl_driver.specs.Told.{faults_after};
+ghost use Rattle.gl_chip.specs.Steps.{CalledOnce, IsAsk, IsTell, Owes, StoodFull};
 
 use gl_base::Errno;
 use gl_driver::{Driver, Op};
@@ -65,16 +66,16 @@ pub(crate) fn drive<M: Machine, D: Driver<M>, R: Wait>(
     requires alone { (p : ℕ) → IsInside pass.old.view p → p ≡ place }
     requires owes { Owes M.Machine pass.old.view 1 }
     requires op { FitsOp op.now }
-    requires quiet { (own : List (Entry M M.Call M.Reply M.Gift)) → D.OwnEntries port.old place op.now own → AllQuiet M.Machine own }
+    requires quiet { (map : Option Map) (own : List (Entry M M.Call M.Reply M.Gift)) → D.OwnEntries map op.now own → AllQuiet M.Machine own }
     ensures gate { IsPassOf gate.now pass.new }
-    ensures drove { (own : List (Entry M M.Call M.Reply M.Gift)) × (did : List (Deed M M.Call M.Reply M.Gift))
-        × D.OwnEntries port.old place op.now own × Drove M.Machine D.ENTRIES pass.old.view own did pass.new.view }
-    ensures told { D.Port.told port.new ≡ with_call op.now result (D.Port.told port.old) }
+    ensures drives { Drives M.Machine D.ENTRIES D.OwnEntries D.Follows (map_for D.ENTRIES place (D.Port.maps port.old)) op.now
+        (D.Port.told port.old) (D.Port.told port.new) result pass.old.view pass.new.view }
+    ensures owes { Owes M.Machine pass.new.view 1 }
+    ensures maps { D.Port.maps port.new ≡ D.Port.maps port.old }
+    ensures maps_left { D.Port.maps_left port.new ≡ D.Port.maps_left port.old }
     ensures counted { D.Port.faults port.new ≡ faults_after result (D.Port.faults port.old) }
     ensures never_falls { D.Port.faults port.old ≤ D.Port.faults port.new }
     ensures fault { result ≡ None → Rises (D.Port.faults port.old) (D.Port.faults port.new) }
-    ensures planned { D.is_planned ≡ true
-        → IfSome (D.Port.told port.old) (λ t. result ≡ planned_for op.now t) }
 {
     quiet_entries_keep_removals::<M>();
     // What holds of every pass is known once it has told its number.

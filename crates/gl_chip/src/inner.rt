@@ -30,10 +30,12 @@ use std::sync::Wait;
 pub(crate) fn nothing() -> Gift
     ensures ring { result.ring ≡ None }
     ensures queue { result.queue ≡ None }
+    ensures asked { result.asked ≡ None }
 {
     Gift {
         ring: None,
         queue: None,
+        asked: None,
     }
 }
 
@@ -79,7 +81,7 @@ impl<D: Driver<Core>> Gpio<D> {
         requires guard { guarded_place call.now ≡ Some place }
         requires poll { is_poll (Once call.now) ≡ poll }
         requires tells { has_form call.now (guard_reply poll) ≡ false }
-        requires fits { Fits call.now (record { ring = None; queue = None }) out.old }
+        requires fits { Fits call.now (record { ring = None; queue = None; asked = None }) out.old }
         ensures actor { IsActorOf self.now actor.new }
         ensures same { IsSameActor actor.old.pass.view actor.new.pass.view }
         ensures port { actor.new.port ≡ actor.old.port }

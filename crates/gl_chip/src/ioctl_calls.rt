@@ -62,7 +62,7 @@ impl<D: Driver<Core>> Gpio<D> {
         ensures called { result ≢ Err NoMemory → let c = command_in fd.now.place fd.now.fd true cmd buf.old in
             let lines = lines_asked (take LINE_REQUEST_SIZE c.bytes) in
             (bytes : List ℕ) × (buf.new ≡ bytes ++ drop (length bytes) buf.old)
-            × CommandsOut D.Port.told D.Port.faults D.OwnEntries D.ENTRIES D.is_planned
+            × CommandsOut D.Port.told D.Port.faults D.Port.maps D.Port.maps_left D.OwnEntries D.Follows D.ENTRIES
             (requested_of fd.now.place lines) result (op_for lines c) actor.old c bytes actor.new }
         ensures file { IfOk result (λ file. is_some file ≡ is_get_line (command_of cmd)) }
         ensures told { is_driver_asked true (length buf.old) (command_of cmd) ≡ true → WasLetIn result → let c = command_in fd.now.place fd.now.fd true cmd buf.old in
@@ -110,7 +110,7 @@ impl<D: Driver<Core>> Gpio<D> {
         ensures same { IsSameActor actor.old.pass.view actor.new.pass.view }
         ensures called { let c = command_in fd.now.place fd.now.fd false cmd buf.old in
             (bytes : List ℕ) × (buf.new ≡ bytes ++ drop (length bytes) buf.old)
-            × CommandsOut D.Port.told D.Port.faults D.OwnEntries D.ENTRIES D.is_planned
+            × CommandsOut D.Port.told D.Port.faults D.Port.maps D.Port.maps_left D.OwnEntries D.Follows D.ENTRIES
             done_of result (op_for fd.now.lines c) actor.old c bytes actor.new }
         ensures told { is_driver_asked false (length buf.old) (command_of cmd) ≡ true → WasLetIn result → let c = command_in fd.now.place fd.now.fd false cmd buf.old in
             AnswersInOrder done_of result actor.old.pass.view actor.new.pass.view c }

@@ -73,6 +73,7 @@ impl<D: Driver<Core>> Gpio<D> {
         let mut gift = Gift {
             ring: None,
             queue: Some(queue),
+            asked: None,
         };
         match self.plain(rt, actor, &Call::OpenChip { word: *word }, &mut gift) {
             Ok(reply) => opened(word, reply),

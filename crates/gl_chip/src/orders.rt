@@ -23,14 +23,13 @@ ghost use Rattle.gl_chip.specs.Values.{IsActorOf, IsSameActor};
 
 use crate::actor::Actor;
 use crate::driver_operations::{line_op, request_op};
-use crate::get_line::ring_for;
 use crate::gpio::Gpio;
 use crate::inner::nothing;
 use crate::plain_commands::{OpenFile, is_driver_asked};
 use gl_asking::FileKind;
 use gl_base::{Errno, Lines};
-use gl_core::fits::gift_for;
-use gl_core::{Call, Core, Part, Reply};
+use gl_core::fits::{gift_for, gift_for_lines};
+use gl_core::{Call, Core, Reply};
 use gl_driver::Driver;
 use gl_model::{CommandIn, DeviceCall, RemovalOf};
 use std::alloc::Global;
@@ -82,7 +81,7 @@ impl<D: Driver<Core>> Gpio<D> {
         ensures actor { IsActorOf self.now actor.new }
         ensures same { IsSameActor actor.old.pass.view actor.new.pass.view }
         ensures done { IfOk result (λ r. (bytes : List ℕ) × (out.new ≡ bytes ++ drop (length bytes) out.old)
-            × HasDone D.Port.told D.Port.faults D.OwnEntries D.ENTRIES D.is_planned (Once call.now) Chip actor.old r bytes actor.new) }
+            × HasDone D.Port.told D.Port.faults D.Port.maps D.Port.maps_left D.OwnEntries D.Follows D.ENTRIES (Once call.now) Chip actor.old r bytes actor.new) }
         ensures form { IfOk result (λ r. AnswersOrder (Once call.now) Chip r) }
         ensures could_not { IfErr result (λ e. CouldNot e actor.old actor.new × (out.new ≡ out.old)) }
     {
@@ -104,7 +103,7 @@ impl<D: Driver<Core>> Gpio<D> {
         ensures actor { IsActorOf self.now actor.new }
         ensures same { IsSameActor actor.old.pass.view actor.new.pass.view }
         ensures done { IfOk result (λ r. (bytes : List ℕ)
-            × HasDone D.Port.told D.Port.faults D.OwnEntries D.ENTRIES D.is_planned (Removing removal.now) Chip actor.old r bytes actor.new) }
+            × HasDone D.Port.told D.Port.faults D.Port.maps D.Port.maps_left D.OwnEntries D.Follows D.ENTRIES (Removing removal.now) Chip actor.old r bytes actor.new) }
         ensures form { IfOk result (λ r. AnswersOrder (Removing removal.now) Chip r) }
         ensures could_not { IfErr result (λ e. CouldNot e actor.old actor.new) }
     {
@@ -126,7 +125,7 @@ impl<D: Driver<Core>> Gpio<D> {
         ensures actor { IsActorOf self.now actor.new }
         ensures same { IsSameActor actor.old.pass.view actor.new.pass.view }
         ensures commanded { IfOk result (λ r. (bytes : List ℕ) × (out.new ≡ bytes ++ drop (length bytes) out.old)
-            × HasCommanded D.Port.told D.Port.faults D.OwnEntries D.ENTRIES D.is_planned (op_for (lines_on Chip command.now) command.now) actor.old command.now r bytes actor.new) }
+            × HasCommanded D.Port.told D.Port.faults D.Port.maps D.Port.maps_left D.OwnEntries D.Follows D.ENTRIES (op_for (lines_on Chip command.now) command.now) actor.old command.now r bytes actor.new) }
         ensures number { IfOk result (λ r. (n : ℕ) → r ≡ Number n → (n < 2 ^ 31) × IsOp (op_for (lines_on Chip command.now) command.now)) }
         ensures could_not { IfErr result (λ e. CouldNot e actor.old actor.new × (out.new ≡ out.old)) }
     {
@@ -138,27 +137,21 @@ impl<D: Driver<Core>> Gpio<D> {
         if !is_driver_asked(true, command.len, command.cmd) {
             return self.whole_command(rt, actor, file, command.cmd, out);
         }
-        let op = request_op(&command.bytes);
-        let asking = Call::Ioctl {
-            place: command.place,
-            fd: command.fd,
-            cmd: command.cmd,
-            len: command.len,
-            bytes: command.bytes,
-            part: Part::Ask,
-        };
-        match ring_for(&asking, &op, alloc) {
+        match gift_for_lines(&command.bytes, alloc) {
             Err(errno) => Err(errno),
-            Ok(mut gift) => self.driven_command(
-                rt,
-                actor,
-                file,
-                command.cmd,
-                &command.bytes,
-                &op,
-                &mut gift,
-                out,
-            ),
+            Ok(mut gift) => {
+                let op = request_op(&gift);
+                self.driven_command(
+                    rt,
+                    actor,
+                    file,
+                    command.cmd,
+                    &command.bytes,
+                    &op,
+                    &mut gift,
+                    out,
+                )
+            }
         }
     }
 
@@ -178,7 +171,7 @@ impl<D: Driver<Core>> Gpio<D> {
         ensures actor { IsActorOf self.now actor.new }
         ensures same { IsSameActor actor.old.pass.view actor.new.pass.view }
         ensures commanded { IfOk result (λ r. (bytes : List ℕ) × (out.new ≡ bytes ++ drop (length bytes) out.old)
-            × HasCommanded D.Port.told D.Port.faults D.OwnEntries D.ENTRIES D.is_planned (op_for lines.now command.now) actor.old command.now r bytes actor.new) }
+            × HasCommanded D.Port.told D.Port.faults D.Port.maps D.Port.maps_left D.OwnEntries D.Follows D.ENTRIES (op_for lines.now command.now) actor.old command.now r bytes actor.new) }
         ensures number { IfOk result (λ r. (n : ℕ) → r ≡ Number n → (n < 2 ^ 31) × IsOp (op_for lines.now command.now)) }
         ensures could_not { IfErr result (λ e. CouldNot e actor.old actor.new × (out.new ≡ out.old)) }
     {
@@ -219,7 +212,7 @@ impl<D: Driver<Core>> Gpio<D> {
         ensures actor { IsActorOf self.now actor.new }
         ensures same { IsSameActor actor.old.pass.view actor.new.pass.view }
         ensures commanded { IfOk result (λ r. (bytes : List ℕ) × (out.new ≡ bytes ++ drop (length bytes) out.old)
-            × HasCommanded D.Port.told D.Port.faults D.OwnEntries D.ENTRIES D.is_planned (op_for (lines_on on.now command.now) command.now) actor.old command.now r bytes actor.new) }
+            × HasCommanded D.Port.told D.Port.faults D.Port.maps D.Port.maps_left D.OwnEntries D.Follows D.ENTRIES (op_for (lines_on on.now command.now) command.now) actor.old command.now r bytes actor.new) }
         ensures number { IfOk result (λ r. (n : ℕ) → r ≡ Number n → (n < 2 ^ 31) × IsOp (op_for (lines_on on.now command.now) command.now)) }
         ensures could_not { IfErr result (λ e. CouldNot e actor.old actor.new × (out.new ≡ out.old)) }
     {
@@ -243,7 +236,7 @@ impl<D: Driver<Core>> Gpio<D> {
         ensures actor { IsActorOf self.now actor.new }
         ensures same { IsSameActor actor.old.pass.view actor.new.pass.view }
         ensures done { IfOk result (λ r. (bytes : List ℕ) × WroteTo order.now.call bytes out.old out.new
-            × HasDone D.Port.told D.Port.faults D.OwnEntries D.ENTRIES D.is_planned order.now.call order.now.on actor.old r bytes actor.new) }
+            × HasDone D.Port.told D.Port.faults D.Port.maps D.Port.maps_left D.OwnEntries D.Follows D.ENTRIES order.now.call order.now.on actor.old r bytes actor.new) }
         ensures form { IfOk result (λ r. AnswersOrder order.now.call order.now.on r) }
         ensures could_not { IfErr result (λ e. CouldNot e actor.old actor.new × (out.new ≡ out.old)) }
     {
@@ -276,7 +269,7 @@ impl<D: Driver<Core>> Gpio<D> {
         ensures actor { IsActorOf self.now actor.new }
         ensures same { IsSameActor actor.old.pass.view actor.new.pass.view }
         ensures done { IfOk result (λ r. (bytes : List ℕ) × WroteTo order.now.call bytes out.old out.new
-            × HasDone D.Port.told D.Port.faults D.OwnEntries D.ENTRIES D.is_planned order.now.call order.now.on actor.old r bytes actor.new) }
+            × HasDone D.Port.told D.Port.faults D.Port.maps D.Port.maps_left D.OwnEntries D.Follows D.ENTRIES order.now.call order.now.on actor.old r bytes actor.new) }
         ensures port { D.ENTRIES ≡ 0 → IfOk result (λ r. (bytes : List ℕ) × WroteTo order.now.call bytes out.old out.new
             × (called : HasCalled 0 actor.old.pass.view order.now.call r bytes actor.new.pass.view)
             × PortAfter D.is_planned (op_ordered order.now.call order.now.on) (tells_in (entries_in called.did)) (D.Port.told actor.old.port) (D.Port.told actor.new.port)) }

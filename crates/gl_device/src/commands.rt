@@ -38,7 +38,7 @@ impl<D: Driver<Core>> Device<D> {
         ensures called { result ≢ Err NoMemory → let c = command_in fd.now.place fd.now.fd true cmd buf.old in
             let lines = lines_asked (take LINE_REQUEST_SIZE c.bytes) in
             (bytes : List ℕ) × (buf.new ≡ bytes ++ drop (length bytes) buf.old)
-            × CommandsOut D.Port.told D.Port.faults D.OwnEntries D.ENTRIES D.is_planned
+            × CommandsOut D.Port.told D.Port.faults D.Port.maps D.Port.maps_left D.OwnEntries D.Follows D.ENTRIES
             (requested_of fd.now.place lines) result (op_for lines c) self.old c bytes self.new }
         ensures file { IfOk result (λ file. is_some file ≡ is_get_line (command_of cmd)) }
         ensures told { is_driver_asked true (length buf.old) (command_of cmd) ≡ true → WasLetIn result → let c = command_in fd.now.place fd.now.fd true cmd buf.old in
@@ -61,7 +61,7 @@ impl<D: Driver<Core>> Device<D> {
         requires length { length buf.old < 2 ^ 32 }
         ensures called { let c = command_in fd.now.place fd.now.fd false cmd buf.old in
             (bytes : List ℕ) × (buf.new ≡ bytes ++ drop (length bytes) buf.old)
-            × CommandsOut D.Port.told D.Port.faults D.OwnEntries D.ENTRIES D.is_planned
+            × CommandsOut D.Port.told D.Port.faults D.Port.maps D.Port.maps_left D.OwnEntries D.Follows D.ENTRIES
             done_of result (op_for fd.now.lines c) self.old c bytes self.new }
         ensures told { is_driver_asked false (length buf.old) (command_of cmd) ≡ true → WasLetIn result → let c = command_in fd.now.place fd.now.fd false cmd buf.old in
             AnswersInOrder done_of result self.old.pass.view self.new.pass.view c }

@@ -59,7 +59,7 @@ impl<D: Driver<Core>> Device<D> {
         ensures memory { result ≡ Err NoMemory → self.new ≡ self.old }
         ensures called { result ≢ Err NoMemory → let c = command_in fd.now.place fd.now.fd true GET_LINE (request_bytes offsets.now consumer.now flags) in
             let lines = lines_asked (take LINE_REQUEST_SIZE c.bytes) in
-            (bytes : List ℕ) × CommandsOut D.Port.told D.Port.faults D.OwnEntries D.ENTRIES D.is_planned
+            (bytes : List ℕ) × CommandsOut D.Port.told D.Port.faults D.Port.maps D.Port.maps_left D.OwnEntries D.Follows D.ENTRIES
             (requested_of fd.now.place lines) (as_command result) (op_for lines c) self.old c bytes self.new }
     {
         let mut bytes = request_bytes(offsets, consumer, flags);
@@ -75,7 +75,7 @@ impl<D: Driver<Core>> Device<D> {
     pub fn get_values<R: Wait>(&mut self, rt: &R, fd: &LineFd, mask: u64) -> Result<u64, Errno>
         ensures called { let c = command_in fd.now.place fd.now.fd false LINE_GET_VALUES (values_bytes 0 mask) in
             (bytes : List ℕ) × IfOk result (λ bits. bits ≡ bits_after bytes (values_bytes 0 mask))
-            × CommandsOut D.Port.told D.Port.faults D.OwnEntries D.ENTRIES D.is_planned
+            × CommandsOut D.Port.told D.Port.faults D.Port.maps D.Port.maps_left D.OwnEntries D.Follows D.ENTRIES
             done_of (without_value result) (op_for fd.now.lines c) self.old c bytes self.new }
     {
         let mut bytes = values_bytes(0, mask);
@@ -95,7 +95,7 @@ impl<D: Driver<Core>> Device<D> {
         bits: u64,
     ) -> Result<(), Errno>
         ensures called { let c = command_in fd.now.place fd.now.fd false LINE_SET_VALUES (values_bytes bits mask) in
-            (bytes : List ℕ) × CommandsOut D.Port.told D.Port.faults D.OwnEntries D.ENTRIES D.is_planned
+            (bytes : List ℕ) × CommandsOut D.Port.told D.Port.faults D.Port.maps D.Port.maps_left D.OwnEntries D.Follows D.ENTRIES
             done_of result (op_for fd.now.lines c) self.old c bytes self.new }
     {
         let mut bytes = values_bytes(bits, mask);

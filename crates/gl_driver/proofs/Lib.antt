@@ -1,1 +1,1 @@
-pub mod OwnEntries
+pub mod Backs

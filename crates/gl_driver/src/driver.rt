@@ -1,12 +1,15 @@
 //! The trait of drivers.
-ghost use Rattle.std.specs.Prelude.{◌≡◌, ◌≢◌, ℕ, ◌≤◌, Bool, true, List, [], length, IfErr, IfSome};
+ghost use Rattle.std.specs.Prelude.{◌≡◌, ◌≢◌, ℕ, ◌≤◌, Bool, true, List, [], Option, Some, None, IfErr};
 ghost use Rattle.gl_world.specs.declared.history.Entry.{Entry};
+ghost use Rattle.gl_world.specs.Deeds.{Deed};
 ghost use Rattle.gl_gate.specs.Values.{IsPassOf};
 ghost use Rattle.gl_gate.specs.Calls.{IsInside, HoldsNoTurn};
 ghost use Rattle.gl_base.specs.Count.{Rises};
 ghost use Rattle.gl_base.specs.declared.op.Op.{Op};
-ghost use Rattle.gl_driver.specs.Told.{with_call, answer_of, planned_for, faults_after};
-ghost use Rattle.gl_driver.specs.Calls.{FitsOp, MayMakeEntries, IsBack};
+ghost use Rattle.gl_driver.specs.declared.map.Map.{Map};
+ghost use Rattle.gl_driver.specs.Maps.{map_for};
+ghost use Rattle.gl_driver.specs.Told.{Told, answer_of, planned_for, faults_after};
+ghost use Rattle.gl_driver.specs.Calls.{FitsOp, MayMakeEntries, Drives};
 
 use crate::op::DriverFault;
 use crate::port::Port;
@@ -27,13 +30,17 @@ pub trait Driver<M: Machine>: Sync + Drop {
     /// How many entries of its own one call makes at most.
     ghost ENTRIES: { ℕ };
 
-    /// Whether its answers are planned: a failure at exactly the call that the port's plan names, else the port's accepted
-    /// bits to an `Apply`, and 0 to a `Get` and a `Set`.
+    /// Whether its answers are planned at a place where it goes by no map: a failure at exactly the call that the port's plan
+    /// names, else the port's accepted bits to an `Apply`, and 0 to a `Get` and a `Set`.
     ghost is_planned: { Bool };
 
-    /// The entries of its own that a call may make: of the port as it was, the place, the operation, and the
+    /// The entries of its own that a call may make: of the map by which it goes at the place, the operation, and the
     /// entries with their replies.
-    ghost OwnEntries: { Self.Port → ℕ → Op → List (Entry M M.Call M.Reply M.Gift) → Type 0 };
+    ghost OwnEntries: { Option Map → Op → List (Entry M M.Call M.Reply M.Gift) → Type 0 };
+
+    /// The answer that follows, where the driver tells: of the map by which it goes at the place, what the port told before,
+    /// the operation, what the pass did in the call, its room, how many entries it had seen at the end, and the answer.
+    ghost Follows: { Option Map → Option Told → Op → List (Deed M M.Call M.Reply M.Gift) → ℕ → ℕ → Option ℕ → Type 0 };
 
     /// Asks the driver of the chip at a place. The answer of a `Get` is the bits of its lines; bit `i` of the answer of an
     /// `Apply` says that the driver debounces the `i`-th of its lines by itself.
@@ -55,16 +62,19 @@ pub trait Driver<M: Machine>: Sync + Drop {
         requires op { FitsOp op.now }
         requires entries { Self.ENTRIES ≢ 0 → MayMakeEntries M.Machine PLACES gate.now pass.old.view place }
         ensures gate { IsPassOf gate.now pass.new }
-        ensures pass { (own : List (Entry M M.Call M.Reply M.Gift)) × (length own ≤ Self.ENTRIES)
-            × Self.OwnEntries port.old place op.now own × IsBack M.Machine pass.old.view own pass.new.view }
-        ensures told { Self.Port.told port.new ≡ with_call op.now (answer_of result) (Self.Port.told port.old) }
+        ensures drives { Drives M.Machine Self.ENTRIES Self.OwnEntries Self.Follows (map_for Self.ENTRIES place (Self.Port.maps port.old)) op.now
+            (Self.Port.told port.old) (Self.Port.told port.new) (answer_of result) pass.old.view pass.new.view }
+        ensures maps { Self.Port.maps port.new ≡ Self.Port.maps port.old }
+        ensures maps_left { Self.Port.maps_left port.new ≡ Self.Port.maps_left port.old }
         ensures counted { Self.Port.faults port.new ≡ faults_after (answer_of result) (Self.Port.faults port.old) }
         ensures never_falls { Self.Port.faults port.old ≤ Self.Port.faults port.new }
-        ensures fault { IfErr result (λ _. Rises (Self.Port.faults port.old) (Self.Port.faults port.new)) }
-        ensures planned { Self.is_planned ≡ true
-            → IfSome (Self.Port.told port.old) (λ t. answer_of result ≡ planned_for op.now t) };
+        ensures fault { IfErr result (λ _. Rises (Self.Port.faults port.old) (Self.Port.faults port.new)) };
 
     /// A driver that makes no entries owns none.
-    ghost owns_none: { Self.ENTRIES ≡ 0 → (port : Self.Port) (place : ℕ) (op : Op) (own : List (Entry M M.Call M.Reply M.Gift))
-        → Self.OwnEntries port place op own → own ≡ [] };
+    ghost owns_none: { Self.ENTRIES ≡ 0 → (map : Option Map) (op : Op) (own : List (Entry M M.Call M.Reply M.Gift))
+        → Self.OwnEntries map op own → own ≡ [] };
+
+    /// Where it goes by no map, the answer that follows from a planned driver is the planned one.
+    ghost follows_plan: { Self.is_planned ≡ true → (t : Told) (op : Op) (did : List (Deed M M.Call M.Reply M.Gift)) (room seen : ℕ) (answer : Option ℕ)
+        → Self.Follows None (Some t) op did room seen answer → answer ≡ planned_for op t };
 }

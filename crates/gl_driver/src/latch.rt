@@ -1,11 +1,12 @@
 //! A driver whose first call is kept until it is let go.
-ghost use Rattle.std.specs.Prelude.{◌≡◌, ℕ, ◌≤◌, false, IfOk, IfErr, List, [], length};
-ghost use Rattle.gl_world.specs.declared.history.Entry.{Entry};
+ghost use Rattle.std.specs.Prelude.{◌≡◌, ℕ, ◌≤◌, false, IfOk, IfErr, [], None};
+ghost use Rattle.std.proofs.Common.{sym};
+ghost use Rattle.std.proofs.lemmas.Bool.{true≢false};
 ghost use Rattle.gl_gate.specs.Values.{IsPassOf};
 ghost use Rattle.gl_gate.specs.Calls.{IsInside, HoldsNoTurn};
 ghost use Rattle.gl_base.specs.Count.{Rises};
-ghost use Rattle.gl_driver.specs.Told.{with_call, answer_of, unless_planned, faults_after};
-ghost use Rattle.gl_driver.specs.Calls.{FitsOp, IsBack};
+ghost use Rattle.gl_driver.specs.Told.{answer_of, unless_planned, faults_after};
+ghost use Rattle.gl_driver.specs.Calls.{FitsOp, Drives};
 
 use crate::driver::Driver;
 use crate::op::DriverFault;
@@ -82,7 +83,9 @@ impl<M: Machine, L: KeepsFirstCall> Driver<M> for FirstCallDriver<L> {
 
     ghost is_planned = { false };
 
-    ghost OwnEntries = { λ _ _ _ own. own ≡ [] };
+    ghost OwnEntries = { λ _ _ own. own ≡ [] };
+
+    ghost Follows = { λ _ _ _ _ _ _ _. Unit {0} };
 
     fn call<R: Wait>(
         &self,
@@ -100,10 +103,10 @@ impl<M: Machine, L: KeepsFirstCall> Driver<M> for FirstCallDriver<L> {
         ensures zero { IfOk result (λ bits. bits ≡ 0) }
         ensures planned_failure { answer_of result ≡ unless_planned (answer_of result) (⟦<SimPort as Port>⟧.told port.old) }
         ensures gate { IsPassOf gate.now pass.new }
-        ensures pass { (own : List (Entry M M.Call M.Reply M.Gift)) × (length own ≤ 0)
-            × (own ≡ []) × IsBack M.Machine pass.old.view own pass.new.view }
-        ensures told { ⟦<SimPort as Port>⟧.told port.new
-            ≡ with_call op.now (answer_of result) (⟦<SimPort as Port>⟧.told port.old) }
+        ensures drives { Drives M.Machine 0 (λ _ _ own. own ≡ []) (λ _ _ _ _ _ _ _. Unit {0}) None op.now
+            (⟦<SimPort as Port>⟧.told port.old) (⟦<SimPort as Port>⟧.told port.new) (answer_of result) pass.old.view pass.new.view }
+        ensures maps { ⟦<SimPort as Port>⟧.maps port.new ≡ ⟦<SimPort as Port>⟧.maps port.old }
+        ensures maps_left { ⟦<SimPort as Port>⟧.maps_left port.new ≡ ⟦<SimPort as Port>⟧.maps_left port.old }
         ensures counted { ⟦<SimPort as Port>⟧.faults port.new
             ≡ faults_after (answer_of result) (⟦<SimPort as Port>⟧.faults port.old) }
         ensures never_falls { ⟦<SimPort as Port>⟧.faults port.old ≤ ⟦<SimPort as Port>⟧.faults port.new }
@@ -118,5 +121,7 @@ impl<M: Machine, L: KeepsFirstCall> Driver<M> for FirstCallDriver<L> {
         port.answer(op, answer)
     }
 
-    ghost owns_none = { λ _ _ _ _ _ is. is };
+    ghost owns_none = { λ _ _ _ _ is. is };
+
+    ghost follows_plan = { λ planned. absurd (true≢false (sym planned)) };
 }

@@ -1,6 +1,6 @@
 //! How a call of a driver leaves a pass. Each is a function with nothing to do: its contract is the law, and a
 //! caller gets it by the call.
-ghost use Rattle.gl_driver.specs.OwnEntries.{CallIsOwn, RefusalIsNone, OwnEntriesAreDeeds};
+ghost use Rattle.gl_driver.specs.OwnEntries.{CallIsOwn, RefusalIsNone, NothingIsNone, OneAfterAnother};
 
 use gl_world::Machine;
 
@@ -15,7 +15,12 @@ pub fn refusal_is_none<M: Machine>()
     ensures { RefusalIsNone M.Machine }
 {}
 
-/// The entries that a driver made of its own are deeds of the pass.
-pub fn own_entries_are_deeds<M: Machine>()
-    ensures { OwnEntriesAreDeeds M.Machine }
+/// Where no call of the gate is made, the pass did nothing.
+pub fn nothing_is_none<M: Machine>()
+    ensures { NothingIsNone M.Machine }
+{}
+
+/// What a pass did in a driver's call, and what it did after that, are one after another what it did in both.
+pub fn one_after_another<M: Machine>()
+    ensures { OneAfterAnother M.Machine }
 {}

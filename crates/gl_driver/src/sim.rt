@@ -1,11 +1,12 @@
 //! The simulated driver and its port.
-ghost use Rattle.std.specs.Prelude.{◌≡◌, ◌≢◌, ℕ, ◌≤◌, ◌^◌, true, false, [], Some, None, IsTrue, IfErr};
+ghost use Rattle.std.specs.Prelude.{◌≡◌, ◌≢◌, ℕ, ◌≤◌, ◌^◌, true, false, [], Some, None, IsTrue, IfErr, IfSome};
 ghost use Rattle.std.proofs.Common.{refl};
 ghost use Rattle.gl_base.specs.Count.{counted_up, Rises};
 ghost use Rattle.gl_base.specs.Planned.{bits_for, names_call};
-ghost use Rattle.gl_driver.specs.Told.{new_port, with_call, answer_of, unless_planned, faults_after};
+ghost use Rattle.gl_driver.specs.Told.{new_port, with_call, answer_of, planned_for, unless_planned, faults_after};
 
 use crate::driver::Driver;
+use crate::map::Map;
 use crate::op::{DriverCall, DriverFault};
 use crate::port::Port;
 use gl_base::{Op, count_up};
@@ -13,7 +14,7 @@ use gl_gate::{Gate, Pass};
 use gl_world::Machine;
 use std::sync::Wait;
 
-/// A port that tells all that went through it.
+/// A port that tells all that went through it, and keeps no maps.
 #[derive(Drop)]
 pub struct SimPort {
     calls: u64,
@@ -26,9 +27,13 @@ pub struct SimPort {
 }
 
 impl Port for SimPort {
-    ghost told = { λ p. Some record { calls = p.calls; plan = p.plan; bits = p.bits; last = p.last } };
+    ghost told = { λ p. Some record { calls = p.calls; counted = p.calls; plan = p.plan; bits = p.bits; last = p.last } };
 
     ghost faults = { λ p. p.faults };
+
+    ghost maps = { λ _. [] };
+
+    ghost maps_left = { λ _. 0 };
 
     fn faults(&self) -> u64 {
         self.faults
@@ -45,6 +50,16 @@ impl Port for SimPort {
     fn accept(&mut self, bits: u64) {
         self.bits = bits;
     }
+
+    fn maps_left(&self) -> u32 {
+        0
+    }
+
+    fn learn(&mut self, _map: &Map) {}
+
+    fn map(&self, _place: u8) -> Option<Map> {
+        None
+    }
 }
 
 impl SimPort {
@@ -52,6 +67,8 @@ impl SimPort {
     pub fn new() -> SimPort
         ensures told { ⟦<SimPort as Port>⟧.told result ≡ Some new_port }
         ensures faults { ⟦<SimPort as Port>⟧.faults result ≡ 0 }
+        ensures maps { ⟦<SimPort as Port>⟧.maps result ≡ [] }
+        ensures maps_left { ⟦<SimPort as Port>⟧.maps_left result ≡ 0 }
     {
         SimPort {
             calls: 0,
@@ -137,7 +154,9 @@ impl<M: Machine> Driver<M> for SimDriver {
 
     ghost is_planned = { true };
 
-    ghost OwnEntries = { λ _ _ _ own. own ≡ [] };
+    ghost OwnEntries = { λ _ _ own. own ≡ [] };
+
+    ghost Follows = { λ _ told op _ _ _ answer. IfSome told (λ t. answer ≡ planned_for op t) };
 
     fn call<R: Wait>(
         &self,
@@ -152,5 +171,7 @@ impl<M: Machine> Driver<M> for SimDriver {
         port.answer(op, Some(bits))
     }
 
-    ghost owns_none = { λ _ _ _ _ _ is. is };
+    ghost owns_none = { λ _ _ _ _ is. is };
+
+    ghost follows_plan = { λ _ _ _ _ _ _ _ is. is };
 }

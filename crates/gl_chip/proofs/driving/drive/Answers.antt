@@ -1,8 +1,8 @@
-use Rattle.gl_chip.proofs.GateSteps.{drove}
+use Rattle.gl_chip.proofs.GateSteps.{owes_driven}
 use Rattle.gl_chip.proofs.driving.drive.Goals as goal
 
-pub returns-in-Ok-clause-drove : goal.returns-in-Ok-clause-drove
-returns-in-Ok-clause-drove g c = let p = c.call-answer.ensures.pass in drove g.M.Machine {Own = g.D.Driver.OwnEntries c.args.port.now c.args.place c.args.op.now} _ c.args.pass.now.view c.call-answer.new.pass.view p.0 p.1 p.2 p.3 c.number-number.ensures.own c.number-number-2.ensures.own c.requires.owes c.number-number-2.ensures.legal (c.requires.quiet p.0 p.2) c.quiet_entries_keep_removals.ensures
+pub returns-in-Ok-clause-owes : goal.returns-in-Ok-clause-owes
+returns-in-Ok-clause-owes g c = let d = c.call-answer.ensures.drives in owes_driven g.M.Machine c.args.pass.now.view c.call-answer.new.pass.view d.did d.back c.number-number.ensures.own c.requires.owes c.number-number-2.ensures.legal (c.requires.quiet _ _ d.own) c.quiet_entries_keep_removals.ensures
 
-pub returns-in-Err-clause-drove : goal.returns-in-Err-clause-drove
-returns-in-Err-clause-drove g c = let p = c.call-answer.ensures.pass in drove g.M.Machine {Own = g.D.Driver.OwnEntries c.args.port.now c.args.place c.args.op.now} _ c.args.pass.now.view c.call-answer.new.pass.view p.0 p.1 p.2 p.3 c.number-number.ensures.own c.number-number-2.ensures.own c.requires.owes c.number-number-2.ensures.legal (c.requires.quiet p.0 p.2) c.quiet_entries_keep_removals.ensures
+pub returns-in-Err-clause-owes : goal.returns-in-Err-clause-owes
+returns-in-Err-clause-owes g c = let d = c.call-answer.ensures.drives in owes_driven g.M.Machine c.args.pass.now.view c.call-answer.new.pass.view d.did d.back c.number-number.ensures.own c.requires.owes c.number-number-2.ensures.legal (c.requires.quiet _ _ d.own) c.quiet_entries_keep_removals.ensures

@@ -1,4 +1,4 @@
-use Rattle.gl_driver.proofs.OwnEntries.{refusal_is_none}
+use Rattle.gl_driver.proofs.Backs.{refusal_is_none}
 use Rattle.gl_driver.proofs.laws.refusal_is_none.Goals as goal
 
 pub returns : goal.returns

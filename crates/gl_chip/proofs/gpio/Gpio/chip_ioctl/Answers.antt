@@ -22,14 +22,14 @@ pub returns-in-Ok-clause-called : goal.returns-in-Ok-clause-called
 returns-in-Ok-clause-called g c = let h = c.in-Ok.ensures.called in
     let named : Lines = lines_asked (take LINE_REQUEST_SIZE (handed_in c.args.buf.now)) in
     λ _. subst (λ (f : ChipFile). (bytes : List ℕ) × (c.whole_command.new.out ≡ bytes ++ drop (length bytes) c.args.buf.now)
-    × CommandsOut g.D.Port.Port.told g.D.Port.Port.faults g.D.Driver.OwnEntries g.D.Driver.ENTRIES g.D.Driver.is_planned (requested_of f.place named) c.without_file.result (op_for named (command_in f.place f.fd true c.args.cmd c.args.buf.now))
+    × CommandsOut g.D.Port.Port.told g.D.Port.Port.faults g.D.Port.Port.maps g.D.Port.Port.maps_left g.D.Driver.OwnEntries g.D.Driver.Follows g.D.Driver.ENTRIES (requested_of f.place named) c.without_file.result (op_for named (command_in f.place f.fd true c.args.cmd c.args.buf.now))
     c.args.actor.now (command_in f.place f.fd true c.args.cmd c.args.buf.now) bytes c.whole_command.new.actor) c.fd.view_is (
       h.0,
       h.1,
-      command_is_made g.D.Port.Port.told g.D.Port.Port.faults g.D.Driver.OwnEntries g.D.Driver.ENTRIES g.D.Driver.is_planned {X = Option LineFile} (request_in c.fd.inside.place named) c.without_file.result
+      command_is_made g.D.Port.Port.told g.D.Port.Port.faults g.D.Port.Port.maps g.D.Port.Port.maps_left g.D.Driver.OwnEntries g.D.Driver.Follows g.D.Driver.ENTRIES {X = Option LineFile} (request_in c.fd.inside.place named) c.without_file.result
           (op_for named (command_in c.fd.inside.place c.fd.inside.fd true c.args.cmd c.args.buf.now)) c.args.actor.now c.whole_command.new.actor (command_in c.fd.inside.place c.fd.inside.fd true c.args.cmd c.args.buf.now) h.0 c.in-Ok.reply
           (c.without_file.ensures c.fd.inside.place named)
-          (whole_commanded g.D.Port.Port.told g.D.Port.Port.faults g.D.Driver.OwnEntries g.D.Driver.ENTRIES g.D.Driver.is_planned (op_for named (command_in c.fd.inside.place c.fd.inside.fd true c.args.cmd c.args.buf.now)) c.args.actor.now c.whole_command.new.actor
+          (whole_commanded g.D.Port.Port.told g.D.Port.Port.faults g.D.Port.Port.maps g.D.Port.Port.maps_left g.D.Driver.OwnEntries g.D.Driver.Follows g.D.Driver.ENTRIES (op_for named (command_in c.fd.inside.place c.fd.inside.fd true c.args.cmd c.args.buf.now)) c.args.actor.now c.whole_command.new.actor
           (command_in c.fd.inside.place c.fd.inside.fd true c.args.cmd c.args.buf.now) c.in-Ok.reply h.0 (sym c.if-is_driver_asked.ensures) h.2 c.in-Ok.ensures.port),
     )
 
@@ -39,7 +39,7 @@ returns-in-Err-clause-called g c = let full = c.in-Err.ensures.full in
     λ _. (
       [],
       full.1,
-      command_is_full g.D.Port.Port.told g.D.Port.Port.faults g.D.Driver.OwnEntries g.D.Driver.ENTRIES g.D.Driver.is_planned {X = Option LineFile} (request_in c.args.fd.now.place named) c.in-Err.errno
+      command_is_full g.D.Port.Port.told g.D.Port.Port.faults g.D.Port.Port.maps g.D.Port.Port.maps_left g.D.Driver.OwnEntries g.D.Driver.Follows g.D.Driver.ENTRIES {X = Option LineFile} (request_in c.args.fd.now.place named) c.in-Err.errno
           (op_for named (command_in c.args.fd.now.place c.args.fd.now.fd true c.args.cmd c.args.buf.now)) c.args.actor.now c.whole_command.new.actor (command_in c.args.fd.now.place c.args.fd.now.fd true c.args.cmd c.args.buf.now) full.0 full.2 c.in-Err.ensures.port,
     )
 

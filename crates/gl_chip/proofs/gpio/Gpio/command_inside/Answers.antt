@@ -15,7 +15,7 @@ ask-requires-clause-fits g c κs within = subst (λ (b : List ℕ). Fits (Ioctl 
 pub returns-then-not-is_go-clause-called : goal.returns-then-not-is_go-clause-called
 returns-then-not-is_go-clause-called g c =
     let asked = subst (λ (b : List ℕ). CalledOnce core c.args.pass.now.view (Ioctl c.args.file.place c.args.file.fd c.args.cmd (length c.args.out.now) b Ask) c.in-Ok.reply c.args.out.now c.ask.new.out c.ask.new.pass.view) c.requires.bytes c.in-Ok.ensures.called in
-    not_asked g.D.Port.Port.told g.D.Port.Port.faults g.D.Driver.OwnEntries g.D.Driver.ENTRIES g.D.Driver.is_planned c.args.op.now c.args.pass.now.view c.ask.new.pass.view c.args.port.now
+    not_asked g.D.Port.Port.told g.D.Port.Port.faults g.D.Port.Port.maps g.D.Port.Port.maps_left g.D.Driver.OwnEntries g.D.Driver.Follows g.D.Driver.ENTRIES c.args.op.now c.args.pass.now.view c.ask.new.pass.view c.args.port.now
     (command_in c.args.file.place c.args.file.fd c.args.file.of_chip c.args.cmd c.args.out.now) c.in-Ok.reply c.args.out.now c.ask.new.out asked (sym c.if-not-is_go.ensures)
 
 pub the_op-requires : goal.the_op-requires
@@ -34,7 +34,7 @@ pub returns-else-not-is_go-clause-called : goal.returns-else-not-is_go-clause-ca
 returns-else-not-is_go-clause-called g c =
     let asked = subst (λ (b : List ℕ). CalledOnce core c.args.pass.now.view (Ioctl c.args.file.place c.args.file.fd c.args.cmd (length c.args.out.now) b Ask) c.in-Ok.reply c.args.out.now c.ask.new.out c.ask.new.pass.view) c.requires.bytes c.in-Ok.ensures.called in
     let told = subst (λ (b : List ℕ). CalledOnce core c.drive-answer.new.pass.view (Ioctl c.args.file.place c.args.file.fd c.args.cmd (length c.args.out.now) b (Tell c.drive-answer.result)) c.tell.result c.ask.new.out c.tell.new.out c.tell.new.pass.view) c.requires.bytes c.tell.ensures.called in
-    let d = c.drive-answer.ensures.drove in
-    asked_and_told g.D.Port.Port.told g.D.Port.Port.faults g.D.Driver.OwnEntries g.D.Driver.ENTRIES g.D.Driver.is_planned c.args.op.now c.the_op.result.now c.args.pass.now.view c.ask.new.pass.view c.drive-answer.new.pass.view c.tell.new.pass.view
-    c.args.port.now c.drive-answer.new.port (command_in c.args.file.place c.args.file.fd c.args.file.of_chip c.args.cmd c.args.out.now) c.in-Ok.reply c.drive-answer.result d.0 d.1 c.tell.result c.args.out.now c.ask.new.out c.tell.new.out
-    asked (sym c.if-not-is_go.ensures) c.the_op.ensures.this c.the_op.ensures.fits d.2 (c.self.invariant.1 _ _ _ d.0 d.2) d.3 told c.drive-answer.ensures.told c.drive-answer.ensures.never_falls c.drive-answer.ensures.fault c.drive-answer.ensures.counted c.drive-answer.ensures.planned
+    let d = c.drive-answer.ensures.drives in
+    asked_and_told g.D.Port.Port.told g.D.Port.Port.faults g.D.Port.Port.maps g.D.Port.Port.maps_left g.D.Driver.OwnEntries g.D.Driver.Follows g.D.Driver.ENTRIES c.args.op.now c.the_op.result.now c.args.pass.now.view c.ask.new.pass.view c.drive-answer.new.pass.view c.tell.new.pass.view
+    c.args.port.now c.drive-answer.new.port (command_in c.args.file.place c.args.file.fd c.args.file.of_chip c.args.cmd c.args.out.now) c.in-Ok.reply c.drive-answer.result c.tell.result c.args.out.now c.ask.new.out c.tell.new.out
+    asked (sym c.if-not-is_go.ensures) c.the_op.ensures.this c.the_op.ensures.fits d (c.self.invariant.1 _ _ _ d.own) told c.drive-answer.ensures.maps c.drive-answer.ensures.maps_left c.drive-answer.ensures.never_falls c.drive-answer.ensures.fault c.drive-answer.ensures.counted

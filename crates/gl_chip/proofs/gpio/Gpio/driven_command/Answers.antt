@@ -14,10 +14,10 @@ use Rattle.gl_chip.proofs.gpio.Gpio.driven_command.Goals as goal
 pub invariant_of-actor : goal.invariant_of-actor
 invariant_of-actor g c =
     let found = found_closed core c.args.file.place c.actor.inside.pass c.enter.new.pass (c.enter.ensures.refused (search rules)) in
-    idle_commanded g.D.Port.Port.told g.D.Port.Port.faults g.D.Driver.OwnEntries g.D.Driver.ENTRIES g.D.Driver.is_planned c.refused_at.result c.args.op.now (record { pass = c.actor.inside.pass; port = c.actor.inside.port }) (record { pass = c.refused_at.new.pass; port = c.actor.inside.port })
+    idle_commanded g.D.Port.Port.told g.D.Port.Port.faults g.D.Port.Port.maps g.D.Port.Port.maps_left g.D.Driver.OwnEntries g.D.Driver.Follows g.D.Driver.ENTRIES c.refused_at.result c.args.op.now (record { pass = c.actor.inside.pass; port = c.actor.inside.port }) (record { pass = c.refused_at.new.pass; port = c.actor.inside.port })
     (command_in c.args.file.place c.args.file.fd c.args.file.of_chip c.args.cmd c.args.out.now) c.args.out.now c.refused_at.new.out c.actor.invariant
     (is_free core c.refused_at.new.pass.view (inside_after c.refused_at.result c.enter.new.pass.view c.refused_at.new.pass.view _ _ _ _ _ c.refused_at.ensures.called c.refused_at.ensures.full ∙ (found.1 ∙ c.actor.invariant.free.inside)) c.refused_at.ensures.owes)
-    (if_ok c.refused_at.result _ _ (λ r step. turned_away g.D.Port.Port.told g.D.Port.Port.faults g.D.Driver.OwnEntries g.D.Driver.ENTRIES g.D.Driver.is_planned c.args.op.now (record { pass = c.actor.inside.pass; port = c.actor.inside.port }) (record { pass = c.refused_at.new.pass; port = c.actor.inside.port })
+    (if_ok c.refused_at.result _ _ (λ r step. turned_away g.D.Port.Port.told g.D.Port.Port.faults g.D.Port.Port.maps g.D.Port.Port.maps_left g.D.Driver.OwnEntries g.D.Driver.Follows g.D.Driver.ENTRIES c.args.op.now (record { pass = c.actor.inside.pass; port = c.actor.inside.port }) (record { pass = c.refused_at.new.pass; port = c.actor.inside.port })
     c.enter.new.pass.view (command_in c.args.file.place c.args.file.fd c.args.file.of_chip c.args.cmd c.args.out.now) r c.args.out.now c.refused_at.new.out found.0 c.enter.ensures.knows (c.enter.ensures.closed (search rules)) step refl) c.refused_at.ensures.called)
     (if_err c.refused_at.result _ _ (λ e full. (no_room core c.actor.inside.pass.view c.enter.new.pass.view c.refused_at.new.pass.view found.0 c.enter.ensures.knows full.3).grew) c.refused_at.ensures.full)
 
@@ -25,20 +25,20 @@ pub returns-then-not-enter-clause-commanded : goal.returns-then-not-enter-clause
 returns-then-not-enter-clause-commanded g c =
     let found = found_closed core c.args.file.place c.actor.inside.pass c.enter.new.pass (c.enter.ensures.refused (search rules)) in
     if_ok c.refused_at.result _ _ (λ r step. subst (λ x. (bytes : List ℕ) × (c.refused_at.new.out ≡ bytes ++ drop (length bytes) c.args.out.now)
-    × HasCommanded g.D.Port.Port.told g.D.Port.Port.faults g.D.Driver.OwnEntries g.D.Driver.ENTRIES g.D.Driver.is_planned c.args.op.now x (command_in c.args.file.place c.args.file.fd c.args.file.of_chip c.args.cmd c.args.out.now) r bytes (record { pass = c.refused_at.new.pass; port = c.actor.inside.port })) c.actor.view_is
-    (turned_away g.D.Port.Port.told g.D.Port.Port.faults g.D.Driver.OwnEntries g.D.Driver.ENTRIES g.D.Driver.is_planned c.args.op.now (record { pass = c.actor.inside.pass; port = c.actor.inside.port }) (record { pass = c.refused_at.new.pass; port = c.actor.inside.port })
+    × HasCommanded g.D.Port.Port.told g.D.Port.Port.faults g.D.Port.Port.maps g.D.Port.Port.maps_left g.D.Driver.OwnEntries g.D.Driver.Follows g.D.Driver.ENTRIES c.args.op.now x (command_in c.args.file.place c.args.file.fd c.args.file.of_chip c.args.cmd c.args.out.now) r bytes (record { pass = c.refused_at.new.pass; port = c.actor.inside.port })) c.actor.view_is
+    (turned_away g.D.Port.Port.told g.D.Port.Port.faults g.D.Port.Port.maps g.D.Port.Port.maps_left g.D.Driver.OwnEntries g.D.Driver.Follows g.D.Driver.ENTRIES c.args.op.now (record { pass = c.actor.inside.pass; port = c.actor.inside.port }) (record { pass = c.refused_at.new.pass; port = c.actor.inside.port })
     c.enter.new.pass.view (command_in c.args.file.place c.args.file.fd c.args.file.of_chip c.args.cmd c.args.out.now) r c.args.out.now c.refused_at.new.out found.0 c.enter.ensures.knows (c.enter.ensures.closed (search rules)) step refl)) c.refused_at.ensures.called
 
 pub invariant_of-actor-2 : goal.invariant_of-actor-2
 invariant_of-actor-2 g c =
     let entered = came_in core c.args.file.place c.actor.inside.pass c.enter.new.pass (c.enter.ensures.entered (search rules)) in
     let out = went_out core c.args.file.place c.command_inside-answer.new.pass c.leave.new.pass c.leave.ensures in
-    idle_commanded g.D.Port.Port.told g.D.Port.Port.faults g.D.Driver.OwnEntries g.D.Driver.ENTRIES g.D.Driver.is_planned c.command_inside-answer.result c.args.op.now (record { pass = c.actor.inside.pass; port = c.actor.inside.port }) (record { pass = c.leave.new.pass; port = c.command_inside-answer.new.port })
+    idle_commanded g.D.Port.Port.told g.D.Port.Port.faults g.D.Port.Port.maps g.D.Port.Port.maps_left g.D.Driver.OwnEntries g.D.Driver.Follows g.D.Driver.ENTRIES c.command_inside-answer.result c.args.op.now (record { pass = c.actor.inside.pass; port = c.actor.inside.port }) (record { pass = c.leave.new.pass; port = c.command_inside-answer.new.port })
     (command_in c.args.file.place c.args.file.fd c.args.file.of_chip c.args.cmd c.args.out.now) c.args.out.now c.command_inside-answer.new.out c.actor.invariant
     (is_free core c.leave.new.pass.view
     (left_place c.args.file.place c.command_inside-answer.new.pass c.leave.new.pass c.leave.ensures ∙ (ap (λ (l : List ℕ). without c.args.file.place l) c.command_inside-answer.ensures.inside ∙ (c.enter.ensures.back (search rules) ∙ c.actor.invariant.free.inside)))
     (owes_moved core c.command_inside-answer.new.pass.view c.leave.new.pass.view out.0 0 c.command_inside-answer.ensures.owes))
-    (if_ok c.command_inside-answer.result _ _ (λ r did. called_command g.D.Port.Port.told g.D.Port.Port.faults g.D.Driver.OwnEntries g.D.Driver.ENTRIES g.D.Driver.is_planned c.args.op.now (record { pass = c.actor.inside.pass; port = c.actor.inside.port }) (record { pass = c.leave.new.pass; port = c.command_inside-answer.new.port })
+    (if_ok c.command_inside-answer.result _ _ (λ r did. called_command g.D.Port.Port.told g.D.Port.Port.faults g.D.Port.Port.maps g.D.Port.Port.maps_left g.D.Driver.OwnEntries g.D.Driver.Follows g.D.Driver.ENTRIES c.args.op.now (record { pass = c.actor.inside.pass; port = c.actor.inside.port }) (record { pass = c.leave.new.pass; port = c.command_inside-answer.new.port })
     c.enter.new.pass.view c.command_inside-answer.new.pass.view (command_in c.args.file.place c.args.file.fd c.args.file.of_chip c.args.cmd c.args.out.now) r c.args.out.now c.command_inside-answer.new.out c.requires.asked entered c.enter.ensures.knows
     (λ k. true≢false (sym c.if-not-enter.false ∙ c.enter.ensures.known k)) did out.0 out.1 out.2) c.command_inside-answer.ensures.called)
     (if_err c.command_inside-answer.result _ _ (λ e full. (no_room_left core c.actor.inside.pass.view c.command_inside-answer.new.pass.view c.leave.new.pass.view
@@ -49,8 +49,8 @@ returns-clause-commanded g c =
     let entered = came_in core c.args.file.place c.actor.inside.pass c.enter.new.pass (c.enter.ensures.entered (search rules)) in
     let out = went_out core c.args.file.place c.command_inside-answer.new.pass c.leave.new.pass c.leave.ensures in
     if_ok c.command_inside-answer.result _ _ (λ r did. subst (λ x. (bytes : List ℕ) × (c.command_inside-answer.new.out ≡ bytes ++ drop (length bytes) c.args.out.now)
-    × HasCommanded g.D.Port.Port.told g.D.Port.Port.faults g.D.Driver.OwnEntries g.D.Driver.ENTRIES g.D.Driver.is_planned c.args.op.now x (command_in c.args.file.place c.args.file.fd c.args.file.of_chip c.args.cmd c.args.out.now) r bytes (record { pass = c.leave.new.pass; port = c.command_inside-answer.new.port })) c.actor.view_is
-    (called_command g.D.Port.Port.told g.D.Port.Port.faults g.D.Driver.OwnEntries g.D.Driver.ENTRIES g.D.Driver.is_planned c.args.op.now (record { pass = c.actor.inside.pass; port = c.actor.inside.port }) (record { pass = c.leave.new.pass; port = c.command_inside-answer.new.port })
+    × HasCommanded g.D.Port.Port.told g.D.Port.Port.faults g.D.Port.Port.maps g.D.Port.Port.maps_left g.D.Driver.OwnEntries g.D.Driver.Follows g.D.Driver.ENTRIES c.args.op.now x (command_in c.args.file.place c.args.file.fd c.args.file.of_chip c.args.cmd c.args.out.now) r bytes (record { pass = c.leave.new.pass; port = c.command_inside-answer.new.port })) c.actor.view_is
+    (called_command g.D.Port.Port.told g.D.Port.Port.faults g.D.Port.Port.maps g.D.Port.Port.maps_left g.D.Driver.OwnEntries g.D.Driver.Follows g.D.Driver.ENTRIES c.args.op.now (record { pass = c.actor.inside.pass; port = c.actor.inside.port }) (record { pass = c.leave.new.pass; port = c.command_inside-answer.new.port })
     c.enter.new.pass.view c.command_inside-answer.new.pass.view (command_in c.args.file.place c.args.file.fd c.args.file.of_chip c.args.cmd c.args.out.now) r c.args.out.now c.command_inside-answer.new.out c.requires.asked entered c.enter.ensures.knows
     (λ k. true≢false (sym c.if-not-enter.false ∙ c.enter.ensures.known k)) did out.0 out.1 out.2)) c.command_inside-answer.ensures.called
 

@@ -20,7 +20,7 @@ order_on_request-requires-clause-count g c κs within = subst (λ (k : FileKind)
 
 pub returns-in-Chip-clause-commanded : goal.returns-in-Chip-clause-commanded
 returns-in-Chip-clause-commanded g c =
-    as_ordered g.D.Port.Port.told g.D.Port.Port.faults g.D.Driver.OwnEntries g.D.Driver.ENTRIES g.D.Driver.is_planned c.order_on_chip.result _ (op_for (lines_on c.args.on.now c.args.command.now) c.args.command.now) c.args.actor.now c.order_on_chip.new.actor
+    as_ordered g.D.Port.Port.told g.D.Port.Port.faults g.D.Port.Port.maps g.D.Port.Port.maps_left g.D.Driver.OwnEntries g.D.Driver.Follows g.D.Driver.ENTRIES c.order_on_chip.result _ (op_for (lines_on c.args.on.now c.args.command.now) c.args.command.now) c.args.actor.now c.order_on_chip.new.actor
     c.args.command.now c.args.command.now c.args.out.now c.order_on_chip.new.out refl (ap (λ (k : FileKind). op_for (lines_on k c.args.command.now) c.args.command.now) c.in-Chip.is) c.order_on_chip.ensures.commanded
 
 pub returns-in-Chip-clause-number : goal.returns-in-Chip-clause-number
@@ -29,7 +29,7 @@ returns-in-Chip-clause-number g c =
 
 pub returns-in-Request-clause-commanded : goal.returns-in-Request-clause-commanded
 returns-in-Request-clause-commanded g c =
-    as_ordered g.D.Port.Port.told g.D.Port.Port.faults g.D.Driver.OwnEntries g.D.Driver.ENTRIES g.D.Driver.is_planned c.order_on_request.result _ (op_for (lines_on c.args.on.now c.args.command.now) c.args.command.now) c.args.actor.now c.order_on_request.new.actor
+    as_ordered g.D.Port.Port.told g.D.Port.Port.faults g.D.Port.Port.maps g.D.Port.Port.maps_left g.D.Driver.OwnEntries g.D.Driver.Follows g.D.Driver.ENTRIES c.order_on_request.result _ (op_for (lines_on c.args.on.now c.args.command.now) c.args.command.now) c.args.actor.now c.order_on_request.new.actor
     c.args.command.now c.args.command.now c.args.out.now c.order_on_request.new.out refl (ap (λ (k : FileKind). op_for (lines_on k c.args.command.now) c.args.command.now) c.in-Request.is) c.order_on_request.ensures.commanded
 
 pub returns-in-Request-clause-number : goal.returns-in-Request-clause-number

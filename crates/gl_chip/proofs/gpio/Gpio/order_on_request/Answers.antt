@@ -18,7 +18,7 @@ whole_command-requires-clause-not_asked g c κs within = ap (λ (n : ℕ). is_dr
 
 pub returns-in-None-clause-commanded : goal.returns-in-None-clause-commanded
 returns-in-None-clause-commanded g c =
-    whole_ordered g.D.Port.Port.told g.D.Port.Port.faults g.D.Driver.OwnEntries g.D.Driver.ENTRIES g.D.Driver.is_planned c.whole_command.result (op_for c.args.lines.now c.args.command.now) c.args.actor.now c.whole_command.new.actor
+    whole_ordered g.D.Port.Port.told g.D.Port.Port.faults g.D.Port.Port.maps g.D.Port.Port.maps_left g.D.Driver.OwnEntries g.D.Driver.Follows g.D.Driver.ENTRIES c.whole_command.result (op_for c.args.lines.now c.args.command.now) c.args.actor.now c.whole_command.new.actor
     c.args.command.now (command_in c.args.command.now.place c.args.command.now.fd false c.args.command.now.cmd c.args.out.now) c.args.out.now c.whole_command.new.out c.requires.handed
     (ap (λ (n : ℕ). is_driver_asked false n (command_of c.args.command.now.cmd)) (sym (ap (λ (x : CommandIn). x.len) c.requires.handed)) ∙ c.in-None.ensures.none) c.whole_command.ensures.port c.whole_command.ensures.called
 
@@ -35,14 +35,14 @@ pub driven_command-requires-clause-asked : goal.driven_command-requires-clause-a
 driven_command-requires-clause-asked g c κs within = ap (λ (n : ℕ). is_driver_asked false n (command_of c.args.command.now.cmd)) (sym (ap (λ (x : CommandIn). x.len) c.requires.handed)) ∙ c.in-Some.ensures.op.0
 
 pub driven_command-requires-clause-brings : goal.driven_command-requires-clause-brings
-driven_command-requires-clause-brings g c κs within = λ gets none. absurd (true≢false (sym gets ∙ no_get_line c.args.command.now.len (command_of c.args.command.now.cmd) c.in-Some.ensures.op.0))
+driven_command-requires-clause-brings g c κs within = λ gets. absurd (true≢false (sym gets ∙ no_get_line c.args.command.now.len (command_of c.args.command.now.cmd) c.in-Some.ensures.op.0))
 
 pub driven_command-requires-clause-op : goal.driven_command-requires-clause-op
 driven_command-requires-clause-op g c κs within = λ w actor n e. c.in-Some.ensures.op.2
 
 pub returns-in-Some-clause-commanded : goal.returns-in-Some-clause-commanded
 returns-in-Some-clause-commanded g c =
-    as_ordered g.D.Port.Port.told g.D.Port.Port.faults g.D.Driver.OwnEntries g.D.Driver.ENTRIES g.D.Driver.is_planned c.driven_command.result (Some c.in-Some.op) (op_for c.args.lines.now c.args.command.now) c.args.actor.now c.driven_command.new.actor
+    as_ordered g.D.Port.Port.told g.D.Port.Port.faults g.D.Port.Port.maps g.D.Port.Port.maps_left g.D.Driver.OwnEntries g.D.Driver.Follows g.D.Driver.ENTRIES c.driven_command.result (Some c.in-Some.op) (op_for c.args.lines.now c.args.command.now) c.args.actor.now c.driven_command.new.actor
     c.args.command.now (command_in c.args.command.now.place c.args.command.now.fd false c.args.command.now.cmd c.args.out.now) c.args.out.now c.driven_command.new.out c.requires.handed c.in-Some.ensures.op.1 c.driven_command.ensures.commanded
 
 pub returns-in-Some-clause-number : goal.returns-in-Some-clause-number
