@@ -40,7 +40,7 @@ use Rattle.gl_check.proofs.Operations.{ForCall, HasBits, all_have_bits}
 -- what a planned driver goes by, of what a port tells
 abbrev pub calls_of : Option Told → ℕ
 calls_of None = 0
-calls_of (Some t) = t.calls
+calls_of (Some t) = t.counted
 
 abbrev pub plan_of : Option Told → Option ℕ
 plan_of None = None
@@ -93,11 +93,11 @@ BitsBy op configures = (bits : ℕ) → bits_for op bits ≡ (if configures then
 
 pub as_planned : (op : Op) (configures : Bool) (told : Option Told) (answer : Option ℕ) → IsTold told → BitsBy op configures → IfSome told (λ t. answer ≡ planned_for op t)
     → answer ≡ next_answer configures (port_by told)
-as_planned op configures (Some t) answer h same is = is ∙ ap (λ bits. planned_answer bits t.plan (counted_up t.calls)) (same t.bits)
+as_planned op configures (Some t) answer h same is = is ∙ ap (λ bits. planned_answer bits t.plan (counted_up t.counted)) (same t.bits)
 as_planned op configures None answer h same is = absurd h
 
 pub planned_told : (op : Op) (configures : Bool) (told : Option Told) → IsTold told → BitsBy op configures → IfSome told (λ t. next_answer configures (port_by told) ≡ planned_for op t)
-planned_told op configures (Some t) h same = ap (λ bits. planned_answer bits t.plan (counted_up t.calls)) (sym (same t.bits))
+planned_told op configures (Some t) h same = ap (λ bits. planned_answer bits t.plan (counted_up t.counted)) (sym (same t.bits))
 planned_told op configures None h same = absurd h
 
 -- of what the driver is asked, where it is asked

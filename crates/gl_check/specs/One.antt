@@ -133,7 +133,7 @@ from_port = record {
   accepted = λ bits port. record { left = port.left; told = with_bits bits port.told };
 }
 
--- answers of a planned driver, by how many calls went through its port, the call that the port's plan names, and the accepted bits
+-- answers of a planned driver, by how many calls its port's plan counts, the call that the plan names, and the accepted bits
 pub record PlannedPort : Type 0 where
   pub calls : ℕ
   pub plan : Option ℕ
@@ -254,7 +254,7 @@ told_behind sections answers before = (run_session from_port sections (record { 
 
 -- the answers that a planned driver gives to a session through a port that told this
 abbrev pub planned_over : Told → List SaidSection → List (Option ℕ)
-planned_over t sections = (run_session from_plan sections (record { calls = t.calls; plan = t.plan; bits = t.bits })).behind.took
+planned_over t sections = (run_session from_plan sections (record { calls = t.counted; plan = t.plan; bits = t.bits })).behind.took
 
 -- Planned: those that it gives through a new port
 abbrev pub planned : List SaidSection → List (Option ℕ)

@@ -39,8 +39,7 @@ pub fn go_on(
     }
     let next = talk.begun as usize;
     if next < statements.len() {
-        let statement = statements[next];
-        talk.begin(alloc, statement.line())?;
+        talk.begin(alloc, &statements[next])?;
         return Ok(true);
     }
     Ok(end(talk, closes, quit))

@@ -35,6 +35,21 @@ short_kind said line pair stage own reached short =
     ∙ ap (λ (s : Stage). limited (pair_after said) (line_kind s line)) reached
     ∙ sym (ap (λ b. cond b (Err (spot (LINE_MAX + 1) Limit)) (limited (pair_after said) (line_kind said.stage line))) (le-ltb LINE_MAX (length line) short))
 
+-- what is a statement within its limits, is one
+pub limited_statement : (pair : Option ℕ) (kind : Result LineKind Spot) → limited pair kind ≡ Ok Statement → kind ≡ Ok Statement
+limited_statement pair (Ok Passed) e = cc
+limited_statement pair (Ok (Header version)) e = cc
+limited_statement pair (Ok Setup) e = cc
+limited_statement pair (Ok Statement) e = refl
+limited_statement pair (Err fault) e = cc
+
+unmoved : (shift : ℕ) (kind : Result LineKind Spot) → moved shift kind ≡ Ok Statement → kind ≡ Ok Statement
+unmoved shift (Ok kind) e = e
+unmoved shift (Err fault) e = cc
+
+pub moved_statement : (pair : Option ℕ) (shift : ℕ) (kind : Result LineKind Spot) → limited pair (moved shift kind) ≡ Ok Statement → kind ≡ Ok Statement
+moved_statement pair shift kind e = unmoved shift kind (limited_statement pair (moved shift kind) e)
+
 -- a refused line
 pub refuses : (said : Said) (line : List ℕ) (kind : Result LineKind Spot) (fault : Spot) → Err fault ≡ kind → IsAnswer said line kind (Refused fault) [] said
 refuses said line kind fault is = subst (λ (k : Result LineKind Spot). IsAnswer said line k (Refused fault) [] said) is (refl, refl, refl)

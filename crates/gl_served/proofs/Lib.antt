@@ -3,6 +3,7 @@ mod Closed
 mod CutLines
 mod Guards
 mod Known
+mod LastCalls
 mod Listed
 mod Numbered
 mod Numbers

@@ -41,10 +41,12 @@ pub struct Made {
 fn nothing() -> Gift
     ensures ring { result.ring ≡ None }
     ensures queue { result.queue ≡ None }
+    ensures asked { result.asked ≡ None }
 {
     Gift {
         ring: None,
         queue: None,
+        asked: None,
     }
 }
 

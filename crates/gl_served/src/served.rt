@@ -1,9 +1,11 @@
 //! A session whose lines come one by one, each answered at once.
 
-ghost use Rattle.std.specs.Prelude.{◌≡◌, ◌≢◌, ◌<◌, ◌≤◌, ◌+◌, ◌++◌, ◌∷◌, [], ℕ, List, None, Some, Ok, Err, true, false, length, map, IfSome, IfOk, OnOk, OnErr, IsOkUnless};
+ghost use Rattle.std.specs.Prelude.{◌≡◌, ◌≢◌, ◌<◌, ◌≤◌, ◌+◌, ◌++◌, ◌∷◌, [], ℕ, List, None, Some, Ok, Err, true, false, is_some, length, map, IfSome, IfOk, OnOk, OnErr, IsOkUnless};
 ghost use Rattle.gl_client.specs.Program.{Program, done};
 ghost use Rattle.gl_base.specs.Rows.{Each};
 ghost use Rattle.gl_asking.specs.Rows.{IsRow, row_file};
+ghost use Rattle.gl_script.specs.Columns.{columns};
+ghost use Rattle.gl_script.specs.Said.{said_of};
 ghost use Rattle.gl_script.specs.declared.served.LineKind.TheVariants.{Statement};
 ghost use Rattle.gl_talk.specs.Open.{Names};
 ghost use Rattle.gl_talk.specs.Talk.{left, names_in};
@@ -223,6 +225,7 @@ impl Served {
     fn kind(&self, line: &[u8]) -> Result<LineKind, Spot>
         ensures kind { (said : Said) → Keeps self.now said → result ≡ kind_after said line.now }
         ensures room { result ≡ Ok Statement → pair_behind self.now.count (map row_file self.now.alone.rows.items) ≢ None }
+        ensures read { result ≡ Ok Statement → is_some (said_of (columns line.now)) ≡ true }
     {
         if line.len() > LINE_MAX {
             return Err(Spot {
@@ -244,6 +247,7 @@ impl Served {
         out: &mut Vec<u8>,
     ) -> Result<Answer, Errno>
         requires room { kind ≡ Statement → pair_behind self.old.count (map row_file self.old.alone.rows.items) ≢ None }
+        requires read { kind ≡ Statement → is_some (said_of (columns statement.now)) ≡ true }
         ensures answered { (said : Said) → Keeps self.old said → IfOk result (λ answer. (text : List ℕ) × (then : Said)
             × (out.new.items ≡ out.old.items ++ text) × IsTaken reads said statement.now (Ok kind) answer text then × Keeps self.new then) }
         ensures kept { (said : Said) → Keeps self.old said → (kind ≡ Statement → IsStatementLine reads said line.now) → statement.now ≡ statement_for reads said line.now → OnErr result (CanAnswer self.new said line.now) }
@@ -282,6 +286,7 @@ impl Served {
         out: &mut Vec<u8>,
     ) -> Result<Answer, Errno>
         requires room { pair_behind self.old.count (map row_file self.old.alone.rows.items) ≢ None }
+        requires read { is_some (said_of (columns statement.now)) ≡ true }
         ensures answered { (said : Said) → Keeps self.old said → IfOk result (λ answer. (text : List ℕ) × (then : Said)
             × (out.new.items ≡ out.old.items ++ text) × IsTaken reads said statement.now (Ok Statement) answer text then × Keeps self.new then) }
         ensures kept { (said : Said) → Keeps self.old said → IsStatementLine reads said line.now → statement.now ≡ statement_for reads said line.now → OnErr result (CanAnswer self.new said line.now) }
@@ -306,6 +311,7 @@ impl Served {
     ) -> Result<Answer, Errno>
         requires pair { Some pair ≡ pair_behind self.old.count (map row_file self.old.alone.rows.items) }
         requires within { pair < PAIRS }
+        requires read { is_some (said_of (columns statement.now)) ≡ true }
         ensures answered { (said : Said) → Keeps self.old said → IfOk result (λ answer. (text : List ℕ) × (then : Said)
             × (out.new.items ≡ out.old.items ++ text) × IsTaken reads said statement.now (Ok Statement) answer text then × Keeps self.new then) }
         ensures kept { (said : Said) → Keeps self.old said → IsStatementLine reads said line.now → statement.now ≡ statement_for reads said line.now → OnErr result (CanAnswer self.new said line.now) }
@@ -314,7 +320,8 @@ impl Served {
     {
         let under_way = UnderWay::new(alloc, reads, line)?;
         self.talk.begun = pair;
-        self.talk.begin(alloc, statement)?;
+        self.talk
+            .begin(alloc, &gl_script::Statement::of(0, statement))?;
         self.count = counted(self.count);
         self.go_on(alloc, under_way, out)
     }

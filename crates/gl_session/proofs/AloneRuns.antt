@@ -272,19 +272,19 @@ prints_one is_planned sections before left text did history p alone =
 
 -- answers as the plan of a port says
 abbrev PlannedFits : PlannedPort → Option Told → List (Option ℕ) → Type 0
-PlannedFits port told rest = (t : Told) × (told ≡ Some t) × (port ≡ record { calls = t.calls; plan = t.plan; bits = t.bits })
+PlannedFits port told rest = (t : Told) × (told ≡ Some t) × (port ≡ record { calls = t.counted; plan = t.plan; bits = t.bits })
 
 plan_gives : (x : PlannedPort) (before after : Option Told) (op : Option Op) (answer : Option ℕ) (rest : List (Option ℕ)) → PlannedFits x before (answer ∷ rest) → PortAfter true op (answer ∷ []) before after
     → (from_plan.next op x ≡ answer) × PlannedFits (from_plan.behind op x) after rest
 plan_gives x before after op answer rest (t, is, same) (was, was_is, becomes, as_planned) = (
   ap (λ (port : PlannedPort). planned_answer (bits_asked op port.bits) port.plan (counted_up port.calls)) same
-      ∙ ap (λ (o : Option Op). planned_answer (bits_asked o t.bits) t.plan (counted_up t.calls)) was_is
+      ∙ ap (λ (o : Option Op). planned_answer (bits_asked o t.bits) t.plan (counted_up t.counted)) was_is
       ∙ sym (subst (λ (o : Option Told). IfSome o (λ told. answer ≡ planned_for was told)) is (as_planned refl)),
-  (record { calls = counted_up t.calls; plan = t.plan; bits = t.bits; last = Some (record { op = was; answer = answer }) }, becomes ∙ ap (λ (o : Option Told). with_call was answer o) is, ap (λ (port : PlannedPort). from_plan.behind op port) same),
+  (record { calls = counted_up t.calls; counted = counted_up t.counted; plan = t.plan; bits = t.bits; last = Some (record { op = was; answer = answer }) }, becomes ∙ ap (λ (o : Option Told). with_call was answer o) is, ap (λ (port : PlannedPort). from_plan.behind op port) same),
 )
 
 plan_plans : (x : PlannedPort) (before : Option Told) (nth : ℕ) (rest : List (Option ℕ)) → PlannedFits x before rest → PlannedFits (from_plan.planned nth x) (with_plan nth before) rest
-plan_plans x before nth rest (t, is, same) = (record t { plan = planned_call t.calls nth }, ap (λ (o : Option Told). with_plan nth o) is, ap (λ (port : PlannedPort). from_plan.planned nth port) same)
+plan_plans x before nth rest (t, is, same) = (record t { plan = planned_call t.counted nth }, ap (λ (o : Option Told). with_plan nth o) is, ap (λ (port : PlannedPort). from_plan.planned nth port) same)
 
 plan_accepts : (x : PlannedPort) (before : Option Told) (bits : ℕ) (rest : List (Option ℕ)) → PlannedFits x before rest → PlannedFits (from_plan.accepted bits x) (with_bits bits before) rest
 plan_accepts x before bits rest (t, is, same) = (record t { bits = bits }, ap (λ (o : Option Told). with_bits bits o) is, ap (λ (port : PlannedPort). from_plan.accepted bits port) same)
@@ -295,7 +295,7 @@ plan_serves = record { gives = plan_gives; plans = plan_plans; accepts = plan_ac
 pub answers_as_planned : AnswersAsPlanned
 answers_as_planned sections t left text did history p alone =
     let told : tells_in history ≡ told_by did = ap (λ (l : List OneEntry). tells_in l) alone.entries in
-    let s = session_runs from_plan true PlannedFits plan_serves sections (Some t) left text did (record { calls = t.calls; plan = t.plan; bits = t.bits }) p (whole_rest history did alone) opens_steady (t, refl, refl) in
+    let s = session_runs from_plan true PlannedFits plan_serves sections (Some t) left text did (record { calls = t.counted; plan = t.plan; bits = t.bits }) p (whole_rest history did alone) opens_steady (t, refl, refl) in
     told ∙ sym s.1
 
 -- answers in the order of a list, of which a port tells how many there were so far, and the last
@@ -306,11 +306,11 @@ port_gives : (is_planned : Bool) (t : Told) (all : List (Option ℕ)) (x : List 
     → PortAfter is_planned op (answer ∷ []) before after → (from_list.next op x ≡ answer) × PortFits t all (from_list.behind op x) after rest
 port_gives is_planned t all x before after op answer rest (is, u, told, count, last) (was, was_is, becomes, as_planned) = (
   ap (λ l. first_of_list l) is,
-  (ap (λ l. rest_of_list l) is, record { calls = counted_up u.calls; plan = u.plan; bits = u.bits; last = Some (record { op = was; answer = answer }) }, becomes ∙ ap (λ (o : Option Told). with_call was answer o) told, count, last),
+  (ap (λ l. rest_of_list l) is, record { calls = counted_up u.calls; counted = counted_up u.counted; plan = u.plan; bits = u.bits; last = Some (record { op = was; answer = answer }) }, becomes ∙ ap (λ (o : Option Told). with_call was answer o) told, count, last),
 )
 
 port_plans : (t : Told) (all : List (Option ℕ)) (x : List (Option ℕ)) (before : Option Told) (nth : ℕ) (rest : List (Option ℕ)) → PortFits t all x before rest → PortFits t all x (with_plan nth before) rest
-port_plans t all x before nth rest (is, u, told, count, last) = (is, record u { plan = planned_call u.calls nth }, ap (λ (o : Option Told). with_plan nth o) told, count, last)
+port_plans t all x before nth rest (is, u, told, count, last) = (is, record u { plan = planned_call u.counted nth }, ap (λ (o : Option Told). with_plan nth o) told, count, last)
 
 port_accepts : (t : Told) (all : List (Option ℕ)) (x : List (Option ℕ)) (before : Option Told) (bits : ℕ) (rest : List (Option ℕ)) → PortFits t all x before rest → PortFits t all x (with_bits bits before) rest
 port_accepts t all x before bits rest (is, u, told, count, last) = (is, record u { bits = bits }, ap (λ (o : Option Told). with_bits bits o) told, count, last)

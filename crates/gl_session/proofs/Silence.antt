@@ -71,7 +71,7 @@ module _ (is_planned : Bool) (n : ℕ) where
       → ((u : Told) → between ≡ Some u → TellsAfter u rest left) → TellsAfter t (answers ++ rest) left
   port_on op [] t before between left rest is few h later = later t (h ∙ is)
   port_on op (answer ∷ []) t before between left rest is few h later =
-      let r = later (record { calls = counted_up t.calls; plan = t.plan; bits = t.bits; last = Some (record { op = h.0; answer = answer }) }) (h.2 ∙ ap (with_call h.0 answer) is) in
+      let r = later (record { calls = counted_up t.calls; counted = counted_up t.counted; plan = t.plan; bits = t.bits; last = Some (record { op = h.0; answer = answer }) }) (h.2 ∙ ap (with_call h.0 answer) is) in
       record { told = r.told; left_is = r.left_is; calls = r.calls; last = r.last }
   port_on op (answer ∷ other ∷ answers) t before between left rest is few h later = absurd (omega arith)
 
@@ -142,9 +142,9 @@ module _ {A : Type 0} (is_planned : Bool) (n : ℕ) where
       by : (a : Asking) → IsDone is_planned n a (op_asked s.files e.what) e s.told h.1.told → ((u : Told) → h.1.told ≡ Some u → TellsAfter u rest r.told) → TellsAfter t (tells_in (entries_in e.did) ++ rest) r.told
       by (Calls call) d on = port_on is_planned n (op_asked s.files e.what) (tells_in (entries_in e.did)) t s.told h.1.told r.told rest is (makes_few n e.answer (entries_in e.did) e.closed call d.makes) d.port on
       by (Plans nth) d on = subst (λ (l : List OneDeed). TellsAfter t (tells_in (entries_in l) ++ rest) r.told) (sym d.0.did)
-          (let o = on (record { calls = t.calls; plan = planned_call t.calls nth; bits = t.bits; last = t.last }) (d.1 ∙ ap (with_plan nth) is) in record { told = o.told; left_is = o.left_is; calls = o.calls; last = o.last })
+          (let o = on (record { calls = t.calls; counted = t.counted; plan = planned_call t.counted nth; bits = t.bits; last = t.last }) (d.1 ∙ ap (with_plan nth) is) in record { told = o.told; left_is = o.left_is; calls = o.calls; last = o.last })
       by (Accepts bits) d on = subst (λ (l : List OneDeed). TellsAfter t (tells_in (entries_in l) ++ rest) r.told) (sym d.0.did)
-          (let o = on (record { calls = t.calls; plan = t.plan; bits = bits; last = t.last }) (d.1 ∙ ap (with_bits bits) is) in record { told = o.told; left_is = o.left_is; calls = o.calls; last = o.last })
+          (let o = on (record { calls = t.calls; counted = t.counted; plan = t.plan; bits = bits; last = t.last }) (d.1 ∙ ap (with_bits bits) is) in record { told = o.told; left_is = o.left_is; calls = o.calls; last = o.last })
       by (Refuses errno) d on = subst (λ (l : List OneDeed). TellsAfter t (tells_in (entries_in l) ++ rest) r.told) (sym d.0.did) (on t (d.1 ∙ is))
 
 -- of all actors

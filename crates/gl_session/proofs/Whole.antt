@@ -14,7 +14,8 @@ use Rattle.gl_model.specs.declared.device_call.DeviceCall.{DeviceCall}
 use Rattle.gl_script.specs.Cost.{session_cost}
 use Rattle.gl_script.specs.Section.{SaidSection}
 use Rattle.gl_talk.specs.Open.{Names}
-use Rattle.gl_chip.specs.Values.{IsQuietDriver, MayOwn, OneView}
+use Rattle.gl_driver.specs.declared.map.Map.{Map}
+use Rattle.gl_chip.specs.Values.{IsQuietDriver, MayOwn, OneView, OwnRelation}
 use Rattle.gl_core.specs.Device.{OneDeed, OneEntry, core, tells_in}
 use Rattle.gl_session.specs.Alone.{Part, PlayedSession}
 use Rattle.gl_check.specs.Programs.{actor_of, after_of, setup_of}
@@ -33,8 +34,8 @@ use Rattle.gl_session.proofs.OneHistories.{length_entries}
 use Rattle.gl_session.proofs.Within.{calls_have_room, sessions_keep_within_cost}
 
 -- a driver that makes no entries owns none that could be about a removal
-pub quiet_driver : {P : Type 0} (Own : P → ℕ → Op → List OneEntry → Type 0) → ((port : P) (place : ℕ) (op : Op) (own : List OneEntry) → Own port place op own → own ≡ []) → IsQuietDriver Own
-quiet_driver Own none port place op own may = subst (λ (l : List OneEntry). MayOwn l) (sym (none port place op own may)) (record { quiet = tt; no_claims = tt })
+pub quiet_driver : (Own : OwnRelation) → ((map : Option Map) (op : Op) (own : List OneEntry) → Own map op own → own ≡ []) → IsQuietDriver Own
+quiet_driver Own none map op own may = subst (λ (l : List OneEntry). MayOwn l) (sym (none map op own may)) (record { quiet = tt; no_claims = tt })
 
 pub call_of : (a : Asking) → IsCall a → (call : DeviceCall) × (a ≡ Calls call)
 call_of (Calls call) is = (call, refl)

@@ -1,5 +1,5 @@
 -- What contracts see of a player: an actor of a device, with the open files of a talk and what its talks printed. This project's choice.
-use Rattle.std.specs.Prelude.{ℕ, ◌==◌, Bool, List, [], Option, None, Some, replicate}
+use Rattle.std.specs.Prelude.{ℕ, ◌==◌, Bool, Box, List, [], Option, None, Some, replicate}
 use Rattle.gl_base.specs.declared.operation.Do.{Do}
 use Rattle.gl_base.specs.declared.operation.Do.TheVariants.{Ioctl, ReadFile}
 use Rattle.gl_gate.specs.Values.{GateValue}
@@ -7,6 +7,8 @@ use Rattle.gl_asking.specs.declared.kinds.FileKind.{FileKind}
 use Rattle.gl_asking.specs.declared.kinds.FileKind.TheVariants.{Chip}
 use Rattle.gl_asking.specs.declared.kinds.FileRow.{FileRow}
 use Rattle.gl_asking.specs.Asking.{buffer_of}
+use Rattle.gl_asking.specs.Files.{OpenFile}
+use Rattle.gl_asking.specs.Rows.{IsRow, row_file}
 use Rattle.gl_chip.specs.Values.{OneView}
 use Rattle.gl_check.specs.Turns.{Carried}
 
@@ -17,9 +19,15 @@ pub record Playing : Type 0 where
   pub carried : Carried
   pub text : List ℕ
 
--- the row of a slot
-abbrev pub is_row : ℕ → FileRow → Bool
-is_row slot row = row.slot == slot
+-- rows that have memory of their own: the row of a slot, the open file of a row, and what is true of a row
+abbrev pub is_boxed_row : {A : Type 0} → ℕ → Box FileRow A → Bool
+is_boxed_row slot row = row.value.slot == slot
+
+abbrev pub boxed_file : {A : Type 0} → Box FileRow A → OpenFile
+boxed_file row = row_file row.value
+
+abbrev pub IsBoxedRow : {A : Type 0} → Box FileRow A → Type 0
+IsBoxedRow row = IsRow row.value
 
 -- what the file of an operation is of; where it names none, that means nothing
 abbrev pub kind_of : Option FileRow → FileKind

@@ -103,7 +103,7 @@ pub fn play_all<R: Wait, D: Driver<Core>>(
         player.old.view player.old.carried player.new.view)) }
 {
     for statement in statements {
-        talk.begin(alloc, statement.line())?;
+        talk.begin(alloc, statement)?;
         match play(rt, alloc, player, talk) {
             Ok(()) => {}
             Err(errno) => return Err(errno),

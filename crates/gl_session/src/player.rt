@@ -262,6 +262,21 @@ impl<'d, D: Driver<Core>> Player<'d, D> {
         if !opens_or_closes(what) {
             return Ok(());
         }
+        self.keep_behind(what, row, reply)
+    }
+
+    /// The same, of an operation that may open or close a file. It stands apart, so that no other has room for a change.
+    fn keep_behind(&mut self, what: &Do, row: &Option<FileRow>, reply: Reply) -> Result<(), Errno>
+        requires row { IsSomeRow row.now }
+        requires found { file_for what.now self.old.carried.files ≡ file_of row.now }
+        requires opens { OpensWithin what.now reply }
+        ensures device { self.new.gate ≡ self.old.gate }
+        ensures view { self.new.view ≡ self.old.view }
+        ensures told { self.new.carried.told ≡ self.old.carried.told }
+        ensures text { self.new.text ≡ self.old.text }
+        ensures settled { OnOk result (self.new.carried.files ≡ files_behind what.now reply self.old.carried.files) }
+        ensures memory_alone { IsOkUnless result NoMemory }
+    {
         self.keep(files_behind(what, *row, reply))
     }
 

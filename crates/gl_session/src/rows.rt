@@ -1,13 +1,16 @@
 //! The open files of a talk, by the slots that its operations name.
+//!
+//! A row has the lines of its request, some 270 bytes in all. Each has memory of its own, so that where one is taken out the others
+//! stay where they are, and just their addresses move up.
 
 ghost use Rattle.std.specs.Prelude.{◌≡◌, [], map, OnOk, IsOkUnless};
 ghost use Rattle.std.specs.List.{position};
 ghost use Rattle.gl_asking.specs.Asking.{file_for};
 ghost use Rattle.gl_asking.specs.Changes.{IsChange, changed};
 ghost use Rattle.gl_asking.specs.Files.{file_in, without_file};
-ghost use Rattle.gl_asking.specs.Rows.{IsRow, IsSomeRow, file_of, row_file};
+ghost use Rattle.gl_asking.specs.Rows.{IsRow, IsSomeRow, file_of};
 ghost use Rattle.gl_base.specs.Rows.{Each};
-ghost use Rattle.gl_session.specs.Player.{is_row};
+ghost use Rattle.gl_session.specs.Player.{IsBoxedRow, boxed_file, is_boxed_row};
 
 use gl_asking::{Change, FileRow};
 use gl_base::{Do, Errno};
@@ -17,20 +20,20 @@ use std::marker::Model;
 /// The open files of a talk. Contracts see what the rows stand for.
 #[derive(Drop)]
 pub struct Rows {
-    rows: Vec<FileRow>,
+    rows: Vec<Box<FileRow>>,
 }
 
 impl Model for Rows {
     ghost use Rattle.std.specs.Prelude.{List, map};
     ghost use Rattle.gl_base.specs.Rows.{Each};
     ghost use Rattle.gl_asking.specs.Files.{OpenFile};
-    ghost use Rattle.gl_asking.specs.Rows.{IsRow, row_file};
+    ghost use Rattle.gl_session.specs.Player.{IsBoxedRow, boxed_file};
 
     ghost Value = { List OpenFile };
 
-    ghost view = { λ r. map row_file r.rows.items };
+    ghost view = { λ r. map boxed_file r.rows.items };
 
-    ghost invariant = { λ r. Each IsRow r.rows.items };
+    ghost invariant = { λ r. Each IsBoxedRow r.rows.items };
 }
 
 impl Rows {
@@ -62,28 +65,28 @@ impl Rows {
 }
 
 /// Where the file in a slot stands.
-fn position_of(rows: &[FileRow], slot: u32) -> Option<usize>
-    ensures { result ≡ position (is_row slot) rows.now }
+fn position_of(rows: &[Box<FileRow>], slot: u32) -> Option<usize>
+    ensures { result ≡ position (is_boxed_row slot) rows.now }
 {
     rows.iter().position(|row| row.slot == slot)
 }
 
 /// The file in a slot, if there is one.
-fn row_in(rows: &[FileRow], slot: u32) -> Option<FileRow>
-    requires { Each IsRow rows.now }
-    ensures found { file_of result ≡ file_in slot (map row_file rows.now) }
+fn row_in(rows: &[Box<FileRow>], slot: u32) -> Option<FileRow>
+    requires { Each IsBoxedRow rows.now }
+    ensures found { file_of result ≡ file_in slot (map boxed_file rows.now) }
     ensures row { IsSomeRow result }
 {
     match position_of(rows, slot) {
-        Some(at) => Some(rows[at]),
+        Some(at) => Some(*rows[at]),
         None => None,
     }
 }
 
 /// The row of the file that an operation names, if it names one and it is there.
-fn row_for(rows: &[FileRow], what: &Do) -> Option<FileRow>
-    requires { Each IsRow rows.now }
-    ensures found { file_for what.now (map row_file rows.now) ≡ file_of result }
+fn row_for(rows: &[Box<FileRow>], what: &Do) -> Option<FileRow>
+    requires { Each IsBoxedRow rows.now }
+    ensures found { file_for what.now (map boxed_file rows.now) ≡ file_of result }
     ensures row { IsSomeRow result }
 {
     match what {
@@ -100,11 +103,11 @@ fn row_for(rows: &[FileRow], what: &Do) -> Option<FileRow>
 }
 
 /// Makes a change in rows.
-fn make(rows: &mut Vec<FileRow>, change: Change) -> Result<(), Errno>
+fn make(rows: &mut Vec<Box<FileRow>>, change: Change) -> Result<(), Errno>
     requires change { IsChange change }
-    requires rows { Each IsRow rows.old.items }
-    ensures changed { OnOk result (map row_file rows.new.items ≡ changed change (map row_file rows.old.items)) }
-    ensures rows { Each IsRow rows.new.items }
+    requires rows { Each IsBoxedRow rows.old.items }
+    ensures changed { OnOk result (map boxed_file rows.new.items ≡ changed change (map boxed_file rows.old.items)) }
+    ensures rows { Each IsBoxedRow rows.new.items }
     ensures memory_alone { IsOkUnless result Errno.NoMemory }
 {
     match change {
@@ -118,24 +121,28 @@ fn make(rows: &mut Vec<FileRow>, change: Change) -> Result<(), Errno>
 }
 
 /// Adds a file.
-fn add(rows: &mut Vec<FileRow>, row: FileRow) -> Result<(), Errno>
+fn add(rows: &mut Vec<Box<FileRow>>, row: FileRow) -> Result<(), Errno>
     requires row { IsRow row }
-    requires rows { Each IsRow rows.old.items }
-    ensures changed { OnOk result (map row_file rows.new.items ≡ changed (Change.Adds row) (map row_file rows.old.items)) }
-    ensures rows { Each IsRow rows.new.items }
+    requires rows { Each IsBoxedRow rows.old.items }
+    ensures changed { OnOk result (map boxed_file rows.new.items ≡ changed (Change.Adds row) (map boxed_file rows.old.items)) }
+    ensures rows { Each IsBoxedRow rows.new.items }
     ensures memory_alone { IsOkUnless result Errno.NoMemory }
 {
-    match rows.push(row) {
+    let boxed = match Box::new(*rows.allocator(), row) {
+        Ok(boxed) => boxed,
+        Err(_) => return Err(Errno::NoMemory),
+    };
+    match rows.push(boxed) {
         Ok(()) => Ok(()),
         Err(_) => Err(Errno::NoMemory),
     }
 }
 
 /// Takes the file in a slot out, if there is one.
-fn remove(rows: &mut Vec<FileRow>, slot: u32)
-    requires rows { Each IsRow rows.old.items }
-    ensures changed { map row_file rows.new.items ≡ without_file slot (map row_file rows.old.items) }
-    ensures rows { Each IsRow rows.new.items }
+fn remove(rows: &mut Vec<Box<FileRow>>, slot: u32)
+    requires rows { Each IsBoxedRow rows.old.items }
+    ensures changed { map boxed_file rows.new.items ≡ without_file slot (map boxed_file rows.old.items) }
+    ensures rows { Each IsBoxedRow rows.new.items }
 {
     match position_of(rows, slot) {
         Some(at) => {

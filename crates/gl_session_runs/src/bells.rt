@@ -1,5 +1,7 @@
 //! A driver by whose calls actors of a session wait for each other.
 ghost use Rattle.std.specs.Prelude.{◌≡◌, ◌≤◌, false, []};
+ghost use Rattle.std.proofs.Common.{sym};
+ghost use Rattle.std.proofs.lemmas.Bool.{true≢false};
 
 use gl_base::Op;
 use gl_driver::{Driver, DriverFault, HoldDriver, SimPort};
@@ -116,7 +118,9 @@ impl<M: Machine> Driver<M> for BellDriver {
 
     ghost is_planned = { false };
 
-    ghost OwnEntries = { λ _ _ _ own. own ≡ [] };
+    ghost OwnEntries = { λ _ _ own. own ≡ [] };
+
+    ghost Follows = { λ _ _ _ _ _ _ _. Unit {0} };
 
     fn call<R: Wait>(
         &self,
@@ -131,5 +135,7 @@ impl<M: Machine> Driver<M> for BellDriver {
         self.hold.call(rt, gate, port, pass, place, op)
     }
 
-    ghost owns_none = { λ _ _ _ _ _ is. is };
+    ghost owns_none = { λ _ _ _ _ is. is };
+
+    ghost follows_plan = { λ planned. absurd (true≢false (sym planned)) };
 }

@@ -1,5 +1,5 @@
-use Rattle.std.proofs.Common.{map, arith, ◌≤◌, length}
-use Rattle.gl_script.specs.Columns.{columns}
+use Rattle.std.proofs.Common.{map, ap, arith, ◌≤◌, length}
+use Rattle.gl_script.specs.declared.section.Statement.{Statement}
 use Rattle.gl_talk.specs.Over.{columns_in}
 use Rattle.gl_talk.specs.Talk.{names_in}
 use Rattle.gl_check.proofs.Settling.{next_left, quit_left, words_line, words_past}
@@ -7,9 +7,10 @@ use Rattle.gl_check.proofs.speech.go_on.Goals as goal
 
 pub returns-then-next-statements-clause-more : goal.returns-then-next-statements-clause-more
 returns-then-next-statements-clause-more c = λ _.
-    next_left c.args.quit (map columns_in c.args.statements.now) c.begin.new.self c.args.closes.now c.args.talk.now.begun (names_in c.args.talk.now) (columns c.line.result.now)
+    let statement = c.index-statements-next.result in
+    next_left c.args.quit (map columns_in c.args.statements.now) c.begin.new.self c.args.closes.now c.args.talk.now.begun (names_in c.args.talk.now) (columns_in statement)
     c.if-closes.false c.in_ok-begin.ensures.counted
-    (words_line c.args.statements.now c.args.talk.now.begun _ c.line.result.now c.if-next-statements.true c.line.ensures)
+    (words_line c.args.statements.now c.args.talk.now.begun statement statement.line.now c.if-next-statements.true (ap (λ (s : Statement). s.line.now) c.index-statements-next.is))
     c.in_ok-begin.ensures.begun
 
 pub returns-clause-more : goal.returns-clause-more

@@ -1,15 +1,16 @@
-use Rattle.std.proofs.Common.{◌≡◌, ℕ, List, inl, inr, ⊎_elim, ap, ◌∙◌, None, arith, refl}
+use Rattle.std.proofs.Common.{◌≡◌, ℕ, inl, inr, ⊎_elim, ap, ◌∙◌, None, arith, refl}
 use Rattle.gl_client.specs.Program.{given, goes_on}
-use Rattle.gl_script.specs.Columns.{columns}
+use Rattle.gl_script.specs.declared.section.Statement.{Statement}
 use Rattle.gl_talk.specs.declared.talk.Talk.{Talk}
 use Rattle.gl_talk.specs.Open.{Names}
+use Rattle.gl_talk.specs.Over.{columns_in}
 use Rattle.gl_talk.specs.Talk.{does, left, names_in}
 use Rattle.gl_session.proofs.Plays.{plays_nothing, plays_on, statement_step, statement_stops, stops_on}
 use Rattle.gl_session.proofs.play.play_all.Goals as goal
 
--- the statement that was begun is that of the line
-begun_as : (talk : Talk) (names : Names) (slot : ℕ) (line other : List ℕ) → left talk ≡ goes_on (does names slot (columns line)) → line ≡ other → given (left talk) None ≡ does names slot (columns other)
-begun_as talk names slot line other begun same = ap (λ l. given l None) begun ∙ ap (λ (l : List ℕ). does names slot (columns l)) same
+-- the statement that was begun is that of the row
+begun_as : (talk : Talk) (names : Names) (slot : ℕ) (statement row : Statement) → left talk ≡ goes_on (does names slot (columns_in statement)) → statement ≡ row → given (left talk) None ≡ does names slot (columns_in row)
+begun_as talk names slot statement row begun same = ap (λ l. given l None) begun ∙ ap (λ (s : Statement). does names slot (columns_in s)) same
 
 pub loop-statement-init : goal.loop-statement-init
 loop-statement-init g c = (refl, omega arith, plays_nothing _ _ _ _ _)
@@ -20,7 +21,7 @@ loop-statement-preserved g c = (
   omega (arith, c.in-Ok.ensures.counted, c.in_ok-begin.ensures.counted, c.loop-statement.invariant.1),
   plays_on _ _ _ _ _ _ _ _ _ _ _ _ _ c.loop-statement.invariant.2
       (statement_step _ _ _ c.loop-statement.talk.begun c.args.statements.now c.loop-statement.statement-index _ (names_in c.loop-statement.talk) _ _ _ _ _ c.play.new.talk.begun (names_in c.play.new.talk)
-      (omega (arith, c.loop-statement-test.true)) (begun_as c.begin.new.self (names_in c.loop-statement.talk) _ _ _ c.in_ok-begin.ensures.begun c.line.ensures) (omega (arith, c.in-Ok.ensures.counted, c.in_ok-begin.ensures.counted)) c.in-Ok.ensures.played),
+      (omega (arith, c.loop-statement-test.true)) (begun_as c.begin.new.self (names_in c.loop-statement.talk) _ _ _ c.in_ok-begin.ensures.begun c.statement-item.is) (omega (arith, c.in-Ok.ensures.counted, c.in_ok-begin.ensures.counted)) c.in-Ok.ensures.played),
 )
 
 pub returns-in-Err-clause-stopped : goal.returns-in-Err-clause-stopped
@@ -30,6 +31,6 @@ returns-in-Err-clause-stopped g c =
       full.0,
       stops_on _ _ _ _ _ _ _ _ _ _ c.loop-statement.invariant.2
           (statement_stops _ _ _ c.loop-statement.talk.begun c.args.statements.now c.loop-statement.statement-index _ (names_in c.loop-statement.talk) _ _
-          (omega (arith, c.loop-statement-test.true)) (begun_as c.begin.new.self (names_in c.loop-statement.talk) _ _ _ c.in_ok-begin.ensures.begun c.line.ensures) full.1),
+          (omega (arith, c.loop-statement-test.true)) (begun_as c.begin.new.self (names_in c.loop-statement.talk) _ _ _ c.in_ok-begin.ensures.begun c.statement-item.is) full.1),
     ))
     c.in-Err.ensures.stopped

@@ -1,13 +1,17 @@
-use Rattle.std.proofs.Common.{◌≡◌, ◌++◌, List, ℕ, length, drop, Ok, Err, [], ap, sym, ◌∙◌, arith, length-drop}
+use Rattle.std.proofs.Common.{◌≡◌, ◌++◌, true, List, ℕ, length, drop, Result, Ok, Err, [], ap, sym, subst, ◌∙◌, arith, length-drop}
+use Rattle.std.specs.Prelude.{is_some}
 use Rattle.std.proofs.lemmas.List.{append-nil}
 use Rattle.gl_base.specs.Words.{text_at}
 use Rattle.gl_script.specs.Columns.{columns}
+use Rattle.gl_script.specs.Said.{said_of}
 use Rattle.gl_script.specs.Served.{line_kind}
+use Rattle.gl_script.specs.declared.refusal.Spot.{Spot}
+use Rattle.gl_script.specs.declared.served.LineKind.{LineKind}
 use Rattle.gl_talk.specs.Open.{file_of, is_chip_file}
 use Rattle.gl_talk.specs.Talk.{names_in}
 use Rattle.gl_served.specs.Questions.{data_kind, read_word, stands_for}
-use Rattle.gl_served.specs.Served.{ServedValue, carried_out}
-use Rattle.gl_served.proofs.Answering.{is_short, kind_told, read_by, refuses_data, stands}
+use Rattle.gl_served.specs.Served.{ServedValue, carried_out, limited}
+use Rattle.gl_served.proofs.Answering.{is_short, kind_told, moved_statement, read_by, refuses_data, stands}
 use Rattle.gl_served.proofs.Running.{keeps_can, on_err_always, pair_kept}
 use Rattle.gl_served.proofs.served.Served.data.Goals as goal
 
@@ -18,6 +22,11 @@ pub line_kind-requires : goal.line_kind-requires
 line_kind-requires c =
     is_short c.has_chip-of_chip.result c.args.line.now c.deref.result.now
     (c.deref.ensures.value ∙ c.in_ok-statement.ensures.ok ∙ ap (λ (t : List ℕ). read_word c.has_chip-of_chip.result ++ t) c.behind_data-rest.ensures) c.requires
+
+pub take-requires-clause-read : goal.take-requires-clause-read
+take-requires-clause-read c = λ is.
+    subst (λ (l : List ℕ). is_some (said_of (columns l)) ≡ true) (c.deref.ensures.value ∙ sym c.deref-in-Ok.ensures.value)
+    (c.line_kind.ensures.statement (moved_statement c.pair.result c.shift_of.result c.line_kind.result (ap (λ (k : Result LineKind Spot). limited c.pair.result k) (sym c.moved.ensures) ∙ sym c.in-Ok.ensures.limited ∙ ap Ok is)))
 
 pub returns-in-Ok-clause-answered : goal.returns-in-Ok-clause-answered
 returns-in-Ok-clause-answered c = λ said keeps.
@@ -31,7 +40,7 @@ returns-in-Ok-clause-answered c = λ said keeps.
     (c.deref-in-Ok.ensures.value ∙ stands said line c.in_ok-statement.statement.items (names_in c.self.inside.talk) c.has_chip-of_chip.result same chip made)
     (kind_told said line c.in_ok-statement.statement.items (names_in c.self.inside.talk) c.has_chip-of_chip.result same chip made c.pair.result c.shift_of.result c.self.inside.stage c.line_kind.result c.moved.result (Ok c.in-Ok.kind)
     (c.pair.ensures.pair ∙ pair_kept c.args.self.now said keeps) (ap (λ (v : ServedValue). v.stage) c.self.view_is ∙ keeps.stage) c.shift_of.ensures
-    (c.line_kind.ensures ∙ ap (λ (l : List ℕ). line_kind c.self.inside.stage l) c.deref.ensures.value) c.moved.ensures c.in-Ok.ensures.limited)
+    (c.line_kind.ensures.kind ∙ ap (λ (l : List ℕ). line_kind c.self.inside.stage l) c.deref.ensures.value) c.moved.ensures c.in-Ok.ensures.limited)
     (c.take.ensures.answered said keeps)
 
 pub returns-in-Ok-clause-kept : goal.returns-in-Ok-clause-kept
@@ -46,7 +55,7 @@ returns-in-Ok-clause-kept c = λ said keeps question.
       question,
       sym (kind_told said line c.in_ok-statement.statement.items (names_in c.self.inside.talk) c.has_chip-of_chip.result same chip made c.pair.result c.shift_of.result c.self.inside.stage c.line_kind.result c.moved.result (Ok c.in-Ok.kind)
           (c.pair.ensures.pair ∙ pair_kept c.args.self.now said keeps) (ap (λ (v : ServedValue). v.stage) c.self.view_is ∙ keeps.stage) c.shift_of.ensures
-          (c.line_kind.ensures ∙ ap (λ (l : List ℕ). line_kind c.self.inside.stage l) c.deref.ensures.value) c.moved.ensures c.in-Ok.ensures.limited) ∙ ap Ok is,
+          (c.line_kind.ensures.kind ∙ ap (λ (l : List ℕ). line_kind c.self.inside.stage l) c.deref.ensures.value) c.moved.ensures c.in-Ok.ensures.limited) ∙ ap Ok is,
     ))
     (c.deref-in-Ok.ensures.value ∙ stands said line c.in_ok-statement.statement.items (names_in c.self.inside.talk) c.has_chip-of_chip.result same chip made)
 
@@ -64,7 +73,7 @@ returns-clause-answered c = λ said keeps.
       refuses_data said (stands_for (carried_out said.statements).value line) (data_kind said line) c.in-Err.spot
           (kind_told said line c.in_ok-statement.statement.items (names_in c.self.inside.talk) c.has_chip-of_chip.result same chip made c.pair.result c.shift_of.result c.self.inside.stage c.line_kind.result c.moved.result (Err c.in-Err.spot)
           (c.pair.ensures.pair ∙ pair_kept c.args.self.now said keeps) (ap (λ (v : ServedValue). v.stage) c.self.view_is ∙ keeps.stage) c.shift_of.ensures
-          (c.line_kind.ensures ∙ ap (λ (l : List ℕ). line_kind c.self.inside.stage l) c.deref.ensures.value) c.moved.ensures c.in-Err.ensures.limited),
+          (c.line_kind.ensures.kind ∙ ap (λ (l : List ℕ). line_kind c.self.inside.stage l) c.deref.ensures.value) c.moved.ensures c.in-Err.ensures.limited),
       keeps,
     )
 

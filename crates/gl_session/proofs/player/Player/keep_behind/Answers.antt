@@ -1,7 +1,7 @@
 use Rattle.std.proofs.Common.{◌≡◌, List, subst, sym}
 use Rattle.std.specs.Prelude.{OnOk}
 use Rattle.gl_asking.specs.Files.{OpenFile}
-use Rattle.gl_session.proofs.player.Player.settle.Goals as goal
+use Rattle.gl_session.proofs.player.Player.keep_behind.Goals as goal
 
 pub returns-clause-settled : goal.returns-clause-settled
 returns-clause-settled g c =
