@@ -1,0 +1,15 @@
+pub mod Backs
+pub mod Counts
+pub mod Course
+pub mod Halves
+pub mod Asks
+pub mod Fitting
+pub mod Behind
+pub mod Keeping
+pub mod Lines
+pub mod Loop
+pub mod Turns
+pub mod Driven
+pub mod Told
+pub mod Points
+pub mod Gathered

@@ -1,0 +1,11 @@
+pub mod Own
+pub mod Routes
+pub mod Commands
+pub mod Gather
+pub mod Words
+pub mod Ports
+pub mod Aggregating
+pub mod Visiting
+pub mod Course
+pub mod Calling
+pub mod Plans
