@@ -24,6 +24,11 @@ abbrev pub file_of : Option FileRow → Option OpenFile
 file_of None = None
 file_of (Some row) = Some (row_file row)
 
+-- there is a row, and it is a chip's
+abbrev pub is_on_chip : Option FileRow → Bool
+is_on_chip None = false
+is_on_chip (Some row) = is_chip row.kind
+
 -- a request has as many lines as one may have
 abbrev pub HasLines : FileKind → Type 0
 HasLines Chip = Unit {0}

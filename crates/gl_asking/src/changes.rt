@@ -1,18 +1,21 @@
 //! The open files after an operation.
 
-ghost use Rattle.std.specs.Prelude.{◌≡◌, ℕ, ◌<◌, ◌^◌, List};
+ghost use Rattle.std.specs.Prelude.{◌≡◌, ℕ, ◌<◌, ◌^◌, List, Option, Some, true};
 ghost use Rattle.gl_base.specs.Lines.{IsLineCount};
+ghost use Rattle.gl_base.specs.declared.command.TheConstants.{GET_LINE};
 ghost use Rattle.gl_base.specs.declared.limits.TheConstants.{PLACES};
+ghost use Rattle.gl_base.specs.declared.lines.Lines.{Lines as SomeLines};
 ghost use Rattle.gl_model.specs.Written.{number_answered};
 ghost use Rattle.gl_model.specs.declared.reply.Reply.TheVariants.{Number};
 ghost use Rattle.gl_asking.specs.Asking.{buffer_of, file_for, files_behind, lines_named, made_on, opened};
-ghost use Rattle.gl_asking.specs.Changes.{IsChange, OpensWithin, changed};
+ghost use Rattle.gl_asking.specs.Changes.{AreSome, IsChange, NamesMade, OpensWithin, changed};
 ghost use Rattle.gl_asking.specs.Files.{OpenFile, chip_file, with_file};
 ghost use Rattle.gl_asking.specs.Opened.{opened_of, place_named};
-ghost use Rattle.gl_asking.specs.Rows.{IsSomeRow, file_of};
+ghost use Rattle.gl_asking.specs.declared.kinds.FileRow.{FileRow as RowOf};
+ghost use Rattle.gl_asking.specs.Rows.{IsSomeRow, file_of, is_on_chip};
 
 use crate::commanding::{handed_of, lines_named};
-use crate::kinds::{Change, FileKind, FileRow};
+use crate::kinds::{Answered, Change, FileKind, FileRow};
 use gl_base::command::GET_LINE;
 use gl_base::{Do, Lines, Path, chip_number};
 use gl_model::Reply;
@@ -57,29 +60,28 @@ fn opened(slot: u32, word: &Path, reply: Reply) -> Change
     }
 }
 
-/// The lines that the structure in a command's buffer names.
-fn lines_asked(len: u32, bytes: &[u8; LINE_REQUEST_SIZE]) -> Lines
-    ensures { result ≡ lines_named (buffer_of len bytes.now) }
+/// The lines that were asked for.
+fn lines_made(lines: &Option<Lines>) -> &Lines
+    requires { AreSome lines.now }
+    ensures lines { lines.now ≡ Some result.now }
+    ensures count { IsLineCount result.now.count }
 {
-    lines_named(&handed_of(len, bytes))
+    match lines {
+        Some(lines) => lines,
+        None => unreachable!(),
+    }
 }
 
-/// A request of the lines that the structure in this command's buffer names, which was made on a file, into a slot. Only then are they
-/// read.
-fn made(
-    slot: u32,
-    row: Option<FileRow>,
-    len: u32,
-    bytes: &[u8; LINE_REQUEST_SIZE],
-    reply: Reply,
-) -> Change
-    requires number { number_answered reply < 2 ^ 32 }
+/// A request of the lines that were asked for, which was made on a file, into a slot.
+fn made(slot: u32, row: Option<FileRow>, answered: &Answered) -> Change
+    requires number { number_answered answered.now.reply < 2 ^ 32 }
     requires row { IsSomeRow row }
-    requires lines { (fd : ℕ) → reply ≡ Number fd → IsLineCount (lines_named (buffer_of len bytes.now)).count }
+    requires lines { (fd : ℕ) → answered.now.reply ≡ Number fd → is_on_chip row ≡ true → AreSome answered.now.lines }
     ensures row { IsChange result }
-    ensures told { (files : List OpenFile) → made_on slot (file_of row) (lines_named (buffer_of len bytes.now)) reply files ≡ changed result files }
+    ensures told { (files : List OpenFile) (lines : SomeLines) → ((fd : ℕ) → answered.now.reply ≡ Number fd → is_on_chip row ≡ true → answered.now.lines ≡ Some lines)
+        → made_on slot (file_of row) lines answered.now.reply files ≡ changed result files }
 {
-    match (row, reply) {
+    match (row, answered.reply) {
         (
             Some(
                 FileRow {
@@ -93,31 +95,71 @@ fn made(
             slot,
             place,
             fd: number as u32,
-            kind: FileKind::Request(lines_asked(len, bytes)),
+            kind: FileKind::Request(*lines_made(&answered.lines)),
         }),
         _ => Change::Stays,
     }
 }
 
-/// What becomes of the open files by an operation on this file, with this reply of the machine. A file that was to be closed is gone,
-/// whatever the reply.
-pub fn files_behind(what: &Do, row: Option<FileRow>, reply: Reply) -> Change
-    requires within { OpensWithin what.now reply }
-    requires row { IsSomeRow row }
-    ensures row { IsChange result }
-    ensures told { (files : List OpenFile) → file_for what.now files ≡ file_of row → files_behind what.now reply files ≡ changed result files }
+/// The lines that the structure in a command's buffer names.
+fn lines_asked(len: u32, bytes: &[u8; LINE_REQUEST_SIZE]) -> Lines
+    ensures { result ≡ lines_named (buffer_of len bytes.now) }
+{
+    lines_named(&handed_of(len, bytes))
+}
+
+/// What a command was answered, with the lines that its structure names where it made a request.
+fn command_answered(cmd: u32, len: u32, bytes: &[u8; LINE_REQUEST_SIZE], reply: Reply) -> Answered
+    ensures reply { result.reply ≡ reply }
+    ensures lines { cmd ≡ GET_LINE → (fd : ℕ) → reply ≡ Number fd → result.lines ≡ Some (lines_named (buffer_of len bytes.now)) }
+{
+    if cmd != GET_LINE {
+        return Answered::without_lines(reply);
+    }
+    match reply {
+        Reply::Number(_) => Answered {
+            reply,
+            lines: Some(lines_asked(len, bytes)),
+        },
+        _ => Answered::without_lines(reply),
+    }
+}
+
+/// What an operation was answered, where its reply alone is known, as to who reads a history: the lines that it asked for are read out of
+/// its bytes.
+pub fn answered_by(what: &Do, reply: Reply) -> Answered
+    ensures reply { result.reply ≡ reply }
+    ensures named { (row : Option RowOf) → NamesMade what.now row result }
 {
     match what {
-        Do::OpenChip { slot, word } => opened(*slot, word, reply),
         Do::Ioctl {
             cmd,
             len,
             bytes,
+            ..
+        } => command_answered(*cmd, *len, bytes, reply),
+        _ => Answered::without_lines(reply),
+    }
+}
+
+/// What becomes of the open files by an operation on this file that was answered so. A file that was to be closed is gone, whatever the
+/// reply; the lines of a new request are those that were asked for.
+pub fn files_behind(what: &Do, row: Option<FileRow>, answered: &Answered) -> Change
+    requires within { OpensWithin what.now answered.now.reply }
+    requires named { NamesMade what.now row answered.now }
+    requires row { IsSomeRow row }
+    ensures row { IsChange result }
+    ensures told { (files : List OpenFile) → file_for what.now files ≡ file_of row → files_behind what.now answered.now.reply files ≡ changed result files }
+{
+    match what {
+        Do::OpenChip { slot, word } => opened(*slot, word, answered.reply),
+        Do::Ioctl {
+            cmd,
             made: slot,
             ..
         } => {
             if *cmd == GET_LINE {
-                made(*slot, row, *len, bytes, reply)
+                made(*slot, row, answered)
             } else {
                 Change::Stays
             }

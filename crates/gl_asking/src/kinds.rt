@@ -1,7 +1,9 @@
 //! What an operation is, the row of an open file, and what becomes of the open files.
 
+ghost use Rattle.std.specs.Prelude.{◌≡◌, None};
+
 use gl_base::{Errno, Lines};
-use gl_model::DeviceCall;
+use gl_model::{DeviceCall, Reply};
 
 /// What an open file is of.
 #[derive(Clone, Copy)]
@@ -47,4 +49,23 @@ pub enum Change {
     Adds(FileRow),
     /// The one in this slot is gone, if there was one.
     Removes(u32),
+}
+
+/// What a call of the device is answered.
+#[derive(Clone, Copy)]
+pub struct Answered {
+    /// The reply of its last entry.
+    pub reply: Reply,
+    /// The lines that it asked for, where it made a request of lines on a chip. Only then do they mean something.
+    pub lines: Option<Lines>,
+}
+
+impl Answered {
+    /// A reply of a call that asked for no lines.
+    pub fn without_lines(reply: Reply) -> Answered
+        ensures reply { result.reply ≡ reply }
+        ensures lines { result.lines ≡ None }
+    {
+        Answered { reply, lines: None }
+    }
 }

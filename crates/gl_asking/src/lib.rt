@@ -11,7 +11,7 @@ mod kinds;
 mod operations;
 
 pub use answers::got_of;
-pub use changes::{files_behind, place_named};
+pub use changes::{answered_by, files_behind, place_named};
 pub use commanding::handed_in;
-pub use kinds::{Asking, Change, FileKind, FileRow};
+pub use kinds::{Answered, Asking, Change, FileKind, FileRow};
 pub use operations::asking_of;

@@ -256,8 +256,8 @@ module _ {P : Type 0} (told : P → Option Told) (faults : P → ℕ) (maps : P 
     -- a failure of the driver is counted
     failed : AskedAndTold n c did.called.answer did.called.own made reply → did.called.answer ≡ None → Counted
     failed both none =
-        let was : WasAsked told faults maps maps_left Own Follows limit op c.place did.called.answer did.called.own a.pass.view.room (length did.called.last.at.0) a.port b.port =
-        subst (λ (l : List OneEntry). PortOf told faults maps maps_left Own Follows limit (is_asked l) op c.place did.called.answer did.called.own a.pass.view.room (length did.called.last.at.0) a.port b.port) both.is did.port in was.counted none
+        let was : WasAsked told faults maps maps_left Own Follows limit op c.place did.called.answer did.called.own did.called.did a.pass.view.room (length did.called.last.at.0) a.port b.port =
+        subst (λ (l : List OneEntry). PortOf told faults maps maps_left Own Follows limit (is_asked l) op c.place did.called.answer did.called.own did.called.did a.pass.view.room (length did.called.last.at.0) a.port b.port) both.is did.port in was.counted none
 
     last_of_two : AskedAndTold n c did.called.answer did.called.own made reply → LastTold b.pass.view (entry n (in_tell did.called.answer c) reply)
     last_of_two both = last_told limit a.pass.view b.pass.view c reply bytes did.called (entry n (in_tell did.called.answer c) reply)

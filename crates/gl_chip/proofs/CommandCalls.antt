@@ -204,7 +204,7 @@ module _ {P : Type 0} (told : P → Option Told) (faults : P → ℕ) (maps : P 
     legal = step.legal;
     reply_is = refl;
     bytes = step.bytes;
-    port = subst (λ b. PortOf told faults maps maps_left Own Follows limit b op c.place None [] v.room (length step.last.0) p p) (sym unasked) refl;
+    port = subst (λ b. PortOf told faults maps maps_left Own Follows limit b op c.place None [] (deed_of v.number (in_ask c) reply step.wrote ∷ []) v.room (length step.last.0) p p) (sym unasked) refl;
     never_falls = omega arith;
     io = λ is. io_asked (Rises (faults p) (faults p)) (fold core step.last.0) c.place c.fd (command_of c.cmd) c.bytes
         (io_has_cause (fold core step.last.0) v.number c.place c.fd c.cmd c.len c.bytes Ask (sym (answered_last v w (in_ask c) reply step.last step.legal) ∙ is));
@@ -252,10 +252,13 @@ module _ {P : Type 0} (told : P → Option Told) (faults : P → ℕ) (maps : P 
         legal = last.legal;
         reply_is = ap (λ l. last_reply (entry v.number (in_ask c) first ∷ l)) entries ∙ last_reply_snoc (entry v.number (in_ask c) first ∷ own) second;
         bytes = subst (λ (l : List ℕ). new ≡ l ++ drop (length l) old) (sym (last_bytes_snoc (ask_deed ∷ did) told_deed)) (subst (λ (m : List ℕ). new ≡ last.wrote ++ drop (length last.wrote) m) (go_left_buffer v w c first old mid step go) last.bytes);
-        port = subst (λ b. PortOf told faults maps maps_left Own Follows limit b op c.place answer own v.room (length last.last.0) p q) (sym go) record {
+        port = subst (λ b. PortOf told faults maps maps_left Own Follows limit b op c.place answer own (ask_deed ∷ (did ++ told_deed ∷ [])) v.room (length last.last.0) p q) (sym go) record {
           asked_for = asked_for;
           is_this = this;
+          ask = ask_deed;
           did = did;
+          tell = told_deed;
+          deeds_are = refl;
           did_own = refl;
           seen = length u.seen;
           seen_before = saw_fewer u x (deed_of u.number (in_tell answer c) reply last.wrote) (entry u.number (in_tell answer c) reply) last.grew last.last;
@@ -312,7 +315,7 @@ module _ {P : Type 0} (told : P → Option Told) (faults : P → ℕ) (maps : P 
             };
             knows_as_much = knows_on a.pass.view v b.pass.view knows (knows_on v w b.pass.view did.knows_as_much (knows_same w b.pass.view closed drained));
           };
-          port = subst (λ k. PortOf told faults maps maps_left Own Follows limit (is_asked (entries_in did.did)) op c.place did.answer did.own k (length did.last.at.0) a.port b.port) entered.room did.port;
+          port = subst (λ k. PortOf told faults maps maps_left Own Follows limit (is_asked (entries_in did.did)) op c.place did.answer did.own did.did k (length did.last.at.0) a.port b.port) entered.room did.port;
           never_falls = did.never_falls;
           io = did.io;
         },
@@ -360,17 +363,19 @@ module _ {P : Type 0} (told : P → Option Told) (faults : P → ℕ) (maps : P 
       )
 
 -- the ask of a command with the buffer that it is called with
-pub fits_ask : (place fd : ℕ) (of_chip : Bool) (cmd : ℕ) (buffer : List ℕ) (gift : Gift) → place < PLACES → FitsGift (in_ask (command_in place fd of_chip cmd buffer)) gift → Fits (in_ask (command_in place fd of_chip cmd buffer)) gift buffer
-fits_ask place fd of_chip cmd buffer gift below brings = record { fits_call = (below, handed_fits buffer); brings = brings; buffer_fits = (refl, handed_start buffer) }
+pub fits_ask : (c : CommandIn) (buffer : List ℕ) (gift : Gift) → c.place < PLACES → c ≡ command_in c.place c.fd c.of_chip c.cmd buffer → FitsGift (in_ask c) gift → Fits (in_ask c) gift buffer
+fits_ask c buffer gift below is brings = subst (λ (x : CommandIn). Fits (in_ask x) gift buffer) (sym is)
+    record { fits_call = (below, handed_fits buffer); brings = subst (λ (x : CommandIn). FitsGift (in_ask x) gift) is brings; buffer_fits = (refl, handed_start buffer) }
 
 -- and its tell, with the buffer as it was
-pub fits_tell : (place fd : ℕ) (of_chip : Bool) (cmd : ℕ) (buffer now : List ℕ) (answer : Option ℕ) (gift : Gift) → place < PLACES → now ≡ buffer → Fits (in_tell answer (command_in place fd of_chip cmd buffer)) gift now
-fits_tell place fd of_chip cmd buffer now answer gift below same = record { fits_call = (below, handed_fits buffer); brings = tt; buffer_fits = (ap (λ (l : List ℕ). length l) same, ap (λ (l : List ℕ). take LINE_REQUEST_SIZE l) same ∙ handed_start buffer) }
+pub fits_tell : (c : CommandIn) (buffer now : List ℕ) (answer : Option ℕ) (gift : Gift) → c.place < PLACES → c ≡ command_in c.place c.fd c.of_chip c.cmd buffer → now ≡ buffer → Fits (in_tell answer c) gift now
+fits_tell c buffer now answer gift below is same = subst (λ (x : CommandIn). Fits (in_tell answer x) gift now) (sym is)
+    record { fits_call = (below, handed_fits buffer); brings = tt; buffer_fits = (ap (λ (l : List ℕ). length l) same, ap (λ (l : List ℕ). take LINE_REQUEST_SIZE l) same ∙ handed_start buffer) }
 
 -- where a pass is after a call alone that was made or wasn't
-pub inside_after : (r : Result Reply Errno) (v w : OneView) (call : Call) (old new : List ℕ) (Taken Left : Type 0) → IfOk r (λ reply. CalledOnce core v call reply old new w) → IfErr r (λ e. (e ≡ Full) × Taken × Left × StoodFull core v w) → w.inside ≡ v.inside
-inside_after (Ok reply) v w call old new T L step full = step.same.inside
-inside_after (Err errno) v w call old new T L step full = full.3.same.inside
+pub inside_after : (r : Result Reply Errno) (v w : OneView) (call : Call) (old new : List ℕ) (Left : Type 0) → IfOk r (λ reply. CalledOnce core v call reply old new w) → IfErr r (λ e. (e ≡ Full) × Left × StoodFull core v w) → w.inside ≡ v.inside
+inside_after (Ok reply) v w call old new L step full = step.same.inside
+inside_after (Err errno) v w call old new L step full = full.2.same.inside
 
 -- where it is after it has left a place
 pub left_place : (place : ℕ) (x y : OnePass) → y ≡ knowing x (without_inside x.view place) → y.view.inside ≡ without place x.view.inside

@@ -103,7 +103,7 @@ module _ {P : Type 0} (told : P → Option Told) (faults : P → ℕ) (maps : P 
       guard = called.guard;
       knows_as_much = called.knows_as_much;
     };
-    port = subst (λ asked. PortOf told faults maps maps_left Own Follows limit asked op c.place called.answer called.own a.pass.view.room (length called.last.at.0) a.port b.port)
+    port = subst (λ asked. PortOf told faults maps maps_left Own Follows limit asked op c.place called.answer called.own called.did a.pass.view.room (length called.last.at.0) a.port b.port)
         (sym (none_asked a.pass.view.number called.closed c called.answer called.own (entries_in called.did) not_asked called.makes.1)) same;
     never_falls = subst (λ x. faults a.port ≤ faults x) (sym same) (omega arith);
     io = λ is. let h = called_last 0 a.pass.view b.pass.view c reply bytes called in

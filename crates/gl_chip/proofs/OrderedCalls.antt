@@ -18,6 +18,7 @@ use Rattle.gl_model.specs.Replies.{has_form}
 use Rattle.gl_model.specs.Step.{guard_reply}
 use Rattle.gl_chip.specs.Called.{HasCalled}
 use Rattle.gl_chip.specs.DriverCommands.{HasCommanded, IsOp}
+use Rattle.gl_asking.specs.declared.kinds.Answered.{Answered}
 use Rattle.gl_asking.specs.declared.kinds.FileKind.TheVariants.{Chip}
 use Rattle.gl_chip.specs.Orders.{CouldNot, HasDone}
 use Rattle.gl_chip.specs.Removals.{AllDrained}
@@ -29,20 +30,26 @@ use Rattle.gl_chip.proofs.GateSteps.{if_err, if_ok}
 use Rattle.gl_chip.proofs.RequestedLines.{whole_no_number}
 
 module _ {P : Type 0} (told : P → Option Told) (faults : P → ℕ) (maps : P → List Map) (maps_left : P → ℕ) (Own : OwnRelation) (Follows : FollowsRelation) (limit : ℕ) where
-  -- a command with the buffer that it is called with, and what the driver is asked for it
-  pub as_ordered : (result : Result Reply Errno) (op wanted : Option Op) (a b : ActorValue P) (c d : CommandIn) (old new : List ℕ) → c ≡ d → wanted ≡ op
-      → IfOk result (λ r. (bytes : List ℕ) × (new ≡ bytes ++ drop (length bytes) old) × HasCommanded told faults maps maps_left Own Follows limit op a d r bytes b)
+  -- a command, by what the driver is asked for it
+  pub as_ordered : (result : Result Reply Errno) (op wanted : Option Op) (a b : ActorValue P) (c : CommandIn) (old new : List ℕ) → wanted ≡ op
+      → IfOk result (λ r. (bytes : List ℕ) × (new ≡ bytes ++ drop (length bytes) old) × HasCommanded told faults maps maps_left Own Follows limit op a c r bytes b)
       → IfOk result (λ r. (bytes : List ℕ) × (new ≡ bytes ++ drop (length bytes) old) × HasCommanded told faults maps maps_left Own Follows limit wanted a c r bytes b)
-  as_ordered result op wanted a b c d old new is wants h =
-      subst (λ (o : Option Op). IfOk result (λ r. (bytes : List ℕ) × (new ≡ bytes ++ drop (length bytes) old) × HasCommanded told faults maps maps_left Own Follows limit o a c r bytes b)) (sym wants)
-      (subst (λ (x : CommandIn). IfOk result (λ r. (bytes : List ℕ) × (new ≡ bytes ++ drop (length bytes) old) × HasCommanded told faults maps maps_left Own Follows limit op a x r bytes b)) (sym is) h)
+  as_ordered result op wanted a b c old new wants h =
+      subst (λ (o : Option Op). IfOk result (λ r. (bytes : List ℕ) × (new ≡ bytes ++ drop (length bytes) old) × HasCommanded told faults maps maps_left Own Follows limit o a c r bytes b)) (sym wants) h
 
   -- one for which the driver isn't asked
-  pub whole_ordered : (result : Result Reply Errno) (op : Option Op) (a b : ActorValue P) (c d : CommandIn) (old new : List ℕ) → c ≡ d → is_driver_asked d.of_chip d.len (command_of d.cmd) ≡ false → b.port ≡ a.port
-      → IfOk result (λ r. (bytes : List ℕ) × (new ≡ bytes ++ drop (length bytes) old) × HasCalled 0 a.pass.view (Commanding d) r bytes b.pass.view)
+  pub whole_ordered : (result : Result Reply Errno) (op : Option Op) (a b : ActorValue P) (c : CommandIn) (old new : List ℕ) → is_driver_asked c.of_chip c.len (command_of c.cmd) ≡ false → b.port ≡ a.port
+      → IfOk result (λ r. (bytes : List ℕ) × (new ≡ bytes ++ drop (length bytes) old) × HasCalled 0 a.pass.view (Commanding c) r bytes b.pass.view)
       → IfOk result (λ r. (bytes : List ℕ) × (new ≡ bytes ++ drop (length bytes) old) × HasCommanded told faults maps maps_left Own Follows limit op a c r bytes b)
-  whole_ordered result op a b c d old new is not_asked same h =
-      as_ordered result op op a b c d old new is refl (if_ok result _ _ (λ r k. (k.0, k.1, whole_commanded told faults maps maps_left Own Follows limit op a b d r k.0 not_asked k.2 same)) h)
+  whole_ordered result op a b c old new not_asked same h =
+      if_ok result _ _ (λ r k. (k.0, k.1, whole_commanded told faults maps maps_left Own Follows limit op a b c r k.0 not_asked k.2 same)) h
+
+  -- the same of one whose lines come with its reply
+  pub as_answered : (result : Result Answered Errno) (op wanted : Option Op) (a b : ActorValue P) (c : CommandIn) (old new : List ℕ) → wanted ≡ op
+      → IfOk result (λ r. (bytes : List ℕ) × (new ≡ bytes ++ drop (length bytes) old) × HasCommanded told faults maps maps_left Own Follows limit op a c r.reply bytes b)
+      → IfOk result (λ r. (bytes : List ℕ) × (new ≡ bytes ++ drop (length bytes) old) × HasCommanded told faults maps maps_left Own Follows limit wanted a c r.reply bytes b)
+  as_answered result op wanted a b c old new wants h =
+      subst (λ (o : Option Op). IfOk result (λ r. (bytes : List ℕ) × (new ≡ bytes ++ drop (length bytes) old) × HasCommanded told faults maps maps_left Own Follows limit o a c r.reply bytes b)) (sym wants) h
 
 abbrev is_number : Reply → Bool
 is_number (Number n) = true
@@ -58,6 +65,9 @@ whole_numbers result op c h = if_ok result _ _ (λ r form n is. absurd (no_numbe
 
 pub number_ordered : (result : Result Reply Errno) (op wanted : Option Op) → wanted ≡ op → IfOk result (λ r. (n : ℕ) → r ≡ Number n → (n < 2 ^ 31) × IsOp op) → IfOk result (λ r. (n : ℕ) → r ≡ Number n → (n < 2 ^ 31) × IsOp wanted)
 number_ordered result op wanted wants h = subst (λ (o : Option Op). IfOk result (λ r. (n : ℕ) → r ≡ Number n → (n < 2 ^ 31) × IsOp o)) (sym wants) h
+
+pub number_as : (result : Result Answered Errno) (op wanted : Option Op) → wanted ≡ op → IfOk result (λ r. (n : ℕ) → r.reply ≡ Number n → (n < 2 ^ 31) × IsOp op) → IfOk result (λ r. (n : ℕ) → r.reply ≡ Number n → (n < 2 ^ 31) × IsOp wanted)
+number_as result op wanted wants h = subst (λ (o : Option Op). IfOk result (λ r. (n : ℕ) → r.reply ≡ Number n → (n < 2 ^ 31) × IsOp o)) (sym wants) h
 
 module _ {P : Type 0} where
   -- memory was wanted

@@ -29,14 +29,14 @@ use Rattle.gl_model.specs.Ioctl.{act_on, by_number, checked}
 use Rattle.gl_model.specs.Machine.{reply_of}
 use Rattle.gl_model.specs.OpenFiles.{command_refusal}
 use Rattle.gl_model.specs.Outcome.{Outcome, refused_or}
-use Rattle.gl_model.specs.Parts.{is_driver_asked}
+use Rattle.gl_model.specs.Parts.{in_ask, is_driver_asked}
+use Rattle.gl_model.specs.declared.device_call.CommandIn.{CommandIn}
 use Rattle.gl_model.specs.Replies.{numbered_form}
 use Rattle.gl_model.specs.World.{World, Request, has_number, request_at}
 use Rattle.gl_model.specs.Written.{number_answered}
 use Rattle.gl_model.proofs.Requests.{claim_by_any}
 use Rattle.gl_chip.specs.DriverCommands.{IsApplied, IsAppliedTo, IsOp, IsOpAfterGo, TakesMemory, op_brought}
-use Rattle.gl_asking.specs.Driving.{op_of, op_requested}
-use Rattle.gl_asking.specs.Handed.{command_in, handed_in}
+use Rattle.gl_asking.specs.Driving.{op_for, op_of, op_requested}
 
 abbrev is_request : Option Request → Bool
 is_request (Some request) = true
@@ -53,6 +53,9 @@ only_get_line len (Some GetLine) e = refl
 only_get_line len (Some SetConfig) e = absurd (true≢false (sym e))
 only_get_line len (Some GetValues) e = absurd (true≢false (sym e))
 only_get_line len (Some SetValues) e = absurd (true≢false (sym e))
+
+pub gets_line : (c : CommandIn) → c.of_chip ≡ true → is_driver_asked c.of_chip c.len (command_of c.cmd) ≡ true → command_of c.cmd ≡ Some GetLine
+gets_line c chip asks = only_get_line c.len (command_of c.cmd) (subst (λ (b : Bool). is_driver_asked b c.len (command_of c.cmd) ≡ true) chip asks)
 
 -- what is answered Go wasn't refused
 go_unrefused : (refusal : Option Errno) (w : World) (out : Outcome) (n : ℕ) → (refused_or refusal w out).reply ≡ Go n → (refusal ≡ None) × (out.reply ≡ Go n)
@@ -147,34 +150,33 @@ number_below (Ready b) X h = omega arith
 number_below (Refused errno) X h = omega arith
 
 -- what the driver is asked for is what the bytes ask for
-op_by_fault : (fault : Option Errno) (bytes : List ℕ) → op_brought (asked_where fault bytes) ≡ op_requested fault bytes
+op_by_fault : (fault : Option Errno) (bytes : List ℕ) → op_brought (Some (asked_where fault bytes)) ≡ op_requested fault bytes
 op_by_fault None bytes = refl
 op_by_fault (Some errno) bytes = refl
 
 pub op_is_requested : (bytes : List ℕ) (gift : Gift) (op : Option Op) → op ≡ op_brought gift.asked → HoldsRequest bytes gift → op ≡ op_requested (request_fault bytes) bytes
 op_is_requested bytes gift op is holds = is ∙ (ap op_brought holds.asked ∙ op_by_fault (request_fault bytes) bytes)
 
--- what the driver is asked for GET_LINE, by the bytes that were handed in
-pub op_is_for : (lines : Lines) (command : Option Command) (bytes handed : List ℕ) (op : Option Op) → command ≡ Some GetLine → handed ≡ bytes → op ≡ op_requested (request_fault (take LINE_REQUEST_SIZE handed)) (take LINE_REQUEST_SIZE handed)
-    → op ≡ op_of lines command bytes
-op_is_for lines command bytes handed op is same asked = asked ∙ (ap (λ (b : List ℕ). op_requested (request_fault (take LINE_REQUEST_SIZE b)) (take LINE_REQUEST_SIZE b)) same ∙ ap (λ (o : Option Command). op_of lines o bytes) (sym is))
+-- the driver is asked what the bytes of the command ask for
+abbrev pub AsksByBytes : CommandIn → Option Op → Type 0
+AsksByBytes c op = op ≡ op_requested (request_fault (take LINE_REQUEST_SIZE c.bytes)) (take LINE_REQUEST_SIZE c.bytes)
+
+-- so of GET_LINE
+pub op_is_for : (lines : Lines) (c : CommandIn) (op : Option Op) → command_of c.cmd ≡ Some GetLine → AsksByBytes c op → op ≡ op_for lines c
+op_is_for lines c op is asked = asked ∙ ap (λ (o : Option Command). op_of lines o c.bytes) (sym is)
 
 -- after Go it is one, on 1 to 64 lines
-pub op_goes : (place fd cmd len : ℕ) (bytes handed : List ℕ) (op : Option Op) → command_of cmd ≡ Some GetLine → handed ≡ bytes → op ≡ op_requested (request_fault (take LINE_REQUEST_SIZE handed)) (take LINE_REQUEST_SIZE handed)
-    → IfSome op (λ o. FitsOp o) → IsOpAfterGo (Ioctl place fd cmd len bytes Ask) op
-op_goes place fd cmd len bytes handed op is same asked fits w actor n e =
-    op_after_go (request_fault (take LINE_REQUEST_SIZE handed)) (take LINE_REQUEST_SIZE handed) op asked fits
-    (ap (λ (b : List ℕ). request_fault (take LINE_REQUEST_SIZE b)) same ∙ go_has_no_fault w actor n place fd cmd len bytes is e)
+pub op_goes : (c : CommandIn) (op : Option Op) → command_of c.cmd ≡ Some GetLine → AsksByBytes c op → IfSome op (λ o. FitsOp o) → IsOpAfterGo (in_ask c) op
+op_goes c op is asked fits w actor n e =
+    op_after_go (request_fault (take LINE_REQUEST_SIZE c.bytes)) (take LINE_REQUEST_SIZE c.bytes) op asked fits (go_has_no_fault w actor n c.place c.fd c.cmd c.len c.bytes is e)
 
 -- and it applies settings to the lines that the bytes name
 applied : (fault : Option Errno) (bytes : List ℕ) (op : Option Op) → op ≡ op_requested fault bytes → IsOp op → IsApplied op × IsAppliedTo (lines_asked bytes) op
 applied None bytes op is there = subst (λ (o : Option Op). IsApplied o × IsAppliedTo (lines_asked bytes) o) (sym is) ((subst (λ (o : Option Op). IsOp o) is there).0, refl)
 applied (Some errno) bytes op is there = absurd (subst (λ (o : Option Op). IsOp o) is there)
 
-pub applied_to_named : (bytes handed : List ℕ) (op : Option Op) → handed ≡ bytes → op ≡ op_requested (request_fault (take LINE_REQUEST_SIZE handed)) (take LINE_REQUEST_SIZE handed)
-    → IsOp op → IsApplied op × IsAppliedTo (lines_asked (take LINE_REQUEST_SIZE bytes)) op
-applied_to_named bytes handed op same asked there = subst (λ (b : List ℕ). IsApplied op × IsAppliedTo (lines_asked (take LINE_REQUEST_SIZE b)) op) same
-    (applied (request_fault (take LINE_REQUEST_SIZE handed)) (take LINE_REQUEST_SIZE handed) op asked there)
+pub applied_to_named : (c : CommandIn) (op : Option Op) → AsksByBytes c op → IsOp op → IsApplied op × IsAppliedTo (lines_asked (take LINE_REQUEST_SIZE c.bytes)) op
+applied_to_named c op asked there = applied (request_fault (take LINE_REQUEST_SIZE c.bytes)) (take LINE_REQUEST_SIZE c.bytes) op asked there
 
 -- there is one list of lines to which it applies them
 pub one_list : (op : Option Op) (a b : Lines) → IsAppliedTo a op → IsAppliedTo b op → a ≡ b
@@ -184,10 +186,5 @@ one_list (Some (Set on mask bits)) a b is its = absurd is
 one_list (Some (Apply on settings)) a b is its = sym is ∙ its
 
 -- memory was wanted for it
-pub takes_memory : (place fd cmd : ℕ) (buffer handed : List ℕ) → is_driver_asked true (length buffer) (command_of cmd) ≡ true → handed ≡ handed_in buffer
-    → request_fault (take LINE_REQUEST_SIZE handed) ≡ None → TakesMemory (command_in place fd true cmd buffer)
-takes_memory place fd cmd buffer handed asks same faultless = (
-  asks,
-  only_get_line (length buffer) (command_of cmd) asks,
-  ap (λ (b : List ℕ). request_fault (take LINE_REQUEST_SIZE b)) (sym same) ∙ faultless,
-)
+pub takes_memory : (c : CommandIn) → c.of_chip ≡ true → is_driver_asked c.of_chip c.len (command_of c.cmd) ≡ true → request_fault (take LINE_REQUEST_SIZE c.bytes) ≡ None → TakesMemory c
+takes_memory c chip asks faultless = (asks, gets_line c chip asks, faultless)

@@ -97,25 +97,25 @@ planned_by is_planned Follows law (Some t) op did room seen answer follows is = 
 
 module _ {P : Type 0} (told : P → Option Told) (faults : P → ℕ) (maps : P → List Map) (maps_left : P → ℕ) (Own : OwnRelation) (Follows : FollowsRelation) (is_planned : Bool) (law : FollowsPlan is_planned Follows) where
   -- the port after entries that begin with this one of the actor
-  rest_port : (n : ℕ) (c : CommandIn) (answer : Option ℕ) (op : Option Op) (reply : Reply) (rest : List OneEntry) (goes : Bool) (room before : ℕ) (p q : P) → begins (in_ask c) reply ≡ goes
-      → MakesRest n goes (in_tell answer c) [] rest → PortOf told faults maps maps_left Own Follows 0 goes op c.place answer [] room before p q → PortAfter is_planned op (tells_in rest) (told p) (told q)
-  rest_port n c answer op reply rest false room before p q is makes port = subst (λ (es : List OneEntry). PortAfter is_planned op (tells_in es) (told p) (told q)) (sym makes.0) (ap told port)
-  rest_port n c answer op reply rest true room before p q is makes port =
+  rest_port : (n : ℕ) (c : CommandIn) (answer : Option ℕ) (op : Option Op) (reply : Reply) (rest : List OneEntry) (goes : Bool) (deeds : List OneDeed) (room before : ℕ) (p q : P) → begins (in_ask c) reply ≡ goes
+      → MakesRest n goes (in_tell answer c) [] rest → PortOf told faults maps maps_left Own Follows 0 goes op c.place answer [] deeds room before p q → PortAfter is_planned op (tells_in rest) (told p) (told q)
+  rest_port n c answer op reply rest false deeds room before p q is makes port = subst (λ (es : List OneEntry). PortAfter is_planned op (tells_in es) (told p) (told q)) (sym makes.0) (ap told port)
+  rest_port n c answer op reply rest true deeds room before p q is makes port =
       subst (λ (es : List OneEntry). PortAfter is_planned op (tells_in es) (told p) (told q)) (sym makes.1) (port.asked_for, port.is_this, port.told_then, planned_by is_planned Follows law (told p) port.asked_for port.did room port.seen answer port.follows)
 
-  inside_port : (n : ℕ) (c : CommandIn) (answer : Option ℕ) (op : Option Op) (asks : Bool) (made : List OneEntry) (room before : ℕ) (p q : P) → MakesCommand n asks answer c [] made
-      → PortOf told faults maps maps_left Own Follows 0 (is_asked made) op c.place answer [] room before p q → PortAfter is_planned op (tells_in made) (told p) (told q)
-  inside_port n c answer op false made room before p q ((reply, is), none) port =
-      subst (λ (es : List OneEntry). PortOf told faults maps maps_left Own Follows 0 (is_asked es) op c.place answer [] room before p q → PortAfter is_planned op (tells_in es) (told p) (told q)) (sym is) (λ same. ap told same) port
-  inside_port n c answer op true made room before p q (reply, rest, is, makes) port =
-      subst (λ (es : List OneEntry). PortOf told faults maps maps_left Own Follows 0 (is_asked es) op c.place answer [] room before p q → PortAfter is_planned op (tells_in es) (told p) (told q)) (sym is)
-      (λ went. rest_port n c answer op reply rest (begins (in_ask c) reply) room before p q refl makes went) port
+  inside_port : (n : ℕ) (c : CommandIn) (answer : Option ℕ) (op : Option Op) (asks : Bool) (made : List OneEntry) (deeds : List OneDeed) (room before : ℕ) (p q : P) → MakesCommand n asks answer c [] made
+      → PortOf told faults maps maps_left Own Follows 0 (is_asked made) op c.place answer [] deeds room before p q → PortAfter is_planned op (tells_in made) (told p) (told q)
+  inside_port n c answer op false made deeds room before p q ((reply, is), none) port =
+      subst (λ (es : List OneEntry). PortOf told faults maps maps_left Own Follows 0 (is_asked es) op c.place answer [] deeds room before p q → PortAfter is_planned op (tells_in es) (told p) (told q)) (sym is) (λ same. ap told same) port
+  inside_port n c answer op true made deeds room before p q (reply, rest, is, makes) port =
+      subst (λ (es : List OneEntry). PortOf told faults maps maps_left Own Follows 0 (is_asked es) op c.place answer [] deeds room before p q → PortAfter is_planned op (tells_in es) (told p) (told q)) (sym is)
+      (λ went. rest_port n c answer op reply rest (begins (in_ask c) reply) deeds room before p q refl makes went) port
 
-  pub at_port : (n : ℕ) (c : CommandIn) (answer : Option ℕ) (op : Option Op) (closed : Bool) (made : List OneEntry) (room before : ℕ) (p q : P) → Makes n closed (Commanding c) answer [] made
-      → PortOf told faults maps maps_left Own Follows 0 (is_asked made) op c.place answer [] room before p q → PortAfter is_planned op (tells_in made) (told p) (told q)
-  at_port n c answer op false made room before p q makes port = inside_port n c answer op (is_driver_asked c.of_chip c.len (command_of c.cmd)) made room before p q makes.1 port
-  at_port n c answer op true made room before p q makes port =
-      subst (λ (es : List OneEntry). PortOf told faults maps maps_left Own Follows 0 (is_asked es) op c.place answer [] room before p q → PortAfter is_planned op (tells_in es) (told p) (told q)) (sym makes.1.0) (λ same. ap told same) port
+  pub at_port : (n : ℕ) (c : CommandIn) (answer : Option ℕ) (op : Option Op) (closed : Bool) (made : List OneEntry) (deeds : List OneDeed) (room before : ℕ) (p q : P) → Makes n closed (Commanding c) answer [] made
+      → PortOf told faults maps maps_left Own Follows 0 (is_asked made) op c.place answer [] deeds room before p q → PortAfter is_planned op (tells_in made) (told p) (told q)
+  at_port n c answer op false made deeds room before p q makes port = inside_port n c answer op (is_driver_asked c.of_chip c.len (command_of c.cmd)) made deeds room before p q makes.1 port
+  at_port n c answer op true made deeds room before p q makes port =
+      subst (λ (es : List OneEntry). PortOf told faults maps maps_left Own Follows 0 (is_asked es) op c.place answer [] deeds room before p q → PortAfter is_planned op (tells_in es) (told p) (told q)) (sym makes.1.0) (λ same. ap told same) port
 
 module _ {P : Type 0} (told : P → Option Told) (faults : P → ℕ) (maps : P → List Map) (maps_left : P → ℕ) (Own : OwnRelation) (Follows : FollowsRelation) (limit : ℕ) (is_planned : Bool) (law : FollowsPlan is_planned Follows) where
   -- a command, over a driver that makes no entries of its own
@@ -123,9 +123,9 @@ module _ {P : Type 0} (told : P → Option Told) (faults : P → ℕ) (maps : P 
       → (called : HasCalled 0 a.pass.view (Commanding c) reply bytes b.pass.view) × PortAfter is_planned op (tells_in (entries_in called.did)) (told a.port) (told b.port)
   command_told op a b c reply bytes h = let called = h.called in (
     called,
-    at_port told faults maps maps_left Own Follows is_planned law a.pass.view.number c called.answer op called.closed (entries_in called.did) a.pass.view.room (length called.last.at.0) a.port b.port
+    at_port told faults maps maps_left Own Follows is_planned law a.pass.view.number c called.answer op called.closed (entries_in called.did) called.did a.pass.view.room (length called.last.at.0) a.port b.port
         (subst (λ (own : List OneEntry). Makes a.pass.view.number called.closed (Commanding c) called.answer own (entries_in called.did)) (none_own called.own called.few_own) called.makes)
-        (subst (λ (own : List OneEntry). PortOf told faults maps maps_left Own Follows 0 (is_asked (entries_in called.did)) op c.place called.answer own a.pass.view.room (length called.last.at.0) a.port b.port) (none_own called.own called.few_own) h.port),
+        (subst (λ (own : List OneEntry). PortOf told faults maps maps_left Own Follows 0 (is_asked (entries_in called.did)) op c.place called.answer own called.did a.pass.view.room (length called.last.at.0) a.port b.port) (none_own called.own called.few_own) h.port),
   )
 
   none_told : (op : Option Op) (tells : List (Option ℕ)) (p q : P) → tells ≡ [] → q ≡ p → PortAfter is_planned op tells (told p) (told q)

@@ -1,5 +1,5 @@
 -- What a command on an open file did that may ask the driver: its entries, and what went through the actor's port.
-use Rattle.std.specs.Prelude.{◌≡◌, ◌≢◌, ◌⊎◌, ◌<◌, ◌≤◌, ◌^◌, ℕ, Bool, true, false, List, [], ◌∷◌, ◌++◌, length, take, drop, Option, Some, None, Result, Err}
+use Rattle.std.specs.Prelude.{◌≡◌, ◌≢◌, ◌⊎◌, ◌<◌, ◌≤◌, ◌^◌, ℕ, Bool, true, false, List, [], ◌∷◌, ◌++◌, length, take, drop, Option, Some, None, Result, Ok, Err}
 use Rattle.gl_base.specs.Count.{Rises}
 use Rattle.gl_base.specs.declared.errno.Errno.{Errno}
 use Rattle.gl_base.specs.declared.errno.Errno.TheVariants.{Full, Io, NoMemory}
@@ -43,10 +43,11 @@ abbrev pub IsOp : Option Op → Type 0
 IsOp None = ⊥
 IsOp (Some op) = FitsOp op
 
--- what the driver is asked for a request of lines that asks for this, if it asks for something
-abbrev pub op_brought : Option AskedLines → Option Op
+-- what the driver is asked for a request of lines that brings this, if it asks for something
+abbrev pub op_brought : Option (Result AskedLines Errno) → Option Op
 op_brought None = None
-op_brought (Some asked) = Some (Apply asked.lines asked.settings)
+op_brought (Some (Err errno)) = None
+op_brought (Some (Ok asked)) = Some (Apply asked.lines asked.settings)
 
 -- there is an operation, and it applies settings to 1 to 64 lines
 abbrev pub IsApplied : Option Op → Type 0
@@ -97,12 +98,16 @@ IsOpAfterGo call op = (w : World) (actor n : ℕ) → reply_of w actor call ≡ 
 -- entries of its own the driver may make for a call, the answer that follows, and how many entries it makes at most.
 module _ {P : Type 0} (told : P → Option Told) (faults : P → ℕ) (maps : P → List Map) (maps_left : P → ℕ) (Own : OwnRelation) (Follows : FollowsRelation) (limit : ℕ) where
   -- The driver was asked once, through this port: for just that operation, and it answered so. It made these entries of its own, and the
-  -- answer is one that follows, by what the actor did meanwhile: its room is this, and it had seen no more entries then than stand before the
-  -- tell. Where the driver failed, the port has counted that, and nothing else changes its count. The port's maps are what they were.
-  pub record WasAsked (op : Option Op) (place : ℕ) (answer : Option ℕ) (own : List OneEntry) (room before : ℕ) (p q : P) : Type 0 where
+  -- answer is one that follows, by what the actor did meanwhile: just the call's deeds between the ask and the tell, with the bytes that the
+  -- machine wrote at each. Its room is this, and it had seen no more entries then than stand before the tell. Where the driver failed, the port
+  -- has counted that, and nothing else changes its count. The port's maps are what they were.
+  pub record WasAsked (op : Option Op) (place : ℕ) (answer : Option ℕ) (own : List OneEntry) (deeds : List OneDeed) (room before : ℕ) (p q : P) : Type 0 where
     pub asked_for : Op
     pub is_this : op ≡ Some asked_for
+    pub ask : OneDeed
     pub did : List OneDeed
+    pub tell : OneDeed
+    pub deeds_are : deeds ≡ ask ∷ (did ++ tell ∷ [])
     pub did_own : entries_in did ≡ own
     pub seen : ℕ
     pub seen_before : seen ≤ before
@@ -114,17 +119,17 @@ module _ {P : Type 0} (told : P → Option Told) (faults : P → ℕ) (maps : P 
     pub same_maps : maps q ≡ maps p
     pub same_left : maps_left q ≡ maps_left p
 
-  -- the port after a command that asked the driver, or didn't
-  abbrev pub PortOf : Bool → Option Op → ℕ → Option ℕ → List OneEntry → ℕ → ℕ → P → P → Type 0
-  PortOf true op place answer own room before p q = WasAsked op place answer own room before p q
-  PortOf false op place answer own room before p q = q ≡ p
+  -- the port after a command with these deeds that asked the driver, or didn't
+  abbrev pub PortOf : Bool → Option Op → ℕ → Option ℕ → List OneEntry → List OneDeed → ℕ → ℕ → P → P → Type 0
+  PortOf true op place answer own deeds room before p q = WasAsked op place answer own deeds room before p q
+  PortOf false op place answer own deeds room before p q = q ≡ p
 
   -- One command, by an actor who was a and is b then, for which the driver is asked this if it is asked. It is a call of the device
   -- (`HasCalled`). After Go, and only then, the driver was asked once, and the tell holds what it answered. EIO comes only from the
   -- driver, whose port has counted that, or from a line that is locked.
   pub record HasCommanded (op : Option Op) (a : ActorValue P) (c : CommandIn) (reply : Reply) (bytes : List ℕ) (b : ActorValue P) : Type 0 where
     pub called : HasCalled limit a.pass.view (Commanding c) reply bytes b.pass.view
-    pub port : PortOf (is_asked (entries_in called.did)) op c.place called.answer called.own a.pass.view.room (length called.last.at.0) a.port b.port
+    pub port : PortOf (is_asked (entries_in called.did)) op c.place called.answer called.own called.did a.pass.view.room (length called.last.at.0) a.port b.port
     pub never_falls : faults a.port ≤ faults b.port
     pub io : reply ≡ Refused Io → IoComesOf (Rises (faults a.port) (faults b.port)) (fold core called.last.at.0) c.place c.fd (command_of c.cmd) c.bytes
 
@@ -142,7 +147,7 @@ module _ {P : Type 0} (told : P → Option Told) (faults : P → ℕ) (maps : P 
     pub legal : Legal core w.seen
     pub reply_is : last_reply (entries_in did) ≡ Some reply
     pub bytes : new ≡ last_bytes did ++ drop (length (last_bytes did)) old
-    pub port : PortOf (is_asked (entries_in did)) op c.place answer own v.room (length last.at.0) p q
+    pub port : PortOf (is_asked (entries_in did)) op c.place answer own did v.room (length last.at.0) p q
     pub never_falls : faults p ≤ faults q
     pub io : reply ≡ Refused Io → IoComesOf (Rises (faults p) (faults q)) (fold core last.at.0) c.place c.fd (command_of c.cmd) c.bytes
     pub let_in : reply ≢ guard_reply false

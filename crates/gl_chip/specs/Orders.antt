@@ -1,5 +1,5 @@
 -- Any call of the device as one value, and how it comes out.
-use Rattle.std.specs.Prelude.{◌≡◌, ◌⊎◌, ℕ, ◌<◌, ◌^◌, false, List, ◌++◌, length, take, drop, Option, None}
+use Rattle.std.specs.Prelude.{◌≡◌, ◌⊎◌, ℕ, ◌<◌, ◌^◌, false, List, ◌++◌, length, take, drop, Option, None, Some}
 use Rattle.gl_base.specs.declared.errno.Errno.{Errno}
 use Rattle.gl_base.specs.declared.errno.Errno.TheVariants.{Full, NoMemory}
 use Rattle.gl_base.specs.declared.lines.Lines.{Lines}
@@ -15,6 +15,7 @@ use Rattle.gl_model.specs.declared.reply.Reply.TheVariants.{Number, Refused}
 use Rattle.gl_model.specs.AskedLines.{lines_asked}
 use Rattle.gl_model.specs.Entries.{guarded_place, is_done}
 use Rattle.gl_model.specs.Fits.{FitsBuffer}
+use Rattle.gl_asking.specs.declared.kinds.Answered.{Answered}
 use Rattle.gl_asking.specs.declared.kinds.FileKind.{FileKind}
 use Rattle.gl_asking.specs.declared.kinds.FileKind.TheVariants.{Chip, Request}
 use Rattle.gl_asking.specs.Fitting.{FitsDevice}
@@ -70,6 +71,17 @@ abbrev pub AnswersOrder : DeviceCall → FileKind → Reply → Type 0
 AnswersOrder (Once call) on reply = Answers (guarded_place call) call reply
 AnswersOrder (Removing removal) on reply = is_done reply ≡ false → (errno : Errno) × (reply ≡ Refused errno)
 AnswersOrder (Commanding c) on reply = (n : ℕ) → reply ≡ Number n → (n < 2 ^ 31) × IsOp (op_for (lines_on on c) c)
+
+-- The lines that come with the answer of a command on a chip, where it made a request, are those that its structure names.
+abbrev pub GivesOn : FileKind → CommandIn → Answered → Type 0
+GivesOn Chip c answered = (n : ℕ) → answered.reply ≡ Number n → answered.lines ≡ Some (lines_asked (take LINE_REQUEST_SIZE c.bytes))
+GivesOn (Request lines) c answered = Unit {0}
+
+-- the same of any call
+abbrev pub GivesLines : DeviceCall → FileKind → Answered → Type 0
+GivesLines (Once call) on answered = Unit {0}
+GivesLines (Removing removal) on answered = Unit {0}
+GivesLines (Commanding c) on answered = GivesOn on c answered
 
 -- A call wasn't made: memory was wanted, and nothing was done; or the history was full.
 abbrev pub CouldNot : {P : Type 0} → Errno → ActorValue P → ActorValue P → Type 0

@@ -15,6 +15,7 @@ ghost use Rattle.gl_core.specs.Device.{core};
 
 use crate::actor::Actor;
 use crate::gpio::Gpio;
+use crate::guarding::Guard;
 use gl_base::Errno;
 use gl_core::entries::place_of;
 use gl_core::{Call, Core, Gift, Reply};
@@ -86,7 +87,13 @@ impl<D: Driver<Core>> Gpio<D> {
     {
         match place_of(call) {
             None => self.unguarded(rt, actor, call, gift),
-            Some(place) => self.behind_guard(rt, actor, place, call, is_poll(call), out),
+            Some(place) => {
+                let guard = Guard {
+                    place,
+                    poll: is_poll(call),
+                };
+                self.behind_guard(rt, actor, guard, call, out)
+            }
         }
     }
 

@@ -1,6 +1,6 @@
 //! Commands on open files that ask the driver: each is an ask and, where that is answered Go, the driver's call and a tell.
 
-ghost use Rattle.std.specs.Prelude.{◌≡◌, ◌≢◌, ◌⊎◌, ◌<◌, ◌^◌, ◌++◌, ℕ, List, true, Some, cond, length, drop, IfOk, IfErr};
+ghost use Rattle.std.specs.Prelude.{◌≡◌, ◌<◌, ◌^◌, ◌++◌, ℕ, List, true, Some, length, drop, IfOk, IfErr};
 ghost use Rattle.gl_base.specs.declared.errno.Errno.TheVariants.{Full};
 ghost use Rattle.gl_base.specs.declared.limits.TheConstants.{PLACES};
 ghost use Rattle.gl_uapi.specs.Command.{command_of};
@@ -12,21 +12,20 @@ ghost use Rattle.gl_model.specs.Entries.{is_go};
 ghost use Rattle.gl_model.specs.Fits.{FitsGift};
 ghost use Rattle.gl_model.specs.Parts.{in_ask, is_driver_asked};
 ghost use Rattle.gl_chip.specs.DriverCommands.{CommandedInside, IsOp, IsOpAfterGo, HasCommanded};
-ghost use Rattle.gl_asking.specs.Handed.{command_in, handed_in};
+ghost use Rattle.gl_asking.specs.Handed.{command_in};
 ghost use Rattle.gl_chip.specs.Steps.{FoundNoRoom, Owes, StoodFull};
 ghost use Rattle.gl_chip.specs.Values.{IsActorOf, IsSameActor};
 ghost use Rattle.gl_core.specs.Device.{core};
 
 use crate::actor::Actor;
-use crate::driving::{ask, drive, tell};
+use crate::driving::{OpInside, ask, drive, tell};
 use crate::gpio::Gpio;
-use crate::guarding::refused_at;
-use crate::plain_commands::OpenFile;
+use crate::guarding::{Guard, refused_at};
 use gl_base::Errno;
 use gl_core::{Call, Core, Gift, Part, Reply};
 use gl_driver::{Driver, Op};
 use gl_gate::Pass;
-use gl_uapi::layout::LINE_REQUEST_SIZE;
+use gl_model::CommandIn;
 use std::sync::Wait;
 
 /// The driver is to be asked.
@@ -48,102 +47,105 @@ fn the_op(op: &Option<Op>) -> &Op
     }
 }
 
+/// A command that asks the driver, what the driver is asked for it where the machine lets it, and the memory that it brings.
+#[derive(Drop)]
+pub(crate) struct DriverCommand<'a> {
+    /// The command, with the buffer that it is called with.
+    pub(crate) command: &'a CommandIn,
+    /// The operation. There is one wherever the machine answers the ask Go.
+    pub(crate) op: &'a Option<Op>,
+    /// What its ask brings.
+    pub(crate) gift: Gift,
+}
+
 impl<D: Driver<Core>> Gpio<D> {
-    /// A command with these bytes that asks the driver, inside the place of its file: the ask and, after Go, the driver's call and the tell.
+    /// A command that asks the driver, inside the place of its file: the ask and, after Go, the driver's call and the tell.
     fn command_inside<R: Wait>(
         &self,
         rt: &R,
         pass: &mut Pass<Core>,
         port: &mut D::Port,
-        file: OpenFile,
-        cmd: u32,
-        bytes: &[u8; LINE_REQUEST_SIZE],
-        op: &Option<Op>,
-        gift: &mut Gift,
+        asked: &mut DriverCommand<'_>,
         out: &mut [u8],
     ) -> Result<Reply, Errno>
         requires gate { IsPassOf self.now pass.old }
-        requires place { file.place < PLACES }
-        requires length { length out.old < 2 ^ 32 }
-        requires inside { IsInside pass.old.view file.place }
-        requires alone { (p : ℕ) → IsInside pass.old.view p → p ≡ file.place }
+        requires place { asked.old.command.now.place < PLACES }
+        requires inside { IsInside pass.old.view asked.old.command.now.place }
+        requires alone { (p : ℕ) → IsInside pass.old.view p → p ≡ asked.old.command.now.place }
         requires owes { Owes core pass.old.view 0 }
-        requires bytes { bytes.now ≡ handed_in out.old }
-        requires brings { FitsGift (in_ask (command_in file.place file.fd file.of_chip cmd out.old)) gift.old }
-        requires op { IsOpAfterGo (in_ask (command_in file.place file.fd file.of_chip cmd out.old)) op.now }
+        requires handed { let c = asked.old.command.now in c ≡ command_in c.place c.fd c.of_chip c.cmd out.old }
+        requires brings { FitsGift (in_ask asked.old.command.now) asked.old.gift }
+        requires op { IsOpAfterGo (in_ask asked.old.command.now) asked.old.op.now }
         ensures gate { IsPassOf self.now pass.new }
         ensures owes { Owes core pass.new.view 0 }
         ensures inside { pass.new.view.inside ≡ pass.old.view.inside }
-        ensures called { IfOk result (λ r. CommandedInside D.Port.told D.Port.faults D.Port.maps D.Port.maps_left D.OwnEntries D.Follows D.ENTRIES op.now
-            pass.old.view port.old (command_in file.place file.fd file.of_chip cmd out.old) r out.old out.new pass.new.view port.new) }
+        ensures called { IfOk result (λ r. CommandedInside D.Port.told D.Port.faults D.Port.maps D.Port.maps_left D.OwnEntries D.Follows D.ENTRIES asked.old.op.now
+            pass.old.view port.old asked.old.command.now r out.old out.new pass.new.view port.new) }
         ensures full { IfErr result (λ e. (e ≡ Full) × (out.new ≡ out.old) × (port.new ≡ port.old)
             × StoodFull core pass.old.view pass.new.view) }
     {
-        let OpenFile { place, fd, .. } = file;
-        let len = out.len() as u32;
+        let command = asked.command;
         let asking = Call::Ioctl {
-            place,
-            fd,
-            cmd,
-            len,
-            bytes: *bytes,
+            place: command.place,
+            fd: command.fd,
+            cmd: command.cmd,
+            len: command.len,
+            bytes: command.bytes,
             part: Part::Ask,
         };
-        match ask(rt, &self.gate, pass, &asking, gift, out) {
+        match ask(rt, &self.gate, pass, &asking, &mut asked.gift, out) {
             Err(errno) => Err(errno),
             Ok(reply) => {
                 if !is_go(&reply) {
                     return Ok(reply);
                 }
-                let answer = drive(rt, &self.gate, &self.driver, port, pass, place, the_op(op));
+                let inside = OpInside {
+                    place: command.place,
+                    op: the_op(asked.op),
+                };
+                let answer = drive(rt, &self.gate, &self.driver, port, pass, &inside);
                 let telling = Call::Ioctl {
-                    place,
-                    fd,
-                    cmd,
-                    len,
-                    bytes: *bytes,
+                    place: command.place,
+                    fd: command.fd,
+                    cmd: command.cmd,
+                    len: command.len,
+                    bytes: command.bytes,
                     part: Part::Tell(answer),
                 };
-                Ok(tell(rt, &self.gate, pass, &telling, gift, out))
+                Ok(tell(rt, &self.gate, pass, &telling, &mut asked.gift, out))
             }
         }
     }
 
-    /// A command on an open file that asks the driver for this, with the buffer that it is called with, and the bytes that are
-    /// handed in for it.
+    /// A command on an open file that asks the driver.
     pub(crate) fn driven_command<R: Wait>(
         &self,
         rt: &R,
         actor: &mut Actor<D>,
-        file: OpenFile,
-        cmd: u32,
-        bytes: &[u8; LINE_REQUEST_SIZE],
-        op: &Option<Op>,
-        gift: &mut Gift,
+        asked: &mut DriverCommand<'_>,
         out: &mut [u8],
     ) -> Result<Reply, Errno>
         requires actor { IsActorOf self.now actor.old }
-        requires place { file.place < PLACES }
-        requires length { length out.old < 2 ^ 32 }
-        requires asked { is_driver_asked file.of_chip (length out.old) (command_of cmd) ≡ true }
-        requires bytes { bytes.now ≡ handed_in out.old }
-        requires brings { FitsGift (in_ask (command_in file.place file.fd file.of_chip cmd out.old)) gift.old }
-        requires op { IsOpAfterGo (in_ask (command_in file.place file.fd file.of_chip cmd out.old)) op.now }
+        requires place { asked.old.command.now.place < PLACES }
+        requires asked { let c = asked.old.command.now in is_driver_asked c.of_chip c.len (command_of c.cmd) ≡ true }
+        requires handed { let c = asked.old.command.now in c ≡ command_in c.place c.fd c.of_chip c.cmd out.old }
+        requires brings { FitsGift (in_ask asked.old.command.now) asked.old.gift }
+        requires op { IsOpAfterGo (in_ask asked.old.command.now) asked.old.op.now }
         ensures actor { IsActorOf self.now actor.new }
         ensures same { IsSameActor actor.old.pass.view actor.new.pass.view }
         ensures commanded { IfOk result (λ r. (bytes : List ℕ) × (out.new ≡ bytes ++ drop (length bytes) out.old)
-            × HasCommanded D.Port.told D.Port.faults D.Port.maps D.Port.maps_left D.OwnEntries D.Follows D.ENTRIES op.now
-            actor.old (command_in file.place file.fd file.of_chip cmd out.old) r bytes actor.new) }
-        ensures number { IfOk result (λ r. (n : ℕ) → r ≡ Number n → (n < 2 ^ 31) × IsOp op.now) }
+            × HasCommanded D.Port.told D.Port.faults D.Port.maps D.Port.maps_left D.OwnEntries D.Follows D.ENTRIES asked.old.op.now
+            actor.old asked.old.command.now r bytes actor.new) }
+        ensures number { IfOk result (λ r. (n : ℕ) → r ≡ Number n → (n < 2 ^ 31) × IsOp asked.old.op.now) }
         ensures full { IfErr result (λ e. (e ≡ Full) × (out.new ≡ out.old) × (actor.new.port ≡ actor.old.port)
             × FoundNoRoom core actor.old.pass.view actor.new.pass.view) }
     {
-        let place = file.place;
+        let place = asked.command.place;
         let Actor { pass, port } = actor;
         if !self.gate.enter(pass, place) {
-            return refused_at(rt, &self.gate, pass, place, false, gift, out);
+            return refused_at(rt, &self.gate, pass, Guard { place, poll: false }, out);
         }
-        let answer = self.command_inside(rt, pass, port, file, cmd, bytes, op, gift, out);
+        let answer = self.command_inside(rt, pass, port, asked, out);
         self.gate.leave(pass, place);
         answer
     }

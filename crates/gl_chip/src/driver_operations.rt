@@ -86,9 +86,12 @@ pub(crate) fn request_op(gift: &Gift) -> Option<Op>
 {
     match &gift.asked {
         None => None,
-        Some(asked) => Some(Op::Apply {
-            lines: *asked.lines(),
-            settings: *asked.settings(),
-        }),
+        Some(brought) => match brought {
+            Err(_) => None,
+            Ok(asked) => Some(Op::Apply {
+                lines: *asked.lines(),
+                settings: *asked.settings(),
+            }),
+        },
     }
 }

@@ -50,6 +50,15 @@ pub(crate) fn ask<M: Machine, R: Wait>(
     }
 }
 
+/// What the driver is asked for, inside the place of the lines.
+#[derive(Clone, Copy)]
+pub(crate) struct OpInside<'a> {
+    /// The place.
+    pub(crate) place: u8,
+    /// The operation.
+    pub(crate) op: &'a Op,
+}
+
 /// Asks the driver, between an ask and its tell.
 pub(crate) fn drive<M: Machine, D: Driver<M>, R: Wait>(
     rt: &R,
@@ -57,18 +66,17 @@ pub(crate) fn drive<M: Machine, D: Driver<M>, R: Wait>(
     driver: &D,
     port: &mut D::Port,
     pass: &mut Pass<M>,
-    place: u8,
-    op: &Op,
+    asked: &OpInside<'_>,
 ) -> Option<u64>
     requires gate { IsPassOf gate.now pass.old }
     requires places { gate.now.places ≡ PLACES }
-    requires inside { IsInside pass.old.view place }
-    requires alone { (p : ℕ) → IsInside pass.old.view p → p ≡ place }
+    requires inside { IsInside pass.old.view asked.now.place }
+    requires alone { (p : ℕ) → IsInside pass.old.view p → p ≡ asked.now.place }
     requires owes { Owes M.Machine pass.old.view 1 }
-    requires op { FitsOp op.now }
-    requires quiet { (map : Option Map) (own : List (Entry M M.Call M.Reply M.Gift)) → D.OwnEntries map op.now own → AllQuiet M.Machine own }
+    requires op { FitsOp asked.now.op.now }
+    requires quiet { (map : Option Map) (own : List (Entry M M.Call M.Reply M.Gift)) → D.OwnEntries map asked.now.op.now own → AllQuiet M.Machine own }
     ensures gate { IsPassOf gate.now pass.new }
-    ensures drives { Drives M.Machine D.ENTRIES D.OwnEntries D.Follows (map_for D.ENTRIES place (D.Port.maps port.old)) op.now
+    ensures drives { Drives M.Machine D.ENTRIES D.OwnEntries D.Follows (map_for D.ENTRIES asked.now.place (D.Port.maps port.old)) asked.now.op.now
         (D.Port.told port.old) (D.Port.told port.new) result pass.old.view pass.new.view }
     ensures owes { Owes M.Machine pass.new.view 1 }
     ensures maps { D.Port.maps port.new ≡ D.Port.maps port.old }
@@ -80,7 +88,7 @@ pub(crate) fn drive<M: Machine, D: Driver<M>, R: Wait>(
     quiet_entries_keep_removals::<M>();
     // What holds of every pass is known once it has told its number.
     let _number = pass.number();
-    let answer = driver.call(rt, gate, port, pass, place, op);
+    let answer = driver.call(rt, gate, port, pass, asked.place, asked.op);
     // What holds of every pass is known once it has told its number.
     let _number = pass.number();
     match answer {

@@ -21,15 +21,15 @@ ghost use Rattle.gl_asking.specs.Handed.{command_in};
 ghost use Rattle.gl_chip.specs.Values.{IsActorOf, IsSameActor};
 
 use crate::actor::Actor;
+use crate::driver_commands::DriverCommand;
 use crate::driver_operations::request_op;
 use crate::files::LineFd;
 use crate::gpio::Gpio;
-use crate::plain_commands::OpenFile;
-use gl_asking::handed_in;
 use gl_base::{Errno, Lines};
 use gl_core::fits::gift_for_lines;
 use gl_core::{Core, Reply};
 use gl_driver::{Driver, Op};
+use gl_model::CommandIn;
 use std::alloc::Global;
 use std::sync::Wait;
 
@@ -86,45 +86,43 @@ impl<D: Driver<Core>> Gpio<D> {
         rt: &R,
         alloc: Global,
         actor: &mut Actor<D>,
-        place: u8,
-        fd: u32,
-        cmd: u32,
+        command: &CommandIn,
         buf: &mut [u8],
     ) -> Result<Option<LineFd>, Errno>
         requires actor { IsActorOf self.now actor.old }
-        requires place { place < PLACES }
-        requires length { length buf.old < 2 ^ 32 }
-        requires asked { is_driver_asked true (length buf.old) (command_of cmd) ≡ true }
+        requires place { command.now.place < PLACES }
+        requires chip { command.now.of_chip ≡ true }
+        requires asked { is_driver_asked command.now.of_chip command.now.len (command_of command.now.cmd) ≡ true }
+        requires handed { let c = command.now in c ≡ command_in c.place c.fd c.of_chip c.cmd buf.old }
         ensures actor { IsActorOf self.now actor.new }
         ensures same { IsSameActor actor.old.pass.view actor.new.pass.view }
-        ensures memory { result ≡ Err NoMemory → TakesMemory (command_in place fd true cmd buf.old) × (actor.new ≡ actor.old) × (buf.new ≡ buf.old) }
-        ensures called { result ≢ Err NoMemory → let c = command_in place fd true cmd buf.old in
+        ensures memory { result ≡ Err NoMemory → TakesMemory command.now × (actor.new ≡ actor.old) × (buf.new ≡ buf.old) }
+        ensures called { result ≢ Err NoMemory → let c = command.now in
             let lines = lines_asked (take LINE_REQUEST_SIZE c.bytes) in
             (bytes : List ℕ) × (buf.new ≡ bytes ++ drop (length bytes) buf.old)
             × CommandsOut D.Port.told D.Port.faults D.Port.maps D.Port.maps_left D.OwnEntries D.Follows D.ENTRIES
-            (requested_of place lines) result (op_for lines c) actor.old c bytes actor.new }
-        ensures file { IfOk result (λ file. is_some file ≡ is_get_line (command_of cmd)) }
-        ensures told { WasLetIn result → let c = command_in place fd true cmd buf.old in
-            AnswersInOrder (requested_of place (lines_asked (take LINE_REQUEST_SIZE c.bytes))) result actor.old.pass.view actor.new.pass.view c }
-        ensures first_faulty { WasLetIn result → let c = command_in place fd true cmd buf.old in
+            (requested_of c.place lines) result (op_for lines c) actor.old c bytes actor.new }
+        ensures file { IfOk result (λ file. is_some file ≡ is_get_line (command_of command.now.cmd)) }
+        ensures told { WasLetIn result → let c = command.now in
+            AnswersInOrder (requested_of c.place (lines_asked (take LINE_REQUEST_SIZE c.bytes))) result actor.old.pass.view actor.new.pass.view c }
+        ensures first_faulty { WasLetIn result → let c = command.now in
             RequestsInOrder (Rises (D.Port.faults actor.old.port) (D.Port.faults actor.new.port)) result actor.old.pass.view actor.new.pass.view c }
     {
-        let bytes = handed_in(buf);
-        match gift_for_lines(&bytes, alloc) {
+        match gift_for_lines(&command.bytes, alloc) {
             Err(errno) => Err(errno),
-            Ok(mut gift) => {
+            Ok(gift) => {
                 let op = request_op(&gift);
-                let file = OpenFile {
-                    place,
-                    fd,
-                    of_chip: true,
+                let mut asked = DriverCommand {
+                    command,
+                    op: &op,
+                    gift,
                 };
                 // What holds of every actor is known once it has told its number.
                 let _before = actor.number();
-                match self.driven_command(rt, actor, file, cmd, &bytes, &op, &mut gift, buf) {
+                match self.driven_command(rt, actor, &mut asked, buf) {
                     Ok(reply) => {
                         let _after = actor.number();
-                        requested(place, &op, reply)
+                        requested(command.place, &op, reply)
                     }
                     Err(errno) => Err(errno),
                 }

@@ -19,7 +19,7 @@ ghost use Rattle.gl_core.specs.Device.{core};
 
 use crate::actor::Actor;
 use crate::gpio::Gpio;
-use crate::guarding::guarded;
+use crate::guarding::{Guard, guarded};
 use crate::steps::alone;
 use gl_base::Errno;
 use gl_core::{Call, Core, Gift, Reply};
@@ -70,17 +70,16 @@ impl<D: Driver<Core>> Gpio<D> {
         &self,
         rt: &R,
         actor: &mut Actor<D>,
-        place: u8,
+        guard: Guard,
         call: &Call,
-        poll: bool,
         out: &mut [u8],
     ) -> Result<Reply, Errno>
         requires actor { IsActorOf self.now actor.old }
-        requires place { place < PLACES }
+        requires place { guard.place < PLACES }
         requires single { is_single call.now ≡ true }
-        requires guard { guarded_place call.now ≡ Some place }
-        requires poll { is_poll (Once call.now) ≡ poll }
-        requires tells { has_form call.now (guard_reply poll) ≡ false }
+        requires guard { guarded_place call.now ≡ Some guard.place }
+        requires poll { is_poll (Once call.now) ≡ guard.poll }
+        requires tells { has_form call.now (guard_reply guard.poll) ≡ false }
         requires fits { Fits call.now (record { ring = None; queue = None; asked = None }) out.old }
         ensures actor { IsActorOf self.now actor.new }
         ensures same { IsSameActor actor.old.pass.view actor.new.pass.view }
@@ -88,22 +87,12 @@ impl<D: Driver<Core>> Gpio<D> {
         ensures called { IfOk result (λ r. (bytes : List ℕ) × (out.new ≡ bytes ++ drop (length bytes) out.old)
             × HasCalled 0 actor.old.pass.view (Once call.now) r bytes actor.new.pass.view) }
         ensures lengths { IfOk result (λ r. (bytes : List ℕ) × (out.new ≡ bytes ++ drop (length bytes) out.old)
-            × ((r ≡ guard_reply poll) ⊎ (length bytes ≡ bytes_written call.now r))) }
-        ensures form { IfOk result (λ r. (r ≡ guard_reply poll) ⊎ (has_form call.now r ≡ true)) }
+            × ((r ≡ guard_reply guard.poll) ⊎ (length bytes ≡ bytes_written call.now r))) }
+        ensures form { IfOk result (λ r. (r ≡ guard_reply guard.poll) ⊎ (has_form call.now r ≡ true)) }
         ensures not_full { IfOk result (λ r. r ≢ Refused Full) }
         ensures full { IfErr result (λ e. (e ≡ Full) × (out.new ≡ out.old)
             × FoundNoRoom core actor.old.pass.view actor.new.pass.view) }
     {
-        let mut gift = nothing();
-        guarded(
-            rt,
-            &self.gate,
-            &mut actor.pass,
-            place,
-            call,
-            poll,
-            &mut gift,
-            out,
-        )
+        guarded(rt, &self.gate, &mut actor.pass, guard, call, out)
     }
 }

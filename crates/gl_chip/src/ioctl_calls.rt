@@ -17,17 +17,18 @@ ghost use Rattle.gl_asking.specs.Results.{done_of};
 ghost use Rattle.gl_chip.specs.Values.{IsActorOf, IsSameActor};
 
 use crate::actor::Actor;
+use crate::driver_commands::DriverCommand;
 use crate::driver_operations::line_op;
 use crate::files::{ChipFd, LineFd};
 use crate::get_line::without_file;
 use crate::gpio::Gpio;
 use crate::inner::nothing;
-use crate::plain_commands::{OpenFile, is_driver_asked};
 use crate::results;
 use gl_asking::handed_in;
 use gl_base::Errno;
 use gl_core::Core;
 use gl_driver::Driver;
+use gl_model::{CommandIn, is_driver_asked};
 use std::alloc::Global;
 use std::sync::Wait;
 
@@ -70,16 +71,19 @@ impl<D: Driver<Core>> Gpio<D> {
         ensures first_faulty { is_driver_asked true (length buf.old) (command_of cmd) ≡ true → WasLetIn result → let c = command_in fd.now.place fd.now.fd true cmd buf.old in
             RequestsInOrder (Rises (D.Port.faults actor.old.port) (D.Port.faults actor.new.port)) result actor.old.pass.view actor.new.pass.view c }
     {
-        let (place, fd) = (fd.place, fd.fd);
-        if is_driver_asked(true, buf.len() as u32, cmd) {
-            return self.get_line(rt, alloc, actor, place, fd, cmd, buf);
-        }
-        let file = OpenFile {
-            place,
-            fd,
+        let bytes = handed_in(buf);
+        let command = CommandIn {
+            place: fd.place,
+            fd: fd.fd,
             of_chip: true,
+            cmd,
+            len: buf.len() as u32,
+            bytes,
         };
-        match self.whole_command(rt, actor, file, cmd, buf) {
+        if is_driver_asked(&command) {
+            return self.get_line(rt, alloc, actor, &command, buf);
+        }
+        match self.whole_command(rt, actor, &command, buf) {
             Ok(reply) => without_file(reply),
             Err(errno) => Err(errno),
         }
@@ -118,17 +122,25 @@ impl<D: Driver<Core>> Gpio<D> {
             → let c = command_in fd.now.place fd.now.fd false cmd buf.old in
             ConfiguresInOrder (Rises (D.Port.faults actor.old.port) (D.Port.faults actor.new.port)) result actor.new.pass.view c }
     {
-        let file = OpenFile {
+        let bytes = handed_in(buf);
+        let command = CommandIn {
             place: fd.place,
             fd: fd.fd,
             of_chip: false,
+            cmd,
+            len: buf.len() as u32,
+            bytes,
         };
-        let bytes = handed_in(buf);
-        match line_op(&fd.lines, cmd, buf.len() as u32, &bytes) {
-            None => self.done_by_command(rt, actor, file, cmd, buf),
+        match line_op(&fd.lines, cmd, command.len, &command.bytes) {
+            None => self.done_by_command(rt, actor, &command, buf),
             Some(op) => {
-                let mut gift = nothing();
-                match self.driven_command(rt, actor, file, cmd, &bytes, &Some(op), &mut gift, buf) {
+                let op = Some(op);
+                let mut asked = DriverCommand {
+                    command: &command,
+                    op: &op,
+                    gift: nothing(),
+                };
+                match self.driven_command(rt, actor, &mut asked, buf) {
                     Ok(reply) => results::done(reply),
                     Err(errno) => Err(errno),
                 }

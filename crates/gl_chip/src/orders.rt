@@ -1,7 +1,8 @@
 //! Any call of the device, as one value.
 
-ghost use Rattle.std.specs.Prelude.{◌≡◌, ◌<◌, ◌^◌, ◌++◌, ℕ, List, true, false, length, drop, IfOk, IfErr};
+ghost use Rattle.std.specs.Prelude.{◌≡◌, ◌<◌, ◌^◌, ◌++◌, ℕ, List, Some, true, false, length, drop, IfOk, IfErr};
 ghost use Rattle.gl_base.specs.Lines.{IsLineCount};
+ghost use Rattle.gl_base.specs.declared.lines.Lines.{Lines as SomeLines};
 ghost use Rattle.gl_base.specs.declared.limits.TheConstants.{PLACES};
 ghost use Rattle.gl_world.specs.Deeds.{entries_in};
 ghost use Rattle.gl_model.specs.declared.device_call.DeviceCall.TheVariants.{Commanding, Once, Removing};
@@ -13,25 +14,25 @@ ghost use Rattle.gl_asking.specs.Fitting.{FitsDevice};
 ghost use Rattle.gl_asking.specs.Handed.{command_in};
 ghost use Rattle.gl_asking.specs.Rows.{HasLines, is_chip};
 ghost use Rattle.gl_chip.specs.Called.{HasCalled};
-ghost use Rattle.gl_chip.specs.DriverCommands.{HasCommanded, IsOp};
+ghost use Rattle.gl_chip.specs.DriverCommands.{HasCommanded, IsAppliedTo, IsOp};
 ghost use Rattle.gl_asking.specs.Driving.{op_for};
-ghost use Rattle.gl_chip.specs.Orders.{AnswersOrder, CouldNot, FitsOrder, HasDone, WroteTo, lines_on, op_ordered};
+ghost use Rattle.gl_chip.specs.Orders.{AnswersOrder, CouldNot, FitsOrder, GivesLines, GivesOn, HasDone, WroteTo, lines_on, op_ordered};
 ghost use Rattle.gl_chip.specs.Removals.{is_first_call, removal_of};
 ghost use Rattle.gl_driver.specs.Told.{PortAfter};
 ghost use Rattle.gl_core.specs.Device.{tells_in};
 ghost use Rattle.gl_chip.specs.Values.{IsActorOf, IsSameActor};
 
 use crate::actor::Actor;
+use crate::driver_commands::DriverCommand;
 use crate::driver_operations::{line_op, request_op};
 use crate::gpio::Gpio;
 use crate::inner::nothing;
-use crate::plain_commands::{OpenFile, is_driver_asked};
-use gl_asking::FileKind;
+use gl_asking::{Answered, FileKind};
 use gl_base::{Errno, Lines};
 use gl_core::fits::{gift_for, gift_for_lines};
 use gl_core::{Call, Core, Reply};
-use gl_driver::Driver;
-use gl_model::{CommandIn, DeviceCall, RemovalOf};
+use gl_driver::{Driver, Op};
+use gl_model::{CommandIn, DeviceCall, RemovalOf, is_driver_asked};
 use std::alloc::Global;
 use std::sync::Wait;
 
@@ -42,6 +43,13 @@ pub struct Order {
     pub call: DeviceCall,
     /// What the command's file is of: of a request, its lines.
     pub on: FileKind,
+}
+
+/// A command, and what its file is of.
+#[derive(Clone, Copy)]
+struct OnFile<'a> {
+    command: &'a CommandIn,
+    on: &'a FileKind,
 }
 
 /// The call that begins a removal.
@@ -60,6 +68,19 @@ fn first_call(removal: &RemovalOf) -> Call
         RemovalOf::OfDevice(device) => Call::Remove {
             device: *device,
             last: false,
+        },
+    }
+}
+
+/// The lines to which settings are applied, where they are.
+fn lines_applied(op: &Option<Op>) -> Option<Lines>
+    ensures { (lines : SomeLines) → IsAppliedTo lines op.now → result ≡ Some lines }
+{
+    match op {
+        None => None,
+        Some(op) => match op {
+            Op::Apply { lines, .. } => Some(*lines),
+            Op::Get { .. } | Op::Set { .. } => None,
         },
     }
 }
@@ -118,39 +139,41 @@ impl<D: Driver<Core>> Gpio<D> {
         actor: &mut Actor<D>,
         command: &CommandIn,
         out: &mut [u8],
-    ) -> Result<Reply, Errno>
+    ) -> Result<Answered, Errno>
         requires actor { IsActorOf self.now actor.old }
         requires place { command.now.place < PLACES }
-        requires handed { command.now ≡ command_in command.now.place command.now.fd true command.now.cmd out.old }
+        requires chip { command.now.of_chip ≡ true }
+        requires handed { let c = command.now in c ≡ command_in c.place c.fd c.of_chip c.cmd out.old }
         ensures actor { IsActorOf self.now actor.new }
         ensures same { IsSameActor actor.old.pass.view actor.new.pass.view }
         ensures commanded { IfOk result (λ r. (bytes : List ℕ) × (out.new ≡ bytes ++ drop (length bytes) out.old)
-            × HasCommanded D.Port.told D.Port.faults D.Port.maps D.Port.maps_left D.OwnEntries D.Follows D.ENTRIES (op_for (lines_on Chip command.now) command.now) actor.old command.now r bytes actor.new) }
-        ensures number { IfOk result (λ r. (n : ℕ) → r ≡ Number n → (n < 2 ^ 31) × IsOp (op_for (lines_on Chip command.now) command.now)) }
+            × HasCommanded D.Port.told D.Port.faults D.Port.maps D.Port.maps_left D.OwnEntries D.Follows D.ENTRIES (op_for (lines_on Chip command.now) command.now) actor.old command.now r.reply bytes actor.new) }
+        ensures number { IfOk result (λ r. (n : ℕ) → r.reply ≡ Number n → (n < 2 ^ 31) × IsOp (op_for (lines_on Chip command.now) command.now)) }
+        ensures lines { IfOk result (GivesOn Chip command.now) }
         ensures could_not { IfErr result (λ e. CouldNot e actor.old actor.new × (out.new ≡ out.old)) }
     {
-        let file = OpenFile {
-            place: command.place,
-            fd: command.fd,
-            of_chip: true,
-        };
-        if !is_driver_asked(true, command.len, command.cmd) {
-            return self.whole_command(rt, actor, file, command.cmd, out);
+        if !is_driver_asked(command) {
+            return match self.whole_command(rt, actor, command, out) {
+                Ok(reply) => Ok(Answered { reply, lines: None }),
+                Err(errno) => Err(errno),
+            };
         }
         match gift_for_lines(&command.bytes, alloc) {
             Err(errno) => Err(errno),
-            Ok(mut gift) => {
+            Ok(gift) => {
                 let op = request_op(&gift);
-                self.driven_command(
-                    rt,
-                    actor,
-                    file,
-                    command.cmd,
-                    &command.bytes,
-                    &op,
-                    &mut gift,
-                    out,
-                )
+                let mut asked = DriverCommand {
+                    command,
+                    op: &op,
+                    gift,
+                };
+                match self.driven_command(rt, actor, &mut asked, out) {
+                    Ok(reply) => Ok(Answered {
+                        reply,
+                        lines: lines_applied(&op),
+                    }),
+                    Err(errno) => Err(errno),
+                }
             }
         }
     }
@@ -167,7 +190,8 @@ impl<D: Driver<Core>> Gpio<D> {
         requires actor { IsActorOf self.now actor.old }
         requires place { command.now.place < PLACES }
         requires count { IsLineCount lines.now.count }
-        requires handed { command.now ≡ command_in command.now.place command.now.fd false command.now.cmd out.old }
+        requires request { command.now.of_chip ≡ false }
+        requires handed { let c = command.now in c ≡ command_in c.place c.fd c.of_chip c.cmd out.old }
         ensures actor { IsActorOf self.now actor.new }
         ensures same { IsSameActor actor.old.pass.view actor.new.pass.view }
         ensures commanded { IfOk result (λ r. (bytes : List ℕ) × (out.new ≡ bytes ++ drop (length bytes) out.old)
@@ -175,23 +199,17 @@ impl<D: Driver<Core>> Gpio<D> {
         ensures number { IfOk result (λ r. (n : ℕ) → r ≡ Number n → (n < 2 ^ 31) × IsOp (op_for lines.now command.now)) }
         ensures could_not { IfErr result (λ e. CouldNot e actor.old actor.new × (out.new ≡ out.old)) }
     {
-        let file = OpenFile {
-            place: command.place,
-            fd: command.fd,
-            of_chip: false,
-        };
         match line_op(lines, command.cmd, command.len, &command.bytes) {
-            None => self.whole_command(rt, actor, file, command.cmd, out),
-            Some(op) => self.driven_command(
-                rt,
-                actor,
-                file,
-                command.cmd,
-                &command.bytes,
-                &Some(op),
-                &mut nothing(),
-                out,
-            ),
+            None => self.whole_command(rt, actor, command, out),
+            Some(op) => {
+                let op = Some(op);
+                let mut asked = DriverCommand {
+                    command,
+                    op: &op,
+                    gift: nothing(),
+                };
+                self.driven_command(rt, actor, &mut asked, out)
+            }
         }
     }
 
@@ -201,56 +219,35 @@ impl<D: Driver<Core>> Gpio<D> {
         rt: &R,
         alloc: Global,
         actor: &mut Actor<D>,
-        command: &CommandIn,
-        on: &FileKind,
+        order: &OnFile<'_>,
         out: &mut [u8],
-    ) -> Result<Reply, Errno>
+    ) -> Result<Answered, Errno>
         requires actor { IsActorOf self.now actor.old }
-        requires place { command.now.place < PLACES }
-        requires file { (command.now.of_chip ≡ is_chip on.now) × HasLines on.now }
-        requires handed { command.now ≡ command_in command.now.place command.now.fd command.now.of_chip command.now.cmd out.old }
+        requires place { order.now.command.now.place < PLACES }
+        requires file { (order.now.command.now.of_chip ≡ is_chip order.now.on.now) × HasLines order.now.on.now }
+        requires handed { let c = order.now.command.now in c ≡ command_in c.place c.fd c.of_chip c.cmd out.old }
         ensures actor { IsActorOf self.now actor.new }
         ensures same { IsSameActor actor.old.pass.view actor.new.pass.view }
-        ensures commanded { IfOk result (λ r. (bytes : List ℕ) × (out.new ≡ bytes ++ drop (length bytes) out.old)
-            × HasCommanded D.Port.told D.Port.faults D.Port.maps D.Port.maps_left D.OwnEntries D.Follows D.ENTRIES (op_for (lines_on on.now command.now) command.now) actor.old command.now r bytes actor.new) }
-        ensures number { IfOk result (λ r. (n : ℕ) → r ≡ Number n → (n < 2 ^ 31) × IsOp (op_for (lines_on on.now command.now) command.now)) }
+        ensures commanded { let c = order.now.command.now in IfOk result (λ r. (bytes : List ℕ) × (out.new ≡ bytes ++ drop (length bytes) out.old)
+            × HasCommanded D.Port.told D.Port.faults D.Port.maps D.Port.maps_left D.OwnEntries D.Follows D.ENTRIES (op_for (lines_on order.now.on.now c) c) actor.old c r.reply bytes actor.new) }
+        ensures number { let c = order.now.command.now in IfOk result (λ r. (n : ℕ) → r.reply ≡ Number n → (n < 2 ^ 31) × IsOp (op_for (lines_on order.now.on.now c) c)) }
+        ensures lines { IfOk result (GivesOn order.now.on.now order.now.command.now) }
         ensures could_not { IfErr result (λ e. CouldNot e actor.old actor.new × (out.new ≡ out.old)) }
     {
-        match on {
-            FileKind::Chip => self.order_on_chip(rt, alloc, actor, command, out),
-            FileKind::Request(lines) => self.order_on_request(rt, actor, command, lines, out),
-        }
-    }
-
-    /// Any call, by what it is.
-    fn carry<R: Wait>(
-        &self,
-        rt: &R,
-        alloc: Global,
-        actor: &mut Actor<D>,
-        order: &Order,
-        out: &mut [u8],
-    ) -> Result<Reply, Errno>
-        requires actor { IsActorOf self.now actor.old }
-        requires fits { FitsOrder order.now.call order.now.on out.old }
-        ensures actor { IsActorOf self.now actor.new }
-        ensures same { IsSameActor actor.old.pass.view actor.new.pass.view }
-        ensures done { IfOk result (λ r. (bytes : List ℕ) × WroteTo order.now.call bytes out.old out.new
-            × HasDone D.Port.told D.Port.faults D.Port.maps D.Port.maps_left D.OwnEntries D.Follows D.ENTRIES order.now.call order.now.on actor.old r bytes actor.new) }
-        ensures form { IfOk result (λ r. AnswersOrder order.now.call order.now.on r) }
-        ensures could_not { IfErr result (λ e. CouldNot e actor.old actor.new × (out.new ≡ out.old)) }
-    {
-        match &order.call {
-            DeviceCall::Once(call) => self.order_once(rt, alloc, actor, call, out),
-            DeviceCall::Removing(removal) => self.order_removal(rt, actor, removal),
-            DeviceCall::Commanding(command) => {
-                self.order_command(rt, alloc, actor, command, &order.on, out)
+        match order.on {
+            FileKind::Chip => self.order_on_chip(rt, alloc, actor, order.command, out),
+            FileKind::Request(lines) => {
+                match self.order_on_request(rt, actor, order.command, lines, out) {
+                    Ok(reply) => Ok(Answered { reply, lines: None }),
+                    Err(errno) => Err(errno),
+                }
             }
         }
     }
 
     /// A call of the device: one call of the machine, a removal, or a command on an open file with its buffer, which the call may
-    /// write. It answers the reply of its last entry, also where that is a refusal.
+    /// write. It answers the reply of its last entry, also where that is a refusal, and with it the lines of a request that it made on a
+    /// chip (`lines`).
     ///
     /// An open's queue and the ring of GET_LINE are taken before the first entry. `NoMemory` where one found no memory, and then
     /// nothing was done; `Full` where the history is full. These two are its only errors.
@@ -263,19 +260,36 @@ impl<D: Driver<Core>> Gpio<D> {
         actor: &mut Actor<D>,
         order: &Order,
         out: &mut [u8],
-    ) -> Result<Reply, Errno>
+    ) -> Result<Answered, Errno>
         requires actor { IsActorOf self.now actor.old }
         requires fits { FitsOrder order.now.call order.now.on out.old }
         ensures actor { IsActorOf self.now actor.new }
         ensures same { IsSameActor actor.old.pass.view actor.new.pass.view }
         ensures done { IfOk result (λ r. (bytes : List ℕ) × WroteTo order.now.call bytes out.old out.new
-            × HasDone D.Port.told D.Port.faults D.Port.maps D.Port.maps_left D.OwnEntries D.Follows D.ENTRIES order.now.call order.now.on actor.old r bytes actor.new) }
+            × HasDone D.Port.told D.Port.faults D.Port.maps D.Port.maps_left D.OwnEntries D.Follows D.ENTRIES order.now.call order.now.on actor.old r.reply bytes actor.new) }
         ensures port { D.ENTRIES ≡ 0 → IfOk result (λ r. (bytes : List ℕ) × WroteTo order.now.call bytes out.old out.new
-            × (called : HasCalled 0 actor.old.pass.view order.now.call r bytes actor.new.pass.view)
+            × (called : HasCalled 0 actor.old.pass.view order.now.call r.reply bytes actor.new.pass.view)
             × PortAfter D.is_planned (op_ordered order.now.call order.now.on) (tells_in (entries_in called.did)) (D.Port.told actor.old.port) (D.Port.told actor.new.port)) }
-        ensures form { IfOk result (λ r. AnswersOrder order.now.call order.now.on r) }
+        ensures form { IfOk result (λ r. AnswersOrder order.now.call order.now.on r.reply) }
+        ensures lines { IfOk result (GivesLines order.now.call order.now.on) }
         ensures could_not { IfErr result (λ e. CouldNot e actor.old actor.new × (out.new ≡ out.old)) }
     {
-        self.carry(rt, alloc, actor, order, out)
+        match &order.call {
+            DeviceCall::Once(call) => match self.order_once(rt, alloc, actor, call, out) {
+                Ok(reply) => Ok(Answered { reply, lines: None }),
+                Err(errno) => Err(errno),
+            },
+            DeviceCall::Removing(removal) => match self.order_removal(rt, actor, removal) {
+                Ok(reply) => Ok(Answered { reply, lines: None }),
+                Err(errno) => Err(errno),
+            },
+            DeviceCall::Commanding(command) => {
+                let order = OnFile {
+                    command,
+                    on: &order.on,
+                };
+                self.order_command(rt, alloc, actor, &order, out)
+            }
+        }
     }
 }

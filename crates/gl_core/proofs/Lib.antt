@@ -1,4 +1,5 @@
 pub mod Claims
+pub mod CommandKinds
 pub mod KeptEdges
 pub mod Bits
 pub mod Buffers

@@ -20,11 +20,12 @@ ghost use Rattle.gl_core.specs.Reached.{IsReached};
 ghost use Rattle.gl_core.specs.Shape.{HasLine, HasLines, KeepsLines};
 ghost use Rattle.gl_core.specs.Steps.{Follows, Steps, StepsInto, Tells};
 
+use crate::commanded::Commanded;
 use crate::configuring::interrupt_fault;
 use crate::state::State;
 use gl_base::{Errno, Lines};
 use gl_desc::LineFault;
-use gl_model::{Asked, Gift, Place, Reply, request_fault};
+use gl_model::{Asked, Gift, Place, Reply};
 use gl_request::{Claim, RequestAt};
 use gl_ring::EdgeRing;
 use gl_uapi::layout::{CHANGED_REQUESTED, LINE_REQUEST_SIZE};
@@ -160,30 +161,32 @@ impl State {
         }
     }
 
-    /// GET_LINE is asked for, with what its bytes ask for in the gift. What the bytes alone decide comes first; then `MFile` where no
-    /// more file can be open; `Busy` where the actor's last claim is unfinished; and what is wrong with one of the lines, in order. A
-    /// refused call changes nothing and leaves the gift. Else the lines are claimed, the claim takes the ring, and the answer is Go
-    /// with the number of the request.
+    /// GET_LINE is asked for, with what its bytes ask for in the gift, or why they alone have it refused. What the bytes decide comes
+    /// first; then `MFile` where no more file can be open; `Busy` where the actor's last claim is unfinished; and what is wrong with
+    /// one of the lines, in order. A refused call changes nothing and leaves the gift. Else the lines are claimed, the claim takes the
+    /// ring, and the answer is Go with the number of the request.
     pub(crate) fn get_line_ask(
         &mut self,
-        place: u8,
         actor: u8,
-        bytes: &[u8; LINE_REQUEST_SIZE],
+        commanded: &Commanded<'_>,
         gift: &mut Gift,
     ) -> Reply
         requires reached { IsReached self.old }
-        requires brings { HoldsRequest (take LINE_REQUEST_SIZE bytes.now) gift.old }
-        ensures steps { Steps (get_line_ask place actor (take LINE_REQUEST_SIZE bytes.now)) self.old self.new result }
+        requires brings { HoldsRequest (take LINE_REQUEST_SIZE commanded.now.bytes.now) gift.old }
+        ensures steps { let c = commanded.now in Steps (get_line_ask c.place actor (take LINE_REQUEST_SIZE c.bytes.now)) self.old self.new result }
         ensures gift { gift.new ≡ without_ring result gift.old }
     {
         let Gift { ring, asked, .. } = gift;
         match &*asked {
-            None => Reply::Refused(request_fault(bytes).unwrap()),
-            Some(asked) => {
-                // That they are 1 to 64 is known once they were asked for.
-                let _lines = asked.lines();
-                self.claim(place, actor, asked, ring)
-            }
+            None => unreachable!(),
+            Some(brought) => match brought {
+                Err(errno) => Reply::Refused(*errno),
+                Ok(asked) => {
+                    // That they are 1 to 64 is known once they were asked for.
+                    let _lines = asked.lines();
+                    self.claim(commanded.place, actor, asked, ring)
+                }
+            },
         }
     }
 

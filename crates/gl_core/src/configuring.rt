@@ -14,18 +14,20 @@ ghost use Rattle.gl_model.specs.Places.{no_place, place_at};
 ghost use Rattle.gl_model.specs.World.{request_at};
 ghost use Rattle.gl_request.specs.Request.{StandsAt, request_at as row_at};
 ghost use Rattle.gl_request.specs.declared.row.RequestRow.{RequestRow};
+ghost use Rattle.gl_core.specs.Commanded.{part_of};
 ghost use Rattle.gl_core.specs.LineByLine.{configure_at, line_after, reconfigure_at, with_settings_of};
 ghost use Rattle.gl_core.specs.OpenRequests.{IsOpenAt};
 ghost use Rattle.gl_core.specs.Reached.{IsReached};
 ghost use Rattle.gl_core.specs.Shape.{HasEachLine, HasLine, KeepsLines};
 ghost use Rattle.gl_core.specs.Steps.{Follows, Steps, Tells};
 
+use crate::commanded::DriverPart;
 use crate::state::State;
 use gl_attrs::resolve;
 use gl_bank::Levels;
 use gl_base::{Errno, LINES_PER_REQUEST, Lines, Resolved, Settings, flag, has_bit};
 use gl_irq::Irq;
-use gl_model::{Part, Reply};
+use gl_model::Reply;
 use gl_request::RequestAt;
 use gl_uapi::ConfigRef;
 use gl_uapi::layout::{CHANGED_CONFIG, LINE_CONFIG_SIZE, LINE_REQUEST_SIZE};
@@ -278,17 +280,16 @@ impl State {
         place: u8,
         found: RequestAt,
         settings: &Resolved,
-        part: &Part,
+        part: DriverPart,
     ) -> Reply
         requires stands { StandsAt found self.old.requests }
         requires lines { (row : RequestRow) → row_at self.old.requests found.fd ≡ Some row → HasEachLine self.old.places place row.lines }
-        ensures { (row : RequestRow) → row_at self.old.requests found.fd ≡ Some row → Steps (in_parts part.now (λ bits v. done (reconfigure place found.fd row.lines row.settings settings.now bits v))) self.old self.new result }
+        ensures { (row : RequestRow) → row_at self.old.requests found.fd ≡ Some row → Steps (in_parts (part_of part) (λ bits v. done (reconfigure place found.fd row.lines row.settings settings.now bits v))) self.old self.new result }
     {
-        match *part {
-            Part::Whole => Reply::Refused(Errno::Inval),
-            Part::Ask => Reply::Go(0),
-            Part::Tell(None) => Reply::Refused(Errno::Io),
-            Part::Tell(Some(bits)) => {
+        match part {
+            DriverPart::Ask => Reply::Go(0),
+            DriverPart::Tell(None) => Reply::Refused(Errno::Io),
+            DriverPart::Tell(Some(bits)) => {
                 self.reconfigure(place, found, settings, bits);
                 Reply::Done
             }
@@ -303,11 +304,11 @@ impl State {
         place: u8,
         found: RequestAt,
         bytes: &[u8; LINE_REQUEST_SIZE],
-        part: &Part,
+        part: DriverPart,
     ) -> Reply
         requires reached { IsReached self.old }
         requires opened { IsOpenAt self.old place found }
-        ensures { Steps (λ w. on_request (set_config place found.fd (take LINE_CONFIG_SIZE bytes.now) part.now) (request_at w.requests found.fd) w) self.old self.new result }
+        ensures { Steps (λ w. on_request (set_config place found.fd (take LINE_CONFIG_SIZE bytes.now) (part_of part)) (request_at w.requests found.fd) w) self.old self.new result }
     {
         let row = self.requests.row(found);
         match self.new_settings(place, &row.lines, bytes) {

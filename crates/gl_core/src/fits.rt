@@ -159,8 +159,8 @@ fn gift_for_ask(cmd: u32, bytes: &[u8; LINE_REQUEST_SIZE], alloc: Global) -> Res
     }
 }
 
-/// What an ask of GET_LINE with these bytes brings: what they ask for and an empty ring of the capacity that they state, or nothing
-/// where they have a fault. `NoMemory` is its only error, and comes only where they have none.
+/// What an ask of GET_LINE with these bytes brings: what they ask for and an empty ring of the capacity that they state, or why they
+/// alone have it refused. `NoMemory` is its only error, and comes only where they haven't.
 pub fn gift_for_lines(bytes: &[u8; LINE_REQUEST_SIZE], alloc: Global) -> Result<Gift, Errno>
     ensures ok { IfOk result (HoldsRequest (take LINE_REQUEST_SIZE bytes.now)) }
     ensures memory { IfErr result (λ errno. (errno ≡ NoMemory) × (request_fault (take LINE_REQUEST_SIZE bytes.now) ≡ None)) }
@@ -171,19 +171,23 @@ pub fn gift_for_lines(bytes: &[u8; LINE_REQUEST_SIZE], alloc: Global) -> Result<
     }
 }
 
-/// What is asked for, with an empty ring of the capacity that it states; nothing where nothing is.
-fn gift_of(asked: Option<Asked>, alloc: Global) -> Result<Gift, Errno>
+/// What is asked for, with an empty ring of the capacity that it states; or why it is refused.
+fn gift_of(asked: Result<Asked, Errno>, alloc: Global) -> Result<Gift, Errno>
     ensures ok { IfOk result (λ gift. (bytes : List ℕ) → asked ≡ asked_by bytes → HoldsRequest bytes gift) }
     ensures memory { IfErr result (λ errno. (errno ≡ NoMemory) × ((bytes : List ℕ) → asked ≡ asked_by bytes → request_fault bytes ≡ None)) }
 {
     match asked {
-        None => Ok(nothing()),
-        Some(asked) => match EdgeRing::with_capacity(alloc, asked.capacity()) {
+        Err(errno) => Ok(Gift {
+            ring: None,
+            queue: None,
+            asked: Some(Err(errno)),
+        }),
+        Ok(asked) => match EdgeRing::with_capacity(alloc, asked.capacity()) {
             Err(errno) => Err(errno),
             Ok(ring) => Ok(Gift {
                 ring: Some(ring),
                 queue: None,
-                asked: Some(asked),
+                asked: Some(Ok(asked)),
             }),
         },
     }

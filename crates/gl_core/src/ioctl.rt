@@ -10,12 +10,12 @@ ghost use Rattle.gl_model.specs.declared.call.Call.TheVariants.{Ioctl};
 ghost use Rattle.gl_model.specs.declared.call.Part.{Part as APart};
 ghost use Rattle.gl_watch.specs.Files.{StandsAt};
 ghost use Rattle.gl_core.specs.Claims.{BringsItsRequest, left_by, left_by_part};
-ghost use Rattle.gl_core.specs.Commanded.{chip_command, request_command};
+ghost use Rattle.gl_core.specs.Commanded.{chip_command, part_of, request_command};
 ghost use Rattle.gl_core.specs.OpenRequests.{IsOpenAt};
 ghost use Rattle.gl_core.specs.Reached.{IsReached};
 ghost use Rattle.gl_core.specs.Steps.{StepsInto};
 
-use crate::commanded::{ChipCommand, Commanded, RequestCommand};
+use crate::commanded::{ChipCommand, CommandKind, Commanded, DriverPart, RequestCommand};
 use crate::state::State;
 use gl_model::{Gift, Part, Reply};
 use gl_request::RequestAt;
@@ -61,15 +61,10 @@ impl State {
         ensures steps { let c = commanded.now in StepsInto (in_part actor c.place c.fd c.len command c.bytes.now c.part) self.old self.new result out.old out.new }
         ensures gift { gift.new ≡ left_by command commanded.now.part result gift.old }
     {
-        match command {
-            Command::ChipInfo => self.on_chip(ChipCommand::ChipInfo, commanded, out),
-            Command::LineInfo => self.on_chip(ChipCommand::LineInfo, commanded, out),
-            Command::Watch => self.on_chip(ChipCommand::Watch, commanded, out),
-            Command::Unwatch => self.on_chip(ChipCommand::Unwatch, commanded, out),
-            Command::GetLine => self.get_line(actor, commanded, gift, out),
-            Command::SetConfig => self.on_request(RequestCommand::SetConfig, commanded, out),
-            Command::GetValues => self.on_request(RequestCommand::GetValues, commanded, out),
-            Command::SetValues => self.on_request(RequestCommand::SetValues, commanded, out),
+        match CommandKind::of(command) {
+            CommandKind::OnChip(command) => self.on_chip(command, commanded, out),
+            CommandKind::OfLines => self.get_line(actor, commanded, gift, out),
+            CommandKind::OnRequest(command) => self.on_request(command, commanded, out),
         }
     }
 
@@ -112,7 +107,7 @@ impl State {
     {
         match self.file_of_command(Command::GetLine, commanded) {
             Err(errno) => Reply::Refused(errno),
-            Ok(_) => self.get_line_ask(commanded.place, actor, commanded.bytes, gift),
+            Ok(_) => self.get_line_ask(actor, commanded, gift),
         }
     }
 
@@ -164,7 +159,7 @@ impl State {
     {
         match self.request_of_command(command.command(), commanded) {
             Err(errno) => Reply::Refused(errno),
-            Ok(found) => self.act_on_request(found, command, commanded, out),
+            Ok((found, part)) => self.act_on_request(found, part, command, commanded, out),
         }
     }
 
@@ -172,12 +167,14 @@ impl State {
     fn act_on_request(
         &mut self,
         found: RequestAt,
+        part: DriverPart,
         command: RequestCommand,
         commanded: &Commanded<'_>,
         out: &mut [u8],
     ) -> Reply
         requires reached { IsReached self.old }
         requires opened { IsOpenAt self.old commanded.now.place found }
+        requires part { part_of part ≡ commanded.now.part }
         requires room { size_of (request_command command) ≤ length out.old }
         ensures { (actor : ℕ) → let c = commanded.now in
             StepsInto (act_on actor c.place found.fd (request_command command) (take (size_of (request_command command)) c.bytes.now) c.part) self.old self.new result out.old out.new }
@@ -185,11 +182,9 @@ impl State {
         let place = commanded.place;
         let bytes = commanded.bytes;
         match command {
-            RequestCommand::SetConfig => self.set_config(place, found, bytes, &commanded.part),
-            RequestCommand::GetValues => {
-                self.get_values(place, found, bytes, &commanded.part, out)
-            }
-            RequestCommand::SetValues => self.set_values(place, found, bytes, &commanded.part),
+            RequestCommand::SetConfig => self.set_config(place, found, bytes, part),
+            RequestCommand::GetValues => self.get_values(place, found, bytes, part, out),
+            RequestCommand::SetValues => self.set_values(place, found, bytes, part),
         }
     }
 }

@@ -7,13 +7,14 @@ ghost use Rattle.gl_base.specs.declared.limits.TheConstants.{FILES_MAX};
 ghost use Rattle.gl_uapi.specs.Command.{size_of};
 ghost use Rattle.gl_model.specs.OpenFiles.{asks_driver, chip_file_refusal, command_refusal, has_part, is_chip_file, is_for_chips, is_place, is_request_file, is_whole, number_refusal, request_file_refusal, unknown_refusal};
 ghost use Rattle.gl_watch.specs.Files.{StandsAt};
+ghost use Rattle.gl_core.specs.Commanded.{part_of};
 ghost use Rattle.gl_core.specs.OpenRequests.{IsOpenAt};
 ghost use Rattle.gl_core.specs.Steps.{Tells};
 
-use crate::commanded::Commanded;
+use crate::commanded::{Commanded, DriverPart};
 use crate::state::State;
 use gl_base::{Errno, FILES_MAX};
-use gl_model::Part;
+use gl_model::{Part, asks_driver};
 use gl_request::RequestAt;
 use gl_uapi::Command;
 use gl_watch::FileAt;
@@ -108,26 +109,28 @@ impl State {
         }
     }
 
-    /// Where the open request stands that a command is for, or why the command is refused before it is looked at, first case
-    /// first: `BadF` where no open file of the place has the number; `Inval` where a chip file has it; `Fault` where the buffer is
-    /// shorter than the command's structure; `Inval` where the command hasn't this part.
+    /// Where the open request stands that a command is for, and which entry the command makes; or why it is refused before it is
+    /// looked at, first case first: `BadF` where no open file of the place has the number; `Inval` where a chip file has it;
+    /// `Fault` where the buffer is shorter than the command's structure; `Inval` where the command hasn't this part.
     pub(crate) fn request_of_command(
         &self,
         command: Command,
         commanded: &Commanded<'_>,
-    ) -> Result<RequestAt, Errno>
-        requires { is_for_chips command ≡ false }
-        ensures number { IfOk result (λ found. found.fd ≡ commanded.now.fd) }
-        ensures opened { IfOk result (IsOpenAt self.now commanded.now.place) }
+    ) -> Result<(RequestAt, DriverPart), Errno>
+        requires file { is_for_chips command ≡ false }
+        requires driver { asks_driver command ≡ true }
+        ensures number { IfOk result (λ it. it.0.fd ≡ commanded.now.fd) }
+        ensures opened { IfOk result (λ it. IsOpenAt self.now commanded.now.place it.0) }
+        ensures part { IfOk result (λ it. part_of it.1 ≡ commanded.now.part) }
         ensures long { IfOk result (λ _. size_of command ≤ commanded.now.len) }
         ensures passed { let c = commanded.now in IfOk result (λ _. Tells (command_refusal c.place c.fd c.len command c.part) self.now None) }
         ensures refused { let c = commanded.now in IfErr result (λ errno. Tells (command_refusal c.place c.fd c.len command c.part) self.now (Some errno)) }
     {
         match self.open_request(commanded.place, commanded.fd) {
             Err(errno) => Err(errno),
-            Ok(found) => match part_refusal(command, commanded) {
-                Some(errno) => Err(errno),
-                None => Ok(found),
+            Ok(found) => match driver_part(command, commanded) {
+                Err(errno) => Err(errno),
+                Ok(part) => Ok((found, part)),
             },
         }
     }
@@ -184,13 +187,20 @@ fn part_refusal(command: Command, commanded: &Commanded<'_>) -> Option<Errno>
     None
 }
 
-/// Whether a command asks the driver, and so makes two entries.
-fn asks_driver(command: Command) -> bool
-    ensures { result ≡ asks_driver command }
+/// Which entry a command makes that asks the driver, and whose file is of its kind, or why it is refused.
+fn driver_part(command: Command, commanded: &Commanded<'_>) -> Result<DriverPart, Errno>
+    requires { asks_driver command ≡ true }
+    ensures part { IfOk result (λ part. part_of part ≡ commanded.now.part) }
+    ensures long { IfOk result (λ _. size_of command ≤ commanded.now.len) }
+    ensures passed { IfOk result (λ _. None ≡ first_of (when (nat_lt commanded.now.len (size_of command)) Fault ∷ when (not (has_part command commanded.now.part)) Inval ∷ [])) }
+    ensures refused { IfErr result (λ errno. Some errno ≡ first_of (when (nat_lt commanded.now.len (size_of command)) Fault ∷ when (not (has_part command commanded.now.part)) Inval ∷ [])) }
 {
-    match command {
-        Command::ChipInfo | Command::LineInfo | Command::Watch | Command::Unwatch => false,
-        Command::GetLine | Command::SetConfig | Command::GetValues | Command::SetValues => true,
+    if commanded.len < command.size() {
+        return Err(Errno::Fault);
+    }
+    match DriverPart::of(&commanded.part) {
+        None => Err(Errno::Inval),
+        Some(part) => Ok(part),
     }
 }
 

@@ -12,17 +12,19 @@ ghost use Rattle.gl_model.specs.Places.{with_place};
 ghost use Rattle.gl_model.specs.Values.{drive_from, driven_with, get_values, output_fault, set_values, set_values_refusal, value_of, values_of};
 ghost use Rattle.gl_model.specs.World.{request_at};
 ghost use Rattle.gl_uapi.specs.declared.layout.TheConstants.{LINE_VALUES_SIZE};
+ghost use Rattle.gl_core.specs.Commanded.{part_of};
 ghost use Rattle.gl_core.specs.OpenRequests.{IsOpenAt};
 ghost use Rattle.gl_core.specs.Reached.{IsReached};
 ghost use Rattle.gl_core.specs.Shape.{HasEachLine, HasLine, KeepsLines};
 ghost use Rattle.gl_core.specs.Steps.{Follows, Steps, StepsInto, Tells};
 ghost use Rattle.gl_core.specs.LineByLine.{drive_masked};
 
+use crate::commanded::DriverPart;
 use crate::information::bit_where;
 use crate::state::State;
 use gl_bank::flip;
 use gl_base::{Errno, Kind, LINES_PER_REQUEST, Lines, has_bit};
-use gl_model::{Part, Reply};
+use gl_model::Reply;
 use gl_request::RequestAt;
 use gl_uapi::layout::{LINE_REQUEST_SIZE, LINE_VALUES_SIZE};
 use gl_uapi::{ValuesRef, write_values};
@@ -93,23 +95,22 @@ impl State {
         place: u8,
         lines: &Lines,
         bytes: &[u8; LINE_REQUEST_SIZE],
-        part: &Part,
+        part: DriverPart,
         out: &mut [u8],
     ) -> Reply
         requires count { IsLineCount lines.now.count }
         requires lines { HasEachLine self.now.places place lines.now }
         requires room { LINE_VALUES_SIZE ≤ length out.old }
-        ensures { (settings : Resolved) → StepsInto (get_values place (take LINE_VALUES_SIZE bytes.now) part.now lines.now settings) self.now self.now result out.old out.new }
+        ensures { (settings : Resolved) → StepsInto (get_values place (take LINE_VALUES_SIZE bytes.now) (part_of part) lines.now settings) self.now self.now result out.old out.new }
     {
         let mask = ValuesRef::of(bytes).unwrap().mask();
         if !has_bit_below(lines.count, mask) {
             return Reply::Refused(Errno::Inval);
         }
-        match *part {
-            Part::Whole => Reply::Refused(Errno::Inval),
-            Part::Ask => Reply::Go(0),
-            Part::Tell(None) => Reply::Refused(Errno::Io),
-            Part::Tell(Some(answered)) => {
+        match part {
+            DriverPart::Ask => Reply::Go(0),
+            DriverPart::Tell(None) => Reply::Refused(Errno::Io),
+            DriverPart::Tell(Some(answered)) => {
                 let bits = self.values_of(place, lines, mask, answered);
                 write_values(out, bits, mask);
                 Reply::Done
@@ -124,13 +125,13 @@ impl State {
         place: u8,
         found: RequestAt,
         bytes: &[u8; LINE_REQUEST_SIZE],
-        part: &Part,
+        part: DriverPart,
         out: &mut [u8],
     ) -> Reply
         requires reached { IsReached self.now }
         requires opened { IsOpenAt self.now place found }
         requires room { LINE_VALUES_SIZE ≤ length out.old }
-        ensures { StepsInto (λ w. on_request (get_values place (take LINE_VALUES_SIZE bytes.now) part.now) (request_at w.requests found.fd) w) self.now self.now result out.old out.new }
+        ensures { StepsInto (λ w. on_request (get_values place (take LINE_VALUES_SIZE bytes.now) (part_of part)) (request_at w.requests found.fd) w) self.now self.now result out.old out.new }
     {
         let row = self.requests.row(found);
         self.get_values_of(place, &row.lines, bytes, part, out)
@@ -221,21 +222,20 @@ impl State {
         place: u8,
         lines: &Lines,
         bytes: &[u8; LINE_REQUEST_SIZE],
-        part: &Part,
+        part: DriverPart,
     ) -> Reply
         requires count { IsLineCount lines.now.count }
         requires lines { HasEachLine self.old.places place lines.now }
-        ensures { (settings : Resolved) → Steps (set_values place (take LINE_VALUES_SIZE bytes.now) part.now lines.now settings) self.old self.new result }
+        ensures { (settings : Resolved) → Steps (set_values place (take LINE_VALUES_SIZE bytes.now) (part_of part) lines.now settings) self.old self.new result }
     {
         let values = ValuesRef::of(bytes).unwrap();
         if let Some(errno) = self.set_values_refusal(place, lines, values.mask()) {
             return Reply::Refused(errno);
         }
-        match *part {
-            Part::Whole => Reply::Refused(Errno::Inval),
-            Part::Ask => Reply::Go(0),
-            Part::Tell(None) => Reply::Refused(Errno::Io),
-            Part::Tell(Some(_)) => {
+        match part {
+            DriverPart::Ask => Reply::Go(0),
+            DriverPart::Tell(None) => Reply::Refused(Errno::Io),
+            DriverPart::Tell(Some(_)) => {
                 self.drive_each(place, lines, values.mask(), values.bits());
                 Reply::Done
             }
@@ -249,11 +249,11 @@ impl State {
         place: u8,
         found: RequestAt,
         bytes: &[u8; LINE_REQUEST_SIZE],
-        part: &Part,
+        part: DriverPart,
     ) -> Reply
         requires reached { IsReached self.old }
         requires opened { IsOpenAt self.old place found }
-        ensures { Steps (λ w. on_request (set_values place (take LINE_VALUES_SIZE bytes.now) part.now) (request_at w.requests found.fd) w) self.old self.new result }
+        ensures { Steps (λ w. on_request (set_values place (take LINE_VALUES_SIZE bytes.now) (part_of part)) (request_at w.requests found.fd) w) self.old self.new result }
     {
         let lines = self.requests.row(found).lines;
         self.set_values_of(place, &lines, bytes, part)

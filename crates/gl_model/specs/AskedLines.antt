@@ -1,6 +1,6 @@
 -- What the bytes of a line request ask for (`struct gpio_v2_line_request` of `linux/gpio.h`). The order of the refusals
 -- is this project's choice.
-use Rattle.std.specs.Prelude.{ℕ, ◌+◌, ◌*◌, ◌==◌, ◌||◌, not, min, nat_lt, if◌then◌else◌, List, [], ◌∷◌, Option, Some, None}
+use Rattle.std.specs.Prelude.{ℕ, ◌+◌, ◌*◌, ◌==◌, ◌||◌, not, min, nat_lt, if◌then◌else◌, List, [], ◌∷◌, Option, Some, None, Result, Ok, Err}
 use Rattle.std.specs.Option.{option_or}
 use Rattle.gl_base.specs.Name.{name_in}
 use Rattle.gl_base.specs.Positions.{table_from}
@@ -69,10 +69,10 @@ header_fault bytes = first_of
 abbrev pub request_fault : List ℕ → Option Errno
 request_fault bytes = option_or (header_fault bytes) (config_fault (config_of bytes) (num_lines bytes))
 
--- what the bytes of a request ask for, by what is wrong with them alone: nothing where something is
-abbrev pub asked_where : Option Errno → List ℕ → Option AskedLines
-asked_where None bytes = Some (asked_in bytes)
-asked_where (Some errno) bytes = None
+-- what the bytes of a request ask for, by what is wrong with them alone; where something is, why they are refused
+abbrev pub asked_where : Option Errno → List ℕ → Result AskedLines Errno
+asked_where None bytes = Ok (asked_in bytes)
+asked_where (Some errno) bytes = Err errno
 
-abbrev pub asked_by : List ℕ → Option AskedLines
+abbrev pub asked_by : List ℕ → Result AskedLines Errno
 asked_by bytes = asked_where (request_fault bytes) bytes

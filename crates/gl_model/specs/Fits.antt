@@ -50,10 +50,10 @@ FitsCall (PollChip place fd) = IsPlace place
 FitsCall (RefusedCall place poll) = IsPlace place
 FitsCall _ = Unit {0}
 
--- What an ask of GET_LINE with this structure brings: what it asks for, exactly where its header and configuration have no fault,
--- and then an empty ring of the capacity that it states.
+-- What an ask of GET_LINE with this structure brings: what it asks for, or why its header or its configuration has it refused; and where
+-- they have no fault an empty ring of the capacity that it states.
 pub record HoldsRequest (bytes : List ℕ) (gift : Gift) : Type 0 where
-  pub asked : gift.asked ≡ asked_by bytes
+  pub asked : gift.asked ≡ Some (asked_by bytes)
   pub ring : request_fault bytes ≡ None → gift.ring ≡ Some (buffer [] (capacity_asked bytes))
 
 -- the ask of a command brings its request where it is one of GET_LINE

@@ -29,17 +29,18 @@ impl Model for Asked {
 }
 
 impl Asked {
-    /// What the bytes of a request ask for, or None where they alone have it refused. `NoMemory` is its only error, and comes only
-    /// where they ask for something.
-    pub fn of(bytes: &[u8; LINE_REQUEST_SIZE], alloc: Global) -> Result<Option<Asked>, Errno>
+    /// What the bytes of a request ask for, or why they alone have it refused, first case first: `Inval` where they ask for no line
+    /// or for more than 64, and where their padding isn't zero; then what is wrong with the configuration of the lines. `NoMemory` is
+    /// its only error, and comes only where they ask for something.
+    pub fn of(bytes: &[u8; LINE_REQUEST_SIZE], alloc: Global) -> Result<Result<Asked, Errno>, Errno>
         ensures ok { IfOk result (λ asked. asked ≡ asked_by (take LINE_REQUEST_SIZE bytes.now)) }
         ensures memory { IfErr result (λ errno. (errno ≡ NoMemory) × (request_fault (take LINE_REQUEST_SIZE bytes.now) ≡ None)) }
     {
         match ParsedRequest::of(bytes) {
-            Err(_) => Ok(None),
+            Err(errno) => Ok(Err(errno)),
             Ok(parsed) => match Box::new(alloc, parsed) {
                 Err(_) => Err(Errno::NoMemory),
-                Ok(parsed) => Ok(Some(Asked { parsed })),
+                Ok(parsed) => Ok(Ok(Asked { parsed })),
             },
         }
     }
@@ -79,16 +80,5 @@ impl Asked {
     {
         let parsed: &ParsedRequest = &self.parsed;
         parsed.capacity
-    }
-}
-
-/// Why the bytes of a request alone have it refused, first case first, or None where they don't: `Inval` where they ask for no line
-/// or for more than 64, and where their padding isn't zero; then what is wrong with the configuration of the lines.
-pub fn request_fault(bytes: &[u8; LINE_REQUEST_SIZE]) -> Option<Errno>
-    ensures { result ≡ request_fault (take LINE_REQUEST_SIZE bytes.now) }
-{
-    match ParsedRequest::of(bytes) {
-        Err(errno) => Some(errno),
-        Ok(_) => None,
     }
 }

@@ -9,6 +9,7 @@ use Rattle.gl_model.specs.Configuring.{reconfigure, set_config}
 use Rattle.gl_model.specs.OpenFiles.{in_parts}
 use Rattle.gl_model.specs.Outcome.{Outcome, done, refused_or}
 use Rattle.gl_model.specs.declared.reply.Reply.TheVariants.{Refused}
+use Rattle.gl_core.specs.Commanded.{part_of}
 use Rattle.gl_core.specs.Kept.{Kept, StandsFor}
 use Rattle.gl_core.specs.Shape.{HasEachLine, IsShaped}
 use Rattle.gl_core.proofs.OpenRequests.{each_row_line, on_row}
@@ -38,9 +39,9 @@ returns-in-Err c w s =
     let row : RequestRow = c.row-row.result.now in
     let found : request_at k.requests c.args.found.fd ≡ Some row = subst (λ (k : Kept). request_at k.requests c.args.found.fd ≡ Some row) c.self.view_is c.row-row.ensures.row in
     let bytes = take LINE_CONFIG_SIZE c.args.bytes.now in
-    let rest : Outcome = in_parts c.args.part.now (λ bits v. done (reconfigure c.args.place c.args.found.fd row.lines row.settings (resolved_for bytes row.lines.count) bits v)) w in
+    let rest : Outcome = in_parts (part_of c.args.part) (λ bits v. done (reconfigure c.args.place c.args.found.fd row.lines row.settings (resolved_for bytes row.lines.count) bits v)) w in
     on_row (λ out. StandsFor k out.world × (Refused c.in-Err.errno ≡ out.reply))
-    (set_config c.args.place c.args.found.fd bytes c.args.part.now) k w c.args.found.fd row s found
+    (set_config c.args.place c.args.found.fd bytes (part_of c.args.part)) k w c.args.found.fd row s found
     (subst (λ (refusal : Option Errno). let out = refused_or refusal w rest in StandsFor k out.world × (Refused c.in-Err.errno ≡ out.reply)) (c.in-Err.ensures.refused w s) (s, refl))
 
 pub returns-in-Ok : goal.returns-in-Ok
@@ -49,9 +50,9 @@ returns-in-Ok c w s =
     let row : RequestRow = c.row-row.result.now in
     let found : request_at k.requests c.args.found.fd ≡ Some row = subst (λ (k : Kept). request_at k.requests c.args.found.fd ≡ Some row) c.self.view_is c.row-row.ensures.row in
     let bytes = take LINE_CONFIG_SIZE c.args.bytes.now in
-    let rest : Resolved → Outcome = λ settings. in_parts c.args.part.now (λ bits v. done (reconfigure c.args.place c.args.found.fd row.lines row.settings settings bits v)) w in
+    let rest : Resolved → Outcome = λ settings. in_parts (part_of c.args.part) (λ bits v. done (reconfigure c.args.place c.args.found.fd row.lines row.settings settings bits v)) w in
     let told : StandsFor c.take_settings.new.self (rest (resolved_for bytes row.lines.count)).world × (c.take_settings.result ≡ (rest (resolved_for bytes row.lines.count)).reply) =
     subst (λ (settings : Resolved). StandsFor c.take_settings.new.self (rest settings).world × (c.take_settings.result ≡ (rest settings).reply)) c.in-Ok.ensures.ok (c.take_settings.ensures row found w s) in
     on_row (λ out. StandsFor c.take_settings.new.self out.world × (c.take_settings.result ≡ out.reply))
-    (set_config c.args.place c.args.found.fd bytes c.args.part.now) k w c.args.found.fd row s found
+    (set_config c.args.place c.args.found.fd bytes (part_of c.args.part)) k w c.args.found.fd row s found
     (subst (λ (refusal : Option Errno). let out = refused_or refusal w (rest (resolved_for bytes row.lines.count)) in StandsFor c.take_settings.new.self out.world × (c.take_settings.result ≡ out.reply)) (c.in-Ok.ensures.passed w s) told)
