@@ -1,5 +1,6 @@
 pub mod Back
 pub mod Blaming
+pub mod Costing
 pub mod FirstBytes
 pub mod Loads
 pub mod Missing

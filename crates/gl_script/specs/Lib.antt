@@ -9,6 +9,7 @@ pub mod Meaning
 pub mod Reading
 pub mod Refusal
 pub mod Said
+pub mod SaidCost
 pub mod Script
 pub mod Section
 pub mod Sentence

@@ -3,13 +3,14 @@ ghost use Rattle.std.specs.Prelude.{◌≡◌, ◌+◌, ◌*◌, ◌≤◌, ◌<
 ghost use Rattle.std.specs.List.{list_any, starts_with};
 ghost use Rattle.std.specs.Str.{bytes_eq};
 ghost use Rattle.gl_base.specs.Words.{words_at, text_at};
-ghost use Rattle.gl_script.specs.Cost.{cost, are_none, cost_by, is_bare, is_chip_option, or_zero, start_cost, section_cost, session_cost, statement_cost};
+ghost use Rattle.gl_script.specs.Cost.{are_none, is_bare, is_chip_option, start_cost, section_cost, session_cost, statement_cost};
+ghost use Rattle.gl_script.specs.SaidCost.{cost_said};
 ghost use Rattle.gl_script.specs.Meaning.{line_in, said_in};
 
-use crate::faults::{makes, text_at};
-use crate::forms::number_within;
+use crate::faults::text_at;
+use crate::said::Said;
 use crate::section::{Section, Statement};
-use crate::table::{Keyword, keyword_of};
+use gl_base::command::GET_LINE;
 use gl_base::{COST_MAX, LINES_MAX, PLACES, next_word};
 
 /// The least cost that is over the limit.
@@ -71,43 +72,41 @@ fn statements_cost(statements: &[Statement<'_>]) -> u64
 fn statement_cost(statement: &Statement<'_>) -> u64
     ensures cost { result ≡ min (statement_cost (line_in statement.now)) OVER }
 {
+    let said = statement.said();
     match next_word(1, statement.line) {
-        Some(first) => match keyword_of(first.word) {
-            Some(keyword) => keyword_cost(keyword, first.rest_at, first.rest).min(OVER),
-            None => 0,
-        },
+        Some(first) => said_cost(said, first.rest_at, first.rest).min(OVER),
         None => 0,
     }
 }
 
-/// The cost of a statement by the words behind its first, one row a statement; any number over the limit where it is
-/// over the limit.
-fn keyword_cost(keyword: Keyword, at: usize, line: &[u8]) -> u64
+/// The cost of a statement by what it says and the words behind its first, one row a statement; any number over the limit where it
+/// is over the limit.
+fn said_cost(said: Said, at: usize, line: &[u8]) -> u64
     requires { at + length line.now + 1 < 2 ^ 64 }
-    ensures { min result OVER ≡ min (cost keyword (words_at at line.now)) OVER }
+    ensures { min result OVER ≡ min (cost_said said (words_at at line.now)) OVER }
 {
-    match keyword {
-        Keyword::Fault | Keyword::Accept | Keyword::Close | Keyword::Stop => 0,
-        Keyword::Probe
-        | Keyword::MakeDir
-        | Keyword::RemoveDir
-        | Keyword::Read
-        | Keyword::Clock
-        | Keyword::Pin
-        | Keyword::Irq
-        | Keyword::Events
-        | Keyword::OldEvents
-        | Keyword::Changes
-        | Keyword::Poll => 1,
-        Keyword::Write | Keyword::Unplug | Keyword::Open => 2,
-        Keyword::Ioctl => command_cost(makes(Keyword::Ioctl, text_at(1, at, line))),
-        Keyword::OldIoctl => command_cost(makes(Keyword::OldIoctl, text_at(1, at, line))),
-        Keyword::Detect => detect_cost(at, line),
-        Keyword::Info => info_cost(at, line),
-        Keyword::Get => word_count(at, line) + 7,
-        Keyword::Set => word_count(at, line) + 5,
-        Keyword::Start => start_cost(text_at(1, at, line), word_count(at, line).saturating_sub(2)),
-        Keyword::Step => or_zero(number_within(1, 1000, text_at(1, at, line))) + 1,
+    match said {
+        Said::Fault { .. } | Said::Accept { .. } | Said::Close | Said::Stop => 0,
+        Said::Probe { .. }
+        | Said::MakeDir
+        | Said::RemoveDir
+        | Said::Read
+        | Said::Clock { .. }
+        | Said::Pin { .. }
+        | Said::Irq { .. }
+        | Said::Events { .. }
+        | Said::OldEvents { .. }
+        | Said::Changes { .. }
+        | Said::Poll => 1,
+        Said::Write | Said::Unplug { .. } | Said::Open => 2,
+        Said::Ioctl { command } => command_cost(command == GET_LINE),
+        Said::OldIoctl { command } => command_cost(gl_v1::makes_file(Some(command))),
+        Said::Detect => detect_cost(at, line),
+        Said::Info => info_cost(at, line),
+        Said::Get => word_count(at, line) + 7,
+        Said::Set => word_count(at, line) + 5,
+        Said::Start => start_cost(text_at(1, at, line), word_count(at, line).saturating_sub(2)),
+        Said::Step { turns } => u64::from(turns) + 1,
     }
 }
 
@@ -197,12 +196,6 @@ fn start_cost(tool: &[u8], count: u64) -> u64
         return 2 * count + 2;
     }
     count + 5
-}
-
-fn or_zero(number: Option<u64>) -> u64
-    ensures { result ≡ or_zero number }
-{
-    number.unwrap_or(0)
 }
 
 /// How many words a line has, or one more than `COST_MAX` where it has more.

@@ -266,7 +266,7 @@ pub fn statement_fault(
 }
 
 /// Whether the command of a statement makes a file, by the command's word.
-pub fn makes(keyword: Keyword, command: &[u8]) -> bool
+fn makes(keyword: Keyword, command: &[u8]) -> bool
     ensures { result ≡ makes keyword command.now }
 {
     match keyword {

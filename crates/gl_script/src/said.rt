@@ -134,51 +134,23 @@ fn values(keyword: Keyword, at: usize, line: &[u8]) -> Option<Said>
     ensures { result ≡ values keyword (words_at at line.now) }
 {
     match keyword {
-        Keyword::Probe => Some(Said::Probe {
-            lines: number_at(1, LINES_MAX, 1, at, line)?,
-        }),
-        Keyword::Unplug => Some(Said::Unplug {
-            chip: chip_of(text_at(0, at, line))?,
-        }),
+        Keyword::Probe => probe_said(at, line),
+        Keyword::Unplug => unplug_said(at, line),
         Keyword::MakeDir => Some(Said::MakeDir),
         Keyword::RemoveDir => Some(Said::RemoveDir),
         Keyword::Write => Some(Said::Write),
         Keyword::Read => Some(Said::Read),
-        Keyword::Clock => Some(Said::Clock {
-            mono: wide_of(text_at(0, at, line))?,
-            real: wide_of(text_at(1, at, line))?,
-        }),
-        Keyword::Fault => Some(Said::Fault {
-            nth: number_at(1, 1_000_000, 0, at, line)?,
-        }),
-        Keyword::Accept => Some(Said::Accept {
-            bits: wide_of(text_at(0, at, line))?,
-        }),
-        Keyword::Pin => Some(Said::Pin {
-            chip: chip_of(text_at(1, at, line))?,
-            what: pin_of(at, line)?,
-        }),
-        Keyword::Irq => Some(Said::Irq {
-            what: irq_of(text_at(0, at, line))?,
-            chip: chip_of(text_at(1, at, line))?,
-            offset: number_at(0, 0xFFFF_FFFF, 2, at, line)?,
-        }),
+        Keyword::Clock => clock_said(at, line),
+        Keyword::Fault => fault_said(at, line),
+        Keyword::Accept => accept_said(at, line),
+        Keyword::Pin => pin_said(at, line),
+        Keyword::Irq => irq_said(at, line),
         Keyword::Open => Some(Said::Open),
-        Keyword::Ioctl => Some(Said::Ioctl {
-            command: command_number(text_at(1, at, line))?,
-        }),
-        Keyword::Events => Some(Said::Events {
-            len: short_at(49_152, 1, at, line)?,
-        }),
-        Keyword::OldIoctl => Some(Said::OldIoctl {
-            command: gl_v1::command_number(text_at(1, at, line))?,
-        }),
-        Keyword::OldEvents => Some(Said::OldEvents {
-            len: short_at(16_384, 1, at, line)?,
-        }),
-        Keyword::Changes => Some(Said::Changes {
-            len: short_at(9216, 1, at, line)?,
-        }),
+        Keyword::Ioctl => ioctl_said(at, line),
+        Keyword::Events => events_said(at, line),
+        Keyword::OldIoctl => old_ioctl_said(at, line),
+        Keyword::OldEvents => old_events_said(at, line),
+        Keyword::Changes => changes_said(at, line),
         Keyword::Poll => Some(Said::Poll),
         Keyword::Close => Some(Said::Close),
         Keyword::Detect => Some(Said::Detect),
@@ -186,11 +158,130 @@ fn values(keyword: Keyword, at: usize, line: &[u8]) -> Option<Said>
         Keyword::Get => Some(Said::Get),
         Keyword::Set => Some(Said::Set),
         Keyword::Start => Some(Said::Start),
-        Keyword::Step => Some(Said::Step {
-            turns: number_at(1, 1000, 1, at, line)?,
-        }),
+        Keyword::Step => step_said(at, line),
         Keyword::Stop => Some(Said::Stop),
     }
+}
+
+fn probe_said(at: usize, line: &[u8]) -> Option<Said>
+    requires { at + length line.now + 1 < 2 ^ 64 }
+    ensures { result ≡ values Keyword.Probe (words_at at line.now) }
+{
+    Some(Said::Probe {
+        lines: number_at(1, LINES_MAX, 1, at, line)?,
+    })
+}
+
+fn unplug_said(at: usize, line: &[u8]) -> Option<Said>
+    requires { at + length line.now + 1 < 2 ^ 64 }
+    ensures { result ≡ values Keyword.Unplug (words_at at line.now) }
+{
+    Some(Said::Unplug {
+        chip: chip_of(text_at(0, at, line))?,
+    })
+}
+
+fn clock_said(at: usize, line: &[u8]) -> Option<Said>
+    requires { at + length line.now + 1 < 2 ^ 64 }
+    ensures { result ≡ values Keyword.Clock (words_at at line.now) }
+{
+    Some(Said::Clock {
+        mono: wide_of(text_at(0, at, line))?,
+        real: wide_of(text_at(1, at, line))?,
+    })
+}
+
+fn fault_said(at: usize, line: &[u8]) -> Option<Said>
+    requires { at + length line.now + 1 < 2 ^ 64 }
+    ensures { result ≡ values Keyword.Fault (words_at at line.now) }
+{
+    Some(Said::Fault {
+        nth: number_at(1, 1_000_000, 0, at, line)?,
+    })
+}
+
+fn accept_said(at: usize, line: &[u8]) -> Option<Said>
+    requires { at + length line.now + 1 < 2 ^ 64 }
+    ensures { result ≡ values Keyword.Accept (words_at at line.now) }
+{
+    Some(Said::Accept {
+        bits: wide_of(text_at(0, at, line))?,
+    })
+}
+
+fn pin_said(at: usize, line: &[u8]) -> Option<Said>
+    requires { at + length line.now + 1 < 2 ^ 64 }
+    ensures { result ≡ values Keyword.Pin (words_at at line.now) }
+{
+    Some(Said::Pin {
+        chip: chip_of(text_at(1, at, line))?,
+        what: pin_of(at, line)?,
+    })
+}
+
+fn irq_said(at: usize, line: &[u8]) -> Option<Said>
+    requires { at + length line.now + 1 < 2 ^ 64 }
+    ensures { result ≡ values Keyword.Irq (words_at at line.now) }
+{
+    Some(Said::Irq {
+        what: irq_of(text_at(0, at, line))?,
+        chip: chip_of(text_at(1, at, line))?,
+        offset: number_at(0, 0xFFFF_FFFF, 2, at, line)?,
+    })
+}
+
+fn ioctl_said(at: usize, line: &[u8]) -> Option<Said>
+    requires { at + length line.now + 1 < 2 ^ 64 }
+    ensures { result ≡ values Keyword.Ioctl (words_at at line.now) }
+{
+    Some(Said::Ioctl {
+        command: command_number(text_at(1, at, line))?,
+    })
+}
+
+fn events_said(at: usize, line: &[u8]) -> Option<Said>
+    requires { at + length line.now + 1 < 2 ^ 64 }
+    ensures { result ≡ values Keyword.Events (words_at at line.now) }
+{
+    Some(Said::Events {
+        len: short_at(49_152, 1, at, line)?,
+    })
+}
+
+fn old_ioctl_said(at: usize, line: &[u8]) -> Option<Said>
+    requires { at + length line.now + 1 < 2 ^ 64 }
+    ensures { result ≡ values Keyword.OldIoctl (words_at at line.now) }
+{
+    Some(Said::OldIoctl {
+        command: gl_v1::command_number(text_at(1, at, line))?,
+    })
+}
+
+fn old_events_said(at: usize, line: &[u8]) -> Option<Said>
+    requires { at + length line.now + 1 < 2 ^ 64 }
+    ensures { result ≡ values Keyword.OldEvents (words_at at line.now) }
+{
+    Some(Said::OldEvents {
+        len: short_at(16_384, 1, at, line)?,
+    })
+}
+
+fn changes_said(at: usize, line: &[u8]) -> Option<Said>
+    requires { at + length line.now + 1 < 2 ^ 64 }
+    ensures { result ≡ values Keyword.Changes (words_at at line.now) }
+{
+    Some(Said::Changes {
+        len: short_at(9216, 1, at, line)?,
+    })
+}
+
+fn step_said(at: usize, line: &[u8]) -> Option<Said>
+    requires { at + length line.now + 1 < 2 ^ 64 }
+    ensures { result ≡ values Keyword.Step (words_at at line.now) }
+{
+    Some(Said::Step {
+        turns: number_at(1, 1000, 1, at, line)?,
+    })
 }
 
 /// What is done with an interrupt, by its word.

@@ -21,7 +21,7 @@ use Rattle.gl_script.specs.Cost.{cost, cost_by, start_cost, words_cost}
 use Rattle.gl_script.specs.Faults.{is_get_line}
 use Rattle.gl_script.specs.Table.{keyword_of}
 use Rattle.gl_script.specs.declared.table.Keyword.{Keyword}
-use Rattle.gl_script.specs.declared.table.Keyword.TheVariants.{Probe, Unplug, MakeDir, RemoveDir, Write, Read, Clock, Fault, Accept, Pin, Irq, Open, Ioctl, Events, OldIoctl, OldEvents, Changes, Poll, Close, Detect, Info, Get, Set, Start, Step, Stop}
+use Rattle.gl_script.specs.declared.table.Keyword.TheVariants.{Probe, Unplug, MakeDir, RemoveDir, Write, Read, Clock, Fault, Accept, Pin, Irq, Open, Ioctl, Events, OldIoctl, OldEvents, Changes, Poll, Close, Start, Step, Stop}
 use Rattle.gl_v1.specs.declared.commands.CommandV1.{CommandV1}
 use Rattle.gl_v1.specs.declared.commands.CommandV1.TheVariants.{ChipInfo, LineInfo, LineHandle, LineEvent, GetValues, SetValues, SetConfig}
 use Rattle.gl_v1.specs.declared.commands.KindV1.TheVariants.{Chip as OldChip, Handle, Event}
@@ -70,16 +70,16 @@ told_free n (Some errno) reply names slot words got = tt
 told_free n None Silent names slot words got = tt
 told_free n None Value names slot words got = tt
 told_free n None (Level is_pull) names slot words got = tt
-told_free n None Bytes names slot words got = tt
+told_free n None (Bytes command) names slot words got = tt
 told_free n None Edges names slot words got = tt
 told_free n None Infos names slot words got = tt
 told_free n None Ready names slot words got = tt
 told_free n None Opened names slot words got = tt
 told_free n None Closed names slot words got = tt
 told_free n None Made names slot words got = tt
-told_free n None (OldBytes kind) names slot words got = tt
+told_free n None (OldBytes kind command) names slot words got = tt
 told_free n None OldEdges names slot words got = tt
-told_free n None OldMade names slot words got = tt
+told_free n None (OldMade kind) names slot words got = tt
 
 acts_cost : (n : ℕ) (action : Action) (names : Names) (slot : ℕ) (words : List Span) → ActionCosts n action → CostsAtMost n (acts action names slot words)
 acts_cost n Nothing names slot words h = tt
@@ -239,13 +239,7 @@ action_cost OldEvents files slot first words = file_cost (file_of (text_at 0 wor
 action_cost Changes files slot first words = file_cost (file_of (text_at 0 words) files) is_chip _ Infos
 action_cost Poll files slot first words = polls_cost (file_of (text_at 0 words) files)
 action_cost Close files slot first words = closes_cost (file_of (text_at 0 words) files)
-action_cost Detect files slot first words = tt
-action_cost Info files slot first words = tt
-action_cost Get files slot first words = tt
-action_cost Set files slot first words = tt
-action_cost Start files slot first words = tt
-action_cost Step files slot first words = tt
-action_cost Stop files slot first words = tt
+action_cost keyword files slot first words = tt
 
 -- a tool's statement
 runs_cost : (keyword : Keyword) (tool : Option SaidTool) (names : Names) (slot : ℕ) (first : Span) (words : List Span) → keyword_of first.text ≡ Some keyword → kind_of (Some keyword) ≡ ToolAlone
@@ -322,81 +316,7 @@ keyword_cost Step Stepping names slot first words k e =
     steps_cost (watched_of_name (text_at 0 words) names.monitors) (held_of_name (text_at 0 words) names.sets) names first words
 keyword_cost Stop Stopping names slot first words k e =
     stops_cost (watched_of_name (text_at 0 words) names.monitors) (held_of_name (text_at 0 words) names.sets) names first words
-keyword_cost Probe Starting names slot first words k e = cc
-keyword_cost Unplug Starting names slot first words k e = cc
-keyword_cost MakeDir Starting names slot first words k e = cc
-keyword_cost RemoveDir Starting names slot first words k e = cc
-keyword_cost Write Starting names slot first words k e = cc
-keyword_cost Read Starting names slot first words k e = cc
-keyword_cost Clock Starting names slot first words k e = cc
-keyword_cost Fault Starting names slot first words k e = cc
-keyword_cost Accept Starting names slot first words k e = cc
-keyword_cost Pin Starting names slot first words k e = cc
-keyword_cost Irq Starting names slot first words k e = cc
-keyword_cost Open Starting names slot first words k e = cc
-keyword_cost Ioctl Starting names slot first words k e = cc
-keyword_cost Events Starting names slot first words k e = cc
-keyword_cost OldIoctl Starting names slot first words k e = cc
-keyword_cost OldEvents Starting names slot first words k e = cc
-keyword_cost Changes Starting names slot first words k e = cc
-keyword_cost Poll Starting names slot first words k e = cc
-keyword_cost Close Starting names slot first words k e = cc
-keyword_cost Detect Starting names slot first words k e = cc
-keyword_cost Info Starting names slot first words k e = cc
-keyword_cost Get Starting names slot first words k e = cc
-keyword_cost Set Starting names slot first words k e = cc
-keyword_cost Step Starting names slot first words k e = cc
-keyword_cost Stop Starting names slot first words k e = cc
-keyword_cost Probe Stepping names slot first words k e = cc
-keyword_cost Unplug Stepping names slot first words k e = cc
-keyword_cost MakeDir Stepping names slot first words k e = cc
-keyword_cost RemoveDir Stepping names slot first words k e = cc
-keyword_cost Write Stepping names slot first words k e = cc
-keyword_cost Read Stepping names slot first words k e = cc
-keyword_cost Clock Stepping names slot first words k e = cc
-keyword_cost Fault Stepping names slot first words k e = cc
-keyword_cost Accept Stepping names slot first words k e = cc
-keyword_cost Pin Stepping names slot first words k e = cc
-keyword_cost Irq Stepping names slot first words k e = cc
-keyword_cost Open Stepping names slot first words k e = cc
-keyword_cost Ioctl Stepping names slot first words k e = cc
-keyword_cost Events Stepping names slot first words k e = cc
-keyword_cost OldIoctl Stepping names slot first words k e = cc
-keyword_cost OldEvents Stepping names slot first words k e = cc
-keyword_cost Changes Stepping names slot first words k e = cc
-keyword_cost Poll Stepping names slot first words k e = cc
-keyword_cost Close Stepping names slot first words k e = cc
-keyword_cost Detect Stepping names slot first words k e = cc
-keyword_cost Info Stepping names slot first words k e = cc
-keyword_cost Get Stepping names slot first words k e = cc
-keyword_cost Set Stepping names slot first words k e = cc
-keyword_cost Start Stepping names slot first words k e = cc
-keyword_cost Stop Stepping names slot first words k e = cc
-keyword_cost Probe Stopping names slot first words k e = cc
-keyword_cost Unplug Stopping names slot first words k e = cc
-keyword_cost MakeDir Stopping names slot first words k e = cc
-keyword_cost RemoveDir Stopping names slot first words k e = cc
-keyword_cost Write Stopping names slot first words k e = cc
-keyword_cost Read Stopping names slot first words k e = cc
-keyword_cost Clock Stopping names slot first words k e = cc
-keyword_cost Fault Stopping names slot first words k e = cc
-keyword_cost Accept Stopping names slot first words k e = cc
-keyword_cost Pin Stopping names slot first words k e = cc
-keyword_cost Irq Stopping names slot first words k e = cc
-keyword_cost Open Stopping names slot first words k e = cc
-keyword_cost Ioctl Stopping names slot first words k e = cc
-keyword_cost Events Stopping names slot first words k e = cc
-keyword_cost OldIoctl Stopping names slot first words k e = cc
-keyword_cost OldEvents Stopping names slot first words k e = cc
-keyword_cost Changes Stopping names slot first words k e = cc
-keyword_cost Poll Stopping names slot first words k e = cc
-keyword_cost Close Stopping names slot first words k e = cc
-keyword_cost Detect Stopping names slot first words k e = cc
-keyword_cost Info Stopping names slot first words k e = cc
-keyword_cost Get Stopping names slot first words k e = cc
-keyword_cost Set Stopping names slot first words k e = cc
-keyword_cost Start Stopping names slot first words k e = cc
-keyword_cost Step Stopping names slot first words k e = cc
+keyword_cost keyword kind names slot first words k e = cc
 
 some_keyword_cost : (keyword : Option Keyword) (names : Names) (slot : ℕ) (first : Span) (words : List Span) → keyword_of first.text ≡ keyword
     → CostsAtMost (cost_by keyword words) (does_by (kind_of keyword) names slot (first ∷ words))

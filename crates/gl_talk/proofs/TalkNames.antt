@@ -20,9 +20,10 @@ use Rattle.gl_monitor.proofs.MonitorNames.{monitor_at, steps_held_at}
 use Rattle.gl_monitor.proofs.MonitorNames.{stops_at as watching_stops_at}
 use Rattle.gl_script.specs.Table.{keyword_of}
 use Rattle.gl_script.specs.declared.table.Keyword.{Keyword}
-use Rattle.gl_script.specs.declared.table.Keyword.TheVariants.{Probe, Unplug, MakeDir, RemoveDir, Write, Read, Clock, Fault, Accept, Pin, Irq, Open, Ioctl, Events, OldIoctl, OldEvents, Changes, Poll, Close, Detect, Info, Get, Set, Start, Step, Stop}
+use Rattle.gl_script.specs.declared.table.Keyword.TheVariants.{Probe, Unplug, MakeDir, RemoveDir, Write, Read, Clock, Fault, Accept, Pin, Irq, Open, Ioctl, Events, OldIoctl, OldEvents, Changes, Poll, Close}
 use Rattle.gl_v1.specs.declared.commands.KindV1.{KindV1}
 use Rattle.gl_v1.specs.declared.sending.Sent.{Sent}
+use Rattle.gl_talk.specs.declared.files.TalkFileKind.{TalkFileKind}
 use Rattle.gl_talk.specs.declared.files.TalkFileKind.TheVariants.{Chip, Request}
 use Rattle.gl_talk.specs.declared.paths.LineFile.{LineFile}
 use Rattle.gl_talk.specs.declared.actions.Action.{Action}
@@ -138,7 +139,7 @@ module _ (s k : ℕ) where
     AskFits Opened what = (word : List ℕ) × (what ≡ OpenChip slot word)
     AskFits Closed what = (chip : ℕ) × (what ≡ DoClose chip) × FileTaken chip
     AskFits Made what = (chip : ℕ) × (command : ℕ) × (len : ℕ) × (bytes : List ℕ) × Makes what chip command len bytes
-    AskFits OldMade what = (chip : ℕ) × (command : ℕ) × (len : ℕ) × (bytes : List ℕ) × Makes what chip command len bytes
+    AskFits (OldMade kind) what = (chip : ℕ) × (command : ℕ) × (len : ℕ) × (bytes : List ℕ) × Makes what chip command len bytes
     AskFits _ what = LeavesAll what
 
     abbrev pub ActionFits : Action → Type 0
@@ -151,7 +152,7 @@ module _ (s k : ℕ) where
     IsPlainFormat Opened = ⊥
     IsPlainFormat Closed = ⊥
     IsPlainFormat Made = ⊥
-    IsPlainFormat OldMade = ⊥
+    IsPlainFormat (OldMade kind) = ⊥
     IsPlainFormat _ = Unit {0}
 
     plain_at : (fault : Option Errno) (reply : ResultFormat) (got : Got) → IsPlainFormat reply → Keeps (open_times s names) (replied_by fault reply names slot words got)
@@ -159,16 +160,16 @@ module _ (s k : ℕ) where
     plain_at None Silent got plain = refl
     plain_at None Value got plain = refl
     plain_at None (Level is_pull) got plain = refl
-    plain_at None Bytes got plain = refl
+    plain_at None (Bytes command) got plain = refl
     plain_at None Edges got plain = refl
     plain_at None Infos got plain = refl
     plain_at None Ready got plain = refl
     plain_at None Opened got plain = absurd plain
     plain_at None Closed got plain = absurd plain
     plain_at None Made got plain = absurd plain
-    plain_at None (OldBytes kind) got plain = refl
+    plain_at None (OldBytes kind command) got plain = refl
     plain_at None OldEdges got plain = refl
-    plain_at None OldMade got plain = absurd plain
+    plain_at None (OldMade kind) got plain = absurd plain
 
     opened_at : (fault : Option Errno) (got : Got) → Keeps (with_one s k fault slot (open_times s names)) (replied_by fault Opened names slot words got)
     opened_at (Some errno) got = refl
@@ -178,10 +179,9 @@ module _ (s k : ℕ) where
     made_at (Some errno) got = refl
     made_at None got = omega (arith, one_more s names.files (file (made_name words) slot Request))
 
-    old_made_at : (fault : Option Errno) (got : Got) → Keeps (with_one s k fault slot (open_times s names)) (replied_by fault OldMade names slot words got)
-    old_made_at (Some errno) got = refl
-    old_made_at None got =
-        omega (arith, one_more s names.files (file (made_name words) slot (made_kind (old_command_word (text_at 2 words)) (bytes_said (behind_three words)))))
+    old_made_at : (kind : TalkFileKind) (fault : Option Errno) (got : Got) → Keeps (with_one s k fault slot (open_times s names)) (replied_by fault (OldMade kind) names slot words got)
+    old_made_at kind (Some errno) got = refl
+    old_made_at kind None got = omega (arith, one_more s names.files (file (made_name words) slot kind))
 
     closed_at : (chip : ℕ) (fault : Option Errno) (got : Got) → FileTaken chip → fault ≡ None → Keeps (open_times s names - one_if (nat_eq s chip)) (replied_by fault Closed names slot words got)
     closed_at chip (Some errno) got taken kept = cc
@@ -195,9 +195,9 @@ module _ (s k : ℕ) where
     made_if true got e = made_at (refusal got) got
     made_if false got e = cc
 
-    old_made_if : (b : Bool) (got : Got) → b ≡ true → Keeps (cond b (with_one s k (refusal got) slot (open_times s names)) (open_times s names)) (replied_by (refusal got) OldMade names slot words got)
-    old_made_if true got e = old_made_at (refusal got) got
-    old_made_if false got e = cc
+    old_made_if : (kind : TalkFileKind) (b : Bool) (got : Got) → b ≡ true → Keeps (cond b (with_one s k (refusal got) slot (open_times s names)) (open_times s names)) (replied_by (refusal got) (OldMade kind) names slot words got)
+    old_made_if kind true got e = old_made_at kind (refusal got) got
+    old_made_if kind false got e = cc
 
     where_so : (b : Bool) (P : Type 0) → P → Where b P
     where_so true P h = h
@@ -213,7 +213,7 @@ module _ (s k : ℕ) where
       acts_at (Ask what Silent) fits = ask_plain what Silent tt fits
       acts_at (Ask what Value) fits = ask_plain what Value tt fits
       acts_at (Ask what (Level is_pull)) fits = ask_plain what (Level is_pull) tt fits
-      acts_at (Ask what Bytes) fits = ask_plain what Bytes tt fits
+      acts_at (Ask what (Bytes command)) fits = ask_plain what (Bytes command) tt fits
       acts_at (Ask what Edges) fits = ask_plain what Edges tt fits
       acts_at (Ask what Infos) fits = ask_plain what Infos tt fits
       acts_at (Ask what Ready) fits = ask_plain what Ready tt fits
@@ -226,13 +226,13 @@ module _ (s k : ℕ) where
           let makes = fits.4 in
           subst (λ w. Keeps (open_times s names) (acts (Ask w Made) names slot words)) (sym makes.0)
           ((makes.2, where_so (nat_eq command GET_LINE) (open_times s names + one_if (nat_eq s slot) ≤ k) room), λ got kept. made_if (command == GET_LINE) got makes.1)
-      acts_at (Ask what (OldBytes kind)) fits = ask_plain what (OldBytes kind) tt fits
+      acts_at (Ask what (OldBytes kind command)) fits = ask_plain what (OldBytes kind command) tt fits
       acts_at (Ask what OldEdges) fits = ask_plain what OldEdges tt fits
-      acts_at (Ask what OldMade) fits =
+      acts_at (Ask what (OldMade kind)) fits =
           let command = fits.1 in
           let makes = fits.4 in
-          subst (λ w. Keeps (open_times s names) (acts (Ask w OldMade) names slot words)) (sym makes.0)
-          ((makes.2, where_so (nat_eq command GET_LINE) (open_times s names + one_if (nat_eq s slot) ≤ k) room), λ got kept. old_made_if (command == GET_LINE) got makes.1)
+          subst (λ w. Keeps (open_times s names) (acts (Ask w (OldMade kind)) names slot words)) (sym makes.0)
+          ((makes.2, where_so (nat_eq command GET_LINE) (open_times s names + one_if (nat_eq s slot) ≤ k) room), λ got kept. old_made_if kind (command == GET_LINE) got makes.1)
 
   -- each row
   module _ (names : Names) (slot : ℕ) (words : List Span) where
@@ -293,7 +293,7 @@ module _ (s k : ℕ) where
         ((le, not_where (nat_eq command GET_LINE) (open_times s names + one_if (nat_eq s slot) ≤ k) other), λ got. not_made (nat_eq command GET_LINE) (with_one s k (refusal got) slot (open_times s names)) (open_times s names) other)
 
     reply_if : (chip command len : ℕ) (bytes : List ℕ) (a b c d e : Bool) → (command == GET_LINE) ≡ a → one_if (nat_eq s chip) ≤ open_times s names
-        → AskFits names slot words (cond a Made (cond b Bytes (cond c Bytes (cond d Bytes (cond e Bytes Silent))))) (DoIoctl chip command len bytes slot)
+        → AskFits names slot words (cond a Made (cond b (Bytes command) (cond c (Bytes command) (cond d (Bytes command) (cond e (Bytes command) Silent))))) (DoIoctl chip command len bytes slot)
     reply_if chip command len bytes true b c d e same le = (chip, command, len, bytes, (refl, same, le))
     reply_if chip command len bytes false true c d e same le = plain_command chip command len bytes same le
     reply_if chip command len bytes false false true d e same le = plain_command chip command len bytes same le
@@ -306,22 +306,25 @@ module _ (s k : ℕ) where
         reply_if found.slot sent.cmd sent.len sent.bytes (sent.cmd == GET_LINE) (sent.cmd == GET_CHIPINFO) (sent.cmd == GET_LINEINFO) (sent.cmd == GET_LINEINFO_WATCH) (sent.cmd == LINE_GET_VALUES) refl le
 
     -- what a statement of the first uAPI sends
-    old_reply_if : (kind : KindV1) (chip command len : ℕ) (bytes : List ℕ) (a b c d : Bool) → (command == GET_LINE) ≡ a → one_if (nat_eq s chip) ≤ open_times s names
-        → AskFits names slot words (cond a OldMade (cond b (OldBytes kind) (cond c (OldBytes kind) (cond d (OldBytes kind) Silent)))) (DoIoctl chip command len bytes slot)
-    old_reply_if kind chip command len bytes true b c d same le = (chip, command, len, bytes, (refl, same, le))
-    old_reply_if kind chip command len bytes false true c d same le = plain_command chip command len bytes same le
-    old_reply_if kind chip command len bytes false false true d same le = plain_command chip command len bytes same le
-    old_reply_if kind chip command len bytes false false false true same le = plain_command chip command len bytes same le
-    old_reply_if kind chip command len bytes false false false false same le = plain_command chip command len bytes same le
+    old_reply_if : (kind : KindV1) (made : TalkFileKind) (said chip command len : ℕ) (bytes : List ℕ) (a b c d : Bool) → (command == GET_LINE) ≡ a → one_if (nat_eq s chip) ≤ open_times s names
+        → AskFits names slot words (cond a (OldMade made) (cond b (OldBytes kind said) (cond c (OldBytes kind said) (cond d (OldBytes kind said) Silent)))) (DoIoctl chip command len bytes slot)
+    old_reply_if kind made said chip command len bytes true b c d same le = (chip, command, len, bytes, (refl, same, le))
+    old_reply_if kind made said chip command len bytes false true c d same le = plain_command chip command len bytes same le
+    old_reply_if kind made said chip command len bytes false false true d same le = plain_command chip command len bytes same le
+    old_reply_if kind made said chip command len bytes false false false true same le = plain_command chip command len bytes same le
+    old_reply_if kind made said chip command len bytes false false false false same le = plain_command chip command len bytes same le
 
-    by_old_sent : (found : File) (sent : Sent) → one_if (nat_eq s found.slot) ≤ open_times s names → ActionsFit (asks_for found slot sent (old_reply found.kind sent.cmd))
-    by_old_sent found sent le =
-        old_reply_if (kind_v1 found.kind) found.slot sent.cmd sent.len sent.bytes (sent.cmd == GET_LINE) (sent.cmd == GET_CHIPINFO) (sent.cmd == GET_LINEINFO) (sent.cmd == LINE_GET_VALUES) refl le
+    by_old_sent : (found : File) (sent : Sent) (command : ℕ) (bytes : List ℕ) → one_if (nat_eq s found.slot) ≤ open_times s names
+        → ActionsFit (asks_for found slot sent (old_reply found.kind command bytes sent.cmd))
+    by_old_sent found sent command bytes le =
+        old_reply_if (kind_v1 found.kind) (made_kind command bytes) command found.slot sent.cmd sent.len sent.bytes (sent.cmd == GET_LINE) (sent.cmd == GET_CHIPINFO) (sent.cmd == GET_LINEINFO) (sent.cmd == LINE_GET_VALUES) refl le
 
     old_ioctls_at : (o : Option File) (taken : Bool) → file_of (text_at 1 words) names.files ≡ o → ActionsFit (old_ioctls o taken slot words)
     old_ioctls_at None taken e = tt
     old_ioctls_at (Some found) taken e =
-        action_if taken _ _ tt (by_old_sent found (sent_old found.kind (old_command_word (text_at 2 words)) (bytes_said (behind_three words))) (there (text_at 1 words) found e))
+        let command = old_command_word (text_at 2 words) in
+        let bytes = bytes_said (behind_three words) in
+        action_if taken _ _ tt (by_old_sent found (sent_old found.kind command bytes) command bytes (there (text_at 1 words) found e))
 
     bytes_at : (found : File) (command : ℕ) (bytes : List ℕ) → one_if (nat_eq s found.slot) ≤ open_times s names → ActionsFit (ioctls_bytes found slot command bytes)
     bytes_at found command bytes le = by_sent found (sent_new found.kind command bytes) le
@@ -371,13 +374,7 @@ module _ (s k : ℕ) where
     action_at (Some Changes) = changes_at (file_of (text_at 1 words) names.files) _ refl
     action_at (Some Poll) = polls_at (file_of (text_at 1 words) names.files) refl
     action_at (Some Close) = closes_at (file_of (text_at 1 words) names.files) refl
-    action_at (Some Detect) = tt
-    action_at (Some Info) = tt
-    action_at (Some Get) = tt
-    action_at (Some Set) = tt
-    action_at (Some Start) = tt
-    action_at (Some Step) = tt
-    action_at (Some Stop) = tt
+    action_at (Some keyword) = tt
 
   -- tools
   module _ (names : Names) (slot : ℕ) (room : open_times s names + one_if (nat_eq s slot) + one_if (nat_eq s (slot + 1)) ≤ k) where

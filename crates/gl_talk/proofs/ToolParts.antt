@@ -24,7 +24,7 @@ use Rattle.gl_script.specs.Cost.{is_bare, is_chip_option, start_cost}
 use Rattle.gl_script.specs.Cost.{cost}
 use Rattle.gl_script.specs.Table.{is_keyword, keyword_name, keyword_of}
 use Rattle.gl_script.specs.declared.table.Keyword.{Keyword}
-use Rattle.gl_script.specs.declared.table.Keyword.TheVariants.{Probe, Unplug, MakeDir, RemoveDir, Write, Read, Clock, Fault, Accept, Pin, Irq, Open, Ioctl, Events, OldIoctl, OldEvents, Changes, Poll, Close, Detect, Info, Get, Set, Start, Step, Stop}
+use Rattle.gl_script.specs.declared.table.Keyword.TheVariants.{Detect, Info, Get, Set}
 use Rattle.gl_script.specs.declared.table.TheConstants.{KEYWORDS}
 use Rattle.gl_talk.specs.declared.tools.StatementKind.TheVariants.{ToolAlone}
 use Rattle.gl_talk.specs.ToolWords.{kind_of, word_texts}
@@ -73,44 +73,28 @@ detect_fits first words tool None s h = cc
 detect_fits first words (SaidDetect names) (Some items) s h =
     detect_if (length names) (length words) (is_bare words) (few first words (SaidDetect names) h)
     (λ e. same_bare words ∙ bare_tool first.text (word_texts words) (SaidDetect names) h e) (bare_short words)
-detect_fits first words (SaidInfo opts) (Some items) s h = cc
-detect_fits first words (SaidGet opts) (Some items) s h = cc
-detect_fits first words (SaidSet opts) (Some items) s h = cc
-detect_fits first words (SaidWatch opts) (Some items) s h = cc
-detect_fits first words (SaidNotify opts) (Some items) s h = cc
+detect_fits first words tool (Some items) s h = cc
 
 info_fits : (first : Span) (words : List Span) (tool : SaidTool) (items : Option (List Item)) → tool_of InfoName items ≡ Some tool → tool_said (word_texts (first ∷ words)) ≡ Some tool
     → tool_cost tool ≤ cond (list_any is_chip_option words) (LINES_MAX + 3) (PLACES * (LINES_MAX + 3))
 info_fits first words tool None s h = cc
 info_fits first words (SaidInfo opts) (Some items) s h =
     info_if opts.chip (list_any is_chip_option words) (λ e. chip_info first.text (word_texts words) (SaidInfo opts) h tt (sym (same_any words) ∙ e))
-info_fits first words (SaidDetect names) (Some items) s h = cc
-info_fits first words (SaidGet opts) (Some items) s h = cc
-info_fits first words (SaidSet opts) (Some items) s h = cc
-info_fits first words (SaidWatch opts) (Some items) s h = cc
-info_fits first words (SaidNotify opts) (Some items) s h = cc
+info_fits first words tool (Some items) s h = cc
 
 get_fits : (first : Span) (words : List Span) (tool : SaidTool) (items : Option (List Item)) → tool_of GetName items ≡ Some tool → tool_said (word_texts (first ∷ words)) ≡ Some tool
     → tool_cost tool ≤ length words + 7
 get_fits first words tool None s h = cc
 get_fits first words (SaidGet opts) (Some items) s h =
     omega (arith, few first words (SaidGet opts) h)
-get_fits first words (SaidDetect names) (Some items) s h = cc
-get_fits first words (SaidInfo opts) (Some items) s h = cc
-get_fits first words (SaidSet opts) (Some items) s h = cc
-get_fits first words (SaidWatch opts) (Some items) s h = cc
-get_fits first words (SaidNotify opts) (Some items) s h = cc
+get_fits first words tool (Some items) s h = cc
 
 set_fits : (first : Span) (words : List Span) (tool : SaidTool) (items : Option (List Item)) → tool_of SetName items ≡ Some tool → tool_said (word_texts (first ∷ words)) ≡ Some tool
     → tool_cost tool ≤ length words + 5
 set_fits first words tool None s h = cc
 set_fits first words (SaidSet opts) (Some items) s h =
     omega (arith, few first words (SaidSet opts) h)
-set_fits first words (SaidDetect names) (Some items) s h = cc
-set_fits first words (SaidInfo opts) (Some items) s h = cc
-set_fits first words (SaidGet opts) (Some items) s h = cc
-set_fits first words (SaidWatch opts) (Some items) s h = cc
-set_fits first words (SaidNotify opts) (Some items) s h = cc
+set_fits first words tool (Some items) s h = cc
 
 -- what a search finds passes the test
 found_if : {X : Type 0} (test : X → Bool) (b : Bool) (x k : X) (rest : Option X) → b ≡ test x → (rest ≡ Some k → test k ≡ true) → cond b (Some x) rest ≡ Some k → test k ≡ true
@@ -136,28 +120,7 @@ tool_fits Detect first words tool e t h = detect_fits first words tool _ (subst 
 tool_fits Info first words tool e t h = info_fits first words tool _ (subst (λ text. tool_said (text ∷ word_texts words) ≡ Some tool) (keyword_word first.text Info e) h) h
 tool_fits Get first words tool e t h = get_fits first words tool _ (subst (λ text. tool_said (text ∷ word_texts words) ≡ Some tool) (keyword_word first.text Get e) h) h
 tool_fits Set first words tool e t h = set_fits first words tool _ (subst (λ text. tool_said (text ∷ word_texts words) ≡ Some tool) (keyword_word first.text Set e) h) h
-tool_fits Probe first words tool e t h = cc
-tool_fits Unplug first words tool e t h = cc
-tool_fits MakeDir first words tool e t h = cc
-tool_fits RemoveDir first words tool e t h = cc
-tool_fits Write first words tool e t h = cc
-tool_fits Read first words tool e t h = cc
-tool_fits Clock first words tool e t h = cc
-tool_fits Fault first words tool e t h = cc
-tool_fits Accept first words tool e t h = cc
-tool_fits Pin first words tool e t h = cc
-tool_fits Irq first words tool e t h = cc
-tool_fits Open first words tool e t h = cc
-tool_fits Ioctl first words tool e t h = cc
-tool_fits Events first words tool e t h = cc
-tool_fits OldIoctl first words tool e t h = cc
-tool_fits OldEvents first words tool e t h = cc
-tool_fits Changes first words tool e t h = cc
-tool_fits Poll first words tool e t h = cc
-tool_fits Close first words tool e t h = cc
-tool_fits Start first words tool e t h = cc
-tool_fits Step first words tool e t h = cc
-tool_fits Stop first words tool e t h = cc
+tool_fits keyword first words tool e t h = cc
 
 -- a tool that is started costs what its words say: `first` is the tool's name, and `count` words stand after it
 module _ (text : List ℕ) (count : ℕ) where

@@ -18,16 +18,16 @@ use Rattle.gl_script.specs.Forms.{number_within, within}
 use Rattle.gl_script.specs.Said.{ArePins, AreValues, Spells, chip_of, irq_name, keyword_said, pin_name, small_of}
 use Rattle.gl_script.specs.Table.{keyword_of}
 use Rattle.gl_script.specs.declared.said.Said.{Said}
-use Rattle.gl_script.specs.declared.said.Said.TheVariants.{Probe, Unplug, MakeDir, RemoveDir, Write, Read, Clock, Fault, Accept, Pin, Irq, Open, Ioctl, Events, OldIoctl, OldEvents, Changes, Poll, Close, Detect, Info, Get, Set, Start, Step, Stop}
+use Rattle.gl_script.specs.declared.said.Said.TheVariants.{Probe, Unplug, Clock, Fault, Accept, Pin, Irq, Ioctl, Events, OldIoctl, OldEvents, Changes, Step}
 use Rattle.gl_script.specs.Cost.{or_zero}
 use Rattle.gl_v1.specs.Words.{makes_file, old_number_of}
 use Rattle.gl_talk.specs.declared.actions.Action.TheVariants.{Nothing, Ask}
 use Rattle.gl_talk.specs.declared.actions.ResultFormat.TheVariants.{Silent, Edges, Infos, OldEdges}
 use Rattle.gl_talk.specs.declared.tools.StatementKind.TheVariants.{Plain, Stepping}
-use Rattle.gl_talk.specs.Actions.{action_of, ioctls, old_ioctls, pin_said, reads_file, small_word, takes_name, unplugs}
+use Rattle.gl_talk.specs.Actions.{action_of, ioctls, old_ioctls, pin_asked, reads_file, small_word, takes_name, unplugs}
 use Rattle.gl_talk.specs.Old.{old_command_word, takes_old_name}
 use Rattle.gl_talk.specs.Open.{File, file_of, is_chip, is_old_event, is_request}
-use Rattle.gl_talk.specs.SaidActions.{StatementsAskWhatTheySay, action_said, ioctls_said, old_ioctls_said, takes, turns_said}
+use Rattle.gl_talk.specs.SaidActions.{StatementsAskWhatTheySay, action_said, ioctls_said, old_ioctls_said, takes}
 use Rattle.gl_talk.specs.ToolWords.{kind_of}
 use Rattle.gl_talk.specs.Words.{behind_three, bytes_said, command_word, irq_word, name_word, number_word, or_else, place_of, place_word, turns_word}
 
@@ -80,7 +80,7 @@ pin_itself (Range offset pin count) words is =
 pin_itself (Hold pin) words is = ap (λ (n : ℕ). Hold n) (small_is (text_at 3 words) pin is)
 pin_itself (Release pin) words is = ap (λ (n : ℕ). Release n) (small_is (text_at 3 words) pin is)
 
-pin_is : (what : PinDo) (words : List Span) → pin_name what ≡ text_at 1 words → ArePins what words → pin_said words ≡ what
+pin_is : (what : PinDo) (words : List Span) → pin_name what ≡ text_at 1 words → ArePins what words → pin_asked words ≡ what
 pin_is what words is each = subst (λ (w : List ℕ). pin_by w words ≡ what) is (pin_itself what words each)
 
 -- a command with its number
@@ -108,37 +108,24 @@ old_command_is words files slot command is =
 row_is : (said : Said) (words : List Span) (files : List File) (slot : ℕ) → AreValues said words → action_of (Some (keyword_said said)) files slot words ≡ action_said said files slot words
 row_is (Probe lines) words files slot is = ap (λ (n : ℕ). Ask (DoProbe (name_word (text_at 1 words)) n) Silent) (number_is 1 LINES_MAX (text_at 2 words) lines is)
 row_is (Unplug chip) words files slot is = ap (λ (n : ℕ). unplugs n) (place_is (text_at 1 words) chip is)
-row_is MakeDir words files slot is = refl
-row_is RemoveDir words files slot is = refl
-row_is Write words files slot is = refl
-row_is Read words files slot is = refl
 row_is (Clock mono real) words files slot is =
     ap (λ (n : ℕ). Ask (DoTick n (number_word 0 0xFFFFFFFFFFFFFFFF (text_at 2 words))) Silent) (number_is 0 0xFFFFFFFFFFFFFFFF (text_at 1 words) mono is.0)
     ∙ ap (λ (n : ℕ). Ask (DoTick mono n) Silent) (number_is 0 0xFFFFFFFFFFFFFFFF (text_at 2 words) real is.1)
 row_is (Fault nth) words files slot is = ap (λ (n : ℕ). Ask (DoPlan n) Silent) (number_is 1 1000000 (text_at 1 words) nth is)
 row_is (Accept bits) words files slot is = ap (λ (n : ℕ). Ask (DoAccept n) Silent) (number_is 0 0xFFFFFFFFFFFFFFFF (text_at 1 words) bits is)
 row_is (Pin chip what) words files slot is =
-    ap (λ (n : ℕ). Ask (DoPin n (pin_said words)) Silent) (place_is (text_at 2 words) chip is.1)
+    ap (λ (n : ℕ). Ask (DoPin n (pin_asked words)) Silent) (place_is (text_at 2 words) chip is.1)
     ∙ ap (λ (w : PinDo). Ask (DoPin chip w) Silent) (pin_is what words is.0 is.2)
 row_is (Irq what chip offset) words files slot is =
     ap (λ (n : ℕ). Ask (DoIrq n (small_word (text_at 3 words)) (irq_word (text_at 1 words))) Silent) (place_is (text_at 2 words) chip is.1)
     ∙ ap (λ (n : ℕ). Ask (DoIrq chip n (irq_word (text_at 1 words))) Silent) (small_is (text_at 3 words) offset is.2)
     ∙ ap (λ (w : IrqDo). Ask (DoIrq chip offset w) Silent) (irq_is (text_at 1 words) what is.0)
-row_is Open words files slot is = refl
 row_is (Ioctl command) words files slot is = command_is words files slot command is
 row_is (Events len) words files slot is = ap (λ (n : ℕ). reads_file (file_of (text_at 1 words) files) is_request n Edges) (number_is 0 49152 (text_at 2 words) len is)
 row_is (OldIoctl command) words files slot is = old_command_is words files slot command is
 row_is (OldEvents len) words files slot is = ap (λ (n : ℕ). reads_file (file_of (text_at 1 words) files) is_old_event (48 * (n / 16)) OldEdges) (number_is 0 16384 (text_at 2 words) len is)
 row_is (Changes len) words files slot is = ap (λ (n : ℕ). reads_file (file_of (text_at 1 words) files) is_chip n Infos) (number_is 0 9216 (text_at 2 words) len is)
-row_is Poll words files slot is = refl
-row_is Close words files slot is = refl
-row_is Detect words files slot is = refl
-row_is Info words files slot is = refl
-row_is Get words files slot is = refl
-row_is Set words files slot is = refl
-row_is Start words files slot is = refl
-row_is (Step turns) words files slot is = refl
-row_is Stop words files slot is = refl
+row_is said words files slot is = refl
 
 pub statements_ask_what_they_say : StatementsAskWhatTheySay
 statements_ask_what_they_say said words files slot spelled =
@@ -155,36 +142,11 @@ pub kind_is : (words : List Span) (said : Said) → Spells words said → kind_o
 kind_is words said spelled = ap (λ o. kind_of o) spelled.keyword
 
 -- the turns of a step
-turns_at : (said : Said) (words : List Span) → kind_of (Some (keyword_said said)) ≡ Stepping → AreValues said words → turns_said said ≡ turns_word (text_at 2 words)
-turns_at (Step turns) words k is = sym (ap (λ (o : Option ℕ). or_zero o) is)
-turns_at (Probe lines) words k is = cc
-turns_at (Unplug chip) words k is = cc
-turns_at MakeDir words k is = cc
-turns_at RemoveDir words k is = cc
-turns_at Write words k is = cc
-turns_at Read words k is = cc
-turns_at (Clock mono real) words k is = cc
-turns_at (Fault nth) words k is = cc
-turns_at (Accept bits) words k is = cc
-turns_at (Pin chip what) words k is = cc
-turns_at (Irq what chip offset) words k is = cc
-turns_at Open words k is = cc
-turns_at (Ioctl command) words k is = cc
-turns_at (Events len) words k is = cc
-turns_at (OldIoctl command) words k is = cc
-turns_at (OldEvents len) words k is = cc
-turns_at (Changes len) words k is = cc
-turns_at Poll words k is = cc
-turns_at Close words k is = cc
-turns_at Detect words k is = cc
-turns_at Info words k is = cc
-turns_at Get words k is = cc
-turns_at Set words k is = cc
-turns_at Start words k is = cc
-turns_at Stop words k is = cc
+pub turns_are : (words : List Span) (said : Said) (turns : ℕ) → said ≡ Step turns → Spells words said → turns ≡ turns_word (text_at 2 words)
+turns_are words said turns is spelled = sym (ap (λ (o : Option ℕ). or_zero o) (subst (λ (s : Said). AreValues s words) is spelled.each))
 
-pub turns_are : (words : List Span) (said : Said) → Spells words said → kind_of (keyword_of (text_at 0 words)) ≡ Stepping → turns_said said ≡ turns_word (text_at 2 words)
-turns_are words said spelled k = turns_at said words (sym (kind_is words said spelled) ∙ k) spelled.each
+not_stepping : Plain ≡ Stepping → ⊥
+not_stepping e = cc
 
-pub no_turns : (line : List ℕ) → line ≡ [] → 0 ≡ turns_word (text_at 2 (columns line))
-no_turns line none = subst (λ (l : List ℕ). 0 ≡ turns_word (text_at 2 (columns l))) (sym none) refl
+pub no_step : (line : List ℕ) → line ≡ [] → kind_of (keyword_of (text_at 0 (columns line))) ≡ Stepping → ⊥
+no_step line none is = not_stepping (sym (plain_kind line none) ∙ is)

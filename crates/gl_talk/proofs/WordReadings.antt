@@ -1,23 +1,17 @@
 -- Words that are of their forms are read as what they are.
-use Rattle.std.proofs.Common.{◌≡◌, ℕ, zero, suc, Bool, true, false, cond, ◌&&◌, ◌||◌, List, [], ◌∷◌, length, Option, None, Some, refl, sym, subst, arith}
+use Rattle.std.proofs.Common.{◌≡◌, ℕ, zero, suc, Bool, true, false, cond, ◌&&◌, ◌||◌, List, [], ◌∷◌, length, refl, sym, subst, arith}
 use Rattle.std.specs.Prelude.{nat_le, codes}
 use Rattle.std.specs.List.{list_all}
 use Rattle.std.specs.Str.{bytes_eq}
 use Rattle.std.proofs.lemmas.Bool.Decides.{nat_tests}
 use Rattle.std.proofs.lemmas.Slice.Eq.{bytes_eq-Decides}
 use Rattle.gl_args.specs.Names.{tool_named}
-use Rattle.gl_base.specs.CommandWord.{command_number_of}
 use Rattle.gl_base.specs.Label.{is_label_byte}
 use Rattle.gl_base.specs.Name.{is_name, is_nonzero}
 use Rattle.gl_base.specs.Path.{is_path}
-use Rattle.gl_base.specs.Words.{is_nonempty, text_at}
-use Rattle.gl_base.specs.declared.irq.IrqDo.TheVariants.{Lock, Unlock, Enable, Disable, Never}
-use Rattle.gl_base.specs.declared.pin.PinDo.TheVariants.{Range, Hold, Release}
-use Rattle.gl_script.specs.Forms.{is_path_byte, is_there, number_within}
-use Rattle.gl_v1.specs.Words.{old_number_of}
-use Rattle.gl_talk.specs.Actions.{small_word}
-use Rattle.gl_talk.specs.Readings.{CanStart, CommandsAreRead, HeldToolsAreRead, IrqsAreRead, LabelsAreRead, NamesAreRead, NumbersAreRead, OldCommandsAreRead, PathsAreRead, PinsAreRead, WordsAreRead, irq_name, pin_name}
-use Rattle.gl_talk.specs.Words.{or_else}
+use Rattle.gl_base.specs.Words.{is_nonempty}
+use Rattle.gl_script.specs.Forms.{is_path_byte}
+use Rattle.gl_talk.specs.Readings.{CanStart, HeldToolsAreRead, LabelsAreRead, NamesAreRead, PathsAreRead, WordsAreRead}
 
 both : (a b : Bool) → (a && b) ≡ true → (a ≡ true) × (b ≡ true)
 both true b e = (refl, e)
@@ -64,48 +58,8 @@ paths_are_read word e =
 pub words_are_read : WordsAreRead
 words_are_read word e = itself (is_path word) word e
 
-there_or : (other : ℕ) (o : Option ℕ) → is_there o ≡ true → o ≡ Some (or_else other o)
-there_or other None e = cc
-there_or other (Some n) e = refl
-
-pub numbers_are_read : NumbersAreRead
-numbers_are_read low high word e = there_or low (number_within low high word) e
-
-pub commands_are_read : CommandsAreRead
-commands_are_read word e = there_or 0 (command_number_of word) e
-
-pub old_commands_are_read : OldCommandsAreRead
-old_commands_are_read word e = there_or 0 (old_number_of word) e
-
 same : (word text : List ℕ) → bytes_eq word text ≡ true → text ≡ word
 same word text e = sym ((bytes_eq-Decides word text).0 e)
-
-irq_by : (word : List ℕ) (a b c d e : Bool) → (a ≡ true → codes "lock" ≡ word) → (b ≡ true → codes "unlock" ≡ word) → (c ≡ true → codes "enable" ≡ word) → (d ≡ true → codes "disable" ≡ word)
-    → (e ≡ true → codes "none" ≡ word) → (a || (b || (c || (d || (e || false))))) ≡ true → irq_name (cond a Lock (cond b Unlock (cond c Enable (cond d Disable Never)))) ≡ word
-irq_by word true b c d e p q r s t any = p refl
-irq_by word false true c d e p q r s t any = q refl
-irq_by word false false true d e p q r s t any = r refl
-irq_by word false false false true e p q r s t any = s refl
-irq_by word false false false false true p q r s t any = t refl
-irq_by word false false false false false p q r s t any = cc
-
-pub irqs_are_read : IrqsAreRead
-irqs_are_read word any =
-    irq_by word (bytes_eq word (codes "lock")) (bytes_eq word (codes "unlock")) (bytes_eq word (codes "enable")) (bytes_eq word (codes "disable")) (bytes_eq word (codes "none"))
-    (same word (codes "lock")) (same word (codes "unlock")) (same word (codes "enable")) (same word (codes "disable")) (same word (codes "none")) any
-
-pin_by : (word : List ℕ) (offset pin count : ℕ) (a b c : Bool) → (a ≡ true → codes "range" ≡ word) → (b ≡ true → codes "hold" ≡ word) → (c ≡ true → codes "drop" ≡ word)
-    → (a || (b || (c || false))) ≡ true → pin_name (cond a (Range offset pin count) (cond b (Hold offset) (Release offset))) ≡ word
-pin_by word offset pin count true b c p q r any = p refl
-pin_by word offset pin count false true c p q r any = q refl
-pin_by word offset pin count false false true p q r any = r refl
-pin_by word offset pin count false false false p q r any = cc
-
-pub pins_are_read : PinsAreRead
-pins_are_read words any =
-    let word = text_at 1 words in
-    pin_by word (small_word (text_at 3 words)) (small_word (text_at 4 words)) (small_word (text_at 5 words)) (bytes_eq word (codes "range")) (bytes_eq word (codes "hold")) (bytes_eq word (codes "drop"))
-    (same word (codes "range")) (same word (codes "hold")) (same word (codes "drop")) any
 
 starts_by : (word : List ℕ) (a b c : Bool) → (a ≡ true → codes "gpioset" ≡ word) → (b ≡ true → codes "gpiomon" ≡ word) → (c ≡ true → codes "gpionotify" ≡ word)
     → (a || (b || (c || false))) ≡ true → CanStart (tool_named word)

@@ -48,14 +48,14 @@ abbrev pub unplugs : ℕ → Action
 unplugs place = Ask (DoUnplug place) Silent
 
 -- `pin range CHIP N N N`, `pin hold CHIP N`, `pin drop CHIP N`
-abbrev pub pin_said : List Span → PinDo
-pin_said words =
+abbrev pub pin_asked : List Span → PinDo
+pin_asked words =
     if bytes_eq (text_at 1 words) (codes "range") then Range (small_word (text_at 3 words)) (small_word (text_at 4 words)) (small_word (text_at 5 words))
     else if bytes_eq (text_at 1 words) (codes "hold") then Hold (small_word (text_at 3 words))
     else Release (small_word (text_at 3 words))
 
 abbrev pub pins : ℕ → List Span → Action
-pins place words = Ask (DoPin place (pin_said words)) Silent
+pins place words = Ask (DoPin place (pin_asked words)) Silent
 
 -- `irq lock CHIP N`
 abbrev pub irqs : ℕ → List Span → Action
@@ -95,10 +95,10 @@ opens false slot word = Ask (DoOpenChip slot (path_word word)) Opened
 abbrev pub command_reply : ℕ → ResultFormat
 command_reply number =
     if number == GET_LINE then Made
-    else if number == GET_CHIPINFO then Bytes
-    else if number == GET_LINEINFO then Bytes
-    else if number == GET_LINEINFO_WATCH then Bytes
-    else if number == LINE_GET_VALUES then Bytes
+    else if number == GET_CHIPINFO then Bytes number
+    else if number == GET_LINEINFO then Bytes number
+    else if number == GET_LINEINFO_WATCH then Bytes number
+    else if number == LINE_GET_VALUES then Bytes number
     else Silent
 
 -- the name after `as` is one that the actor has
@@ -122,7 +122,7 @@ ioctls (Some file) taken slot words =
 -- `ioctl1 NAME COMMAND PIECES.. [as NAME]`
 abbrev pub old_ioctls_bytes : File → ℕ → ℕ → List ℕ → Action
 old_ioctls_bytes file slot command bytes =
-    asks_for file slot (sent_old file.kind command bytes) (old_reply file.kind (sent_old file.kind command bytes).cmd)
+    asks_for file slot (sent_old file.kind command bytes) (old_reply file.kind command bytes (sent_old file.kind command bytes).cmd)
 
 abbrev pub old_ioctls : Option File → Bool → ℕ → List Span → Action
 old_ioctls None taken slot words = Refuse BadF

@@ -1,6 +1,6 @@
 -- What a statement that is no tool's asks of the device, by what it says: as `action_of`, with no number, command or word of an
 -- interrupt read again. This project's choice.
-use Rattle.std.specs.Prelude.{◌≡◌, ℕ, ◌*◌, ◌/◌, Bool, ◌&&◌, ◌==◌, if◌then◌else◌, List, is_some, Option, Some, None}
+use Rattle.std.specs.Prelude.{◌≡◌, ℕ, ◌*◌, ◌/◌, Bool, true, false, ◌&&◌, ◌==◌, if◌then◌else◌, List, is_some, Option, Some, None}
 use Rattle.gl_base.specs.Words.{Span, text_at}
 use Rattle.gl_base.specs.declared.command.TheConstants.{GET_LINE}
 use Rattle.gl_base.specs.declared.errno.Errno.TheVariants.{BadF, Exist}
@@ -29,6 +29,12 @@ ioctls_said (Some file) taken slot command bytes = if taken then Refuse Exist el
 abbrev pub old_ioctls_said : Option File → Bool → ℕ → ℕ → List ℕ → Action
 old_ioctls_said None taken slot command bytes = Refuse BadF
 old_ioctls_said (Some file) taken slot command bytes = if taken then Refuse Exist else old_ioctls_bytes file slot command bytes
+
+-- a statement is a command, whose bytes are read from its pieces
+abbrev pub is_command : Said → Bool
+is_command (Ioctl command) = true
+is_command (OldIoctl command) = true
+is_command _ = false
 
 -- one row a statement; those of tools have none here
 abbrev pub action_said : Said → List File → ℕ → List Span → Action
@@ -62,8 +68,3 @@ action_said Stop files slot words = Nothing
 -- A statement asks what it says: its words are read as nothing else, and no default is taken in a word's place.
 abbrev pub StatementsAskWhatTheySay : Type 0
 StatementsAskWhatTheySay = (said : Said) (words : List Span) (files : List File) (slot : ℕ) → Spells words said → action_of (keyword_of (text_at 0 words)) files slot words ≡ action_said said files slot words
-
--- how many turns a step has; no other statement has any
-abbrev pub turns_said : Said → ℕ
-turns_said (Step turns) = turns
-turns_said _ = 0

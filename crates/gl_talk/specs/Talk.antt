@@ -32,12 +32,12 @@ use Rattle.gl_talk.specs.declared.tools.StatementKind.{StatementKind}
 use Rattle.gl_talk.specs.declared.tools.StatementKind.TheVariants.{Plain, ToolAlone, Starting, Stepping, Stopping}
 use Rattle.gl_talk.specs.declared.files.TalkFileKind.{TalkFileKind}
 use Rattle.gl_talk.specs.declared.files.TalkFileKind.TheVariants.{Chip, Request}
-use Rattle.gl_talk.specs.Old.{made_kind, old_command_word, old_edges_text, old_structure_text}
+use Rattle.gl_talk.specs.Old.{old_edges_text, old_structure_text}
 use Rattle.gl_talk.specs.Open.{File, Names, no_names, file_in, set_in, monitor_in, has_tool, held_of_name, watched_of_name, with_file, without_file, with_set, with_monitor, without_set, without_monitor, slots_in_order}
 use Rattle.gl_talk.specs.Actions.{action_of}
 use Rattle.gl_talk.specs.Replies.{number_of, text_of, level_text, ready_text, structure_text, fd_text, edges_text, infos_text}
 use Rattle.gl_talk.specs.ToolWords.{kind_of, usage_text, word_texts}
-use Rattle.gl_talk.specs.Words.{behind_three, behind_two, bytes_said, command_word, made_name, name_word, turns_word}
+use Rattle.gl_talk.specs.Words.{behind_three, behind_two, bytes_said, made_name, name_word, turns_word}
 
 -- a statement gives the names after it
 abbrev pub Does : Type 0
@@ -60,18 +60,17 @@ abbrev pub told : ResultFormat → Names → ℕ → List Span → Got → Does
 told Silent names slot words got = done names
 told Value names slot words got = shows (line (text_of got)) names
 told (Level is_pull) names slot words got = shows (line (level_text is_pull (number_of got))) names
-told Bytes names slot words got = shows (structure_text (command_word (text_at 2 words)) (bytes_of got)) names
+told (Bytes command) names slot words got = shows (structure_text command (bytes_of got)) names
 told Edges names slot words got = shows (edges_text (bytes_of got)) names
 told Infos names slot words got = shows (infos_text (bytes_of got)) names
 told Ready names slot words got = shows (line (ready_text (ready_of got))) names
 told Opened names slot words got = done (with_file (file (text_at 1 words) slot Chip) names)
 told Closed names slot words got = done (without_file (text_at 1 words) names)
 told Made names slot words got = shows (fd_text (bytes_of got)) (with_file (file (made_name words) slot Request) names)
-told (OldBytes kind) names slot words got =
-    shows (old_structure_text kind (old_command_word (text_at 2 words)) (bytes_said (behind_three words)) (bytes_of got)) names
+told (OldBytes kind command) names slot words got =
+    shows (old_structure_text kind command (bytes_said (behind_three words)) (bytes_of got)) names
 told OldEdges names slot words got = shows (old_edges_text (bytes_of got)) names
-told OldMade names slot words got =
-    shows (fd_text (bytes_of got)) (with_file (file (made_name words) slot (made_kind (old_command_word (text_at 2 words)) (bytes_said (behind_three words)))) names)
+told (OldMade kind) names slot words got = shows (fd_text (bytes_of got)) (with_file (file (made_name words) slot kind) names)
 
 abbrev pub replied_by : Option Errno → ResultFormat → Names → ℕ → List Span → Got → Does
 replied_by (Some errno) reply names slot words got = refused errno names

@@ -1,5 +1,9 @@
 //! What a statement that is no tool's asks of the device.
-ghost use Rattle.std.specs.Prelude.{◌≡◌, ◌==◌, ◌*◌, ◌/◌, ◌<◌, ◌≤◌, map, is_some, Some, option_map, option_copied, IfOk, IfSome, IsOkUnless, true, false};
+//!
+//! An action has some 600 bytes, and a function begins by zeroing each value of that size that any of its branches makes. So a branch
+//! that makes an action is a function.
+
+ghost use Rattle.std.specs.Prelude.{◌≡◌, ◌==◌, ◌*◌, ◌/◌, ◌<◌, ◌≤◌, map, is_some, Some, Ok, option_map, option_copied, IfOk, IfSome, IsOkUnless, true, false};
 ghost use Rattle.gl_base.specs.Words.{text_at};
 ghost use Rattle.gl_base.specs.declared.command.TheConstants.{GET_LINE};
 ghost use Rattle.gl_script.specs.Columns.{columns};
@@ -7,17 +11,17 @@ ghost use Rattle.gl_script.specs.Table.{keyword_of};
 ghost use Rattle.gl_v1.specs.Words.{makes_file};
 ghost use Rattle.gl_talk.specs.Open.{file_in, file_of, is_chip, is_old_event, is_request};
 ghost use Rattle.gl_talk.specs.Paths.{line_file, live_device};
-ghost use Rattle.gl_talk.specs.Actions.{asks_for, closes, command_reply, ioctls_bytes, lives, old_ioctls_bytes, opens, action_of, polls, pulls, read_if, reads, reads_file, writes, writes_line, writes_tree};
-ghost use Rattle.gl_talk.specs.SaidActions.{action_said, ioctls_said, old_ioctls_said, takes};
-ghost use Rattle.gl_talk.specs.Words.{behind_three, bytes_said, name_word};
+ghost use Rattle.gl_talk.specs.Actions.{asks_for, closes, command_reply, ioctls_bytes, lives, old_ioctls_bytes, opens, action_of, polls, pulls, read_if, reads, reads_file, unplugs, writes, writes_line, writes_tree};
+ghost use Rattle.gl_talk.specs.SaidActions.{action_said, ioctls_said, is_command, old_ioctls_said, takes};
+ghost use Rattle.gl_talk.specs.Words.{behind_three, bytes_said, name_word, path_word};
 
 use crate::copied::CopiedStatement;
-use crate::files::{TalkFile, file_of, has_file, is_chip, is_old_event, is_request};
+use crate::files::{TalkFile, TalkFileKind, file_of, has_file, is_chip, is_old_event, is_request};
 use crate::old::{old_reply, sent_new, sent_old};
 use crate::paths::{LineFile, line_file, live_device};
 use crate::words::{bytes_said, live_word, made_name, name_word, path_word, pull_word, word};
 use gl_base::command::{GET_CHIPINFO, GET_LINE, GET_LINEINFO, GET_LINEINFO_WATCH, LINE_GET_VALUES};
-use gl_base::{Do, Errno};
+use gl_base::{Do, Errno, IrqDo, PinDo};
 use gl_script::Said;
 use gl_v1::{KindV1, Sent};
 use std::alloc::Global;
@@ -31,8 +35,8 @@ pub enum ResultFormat {
     Value,
     /// A line's value, or its pull.
     Level(bool),
-    /// The bytes of a command's structure.
-    Bytes,
+    /// The bytes of the structure of the command with this number.
+    Bytes(u32),
     /// The edges that were read, a line each.
     Edges,
     /// The changes that were read, a line each.
@@ -45,12 +49,17 @@ pub enum ResultFormat {
     Closed,
     /// `fd N`; the request has the name after `as`.
     Made,
-    /// The bytes of a structure of the first uAPI, on a file of this kind.
-    OldBytes(KindV1),
+    /// The bytes of the structure of a command of the first uAPI.
+    OldBytes {
+        /// The kind of the file.
+        kind: KindV1,
+        /// The command's number in the first uAPI.
+        command: u32,
+    },
     /// The edges that were read, a line each, as the first uAPI has them.
     OldEdges,
-    /// `fd N`; the file of the first uAPI has the name after `as`.
-    OldMade,
+    /// `fd N`; the file of the first uAPI, of this kind, has the name after `as`.
+    OldMade(TalkFileKind),
 }
 
 /// What a statement does first.
@@ -80,7 +89,7 @@ pub fn action_of(
     }
 }
 
-/// What a statement that says this does first: one row a statement.
+/// What a statement that says this does first.
 fn action_said(
     alloc: Global,
     said: Said,
@@ -92,52 +101,106 @@ fn action_said(
     ensures memory_alone { IsOkUnless result Errno.NoMemory }
 {
     match said {
-        Said::Probe { lines } => Ok(probes(word(1, line), lines)),
-        Said::Unplug { chip } => Ok(Action::Ask(Do::Unplug { place: chip }, ResultFormat::Silent)),
-        Said::MakeDir => Ok(Action::Ask(
-            Do::MakeDir(path_word(word(1, line))),
-            ResultFormat::Silent,
-        )),
-        Said::RemoveDir => Ok(Action::Ask(
-            Do::RemoveDir(path_word(word(1, line))),
-            ResultFormat::Silent,
-        )),
-        Said::Write => Ok(writes(word(1, line), word(2, line))),
-        Said::Read => Ok(reads(word(1, line))),
-        Said::Clock { mono, real } => Ok(Action::Ask(
-            Do::Tick { mono, real },
-            ResultFormat::Silent,
-        )),
-        Said::Fault { nth } => Ok(Action::Ask(Do::Plan { nth }, ResultFormat::Silent)),
-        Said::Accept { bits } => Ok(Action::Ask(Do::Accept { bits }, ResultFormat::Silent)),
-        Said::Pin { chip, what } => Ok(Action::Ask(
-            Do::Pin { place: chip, what },
-            ResultFormat::Silent,
-        )),
-        Said::Irq { what, chip, offset } => Ok(Action::Ask(
-            Do::Irq {
-                place: chip,
-                offset,
-                what,
-            },
-            ResultFormat::Silent,
-        )),
-        Said::Open => Ok(opens(has_file(files, word(1, line)), slot, word(2, line))),
         Said::Ioctl { command } => commands(alloc, files, slot, command, line),
-        Said::Events { len } => Ok(events(file_of(files, word(1, line)), len)),
         Said::OldIoctl { command } => old_commands(alloc, files, slot, command, line),
-        Said::OldEvents { len } => Ok(old_events(file_of(files, word(1, line)), len)),
-        Said::Changes { len } => Ok(changes(file_of(files, word(1, line)), len)),
-        Said::Poll => Ok(polls(file_of(files, word(1, line)))),
-        Said::Close => Ok(closes(file_of(files, word(1, line)))),
+        _ => Ok(row_said(said, files, slot, line)),
+    }
+}
+
+/// What a statement that is no command does first: one row a statement.
+fn row_said(said: Said, files: &[TalkFile], slot: u32, line: &CopiedStatement) -> Action
+    requires { is_command said ≡ false }
+    ensures { result ≡ action_said said (map file_in files.now) slot (columns line.now) }
+{
+    match said {
+        Said::Probe { lines } => probes(word(1, line), lines),
+        Said::Unplug { chip } => unplugs(chip),
+        Said::MakeDir => makes_dir(word(1, line)),
+        Said::RemoveDir => removes_dir(word(1, line)),
+        Said::Write => writes(word(1, line), word(2, line)),
+        Said::Read => reads(word(1, line)),
+        Said::Clock { mono, real } => ticks(mono, real),
+        Said::Fault { nth } => plans(nth),
+        Said::Accept { bits } => accepts(bits),
+        Said::Pin { chip, what } => pins(chip, what),
+        Said::Irq { what, chip, offset } => irqs(what, chip, offset),
+        Said::Open => opens(has_file(files, word(1, line)), slot, word(2, line)),
+        Said::Events { len } => events(file_of(files, word(1, line)), len),
+        Said::OldEvents { len } => old_events(file_of(files, word(1, line)), len),
+        Said::Changes { len } => changes(file_of(files, word(1, line)), len),
+        Said::Poll => polls(file_of(files, word(1, line))),
+        Said::Close => closes(file_of(files, word(1, line))),
         Said::Detect
         | Said::Info
         | Said::Get
         | Said::Set
         | Said::Start
         | Said::Step { .. }
-        | Said::Stop => Ok(Action::Nothing),
+        | Said::Stop => Action::Nothing,
+        Said::Ioctl { .. } | Said::OldIoctl { .. } => unreachable!(),
     }
+}
+
+fn unplugs(chip: u8) -> Action
+    ensures { result ≡ unplugs chip }
+{
+    Action::Ask(Do::Unplug { place: chip }, ResultFormat::Silent)
+}
+
+fn makes_dir(path: &[u8]) -> Action
+    ensures { result ≡ Action.Ask (Do.MakeDir (path_word path.now)) ResultFormat.Silent }
+{
+    Action::Ask(Do::MakeDir(path_word(path)), ResultFormat::Silent)
+}
+
+fn removes_dir(path: &[u8]) -> Action
+    ensures { result ≡ Action.Ask (Do.RemoveDir (path_word path.now)) ResultFormat.Silent }
+{
+    Action::Ask(Do::RemoveDir(path_word(path)), ResultFormat::Silent)
+}
+
+fn ticks(mono: u64, real: u64) -> Action
+    ensures { result ≡ Action.Ask (Do.Tick mono real) ResultFormat.Silent }
+{
+    Action::Ask(Do::Tick { mono, real }, ResultFormat::Silent)
+}
+
+fn plans(nth: u32) -> Action
+    ensures { result ≡ Action.Ask (Do.Plan nth) ResultFormat.Silent }
+{
+    Action::Ask(Do::Plan { nth }, ResultFormat::Silent)
+}
+
+fn accepts(bits: u64) -> Action
+    ensures { result ≡ Action.Ask (Do.Accept bits) ResultFormat.Silent }
+{
+    Action::Ask(Do::Accept { bits }, ResultFormat::Silent)
+}
+
+fn pins(place: u8, what: PinDo) -> Action
+    ensures { result ≡ Action.Ask (Do.Pin place what) ResultFormat.Silent }
+{
+    Action::Ask(Do::Pin { place, what }, ResultFormat::Silent)
+}
+
+fn irqs(what: IrqDo, place: u8, offset: u32) -> Action
+    ensures { result ≡ Action.Ask (Do.Irq place offset what) ResultFormat.Silent }
+{
+    Action::Ask(
+        Do::Irq {
+            place,
+            offset,
+            what,
+        },
+        ResultFormat::Silent,
+    )
+}
+
+/// It is refused without a call.
+fn refuses(errno: Errno) -> Action
+    ensures { result ≡ Action.Refuse errno }
+{
+    Action::Refuse(errno)
 }
 
 fn probes(label: &[u8], lines: u32) -> Action
@@ -156,16 +219,22 @@ fn reads(path: &[u8]) -> Action
     ensures { result ≡ reads (line_file path.now) path.now }
 {
     match line_file(path) {
-        Some(file) => Action::Ask(
-            Do::Level {
-                place: file.chip,
-                offset: file.offset,
-                pull: file.is_pull,
-            },
-            ResultFormat::Level(file.is_pull),
-        ),
+        Some(file) => reads_line(&file),
         None => Action::Ask(Do::Read(path_word(path)), ResultFormat::Value),
     }
+}
+
+fn reads_line(file: &LineFile) -> Action
+    ensures { result ≡ Action.Ask (Do.Level file.now.chip file.now.offset file.now.is_pull) (ResultFormat.Level file.now.is_pull) }
+{
+    Action::Ask(
+        Do::Level {
+            place: file.chip,
+            offset: file.offset,
+            pull: file.is_pull,
+        },
+        ResultFormat::Level(file.is_pull),
+    )
 }
 
 fn writes(path: &[u8], value: &[u8]) -> Action
@@ -181,7 +250,7 @@ fn writes_line(file: &LineFile, value: &[u8]) -> Action
     ensures { result ≡ writes_line file.now value.now }
 {
     if !file.is_pull {
-        return Action::Refuse(Errno::Perm);
+        return refuses(Errno::Perm);
     }
     match pull_word(value) {
         Some(up) => Action::Ask(
@@ -192,7 +261,7 @@ fn writes_line(file: &LineFile, value: &[u8]) -> Action
             },
             ResultFormat::Silent,
         ),
-        None => Action::Refuse(Errno::Inval),
+        None => refuses(Errno::Inval),
     }
 }
 
@@ -201,14 +270,20 @@ fn writes_tree(path: &[u8], value: &[u8]) -> Action
 {
     match live_device(path) {
         Some(device) => lives(device, live_word(value)),
-        None => Action::Ask(
-            Do::Write {
-                path: path_word(path),
-                value: name_word(value),
-            },
-            ResultFormat::Silent,
-        ),
+        None => writes_value(path, value),
     }
+}
+
+fn writes_value(path: &[u8], value: &[u8]) -> Action
+    ensures { result ≡ Action.Ask (Do.Write (path_word path.now) (name_word value.now)) ResultFormat.Silent }
+{
+    Action::Ask(
+        Do::Write {
+            path: path_word(path),
+            value: name_word(value),
+        },
+        ResultFormat::Silent,
+    )
 }
 
 fn lives(device: &[u8], up: Option<bool>) -> Action
@@ -222,7 +297,7 @@ fn lives(device: &[u8], up: Option<bool>) -> Action
             },
             ResultFormat::Silent,
         ),
-        None => Action::Refuse(Errno::Inval),
+        None => refuses(Errno::Inval),
     }
 }
 
@@ -230,7 +305,7 @@ fn opens(is_taken: bool, slot: u32, word: &[u8]) -> Action
     ensures { result ≡ opens is_taken slot word.now }
 {
     if is_taken {
-        return Action::Refuse(Errno::Exist);
+        return refuses(Errno::Exist);
     }
     Action::Ask(
         Do::OpenChip {
@@ -254,9 +329,17 @@ fn command_reply(number: u32) -> ResultFormat
 {
     match number {
         GET_LINE => ResultFormat::Made,
-        GET_CHIPINFO | GET_LINEINFO | GET_LINEINFO_WATCH | LINE_GET_VALUES => ResultFormat::Bytes,
+        GET_CHIPINFO | GET_LINEINFO | GET_LINEINFO_WATCH | LINE_GET_VALUES => {
+            ResultFormat::Bytes(number)
+        }
         _ => ResultFormat::Silent,
     }
+}
+
+fn refuses_command(errno: Errno) -> Result<Action, Errno>
+    ensures { result ≡ Ok (Action.Refuse errno) }
+{
+    Ok(Action::Refuse(errno))
 }
 
 fn commands(
@@ -286,10 +369,10 @@ fn ioctls(
     ensures memory_alone { IsOkUnless result Errno.NoMemory }
 {
     let Some(file) = file else {
-        return Ok(Action::Refuse(Errno::BadF));
+        return refuses_command(Errno::BadF);
     };
     if is_taken {
-        return Ok(Action::Refuse(Errno::Exist));
+        return refuses_command(Errno::Exist);
     }
     let bytes = bytes_said(alloc, line)?;
     Ok(ioctls_bytes(&file, slot, command, &bytes))
@@ -345,10 +428,10 @@ fn old_ioctls(
     ensures memory_alone { IsOkUnless result Errno.NoMemory }
 {
     let Some(file) = file else {
-        return Ok(Action::Refuse(Errno::BadF));
+        return refuses_command(Errno::BadF);
     };
     if is_taken {
-        return Ok(Action::Refuse(Errno::Exist));
+        return refuses_command(Errno::Exist);
     }
     let bytes = bytes_said(alloc, line)?;
     Ok(old_ioctls_bytes(&file, slot, command, &bytes))
@@ -358,7 +441,8 @@ fn old_ioctls_bytes(file: &TalkFile, slot: u32, command: u32, bytes: &[u8]) -> A
     ensures { result ≡ old_ioctls_bytes (file_in file.now) slot command bytes.now }
 {
     let sent = sent_old(file.kind, command, bytes);
-    asks_for(file, slot, &sent, old_reply(file.kind, sent.cmd))
+    let reply = old_reply(file.kind, command, bytes, sent.cmd);
+    asks_for(file, slot, &sent, reply)
 }
 
 fn events(file: Option<TalkFile>, len: u16) -> Action
@@ -371,7 +455,7 @@ fn events(file: Option<TalkFile>, len: u16) -> Action
             u32::from(len),
             ResultFormat::Edges,
         ),
-        None => Action::Refuse(Errno::BadF),
+        None => refuses(Errno::BadF),
     }
 }
 
@@ -385,7 +469,7 @@ fn old_events(file: Option<TalkFile>, len: u16) -> Action
             48 * (u32::from(len) / 16),
             ResultFormat::OldEdges,
         ),
-        None => Action::Refuse(Errno::BadF),
+        None => refuses(Errno::BadF),
     }
 }
 
@@ -399,7 +483,7 @@ fn changes(file: Option<TalkFile>, len: u16) -> Action
             u32::from(len),
             ResultFormat::Infos,
         ),
-        None => Action::Refuse(Errno::BadF),
+        None => refuses(Errno::BadF),
     }
 }
 
@@ -409,7 +493,7 @@ fn read_if(can_be_read: bool, slot: u32, len: u32, reply: ResultFormat) -> Actio
     if can_be_read {
         Action::Ask(Do::ReadFile { slot, len }, reply)
     } else {
-        Action::Refuse(Errno::Inval)
+        refuses(Errno::Inval)
     }
 }
 
@@ -418,7 +502,7 @@ fn polls(file: Option<TalkFile>) -> Action
 {
     match file {
         Some(file) => Action::Ask(Do::Poll { slot: file.slot }, ResultFormat::Ready),
-        None => Action::Refuse(Errno::BadF),
+        None => refuses(Errno::BadF),
     }
 }
 
@@ -427,6 +511,6 @@ fn closes(file: Option<TalkFile>) -> Action
 {
     match file {
         Some(file) => Action::Ask(Do::Close { slot: file.slot }, ResultFormat::Closed),
-        None => Action::Refuse(Errno::BadF),
+        None => refuses(Errno::BadF),
     }
 }

@@ -1,20 +1,19 @@
 //! The statements of the first uAPI: which call of v2 each makes, and how its result goes back.
 ghost use Rattle.std.specs.Prelude.{◌≡◌, ◌+◌, ◌*◌, ◌/◌, ◌<◌, ◌≤◌, ◌++◌, length, IfSome, IsSome, IfOk, OnOk, IsOkUnless};
 ghost use Rattle.gl_base.specs.BytesText.{bytes_text};
-ghost use Rattle.gl_base.specs.Words.{text_at};
 ghost use Rattle.gl_script.specs.Columns.{columns};
 ghost use Rattle.gl_uapi.specs.Fields.{stretch, zeros};
 ghost use Rattle.gl_v1.specs.Back.{back, events_back};
 ghost use Rattle.gl_v1.specs.Commands.{command_for, size_of};
 ghost use Rattle.gl_v1.specs.To.{without_bytes};
-ghost use Rattle.gl_talk.specs.Old.{first_bytes, kind_v1, made_kind, old_command_word, old_edge_line, old_edge_lines, old_edge_word, old_edges_text, old_reply, old_structure, old_structure_text, sent_new, sent_old};
+ghost use Rattle.gl_talk.specs.Old.{first_bytes, kind_v1, made_kind, old_edge_line, old_edge_lines, old_edge_word, old_edges_text, old_reply, old_structure, old_structure_text, sent_new, sent_old};
 ghost use Rattle.gl_talk.specs.Words.{behind_three, bytes_said};
 
 use crate::actions::ResultFormat;
 use crate::copied::CopiedStatement;
 use crate::files::TalkFileKind;
 use crate::replies::line_of;
-use crate::words::{bytes_said, first_bytes, word};
+use crate::words::{bytes_said, first_bytes};
 use gl_base::command::{GET_CHIPINFO, GET_LINE, GET_LINEINFO, LINE_GET_VALUES};
 use gl_base::{ByteList, Errno, put_bytes, put_decimal};
 use gl_uapi::fields::{bytes_at, u32_at, u64_at};
@@ -27,16 +26,6 @@ const READ_MAX: usize = 49_152;
 
 /// How many bytes an edge of v2 has.
 const EDGE_SIZE: usize = 48;
-
-/// The number of the command of the first uAPI that a word stands for.
-pub fn old_command_word(word: &[u8]) -> u32
-    ensures { result ≡ old_command_word word.now }
-{
-    match gl_v1::command_number(word) {
-        Some(number) => number,
-        None => 0,
-    }
-}
 
 /// No command, without bytes.
 #[tactic(auto, unfolding(gl_uapi::specs::Fields::zeros))]
@@ -84,19 +73,22 @@ fn kind_v1(kind: TalkFileKind) -> KindV1
     }
 }
 
-/// How the result of what was sent is told.
-pub fn old_reply(kind: TalkFileKind, number: u32) -> ResultFormat
-    ensures { result ≡ old_reply kind number }
+/// How the result of what was sent is told, by the command and the bytes that the statement says.
+pub fn old_reply(kind: TalkFileKind, command: u32, said: &[u8], number: u32) -> ResultFormat
+    ensures { result ≡ old_reply kind command said.now number }
 {
     match number {
-        GET_LINE => ResultFormat::OldMade,
-        GET_CHIPINFO | GET_LINEINFO | LINE_GET_VALUES => ResultFormat::OldBytes(kind_v1(kind)),
+        GET_LINE => ResultFormat::OldMade(made_kind(command, said)),
+        GET_CHIPINFO | GET_LINEINFO | LINE_GET_VALUES => ResultFormat::OldBytes {
+            kind: kind_v1(kind),
+            command,
+        },
         _ => ResultFormat::Silent,
     }
 }
 
 /// The kind of the file that is made: a handle has the lines that its request says.
-pub fn made_kind(command: u32, said: &[u8]) -> TalkFileKind
+fn made_kind(command: u32, said: &[u8]) -> TalkFileKind
     ensures { result ≡ made_kind command said.now }
 {
     if command == gl_v1::LINE_EVENT {
@@ -105,27 +97,19 @@ pub fn made_kind(command: u32, said: &[u8]) -> TalkFileKind
     TalkFileKind::Old(KindV1::Handle(u32_at(&first_bytes(said), V1_HANDLE_LINES)))
 }
 
-/// The kind of the file that a statement's command makes.
-pub fn made_kind_of(alloc: Global, line: &CopiedStatement) -> Result<TalkFileKind, Errno>
-    ensures ok { IfOk result (λ kind. kind ≡ made_kind (old_command_word (text_at 2 (columns line.now))) (bytes_said (behind_three (columns line.now)))) }
-    ensures memory_alone { IsOkUnless result Errno.NoMemory }
-{
-    let said = bytes_said(alloc, line)?;
-    Ok(made_kind(old_command_word(word(2, line)), &said))
-}
-
-/// The bytes of the structure of a statement's command, with what came back, as a line.
+/// The bytes of the structure of this command, by the bytes that its statement says, with what came back, as a line.
 pub fn old_structure_line(
     alloc: Global,
     kind: KindV1,
+    command: u32,
     line: &CopiedStatement,
     got: &[u8],
 ) -> Result<ByteList, Errno>
-    ensures ok { IfOk result (λ printed. printed ≡ old_structure_text kind (old_command_word (text_at 2 (columns line.now))) (bytes_said (behind_three (columns line.now))) got.now) }
+    ensures ok { IfOk result (λ printed. printed ≡ old_structure_text kind command (bytes_said (behind_three (columns line.now))) got.now) }
     ensures memory_alone { IsOkUnless result Errno.NoMemory }
 {
     let said = bytes_said(alloc, line)?;
-    old_structure_text(alloc, kind, old_command_word(word(2, line)), &said, got)
+    old_structure_text(alloc, kind, command, &said, got)
 }
 
 /// The bytes of a structure of the first uAPI, as a line.

@@ -8,20 +8,22 @@ ghost use Rattle.gl_script.specs.Table.{keyword_of};
 ghost use Rattle.gl_values.specs.Client.{client_left};
 ghost use Rattle.gl_talk.specs.Open.{with_file};
 ghost use Rattle.gl_talk.specs.Actions.{action_of};
+ghost use Rattle.gl_talk.specs.Replies.{fd_text};
 ghost use Rattle.gl_talk.specs.Talk.{StaysBegun, StaysLeft, acts, closes_all, does, file, left, names_in, quits, refused, replied, runs, shows, slot_in, told, words_in};
 ghost use Rattle.gl_talk.specs.ToolWords.{word_texts};
+ghost use Rattle.gl_talk.specs.Words.{made_name};
 
 use crate::actions::{Action, ResultFormat, action_of};
 use crate::closing::slots_in_order;
 use crate::files::{TalkFile, TalkFileKind, remove_file};
-use crate::old::{made_kind_of, old_edges_text, old_structure_line};
+use crate::old::{old_edges_text, old_structure_line};
 use crate::replies::{
     edges_text, fd_text, infos_text, level_text, line_of, number_of, ready_text, structure_text,
     value_line,
 };
 use crate::talk::{Stage, Talk};
 use crate::tools::{StatementKind, kind_of, tool_of, usage_text};
-use crate::words::{command_word, made_name, name_word, word};
+use crate::words::{made_name, name_word, word};
 use gl_args::ArgFault;
 use gl_base::{ByteList, Do, Errno, Got};
 use gl_client::Next;
@@ -234,22 +236,21 @@ impl Talk {
                 self.end(step);
                 return Ok(());
             }
-            ResultFormat::Made => return self.made(alloc, got.bytes(), step),
-            ResultFormat::OldMade => return self.old_made(alloc, got.bytes(), step),
-            ResultFormat::OldBytes(kind) => old_structure_line(
+            ResultFormat::Made => {
+                return self.made(alloc, TalkFileKind::Request, got.bytes(), step);
+            }
+            ResultFormat::OldMade(kind) => return self.made(alloc, kind, got.bytes(), step),
+            ResultFormat::OldBytes { kind, command } => old_structure_line(
                 alloc,
                 kind,
+                command,
                 &self.line,
                 got.bytes(),
             )?,
             ResultFormat::OldEdges => old_edges_text(alloc, got.bytes())?,
             ResultFormat::Value => value_line(alloc, got)?,
             ResultFormat::Level(is_pull) => line_of(alloc, level_text(is_pull, number_of(got)))?,
-            ResultFormat::Bytes => structure_text(
-                alloc,
-                command_word(word(2, &self.line)),
-                got.bytes(),
-            )?,
+            ResultFormat::Bytes(command) => structure_text(alloc, command, got.bytes())?,
             ResultFormat::Edges => edges_text(alloc, got.bytes())?,
             ResultFormat::Infos => infos_text(alloc, got.bytes())?,
             ResultFormat::Ready => line_of(alloc, ready_text(got.ready()))?,
@@ -276,36 +277,22 @@ impl Talk {
         Ok(())
     }
 
-    /// A request was made.
-    fn made(&mut self, alloc: Global, bytes: &[u8], step: &mut Next) -> Result<(), Errno>
+    /// A file of this kind was made: a request, or a file of the first uAPI.
+    fn made(
+        &mut self,
+        alloc: Global,
+        kind: TalkFileKind,
+        bytes: &[u8],
+        step: &mut Next,
+    ) -> Result<(), Errno>
         requires { self.old.begun ≤ 2147483647 }
-        ensures goes { OnOk result (Goes (told ResultFormat.Made (names_in self.old) (slot_in self.old) (words_in self.old) (Got.Bytes bytes.now)) step.new (left self.new)) }
+        ensures goes { OnOk result (Goes (shows (fd_text bytes.now) (with_file (file (made_name (words_in self.old)) (slot_in self.old) kind) (names_in self.old))) step.new (left self.new)) }
         ensures rests { OnOk result (MatchNext step.new (Unit {0}) (left self.new ≡ goes_on (done (names_in self.new)))) }
         ensures counted { OnOk result (self.new.begun ≡ self.old.begun) }
         ensures kept { OnErr result (StaysLeft self.old self.new) }
         ensures memory_alone { IsOkUnless result Errno.NoMemory }
     {
         let text = fd_text(alloc, bytes)?;
-        self.files.push(TalkFile {
-            name: name_word(made_name(&self.line)),
-            slot: 2 * self.begun,
-            kind: TalkFileKind::Request,
-        })?;
-        self.show(text, step);
-        Ok(())
-    }
-
-    /// A file of the first uAPI was made.
-    fn old_made(&mut self, alloc: Global, bytes: &[u8], step: &mut Next) -> Result<(), Errno>
-        requires { self.old.begun ≤ 2147483647 }
-        ensures goes { OnOk result (Goes (told ResultFormat.OldMade (names_in self.old) (slot_in self.old) (words_in self.old) (Got.Bytes bytes.now)) step.new (left self.new)) }
-        ensures rests { OnOk result (MatchNext step.new (Unit {0}) (left self.new ≡ goes_on (done (names_in self.new)))) }
-        ensures counted { OnOk result (self.new.begun ≡ self.old.begun) }
-        ensures kept { OnErr result (StaysLeft self.old self.new) }
-        ensures memory_alone { IsOkUnless result Errno.NoMemory }
-    {
-        let text = fd_text(alloc, bytes)?;
-        let kind = made_kind_of(alloc, &self.line)?;
         self.files.push(TalkFile {
             name: name_word(made_name(&self.line)),
             slot: 2 * self.begun,

@@ -7,7 +7,6 @@ ghost use Rattle.gl_base.specs.Words.{text_at, words_at};
 ghost use Rattle.gl_script.specs.Columns.{columns};
 ghost use Rattle.gl_script.specs.Said.{keyword_said};
 ghost use Rattle.gl_script.specs.Table.{keyword_of};
-ghost use Rattle.gl_talk.specs.SaidActions.{turns_said};
 ghost use Rattle.gl_talk.specs.ToolWords.{kind_of, usage_text, word_texts};
 ghost use Rattle.gl_talk.specs.Words.{behind_two, turns_word};
 
@@ -81,17 +80,18 @@ pub fn turns_of(line: &CopiedStatement) -> u32
 {
     match line.said() {
         Some(said) => turns_said(said),
-        None => 0,
+        None => unreachable!(),
     }
 }
 
-/// How many turns a step has; no other statement has any.
+/// How many turns a step has.
 fn turns_said(said: Said) -> u32
-    ensures { result ≡ turns_said said }
+    requires { kind_of (Some (keyword_said said)) ≡ StatementKind.Stepping }
+    ensures { said ≡ Said.Step result }
 {
     match said {
         Said::Step { turns } => turns,
-        _ => 0,
+        _ => unreachable!(),
     }
 }
 

@@ -3,10 +3,10 @@ ghost use Rattle.std.specs.Prelude.{◌≡◌, ◌+◌, ◌<◌, ◌≤◌, ◌^
 ghost use Rattle.gl_base.specs.Padded.{padded};
 ghost use Rattle.gl_base.specs.Words.{text_at, words_at};
 ghost use Rattle.gl_script.specs.Columns.{columns};
-ghost use Rattle.gl_talk.specs.Words.{behind_two, behind_three, bytes_said, command_word, live_word, made_name, name_behind_as, name_word, path_word, pull_word};
+ghost use Rattle.gl_talk.specs.Words.{behind_two, behind_three, bytes_said, live_word, made_name, name_behind_as, name_word, path_word, pull_word};
 
 use crate::copied::CopiedStatement;
-use gl_base::{Errno, Name, Path, command_number, next_word, put_piece};
+use gl_base::{Errno, Name, Path, next_word, put_piece};
 use gl_script::text_at;
 use std::alloc::Global;
 
@@ -34,16 +34,6 @@ pub fn path_word(word: &[u8]) -> Path
     match Path::of(word) {
         Some(path) => path,
         None => Path::of(&[]).unwrap(),
-    }
-}
-
-/// The number of the command that a word stands for, whose structure is printed.
-pub fn command_word(word: &[u8]) -> u32
-    ensures { result ≡ command_word word.now }
-{
-    match command_number(word) {
-        Some(number) => number,
-        None => 0,
     }
 }
 
