@@ -1,5 +1,5 @@
 -- Deeds that a talk passes through to its end are those of the talk, carried out.
-use Rattle.std.proofs.Common.{◌≡◌, ℕ, Bool, true, false, List, [], ◌∷◌, ◌++◌, Option, None, Some, refl, sym, ap, ◌∙◌, subst}
+use Rattle.std.proofs.Common.{◌≡◌, ℕ, Bool, true, false, List, [], ◌∷◌, ◌++◌, Option, None, Some, refl, sym, ap, ◌∙◌, subst, arith}
 use Rattle.std.specs.Prelude.{if◌then◌else◌}
 use Rattle.std.proofs.lemmas.Bool.{false≢true, true≢false}
 use Rattle.std.proofs.lemmas.List.{append_assoc, append-nil}
@@ -32,12 +32,14 @@ use Rattle.gl_asking.specs.Driving.{op_asked}
 use Rattle.gl_check.specs.One.{PlannedPort}
 use Rattle.gl_check.specs.Ports.{applies, next_answer}
 use Rattle.gl_check.specs.Seats.{Bearing, IsRefusedAt, Passes, Seat, SuitsFirst, SuitsStand, answers, called, first_inside, goes_by, is_ended, is_refusal, moved, moved_by, seat, second_of, settles}
+use Rattle.gl_check.specs.Drivers.{plain, planning}
 use Rattle.gl_check.specs.Turns.{Carried, Did, Exchange, Follows, HasMade, IsDone, Played, Said, Takes, Turn, did_by, said_by}
 use Rattle.gl_check.specs.declared.stand.Stand.{Stand}
 use Rattle.gl_check.specs.declared.stand.Stand.TheVariants.{Ended, Before, Between}
+use Rattle.gl_check.proofs.Asked.{port_asked, single_is}
 use Rattle.gl_check.proofs.Operations.{AsksOp, HasBits, asks_op, has_bits, has_call}
 use Rattle.gl_check.proofs.Order.{AreOf}
-use Rattle.gl_check.proofs.Through.{BitsBy, IsTold, accepted_port, bearing_by, called_port, files_of, guard_is, of_asked, planned_port, planned_told, poll_is, port_by, single_is, told_by_bits, told_by_call, told_by_plan}
+use Rattle.gl_check.proofs.Through.{BitsBy, IsTold, accepted_port, bearing_by, called_port, files_of, guard_is, of_asked, planned_port, planned_told, poll_is, port_by, told_by_bits, told_by_call, told_by_plan}
 
 -- an entry is its parts
 entry_is : (n : ℕ) (e : OneEntry) (call : Call) → e.actor ≡ n → e.call ≡ call → e ≡ entry n call e.reply
@@ -57,7 +59,7 @@ abbrev nothing : List OneEntry
 nothing = []
 
 abbrev exchange : Do → Bool → Option ℕ → List OneDeed → Reply → List ℕ → Exchange
-exchange what closed answer did reply wrote = record { what = what; closed = closed; answer = answer; did = did; reply = reply; wrote = wrote }
+exchange what closed answer did reply wrote = record { what = what; closed = closed; answer = answer; own = []; did = did; reply = reply; wrote = wrote }
 
 -- the files stay after the second entry
 pub same_files : (next : Call) (b : Bearing) → b.files ≡ (called next b).files
@@ -86,8 +88,8 @@ same_files (Close fd) b = refl
 same_files (RefusedCall place poll) b = refl
 
 module _ (n : ℕ) where
-  pub follows_on : (xs : List Turn) (ys : List Turn) (p q u : Program Names) (s r c : Carried) → Follows true n p s xs q r → Follows true n q r ys u c → Follows true n p s (xs ++ ys) u c
-  follows_on [] ys p q u s r c first later = subst (λ (p : Program Names). Follows true n p s ys u c) (sym first.0) (subst (λ (s : Carried). Follows true n q s ys u c) (sym first.1) later)
+  pub follows_on : (xs : List Turn) (ys : List Turn) (p q u : Program Names) (s r c : Carried) → Follows (planning plain) n p s xs q r → Follows (planning plain) n q r ys u c → Follows (planning plain) n p s (xs ++ ys) u c
+  follows_on [] ys p q u s r c first later = subst (λ (p : Program Names). Follows (planning plain) n p s ys u c) (sym first.0) (subst (λ (s : Carried). Follows (planning plain) n q s ys u c) (sym first.1) later)
   follows_on (turn ∷ xs) ys p q u s r c first later = (first.0, first.1, first.2, follows_on xs ys first.0 q u first.1 r c first.3 later)
 
   -- an answer as the machine gave it in some world
@@ -222,13 +224,13 @@ module _ (n : ℕ) where
     -- the talk went on to here, with this text and these deeds
     pub record Reached (did : List OneDeed) (q : Program Names) (r : Carried) (text : List ℕ) : Type 0 where
       pub turns : List Turn
-      pub follows : Follows true n p s turns q r
+      pub follows : Follows (planning plain) n p s turns q r
       pub text_is : text ≡ said_by turns
       pub did_is : did ≡ did_by turns
       pub told : IsTold r.told
 
     -- a turn more
-    one_more : (did more : List OneDeed) (q u : Program Names) (r c : Carried) (text : List ℕ) (turn : Turn) → Takes true n q r turn u c → did_by (turn ∷ []) ≡ more → IsTold c.told
+    one_more : (did more : List OneDeed) (q u : Program Names) (r c : Carried) (text : List ℕ) (turn : Turn) → Takes (planning plain) n q r turn u c → did_by (turn ∷ []) ≡ more → IsTold c.told
         → Reached did q r text → Reached (did ++ more) u c (text ++ said_by (turn ∷ []))
     one_more did more q u r c text turn takes is told so_far = record {
       turns = so_far.turns ++ turn ∷ [];
@@ -276,7 +278,7 @@ module _ (n : ℕ) where
 
     -- an operation without a call of the device is carried out
     nothing_done : (did : List OneDeed) (what : Do) (rest : Got → Program Names) (reply : Reply) (r c : Carried) (text : List ℕ)
-        → IsDone true n (asking r.files what) (op_asked r.files what) (exchange what false None [] reply []) r.told c.told
+        → IsDone (planning plain) n (asking r.files what) (op_asked r.files what) (exchange what false None [] reply []) r.told c.told
         → c.files ≡ files_behind what reply r.files → IsTold c.told → Reached did (ask what rest) r text → Reached did (rest (got_of what reply [])) c text
     nothing_done did what rest reply r c text is files told so_far =
         let more : Reached (did ++ []) (rest (got_of what reply [])) c (text ++ [])
@@ -297,25 +299,25 @@ module _ (n : ℕ) where
         by (Calls call) is later = record { rest = rest; left_is = refl; carried = r; so_far = so_far; call = call; calls = is; next_is = refl; bearing = refl }
         by (Plans nth) is later =
             let c : Carried = record { files = files_behind what Done r.files; told = with_plan nth r.told } in
-            let done_so : IsDone true n (asking r.files what) (op_asked r.files what) (exchange what false None [] Done []) r.told c.told
-            = subst (λ a. IsDone true n a (op_asked r.files what) (exchange what false None [] Done []) r.told c.told) (sym is) (record { did = refl; reply_is = refl; bytes_are = refl }, refl) in
+            let done_so : IsDone (planning plain) n (asking r.files what) (op_asked r.files what) (exchange what false None [] Done []) r.told c.told
+            = subst (λ a. IsDone (planning plain) n a (op_asked r.files what) (exchange what false None [] Done []) r.told c.told) (sym is) (record { did = refl; reply_is = refl; bytes_are = refl }, refl) in
             subst (λ (port : PlannedPort). IsSeat did (settles (rest (got_of what Done [])) (record { files = files_behind what Done r.files; port = port }) text)) (planned_port nth r.told so_far.told)
             (later (got_of what Done []) c (nothing_done did what rest Done r c text done_so refl (told_by_plan nth r.told so_far.told) so_far))
         by (Accepts bits) is later =
             let c : Carried = record { files = files_behind what Done r.files; told = with_bits bits r.told } in
-            let done_so : IsDone true n (asking r.files what) (op_asked r.files what) (exchange what false None [] Done []) r.told c.told
-            = subst (λ a. IsDone true n a (op_asked r.files what) (exchange what false None [] Done []) r.told c.told) (sym is) (record { did = refl; reply_is = refl; bytes_are = refl }, refl) in
+            let done_so : IsDone (planning plain) n (asking r.files what) (op_asked r.files what) (exchange what false None [] Done []) r.told c.told
+            = subst (λ a. IsDone (planning plain) n a (op_asked r.files what) (exchange what false None [] Done []) r.told c.told) (sym is) (record { did = refl; reply_is = refl; bytes_are = refl }, refl) in
             subst (λ (port : PlannedPort). IsSeat did (settles (rest (got_of what Done [])) (record { files = files_behind what Done r.files; port = port }) text)) (accepted_port bits r.told so_far.told)
             (later (got_of what Done []) c (nothing_done did what rest Done r c text done_so refl (told_by_bits bits r.told so_far.told) so_far))
         by (Refuses errno) is later =
             let c : Carried = record { files = files_behind what (Refused errno) r.files; told = r.told } in
-            let done_so : IsDone true n (asking r.files what) (op_asked r.files what) (exchange what false None [] (Refused errno) []) r.told c.told
-            = subst (λ a. IsDone true n a (op_asked r.files what) (exchange what false None [] (Refused errno) []) r.told c.told) (sym is) (record { did = refl; reply_is = refl; bytes_are = refl }, refl) in
+            let done_so : IsDone (planning plain) n (asking r.files what) (op_asked r.files what) (exchange what false None [] (Refused errno) []) r.told c.told
+            = subst (λ a. IsDone (planning plain) n a (op_asked r.files what) (exchange what false None [] (Refused errno) []) r.told c.told) (sym is) (record { did = refl; reply_is = refl; bytes_are = refl }, refl) in
             later (got_of what (Refused errno) []) c (nothing_done did what rest (Refused errno) r c text done_so refl so_far.told so_far)
 
     -- a call of the device was made whole: the talk goes on after it
     call_done : (did made : List OneDeed) (what : Do) (next : Call) (left : Left Names) (b c : Bearing) (text : List ℕ) (at : AtCall did what next left b text) (shut : Bool) (answer : Option ℕ) (reply : Reply) (wrote : List ℕ) (told : Option Told)
-        → IsTold told → HasMade true n at.call (op_asked at.carried.files what) (exchange what shut answer made reply wrote) at.carried.told told
+        → IsTold told → HasMade (planning plain) n at.call (op_asked at.carried.files what) (exchange what shut answer made reply wrote) at.carried.told told
         → bearing_by (record { files = files_behind what reply at.carried.files; told = told }) ≡ c
         → IsSeat (did ++ made) (settles (given left (Some (got_of what reply wrote))) c text)
     call_done did made what next left b c text at shut answer reply wrote told is_told has_made bearing =
@@ -323,8 +325,8 @@ module _ (n : ℕ) where
         let rest : Got → Program Names = at.rest in
         let e : Exchange = exchange what shut answer made reply wrote in
         let t : Carried = record { files = files_behind what reply r.files; told = told } in
-        let done_so : IsDone true n (asking r.files what) (op_asked r.files what) e r.told told = subst (λ a. IsDone true n a (op_asked r.files what) e r.told told) (sym at.calls) has_made in
-        let takes : Takes true n (ask what rest) r (Did e) (rest (got_of what reply wrote)) t = (rest, refl, refl, record { is_done = done_so; files = refl }) in
+        let done_so : IsDone (planning plain) n (asking r.files what) (op_asked r.files what) e r.told told = subst (λ a. IsDone (planning plain) n a (op_asked r.files what) e r.told told) (sym at.calls) has_made in
+        let takes : Takes (planning plain) n (ask what rest) r (Did e) (rest (got_of what reply wrote)) t = (rest, refl, refl, record { is_done = done_so; files = refl }) in
         let more : Reached (did ++ made) (rest (got_of what reply wrote)) t (text ++ [])
         = one_more did made (ask what rest) (rest (got_of what reply wrote)) r t text (Did e) takes (append-nil made) is_told at.so_far in
         subst (λ (l : Left Names). IsSeat (did ++ made) (settles (given l (Some (got_of what reply wrote))) c text)) (sym at.left_is)
@@ -338,9 +340,12 @@ module _ (n : ℕ) where
         call_done did (d ∷ []) what next left b (files_of what d.entry.reply b) text at shut None d.entry.reply d.bytes at.carried.told at.so_far.told
         (record {
           makes = (has_call at.carried.files what at.call at.calls, makes);
+          few_own = omega arith;
           reply_is = refl;
           bytes_are = refl;
-          port = subst (λ (l : List (Option ℕ)). PortAfter true (op_asked at.carried.files what) (l ++ []) at.carried.told at.carried.told) (sym silent) refl;
+          port = port_asked (planning plain) n (op_asked at.carried.files what) (exchange what shut None (d ∷ []) d.entry.reply d.bytes) at.carried.told at.carried.told at.call refl
+              (has_call at.carried.files what at.call at.calls, makes)
+              (subst (λ (l : List (Option ℕ)). PortAfter true (op_asked at.carried.files what) (l ++ []) at.carried.told at.carried.told) (sym silent) refl);
         })
         (λ i. files_of what d.entry.reply (at.bearing i))
 
@@ -371,7 +376,14 @@ module _ (n : ℕ) where
         (suits ∙ (λ i. second_of (at.at.next_is i) (sym at.at.bearing i).port))) in
         let whole : IsSeat (at.earlier ++ (at.first ∷ d ∷ [])) (answers what left (called next b) text d)
         = call_done at.earlier (at.first ∷ d ∷ []) what next left b (files_of what d.entry.reply (called next b)) text at.at false two.answer d.entry.reply d.bytes two.told two.is_told
-        (record { makes = (is_there, open_one call (at.first.entry ∷ d.entry ∷ []) two.answer two.makes); reply_is = refl; bytes_are = refl; port = two.port })
+        (record {
+          makes = (is_there, open_one call (at.first.entry ∷ d.entry ∷ []) two.answer two.makes);
+          few_own = omega arith;
+          reply_is = refl;
+          bytes_are = refl;
+          port = port_asked (planning plain) n op (exchange what false two.answer (at.first ∷ d ∷ []) d.entry.reply d.bytes) r.told two.told call refl
+              (is_there, open_one call (at.first.entry ∷ d.entry ∷ []) two.answer two.makes) two.port;
+        })
         ((λ i. record { files = files_behind what d.entry.reply (same_files next (bearing_by r) i); port = two.bearing i }) ∙ ap (λ (b : Bearing). files_of what d.entry.reply (called next b)) at.at.bearing) in
         subst (λ (l : List OneDeed). IsSeat l (answers what left (called next b) text d)) (sym (append_assoc at.earlier (at.first ∷ []) (d ∷ [])) ∙ ap (λ (l : List OneDeed). l ++ d ∷ []) (sym at.did_is)) whole
 
@@ -395,7 +407,7 @@ module _ (n : ℕ) where
 
     -- Deeds that the talk passes through to its end are those of the talk, carried out.
     pub passes_back : (ds : List OneDeed) (t : Seat) → AreOf n ds → IsTold s.told → is_ended t.stand ≡ true → Passes (settles p (bearing_by s) []) ds t
-        → (value : Names) × (r : Carried) × Played true n p s t.text ds value r × (t ≡ seat Ended (goes_on (done value)) (bearing_by r) t.text) × IsTold r.told
+        → (value : Names) × (r : Carried) × Played (planning plain) n p s t.text ds value r × (t ≡ seat Ended (goes_on (done value)) (bearing_by r) t.text) × IsTold r.told
     passes_back ds t of told ended passes =
         let start : Reached [] p s [] = record { turns = []; follows = (refl, refl); text_is = refl; did_is = refl; told = told } in
         let o = ended_at ds t.stand t.left t.bearing t.text ended (passed_at [] ds (settles p (bearing_by s) []) t of (at_settled [] p s [] start) passes) in

@@ -14,6 +14,7 @@ use Rattle.gl_world.specs.History.{entries_of, fold_from}
 use Rattle.gl_model.specs.Machine.{world_after}
 use Rattle.gl_model.specs.World.{World, opening}
 use Rattle.gl_core.specs.Device.{OneDeed, OneEntry, core}
+use Rattle.gl_check.specs.Drivers.{plain, planning}
 use Rattle.gl_check.specs.Many.{ActorPlayed, ActorsPlayed, AllPlayed, Texts, all_new, program_of}
 use Rattle.gl_check.specs.Misfit.{AllFit, AtEnd, IsMisfit, MayGo, MisfitIsNoneForMany, Moment, actors_in, after_begun, after_by, after_entry, all_ended, behind, last_by, last_of, others_texts, texts_in, texts_of}
 use Rattle.gl_check.specs.One.{PlannedPort}
@@ -156,7 +157,7 @@ module _ (sections : List SaidSection) where
       (subst (λ w. LegalFrom w es) (sym (world_next sections c e)) legal.1) in
       record { fit = ((legal.0, o.0), more.fit); setup = more.setup ∙ o.1; others = more.others ∙ o.2; last = more.last }
 
-  played_passes : (n : ℕ) (p : Program Names) (s : Carried) (text : List ℕ) (ds : List OneDeed) (value : Names) (r : Carried) → IsTold s.told → Played true n p s text ds value r
+  played_passes : (n : ℕ) (p : Program Names) (s : Carried) (text : List ℕ) (ds : List OneDeed) (value : Names) (r : Carried) → IsTold s.told → Played (planning plain) n p s text ds value r
       → Passes (settles p (bearing_by s) []) ds (seat Ended (goes_on (done value)) (bearing_by r) text) × IsTold r.told
   played_passes n p s text ds value r told played =
       let f = follows_through n played.turns p s value r [] told played.follows in (
@@ -166,10 +167,10 @@ module _ (sections : List SaidSection) where
       )
 
   -- the text of an actor among those of all
-  actor_at : (left : ℕ → Option Told) (es : List OneEntry) (texts : List (List ℕ)) (k n : ℕ) → ActorsPlayed true all_new left sections es k texts → k ≤ n → n < k + length texts → (text : List ℕ) × ActorPlayed true all_new left sections es n text
+  actor_at : (left : ℕ → Option Told) (es : List OneEntry) (texts : List (List ℕ)) (k n : ℕ) → ActorsPlayed (planning plain) all_new left sections es k texts → k ≤ n → n < k + length texts → (text : List ℕ) × ActorPlayed (planning plain) all_new left sections es n text
   actor_at left es [] k n played low high = absurd (omega arith)
   actor_at left es (text ∷ texts) k n played low high = dite (ℕ_discrete k n)
-      (λ is. (text, subst (λ n. ActorPlayed true all_new left sections es n text) is played.0))
+      (λ is. (text, subst (λ n. ActorPlayed (planning plain) all_new left sections es n text) is played.0))
       (λ ne. actor_at left es texts (k + 1) n played.1 (above ne low) (omega arith))
     where
       above : k ≢ n → k ≤ n → k + 1 ≤ n
@@ -181,11 +182,11 @@ module _ (sections : List SaidSection) where
     pub passes : Passes ((start sections).others n) (deeds_from core opening n es) to
     pub ended : is_ended to.stand ≡ true
 
-  comes_to : (left : ℕ → Option Told) (es : List OneEntry) (n : ℕ) (text : List ℕ) → ActorPlayed true all_new left sections es n text → (o : Comes es n) × (o.to.text ≡ text)
+  comes_to : (left : ℕ → Option Told) (es : List OneEntry) (n : ℕ) (text : List ℕ) → ActorPlayed (planning plain) all_new left sections es n text → (o : Comes es n) × (o.to.text ≡ text)
   comes_to left es n text played = let p = played_passes n (program_of sections n) (carried [] (all_new n)) text (deeds_from core opening n es) played.names played.behind tt played.played in
       (record { to = seat Ended (goes_on (done played.names)) (bearing_by played.behind) text; passes = p.0; ended = refl }, refl)
 
-  all_come : (left : ℕ → Option Told) (es : List OneEntry) (texts : Texts) → AllPlayed true all_new left sections es texts → (n : ℕ) → 1 ≤ n → Comes es n
+  all_come : (left : ℕ → Option Told) (es : List OneEntry) (texts : Texts) → AllPlayed (planning plain) all_new left sections es texts → (n : ℕ) → 1 ≤ n → Comes es n
   all_come left es texts played n one = dite (dec_lt (actors_in sections) n)
       (λ more. record {
         to = (start sections).others n;
@@ -194,7 +195,7 @@ module _ (sections : List SaidSection) where
       })
       (λ less. let a = actor_at left es texts.actors 1 n played.actors one (let l = played.as_many in omega arith) in (comes_to left es n a.0 a.1).0)
 
-  texts_are : (left : ℕ → Option Told) (es : List OneEntry) → AllFit sections (start sections) es → (texts : List (List ℕ)) (n : ℕ) → 1 ≤ n → ActorsPlayed true all_new left sections es n texts
+  texts_are : (left : ℕ → Option Told) (es : List OneEntry) → AllFit sections (start sections) es → (texts : List (List ℕ)) (n : ℕ) → 1 ≤ n → ActorsPlayed (planning plain) all_new left sections es n texts
       → texts ≡ others_texts n (length texts) (behind sections (start sections) es).others
   texts_are left es fit [] n one played = refl
   texts_are left es fit (text ∷ texts) n one played =
@@ -203,7 +204,7 @@ module _ (sections : List SaidSection) where
       = passes_one sections ((start sections).others n) o.0.to ((behind sections (start sections) es).others n) (deeds_from core opening n es) o.0.passes (others_pass sections n one (start sections) es fit) in
       (λ i. (sym o.1 ∙ ap (λ (s : Seat). s.text) same) i ∷ texts) ∙ ap (λ l. ((behind sections (start sections) es).others n).text ∷ l) (texts_are left es fit texts (n + 1) (omega arith) played.1)
 
-  pub played_fit : (left : ℕ → Option Told) (es : List OneEntry) (texts : Texts) → AllPlayed true all_new left sections es texts
+  pub played_fit : (left : ℕ → Option Told) (es : List OneEntry) (texts : Texts) → AllPlayed (planning plain) all_new left sections es texts
       → AllFit sections (start sections) es × AtEnd sections (behind sections (start sections) es) × (texts ≡ texts_in sections (behind sections (start sections) es))
   played_fit left es texts played =
       let c : Moment = start sections in
@@ -307,7 +308,7 @@ module _ (sections : List SaidSection) where
 
 pub judged : MisfitIsNoneForMany
 judged sections history = record {
-  sound = λ fits. let p = fit_played sections history fits.0 fits.1 in (without_ports true all_new p.0 sections history (texts_of sections history) p.1, p);
+  sound = λ fits. let p = fit_played sections history fits.0 fits.1 in (without_ports (planning plain) all_new p.0 sections history (texts_of sections history) p.1, p);
   complete = λ texts played. let f = played_fit sections played.0 history texts played.1 in ((f.0, f.1), f.2);
   at_most_one = misfits_are_one sections history;
 }

@@ -5,7 +5,7 @@ use Rattle.std.specs.Bool.{Decides}
 use Rattle.std.proofs.Math.Seq.{drop-append_seam, drop-length, get_or-append_seam}
 use Rattle.std.proofs.lemmas.Bool.{cases_eq, cases_lt, false≢true, true≢false}
 use Rattle.std.proofs.lemmas.List.{get_or-set_other, get_or-set_same, get_or_append_left}
-use Rattle.std.proofs.lemmas.List.{length-set}
+use Rattle.std.proofs.lemmas.List.{length-map, length-set}
 use Rattle.gl_base.specs.Words.{Span}
 use Rattle.gl_world.specs.Deeds.{deed_in}
 use Rattle.gl_client.specs.Program.{Left, Program, done, given, goes_on, then_left}
@@ -13,7 +13,9 @@ use Rattle.gl_model.specs.Machine.{world_after}
 use Rattle.gl_model.specs.World.{World, opening}
 use Rattle.gl_script.specs.Section.{SaidSection}
 use Rattle.gl_script.specs.declared.section.SectionKind.TheVariants.{Setup, After}
+use Rattle.gl_script.specs.declared.section.Statement.{Statement}
 use Rattle.gl_talk.specs.Open.{Names, no_names}
+use Rattle.gl_talk.specs.Over.{columns_in}
 use Rattle.gl_talk.specs.Talk.{left, names_in, quits, says}
 use Rattle.gl_core.specs.Device.{OneDeed, OneEntry, core}
 use Rattle.gl_core.specs.Kept.{StandsFor}
@@ -310,19 +312,33 @@ module _ (sections : List SaidSection) where
             kept = subst (λ (w : List (List Span)). IsKept true w s) same kept;
           })
 
-  -- all at the beginning
-  pub judge_begins : (j : Judge) (first : Seat) (printed : List ℕ) (setup : List (List Span)) → setup ≡ setup_words sections → StandsFor j.core opening
-      → seat_in false setup first ≡ settles (comes_behind false false 0 setup no_names) new_bearing [] → IsKept false setup first → j.after ≡ is_ended first.stand
-      → ((m : Moment) → IsFirst sections false first printed m → IsFirst sections j.after j.first j.setup.items m) → AreSeats sections j.others.items (beginning sections).others
-      → length j.others.items ≡ actors_in sections → Judges sections j (beginning sections)
-  judge_begins j first printed setup same world begins kept after goes others many =
+  -- actor 0 at the beginning
+  pub first_begins : (first new : Seat) (after : Bool) (printed told : List ℕ) (setup : List (List Span)) → setup ≡ setup_words sections
+      → seat_in false setup first ≡ settles (comes_behind false false 0 setup no_names) new_bearing [] → IsKept false setup first → after ≡ is_ended first.stand
+      → ((m : Moment) → IsFirst sections false first printed m → IsFirst sections after new told m)
+      → IsFirst sections after new told (beginning sections) × (after ≡ is_ended (beginning sections).setup.stand)
+  first_begins first new after printed told setup same begins kept ends goes =
       let seated : seat_in false (setup_words sections) first ≡ (beginning sections).setup
-      = ap (λ (w : List (List Span)). seat_in false w first) (sym same) ∙ begins ∙ ap (λ (w : List (List Span)). settles (comes_behind false false 0 w no_names) new_bearing []) same in
+      = ap (λ (w : List (List Span)). seat_in false w first) (sym same) ∙ begins ∙ ap (λ (w : List (List Span)). settles (comes_behind false false 0 w no_names) new_bearing []) same in (
+        goes (beginning sections) (seated, subst (λ (w : List (List Span)). IsKept false w first) same kept, refl),
+        ends ∙ ap (λ (s : SeatOf). is_ended s.stand) seated,
+      )
+
+  -- all at the beginning
+  pub judge_begins : (j : Judge) → StandsFor j.core opening → IsFirst sections j.after j.first j.setup.items (beginning sections)
+      → j.after ≡ is_ended (beginning sections).setup.stand → AreSeats sections j.others.items (beginning sections).others
+      → length j.others.items ≡ actors_in sections → Judges sections j (beginning sections)
+  judge_begins j world first phase others many =
       record {
         world = world;
-        phase = after ∙ ap (λ (s : SeatOf). is_ended s.stand) seated;
-        first = goes (beginning sections) (seated, subst (λ (w : List (List Span)). IsKept false w first) same kept, refl);
+        phase = phase;
+        first = first;
         others = others;
         as_many = many;
         beyond = beyond_program sections;
       }
+
+  -- `setup` has no more statements than `setup` and `after`
+  pub no_more : (setup all : List Statement) → map columns_in setup ≡ setup_words sections → map columns_in all ≡ all_words sections → length setup ≤ length all
+  no_more setup all same as_all =
+      omega (arith, length-map setup columns_in, length-map all columns_in, ap length same, ap length as_all, length-append (said_in_kind Setup sections) (said_in_kind After sections))

@@ -1,58 +1,87 @@
 -- What actors carried out, whatever their ports told: the same holds over ports that tell nothing.
-use Rattle.std.proofs.Common.{ℕ, ◌+◌, Bool, false, List, [], ◌∷◌, ◌++◌, Option, None, refl, ap}
+use Rattle.std.proofs.Common.{ℕ, ◌+◌, Bool, true, false, List, [], ◌∷◌, ◌++◌, Option, None, Some, refl, ap}
 use Rattle.std.proofs.lemmas.Bool.{false≢true}
 use Rattle.gl_world.specs.Deeds.{deeds_from, deeds_of, entries_in}
 use Rattle.gl_world.specs.History.{fold}
 use Rattle.gl_client.specs.Program.{Program, done}
-use Rattle.gl_driver.specs.Told.{PortAfter, Told}
+use Rattle.gl_driver.specs.Told.{Told}
+use Rattle.gl_driver.specs.declared.map.Map.{Map}
 use Rattle.gl_base.specs.declared.op.Op.{Op}
 use Rattle.gl_script.specs.Section.{SaidSection}
-use Rattle.gl_core.specs.Device.{OneDeed, OneEntry, core, tells_in}
+use Rattle.gl_core.specs.Device.{OneDeed, OneEntry, core}
 use Rattle.gl_asking.specs.declared.kinds.Asking.{Asking}
 use Rattle.gl_asking.specs.declared.kinds.Asking.TheVariants.{Calls, Plans, Accepts, Refuses}
 use Rattle.gl_asking.specs.Asking.{asking}
 use Rattle.gl_asking.specs.Driving.{op_asked}
+use Rattle.gl_check.specs.Drivers.{DriverKind, Gives, MayMake, untold}
 use Rattle.gl_check.specs.Many.{ActorsPlayed, AllPlayed, Many, Texts, program_of, silent}
 use Rattle.gl_check.specs.Programs.{after_of, setup_of}
-use Rattle.gl_check.specs.Turns.{Carried, Did, Exchange, Follows, IsDone, Played, Said, Takes, Turn, carried}
+use Rattle.gl_check.specs.Turns.{Carried, Did, Exchange, Follows, IsDone, Played, PortBy, Said, Takes, Turn, carried, map_of, was_asked}
 
 abbrev pub silenced : Carried → Carried
 silenced s = carried s.files None
 
-module _ (is_planned : Bool) (n : ℕ) where
-  port_silenced : (op : Option Op) (answers : List (Option ℕ)) (before after : Option Told) → PortAfter is_planned op answers before after → PortAfter false op answers None None
-  port_silenced op [] before after h = refl
-  port_silenced op (answer ∷ answers) before after h = (h.0, h.1, refl, λ e. absurd (false≢true e))
+module _ (driver : DriverKind) (n : ℕ) where
+  may_make : (map : Option Map) (op : Op) (own : List OneEntry) → MayMake driver map op own → MayMake (untold driver) map op own
+  may_make None op own h = h
+  may_make (Some map) op own h = h
 
-  done_silenced : (a : Asking) (op : Option Op) (e : Exchange) (before after : Option Told) → IsDone is_planned n a op e before after → IsDone false n a op e None None
-  done_silenced (Calls call) op e before after h = record { makes = h.makes; reply_is = h.reply_is; bytes_are = h.bytes_are; port = port_silenced op (tells_in (entries_in e.did)) before after h.port }
+  gives_untold : (map : Option Map) (told : Option Told) (op : Op) (did : List OneDeed) (room seen : ℕ) (answer : Option ℕ) → Gives driver map told op did room seen answer → Gives (untold driver) map None op did room seen answer
+  gives_untold None told op did room seen answer h = λ is. absurd (false≢true is)
+  gives_untold (Some map) told op did room seen answer h = (told, h)
+
+  port_silenced : (asked : Bool) (map : Option Map) (op : Option Op) (e : Exchange) (before after : Option Told) → PortBy driver n asked map op e before after → PortBy (untold driver) n asked map op e None None
+  port_silenced false map op e before after h = refl
+  port_silenced true map op e before after h = record {
+    asked_for = h.asked_for;
+    is_this = h.is_this;
+    ask = h.ask;
+    inner = h.inner;
+    tell = h.tell;
+    deeds_are = h.deeds_are;
+    inner_own = h.inner_own;
+    may_make = may_make map h.asked_for e.own h.may_make;
+    room = h.room;
+    seen = h.seen;
+    gives = gives_untold map before h.asked_for h.inner h.room h.seen e.answer h.gives;
+    told_then = refl;
+  }
+
+  done_silenced : (a : Asking) (op : Option Op) (e : Exchange) (before after : Option Told) → IsDone driver n a op e before after → IsDone (untold driver) n a op e None None
+  done_silenced (Calls call) op e before after h = record {
+    makes = h.makes;
+    few_own = h.few_own;
+    reply_is = h.reply_is;
+    bytes_are = h.bytes_are;
+    port = port_silenced (was_asked call (entries_in e.did)) (map_of call) op e before after h.port;
+  }
   done_silenced (Plans nth) op e before after h = (record { did = h.0.did; reply_is = h.0.reply_is; bytes_are = h.0.bytes_are }, refl)
   done_silenced (Accepts bits) op e before after h = (record { did = h.0.did; reply_is = h.0.reply_is; bytes_are = h.0.bytes_are }, refl)
   done_silenced (Refuses errno) op e before after h = (record { did = h.0.did; reply_is = h.0.reply_is; bytes_are = h.0.bytes_are }, refl)
 
   module _ {A : Type 0} where
-    takes_silenced : (p : Program A) (s : Carried) (turn : Turn) (q : Program A) (r : Carried) → Takes is_planned n p s turn q r → Takes false n p (silenced s) turn q (silenced r)
+    takes_silenced : (p : Program A) (s : Carried) (turn : Turn) (q : Program A) (r : Carried) → Takes driver n p s turn q r → Takes (untold driver) n p (silenced s) turn q (silenced r)
     takes_silenced p s (Said text) q r h = (h.0, ap silenced h.1)
     takes_silenced p s (Did e) q r h = (h.0, h.1, h.2, record { is_done = done_silenced (asking s.files e.what) (op_asked s.files e.what) e s.told r.told h.3.is_done; files = h.3.files })
 
-    follows_silenced : (p : Program A) (s : Carried) (turns : List Turn) (q : Program A) (r : Carried) → Follows is_planned n p s turns q r → Follows false n p (silenced s) turns q (silenced r)
+    follows_silenced : (p : Program A) (s : Carried) (turns : List Turn) (q : Program A) (r : Carried) → Follows driver n p s turns q r → Follows (untold driver) n p (silenced s) turns q (silenced r)
     follows_silenced p s [] q r h = (h.0, ap silenced h.1)
     follows_silenced p s (turn ∷ turns) q r h = (h.0, silenced h.1, takes_silenced p s turn h.0 h.1 h.2, follows_silenced h.0 h.1 turns q r h.3)
 
-    played_silenced : (p : Program A) (s : Carried) (text : List ℕ) (did : List OneDeed) (value : A) (r : Carried) → Played is_planned n p s text did value r → Played false n p (silenced s) text did value (silenced r)
+    played_silenced : (p : Program A) (s : Carried) (text : List ℕ) (did : List OneDeed) (value : A) (r : Carried) → Played driver n p s text did value r → Played (untold driver) n p (silenced s) text did value (silenced r)
     played_silenced p s text did value r h = record { turns = h.turns; follows = follows_silenced p s h.turns (done value) r h.follows; text_is = h.text_is; did_is = h.did_is }
 
 -- of all actors
-module _ (is_planned : Bool) (before left : ℕ → Option Told) (sections : List SaidSection) (history : List OneEntry) where
-  actors_silenced : (n : ℕ) (texts : List (List ℕ)) → ActorsPlayed is_planned before left sections history n texts → ActorsPlayed false silent silent sections history n texts
+module _ (driver : DriverKind) (before left : ℕ → Option Told) (sections : List SaidSection) (history : List OneEntry) where
+  actors_silenced : (n : ℕ) (texts : List (List ℕ)) → ActorsPlayed driver before left sections history n texts → ActorsPlayed (untold driver) silent silent sections history n texts
   actors_silenced n [] h = tt
   actors_silenced n (text ∷ texts) h = (
-    record { names = h.0.names; behind = silenced h.0.behind; played = played_silenced is_planned n (program_of sections n) (carried [] (before n)) text (deeds_of core n history) h.0.names h.0.behind h.0.played; left_is = refl },
+    record { names = h.0.names; behind = silenced h.0.behind; played = played_silenced driver n (program_of sections n) (carried [] (before n)) text (deeds_of core n history) h.0.names h.0.behind h.0.played; left_is = refl },
     actors_silenced (n + 1) texts h.1,
   )
 
   -- whatever the ports told, the history and the texts are those of the talks
-  pub without_ports : (texts : Texts) → AllPlayed is_planned before left sections history texts → Many sections history texts
+  pub without_ports : (texts : Texts) → AllPlayed driver before left sections history texts → Many driver sections history texts
   without_ports texts h = record {
     legal = h.legal;
     first = h.first;
@@ -64,10 +93,10 @@ module _ (is_planned : Bool) (before left : ℕ → Option Told) (sections : Lis
     others_not_last = h.others_not_last;
     names = h.names;
     waiting = silenced h.waiting;
-    setup = played_silenced is_planned 0 (setup_of sections) (carried [] (before 0)) texts.setup (deeds_of core 0 h.first) h.names h.waiting h.setup;
+    setup = played_silenced driver 0 (setup_of sections) (carried [] (before 0)) texts.setup (deeds_of core 0 h.first) h.names h.waiting h.setup;
     end = h.end;
     behind = silenced h.behind;
-    after = played_silenced is_planned 0 (after_of sections h.names) h.waiting texts.last (deeds_from core (fold core (h.first ++ h.middle)) 0 h.last) h.end h.behind h.after;
+    after = played_silenced driver 0 (after_of sections h.names) h.waiting texts.last (deeds_from core (fold core (h.first ++ h.middle)) 0 h.last) h.end h.behind h.after;
     left_is = refl;
     actors = actors_silenced 1 texts.actors h.actors;
     as_many = h.as_many;

@@ -1,7 +1,6 @@
 -- A talk that was carried out passes through its deeds, one at a time.
-use Rattle.std.proofs.Common.{◌≡◌, ℕ, Bool, true, false, List, [], ◌∷◌, ◌++◌, length, Option, None, Some, IfSome, refl, sym, ap, ◌∙◌, subst, arith}
+use Rattle.std.proofs.Common.{◌≡◌, ℕ, Bool, true, false, List, [], ◌∷◌, ◌++◌, Option, None, Some, IfSome, refl, sym, ap, ◌∙◌, subst}
 use Rattle.std.specs.Prelude.{if◌then◌else◌}
-use Rattle.std.proofs.lemmas.Bool.{false≢true}
 use Rattle.std.proofs.lemmas.List.{append_assoc, append-nil}
 use Rattle.gl_base.specs.Count.{counted_up}
 use Rattle.gl_base.specs.Planned.{bits_for, planned_answer}
@@ -14,10 +13,10 @@ use Rattle.gl_world.specs.Deeds.{entries_in}
 use Rattle.gl_world.specs.History.{entry}
 use Rattle.gl_driver.specs.Told.{PortAfter, Told, planned_for, with_bits, with_call, with_plan}
 use Rattle.gl_model.specs.Entries.{begins, guarded_place, last_call}
-use Rattle.gl_model.specs.Parts.{Makes, MakesAt, MakesCommand, MakesInside, MakesRest, device_has, first_call, guard_of, in_ask, in_tell, in_whole, is_driver_asked, is_poll, is_single, last_reply}
+use Rattle.gl_model.specs.Parts.{Makes, MakesAt, MakesCommand, MakesInside, MakesRest, device_has, first_call, guard_of, in_ask, in_tell, in_whole, is_driver_asked, is_poll, last_reply}
 use Rattle.gl_model.specs.Step.{guard_reply}
 use Rattle.gl_model.specs.declared.call.Call.{Call}
-use Rattle.gl_model.specs.declared.call.Call.TheVariants.{Probe, Unplug, MakeDir, RemoveDir, Write, Read, Live, Remove, Tick, Pin, Irq, Pull, Level, Interrupt, OpenChip, Find, Ioctl, ReadEdges, ReadInfo, PollLine, PollChip, Close, Refused as RefusedCall}
+use Rattle.gl_model.specs.declared.call.Call.TheVariants.{Refused as RefusedCall}
 use Rattle.gl_model.specs.declared.device_call.DeviceCall.{DeviceCall}
 use Rattle.gl_model.specs.declared.device_call.DeviceCall.TheVariants.{Once, Removing, Commanding}
 use Rattle.gl_model.specs.declared.device_call.RemovalOf.{RemovalOf}
@@ -33,8 +32,10 @@ use Rattle.gl_asking.specs.Driving.{op_asked}
 use Rattle.gl_check.specs.One.{PlannedPort, from_plan}
 use Rattle.gl_check.specs.Ports.{after_answer, applies, next_answer}
 use Rattle.gl_check.specs.Seats.{Bearing, IsRefusedAt, Passes, Seat, SuitsFirst, answers, called, deed, first_inside, goes_by, is_refusal, moved, seat, second_of, settles}
+use Rattle.gl_check.specs.Drivers.{plain, planning}
 use Rattle.gl_check.specs.Turns.{Carried, Carries, Did, DidNothing, Exchange, Follows, IsDone, Said, Turn, did_by, said_by}
 use Rattle.gl_check.specs.declared.stand.Stand.TheVariants.{Ended, Before, Between}
+use Rattle.gl_check.proofs.Asked.{one_deed, single_is, two_deeds, unmapped}
 use Rattle.gl_check.proofs.Operations.{ForCall, HasBits, all_have_bits}
 
 -- what a planned driver goes by, of what a port tells
@@ -104,14 +105,6 @@ planned_told op configures None h same = absurd h
 pub of_asked : (op : Option Op) (o : Op) (P : Op → Type 0) → op ≡ Some o → IfSome op P → P o
 of_asked op o P is h = subst (λ (x : Option Op). IfSome x P) is h
 
-abbrev entry_or : OneEntry → List OneEntry → OneEntry
-entry_or d [] = d
-entry_or d (x ∷ xs) = x
-
-abbrev other_entries : List OneEntry → List OneEntry
-other_entries [] = []
-other_entries (x ∷ xs) = xs
-
 -- the guard of a call of the device is that of its first entry's call
 pub guard_is : (call : DeviceCall) → guard_of call ≡ guarded_place (first_inside call)
 guard_is (Once call) = refl
@@ -124,47 +117,6 @@ poll_is (Once call) = refl
 poll_is (Removing (OfChip place)) = refl
 poll_is (Removing (OfDevice device)) = refl
 poll_is (Commanding c) = elim (is_driver_asked c.of_chip c.len (command_of c.cmd)) as (λ b. false ≡ is_poll (Once (if b then in_ask c else in_whole c))) [ true ↦ refl | false ↦ refl ]
-
--- a call that is whole by itself
-pub record Single (call : Call) : Type 0 where
-  pub is_open : is_refusal call ≡ false
-  pub never : (reply : Reply) → begins call reply ≡ false
-  pub silent : call_tells call ≡ []
-
-pub single_is : (call : Call) → is_single call ≡ true → Single call
-single_is (Probe label lines kind) is = record { is_open = refl; never = λ reply. refl; silent = refl }
-single_is (MakeDir path) is = record { is_open = refl; never = λ reply. refl; silent = refl }
-single_is (RemoveDir path) is = record { is_open = refl; never = λ reply. refl; silent = refl }
-single_is (Write path value) is = record { is_open = refl; never = λ reply. refl; silent = refl }
-single_is (Read path) is = record { is_open = refl; never = λ reply. refl; silent = refl }
-single_is (Live device) is = record { is_open = refl; never = λ reply. refl; silent = refl }
-single_is (Tick mono real) is = record { is_open = refl; never = λ reply. refl; silent = refl }
-single_is (Pin place what) is = record { is_open = refl; never = λ reply. refl; silent = refl }
-single_is (Irq place offset what) is = record { is_open = refl; never = λ reply. refl; silent = refl }
-single_is (Pull place offset up) is = record { is_open = refl; never = λ reply. refl; silent = refl }
-single_is (Level place offset pull) is = record { is_open = refl; never = λ reply. refl; silent = refl }
-single_is (Interrupt place offset up) is = record { is_open = refl; never = λ reply. refl; silent = refl }
-single_is (OpenChip word) is = record { is_open = refl; never = λ reply. refl; silent = refl }
-single_is (Find place name) is = record { is_open = refl; never = λ reply. refl; silent = refl }
-single_is (ReadEdges place fd len) is = record { is_open = refl; never = λ reply. refl; silent = refl }
-single_is (ReadInfo place fd len) is = record { is_open = refl; never = λ reply. refl; silent = refl }
-single_is (PollLine place fd) is = record { is_open = refl; never = λ reply. refl; silent = refl }
-single_is (PollChip place fd) is = record { is_open = refl; never = λ reply. refl; silent = refl }
-single_is (Close fd) is = record { is_open = refl; never = λ reply. refl; silent = refl }
-single_is (Unplug place last) is = absurd (false≢true is)
-single_is (Remove device last) is = absurd (false≢true is)
-single_is (Ioctl place fd cmd len bytes part) is = absurd (false≢true is)
-single_is (RefusedCall place poll) is = absurd (false≢true is)
-
--- deeds of one entry, and of two
-pub one_deed : (did : List OneDeed) (e : OneEntry) → entries_in did ≡ e ∷ [] → (bytes : List ℕ) × (did ≡ deed e bytes ∷ [])
-one_deed [] e is = let z : 0 ≡ length (e ∷ []) = ap (λ (l : List OneEntry). length l) is in absurd (omega arith)
-one_deed (x ∷ []) e is = (x.bytes, ap (λ e. deed e x.bytes ∷ []) (ap (entry_or e) is))
-one_deed (x ∷ y ∷ ys) e is = let z : length (x.entry ∷ y.entry ∷ entries_in ys) ≡ length (e ∷ []) = ap (λ (l : List OneEntry). length l) is in absurd (omega arith)
-
-pub two_deeds : (did : List OneDeed) (e f : OneEntry) → entries_in did ≡ e ∷ f ∷ [] → (a : List ℕ) × (b : List ℕ) × (did ≡ deed e a ∷ deed f b ∷ [])
-two_deeds [] e f is = let z : 0 ≡ length (e ∷ f ∷ []) = ap (λ (l : List OneEntry). length l) is in absurd (omega arith)
-two_deeds (x ∷ xs) e f is = let o = one_deed xs f (ap other_entries is) in (x.bytes, o.0, λ i. deed (entry_or e (is i)) x.bytes ∷ o.1 i)
 
 abbrev pub reply_or : Reply → Option Reply → Reply
 reply_or d (Some reply) = reply
@@ -325,7 +277,7 @@ module _ (n : ℕ) (what : Do) (rest : Got → Program Names) (text : List ℕ) 
           (ap (RefusedCall place) (poll_is call), ap guard_reply (poll_is call))) refl refl
 
 -- what asks for no call of the device passes through nothing
-still_through : (n : ℕ) (what : Do) (rest : Got → Program Names) (e : Exchange) (reply : Reply) (b c : Bearing) (text : List ℕ) → DidNothing true n e reply → c ≡ b
+still_through : (n : ℕ) (what : Do) (rest : Got → Program Names) (e : Exchange) (reply : Reply) (b c : Bearing) (text : List ℕ) → DidNothing (planning plain) n e reply → c ≡ b
     → Passes (settles (rest (got_of what reply [])) b text) e.did (settles (rest (got_of what e.reply e.wrote)) c text)
 still_through n what rest e reply b c text none is = subst (λ (l : List OneDeed). Passes (settles (rest (got_of what reply [])) b text) l (settles (rest (got_of what e.reply e.wrote)) c text)) (sym none.did)
     (λ i. settles (rest (got_of what (sym none.reply_is i) (sym none.bytes_are i))) (sym is i) text)
@@ -334,11 +286,12 @@ abbrev GoesFrom : Do → (Got → Program Names) → Exchange → Carried → Ca
 GoesFrom what rest e s r text a =
     Passes (goes_by a what (waits rest) (bearing_by s) text (λ got later. settles (rest got) later text)) e.did (settles (rest (got_of what e.reply e.wrote)) (bearing_by r) text) × IsTold r.told
 
-asking_through : (n : ℕ) (rest : Got → Program Names) (e : Exchange) (s r : Carried) (text : List ℕ) (a : Asking) (op : Option Op) → ForCall (HasBits op) a → IsTold s.told → IsDone true n a op e s.told r.told → r.files ≡ files_behind e.what e.reply s.files
+asking_through : (n : ℕ) (rest : Got → Program Names) (e : Exchange) (s r : Carried) (text : List ℕ) (a : Asking) (op : Option Op) → ForCall (HasBits op) a → IsTold s.told → IsDone (planning plain) n a op e s.told r.told → r.files ≡ files_behind e.what e.reply s.files
     → GoesFrom e.what rest e s r text a
 asking_through n rest e s r text (Calls call) op asks told is files =
+    let u = unmapped (planning plain) n op e s.told r.told call is in
     call_through n e.what rest text e.reply e.wrote call op s r e.closed e.answer e.did
-    (record { told = told; reply_is = is.reply_is; bytes_are = is.bytes_are; port = is.port; files = files }) asks is.makes
+    (record { told = told; reply_is = is.reply_is; bytes_are = is.bytes_are; port = u.port; files = files }) asks u.makes
 asking_through n rest e s r text (Plans nth) op asks told is files =
     let at : bearing_by r ≡ record { files = files_behind e.what Done s.files; port = from_plan.planned nth (port_by s.told) }
     = λ i. record { files = (files ∙ ap (λ p. files_behind e.what p s.files) is.0.reply_is) i; port = (ap port_by is.1 ∙ planned_port nth s.told told) i } in (
@@ -359,7 +312,7 @@ asking_through n rest e s r text (Refuses errno) op asks told is files =
     )
 
 -- A talk that was carried out passes through its deeds to its end, with its text.
-pub follows_through : (n : ℕ) (turns : List Turn) (p : Program Names) (s : Carried) (value : Names) (r : Carried) (text : List ℕ) → IsTold s.told → Follows true n p s turns (done value) r
+pub follows_through : (n : ℕ) (turns : List Turn) (p : Program Names) (s : Carried) (value : Names) (r : Carried) (text : List ℕ) → IsTold s.told → Follows (planning plain) n p s turns (done value) r
     → Passes (settles p (bearing_by s) text) (did_by turns) (seat Ended (goes_on (done value)) (bearing_by r) (text ++ said_by turns)) × IsTold r.told
 follows_through n [] p s value r text told h =
     ((λ i. settles (h.0 i) (bearing_by (h.1 i)) text) ∙ ap (seat Ended (goes_on (done value)) (bearing_by r)) (sym (append-nil text)), subst (λ (c : Carried). IsTold c.told) h.1 told)
@@ -372,7 +325,7 @@ follows_through n (Said more ∷ turns) p s value r text told h =
     )
 follows_through n (Did e ∷ turns) p s value r text told h =
     let rest : Got → Program Names = h.2.0 in
-    let carries : Carries true n s e h.1 = h.2.3 in
+    let carries : Carries (planning plain) n s e h.1 = h.2.3 in
     let one = asking_through n rest e s h.1 text (asking s.files e.what) (op_asked s.files e.what) (all_have_bits s.files e.what) told carries.is_done carries.files in
     let on = follows_through n turns h.0 h.1 value r text one.1 h.3 in
     let goal : Seat = seat Ended (goes_on (done value)) (bearing_by r) (text ++ said_by turns) in

@@ -13,6 +13,7 @@ use Rattle.gl_world.specs.History.{entries_of, fold_from}
 use Rattle.gl_model.specs.Machine.{world_after}
 use Rattle.gl_model.specs.World.{World, opening}
 use Rattle.gl_core.specs.Device.{OneDeed, OneEntry, core}
+use Rattle.gl_check.specs.Drivers.{plain, planning}
 use Rattle.gl_check.specs.Many.{ActorPlayed, ActorsPlayed, PlannedTells, all_new, program_of}
 use Rattle.gl_check.specs.Misfit.{AllFit, AtEnd, Moment, actors_in, after_begun, after_entry, all_ended, beginning, behind, last_by, last_of, others_texts, texts_in}
 use Rattle.gl_check.specs.Programs.{after_of, setup_of}
@@ -144,7 +145,7 @@ module _ (sections : List SaidSection) where
 
   -- one actor's deeds lead it to its end: it carried its program out
   seat_played : (n : ℕ) (p : Program Names) (s : Carried) (b : Bearing) (t : Seat) (ds : List OneDeed) → bearing_by s ≡ b → IsTold s.told → is_ended t.stand ≡ true → (w : World) (es : List OneEntry) → LegalFrom w es → ds ≡ deeds_from core w n es
-      → Passes (settles p b []) ds t → (value : Names) × (r : Carried) × Played true n p s t.text ds value r × (t ≡ seat Ended (goes_on (done value)) (bearing_by r) t.text) × IsTold r.told
+      → Passes (settles p b []) ds t → (value : Names) × (r : Carried) × Played (planning plain) n p s t.text ds value r × (t ≡ seat Ended (goes_on (done value)) (bearing_by r) t.text) × IsTold r.told
   seat_played n p s b t ds bearing told ended w es legal ds_is passes =
       passes_back n p s ds t (subst (λ (l : List OneDeed). AreOf n l) (sym ds_is) (deeds_are_of w n es legal)) told ended (subst (λ (b : Bearing). Passes (settles p b []) ds t) (sym bearing) passes)
 
@@ -165,7 +166,7 @@ module _ (sections : List SaidSection) where
     pub record Carried_out (n : ℕ) : Type 0 where
       pub names : Names
       pub behind : Carried
-      pub played : Played true n (program_of sections n) (carried [] (all_new n)) (at_last n).text (deeds_of core n es) names behind
+      pub played : Played (planning plain) n (program_of sections n) (carried [] (all_new n)) (at_last n).text (deeds_of core n es) names behind
 
     played_at : (m : ℕ) → Carried_out (suc m)
     played_at m =
@@ -183,17 +184,17 @@ module _ (sections : List SaidSection) where
       unfolding left
       first_left = refl
 
-      actor_played : (n : ℕ) → 1 ≤ n → ActorPlayed true all_new left sections es n (at_last n).text
+      actor_played : (n : ℕ) → 1 ≤ n → ActorPlayed (planning plain) all_new left sections es n (at_last n).text
       unfolding left
       actor_played zero one = absurd (omega arith)
       actor_played (suc m) one = let p = played_at m in record { names = p.names; behind = p.behind; played = p.played; left_is = refl }
 
-      actors_played : (k n : ℕ) → 1 ≤ n → ActorsPlayed true all_new left sections es n (others_texts n k (behind sections start es).others)
+      actors_played : (k n : ℕ) → 1 ≤ n → ActorsPlayed (planning plain) all_new left sections es n (others_texts n k (behind sections start es).others)
       actors_played zero n one = tt
       actors_played (suc k) n one = (actor_played n one, actors_played k (n + 1) (omega arith))
 
   -- Where all entries fit and all actors are at their end, the history is that of all that was carried out, with these texts.
-  pub fit_played : (es : List OneEntry) → AllFit sections start es → AtEnd sections (behind sections start es) → PlannedTells sections es (texts_in sections (behind sections start es))
+  pub fit_played : (es : List OneEntry) → AllFit sections start es → AtEnd sections (behind sections start es) → PlannedTells plain sections es (texts_in sections (behind sections start es))
   fit_played es fit end =
       let b : Moment = behind sections start es in
       let f = first_part start es fit end.setup in
@@ -238,7 +239,7 @@ module _ (sections : List SaidSection) where
           others_not_last = last.alone;
           names = setup.0;
           waiting = setup.1;
-          setup = subst (λ text. Played true 0 (setup_of sections) (carried [] (all_new 0)) text (deeds_from core opening 0 f.first) setup.0 setup.1) (ap (λ (s : Seat). s.text) (sym b_setup)) setup.2;
+          setup = subst (λ text. Played (planning plain) 0 (setup_of sections) (carried [] (all_new 0)) text (deeds_from core opening 0 f.first) setup.0 setup.1) (ap (λ (s : Seat). s.text) (sym b_setup)) setup.2;
           end = after.0;
           behind = after.1;
           after = after.2;

@@ -12,4 +12,5 @@ pub mod Seats
 pub mod Sections
 pub mod Tells
 pub mod Texts
+pub mod Drivers
 pub mod Turns

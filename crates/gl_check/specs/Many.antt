@@ -1,7 +1,7 @@
 -- Many: what a session with two or more actors did, by its history and its texts. Each actor carries its section out as a talk of
 -- its own; the history has its entries in order, with other actors' between them. Actor 0 has `setup` in front of all other
 -- actors' entries, and `after` after them. This project's choice.
-use Rattle.std.specs.Prelude.{◌≡◌, ℕ, ◌+◌, ◌-◌, ◌<◌, ◌≤◌, Bool, true, false, if◌then◌else◌, List, [], ◌∷◌, ◌++◌, length, map, get_or, Option, Some, None}
+use Rattle.std.specs.Prelude.{◌≡◌, ℕ, ◌+◌, ◌-◌, ◌<◌, ◌≤◌, if◌then◌else◌, List, [], ◌∷◌, ◌++◌, length, map, get_or, Option, Some, None}
 use Rattle.gl_base.specs.Words.{Span}
 use Rattle.gl_world.specs.Deeds.{deeds_from, deeds_of}
 use Rattle.gl_world.specs.History.{Legal, entries_of, fold}
@@ -12,8 +12,9 @@ use Rattle.gl_script.specs.Section.{SaidSection}
 use Rattle.gl_script.specs.declared.section.SectionKind.TheVariants.{Actor}
 use Rattle.gl_talk.specs.Open.{Names, no_names}
 use Rattle.gl_talk.specs.Talk.{talks}
-use Rattle.gl_core.specs.Device.{OneEntry, core, tells_in}
-use Rattle.gl_check.specs.Tells.{TellsAfter}
+use Rattle.gl_core.specs.Device.{OneEntry, core}
+use Rattle.gl_check.specs.Drivers.{DriverKind, planning, untold}
+use Rattle.gl_check.specs.Tells.{TellsAfter, outer_tells}
 use Rattle.gl_check.specs.Programs.{after_of, setup_of}
 use Rattle.gl_check.specs.One.{is_kind}
 use Rattle.gl_check.specs.Turns.{Carried, Played, carried}
@@ -41,14 +42,14 @@ pub record Texts : Type 0 where
   pub last : List ℕ
 
 -- A port for each actor by its number, which may tell what went through it.
--- `is_planned`: the driver answers as these plan. `before`: what each told at the beginning. `left`: what it tells at the end.
-module _ (is_planned : Bool) (before left : ℕ → Option Told) (sections : List SaidSection) (history : List OneEntry) where
+-- `before`: what each told at the beginning. `left`: what it tells at the end.
+module _ (driver : DriverKind) (before left : ℕ → Option Told) (sections : List SaidSection) (history : List OneEntry) where
   -- Actor n carried its section out: its entries in the history are just those of the operations of its talk, in order, each result that
   -- of the history's reply, and this is its text.
   pub record ActorPlayed (n : ℕ) (text : List ℕ) : Type 0 where
     pub names : Names
     pub behind : Carried
-    pub played : Played is_planned n (program_of sections n) (carried [] (before n)) text (deeds_of core n history) names behind
+    pub played : Played driver n (program_of sections n) (carried [] (before n)) text (deeds_of core n history) names behind
     pub left_is : behind.told ≡ left n
 
   -- the actors from n on, with their texts
@@ -69,10 +70,10 @@ module _ (is_planned : Bool) (before left : ℕ → Option Told) (sections : Lis
     -- `setup` and `after` are one talk, which waits in between with its files and names
     pub names : Names
     pub waiting : Carried
-    pub setup : Played is_planned 0 (setup_of sections) (carried [] (before 0)) texts.setup (deeds_of core 0 first) names waiting
+    pub setup : Played driver 0 (setup_of sections) (carried [] (before 0)) texts.setup (deeds_of core 0 first) names waiting
     pub end : Names
     pub behind : Carried
-    pub after : Played is_planned 0 (after_of sections names) waiting texts.last (deeds_from core (fold core (first ++ middle)) 0 last) end behind
+    pub after : Played driver 0 (after_of sections names) waiting texts.last (deeds_from core (fold core (first ++ middle)) 0 last) end behind
     pub left_is : behind.told ≡ left 0
     pub actors : ActorsPlayed 1 texts.actors
     pub as_many : length texts.actors ≡ length (actor_sections sections)
@@ -87,17 +88,18 @@ abbrev pub all_new : ℕ → Option Told
 all_new n = Some new_port
 
 -- Many: the history is legal, each actor's entries in it are parts of the operations of its talk, in order, with the history's replies as
--- results, and its text is that talk's. No word on ports.
-abbrev pub Many : List SaidSection → List OneEntry → Texts → Type 0
-Many sections history texts = AllPlayed false silent silent sections history texts
+-- results, and its text is that talk's. The entries that the driver makes of its own are such as it may make. No word on ports.
+abbrev pub Many : DriverKind → List SaidSection → List OneEntry → Texts → Type 0
+Many driver sections history texts = AllPlayed (untold driver) silent silent sections history texts
 
 -- Each actor's tells have, in order, the answers that a planned driver gives through a new port to that actor's statements about its port
--- and to its driver calls, in the order of its section, or for actor 0 of `setup` and then `after`.
-abbrev pub PlannedTells : List SaidSection → List OneEntry → Texts → Type 0
-PlannedTells sections history texts = (left : ℕ → Option Told) × AllPlayed true all_new left sections history texts
+-- and to its driver calls, in the order of its section, or for actor 0 of `setup` and then `after`; at a place with a map the answer that
+-- follows.
+abbrev pub PlannedTells : DriverKind → List SaidSection → List OneEntry → Texts → Type 0
+PlannedTells driver sections history texts = (left : ℕ → Option Told) × AllPlayed (planning driver) all_new left sections history texts
 
--- Where an actor's port told, it tells in the end as many driver calls more as the actor has tells in the history, and as its last answer
--- that of the last of them.
+-- Where an actor's port told, it tells in the end as many driver calls more as calls of the actor have a tell in the history, those within
+-- others left out, and as its last answer that of the last of them.
 abbrev pub PortsTell : (ℕ → Option Told) → (ℕ → Option Told) → List SaidSection → List OneEntry → Type 0
 PortsTell before left sections history =
-    (n : ℕ) (t : Told) → n ≤ length (actor_sections sections) → before n ≡ Some t → TellsAfter t (tells_in (entries_of n history)) (left n)
+    (n : ℕ) (t : Told) → n ≤ length (actor_sections sections) → before n ≡ Some t → TellsAfter t (outer_tells 0 (entries_of n history)) (left n)

@@ -9,6 +9,7 @@ use Rattle.gl_model.specs.World.{World, opening}
 use Rattle.gl_talk.specs.Open.{Names, no_names}
 use Rattle.gl_core.specs.Device.{OneDeed, OneEntry, core}
 use Rattle.gl_core.specs.Legal.{GoesOn}
+use Rattle.gl_check.specs.Drivers.{plain}
 use Rattle.gl_check.specs.Many.{Many, PlannedTells, Texts, actor_sections, program_of}
 use Rattle.gl_check.specs.Programs.{after_of, setup_of}
 use Rattle.gl_check.specs.Seats.{Seat, Suits, is_ended, moved, new_bearing, settles}
@@ -125,8 +126,8 @@ module _ (sections : List SaidSection) where
 -- There is no misfit exactly where PlannedTells holds for some texts. Then Many holds for the same texts, and PlannedTells for no others.
 -- And IsMisfit holds for at most one answer: no history has two misfits, and none that has one has none.
 pub record JudgesMany (sections : List SaidSection) (history : List OneEntry) : Type 0 where
-  pub sound : IsMisfit sections history None → Many sections history (texts_of sections history) × PlannedTells sections history (texts_of sections history)
-  pub complete : (texts : Texts) → PlannedTells sections history texts → IsMisfit sections history None × (texts ≡ texts_of sections history)
+  pub sound : IsMisfit sections history None → Many plain sections history (texts_of sections history) × PlannedTells plain sections history (texts_of sections history)
+  pub complete : (texts : Texts) → PlannedTells plain sections history texts → IsMisfit sections history None × (texts ≡ texts_of sections history)
   pub at_most_one : (i j : Option ℕ) → IsMisfit sections history i → IsMisfit sections history j → i ≡ j
 
 abbrev pub MisfitIsNoneForMany : Type 0

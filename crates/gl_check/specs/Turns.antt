@@ -1,29 +1,35 @@
 -- A talk as an actor carried it out on the device: what it printed and what it did, one turn after another. The history may have
 -- entries of other actors between any two of its own. This project's choice.
-use Rattle.std.specs.Prelude.{◌≡◌, ℕ, Bool, List, [], ◌∷◌, ◌++◌, Option, Some}
+use Rattle.std.specs.Prelude.{◌≡◌, ◌≤◌, ℕ, Bool, true, false, List, [], ◌∷◌, ◌++◌, length, Option, Some, None}
 use Rattle.gl_base.specs.declared.operation.Do.{Do}
 use Rattle.gl_base.specs.declared.operation.Got.{Got}
 use Rattle.gl_world.specs.Deeds.{entries_in}
+use Rattle.gl_world.specs.History.{ended_in}
 use Rattle.gl_client.specs.Program.{Program, done, print, ask}
-use Rattle.gl_driver.specs.Told.{PortAfter, Told, with_bits, with_plan}
+use Rattle.gl_driver.specs.Told.{Told, counts_for, with_bits, with_call_counting, with_plan}
+use Rattle.gl_driver.specs.declared.map.Map.{Map}
 use Rattle.gl_base.specs.declared.op.Op.{Op}
+use Rattle.gl_model.specs.Entries.{begins}
 use Rattle.gl_model.specs.declared.device_call.DeviceCall.{DeviceCall}
+use Rattle.gl_model.specs.declared.device_call.DeviceCall.TheVariants.{Once, Removing, Commanding}
 use Rattle.gl_model.specs.Parts.{Makes, last_reply}
 use Rattle.gl_model.specs.declared.reply.Reply.{Reply}
 use Rattle.gl_model.specs.declared.reply.Reply.TheVariants.{Done, Refused}
-use Rattle.gl_core.specs.Device.{OneDeed, last_bytes, tells_in}
+use Rattle.gl_core.specs.Device.{OneDeed, OneEntry, core, last_bytes}
 use Rattle.gl_asking.specs.declared.kinds.Asking.{Asking}
 use Rattle.gl_asking.specs.declared.kinds.Asking.TheVariants.{Calls, Plans, Accepts, Refuses}
 use Rattle.gl_asking.specs.Asking.{asking, files_behind, got_of}
 use Rattle.gl_asking.specs.Driving.{op_asked}
 use Rattle.gl_asking.specs.Files.{OpenFile}
+use Rattle.gl_check.specs.Drivers.{DriverKind, Gives, MayMake, map_in}
 
--- an operation as it was carried out: whether the guard of its place was closed, what the driver answered where it was asked,
--- what the actor did, and the last reply and what was written there
+-- an operation as it was carried out: whether the guard of its place was closed, what the driver answered where it was asked, and the entries
+-- that it made of its own meanwhile; what the actor did, these among it, and the last reply and what was written there
 pub record Exchange : Type 0 where
   pub what : Do
   pub closed : Bool
   pub answer : Option ℕ
+  pub own : List OneEntry
   pub did : List OneDeed
   pub reply : Reply
   pub wrote : List ℕ
@@ -36,13 +42,52 @@ pub record Carried : Type 0 where
 abbrev pub carried : List OpenFile → Option Told → Carried
 carried files told = record { files = files; told = told }
 
-module _ (is_planned : Bool) (actor : ℕ) where
-  -- a call of the device was made, for which the driver is asked this: its deeds are parts of the call, and reply and bytes are the last one's
+-- the first of these entries owes a second one
+abbrev pub is_begun : List OneEntry → Bool
+is_begun [] = false
+is_begun (e ∷ es) = begins e.call e.reply
+
+-- the driver was asked for a call that made these entries: for a command whose ask was answered Go
+abbrev pub was_asked : DeviceCall → List OneEntry → Bool
+was_asked (Once call) made = false
+was_asked (Removing removal) made = false
+was_asked (Commanding c) made = is_begun made
+
+-- the map by which it goes then
+abbrev pub map_of : DeviceCall → Option Map
+map_of (Once call) = None
+map_of (Removing removal) = None
+map_of (Commanding c) = map_in c.place
+
+module _ (driver : DriverKind) (actor : ℕ) where
+  -- The driver was asked in this exchange, for just that operation. Between the ask and the tell stand the entries of its own, which are such
+  -- as it may make; its answer is one that follows; and the port tells one call more, with this answer.
+  pub record WasAsked (map : Option Map) (op : Option Op) (e : Exchange) (before after : Option Told) : Type 0 where
+    pub asked_for : Op
+    pub is_this : op ≡ Some asked_for
+    pub ask : OneDeed
+    pub inner : List OneDeed
+    pub tell : OneDeed
+    pub deeds_are : e.did ≡ ask ∷ (inner ++ tell ∷ [])
+    pub inner_own : entries_in inner ≡ e.own
+    pub may_make : MayMake driver map asked_for e.own
+    pub room : ℕ
+    pub seen : ℕ
+    pub gives : Gives driver map before asked_for inner room seen e.answer
+    pub told_then : after ≡ with_call_counting (counts_for map (ended_in core e.own)) asked_for e.answer before
+
+  -- what becomes of the port, by whether the driver was asked
+  abbrev pub PortBy : Bool → Option Map → Option Op → Exchange → Option Told → Option Told → Type 0
+  PortBy false map op e before after = after ≡ before
+  PortBy true map op e before after = WasAsked map op e before after
+
+  -- A call of the device was made, for which the driver is asked this: its deeds are parts of the call, and reply and bytes are the last one's.
   pub record HasMade (call : DeviceCall) (op : Option Op) (e : Exchange) (before after : Option Told) : Type 0 where
-    pub makes : Makes actor e.closed call e.answer [] (entries_in e.did)
+    pub makes : Makes actor e.closed call e.answer e.own (entries_in e.did)
+    pub few_own : length e.own ≤ driver.limit
     pub reply_is : last_reply (entries_in e.did) ≡ Some e.reply
     pub bytes_are : last_bytes e.did ≡ e.wrote
-    pub port : PortAfter is_planned op (tells_in (entries_in e.did)) before after
+    pub port : PortBy (was_asked call (entries_in e.did)) (map_of call) op e before after
 
   -- nothing was done
   pub record DidNothing (e : Exchange) (reply : Reply) : Type 0 where
@@ -77,11 +122,11 @@ did_by [] = []
 did_by (Said text ∷ turns) = did_by turns
 did_by (Did e ∷ turns) = e.did ++ did_by turns
 
-module _ {A : Type 0} (is_planned : Bool) (actor : ℕ) where
+module _ {A : Type 0} (driver : DriverKind) (actor : ℕ) where
   -- what is left of a program after a turn
   abbrev pub Takes : Program A → Carried → Turn → Program A → Carried → Type 0
   Takes p s (Said text) q r = (p ≡ print text q) × (r ≡ s)
-  Takes p s (Did e) q r = (rest : Got → Program A) × (p ≡ ask e.what rest) × (q ≡ rest (got_of e.what e.reply e.wrote)) × Carries is_planned actor s e r
+  Takes p s (Did e) q r = (rest : Got → Program A) × (p ≡ ask e.what rest) × (q ≡ rest (got_of e.what e.reply e.wrote)) × Carries driver actor s e r
 
   -- and after turns, one after another
   abbrev pub Follows : Program A → Carried → List Turn → Program A → Carried → Type 0

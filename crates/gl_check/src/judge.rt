@@ -99,6 +99,23 @@ fn begin_after(
     }
 }
 
+/// Actor 0 at its first call of the device: whether that is in `after`, and what `setup` printed then. `NoMemory` alone is refused.
+fn start_first(
+    alloc: Global,
+    setup: &[Statement<'_>],
+    all: &[Statement<'_>],
+) -> Result<(Seat, bool, Vec<u8>), Errno>
+    requires within { length setup.now ≤ length all.now }
+    ensures first { IfOk result (λ begun. (sections : List SaidSection) → map columns_in setup.now ≡ setup_words sections → map columns_in all.now ≡ all_words sections
+        → IsFirst sections begun.1 begun.0 begun.2.items (beginning sections) × (begun.1 ≡ is_ended (beginning sections).setup.stand)) }
+    ensures memory_alone { IsOkUnless result Errno.NoMemory }
+{
+    let mut first = Seat::start(alloc, setup, false)?;
+    let mut printed = Vec::new(alloc);
+    let after = begin_after(alloc, all, &mut first, &mut printed)?;
+    Ok((first, after, printed))
+}
+
 /// Takes an entry of an actor in, where it is legal and the actor's next one. It tells whether it is; after `false` nothing is said of the
 /// machine and the actor any more. `NoMemory` alone is refused.
 fn enter(
@@ -173,11 +190,10 @@ impl Judge {
         ensures ok { IfOk result (λ j. Judges (sections_of script.now) j (beginning (sections_of script.now))) }
         ensures memory_alone { IsOkUnless result Errno.NoMemory }
     {
-        let core = Core::new(alloc)?;
-        let mut first = Seat::start(alloc, setup, false)?;
-        let mut printed = Vec::new(alloc);
-        let after = begin_after(alloc, all, &mut first, &mut printed)?;
         let others = start_others(alloc, script)?;
+        let begun = start_first(alloc, setup, all)?;
+        let core = Core::new(alloc)?;
+        let (first, after, printed) = begun;
         Ok(Judge {
             core,
             first,

@@ -2,8 +2,7 @@
 
 ghost use Rattle.std.specs.Prelude.{◌≡◌};
 ghost use Rattle.gl_model.specs.Entries.{last_call};
-ghost use Rattle.gl_model.specs.OpenFiles.{asks_driver, is_for_chips};
-ghost use Rattle.gl_model.specs.Parts.{first_call, is_driver_asked, is_poll};
+ghost use Rattle.gl_model.specs.Parts.{first_call, is_poll};
 ghost use Rattle.gl_model.specs.Step.{guard_reply};
 ghost use Rattle.gl_model.specs.declared.call.Call.TheVariants.{Ioctl};
 ghost use Rattle.gl_model.specs.declared.device_call.DeviceCall.TheVariants.{Once};
@@ -14,7 +13,7 @@ ghost use Rattle.gl_check.specs.Seats.{first_inside, is_refusal, second_of};
 
 use crate::port::Planned;
 use gl_base::Errno;
-use gl_model::{Call, CommandIn, DeviceCall, Part, RemovalOf, Reply};
+use gl_model::{Call, CommandIn, DeviceCall, Part, RemovalOf, Reply, is_driver_asked};
 use gl_uapi::Command;
 
 /// The first entry's call of a call of the device that its guard let in.
@@ -47,7 +46,7 @@ fn first_call(removal: &RemovalOf) -> Call
 fn first_part(command: &CommandIn) -> Call
     ensures { result ≡ first_inside (DeviceCall.Commanding command.now) }
 {
-    if is_driver_asked(command.of_chip, command.len, Command::of(command.cmd)) {
+    if is_driver_asked(command) {
         in_part(command, Part::Ask)
     } else {
         in_part(command, Part::Whole)
@@ -64,40 +63,6 @@ fn in_part(command: &CommandIn, part: Part) -> Call
         len: command.len,
         bytes: command.bytes,
         part,
-    }
-}
-
-/// The driver is asked for a command of the file's kind, whose structure the buffer has room for.
-fn is_driver_asked(of_chip: bool, len: u32, command: Option<Command>) -> bool
-    ensures { result ≡ is_driver_asked of_chip len command }
-{
-    match command {
-        Some(command) => {
-            asks_driver(command) && of_chip == is_for_chips(command) && command.size() <= len
-        }
-        None => false,
-    }
-}
-
-fn asks_driver(command: Command) -> bool
-    ensures { result ≡ asks_driver command }
-{
-    match command {
-        Command::GetLine | Command::SetConfig | Command::GetValues | Command::SetValues => true,
-        Command::ChipInfo | Command::LineInfo | Command::Watch | Command::Unwatch => false,
-    }
-}
-
-fn is_for_chips(command: Command) -> bool
-    ensures { result ≡ is_for_chips command }
-{
-    match command {
-        Command::ChipInfo
-        | Command::LineInfo
-        | Command::Watch
-        | Command::Unwatch
-        | Command::GetLine => true,
-        Command::SetConfig | Command::GetValues | Command::SetValues => false,
     }
 }
 

@@ -9,7 +9,7 @@ ghost use Rattle.gl_asking.specs.Rows.{IsRow, IsSomeRow, file_of, row_file};
 ghost use Rattle.gl_base.specs.Rows.{Each};
 ghost use Rattle.gl_check.specs.Rows.{is_row};
 
-use gl_asking::{Change, FileRow, files_behind};
+use gl_asking::{Change, FileRow, answered_by, files_behind};
 use gl_base::Do;
 use gl_model::Reply;
 
@@ -61,7 +61,8 @@ pub fn keep(rows: &mut Vec<FileRow>, what: &Do, row: Option<FileRow>, reply: Rep
     ensures rows { Each IsRow rows.new.items }
     ensures files { map row_file rows.new.items ≡ files_behind what.now reply (map row_file rows.old.items) }
 {
-    change(rows, files_behind(what, row, reply));
+    let answered = answered_by(what, reply);
+    change(rows, files_behind(what, row, &answered));
 }
 
 /// Makes a change. There is room for a row more.

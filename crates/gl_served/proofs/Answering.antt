@@ -17,7 +17,7 @@ use Rattle.gl_talk.specs.Talk.{names_in}
 use Rattle.gl_talk.specs.declared.talk.Talk.{Talk}
 use Rattle.gl_served.specs.Alone.{StandsAs}
 use Rattle.gl_served.specs.Questions.{IsData, IsReply, IsReplyTo, data_kind, due_text, moved, names_chip, question_of, read_word, shift_of, stands_for}
-use Rattle.gl_served.specs.Served.{IsAnswer, Keeps, Said, ServedValue, carried_out, kind_after, limited, pair_after}
+use Rattle.gl_served.specs.Served.{Accepted, IsAnswer, Keeps, ServedValue, carried_out, kind_after, limited, pair_after}
 use Rattle.gl_served.specs.UnderWay.{IsTaken}
 use Rattle.gl_served.specs.declared.alone.Alone.{Alone}
 use Rattle.gl_served.specs.declared.limits.TheConstants.{LINE_MAX}
@@ -29,7 +29,7 @@ use Rattle.gl_served.specs.declared.under_way.UnderWay.{UnderWay}
 use Rattle.gl_served.proofs.CutLines.{long_asks}
 
 -- the kind of a line
-pub short_kind : (said : Said) (line : List ℕ) (pair : Option ℕ) (stage : Stage) → pair ≡ pair_after said → stage ≡ said.stage → length line ≤ LINE_MAX → limited pair (line_kind stage line) ≡ kind_after said line
+pub short_kind : (said : Accepted) (line : List ℕ) (pair : Option ℕ) (stage : Stage) → pair ≡ pair_after said → stage ≡ said.stage → length line ≤ LINE_MAX → limited pair (line_kind stage line) ≡ kind_after said line
 short_kind said line pair stage own reached short =
     ap (λ (p : Option ℕ). limited p (line_kind stage line)) own
     ∙ ap (λ (s : Stage). limited (pair_after said) (line_kind s line)) reached
@@ -51,11 +51,11 @@ pub moved_statement : (pair : Option ℕ) (shift : ℕ) (kind : Result LineKind 
 moved_statement pair shift kind e = unmoved shift kind (limited_statement pair (moved shift kind) e)
 
 -- a refused line
-pub refuses : (said : Said) (line : List ℕ) (kind : Result LineKind Spot) (fault : Spot) → Err fault ≡ kind → IsAnswer said line kind (Refused fault) [] said
+pub refuses : (said : Accepted) (line : List ℕ) (kind : Result LineKind Spot) (fault : Spot) → Err fault ≡ kind → IsAnswer said line kind (Refused fault) [] said
 refuses said line kind fault is = subst (λ (k : Result LineKind Spot). IsAnswer said line k (Refused fault) [] said) is (refl, refl, refl)
 
 -- a stage more is reached
-pub reached : (before stage : Stage) (talk : Talk) (count : ℕ) (alone : Alone) (under_way : Option UnderWay) (served : ServedValue) (said : Said) → record { stage = before; talk = talk; count = count; alone = alone; under_way = under_way } ≡ served
+pub reached : (before stage : Stage) (talk : Talk) (count : ℕ) (alone : Alone) (under_way : Option UnderWay) (served : ServedValue) (said : Accepted) → record { stage = before; talk = talk; count = count; alone = alone; under_way = under_way } ≡ served
     → Keeps served said → Keeps (record { stage = stage; talk = talk; count = count; alone = alone; under_way = under_way }) (record { stage = stage; statements = said.statements })
 reached before stage talk count alone under_way served said is keeps = record {
   stage = refl;
@@ -66,71 +66,71 @@ reached before stage talk count alone under_way served said is keeps = record {
 }
 
 -- `setup` was accepted
-pub opened_up : (before stage : Stage) (talk : Talk) (count : ℕ) (alone : Alone) (under_way : Option UnderWay) (served : ServedValue) (said : Said) → record { stage = before; talk = talk; count = count; alone = alone; under_way = under_way } ≡ served → stage ≡ opened before
+pub opened_up : (before stage : Stage) (talk : Talk) (count : ℕ) (alone : Alone) (under_way : Option UnderWay) (served : ServedValue) (said : Accepted) → record { stage = before; talk = talk; count = count; alone = alone; under_way = under_way } ≡ served → stage ≡ opened before
     → Keeps served said → Keeps (record { stage = stage; talk = talk; count = count; alone = alone; under_way = under_way }) (record { stage = opened said.stage; statements = said.statements })
 opened_up before stage talk count alone under_way served said is opens keeps =
     let same : opened said.stage ≡ stage = ap opened (sym keeps.stage ∙ sym (ap (λ (v : ServedValue). v.stage) is)) ∙ sym opens in
     subst (λ s. Keeps (record { stage = stage; talk = talk; count = count; alone = alone; under_way = under_way }) (record { stage = s; statements = said.statements })) (sym same)
     (reached before stage talk count alone under_way served said is keeps)
 
-module _ (result : Result Answer Errno) (old new : List ℕ) (now : ServedValue) (said : Said) where
+module _ (result : Result Answer Errno) (old new : List ℕ) (now : ServedValue) (said : Accepted) where
   -- by what the line is
   pub said_by : (line : List ℕ) (kind other : Result LineKind Spot) → kind ≡ other
-      → IfOk result (λ answer. (text : List ℕ) × (then : Said) × (new ≡ old ++ text) × IsAnswer said line kind answer text then × Keeps now then)
-      → IfOk result (λ answer. (text : List ℕ) × (then : Said) × (new ≡ old ++ text) × IsAnswer said line other answer text then × Keeps now then)
+      → IfOk result (λ answer. (text : List ℕ) × (then : Accepted) × (new ≡ old ++ text) × IsAnswer said line kind answer text then × Keeps now then)
+      → IfOk result (λ answer. (text : List ℕ) × (then : Accepted) × (new ≡ old ++ text) × IsAnswer said line other answer text then × Keeps now then)
   said_by line kind other is told =
-      subst (λ (k : Result LineKind Spot). IfOk result (λ answer. (text : List ℕ) × (then : Said) × (new ≡ old ++ text) × IsAnswer said line k answer text then × Keeps now then)) is told
+      subst (λ (k : Result LineKind Spot). IfOk result (λ answer. (text : List ℕ) × (then : Accepted) × (new ≡ old ++ text) × IsAnswer said line k answer text then × Keeps now then)) is told
 
   pub read_by : (line stood : List ℕ) (kind other : Result LineKind Spot) → line ≡ stood → kind ≡ other
-      → IfOk result (λ answer. (text : List ℕ) × (then : Said) × (new ≡ old ++ text) × IsData said line kind answer text then × Keeps now then)
-      → IfOk result (λ answer. (text : List ℕ) × (then : Said) × (new ≡ old ++ text) × IsData said stood other answer text then × Keeps now then)
+      → IfOk result (λ answer. (text : List ℕ) × (then : Accepted) × (new ≡ old ++ text) × IsData said line kind answer text then × Keeps now then)
+      → IfOk result (λ answer. (text : List ℕ) × (then : Accepted) × (new ≡ old ++ text) × IsData said stood other answer text then × Keeps now then)
   read_by line stood kind other same is told =
-      subst (λ (l : List ℕ). IfOk result (λ answer. (text : List ℕ) × (then : Said) × (new ≡ old ++ text) × IsData said l other answer text then × Keeps now then)) same
-      (subst (λ (k : Result LineKind Spot). IfOk result (λ answer. (text : List ℕ) × (then : Said) × (new ≡ old ++ text) × IsData said line k answer text then × Keeps now then)) is told)
+      subst (λ (l : List ℕ). IfOk result (λ answer. (text : List ℕ) × (then : Accepted) × (new ≡ old ++ text) × IsData said l other answer text then × Keeps now then)) same
+      (subst (λ (k : Result LineKind Spot). IfOk result (λ answer. (text : List ℕ) × (then : Accepted) × (new ≡ old ++ text) × IsData said line k answer text then × Keeps now then)) is told)
 
   pub reads_by : (line : List ℕ) (kind : Result LineKind Spot) (reads other : Bool) → reads ≡ other
-      → IfOk result (λ answer. (text : List ℕ) × (then : Said) × (new ≡ old ++ text) × IsTaken reads said line kind answer text then × Keeps now then)
-      → IfOk result (λ answer. (text : List ℕ) × (then : Said) × (new ≡ old ++ text) × IsTaken other said line kind answer text then × Keeps now then)
+      → IfOk result (λ answer. (text : List ℕ) × (then : Accepted) × (new ≡ old ++ text) × IsTaken reads said line kind answer text then × Keeps now then)
+      → IfOk result (λ answer. (text : List ℕ) × (then : Accepted) × (new ≡ old ++ text) × IsTaken other said line kind answer text then × Keeps now then)
   reads_by line kind reads other is told =
-      subst (λ (r : Bool). IfOk result (λ answer. (text : List ℕ) × (then : Said) × (new ≡ old ++ text) × IsTaken r said line kind answer text then × Keeps now then)) is told
+      subst (λ (r : Bool). IfOk result (λ answer. (text : List ℕ) × (then : Accepted) × (new ≡ old ++ text) × IsTaken r said line kind answer text then × Keeps now then)) is told
 
   pub kind_by : (line : List ℕ) (reads : Bool) (kind other : LineKind) → kind ≡ other
-      → IfOk result (λ answer. (text : List ℕ) × (then : Said) × (new ≡ old ++ text) × IsTaken reads said line (Ok kind) answer text then × Keeps now then)
-      → IfOk result (λ answer. (text : List ℕ) × (then : Said) × (new ≡ old ++ text) × IsTaken reads said line (Ok other) answer text then × Keeps now then)
+      → IfOk result (λ answer. (text : List ℕ) × (then : Accepted) × (new ≡ old ++ text) × IsTaken reads said line (Ok kind) answer text then × Keeps now then)
+      → IfOk result (λ answer. (text : List ℕ) × (then : Accepted) × (new ≡ old ++ text) × IsTaken reads said line (Ok other) answer text then × Keeps now then)
   kind_by line reads kind other is told =
-      subst (λ (k : LineKind). IfOk result (λ answer. (text : List ℕ) × (then : Said) × (new ≡ old ++ text) × IsTaken reads said line (Ok k) answer text then × Keeps now then)) is told
+      subst (λ (k : LineKind). IfOk result (λ answer. (text : List ℕ) × (then : Accepted) × (new ≡ old ++ text) × IsTaken reads said line (Ok k) answer text then × Keeps now then)) is told
 
   -- by which question it is
   pub replied_by : (line : List ℕ) (q : Question) → question_of said.stage line ≡ q
-      → IfOk result (λ answer. (text : List ℕ) × (then : Said) × (new ≡ old ++ text) × IsReplyTo q said line answer text then × Keeps now then)
-      → IfOk result (λ answer. (text : List ℕ) × (then : Said) × (new ≡ old ++ text) × IsReply said line answer text then × Keeps now then)
+      → IfOk result (λ answer. (text : List ℕ) × (then : Accepted) × (new ≡ old ++ text) × IsReplyTo q said line answer text then × Keeps now then)
+      → IfOk result (λ answer. (text : List ℕ) × (then : Accepted) × (new ≡ old ++ text) × IsReply said line answer text then × Keeps now then)
   replied_by line q is told =
-      subst (λ (p : Question). IfOk result (λ answer. (text : List ℕ) × (then : Said) × (new ≡ old ++ text) × IsReplyTo p said line answer text then × Keeps now then)) (sym is) told
+      subst (λ (p : Question). IfOk result (λ answer. (text : List ℕ) × (then : Accepted) × (new ≡ old ++ text) × IsReplyTo p said line answer text then × Keeps now then)) (sym is) told
 
 -- what isn't a statement is answered as any line
-read_plainly : (said : Said) (line : List ℕ) (kind : LineKind) (answer : Answer) (text : List ℕ) (then : Said) → (kind ≡ Statement → ⊥)
+read_plainly : (said : Accepted) (line : List ℕ) (kind : LineKind) (answer : Answer) (text : List ℕ) (then : Accepted) → (kind ≡ Statement → ⊥)
     → IsAnswer said line (Ok kind) answer text then → IsData said line (Ok kind) answer text then
 read_plainly said line Passed answer text then other told = told
 read_plainly said line (Header version) answer text then other told = told
 read_plainly said line Setup answer text then other told = told
 read_plainly said line Statement answer text then other told = absurd (other refl)
 
-pub taken_plainly : (reads : Bool) (said : Said) (line : List ℕ) (kind : LineKind) (answer : Answer) (text : List ℕ) (then : Said) → (kind ≡ Statement → ⊥)
+pub taken_plainly : (reads : Bool) (said : Accepted) (line : List ℕ) (kind : LineKind) (answer : Answer) (text : List ℕ) (then : Accepted) → (kind ≡ Statement → ⊥)
     → IsAnswer said line (Ok kind) answer text then → IsTaken reads said line (Ok kind) answer text then
 taken_plainly false said line kind answer text then other told = told
 taken_plainly true said line kind answer text then other told = read_plainly said line kind answer text then other told
 
-pub refuses_data : (said : Said) (line : List ℕ) (kind : Result LineKind Spot) (fault : Spot) → Err fault ≡ kind → IsData said line kind (Refused fault) [] said
+pub refuses_data : (said : Accepted) (line : List ℕ) (kind : Result LineKind Spot) (fault : Spot) → Err fault ≡ kind → IsData said line kind (Refused fault) [] said
 refuses_data said line kind fault is = subst (λ (k : Result LineKind Spot). IsData said line k (Refused fault) [] said) is (refl, refl, refl)
 
-pub due_told : (result : Result Answer Errno) (old new : List ℕ) (now : ServedValue) (said : Said) (line : List ℕ)
+pub due_told : (result : Result Answer Errno) (old new : List ℕ) (now : ServedValue) (said : Accepted) (line : List ℕ)
     → IfOk result (λ answer. (answer ≡ Text) × (new ≡ old ++ due_text (earliest (carried_out said.statements).behind.world.timers)) × Keeps now said)
-    → IfOk result (λ answer. (text : List ℕ) × (then : Said) × (new ≡ old ++ text) × IsReplyTo Due said line answer text then × Keeps now then)
+    → IfOk result (λ answer. (text : List ℕ) × (then : Accepted) × (new ≡ old ++ text) × IsReplyTo Due said line answer text then × Keeps now then)
 due_told (Ok answer) old new now said line (is, out, keeps) = (due_text (earliest (carried_out said.statements).behind.world.timers), said, out, (is, refl, refl), keeps)
 due_told (Err errno) old new now said line told = tt
 
 -- which question a line is
-pub asked : (served : ServedValue) (said : Said) (line : List ℕ) (told q : Question) → Keeps served said → told ≡ question_of served.stage line → told ≡ q → question_of said.stage line ≡ q
+pub asked : (served : ServedValue) (said : Accepted) (line : List ℕ) (told q : Question) → Keeps served said → told ≡ question_of served.stage line → told ≡ q → question_of said.stage line ≡ q
 asked served said line told q keeps is same = sym (ap (λ (s : Stage). question_of s line) keeps.stage) ∙ sym is ∙ same
 
 pub data_short : (stage : Stage) (line : List ℕ) → question_of stage line ≡ Data → length line ≤ LINE_MAX
@@ -148,7 +148,7 @@ is_short true line statement e short = omega (arith, ap (λ (l : List ℕ). leng
 is_short false line statement e short = omega (arith, ap (λ (l : List ℕ). length l) e, length-append (codes "events ") (drop 5 line), length-drop 5 line, short)
 
 -- that statement, and its kind
-module _ (said : Said) (line statement : List ℕ) (names : Names) (chip : Bool) (same : names ≡ (carried_out said.statements).value)
+module _ (said : Accepted) (line statement : List ℕ) (names : Names) (chip : Bool) (same : names ≡ (carried_out said.statements).value)
     (is_chip : chip ≡ is_chip_file (file_of (text_at 0 (columns (drop 5 line))) names.files)) (made : statement ≡ read_word chip ++ drop 5 line) where
   chip_named : chip ≡ names_chip (carried_out said.statements).value line
   chip_named = is_chip ∙ ap (λ (n : Names). is_chip_file (file_of (text_at 0 (columns (drop 5 line))) n.files)) same

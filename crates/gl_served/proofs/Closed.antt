@@ -16,7 +16,7 @@ use Rattle.gl_script.specs.declared.served.Stage.{Stage}
 use Rattle.gl_talk.specs.declared.talk.Talk.{Talk}
 use Rattle.gl_served.specs.Alone.{StandsAs}
 use Rattle.gl_served.specs.Closing.{IsEnded, all_closed, closes, is_before, is_row_before}
-use Rattle.gl_served.specs.Served.{Said, carried_out}
+use Rattle.gl_served.specs.Served.{Accepted, carried_out}
 use Rattle.gl_served.specs.declared.alone.Alone.{Alone}
 use Rattle.gl_served.specs.declared.under_way.UnderWay.{UnderWay}
 use Rattle.gl_served.proofs.Numbered.{files_in_order}
@@ -116,7 +116,7 @@ pub closed_in_order : {T : Type 0} (result : Result T Errno) (rows sorted : List
 closed_in_order result rows sorted s a is files closed =
     subst (λ (l : List OpenFile). OnOk result (StandsAs a (closes l s))) (ap (map row_file) is ∙ files_in_order rows ∙ ap (ordered is_before) files) closed
 
-pub ended_so : {T : Type 0} (result : Result T Errno) (a : Alone) (said : Said) (stage : Stage) (talk : Talk) (count : ℕ) (under_way : Option UnderWay) → OnOk result (StandsAs a (all_closed (carried_out said.statements).behind)) → OnOk result (a.rows.items ≡ [])
+pub ended_so : {T : Type 0} (result : Result T Errno) (a : Alone) (said : Accepted) (stage : Stage) (talk : Talk) (count : ℕ) (under_way : Option UnderWay) → OnOk result (StandsAs a (all_closed (carried_out said.statements).behind)) → OnOk result (a.rows.items ≡ [])
     → OnOk result (IsEnded said (record { stage = stage; talk = talk; count = count; alone = a; under_way = under_way }))
 ended_so (Ok value) a said stage talk count under_way stands none = record { stands = stands; none_open = none }
 ended_so (Err errno) a said stage talk count under_way stands none = tt

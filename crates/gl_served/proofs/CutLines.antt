@@ -18,18 +18,18 @@ use Rattle.gl_served.specs.declared.question.Question.{Question}
 use Rattle.gl_served.specs.declared.question.Question.TheVariants.{Nothing}
 use Rattle.gl_served.specs.Frames.{AreFrames, frame_of}
 use Rattle.gl_served.specs.Questions.{IsReply, IsReplyTo, question_in, question_of}
-use Rattle.gl_served.specs.Served.{IsAnswer, Keeps, Said, ServedValue, kind_after, limited, nothing_said, pair_after}
+use Rattle.gl_served.specs.Served.{Accepted, IsAnswer, Keeps, ServedValue, kind_after, limited, nothing_accepted, pair_after}
 use Rattle.gl_served.specs.CutLines.{HasServed, HasServedAll, HasServedLines, ServesTo, WroteFront, count_after, is_line, joined, with_rest}
 use Rattle.gl_served.specs.declared.limits.TheConstants.{LINE_MAX}
 use Rattle.gl_served.specs.declared.answered.Answer.{Answer}
 use Rattle.gl_served.proofs.Known.{appends_more, appends_nothing}
 
 -- one line more
-pub frames_more : (said : Said) (answered : ℕ) (lines : List (List ℕ)) (written : List ℕ) (mid : Said) (line : List ℕ) (answer : Answer) (text : List ℕ) (then : Said)
+pub frames_more : (said : Accepted) (answered : ℕ) (lines : List (List ℕ)) (written : List ℕ) (mid : Accepted) (line : List ℕ) (answer : Answer) (text : List ℕ) (then : Accepted)
     → AreFrames said answered lines written mid → IsReply mid line answer text then
     → AreFrames said answered (lines ++ line ∷ []) (written ++ frame_of (counted_up (count_after answered lines)) answer text) then
 frames_more said answered [] written mid line answer text then (none, same) is =
-    subst (λ (s : Said). AreFrames s answered (line ∷ []) (written ++ frame_of (counted_up answered) answer text) then) same
+    subst (λ (s : Accepted). AreFrames s answered (line ∷ []) (written ++ frame_of (counted_up answered) answer text) then) same
     (answer, text, then, [], is, (refl, refl), ap (λ (w : List ℕ). w ++ frame_of (counted_up answered) answer text) none ∙ sym (append-nil (frame_of (counted_up answered) answer text)))
 frames_more said answered (first ∷ lines) written mid line answer text then (a, t, m, rest, is_first, frames, whole) is = (
   a,
@@ -67,14 +67,14 @@ long_asks Opening line long = refl
 long_asks (Headed version) line long = refl
 long_asks (Open version) line long = ap (λ b. cond b Nothing (question_in line)) (lt-ltb LINE_MAX (length line) long)
 
-pub long_kind : (said : Said) (line : List ℕ) → LINE_MAX < length line → kind_after said line ≡ Err (spot (LINE_MAX + 1) Limit)
+pub long_kind : (said : Accepted) (line : List ℕ) → LINE_MAX < length line → kind_after said line ≡ Err (spot (LINE_MAX + 1) Limit)
 long_kind said line long = ap (λ b. cond b (Err (spot (LINE_MAX + 1) Limit)) (limited (pair_after said) (line_kind said.stage line))) (lt-ltb LINE_MAX (length line) long)
 
-long_reply : (said : Said) (line : List ℕ) (answer : Answer) (text : List ℕ) (then : Said) → LINE_MAX < length line → IsReply said line answer text then ≡ IsAnswer said [] (Err (spot (LINE_MAX + 1) Limit)) answer text then
+long_reply : (said : Accepted) (line : List ℕ) (answer : Answer) (text : List ℕ) (then : Accepted) → LINE_MAX < length line → IsReply said line answer text then ≡ IsAnswer said [] (Err (spot (LINE_MAX + 1) Limit)) answer text then
 long_reply said line answer text then long =
     ap (λ (q : Question). IsReplyTo q said line answer text then) (long_asks said.stage line long) ∙ ap (λ (k : Result LineKind Spot). IsAnswer said line k answer text then) (long_kind said line long)
 
-pub cut_reply : (said : Said) (line rest : List ℕ) (answer : Answer) (text : List ℕ) (then : Said) → line ≡ take (LINE_MAX + 1) rest → IsReply said line answer text then → IsReply said rest answer text then
+pub cut_reply : (said : Accepted) (line rest : List ℕ) (answer : Answer) (text : List ℕ) (then : Accepted) → line ≡ take (LINE_MAX + 1) rest → IsReply said line answer text then → IsReply said rest answer text then
 cut_reply said line rest answer text then is reply = elim (cases_lt LINE_MAX (length rest)) [
   | inl long ↦
       (let whole : length line ≡ LINE_MAX + 1 = ap length is ∙ length-take-le (LINE_MAX + 1) rest (omega (arith, long)) in
@@ -114,11 +114,11 @@ byte_added served line answered bytes written byte then has other long short = r
   count = has.count;
 }
 
-module _ (served : ServedValue) (line : List ℕ) (answered : ℕ) (bytes written : List ℕ) (has : HasServed served line answered bytes written) (answer : Answer) (text : List ℕ) (then : Said) (reply : IsReply has.said line answer text then) where
-  all_frames : AreFrames nothing_said 0 (has.lines ++ has.rest ∷ []) (written ++ frame_of (counted_up answered) answer text) then
+module _ (served : ServedValue) (line : List ℕ) (answered : ℕ) (bytes written : List ℕ) (has : HasServed served line answered bytes written) (answer : Answer) (text : List ℕ) (then : Accepted) (reply : IsReply has.said line answer text then) where
+  all_frames : AreFrames nothing_accepted 0 (has.lines ++ has.rest ∷ []) (written ++ frame_of (counted_up answered) answer text) then
   all_frames =
-      subst (λ (n : ℕ). AreFrames nothing_said 0 (has.lines ++ has.rest ∷ []) (written ++ frame_of (counted_up n) answer text) then) (sym has.count)
-      (frames_more nothing_said 0 has.lines written has.said has.rest answer text then has.frames (cut_reply has.said line has.rest answer text then has.line_is reply))
+      subst (λ (n : ℕ). AreFrames nothing_accepted 0 (has.lines ++ has.rest ∷ []) (written ++ frame_of (counted_up n) answer text) then) (sym has.count)
+      (frames_more nothing_accepted 0 has.lines written has.said has.rest answer text then has.frames (cut_reply has.said line has.rest answer text then has.line_is reply))
 
   pub line_answered : (now : ServedValue) (count : ℕ) (frame : List ℕ) → Keeps now then → count ≡ counted_up answered → frame ≡ frame_of count answer text
       → HasServed now [] count (bytes ++ 10 ∷ []) (written ++ frame)
@@ -131,7 +131,7 @@ module _ (served : ServedValue) (line : List ℕ) (answered : ℕ) (bytes writte
       each = each_more has.lines has.rest has.cut.each has.cut.no_end;
       no_end = refl;
     };
-    frames = subst (λ (f : List ℕ). AreFrames nothing_said 0 (has.lines ++ has.rest ∷ []) (written ++ f) then) (sym (is ∙ ap (λ (n : ℕ). frame_of n answer text) counted)) all_frames;
+    frames = subst (λ (f : List ℕ). AreFrames nothing_accepted 0 (has.lines ++ has.rest ∷ []) (written ++ f) then) (sym (is ∙ ap (λ (n : ℕ). frame_of n answer text) counted)) all_frames;
     keeps = keeps;
     line_is = refl;
     count = counted ∙ ap counted_up has.count ∙ sym (count_more 0 has.lines has.rest);
@@ -142,8 +142,8 @@ module _ (served : ServedValue) (line : List ℕ) (answered : ℕ) (bytes writte
     lines = has.lines;
     rest = has.rest;
     cut = has.cut;
-    frames = subst (λ (ls : List (List ℕ)). AreFrames nothing_said 0 ls (written ++ frame) then) (last_line has.rest has.line_is)
-        (subst (λ (f : List ℕ). AreFrames nothing_said 0 (has.lines ++ has.rest ∷ []) (written ++ f) then) (sym (is ∙ ap (λ (n : ℕ). frame_of n answer text) counted)) all_frames);
+    frames = subst (λ (ls : List (List ℕ)). AreFrames nothing_accepted 0 ls (written ++ frame) then) (last_line has.rest has.line_is)
+        (subst (λ (f : List ℕ). AreFrames nothing_accepted 0 (has.lines ++ has.rest ∷ []) (written ++ f) then) (sym (is ∙ ap (λ (n : ℕ). frame_of n answer text) counted)) all_frames);
   }
     where
       last_line : (rest : List ℕ) → line ≡ take (LINE_MAX + 1) rest → has.lines ++ rest ∷ [] ≡ with_rest has.lines rest
@@ -153,7 +153,7 @@ module _ (served : ServedValue) (line : List ℕ) (answered : ℕ) (bytes writte
 -- the frame of a line's answer, made of what it printed after nothing
 module _ (served : ServedValue) (line : List ℕ) (answered : ℕ) (bytes written : List ℕ) (has : HasServed served line answered bytes written) (answer : Answer) (none printed shown slice : List ℕ) (now : ServedValue)
     (count : ℕ) (frame : List ℕ) (empty : none ≡ []) (counted : count ≡ counted_up answered) (same : slice ≡ line) (told : shown ≡ printed) (is : frame ≡ frame_of count answer shown)
-    (replied : (text : List ℕ) × (then : Said) × (printed ≡ none ++ text) × IsReply has.said slice answer text then × Keeps now then) where
+    (replied : (text : List ℕ) × (then : Accepted) × (printed ≡ none ++ text) × IsReply has.said slice answer text then × Keeps now then) where
   frame_is : frame ≡ frame_of count answer replied.0
   frame_is = is ∙ ap (λ (t : List ℕ). frame_of count answer t) (told ∙ replied.2 ∙ ap (λ (n : List ℕ). n ++ replied.0) empty)
 
@@ -165,7 +165,7 @@ module _ (served : ServedValue) (line : List ℕ) (answered : ℕ) (bytes writte
       subst (λ (l : List ℕ). HasServed now l count (bytes ++ 10 ∷ []) (written ++ frame)) (sym cleared)
       (line_answered served line answered bytes written has answer replied.0 replied.1 reply now count frame replied.4 counted frame_is)
 
-  pub framed_last : (line ≡ [] → ⊥) → (said : Said) × HasServedAll bytes (written ++ frame) said × Keeps now said
+  pub framed_last : (line ≡ [] → ⊥) → (said : Accepted) × HasServedAll bytes (written ++ frame) said × Keeps now said
   framed_last some = (replied.1, last_answered served line answered bytes written has answer replied.0 replied.1 reply count frame some counted frame_is, replied.4)
 
 -- at the end of the source without a line under way
@@ -180,7 +180,7 @@ nothing_under_way served line answered bytes written has none =
       lines = has.lines;
       rest = has.rest;
       cut = has.cut;
-      frames = subst (λ (ls : List (List ℕ)). AreFrames nothing_said 0 ls written has.said) (sym (ap (λ (r : List ℕ). with_rest has.lines r) ended)) has.frames;
+      frames = subst (λ (ls : List (List ℕ)). AreFrames nothing_accepted 0 ls written has.said) (sym (ap (λ (r : List ℕ). with_rest has.lines r) ended)) has.frames;
     }
 
 -- whether a line is under way
@@ -240,11 +240,11 @@ on_any_err (Ok value) P p = tt
 on_any_err (Err fault) P p = p
 
 -- no line has come
-pub new_served : (served : ServedValue) (line : List ℕ) (answered : ℕ) → line ≡ [] → answered ≡ 0 → Keeps served nothing_said → HasServed served line answered [] []
+pub new_served : (served : ServedValue) (line : List ℕ) (answered : ℕ) → line ≡ [] → answered ≡ 0 → Keeps served nothing_accepted → HasServed served line answered [] []
 new_served served line answered none few keeps = record {
   lines = [];
   rest = [];
-  said = nothing_said;
+  said = nothing_accepted;
   cut = record { whole = refl; each = tt; no_end = refl };
   frames = (refl, refl);
   keeps = keeps;
@@ -259,6 +259,6 @@ front_nothing start = record {
   frames = [];
   count = 0;
   whole = refl;
-  served = record { lines = []; rest = []; said = nothing_said; cut = record { whole = refl; each = tt; no_end = refl }; frames = (refl, refl) };
+  served = record { lines = []; rest = []; said = nothing_accepted; cut = record { whole = refl; each = tt; no_end = refl }; frames = (refl, refl) };
   wrote = appends_nothing start;
 }

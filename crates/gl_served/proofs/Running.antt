@@ -20,7 +20,7 @@ use Rattle.gl_talk.specs.Talk.{does, left, names_in, says, slot_behind}
 use Rattle.gl_check.specs.One.{PlannedPort, Ran, Standing, behind_text, from_plan, performs, run}
 use Rattle.gl_served.specs.Alone.{AloneValue, StandsAs, alone_in}
 use Rattle.gl_served.specs.Questions.{IsData, IsReply, IsReplyTo, first_got, shown, stands_for}
-use Rattle.gl_served.specs.Served.{IsAnswer, Keeps, Said, ServedValue, carried_from, carried_out, counted, pair_after, said_after, start, stated, text_of}
+use Rattle.gl_served.specs.Served.{Accepted, IsAnswer, Keeps, ServedValue, accepted_after, carried_from, carried_out, counted, pair_after, start, stated, text_of}
 use Rattle.gl_served.specs.Slots.{lowest_free, pair_behind, slot_of}
 use Rattle.gl_served.specs.declared.limits.TheConstants.{PAIRS}
 use Rattle.gl_served.specs.UnderWay.{Advances, IsStatementLine, CanAnswer, CanAnswerBy, CarriedOut, HasBegun, HasGone, IsAsBefore, IsLeft, IsSameSession, IsTaken, IsUnderWay, does_behind, first_or, left_by, statement_for, text_shown, told_by}
@@ -78,7 +78,7 @@ pair_counted count files = elim (cases_lt count PAIRS) [
 ]
 
 -- the pair of the next statement
-pub pair_kept : (served : ServedValue) (said : Said) → Keeps served said → pair_behind served.count (map row_file served.alone.rows.items) ≡ pair_after said
+pub pair_kept : (served : ServedValue) (said : Accepted) → Keeps served said → pair_behind served.count (map row_file served.alone.rows.items) ≡ pair_after said
 pair_kept served said keeps =
     ap (λ (n : ℕ). pair_behind n (map row_file served.alone.rows.items)) keeps.count
     ∙ pair_counted (length said.statements) (map row_file served.alone.rows.items)
@@ -164,13 +164,13 @@ module _ (p : Program Names) (s : Standing PlannedPort) where
       (record { standing = gone.standing; stands = stands_same a b gone.standing same gone.stands; runs = gone.runs; first_is = gone.first_is })
 
 -- what a session says with one statement more, by what that was carried out to
-pub record Stated (said : Said) (line text : List ℕ) (first : Option Got) (b : Alone) (names : Names) : Type 0 where
-  pub adds : text_of (said_after Statement line said) ≡ text_of said ++ text
+pub record Stated (said : Accepted) (line text : List ℕ) (first : Option Got) (b : Alone) (names : Names) : Type 0 where
+  pub adds : text_of (accepted_after Statement line said) ≡ text_of said ++ text
   pub names_are : names ≡ (carried_out (said.statements ++ line ∷ [])).value
   pub stands : StandsAs b (carried_out (said.statements ++ line ∷ [])).behind
   pub first_is : first_got (does_behind said line) (carried_out said.statements).behind ≡ first
 
-pub is_carried : (said : Said) (line : List ℕ) (step : Step) (first : Option Got) (printed : List ℕ) (left : Left Names) (b : Alone) (names : Names)
+pub is_carried : (said : Accepted) (line : List ℕ) (step : Step) (first : Option Got) (printed : List ℕ) (left : Left Names) (b : Alone) (names : Names)
     → HasGone (does_behind said line) (carried_out said.statements).behind step first printed left b → left_by left step ≡ done names → told_by step ≡ None → Stated said line printed first b names
 is_carried said line step first printed left b names gone ended told =
     let ran : Ran PlannedPort Names = carried_out said.statements in
@@ -185,15 +185,15 @@ is_carried said line step first printed left b names gone ended told =
     }
 
 -- what it is answered
-pub is_stated : (reads : Bool) (said : Said) (line printed : List ℕ) (first : Option Got) (b : Alone) (names : Names) → Stated said line printed first b names
-    → IsTaken reads said line (Ok Statement) Text (text_shown reads first printed) (said_after Statement line said)
+pub is_stated : (reads : Bool) (said : Accepted) (line printed : List ℕ) (first : Option Got) (b : Alone) (names : Names) → Stated said line printed first b names
+    → IsTaken reads said line (Ok Statement) Text (text_shown reads first printed) (accepted_after Statement line said)
 is_stated false said line printed first b names so = (refl, refl, so.adds)
 is_stated true said line printed first b names so =
     (refl, record { extra = printed; after_is = refl; adds = so.adds; shows = ap (λ (f : Option Got). shown f printed) (sym so.first_is) })
 
 -- and how it is kept
-pub keeps_more : (served : ServedValue) (said : Said) (line printed : List ℕ) (first : Option Got) → served.stage ≡ said.stage → served.count ≡ counted (length said.statements + 1) → served.under_way ≡ None
-    → Stated said line printed first served.alone (names_in served.talk) → Keeps served (said_after Statement line said)
+pub keeps_more : (served : ServedValue) (said : Accepted) (line printed : List ℕ) (first : Option Got) → served.stage ≡ said.stage → served.count ≡ counted (length said.statements + 1) → served.under_way ≡ None
+    → Stated said line printed first served.alone (names_in served.talk) → Keeps served (accepted_after Statement line said)
 keeps_more served said line printed first stage count rests so = record {
   stage = stage;
   count = count ∙ ap counted (sym (length-append said.statements (line ∷ [])));
@@ -203,7 +203,7 @@ keeps_more served said line printed first stage count rests so = record {
 }
 
 -- a statement that was begun after what was accepted
-pub begun_so : (served now : ServedValue) (said : Said) (line : List ℕ) (u : UnderWay) (pair : ℕ) → Keeps served said → now.stage ≡ served.stage → now.count ≡ counted (length said.statements + 1) → now.alone ≡ served.alone
+pub begun_so : (served now : ServedValue) (said : Accepted) (line : List ℕ) (u : UnderWay) (pair : ℕ) → Keeps served said → now.stage ≡ served.stage → now.count ≡ counted (length said.statements + 1) → now.alone ≡ served.alone
     → Some pair ≡ pair_after said → left_by (left now.talk) (Told None) ≡ does (names_in served.talk) (slot_behind pair) (columns line) → u.step ≡ Told None → u.first ≡ None → u.printed.items ≡ [] → HasBegun u now said line
 begun_so served now said line u pair keeps stage count alone own is step first printed = record {
   stage = stage ∙ keeps.stage;
@@ -222,11 +222,11 @@ pub same_line : (a b c : UnderWay) → IsAsBefore a b → IsAsBefore b c → IsA
 same_line a b c first then = record { line = then.line ∙ first.line; reads = then.reads ∙ first.reads }
 
 -- where no line is under way any line can be answered
-pub keeps_can : (served : ServedValue) (said : Said) (line : List ℕ) → Keeps served said → CanAnswer served said line
+pub keeps_can : (served : ServedValue) (said : Accepted) (line : List ℕ) → Keeps served said → CanAnswer served said line
 keeps_can served said line keeps = subst (λ (u : Option UnderWay). CanAnswerBy u served said line) (sym keeps.rests) keeps
 
 -- and where it is left the line itself
-pub left_can : (u : Option UnderWay) (given line : List ℕ) (had reads : Bool) (served : ServedValue) (said : Said) (statement : List ℕ) → given ≡ line → had ≡ reads → statement ≡ statement_for reads said line → IsStatementLine reads said line
+pub left_can : (u : Option UnderWay) (given line : List ℕ) (had reads : Bool) (served : ServedValue) (said : Accepted) (statement : List ℕ) → given ≡ line → had ≡ reads → statement ≡ statement_for reads said line → IsStatementLine reads said line
     → IsLeft u given had served said statement → CanAnswerBy u served said line
 left_can None given line had reads served said statement same_line same_reads is asked left = absurd left
 left_can (Some u) given line had reads served said statement same_line same_reads is asked (line_is, reads_is, has) =
@@ -238,7 +238,7 @@ left_can (Some u) given line had reads served said statement same_line same_read
     }
 
 -- what plays no part in what was accepted
-pub keeps_as : (served now : ServedValue) (said : Said) → Keeps served said → now.stage ≡ served.stage → now.count ≡ served.count → names_in now.talk ≡ names_in served.talk → now.alone ≡ served.alone → now.under_way ≡ served.under_way
+pub keeps_as : (served now : ServedValue) (said : Accepted) → Keeps served said → now.stage ≡ served.stage → now.count ≡ served.count → names_in now.talk ≡ names_in served.talk → now.alone ≡ served.alone → now.under_way ≡ served.under_way
     → Keeps now said
 keeps_as served now said keeps stage count names alone under_way = record {
   stage = stage ∙ keeps.stage;
@@ -249,21 +249,21 @@ keeps_as served now said keeps stage count names alone under_way = record {
 }
 
 -- a line that was asked is answered as its statement
-pub reply_of : (reads : Bool) (said : Said) (line : List ℕ) (answer : Answer) (text : List ℕ) (then : Said) → IsStatementLine reads said line → IsTaken reads said (statement_for reads said line) (Ok Statement) answer text then
+pub reply_of : (reads : Bool) (said : Accepted) (line : List ℕ) (answer : Answer) (text : List ℕ) (then : Accepted) → IsStatementLine reads said line → IsTaken reads said (statement_for reads said line) (Ok Statement) answer text then
     → IsReply said line answer text then
 reply_of false said line answer text then (question, kind) so =
     subst (λ q. IsReplyTo q said line answer text then) (sym question) (subst (λ k. IsAnswer said line k answer text then) (sym kind) so)
 reply_of true said line answer text then (question, kind) so =
     subst (λ q. IsReplyTo q said line answer text then) (sym question) (subst (λ k. IsData said (stands_for (carried_out said.statements).value line) k answer text then) (sym kind) so)
 
-pub reply_by : (result : Result Answer Errno) (old new : List ℕ) (now : ServedValue) (said : Said) (reads : Bool) (line : List ℕ) → IsStatementLine reads said line
-    → IfOk result (λ answer. (text : List ℕ) × (then : Said) × (new ≡ old ++ text) × IsTaken reads said (statement_for reads said line) (Ok Statement) answer text then × Keeps now then)
-    → IfOk result (λ answer. (text : List ℕ) × (then : Said) × (new ≡ old ++ text) × IsReply said line answer text then × Keeps now then)
+pub reply_by : (result : Result Answer Errno) (old new : List ℕ) (now : ServedValue) (said : Accepted) (reads : Bool) (line : List ℕ) → IsStatementLine reads said line
+    → IfOk result (λ answer. (text : List ℕ) × (then : Accepted) × (new ≡ old ++ text) × IsTaken reads said (statement_for reads said line) (Ok Statement) answer text then × Keeps now then)
+    → IfOk result (λ answer. (text : List ℕ) × (then : Accepted) × (new ≡ old ++ text) × IsReply said line answer text then × Keeps now then)
 reply_by (Ok answer) old new now said reads line asked (text, then, is, taken, keeps) = (text, then, is, reply_of reads said line answer text then asked taken, keeps)
 reply_by (Err errno) old new now said reads line asked told = tt
 
 -- a line that is under way in a session that stands the same
-pub under_way_as : (u : UnderWay) (served now : ServedValue) (said : Said) (line : List ℕ) → IsUnderWay u served said line → now.stage ≡ served.stage → now.count ≡ served.count → now.talk ≡ served.talk → now.alone ≡ served.alone
+pub under_way_as : (u : UnderWay) (served now : ServedValue) (said : Accepted) (line : List ℕ) → IsUnderWay u served said line → now.stage ≡ served.stage → now.count ≡ served.count → now.talk ≡ served.talk → now.alone ≡ served.alone
     → IsUnderWay u now said line
 under_way_as u served now said line going stage count talk alone = record {
   line_is = going.line_is;

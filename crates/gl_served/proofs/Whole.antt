@@ -9,7 +9,7 @@ use Rattle.gl_talk.specs.Open.{Names, no_names, slots_in_order}
 use Rattle.gl_talk.specs.Talk.{closes_all, says}
 use Rattle.gl_base.specs.declared.operation.Do.TheVariants.{Close}
 use Rattle.gl_check.specs.One.{PlannedPort, Ran, Standing, behind_setup, from_plan, performs, run, run_actor, said_in_kind}
-use Rattle.gl_served.specs.Served.{Said, start}
+use Rattle.gl_served.specs.Served.{Accepted, start}
 use Rattle.gl_served.specs.Port.{unplanned}
 use Rattle.gl_served.specs.declared.limits.TheConstants.{PAIRS}
 use Rattle.gl_served.specs.Whole.{TextIsOne, session_of}
@@ -25,10 +25,10 @@ words_same : (lines : List (List ℕ)) → map (λ (line : Span). columns line.t
 words_same [] = refl
 words_same (line ∷ lines) = ap (λ (rest : List (List Span)). columns line ∷ rest) (words_same lines)
 
-statements_same : (said : Said) → said_in_kind Setup (session_of said) ≡ map columns said.statements
+statements_same : (said : Accepted) → said_in_kind Setup (session_of said) ≡ map columns said.statements
 statements_same said = append-nil (map (λ (line : Span). columns line.text) (map (λ line. span 0 line) said.statements)) ∙ words_same said.statements
 
-ends_silently : (said : Said) (setup : Ran PlannedPort Names) → (behind_setup from_plan (session_of said) setup).text ≡ setup.text
+ends_silently : (said : Accepted) (setup : Ran PlannedPort Names) → (behind_setup from_plan (session_of said) setup).text ≡ setup.text
 ends_silently said setup =
     let actor = run_actor from_plan (session_of said) setup.behind in
     ap (λ (t : List ℕ). (setup.text ++ []) ++ t) (closes_silently (slots_in_order setup.value) (record actor.behind { files = setup.behind.files }))

@@ -5,7 +5,7 @@ use Rattle.std.specs.Io.KnownBytes.{Appends}
 use Rattle.gl_base.specs.Count.{counted_up}
 use Rattle.gl_base.specs.Rows.{Each}
 use Rattle.gl_served.specs.Frames.{AreFrames}
-use Rattle.gl_served.specs.Served.{Keeps, Said, ServedValue, nothing_said}
+use Rattle.gl_served.specs.Served.{Accepted, Keeps, ServedValue, nothing_accepted}
 use Rattle.gl_served.specs.declared.limits.TheConstants.{LINE_MAX}
 
 -- no byte ends a line
@@ -36,9 +36,9 @@ count_after answered (line ∷ lines) = count_after (counted_up answered) lines
 pub record HasServed (served : ServedValue) (line : List ℕ) (answered : ℕ) (bytes written : List ℕ) : Type 0 where
   pub lines : List (List ℕ)
   pub rest : List ℕ
-  pub said : Said
+  pub said : Accepted
   pub cut : IsCut bytes lines rest
-  pub frames : AreFrames nothing_said 0 lines written said
+  pub frames : AreFrames nothing_accepted 0 lines written said
   pub keeps : Keeps served said
   pub line_is : line ≡ take (LINE_MAX + 1) rest
   pub count : answered ≡ count_after 0 lines
@@ -50,22 +50,22 @@ pub record ServesTo (start now : Option (List ℕ)) (served : ServedValue) (line
   pub wrote : Appends start now written
 
 -- The whole input was served: what was written are the frames of its lines, by which so much was accepted.
-pub record HasServedAll (input written : List ℕ) (said : Said) : Type 0 where
+pub record HasServedAll (input written : List ℕ) (said : Accepted) : Type 0 where
   pub lines : List (List ℕ)
   pub rest : List ℕ
   pub cut : IsCut input lines rest
-  pub frames : AreFrames nothing_said 0 (with_rest lines rest) written said
+  pub frames : AreFrames nothing_accepted 0 (with_rest lines rest) written said
 
 -- The lines that end in these bytes were served, and what was written are their frames.
 pub record HasServedLines (bytes written : List ℕ) : Type 0 where
   pub lines : List (List ℕ)
   pub rest : List ℕ
-  pub said : Said
+  pub said : Accepted
   pub cut : IsCut bytes lines rest
-  pub frames : AreFrames nothing_said 0 lines written said
+  pub frames : AreFrames nothing_accepted 0 lines written said
 
 -- it was written, where the sink tells its bytes
-abbrev pub WroteAll : List ℕ → Said → Option (List ℕ) → Option (List ℕ) → Type 0
+abbrev pub WroteAll : List ℕ → Accepted → Option (List ℕ) → Option (List ℕ) → Type 0
 WroteAll input said old new = (written : List ℕ) × HasServedAll input written said × Appends old new written
 
 abbrev pub WroteLines : List ℕ → Option (List ℕ) → Option (List ℕ) → Type 0

@@ -5,7 +5,7 @@ use Rattle.gl_base.specs.Decimal.{decimal}
 use Rattle.gl_script.specs.Refusal.{kind_word}
 use Rattle.gl_script.specs.declared.refusal.Spot.{Spot}
 use Rattle.gl_served.specs.Questions.{IsReply}
-use Rattle.gl_served.specs.Served.{Said}
+use Rattle.gl_served.specs.Served.{Accepted}
 use Rattle.gl_served.specs.declared.answered.Answer.{Answer}
 use Rattle.gl_served.specs.declared.answered.Answer.TheVariants.{Text, Refused}
 
@@ -23,7 +23,7 @@ frame_of number Text text = frame 61 text
 frame_of number (Refused fault) text = frame 33 (refused_line number fault)
 
 -- the frames of lines, one after another, where so many were answered before
-abbrev pub AreFrames : Said → ℕ → List (List ℕ) → List ℕ → Said → Type 0
+abbrev pub AreFrames : Accepted → ℕ → List (List ℕ) → List ℕ → Accepted → Type 0
 AreFrames said answered [] bytes after = (bytes ≡ []) × (after ≡ said)
-AreFrames said answered (line ∷ lines) bytes after = (answer : Answer) × (text : List ℕ) × (mid : Said) × (rest : List ℕ)
+AreFrames said answered (line ∷ lines) bytes after = (answer : Answer) × (text : List ℕ) × (mid : Accepted) × (rest : List ℕ)
     × IsReply said line answer text mid × AreFrames mid (counted_up answered) lines rest after × (bytes ≡ frame_of (counted_up answered) answer text ++ rest)

@@ -21,7 +21,7 @@ use Rattle.gl_script.specs.declared.served.Stage.TheVariants.{Opening, Headed, O
 use Rattle.gl_talk.specs.Open.{Names, file_of, is_chip_file}
 use Rattle.gl_talk.specs.Talk.{does}
 use Rattle.gl_check.specs.One.{PlannedPort, Standing, from_plan, performs}
-use Rattle.gl_served.specs.Served.{IsAnswer, Said, carried_out, kind_after, limited, pair_after, said_after, text_of}
+use Rattle.gl_served.specs.Served.{Accepted, IsAnswer, accepted_after, carried_out, kind_after, limited, pair_after, text_of}
 use Rattle.gl_served.specs.Slots.{slot_of}
 use Rattle.gl_served.specs.declared.limits.TheConstants.{LINE_MAX}
 use Rattle.gl_served.specs.declared.answered.Answer.{Answer}
@@ -67,7 +67,7 @@ abbrev pub shift_of : Bool → ℕ
 shift_of true = 3
 shift_of false = 2
 
-abbrev pub data_kind : Said → List ℕ → Result LineKind Spot
+abbrev pub data_kind : Accepted → List ℕ → Result LineKind Spot
 data_kind said line =
     let names = (carried_out said.statements).value in
     limited (pair_after said) (moved (shift_of (names_chip names line)) (line_kind said.stage (stands_for names line)))
@@ -97,22 +97,22 @@ shown None text = text
 shown (Some got) text = shown_for got text
 
 -- A `data` was read: the session goes on as after the statement that it stands for, and prints the bytes.
-pub record IsRead (said : Said) (line : List ℕ) (text : List ℕ) (after : Said) : Type 0 where
+pub record IsRead (said : Accepted) (line : List ℕ) (text : List ℕ) (after : Accepted) : Type 0 where
   pub extra : List ℕ
-  pub after_is : after ≡ said_after Statement line said
+  pub after_is : after ≡ accepted_after Statement line said
   pub adds : text_of after ≡ text_of said ++ extra
   pub shows : text ≡ shown (first_got (does (carried_out said.statements).value (slot_of (pair_after said)) (columns line)) (carried_out said.statements).behind) extra
 
-abbrev pub IsData : Said → List ℕ → Result LineKind Spot → Answer → List ℕ → Said → Type 0
+abbrev pub IsData : Accepted → List ℕ → Result LineKind Spot → Answer → List ℕ → Accepted → Type 0
 IsData said line (Ok Statement) answer text after = (answer ≡ Text) × IsRead said line text after
 IsData said line (Ok kind) answer text after = IsAnswer said line (Ok kind) answer text after
 IsData said line (Err fault) answer text after = IsAnswer said line (Err fault) answer text after
 
-abbrev pub IsReplyTo : Question → Said → List ℕ → Answer → List ℕ → Said → Type 0
+abbrev pub IsReplyTo : Question → Accepted → List ℕ → Answer → List ℕ → Accepted → Type 0
 IsReplyTo Nothing said line answer text after = IsAnswer said line (kind_after said line) answer text after
 IsReplyTo Due said line answer text after = (answer ≡ Text) × (text ≡ due_text (earliest (carried_out said.statements).behind.world.timers)) × (after ≡ said)
 IsReplyTo Data said line answer text after = IsData said (stands_for (carried_out said.statements).value line) (data_kind said line) answer text after
 
 -- what a line is answered, after what was accepted
-abbrev pub IsReply : Said → List ℕ → Answer → List ℕ → Said → Type 0
+abbrev pub IsReply : Accepted → List ℕ → Answer → List ℕ → Accepted → Type 0
 IsReply said line answer text after = IsReplyTo (question_of said.stage line) said line answer text after

@@ -41,26 +41,26 @@ abbrev pub carried_out : List (List ℕ) → Ran PlannedPort Names
 carried_out statements = carried_from 0 (record { text = []; value = no_names; behind = start }) statements
 
 -- what was accepted so far: how far the session has come, and the lines of its statements
-pub record Said : Type 0 where
+pub record Accepted : Type 0 where
   pub stage : Stage
   pub statements : List (List ℕ)
 
-abbrev pub nothing_said : Said
-nothing_said = record { stage = Opening; statements = [] }
+abbrev pub nothing_accepted : Accepted
+nothing_accepted = record { stage = Opening; statements = [] }
 
 -- a line more of this kind was accepted
-abbrev pub said_after : LineKind → List ℕ → Said → Said
-said_after Passed line said = said
-said_after (Header version) line said = record { stage = Headed version; statements = said.statements }
-said_after Setup line said = record { stage = opened said.stage; statements = said.statements }
-said_after Statement line said = record { stage = said.stage; statements = said.statements ++ line ∷ [] }
+abbrev pub accepted_after : LineKind → List ℕ → Accepted → Accepted
+accepted_after Passed line said = said
+accepted_after (Header version) line said = record { stage = Headed version; statements = said.statements }
+accepted_after Setup line said = record { stage = opened said.stage; statements = said.statements }
+accepted_after Statement line said = record { stage = said.stage; statements = said.statements ++ line ∷ [] }
 
 -- the text of the session with what was accepted so far
-abbrev pub text_of : Said → List ℕ
+abbrev pub text_of : Accepted → List ℕ
 text_of said = (carried_out said.statements).text
 
 -- the pair of slots of the next statement
-abbrev pub pair_after : Said → Option ℕ
+abbrev pub pair_after : Accepted → Option ℕ
 pair_after said = pair_behind (length said.statements) (carried_out said.statements).behind.files
 
 -- A line has at most `LINE_MAX` bytes, and a statement a pair of slots.
@@ -77,13 +77,13 @@ abbrev pub counted : ℕ → ℕ
 counted count = min count PAIRS
 
 -- what a line is, after what was accepted, or why it is refused
-abbrev pub kind_after : Said → List ℕ → Result LineKind Spot
+abbrev pub kind_after : Accepted → List ℕ → Result LineKind Spot
 kind_after said line = if nat_lt LINE_MAX (length line) then Err (spot (LINE_MAX + 1) Limit) else limited (pair_after said) (line_kind said.stage line)
 
 -- A line is answered: a refused one counts as not given, and of an accepted one the answer is just what it adds to the session's text.
-abbrev pub IsAnswer : Said → List ℕ → Result LineKind Spot → Answer → List ℕ → Said → Type 0
+abbrev pub IsAnswer : Accepted → List ℕ → Result LineKind Spot → Answer → List ℕ → Accepted → Type 0
 IsAnswer said line (Err fault) answer text after = (answer ≡ Refused fault) × (text ≡ []) × (after ≡ said)
-IsAnswer said line (Ok kind) answer text after = (answer ≡ Text) × (after ≡ said_after kind line said) × (text_of after ≡ text_of said ++ text)
+IsAnswer said line (Ok kind) answer text after = (answer ≡ Text) × (after ≡ accepted_after kind line said) × (text_of after ≡ text_of said ++ text)
 
 -- what the code keeps of it; a line is under way once memory was wanted in its midst
 pub record ServedValue : Type 0 where
@@ -94,7 +94,7 @@ pub record ServedValue : Type 0 where
   pub under_way : Option UnderWay
 
 -- it keeps just what was accepted, and no line is under way
-pub record Keeps (served : ServedValue) (said : Said) : Type 0 where
+pub record Keeps (served : ServedValue) (said : Accepted) : Type 0 where
   pub stage : served.stage ≡ said.stage
   pub count : served.count ≡ counted (length said.statements)
   pub names : names_in served.talk ≡ (carried_out said.statements).value

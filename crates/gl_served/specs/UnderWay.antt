@@ -15,7 +15,7 @@ use Rattle.gl_talk.specs.Talk.{does, left}
 use Rattle.gl_check.specs.One.{PlannedPort, Standing, behind_text, from_plan, performs, run}
 use Rattle.gl_served.specs.Alone.{StandsAs, alone_in}
 use Rattle.gl_served.specs.Questions.{IsData, data_kind, first_got, question_of, shown, stands_for}
-use Rattle.gl_served.specs.Served.{IsAnswer, Keeps, Said, ServedValue, carried_out, counted, kind_after, pair_after}
+use Rattle.gl_served.specs.Served.{Accepted, IsAnswer, Keeps, ServedValue, carried_out, counted, kind_after, pair_after}
 use Rattle.gl_served.specs.Slots.{slot_of}
 use Rattle.gl_served.specs.declared.alone.Alone.{Alone}
 use Rattle.gl_served.specs.declared.answered.Answer.{Answer}
@@ -77,46 +77,46 @@ pub record IsSameSession (old new : ServedValue) : Type 0 where
   pub under_way : new.under_way ≡ old.under_way
 
 -- the program of a statement after what was accepted
-abbrev pub does_behind : Said → List ℕ → Program Names
+abbrev pub does_behind : Accepted → List ℕ → Program Names
 does_behind said line = does (carried_out said.statements).value (slot_of (pair_after said)) (columns line)
 
 -- a statement was begun after what was accepted, and has gone so far
-pub record HasBegun (u : UnderWay) (served : ServedValue) (said : Said) (line : List ℕ) : Type 0 where
+pub record HasBegun (u : UnderWay) (served : ServedValue) (said : Accepted) (line : List ℕ) : Type 0 where
   pub stage : served.stage ≡ said.stage
   pub count : served.count ≡ counted (length said.statements + 1)
   pub going : IsGoing (does_behind said line) (carried_out said.statements).behind u served
 
 -- the line is a statement, or a `data` that stands for one
-abbrev pub IsStatementLine : Bool → Said → List ℕ → Type 0
+abbrev pub IsStatementLine : Bool → Accepted → List ℕ → Type 0
 IsStatementLine false said line = (question_of said.stage line ≡ Nothing) × (kind_after said line ≡ Ok Statement)
 IsStatementLine true said line = (question_of said.stage line ≡ Data) × (data_kind said line ≡ Ok Statement)
 
-abbrev pub statement_for : Bool → Said → List ℕ → List ℕ
+abbrev pub statement_for : Bool → Accepted → List ℕ → List ℕ
 statement_for false said line = line
 statement_for true said line = stands_for (carried_out said.statements).value line
 
 -- what that is answered, where it is of a kind
-abbrev pub IsTaken : Bool → Said → List ℕ → Result LineKind Spot → Answer → List ℕ → Said → Type 0
+abbrev pub IsTaken : Bool → Accepted → List ℕ → Result LineKind Spot → Answer → List ℕ → Accepted → Type 0
 IsTaken false said line kind answer text after = IsAnswer said line kind answer text after
 IsTaken true said line kind answer text after = IsData said line kind answer text after
 
 -- The line is under way after what was accepted: its statement has gone so far.
-pub record IsUnderWay (u : UnderWay) (served : ServedValue) (said : Said) (line : List ℕ) : Type 0 where
+pub record IsUnderWay (u : UnderWay) (served : ServedValue) (said : Accepted) (line : List ℕ) : Type 0 where
   pub line_is : u.line.items ≡ line
   pub asked : IsStatementLine u.reads said line
   pub has : HasBegun u served said (statement_for u.reads said line)
 
 -- it is left so
-abbrev pub IsLeft : Option UnderWay → List ℕ → Bool → ServedValue → Said → List ℕ → Type 0
+abbrev pub IsLeft : Option UnderWay → List ℕ → Bool → ServedValue → Accepted → List ℕ → Type 0
 IsLeft None line reads served said statement = ⊥
 IsLeft (Some u) line reads served said statement = (u.line.items ≡ line) × (u.reads ≡ reads) × HasBegun u served said statement
 
 -- This line can be answered after what was accepted: no other one is under way.
-abbrev pub CanAnswerBy : Option UnderWay → ServedValue → Said → List ℕ → Type 0
+abbrev pub CanAnswerBy : Option UnderWay → ServedValue → Accepted → List ℕ → Type 0
 CanAnswerBy None served said line = Keeps served said
 CanAnswerBy (Some u) served said line = IsUnderWay u served said line
 
-abbrev pub CanAnswer : ServedValue → Said → List ℕ → Type 0
+abbrev pub CanAnswer : ServedValue → Accepted → List ℕ → Type 0
 CanAnswer served said line = CanAnswerBy served.under_way served said line
 
 -- another line is under way

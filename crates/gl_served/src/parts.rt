@@ -5,8 +5,7 @@ ghost use Rattle.gl_asking.specs.Fitting.{FitsDevice};
 ghost use Rattle.gl_base.specs.declared.limits.TheConstants.{PLACES};
 ghost use Rattle.gl_model.specs.Entries.{last_call};
 ghost use Rattle.gl_model.specs.Fits.{FitsCall};
-ghost use Rattle.gl_model.specs.OpenFiles.{asks_driver, is_for_chips};
-ghost use Rattle.gl_model.specs.Parts.{first_call, guard_of, is_driver_asked, is_poll};
+ghost use Rattle.gl_model.specs.Parts.{first_call, guard_of, is_poll};
 ghost use Rattle.gl_model.specs.declared.call.Call.TheVariants.{Ioctl};
 ghost use Rattle.gl_model.specs.declared.device_call.DeviceCall.TheVariants.{Commanding, Removing};
 ghost use Rattle.gl_uapi.specs.Command.{command_of};
@@ -65,46 +64,6 @@ pub fn in_part(command: &CommandIn, part: Part) -> Call
         len: command.len,
         bytes: command.bytes,
         part,
-    }
-}
-
-/// The driver is asked for the command: one of the file's kind, whose structure the buffer has room for.
-pub fn is_driver_asked(command: &CommandIn) -> bool
-    ensures { result ≡ is_driver_asked command.now.of_chip command.now.len (command_of command.now.cmd) }
-{
-    is_known_asked(command.of_chip, command.len, Command::of(command.cmd))
-}
-
-fn is_known_asked(of_chip: bool, len: u32, command: Option<Command>) -> bool
-    ensures { result ≡ is_driver_asked of_chip len command }
-{
-    match command {
-        Some(command) => {
-            asks_driver(command) && of_chip == is_for_chips(command) && command.size() <= len
-        }
-        None => false,
-    }
-}
-
-fn asks_driver(command: Command) -> bool
-    ensures { result ≡ asks_driver command }
-{
-    match command {
-        Command::GetLine | Command::SetConfig | Command::GetValues | Command::SetValues => true,
-        Command::ChipInfo | Command::LineInfo | Command::Watch | Command::Unwatch => false,
-    }
-}
-
-fn is_for_chips(command: Command) -> bool
-    ensures { result ≡ is_for_chips command }
-{
-    match command {
-        Command::ChipInfo
-        | Command::LineInfo
-        | Command::Watch
-        | Command::Unwatch
-        | Command::GetLine => true,
-        Command::SetConfig | Command::GetValues | Command::SetValues => false,
     }
 }
 

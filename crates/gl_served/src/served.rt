@@ -13,7 +13,7 @@ ghost use Rattle.gl_check.specs.One.{PlannedPort, Standing};
 ghost use Rattle.gl_served.specs.Closing.{IsEnded};
 ghost use Rattle.gl_debounce.specs.Earliest.{earliest};
 ghost use Rattle.gl_served.specs.Questions.{IsData, IsReply, data_kind, due_text, question_of, stands_for};
-ghost use Rattle.gl_served.specs.Served.{IsAnswer, Keeps, Said, carried_out, counted, kind_after, limited, nothing_said};
+ghost use Rattle.gl_served.specs.Served.{Accepted, IsAnswer, Keeps, carried_out, counted, kind_after, limited, nothing_accepted};
 ghost use Rattle.gl_served.specs.Slots.{pair_behind};
 ghost use Rattle.gl_served.specs.declared.limits.TheConstants.{LINE_MAX, PAIRS};
 ghost use Rattle.gl_served.specs.UnderWay.{IsStatementLine, CanAnswer, HasBegun, HasGone, IsAsBefore, IsGoing, IsLeft, IsOther, IsSameSession, IsTaken, IsUnderWay, left_by, statement_for, text_shown, told_by};
@@ -94,7 +94,7 @@ fn limited(pair: Option<u32>, kind: Result<LineKind, Spot>) -> Result<LineKind, 
 impl Served {
     /// A session of which no line has come.
     pub fn new(alloc: Global) -> Result<Served, Errno>
-        ensures ok { IfOk result (λ served. Keeps served nothing_said) }
+        ensures ok { IfOk result (λ served. Keeps served nothing_accepted) }
         ensures memory_alone { IsOkUnless result Errno.NoMemory }
     {
         let alone = Alone::new(alloc)?;
@@ -115,9 +115,9 @@ impl Served {
     /// again, it is answered as it would have been. Where it was begun it goes on from where it stood, and until it is answered any other
     /// line is an error too, and changes nothing.
     pub fn answer(&mut self, alloc: Global, line: &[u8], out: &mut Vec<u8>) -> Result<Answer, Errno>
-        ensures answered { (said : Said) → CanAnswer self.old said line.now → IfOk result (λ answer. (text : List ℕ) × (then : Said)
+        ensures answered { (said : Accepted) → CanAnswer self.old said line.now → IfOk result (λ answer. (text : List ℕ) × (then : Accepted)
             × (out.new.items ≡ out.old.items ++ text) × IsReply said line.now answer text then × Keeps self.new then) }
-        ensures kept { (said : Said) → CanAnswer self.old said line.now → OnErr result (CanAnswer self.new said line.now) }
+        ensures kept { (said : Accepted) → CanAnswer self.old said line.now → OnErr result (CanAnswer self.new said line.now) }
         ensures out_kept { OnErr result (out.new.items ≡ out.old.items) }
         ensures other { IsOther self.old.under_way line.now → (result ≡ Err Errno.NoMemory) × (self.new ≡ self.old) }
         ensures memory_alone { IsOkUnless result Errno.NoMemory }
@@ -130,9 +130,9 @@ impl Served {
 
     /// Answers a line or a question, where no line is under way.
     fn reply(&mut self, alloc: Global, line: &[u8], out: &mut Vec<u8>) -> Result<Answer, Errno>
-        ensures answered { (said : Said) → Keeps self.old said → IfOk result (λ answer. (text : List ℕ) × (then : Said)
+        ensures answered { (said : Accepted) → Keeps self.old said → IfOk result (λ answer. (text : List ℕ) × (then : Accepted)
             × (out.new.items ≡ out.old.items ++ text) × IsReply said line.now answer text then × Keeps self.new then) }
-        ensures kept { (said : Said) → Keeps self.old said → OnErr result (CanAnswer self.new said line.now) }
+        ensures kept { (said : Accepted) → Keeps self.old said → OnErr result (CanAnswer self.new said line.now) }
         ensures out_kept { OnErr result (out.new.items ≡ out.old.items) }
         ensures memory_alone { IsOkUnless result Errno.NoMemory }
     {
@@ -151,9 +151,9 @@ impl Served {
         line: &[u8],
         out: &mut Vec<u8>,
     ) -> Result<Answer, Errno>
-        ensures answered { (said : Said) → self.old.under_way ≡ None → IsUnderWay under_way self.old said line.now → IfOk result (λ answer. (text : List ℕ) × (then : Said)
+        ensures answered { (said : Accepted) → self.old.under_way ≡ None → IsUnderWay under_way self.old said line.now → IfOk result (λ answer. (text : List ℕ) × (then : Accepted)
             × (out.new.items ≡ out.old.items ++ text) × IsReply said line.now answer text then × Keeps self.new then) }
-        ensures kept { (said : Said) → IsUnderWay under_way self.old said line.now → OnErr result (CanAnswer self.new said line.now) }
+        ensures kept { (said : Accepted) → IsUnderWay under_way self.old said line.now → OnErr result (CanAnswer self.new said line.now) }
         ensures out_kept { OnErr result (out.new.items ≡ out.old.items) }
         ensures other { under_way.line.items ≢ line.now → (result ≡ Err Errno.NoMemory) × (self.new ≡ record self.old { under_way = Some under_way }) }
         ensures memory_alone { IsOkUnless result Errno.NoMemory }
@@ -167,9 +167,9 @@ impl Served {
 
     /// Answers a line of the session.
     fn say(&mut self, alloc: Global, line: &[u8], out: &mut Vec<u8>) -> Result<Answer, Errno>
-        ensures answered { (said : Said) → Keeps self.old said → IfOk result (λ answer. (text : List ℕ) × (then : Said)
+        ensures answered { (said : Accepted) → Keeps self.old said → IfOk result (λ answer. (text : List ℕ) × (then : Accepted)
             × (out.new.items ≡ out.old.items ++ text) × IsAnswer said line.now (kind_after said line.now) answer text then × Keeps self.new then) }
-        ensures kept { (said : Said) → Keeps self.old said → question_of said.stage line.now ≡ Nothing → OnErr result (CanAnswer self.new said line.now) }
+        ensures kept { (said : Accepted) → Keeps self.old said → question_of said.stage line.now ≡ Nothing → OnErr result (CanAnswer self.new said line.now) }
         ensures out_kept { OnErr result (out.new.items ≡ out.old.items) }
         ensures memory_alone { IsOkUnless result Errno.NoMemory }
     {
@@ -181,7 +181,7 @@ impl Served {
 
     /// Answers `due`.
     fn due(&mut self, alloc: Global, out: &mut Vec<u8>) -> Result<Answer, Errno>
-        ensures answered { (said : Said) → Keeps self.old said → IfOk result (λ answer. (answer ≡ Answer.Text)
+        ensures answered { (said : Accepted) → Keeps self.old said → IfOk result (λ answer. (answer ≡ Answer.Text)
             × (out.new.items ≡ out.old.items ++ due_text (earliest (carried_out said.statements).behind.world.timers)) × Keeps self.new said) }
         ensures kept { OnErr result (self.new ≡ self.old) }
         ensures out_kept { OnErr result (out.new.items ≡ out.old.items) }
@@ -195,9 +195,9 @@ impl Served {
     /// Answers a `data`.
     fn data(&mut self, alloc: Global, line: &[u8], out: &mut Vec<u8>) -> Result<Answer, Errno>
         requires { length line.now ≤ LINE_MAX }
-        ensures answered { (said : Said) → Keeps self.old said → IfOk result (λ answer. (text : List ℕ) × (then : Said)
+        ensures answered { (said : Accepted) → Keeps self.old said → IfOk result (λ answer. (text : List ℕ) × (then : Accepted)
             × (out.new.items ≡ out.old.items ++ text) × IsData said (stands_for (carried_out said.statements).value line.now) (data_kind said line.now) answer text then × Keeps self.new then) }
-        ensures kept { (said : Said) → Keeps self.old said → question_of said.stage line.now ≡ Data → OnErr result (CanAnswer self.new said line.now) }
+        ensures kept { (said : Accepted) → Keeps self.old said → question_of said.stage line.now ≡ Data → OnErr result (CanAnswer self.new said line.now) }
         ensures out_kept { OnErr result (out.new.items ≡ out.old.items) }
         ensures memory_alone { IsOkUnless result Errno.NoMemory }
     {
@@ -223,7 +223,7 @@ impl Served {
 
     /// What a line is, or why it is refused.
     fn kind(&self, line: &[u8]) -> Result<LineKind, Spot>
-        ensures kind { (said : Said) → Keeps self.now said → result ≡ kind_after said line.now }
+        ensures kind { (said : Accepted) → Keeps self.now said → result ≡ kind_after said line.now }
         ensures room { result ≡ Ok Statement → pair_behind self.now.count (map row_file self.now.alone.rows.items) ≢ None }
         ensures read { result ≡ Ok Statement → is_some (said_of (columns line.now)) ≡ true }
     {
@@ -248,9 +248,9 @@ impl Served {
     ) -> Result<Answer, Errno>
         requires room { kind ≡ Statement → pair_behind self.old.count (map row_file self.old.alone.rows.items) ≢ None }
         requires read { kind ≡ Statement → is_some (said_of (columns statement.now)) ≡ true }
-        ensures answered { (said : Said) → Keeps self.old said → IfOk result (λ answer. (text : List ℕ) × (then : Said)
+        ensures answered { (said : Accepted) → Keeps self.old said → IfOk result (λ answer. (text : List ℕ) × (then : Accepted)
             × (out.new.items ≡ out.old.items ++ text) × IsTaken reads said statement.now (Ok kind) answer text then × Keeps self.new then) }
-        ensures kept { (said : Said) → Keeps self.old said → (kind ≡ Statement → IsStatementLine reads said line.now) → statement.now ≡ statement_for reads said line.now → OnErr result (CanAnswer self.new said line.now) }
+        ensures kept { (said : Accepted) → Keeps self.old said → (kind ≡ Statement → IsStatementLine reads said line.now) → statement.now ≡ statement_for reads said line.now → OnErr result (CanAnswer self.new said line.now) }
         ensures out_kept { OnErr result (out.new.items ≡ out.old.items) }
         ensures memory_alone { IsOkUnless result Errno.NoMemory }
     {
@@ -266,7 +266,7 @@ impl Served {
     /// Accepts a line of a kind that is no statement.
     fn accept(&mut self, kind: LineKind)
         requires { kind ≢ Statement }
-        ensures { (said : Said) (line : List ℕ) → Keeps self.old said → (then : Said) × IsAnswer said line (Ok kind) Answer.Text [] then × Keeps self.new then }
+        ensures { (said : Accepted) (line : List ℕ) → Keeps self.old said → (then : Accepted) × IsAnswer said line (Ok kind) Answer.Text [] then × Keeps self.new then }
     {
         match kind {
             LineKind::Passed => {}
@@ -287,9 +287,9 @@ impl Served {
     ) -> Result<Answer, Errno>
         requires room { pair_behind self.old.count (map row_file self.old.alone.rows.items) ≢ None }
         requires read { is_some (said_of (columns statement.now)) ≡ true }
-        ensures answered { (said : Said) → Keeps self.old said → IfOk result (λ answer. (text : List ℕ) × (then : Said)
+        ensures answered { (said : Accepted) → Keeps self.old said → IfOk result (λ answer. (text : List ℕ) × (then : Accepted)
             × (out.new.items ≡ out.old.items ++ text) × IsTaken reads said statement.now (Ok Statement) answer text then × Keeps self.new then) }
-        ensures kept { (said : Said) → Keeps self.old said → IsStatementLine reads said line.now → statement.now ≡ statement_for reads said line.now → OnErr result (CanAnswer self.new said line.now) }
+        ensures kept { (said : Accepted) → Keeps self.old said → IsStatementLine reads said line.now → statement.now ≡ statement_for reads said line.now → OnErr result (CanAnswer self.new said line.now) }
         ensures out_kept { OnErr result (out.new.items ≡ out.old.items) }
         ensures memory_alone { IsOkUnless result Errno.NoMemory }
     {
@@ -312,9 +312,9 @@ impl Served {
         requires pair { Some pair ≡ pair_behind self.old.count (map row_file self.old.alone.rows.items) }
         requires within { pair < PAIRS }
         requires read { is_some (said_of (columns statement.now)) ≡ true }
-        ensures answered { (said : Said) → Keeps self.old said → IfOk result (λ answer. (text : List ℕ) × (then : Said)
+        ensures answered { (said : Accepted) → Keeps self.old said → IfOk result (λ answer. (text : List ℕ) × (then : Accepted)
             × (out.new.items ≡ out.old.items ++ text) × IsTaken reads said statement.now (Ok Statement) answer text then × Keeps self.new then) }
-        ensures kept { (said : Said) → Keeps self.old said → IsStatementLine reads said line.now → statement.now ≡ statement_for reads said line.now → OnErr result (CanAnswer self.new said line.now) }
+        ensures kept { (said : Accepted) → Keeps self.old said → IsStatementLine reads said line.now → statement.now ≡ statement_for reads said line.now → OnErr result (CanAnswer self.new said line.now) }
         ensures out_kept { OnErr result (out.new.items ≡ out.old.items) }
         ensures memory_alone { IsOkUnless result Errno.NoMemory }
     {
@@ -333,9 +333,9 @@ impl Served {
         under_way: UnderWay,
         out: &mut Vec<u8>,
     ) -> Result<Answer, Errno>
-        ensures answered { (said : Said) (line : List ℕ) → self.old.under_way ≡ None → HasBegun under_way self.old said line → IfOk result (λ answer. (text : List ℕ) × (then : Said)
+        ensures answered { (said : Accepted) (line : List ℕ) → self.old.under_way ≡ None → HasBegun under_way self.old said line → IfOk result (λ answer. (text : List ℕ) × (then : Accepted)
             × (out.new.items ≡ out.old.items ++ text) × IsTaken under_way.reads said line (Ok Statement) answer text then × Keeps self.new then) }
-        ensures left { (said : Said) (line : List ℕ) → HasBegun under_way self.old said line → OnErr result (IsLeft self.new.under_way under_way.line.items under_way.reads self.new said line) }
+        ensures left { (said : Accepted) (line : List ℕ) → HasBegun under_way self.old said line → OnErr result (IsLeft self.new.under_way under_way.line.items under_way.reads self.new said line) }
         ensures out_kept { OnErr result (out.new.items ≡ out.old.items) }
         ensures memory_alone { IsOkUnless result Errno.NoMemory }
     {
@@ -434,7 +434,7 @@ impl Served {
     /// Closes the files that are open, in the order of their numbers: the session is at its end. `NoMemory` alone is an error: some of them
     /// may be closed then, and called again it closes the others.
     pub fn close(&mut self, alloc: Global) -> Result<(), Errno>
-        ensures ended { (said : Said) → Keeps self.old said → OnOk result (IsEnded said self.new) }
+        ensures ended { (said : Accepted) → Keeps self.old said → OnOk result (IsEnded said self.new) }
         ensures none_open { OnOk result (self.new.alone.rows.items ≡ []) }
         ensures memory_alone { IsOkUnless result Errno.NoMemory }
     {

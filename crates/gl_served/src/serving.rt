@@ -5,7 +5,7 @@ ghost use Rattle.std.specs.Io.KnownBytes.{Consumes, IsAtEnd};
 ghost use Rattle.gl_base.specs.Count.{Rises};
 ghost use Rattle.gl_served.specs.Closing.{IsEnded};
 ghost use Rattle.gl_served.specs.CutLines.{HasServed, HasServedAll, ServesTo, WroteAll, WroteFront, WroteLines};
-ghost use Rattle.gl_served.specs.Served.{Keeps, Said, ServedValue, nothing_said};
+ghost use Rattle.gl_served.specs.Served.{Accepted, Keeps, ServedValue, nothing_accepted};
 
 use crate::ended::Ended;
 use crate::frames::frame_of;
@@ -39,10 +39,10 @@ pub fn serve<S: Source, K: Sink>(
     source: &mut S,
     sink: &mut K,
 ) -> Ended
-    requires new { Keeps served.old nothing_said }
+    requires new { Keeps served.old nothing_accepted }
     ensures served { result ≡ Ended.AtEnd → IsAtEnd (S.left source.new)
         × ((input : List ℕ) × Consumes (S.left source.old) (S.left source.new) input
-        × ((said : Said) × WroteAll input said (K.held sink.old) (K.held sink.new) × IsEnded said served.new)) }
+        × ((said : Accepted) × WroteAll input said (K.held sink.old) (K.held sink.new) × IsEnded said served.new)) }
     ensures front { result ≢ Ended.AtEnd → (input : List ℕ) × Consumes (S.left source.old) (S.left source.new) input × WroteFront (input ++ 10 ∷ []) (K.held sink.old) (K.held sink.new) }
     ensures read_fault { result ≡ Ended.ReadFault → Rises (S.fault_count source.old) (S.fault_count source.new) }
     ensures read_fault_told { S.fault_count source.old < S.fault_count source.new → result ≡ Ended.ReadFault }
@@ -80,7 +80,7 @@ impl Reading {
         requires new { HasServed served.old self.old.line.items self.old.answered [] [] }
         ensures served { result ≡ Ended.AtEnd → IsAtEnd (S.left source.new)
             × ((input : List ℕ) × Consumes (S.left source.old) (S.left source.new) input
-            × ((said : Said) × WroteAll input said (K.held sink.old) (K.held sink.new) × IsEnded said served.new)) }
+            × ((said : Accepted) × WroteAll input said (K.held sink.old) (K.held sink.new) × IsEnded said served.new)) }
         ensures front { result ≢ Ended.AtEnd → (input : List ℕ) × Consumes (S.left source.old) (S.left source.new) input × WroteFront (input ++ 10 ∷ []) (K.held sink.old) (K.held sink.new) }
         ensures read_fault { result ≡ Ended.ReadFault → Rises (S.fault_count source.old) (S.fault_count source.new) }
         ensures read_fault_told { S.fault_count source.old < S.fault_count source.new → result ≡ Ended.ReadFault }
@@ -182,7 +182,7 @@ impl Reading {
         ensures served { (start : Option (List ℕ)) (before : List ℕ) → ServesTo start (K.held sink.old) served.old self.old.line.items self.old.answered before
             → OnOk result (ServesTo start (K.held sink.new) served.new self.new.line.items self.new.answered (before ++ 10 ∷ [])) }
         ensures last { (start : Option (List ℕ)) (before : List ℕ) → ServesTo start (K.held sink.old) served.old self.old.line.items self.old.answered before
-            → self.old.line.items ≢ [] → OnOk result ((said : Said) × WroteAll before said start (K.held sink.new) × Keeps served.new said) }
+            → self.old.line.items ≢ [] → OnOk result ((said : Accepted) × WroteAll before said start (K.held sink.new) × Keeps served.new said) }
         ensures front { (start : Option (List ℕ)) (before : List ℕ) → ServesTo start (K.held sink.old) served.old self.old.line.items self.old.answered before
             → OnErr result (WroteFront (before ++ 10 ∷ []) start (K.held sink.new)) }
         ensures no_fault { OnOk result (K.fault_count sink.new ≡ K.fault_count sink.old) }
@@ -205,7 +205,7 @@ impl Reading {
         ensures framed { (before written : List ℕ) → HasServed served.old self.old.line.items self.old.answered before written
             → IfOk result (λ frame. HasServed served.new self.new.line.items self.new.answered (before ++ 10 ∷ []) (written ++ frame.items)) }
         ensures last { (before written : List ℕ) → HasServed served.old self.old.line.items self.old.answered before written
-            → self.old.line.items ≢ [] → IfOk result (λ frame. (said : Said) × HasServedAll before (written ++ frame.items) said × Keeps served.new said) }
+            → self.old.line.items ≢ [] → IfOk result (λ frame. (said : Accepted) × HasServedAll before (written ++ frame.items) said × Keeps served.new said) }
         ensures memory_alone { IsOkUnless result Errno.NoMemory }
     {
         let mut text = Vec::new(alloc);
@@ -218,7 +218,7 @@ impl Reading {
     /// The source is at its end.
     fn end<K: Sink>(&mut self, alloc: Global, served: &mut Served, sink: &mut K) -> Ended
         ensures served { (start : Option (List ℕ)) (input : List ℕ) → ServesTo start (K.held sink.old) served.old self.old.line.items self.old.answered input
-            → result ≡ Ended.AtEnd → (said : Said) × WroteAll input said start (K.held sink.new) × IsEnded said served.new }
+            → result ≡ Ended.AtEnd → (said : Accepted) × WroteAll input said start (K.held sink.new) × IsEnded said served.new }
         ensures front { (start : Option (List ℕ)) (input : List ℕ) → ServesTo start (K.held sink.old) served.old self.old.line.items self.old.answered input
             → result ≢ Ended.AtEnd → WroteFront (input ++ 10 ∷ []) start (K.held sink.new) }
         ensures fault { result ≡ Ended.WriteFault → Rises (K.fault_count sink.old) (K.fault_count sink.new) }
@@ -237,7 +237,7 @@ impl Reading {
 
 /// Closes the files that are open.
 fn close(alloc: Global, served: &mut Served) -> Ended
-    ensures ended { (said : Said) → Keeps served.old said → result ≡ Ended.AtEnd → IsEnded said served.new }
+    ensures ended { (said : Accepted) → Keeps served.old said → result ≡ Ended.AtEnd → IsEnded said served.new }
     ensures no_read_fault { result ≢ Ended.ReadFault }
     ensures no_write_fault { result ≢ Ended.WriteFault }
 {

@@ -1,5 +1,5 @@
 -- A session of several actors from its beginning to its end.
-use Rattle.std.proofs.Common.{◌≡◌, ℕ, zero, suc, ◌+◌, ◌<◌, ◌≤◌, Bool, true, List, [], ◌∷◌, length, length-set, map, set, Option, Some, None, Result, Ok, sym, ap, ◌∙◌, subst, arith}
+use Rattle.std.proofs.Common.{◌≡◌, ℕ, zero, suc, ◌+◌, ◌<◌, ◌≤◌, true, List, [], ◌∷◌, length, length-set, map, set, Option, Some, None, Result, Ok, sym, ap, ◌∙◌, subst, arith}
 use Rattle.std.specs.Prelude.{slice_get}
 use mathlib.Core.Logic.{dite}
 use native.Mathlib.Decide.{dec_lt}
@@ -13,6 +13,7 @@ use Rattle.gl_script.specs.Section.{SaidSection}
 use Rattle.gl_talk.specs.Open.{Names}
 use Rattle.gl_core.specs.Device.{OneEntry, core}
 use Rattle.gl_chip.specs.Values.{OneView}
+use Rattle.gl_check.specs.Drivers.{DriverKind}
 use Rattle.gl_check.specs.Programs.{setup_of}
 use Rattle.gl_check.specs.Many.{AllPlayed, Texts, actor_sections, program_of}
 use Rattle.gl_session.specs.Many.{CameToMany}
@@ -25,10 +26,10 @@ use Rattle.gl_session.proofs.ManyFollows.{came_to_many}
 use Rattle.gl_session.proofs.PortPlaces.{all_found, found_all, get_other, get_set, not_there, there_got, there_same, told_got, told_same}
 
 -- promises are kept over ports that told the same and tell the same
-kept_as : (is_planned : Bool) (programs : ℕ → Program Names) (start other left later : ℕ → Option Told) (v first : OneView) (n : ℕ) (texts : List (Result (List ℕ) Errno)) → ((k : ℕ) → n ≤ k → start k ≡ other k) → ((k : ℕ) → n ≤ k → left k ≡ later k)
-    → AreKept is_planned programs start left v first n texts → AreKept is_planned programs other later v first n texts
-kept_as is_planned programs start other left later v first n [] same_start same_end h = tt
-kept_as is_planned programs start other left later v first n (t ∷ ts) same_start same_end h = let k = h.0 in (
+kept_as : (driver : DriverKind) (programs : ℕ → Program Names) (start other left later : ℕ → Option Told) (v first : OneView) (n : ℕ) (texts : List (Result (List ℕ) Errno)) → ((k : ℕ) → n ≤ k → start k ≡ other k) → ((k : ℕ) → n ≤ k → left k ≡ later k)
+    → AreKept driver programs start left v first n texts → AreKept driver programs other later v first n texts
+kept_as driver programs start other left later v first n [] same_start same_end h = tt
+kept_as driver programs start other left later v first n (t ∷ ts) same_start same_end h = let k = h.0 in (
   record {
     saw = k.saw;
     place = k.place;
@@ -37,9 +38,9 @@ kept_as is_planned programs start other left later v first n (t ∷ ts) same_sta
     begins = k.begins;
     own = k.own;
     nothing_before = k.nothing_before;
-    came = subst (λ (x : Option Told × Option Told). CameOut is_planned n (programs n) x.0 k.saw v.room t x.1) (λ i. (same_start n (omega arith) i, same_end n (omega arith) i)) k.came;
+    came = subst (λ (x : Option Told × Option Told). CameOut driver n (programs n) x.0 k.saw v.room t x.1) (λ i. (same_start n (omega arith) i, same_end n (omega arith) i)) k.came;
   },
-  kept_as is_planned programs start other left later v first (n + 1) ts (λ j more. same_start j (omega arith)) (λ j more. same_end j (omega arith)) h.1,
+  kept_as driver programs start other left later v first (n + 1) ts (λ j more. same_start j (omega arith)) (λ j more. same_end j (omega arith)) h.1,
 )
 
 -- the first port is there, and the others are once it is taken out
@@ -54,9 +55,9 @@ taken_there ports taken all left_is n far less =
 pub new_first : (room : ℕ) (v : OneView) → v ≡ newcomer 0 room [] 1 [] [] → (v.number ≡ 0) × (v.made ≡ 1)
 new_first room v new = (ap (λ (x : OneView). x.number) new, ap (λ (x : OneView). x.made) new)
 
-module _ {P : Type 0} (told : P → Option Told) (is_planned : Bool) (sections : List SaidSection) where
+module _ {P : Type 0} (told : P → Option Told) (driver : DriverKind) (sections : List SaidSection) where
   -- all others were taken in
-  pub all_joined : (room : ℕ) (v w : OneView) (before left : Option Told) (ports ports_then : List (Option P)) (texts : Texts) → v ≡ newcomer 0 room [] 1 [] [] → HasCarriedOut told is_planned sections v before ports texts w left ports_then
+  pub all_joined : (room : ℕ) (v w : OneView) (before left : Option Told) (ports ports_then : List (Option P)) (texts : Texts) → v ≡ newcomer 0 room [] 1 [] [] → HasCarriedOut told driver sections v before ports texts w left ports_then
       → (w.number ≡ 0) × (length w.joined + 1 ≡ w.made)
   all_joined room v w before left ports ports_then texts new out =
       let one = out.setup.grew in let split = out.forked.split in let joined = out.forked.joined in let two = out.last.grew in
@@ -79,24 +80,24 @@ module _ {P : Type 0} (told : P → Option Told) (is_planned : Bool) (sections :
 
     -- what came of the whole
     pub came : (room : ℕ) (v w : OneView) (before left : Option Told) (texts : Texts) (history : List OneEntry) → v ≡ newcomer 0 room [] 1 [] [] → before ≡ told port → left ≡ told port_then
-        → HasCarriedOut told is_planned sections v before taken texts w left ports_then → length taken ≡ length ports_then
+        → HasCarriedOut told driver sections v before taken texts w left ports_then → length taken ≡ length ports_then
         → Legal core history → StartsWith history w.seen → entries_of 0 history ≡ w.mine → HasAllOf w.joined history → ((n : ℕ) → w.made ≤ n → entries_of n history ≡ [])
-        → CameToMany is_planned sections (told_at told ports) (told_at told given) history texts
+        → CameToMany driver sections (told_at told ports) (told_at told given) history texts
     came room v w before left texts history new first_is last_is out same_length legal begins mine all others =
         let start : told_at told ports 0 ≡ told port = told_got told ports 0 port got in
         let long : length taken ≡ length ports = ap (λ l. length l) left_is ∙ length-set ports 0 None in
         let end : told_at told given 0 ≡ told port_then = ap (λ l. told_at told l 0) given_is ∙ told_got told (set ports_then 0 (Some port_then)) 0 port_then (get_set ports_then 0 (Some port_then) (omega arith)) in
-        let played : AllPlayed is_planned (told_at told ports) (told_at told given) sections history texts =
-        all_played is_planned (told_at told ports) (told_at told given) sections room (length (actor_sections sections)) (length (actor_sections sections)) v out.at_fork out.forked.between out.behind_fork w out.names out.end out.waiting out.behind texts.setup texts.last texts.actors history
+        let played : AllPlayed driver (told_at told ports) (told_at told given) sections history texts =
+        all_played driver (told_at told ports) (told_at told given) sections room (length (actor_sections sections)) (length (actor_sections sections)) v out.at_fork out.forked.between out.behind_fork w out.names out.end out.waiting out.behind texts.setup texts.last texts.actors history
         new
-        (subst (λ t. PlaysOn is_planned (setup_of sections) v (carried [] t) [] (done out.names) out.at_fork out.waiting texts.setup) (first_is ∙ sym start) out.setup)
+        (subst (λ t. PlaysOn driver (setup_of sections) v (carried [] t) [] (done out.names) out.at_fork out.waiting texts.setup) (first_is ∙ sym start) out.setup)
         out.forked.split out.forked.joined
-        (kept_as is_planned (program_of sections) (told_at told taken) (told_at told ports) (told_at told ports_then) (told_at told given) out.at_fork out.behind_fork 1 (map Ok texts.actors) same_before same_then out.forked.kept)
+        (kept_as driver (program_of sections) (told_at told taken) (told_at told ports) (told_at told ports_then) (told_at told given) out.at_fork out.behind_fork 1 (map Ok texts.actors) same_before same_then out.forked.kept)
         out.own out.last (out.left_is ∙ last_is ∙ sym end) legal begins mine all others (sym out.forked.as_many) out.forked.as_many
-        in came_to_many is_planned (told_at told ports) (told_at told given) sections history texts played
+        in came_to_many driver (told_at told ports) (told_at told given) sections history texts played
 
     -- all ports are there again, and those of numbers that no actor has are as they were
-    pub all_there : (v w : OneView) (before left : Option Told) (texts : Texts) → HasCarriedOut told is_planned sections v before taken texts w left ports_then → AreAllThere ports
+    pub all_there : (v w : OneView) (before left : Option Told) (texts : Texts) → HasCarriedOut told driver sections v before taken texts w left ports_then → AreAllThere ports
         → AreAllThere given × ((n : ℕ) → length (actor_sections sections) < n → slice_get given n ≡ slice_get ports n)
     all_there v w before left texts out were = (record { count = long ∙ were.count; there = found_all given at }, beyond) where
       taken_long : length taken ≡ length ports

@@ -26,6 +26,7 @@ use Rattle.gl_talk.specs.Open.{Names, no_names}
 use Rattle.gl_talk.specs.Talk.{quits, says, talks}
 use Rattle.gl_core.specs.Device.{OneDeed, OneEntry, call_tells, core, tells_in}
 use Rattle.gl_session.specs.Alone.{AnswersAsPlanned, IsAlone, Part, PlayedSession, PortTells, PrintsOne}
+use Rattle.gl_check.specs.Drivers.{DriverKind}
 use Rattle.gl_check.specs.Tells.{TellsAfter, answered_last, calls_after, last_or}
 use Rattle.gl_asking.specs.declared.kinds.Asking.{Asking}
 use Rattle.gl_asking.specs.declared.kinds.Asking.TheVariants.{Calls, Plans, Accepts, Refuses}
@@ -34,6 +35,7 @@ use Rattle.gl_asking.specs.Driving.{op_asked}
 use Rattle.gl_asking.specs.Files.{OpenFile}
 use Rattle.gl_check.specs.One.{Answers, PlannedPort, Ran, Standing, TellingPort, bits_asked, came_to, comes_to, entry_count, first_of_list, from_list, from_plan, from_port, is_asked, performs, performs_as, rest_of_list, run, run_actor, run_session, run_setup, said_in_kind, told_behind, told_of, with_answer, with_entries}
 use Rattle.gl_check.specs.Turns.{Carried, Carries, Did, DidNothing, Exchange, Follows, HasMade, IsDone, Said, Turn, did_by, said_by}
+use Rattle.gl_check.proofs.Asked.{Unmapped, unmapped}
 use Rattle.gl_session.proofs.OneCalls.{Came, Comes, comes}
 use Rattle.gl_session.proofs.OneHistories.{IsSteady, Rest, length_entries}
 
@@ -55,10 +57,10 @@ abbrev reply_or : Reply → Option Reply → Reply
 reply_or d (Some reply) = reply
 reply_or d None = d
 
-module _ {X : Type 0} (answers : Answers X) (is_planned : Bool) (Fits : X → Option Told → List (Option ℕ) → Type 0) where
+module _ {X : Type 0} (answers : Answers X) (driver : DriverKind) (Fits : X → Option Told → List (Option ℕ) → Type 0) where
   -- A source fits a port that tells this, and the answers that are left: it gives the answer that the port comes to.
   pub record Serves : Type 0 where
-    pub gives : (x : X) (before after : Option Told) (op : Option Op) (answer : Option ℕ) (rest : List (Option ℕ)) → Fits x before (answer ∷ rest) → PortAfter is_planned op (answer ∷ []) before after
+    pub gives : (x : X) (before after : Option Told) (op : Option Op) (answer : Option ℕ) (rest : List (Option ℕ)) → Fits x before (answer ∷ rest) → PortAfter driver.is_planned op (answer ∷ []) before after
         → (answers.next op x ≡ answer) × Fits (answers.behind op x) after rest
     pub plans : (x : X) (before : Option Told) (nth : ℕ) (rest : List (Option ℕ)) → Fits x before rest → Fits (answers.planned nth x) (with_plan nth before) rest
     pub accepts : (x : X) (before : Option Told) (bits : ℕ) (rest : List (Option ℕ)) → Fits x before rest → Fits (answers.accepted bits x) (with_bits bits before) rest
@@ -85,12 +87,15 @@ module _ {X : Type 0} (answers : Answers X) (is_planned : Bool) (Fits : X → Op
 
   module _ (serves : Serves) where
     -- a call of the device
-    called : (call : DeviceCall) (op : Option Op) (e : Exchange) (s r : Carried) (st : Standing X) (ds : List OneDeed) (rest : List (Option ℕ)) → HasMade is_planned 0 call op e s.told r.told
+    called : (call : DeviceCall) (op : Option Op) (e : Exchange) (s r : Carried) (st : Standing X) (ds : List OneDeed) (rest : List (Option ℕ)) → HasMade driver 0 call op e s.told r.told
         → r.files ≡ files_behind e.what e.reply s.files → At st s (e.did ++ ds) (told_by e.did ++ rest) → Performed e r st ds rest (performs_as answers (Calls call) op e.what st)
     called call op e s r st ds rest made files at = by (is_asked st.world call) refl
       where
+        alone : Unmapped driver 0 op e s.told r.told call
+        alone = unmapped driver 0 op e s.told r.told call made
+
         c : Comes st.world call e.answer e.did ds
-        c = comes laws st.world call e.closed e.answer e.did ds made.makes at.left at.steady
+        c = comes laws st.world call e.closed e.answer e.did ds alone.makes at.left at.steady
 
         reply_same : Came e.did ds (comes_to st.world call (answers.next op st.source)) → (comes_to st.world call (answers.next op st.source)).reply ≡ e.reply
         reply_same came = ap (λ x. reply_or e.reply x) (sym came.reply ∙ made.reply_is)
@@ -102,7 +107,7 @@ module _ {X : Type 0} (answers : Answers X) (is_planned : Bool) (Fits : X → Op
             (came_to answers e.what (comes_to st.world call (answers.next op st.source)) (with_entries (entry_count st.world call) (with_answer answers op b st)))
         by false unasked = let none : told_by e.did ≡ [] = c.tells ∙ ap (λ (b : Bool). if b then e.answer ∷ [] else []) unasked in
             let came = c.came (answers.next op st.source) (λ is. absurd (true≢false (sym is ∙ unasked))) in
-            let port : r.told ≡ s.told = subst (λ l. PortAfter is_planned op l s.told r.told) none made.port in record {
+            let port : r.told ≡ s.told = subst (λ l. PortAfter driver.is_planned op l s.told r.told) none alone.port in record {
               got = λ i. got_of e.what (reply_same came i) (bytes_same came i);
               at = record {
                 files = (λ i. files_behind e.what (reply_same came i) (at.files i)) ∙ sym files;
@@ -114,7 +119,7 @@ module _ {X : Type 0} (answers : Answers X) (is_planned : Bool) (Fits : X → Op
               entries = ap (λ n. st.entries + n) (sym c.count);
             }
         by true is = let one : told_by e.did ≡ e.answer ∷ [] = c.tells ∙ ap (λ (b : Bool). if b then e.answer ∷ [] else []) is in
-            let g = serves.gives st.source s.told r.told op e.answer rest (subst (λ l. Fits st.source s.told (l ++ rest)) one at.fits) (subst (λ l. PortAfter is_planned op l s.told r.told) one made.port) in
+            let g = serves.gives st.source s.told r.told op e.answer rest (subst (λ l. Fits st.source s.told (l ++ rest)) one at.fits) (subst (λ l. PortAfter driver.is_planned op l s.told r.told) one alone.port) in
             let came = c.came (answers.next op st.source) (λ _. g.0) in record {
               got = λ i. got_of e.what (reply_same came i) (bytes_same came i);
               at = record {
@@ -128,7 +133,7 @@ module _ {X : Type 0} (answers : Answers X) (is_planned : Bool) (Fits : X → Op
             }
 
     -- an operation without a call of the device
-    nothing : (e : Exchange) (reply : Reply) (s r : Carried) (st next : Standing X) (ds : List OneDeed) (rest : List (Option ℕ)) → DidNothing is_planned 0 e reply → r.files ≡ files_behind e.what e.reply s.files
+    nothing : (e : Exchange) (reply : Reply) (s r : Carried) (st next : Standing X) (ds : List OneDeed) (rest : List (Option ℕ)) → DidNothing driver 0 e reply → r.files ≡ files_behind e.what e.reply s.files
         → At st s (e.did ++ ds) (told_by e.did ++ rest) → next.world ≡ st.world → next.files ≡ files_behind e.what reply st.files → next.took ≡ st.took → next.entries ≡ st.entries → (Fits st.source s.told rest → Fits next.source r.told rest)
         → Performed e r st ds rest (got_of e.what reply [], next)
     nothing e reply s r st next ds rest none files at same_world same_files same_took same_entries fits = record {
@@ -143,7 +148,7 @@ module _ {X : Type 0} (answers : Answers X) (is_planned : Bool) (Fits : X → Op
       entries = let nobody : length e.did ≡ 0 = ap (λ (l : List OneDeed). length l) none.did in omega arith;
     }
 
-    asked : (a : Asking) (op : Option Op) (e : Exchange) (s r : Carried) (st : Standing X) (ds : List OneDeed) (rest : List (Option ℕ)) → IsDone is_planned 0 a op e s.told r.told
+    asked : (a : Asking) (op : Option Op) (e : Exchange) (s r : Carried) (st : Standing X) (ds : List OneDeed) (rest : List (Option ℕ)) → IsDone driver 0 a op e s.told r.told
         → r.files ≡ files_behind e.what e.reply s.files → At st s (e.did ++ ds) (told_by e.did ++ rest) → Performed e r st ds rest (performs_as answers a op e.what st)
     asked (Calls call) op e s r st ds rest is files at = called call op e s r st ds rest is files at
     asked (Plans nth) op e s r st ds rest is files at = nothing e DoneReply s r st (performs_as answers (Plans nth) op e.what st).1 ds rest is.0 files at refl refl refl refl
@@ -153,14 +158,14 @@ module _ {X : Type 0} (answers : Answers X) (is_planned : Bool) (Fits : X → Op
     asked (Refuses errno) op e s r st ds rest is files at = nothing e (RefusedReply errno) s r st (performs_as answers (Refuses errno) op e.what st).1 ds rest is.0 files at refl refl refl refl
         (λ fits. subst (λ t. Fits st.source t rest) (sym is.1) fits)
 
-    performed : (e : Exchange) (s r : Carried) (st : Standing X) (ds : List OneDeed) (rest : List (Option ℕ)) → Carries is_planned 0 s e r → At st s (e.did ++ ds) (told_by e.did ++ rest)
+    performed : (e : Exchange) (s r : Carried) (st : Standing X) (ds : List OneDeed) (rest : List (Option ℕ)) → Carries driver 0 s e r → At st s (e.did ++ ds) (told_by e.did ++ rest)
         → Performed e r st ds rest (performs answers e.what st)
     performed e s r st ds rest carries at = subst (λ (files : List OpenFile). Performed e r st ds rest (performs_as answers (asking files e.what) (op_asked files e.what) e.what st)) (sym at.files)
         (asked (asking s.files e.what) (op_asked s.files e.what) e s r st ds rest carries.is_done carries.files at)
 
     -- turns one after another
     pub follows_run : {A : Type 0} (turns : List Turn) (p : Program A) (s r : Carried) (value : A) (st : Standing X) (ds : List OneDeed) (rest : List (Option ℕ))
-        → Follows is_planned 0 p s turns (done value) r → At st s (did_by turns ++ ds) (told_by (did_by turns) ++ rest)
+        → Follows driver 0 p s turns (done value) r → At st s (did_by turns ++ ds) (told_by (did_by turns) ++ rest)
         → RunsAs (said_by turns) (did_by turns) value r st ds rest (run answers p st)
     follows_run {A} [] p s r value st ds rest (is, same) at = subst (λ (q : Program A). RunsAs [] [] value r st ds rest (run answers q st)) (sym is) (record {
       text_is = refl;
@@ -197,7 +202,7 @@ module _ {X : Type 0} (answers : Answers X) (is_planned : Bool) (Fits : X → Op
         })
 
     -- a whole program
-    part_runs : (program : Program Names) (files : List OpenFile) (told : Option Told) (part : Part is_planned program files told) (st : Standing X) (ds : List OneDeed) (rest : List (Option ℕ))
+    part_runs : (program : Program Names) (files : List OpenFile) (told : Option Told) (part : Part driver program files told) (st : Standing X) (ds : List OneDeed) (rest : List (Option ℕ))
         → At st (record { files = files; told = told }) (part.did ++ ds) (told_by part.did ++ rest) → RunsAs part.text part.did part.names part.behind st ds rest (run answers program st)
     part_runs program files told part st ds rest at = let turns : List Turn = part.played.turns in
         let now = subst (λ (l : List OneDeed). At st (record { files = files; told = told }) (l ++ ds) (told_by l ++ rest)) part.played.did_is at in
@@ -205,7 +210,7 @@ module _ {X : Type 0} (answers : Answers X) (is_planned : Bool) (Fits : X → Op
         subst (λ (x : List ℕ × List OneDeed). RunsAs x.0 x.1 part.names part.behind st ds rest (run answers program st)) (λ i. (sym part.played.text_is i, sym part.played.did_is i)) on
 
     -- the three parts of a session
-    pub session_runs : (sections : List SaidSection) (before left : Option Told) (text : List ℕ) (did : List OneDeed) (source : X) → PlayedSession is_planned sections before text did left
+    pub session_runs : (sections : List SaidSection) (before left : Option Told) (text : List ℕ) (did : List OneDeed) (source : X) → PlayedSession driver sections before text did left
         → Rest core opening did → IsSteady core opening → Fits source before (told_by did) → ((run_session answers sections source).text ≡ text) × ((run_session answers sections source).behind.took ≡ told_by did)
         × ((run_session answers sections source).behind.entries ≡ length did) × Fits (run_session answers sections source).behind.source left []
     session_runs sections before left text did source p whole steady fits =
@@ -257,17 +262,17 @@ opens_steady : IsSteady core opening
 opens_steady p two = let low = laws.opens_places p in absurd (omega arith)
 
 -- answers in the order of a list
-list_serves : (is_planned : Bool) → Serves from_list is_planned (λ source told rest. source ≡ rest)
-list_serves is_planned = record {
+list_serves : (driver : DriverKind) → Serves from_list driver (λ source told rest. source ≡ rest)
+list_serves driver = record {
   gives = λ x before after op answer rest is port. (ap (λ l. first_of_list l) is, ap (λ l. rest_of_list l) is);
   plans = λ x before nth rest is. is;
   accepts = λ x before bits rest is. is;
 }
 
-pub prints_one : PrintsOne
-prints_one is_planned sections before left text did history p alone =
+pub prints_one : (driver : DriverKind) → PrintsOne driver
+prints_one driver sections before left text did history p alone =
     let told : tells_in history ≡ told_by did = ap (λ (l : List OneEntry). tells_in l) alone.entries in
-    let s = session_runs from_list is_planned (λ source told rest. source ≡ rest) (list_serves is_planned) sections before left text did (tells_in history) p (whole_rest history did alone) opens_steady told in
+    let s = session_runs from_list driver (λ source told rest. source ≡ rest) (list_serves driver) sections before left text did (tells_in history) p (whole_rest history did alone) opens_steady told in
     (sym s.0, s.1 ∙ sym told, s.2 ∙ sym (length_entries did) ∙ ap (λ (l : List OneEntry). length l) (sym alone.entries))
 
 -- answers as the plan of a port says
@@ -289,22 +294,26 @@ plan_plans x before nth rest (t, is, same) = (record t { plan = planned_call t.c
 plan_accepts : (x : PlannedPort) (before : Option Told) (bits : ℕ) (rest : List (Option ℕ)) → PlannedFits x before rest → PlannedFits (from_plan.accepted bits x) (with_bits bits before) rest
 plan_accepts x before bits rest (t, is, same) = (record t { bits = bits }, ap (λ (o : Option Told). with_bits bits o) is, ap (λ (port : PlannedPort). from_plan.accepted bits port) same)
 
-plan_serves : Serves from_plan true PlannedFits
-plan_serves = record { gives = plan_gives; plans = plan_plans; accepts = plan_accepts }
+plan_serves : (driver : DriverKind) → driver.is_planned ≡ true → Serves from_plan driver PlannedFits
+plan_serves driver planned = record {
+  gives = λ x before after op answer rest fits port. plan_gives x before after op answer rest fits (subst (λ b. PortAfter b op (answer ∷ []) before after) planned port);
+  plans = plan_plans;
+  accepts = plan_accepts;
+}
 
-pub answers_as_planned : AnswersAsPlanned
-answers_as_planned sections t left text did history p alone =
+pub answers_as_planned : (driver : DriverKind) → AnswersAsPlanned driver
+answers_as_planned driver planned sections t left text did history p alone =
     let told : tells_in history ≡ told_by did = ap (λ (l : List OneEntry). tells_in l) alone.entries in
-    let s = session_runs from_plan true PlannedFits plan_serves sections (Some t) left text did (record { calls = t.counted; plan = t.plan; bits = t.bits }) p (whole_rest history did alone) opens_steady (t, refl, refl) in
+    let s = session_runs from_plan driver PlannedFits (plan_serves driver planned) sections (Some t) left text did (record { calls = t.counted; plan = t.plan; bits = t.bits }) p (whole_rest history did alone) opens_steady (t, refl, refl) in
     told ∙ sym s.1
 
 -- answers in the order of a list, of which a port tells how many there were so far, and the last
 abbrev PortFits : Told → List (Option ℕ) → List (Option ℕ) → Option Told → List (Option ℕ) → Type 0
 PortFits t all source told rest = (source ≡ rest) × (u : Told) × (told ≡ Some u) × (calls_after u.calls rest ≡ calls_after t.calls all) × (last_or (answered_last u.last) rest ≡ last_or (answered_last t.last) all)
 
-port_gives : (is_planned : Bool) (t : Told) (all : List (Option ℕ)) (x : List (Option ℕ)) (before after : Option Told) (op : Option Op) (answer : Option ℕ) (rest : List (Option ℕ)) → PortFits t all x before (answer ∷ rest)
-    → PortAfter is_planned op (answer ∷ []) before after → (from_list.next op x ≡ answer) × PortFits t all (from_list.behind op x) after rest
-port_gives is_planned t all x before after op answer rest (is, u, told, count, last) (was, was_is, becomes, as_planned) = (
+port_gives : (driver : DriverKind) (t : Told) (all : List (Option ℕ)) (x : List (Option ℕ)) (before after : Option Told) (op : Option Op) (answer : Option ℕ) (rest : List (Option ℕ)) → PortFits t all x before (answer ∷ rest)
+    → PortAfter driver.is_planned op (answer ∷ []) before after → (from_list.next op x ≡ answer) × PortFits t all (from_list.behind op x) after rest
+port_gives driver t all x before after op answer rest (is, u, told, count, last) (was, was_is, becomes, as_planned) = (
   ap (λ l. first_of_list l) is,
   (ap (λ l. rest_of_list l) is, record { calls = counted_up u.calls; counted = counted_up u.counted; plan = u.plan; bits = u.bits; last = Some (record { op = was; answer = answer }) }, becomes ∙ ap (λ (o : Option Told). with_call was answer o) told, count, last),
 )
@@ -315,23 +324,23 @@ port_plans t all x before nth rest (is, u, told, count, last) = (is, record u { 
 port_accepts : (t : Told) (all : List (Option ℕ)) (x : List (Option ℕ)) (before : Option Told) (bits : ℕ) (rest : List (Option ℕ)) → PortFits t all x before rest → PortFits t all x (with_bits bits before) rest
 port_accepts t all x before bits rest (is, u, told, count, last) = (is, record u { bits = bits }, ap (λ (o : Option Told). with_bits bits o) told, count, last)
 
-port_serves : (is_planned : Bool) (t : Told) (all : List (Option ℕ)) → Serves from_list is_planned (PortFits t all)
-port_serves is_planned t all = record { gives = port_gives is_planned t all; plans = port_plans t all; accepts = port_accepts t all }
+port_serves : (driver : DriverKind) (t : Told) (all : List (Option ℕ)) → Serves from_list driver (PortFits t all)
+port_serves driver t all = record { gives = port_gives driver t all; plans = port_plans t all; accepts = port_accepts t all }
 
-port_answers : (is_planned : Bool) (sections : List SaidSection) (t : Told) (left : Option Told) (text : List ℕ) (did : List OneDeed) (history : List OneEntry)
-    → PlayedSession is_planned sections (Some t) text did left → IsAlone history did → TellsAfter t (tells_in history) left
-port_answers is_planned sections t left text did history p alone =
+port_answers : (driver : DriverKind) (sections : List SaidSection) (t : Told) (left : Option Told) (text : List ℕ) (did : List OneDeed) (history : List OneEntry)
+    → PlayedSession driver sections (Some t) text did left → IsAlone history did → TellsAfter t (tells_in history) left
+port_answers driver sections t left text did history p alone =
     let told : tells_in history ≡ told_by did = ap (λ (l : List OneEntry). tells_in l) alone.entries in let all : List (Option ℕ) = told_by did in
-    let s = session_runs from_list is_planned (PortFits t all) (port_serves is_planned t all) sections (Some t) left text did all p (whole_rest history did alone) opens_steady (refl, t, refl, refl, refl) in
+    let s = session_runs from_list driver (PortFits t all) (port_serves driver t all) sections (Some t) left text did all p (whole_rest history did alone) opens_steady (refl, t, refl, refl, refl) in
     let u = s.3 in subst (λ l. TellsAfter t l left) (sym told) (record { told = u.1; left_is = u.2; calls = u.3; last = u.4 })
 
 -- answers in the order of a list, through a port that tells just what this one does
 abbrev SamePort : TellingPort → Option Told → List (Option ℕ) → Type 0
 SamePort x told rest = (x.left ≡ rest) × (x.told ≡ told)
 
-telling_gives : (is_planned : Bool) (x : TellingPort) (before after : Option Told) (op : Option Op) (answer : Option ℕ) (rest : List (Option ℕ)) → SamePort x before (answer ∷ rest)
-    → PortAfter is_planned op (answer ∷ []) before after → (from_port.next op x ≡ answer) × SamePort (from_port.behind op x) after rest
-telling_gives is_planned x before after op answer rest (left_is, told_is) (was, was_is, becomes, as_planned) = (
+telling_gives : (driver : DriverKind) (x : TellingPort) (before after : Option Told) (op : Option Op) (answer : Option ℕ) (rest : List (Option ℕ)) → SamePort x before (answer ∷ rest)
+    → PortAfter driver.is_planned op (answer ∷ []) before after → (from_port.next op x ≡ answer) × SamePort (from_port.behind op x) after rest
+telling_gives driver x before after op answer rest (left_is, told_is) (was, was_is, becomes, as_planned) = (
   ap (λ l. first_of_list l) left_is,
   (
     ap (λ l. rest_of_list l) left_is,
@@ -339,19 +348,19 @@ telling_gives is_planned x before after op answer rest (left_is, told_is) (was, 
   ),
 )
 
-telling_serves : (is_planned : Bool) → Serves from_port is_planned SamePort
-telling_serves is_planned = record {
-  gives = telling_gives is_planned;
+telling_serves : (driver : DriverKind) → Serves from_port driver SamePort
+telling_serves driver = record {
+  gives = telling_gives driver;
   plans = λ x before nth rest is. (is.0, ap (λ (o : Option Told). with_plan nth o) is.1);
   accepts = λ x before bits rest is. (is.0, ap (λ (o : Option Told). with_bits bits o) is.1);
 }
 
-port_whole : (is_planned : Bool) (sections : List SaidSection) (before left : Option Told) (text : List ℕ) (did : List OneDeed) (history : List OneEntry)
-    → PlayedSession is_planned sections before text did left → IsAlone history did → left ≡ told_behind sections (tells_in history) before
-port_whole is_planned sections before left text did history p alone =
+port_whole : (driver : DriverKind) (sections : List SaidSection) (before left : Option Told) (text : List ℕ) (did : List OneDeed) (history : List OneEntry)
+    → PlayedSession driver sections before text did left → IsAlone history did → left ≡ told_behind sections (tells_in history) before
+port_whole driver sections before left text did history p alone =
     let told : tells_in history ≡ told_by did = ap (λ (l : List OneEntry). tells_in l) alone.entries in
-    let s = session_runs from_port is_planned SamePort (telling_serves is_planned) sections before left text did (record { left = tells_in history; told = before }) p (whole_rest history did alone) opens_steady (told, refl) in
+    let s = session_runs from_port driver SamePort (telling_serves driver) sections before left text did (record { left = tells_in history; told = before }) p (whole_rest history did alone) opens_steady (told, refl) in
     sym s.3.1
 
-pub port_tells : PortTells
-port_tells = record { whole = port_whole; answers = port_answers }
+pub port_tells : (driver : DriverKind) → PortTells driver
+port_tells driver = record { whole = port_whole driver; answers = port_answers driver }

@@ -26,7 +26,7 @@ use Rattle.gl_base.specs.declared.op.Op.{Op}
 use Rattle.gl_model.specs.Calling.{AreOfCalls, Called, IsCalled, made_by}
 use Rattle.gl_model.specs.Claiming.{is_claim_of}
 use Rattle.gl_model.specs.Holders.{HoldersAgree}
-use Rattle.gl_model.specs.declared.device_call.DeviceCall.TheVariants.{Commanding}
+use Rattle.gl_model.specs.declared.device_call.DeviceCall.TheVariants.{Commanding, Once}
 use Rattle.gl_model.specs.Parts.{Makes, last_reply}
 use Rattle.gl_model.specs.World.{World, Request}
 use Rattle.gl_model.specs.declared.call.Call.TheVariants.{OpenChip}
@@ -50,12 +50,14 @@ use Rattle.gl_asking.specs.declared.kinds.Asking.TheVariants.{Calls, Plans, Acce
 use Rattle.gl_asking.specs.Asking.{asking, buffer_of, files_behind, got_of, lines_named, made_by as made_of_kind, made_on, on_file, once, with_request}
 use Rattle.gl_asking.specs.Driving.{op_asked}
 use Rattle.gl_session.specs.Alone.{IsAlone, PlayedSession}
+use Rattle.gl_check.specs.Drivers.{DriverKind}
 use Rattle.gl_check.specs.Programs.{actor_of, after_of, setup_of}
 use Rattle.gl_session.specs.Closings.{ActorsCloseByNumber, AreKept, ClosesByNumber, OneActorClosesByNumber, after_statements, section_statements, closed_by, closed_in, number_in, numbers_of}
 use Rattle.gl_asking.specs.Files.{OpenFile, chip_file, file_in, is_in, line_file, without_file}
 use Rattle.gl_check.specs.Many.{ActorPlayed, AllPlayed, Texts, actor_sections, no_section, words_of}
 use Rattle.gl_check.specs.One.{said_in_kind}
 use Rattle.gl_check.specs.Turns.{Carried, Did, Exchange, Follows, IsDone, Said, Turn, carried, did_by}
+use Rattle.gl_check.proofs.Asked.{unmapped}
 use Rattle.gl_session.proofs.Numbering.{ClaimsFrom, IsAnswer, IsMade, IsRefused, get_line_answers, next_after, open_answers}
 use Rattle.gl_session.proofs.Plays.{did_append, follows_then}
 use Rattle.gl_session.proofs.Sections.{says_then}
@@ -238,7 +240,7 @@ abbrev command_on : ℕ → ℕ → List ℕ → OpenFile → Asking
 command_on cmd len bytes file = Calls (Commanding (command_in file.place file.fd file.of_chip cmd (buffer_of len bytes)))
 
 -- What an operation makes of the files, carried out by an actor over these entries of a history.
-module _ (is_planned : Bool) (actor : ℕ) (w : World) (es : List OneEntry) (files : List OpenFile) (agree : HoldersAgree w) (claims : ClaimsFrom actor w.next w.requests) (answered : AnsweredFrom core w es)
+module _ (driver : DriverKind) (actor : ℕ) (w : World) (es : List OneEntry) (files : List OpenFile) (agree : HoldersAgree w) (claims : ClaimsFrom actor w.next w.requests) (answered : AnsweredFrom core w es)
     (under : AreBelow w.next files) (rising : Rises files)
   where
     abbrev last_number : ℕ
@@ -297,24 +299,24 @@ module _ (is_planned : Bool) (actor : ℕ) (w : World) (es : List OneEntry) (fil
           (ap (λ o. made_on made o lines reply files) found ∙ ap (λ b. made_of_kind b made file.place lines reply files) chip)
 
     module _ (e : Exchange) (before after : Option Told) (own : entries_of actor es ≡ entries_in e.did) where
-      opens : (slot : ℕ) (word : List ℕ) → IsDone is_planned actor (once (OpenChip word)) None e before after → Fresh files (DoOpenChip slot word) e.reply e.wrote w.next last_number
+      opens : (slot : ℕ) (word : List ℕ) → IsDone driver actor (once (OpenChip word)) None e before after → Fresh files (DoOpenChip slot word) e.reply e.wrote w.next last_number
       opens slot word is =
-          let one = is.makes.1.0 in
+          let one = (unmapped driver actor None e before after (Once (OpenChip word)) is).makes.1.0 in
           let said : one.0 ≡ e.reply = ap (λ o. reply_or e.reply o) (ap (λ (l : List OneEntry). last_reply l) (sym one.1) ∙ is.reply_is) in
           chip_opened slot word e.reply e.wrote (subst (λ r. IsAnswer w.next last_number r) said (open_answers actor w es word one.0 answered (own ∙ one.1)))
 
-      commands : (slot cmd len : ℕ) (bytes : List ℕ) (made : ℕ) → IsDone is_planned actor (asking files (DoIoctl slot cmd len bytes made)) (op_asked files (DoIoctl slot cmd len bytes made)) e before after
+      commands : (slot cmd len : ℕ) (bytes : List ℕ) (made : ℕ) → IsDone driver actor (asking files (DoIoctl slot cmd len bytes made)) (op_asked files (DoIoctl slot cmd len bytes made)) e before after
           → Fresh files (DoIoctl slot cmd len bytes made) e.reply e.wrote w.next last_number
       commands slot cmd len bytes made is = by (nat_eq cmd GET_LINE) refl
         where
           by_file : nat_eq cmd GET_LINE ≡ true → (o : Option OpenFile) → file_in slot files ≡ o → Fresh files (DoIoctl slot cmd len bytes made) e.reply e.wrote w.next last_number
-          by_file same None none = let refused = subst (λ o. IsDone is_planned actor (on_file o (command_on cmd len bytes)) (op_asked files (DoIoctl slot cmd len bytes made)) e before after) none is in
+          by_file same None none = let refused = subst (λ o. IsDone driver actor (on_file o (command_on cmd len bytes)) (op_asked files (DoIoctl slot cmd len bytes made)) e before after) none is in
               refused_kept slot cmd len bytes made same e.reply e.wrote (BadF, refused.0.reply_is) (ap (λ o. made_on made o (lines_named (buffer_of len bytes)) e.reply files) none)
-          by_file same (Some file) found = let called = subst (λ o. IsDone is_planned actor (on_file o (command_on cmd len bytes)) (op_asked files (DoIoctl slot cmd len bytes made)) e before after) found is in
+          by_file same (Some file) found = let called = subst (λ o. IsDone driver actor (on_file o (command_on cmd len bytes)) (op_asked files (DoIoctl slot cmd len bytes made)) e before after) found is in
               request_made slot cmd len bytes made same e.reply e.wrote file found file.of_chip refl
               (get_line_answers actor w es (command_in file.place file.fd file.of_chip cmd (buffer_of len bytes)) e.reply (ap command_of (are_one cmd GET_LINE same)) agree claims answered
               (ap (λ (l : List OneEntry). last_reply l) own ∙ called.reply_is) e.closed e.answer
-              (subst (λ l. Makes actor e.closed (Commanding (command_in file.place file.fd file.of_chip cmd (buffer_of len bytes))) e.answer [] l) (sym own) called.makes))
+              (subst (λ l. Makes actor e.closed (Commanding (command_in file.place file.fd file.of_chip cmd (buffer_of len bytes))) e.answer [] l) (sym own) (unmapped driver actor (op_asked files (DoIoctl slot cmd len bytes made)) e before after (Commanding (command_in file.place file.fd file.of_chip cmd (buffer_of len bytes))) called).makes))
 
           by : (b : Bool) → nat_eq cmd GET_LINE ≡ b → Fresh files (DoIoctl slot cmd len bytes made) e.reply e.wrote w.next last_number
           by true same = by_file same (file_in slot files) refl
@@ -322,7 +324,7 @@ module _ (is_planned : Bool) (actor : ℕ) (w : World) (es : List OneEntry) (fil
               (ap (λ b. cond b (made_on made (file_in slot files) (lines_named (buffer_of len bytes)) e.reply files) files) other)
               (ap (λ b. cond b (with_number (refusal (got_of (DoIoctl slot cmd len bytes made) e.reply e.wrote)) made w.next (numbered files)) (numbered files)) other)
 
-      made_fresh : (what : Do) → IsDone is_planned actor (asking files what) (op_asked files what) e before after → Fresh files what e.reply e.wrote w.next last_number
+      made_fresh : (what : Do) → IsDone driver actor (asking files what) (op_asked files what) e before after → Fresh files what e.reply e.wrote w.next last_number
       made_fresh (DoProbe label lines) is = unchanged (DoProbe label lines) e.reply e.wrote refl refl
       made_fresh (DoUnplug place) is = unchanged (DoUnplug place) e.reply e.wrote refl refl
       made_fresh (DoMakeDir path) is = unchanged (DoMakeDir path) e.reply e.wrote refl refl
@@ -350,19 +352,19 @@ made_more : (calls : List (Called Kept)) (called : Called Kept) → made_by (cal
 made_more [] called = append-nil called.made
 made_more (x ∷ calls) called = ap (λ (l : List OneEntry). x.made ++ l) (made_more calls called) ∙ sym (append_assoc x.made (made_by calls) called.made)
 
-of_calls : (is_planned : Bool) (actor : ℕ) (entries : List OneEntry) (a : Asking) (op : Option Op) (e : Exchange) (before after : Option Told) → AreOfCalls StandsFor actor entries → IsDone is_planned actor a op e before after
+of_calls : (driver : DriverKind) (actor : ℕ) (entries : List OneEntry) (a : Asking) (op : Option Op) (e : Exchange) (before after : Option Told) → AreOfCalls StandsFor actor entries → IsDone driver actor a op e before after
     → AreOfCalls StandsFor actor (entries ++ entries_in e.did)
-of_calls is_planned actor entries (Calls call) op e before after so_far is =
+of_calls driver actor entries (Calls call) op e before after so_far is =
     let called : Called Kept = record { closed = e.closed; call = call; answer = e.answer; own = []; made = entries_in e.did } in record {
       calls = so_far.calls ++ called ∷ [];
-      each = each_added (λ c. IsCalled StandsFor actor c) so_far.calls called (record { makes = is.makes; quiet = tt; no_claims = tt }) so_far.each;
+      each = each_added (λ c. IsCalled StandsFor actor c) so_far.calls called (record { makes = (unmapped driver actor op e before after call is).makes; quiet = tt; no_claims = tt }) so_far.each;
       are = ap (λ (l : List OneEntry). l ++ entries_in e.did) so_far.are ∙ sym (made_more so_far.calls called);
     }
-of_calls is_planned actor entries (Plans nth) op e before after so_far is =
+of_calls driver actor entries (Plans nth) op e before after so_far is =
     subst (λ l. AreOfCalls StandsFor actor l) (sym (ap (λ (did : List OneDeed). entries ++ entries_in did) is.0.did ∙ append-nil entries)) so_far
-of_calls is_planned actor entries (Accepts bits) op e before after so_far is =
+of_calls driver actor entries (Accepts bits) op e before after so_far is =
     subst (λ l. AreOfCalls StandsFor actor l) (sym (ap (λ (did : List OneDeed). entries ++ entries_in did) is.0.did ∙ append-nil entries)) so_far
-of_calls is_planned actor entries (Refuses errno) op e before after so_far is =
+of_calls driver actor entries (Refuses errno) op e before after so_far is =
     subst (λ l. AreOfCalls StandsFor actor l) (sym (ap (λ (did : List OneDeed). entries ++ entries_in did) is.0.did ∙ append-nil entries)) so_far
 
 -- who has no unfinished claim has none below any number
@@ -376,7 +378,7 @@ claims_none a low (x ∷ rows) none = by (is_claim_of a x) refl none (λ rest. c
 
 -- Turns one after another, over the entries of a legal history after what the actor has seen: how the actor stands after them, and what
 -- is left of the program and of the entries.
-module _ {A : Type 0} (is_planned : Bool) (actor : ℕ) (P : A → List Numbered → Type 0) (history : List OneEntry) (legal : Legal core history) where
+module _ {A : Type 0} (driver : DriverKind) (actor : ℕ) (P : A → List Numbered → Type 0) (history : List OneEntry) (legal : Legal core history) where
   record Went (p q : Program A) (s r : Carried) (turns : List Turn) (low : ℕ) (more : List OneDeed) : Type 0 where
     pub seen : List OneEntry
     pub behind : List OneEntry
@@ -387,7 +389,7 @@ module _ {A : Type 0} (is_planned : Bool) (actor : ℕ) (P : A → List Numbered
     pub numbers : NumbersFiles P (numbered s.files) p → AreKept turns → NumbersFiles P (numbered r.files) q
 
   walk : (turns : List Turn) (p q : Program A) (s r : Carried) (seen es : List OneEntry) (more : List OneDeed) → history ≡ seen ++ es → Stands actor seen s.files
-      → deeds_from core (fold core seen) actor es ≡ did_by turns ++ more → Follows is_planned actor p s turns q r → Went p q s r turns (fold core seen).next more
+      → deeds_from core (fold core seen) actor es ≡ did_by turns ++ more → Follows driver actor p s turns q r → Went p q s r turns (fold core seen).next more
   walk [] p q s r seen es more whole stands deeds (is, same) = record {
     seen = seen;
     behind = es;
@@ -415,7 +417,7 @@ module _ {A : Type 0} (is_planned : Bool) (actor : ℕ) (P : A → List Numbered
       let legal_seen : Legal core seen = (answered_prefix core core.opening seen es legal_here.0, placed_prefix core core.opening seen es legal_here.1) in
       let answered : AnsweredFrom core w (part.before ++ part.behind) = subst (λ l. AnsweredFrom core w l) part.at (answered_rest core core.opening seen es legal_here.0) in
       let claims : ClaimsFrom actor w.next w.requests = claims_none actor w.next w.requests ((calls_finish_claims StandsFor).between_calls seen legal_seen actor stands.calls) in
-      let fresh = made_fresh is_planned actor w part.before s.files (holders_always_agree StandsFor seen legal_seen) claims (answered_prefix core w part.before part.behind answered) stands.below stands.rises e s.told then.told own e.what carries.is_done in
+      let fresh = made_fresh driver actor w part.before s.files (holders_always_agree StandsFor seen legal_seen) claims (answered_prefix core w part.before part.behind answered) stands.below stands.rises e s.told then.told own e.what carries.is_done in
       let got : Got = got_of e.what e.reply e.wrote in
       let below : Each (λ (file : Numbered). file.number < fresh.number) (numbered s.files) = numbered_below fresh.number s.files (below_more w.next fresh.number s.files fresh.above stands.below) in
       let world : fold core (seen ++ part.before) ≡ fold_from core w part.before = fold_append core core.opening seen part.before in
@@ -423,7 +425,7 @@ module _ {A : Type 0} (is_planned : Bool) (actor : ℕ) (P : A → List Numbered
       (whole ∙ ap (λ (l : List OneEntry). seen ++ l) part.at ∙ sym (append_assoc seen part.before part.behind))
       (record {
         calls = subst (λ l. AreOfCalls StandsFor actor l) (sym (entries_append actor seen part.before ∙ ap (λ (l : List OneEntry). entries_of actor seen ++ l) own))
-            (of_calls is_planned actor (entries_of actor seen) (asking s.files e.what) (op_asked s.files e.what) e s.told then.told stands.calls carries.is_done);
+            (of_calls driver actor (entries_of actor seen) (asking s.files e.what) (op_asked s.files e.what) e s.told then.told stands.calls carries.is_done);
         below = subst (λ (x : World × List OpenFile). AreBelow x.0.next x.1) (λ i. (sym world i, sym carries.files i)) fresh.below;
         rises = subst (λ l. Rises l) (sym carries.files) fresh.rises;
       })
@@ -471,22 +473,22 @@ behind_ask got (done value) = done value
 behind_ask got (print text p) = p
 behind_ask got (ask what p) = p got
 
-module _ {A B : Type 0} (is_planned : Bool) (actor : ℕ) (f : A → Program B) (r : Carried) (last : B) where
+module _ {A B : Type 0} (driver : DriverKind) (actor : ℕ) (f : A → Program B) (r : Carried) (last : B) where
   record InTwo (p : Program A) (s : Carried) (turns : List Turn) : Type 0 where
     pub begun : List Turn
     pub ending : List Turn
     pub turns_are : turns ≡ begun ++ ending
     pub value : A
     pub between : Carried
-    pub follows : Follows is_planned actor p s begun (done value) between
-    pub ends : Follows is_planned actor (f value) between ending (done last) r
+    pub follows : Follows driver actor p s begun (done value) between
+    pub ends : Follows driver actor (f value) between ending (done last) r
 
-  in_two : (turns : List Turn) (p : Program A) (s : Carried) → Follows is_planned actor (then_by p f) s turns (done last) r → InTwo p s turns
+  in_two : (turns : List Turn) (p : Program A) (s : Carried) → Follows driver actor (then_by p f) s turns (done last) r → InTwo p s turns
   in_two turns (done value) s h = record { begun = []; ending = turns; turns_are = refl; value = value; between = s; follows = (refl, refl); ends = h }
   in_two [] (print text p) s (is, same) = absurd (true≢false (ap (λ (o : Program B). is_print o) is))
   in_two [] (ask what p) s (is, same) = absurd (true≢false (ap (λ (o : Program B). is_ask o) is))
   in_two (Said said ∷ turns) (print text p) s (next, then, (is, same), h) =
-      let k = in_two turns p then (subst (λ (o : Program B). Follows is_planned actor o then turns (done last) r) (sym (ap (λ (o : Program B). behind_print o) is)) h) in record {
+      let k = in_two turns p then (subst (λ (o : Program B). Follows driver actor o then turns (done last) r) (sym (ap (λ (o : Program B). behind_print o) is)) h) in record {
         begun = Said said ∷ k.begun;
         ending = k.ending;
         turns_are = ap (λ (l : List Turn). Said said ∷ l) k.turns_are;
@@ -500,7 +502,7 @@ module _ {A B : Type 0} (is_planned : Bool) (actor : ℕ) (f : A → Program B) 
   in_two (Did e ∷ turns) (ask what p) s (next, then, (rest, is, goes, carries), h) =
       let got : Got = got_of e.what e.reply e.wrote in
       let to : then_by (p got) f ≡ next = ap (λ (o : Program B). behind_ask got o) is ∙ sym goes in
-      let k = in_two turns (p got) then (subst (λ (o : Program B). Follows is_planned actor o then turns (done last) r) (sym to) h) in record {
+      let k = in_two turns (p got) then (subst (λ (o : Program B). Follows driver actor o then turns (done last) r) (sym to) h) in record {
         begun = Did e ∷ k.begun;
         ending = k.ending;
         turns_are = ap (λ (l : List Turn). Did e ∷ l) k.turns_are;
@@ -511,37 +513,37 @@ module _ {A B : Type 0} (is_planned : Bool) (actor : ℕ) (f : A → Program B) 
       }
 
 -- the end closes these files, one after another
-end_closes : (is_planned : Bool) (actor : ℕ) (ending : List Turn) (files : List OpenFile) (s r : Carried) (last : Names) → s.files ≡ files → Follows is_planned actor (closes_all (slots_of files)) s ending (done last) r
+end_closes : (driver : DriverKind) (actor : ℕ) (ending : List Turn) (files : List OpenFile) (s r : Carried) (last : Names) → s.files ≡ files → Follows driver actor (closes_all (slots_of files)) s ending (done last) r
     → (closed_in files ending ≡ numbers_of files) × (r.files ≡ [])
-end_closes is_planned actor [] [] s r last open_are (is, same) = (refl, ap (λ (c : Carried). c.files) (sym same) ∙ open_are)
-end_closes is_planned actor [] (f ∷ fs) s r last open_are (is, same) = absurd (true≢false (ap (λ (o : Program Names). is_ask o) is))
-end_closes is_planned actor (Said said ∷ turns) [] s r last open_are (next, then, (is, same), h) = absurd (true≢false (ap (λ (o : Program Names). is_print o) (sym is)))
-end_closes is_planned actor (Said said ∷ turns) (f ∷ fs) s r last open_are (next, then, (is, same), h) = absurd (true≢false (ap (λ (o : Program Names). is_ask o) is))
-end_closes is_planned actor (Did e ∷ turns) [] s r last open_are (next, then, (rest, is, goes, carries), h) = absurd (true≢false (ap (λ (o : Program Names). is_ask o) (sym is)))
-end_closes is_planned actor (Did e ∷ turns) (f ∷ fs) s r last open_are (next, then, (rest, is, goes, carries), h) =
+end_closes driver actor [] [] s r last open_are (is, same) = (refl, ap (λ (c : Carried). c.files) (sym same) ∙ open_are)
+end_closes driver actor [] (f ∷ fs) s r last open_are (is, same) = absurd (true≢false (ap (λ (o : Program Names). is_ask o) is))
+end_closes driver actor (Said said ∷ turns) [] s r last open_are (next, then, (is, same), h) = absurd (true≢false (ap (λ (o : Program Names). is_print o) (sym is)))
+end_closes driver actor (Said said ∷ turns) (f ∷ fs) s r last open_are (next, then, (is, same), h) = absurd (true≢false (ap (λ (o : Program Names). is_ask o) is))
+end_closes driver actor (Did e ∷ turns) [] s r last open_are (next, then, (rest, is, goes, carries), h) = absurd (true≢false (ap (λ (o : Program Names). is_ask o) (sym is)))
+end_closes driver actor (Did e ∷ turns) (f ∷ fs) s r last open_are (next, then, (rest, is, goes, carries), h) =
     let got : Got = got_of e.what e.reply e.wrote in
     let what : e.what ≡ DoClose f.slot = sym (ap (λ (o : Program Names). what_in e.what o) is) in
     let to : closes_all (slots_of fs) ≡ next = ap (λ (o : Program Names). behind_ask got o) is ∙ sym goes in
     let left : then.files ≡ fs = carries.files ∙ (λ i. files_behind (what i) e.reply (open_are i)) ∙ first_gone f fs in
-    let k = end_closes is_planned actor turns fs then r last left (subst (λ (o : Program Names). Follows is_planned actor o then turns (done last) r) (sym to) h) in (
+    let k = end_closes driver actor turns fs then r last left (subst (λ (o : Program Names). Follows driver actor o then turns (done last) r) (sym to) h) in (
       (λ i. closed_by (f ∷ fs) (what i) ++ closed_in (files_behind (what i) e.reply (f ∷ fs)) turns)
           ∙ (λ i. number_in (first_in f fs i) ++ closed_in (first_gone f fs i) turns) ∙ ap (λ (l : List ℕ). f.fd ∷ l) k.0,
       k.1,
     )
 
 -- the last turns of a talk, by an actor that stands so after its earlier ones
-module _ (is_planned : Bool) (actor : ℕ) (history : List OneEntry) (legal : Legal core history) where
+module _ (driver : DriverKind) (actor : ℕ) (history : List OneEntry) (legal : Legal core history) where
   closes : (earlier turns : List Turn) (statements : Program Names) (s r : Carried) (last : Names) (seen es : List OneEntry) (more : List OneDeed) → history ≡ seen ++ es → Stands actor seen s.files
       → deeds_from core (fold core seen) actor es ≡ did_by turns ++ more → (AreKept earlier → NumbersFiles CloseByNumber (numbered s.files) statements)
-      → Follows is_planned actor (then_by statements quits) s turns (done last) r → ClosesByNumber is_planned actor earlier statements s turns last r
+      → Follows driver actor (then_by statements quits) s turns (done last) r → ClosesByNumber driver actor earlier statements s turns last r
   closes earlier turns statements s r last seen es more whole stands deeds numbers follows =
-      let two = in_two is_planned actor quits r last turns statements s follows in
+      let two = in_two driver actor quits r last turns statements s follows in
       let did : did_by turns ++ more ≡ did_by two.begun ++ (did_by two.ending ++ more) =
       ap (λ (l : List Turn). did_by l ++ more) two.turns_are ∙ ap (λ (l : List OneDeed). l ++ more) (did_append two.begun two.ending) ∙ append_assoc (did_by two.begun) (did_by two.ending) more in
-      let went = walk is_planned actor CloseByNumber history legal two.begun statements (done two.value) s two.between seen es (did_by two.ending ++ more) whole stands (deeds ∙ did) two.follows in
+      let went = walk driver actor CloseByNumber history legal two.begun statements (done two.value) s two.between seen es (did_by two.ending ++ more) whole stands (deeds ∙ did) two.follows in
       let end : AreKept earlier → AreKept two.begun → (closed_in two.between.files two.ending ≡ numbers_of two.between.files) × (r.files ≡ [])
-      = λ before kept. end_closes is_planned actor two.ending two.between.files two.between r last refl
-      (subst (λ slots. Follows is_planned actor (closes_all slots) two.between two.ending (done last) r) (in_table_order two.value two.between.files went.stands.rises (went.numbers (numbers before) kept)) two.ends) in record {
+      = λ before kept. end_closes driver actor two.ending two.between.files two.between r last refl
+      (subst (λ slots. Follows driver actor (closes_all slots) two.between two.ending (done last) r) (in_table_order two.value two.between.files went.stands.rises (went.numbers (numbers before) kept)) two.ends) in record {
         begun = two.begun;
         ending = two.ending;
         turns_are = two.turns_are;
@@ -582,33 +584,36 @@ no_deeds : (did : List OneDeed) → entries_in did ≡ [] → did ≡ []
 no_deeds [] none = refl
 no_deeds (d ∷ did) none = let n : length (d.entry ∷ entries_in did) ≡ 0 = ap (λ (l : List OneEntry). length l) none in absurd (omega arith)
 
-section_closes_by_number : (is_planned : Bool) (before left : ℕ → Option Told) (sections : List SaidSection) (history : List OneEntry) → Legal core history → (n : ℕ) (text : List ℕ) (actor : ActorPlayed is_planned before left sections history n text)
-    → ClosesByNumber is_planned n [] (section_statements sections n) (carried [] (before n)) actor.played.turns actor.names actor.behind
-section_closes_by_number is_planned before left sections history legal n text actor =
+section_closes_by_number : (driver : DriverKind) (before left : ℕ → Option Told) (sections : List SaidSection) (history : List OneEntry) → Legal core history → (n : ℕ) (text : List ℕ) (actor : ActorPlayed driver before left sections history n text)
+    → ClosesByNumber driver n [] (section_statements sections n) (carried [] (before n)) actor.played.turns actor.names actor.behind
+section_closes_by_number driver before left sections history legal n text actor =
     let words : List (List Span) = words_of (get_or (actor_sections sections) (n - 1) no_section) in
-    closes is_planned n history legal [] actor.played.turns (says 0 words done no_names) (carried [] (before n)) actor.behind actor.names [] history [] refl (nothing_yet n)
+    closes driver n history legal [] actor.played.turns (says 0 words done no_names) (carried [] (before n)) actor.behind actor.names [] history [] refl (nothing_yet n)
     (actor.played.did_is ∙ sym (append-nil (did_by actor.played.turns))) (λ none. files_close_by_number words)
-    (subst (λ (q : Program Names). Follows is_planned n q (carried [] (before n)) actor.played.turns (done actor.names) actor.behind) (are_statements_and_the_end 0 words no_names) actor.played.follows)
+    (subst (λ (q : Program Names). Follows driver n q (carried [] (before n)) actor.played.turns (done actor.names) actor.behind) (are_statements_and_the_end 0 words no_names) actor.played.follows)
 
-after_closes_by_number : (is_planned : Bool) (before left : ℕ → Option Told) (sections : List SaidSection) (history : List OneEntry) (texts : Texts) (all : AllPlayed is_planned before left sections history texts)
-    → ClosesByNumber is_planned 0 all.setup.turns (after_statements sections all.names) all.waiting all.after.turns all.end all.behind
-after_closes_by_number is_planned before left sections history texts all =
+after_closes_by_number : (driver : DriverKind) (before left : ℕ → Option Told) (sections : List SaidSection) (history : List OneEntry) (texts : Texts) (all : AllPlayed driver before left sections history texts)
+    → ClosesByNumber driver 0 all.setup.turns (after_statements sections all.names) all.waiting all.after.turns all.end all.behind
+after_closes_by_number driver before left sections history texts all =
     let front : List OneEntry = all.first ++ all.middle in
     let between : deeds_from core (fold core all.first) 0 all.middle ≡ [] = no_deeds (deeds_from core (fold core all.first) 0 all.middle) (deeds_entries core (fold core all.first) 0 all.middle ∙ all.zero_not_between) in
     let setup_did : deeds_of core 0 front ≡ did_by all.setup.turns = deeds_append core core.opening 0 all.first all.middle ∙ (λ i. deeds_of core 0 all.first ++ between i) ∙ append-nil (deeds_of core 0 all.first) ∙ all.setup.did_is in
     let deeds : deeds_of core 0 history ≡ did_by all.setup.turns ++ did_by all.after.turns =
     ap (λ (l : List OneEntry). deeds_of core 0 l) all.is ∙ deeds_append core core.opening 0 front all.last ∙ (λ i. setup_did i ++ all.after.did_is i) in
-    let went = walk is_planned 0 CloseByNumber history all.legal all.setup.turns (both sections) (behind_setup sections all.names) (carried [] (before 0)) all.waiting [] history (did_by all.after.turns) refl (nothing_yet 0) deeds
-    (follows_then is_planned 0 (behind_setup sections) (setup_of sections) (carried [] (before 0)) all.setup.turns (done all.names) all.waiting all.setup.follows) in
-    closes is_planned 0 history all.legal all.setup.turns all.after.turns (behind_setup sections all.names) all.waiting all.behind all.end went.seen went.behind [] went.whole went.stands
+    let went = walk driver 0 CloseByNumber history all.legal all.setup.turns (both sections) (behind_setup sections all.names) (carried [] (before 0)) all.waiting [] history (did_by all.after.turns) refl (nothing_yet 0) deeds
+    (follows_then driver 0 (behind_setup sections) (setup_of sections) (carried [] (before 0)) all.setup.turns (done all.names) all.waiting all.setup.follows) in
+    closes driver 0 history all.legal all.setup.turns all.after.turns (behind_setup sections all.names) all.waiting all.behind all.end went.seen went.behind [] went.whole went.stands
     (went.later ∙ sym (append-nil (did_by all.after.turns))) (went.numbers (number_both sections))
-    (subst (λ (q : Program Names). Follows is_planned 0 q all.waiting all.after.turns (done all.end) all.behind) (to_the_end sections all.names) all.after.follows)
+    (subst (λ (q : Program Names). Follows driver 0 q all.waiting all.after.turns (done all.end) all.behind) (to_the_end sections all.names) all.after.follows)
 
-pub actors_close_by_number : ActorsCloseByNumber
-actors_close_by_number = record { sections = section_closes_by_number; after = after_closes_by_number }
+pub actors_close_by_number : (driver : DriverKind) → ActorsCloseByNumber driver
+actors_close_by_number driver = record {
+  sections = section_closes_by_number driver;
+  after = after_closes_by_number driver;
+}
 
 -- one actor alone
-module _ (is_planned : Bool) (sections : List SaidSection) (before left : Option Told) (text : List ℕ) (did : List OneDeed) (history : List OneEntry) (played : PlayedSession is_planned sections before text did left) (alone : IsAlone history did) where
+module _ (driver : DriverKind) (sections : List SaidSection) (before left : Option Told) (text : List ℕ) (did : List OneDeed) (history : List OneEntry) (played : PlayedSession driver sections before text did left) (alone : IsAlone history did) where
   abbrev setup_turns : List Turn
   setup_turns = played.setup.played.turns
 
@@ -621,29 +626,29 @@ module _ (is_planned : Bool) (sections : List SaidSection) (before left : Option
   deeds : deeds_of core 0 history ≡ did_by setup_turns ++ (did_by actor_turns ++ did_by last_turns)
   deeds = alone.deeds ∙ played.did_is ∙ (λ i. played.setup.played.did_is i ++ (played.actor.played.did_is i ++ played.last.played.did_is i))
 
-  behind_setup_stands : Went is_planned 0 CloseByNumber history alone.legal (both sections) (behind_setup sections played.setup.names) (carried [] before) played.setup.behind setup_turns (fold core []).next (did_by actor_turns ++ did_by last_turns)
-  behind_setup_stands = walk is_planned 0 CloseByNumber history alone.legal setup_turns (both sections) (behind_setup sections played.setup.names) (carried [] before) played.setup.behind [] history (did_by actor_turns ++ did_by last_turns) refl (nothing_yet 0) deeds
-      (follows_then is_planned 0 (behind_setup sections) (setup_of sections) (carried [] before) setup_turns (done played.setup.names) played.setup.behind played.setup.played.follows)
+  behind_setup_stands : Went driver 0 CloseByNumber history alone.legal (both sections) (behind_setup sections played.setup.names) (carried [] before) played.setup.behind setup_turns (fold core []).next (did_by actor_turns ++ did_by last_turns)
+  behind_setup_stands = walk driver 0 CloseByNumber history alone.legal setup_turns (both sections) (behind_setup sections played.setup.names) (carried [] before) played.setup.behind [] history (did_by actor_turns ++ did_by last_turns) refl (nothing_yet 0) deeds
+      (follows_then driver 0 (behind_setup sections) (setup_of sections) (carried [] before) setup_turns (done played.setup.names) played.setup.behind played.setup.played.follows)
 
-  abbrev went : Went is_planned 0 CloseByNumber history alone.legal (both sections) (behind_setup sections played.setup.names) (carried [] before) played.setup.behind setup_turns (fold core []).next (did_by actor_turns ++ did_by last_turns)
+  abbrev went : Went driver 0 CloseByNumber history alone.legal (both sections) (behind_setup sections played.setup.names) (carried [] before) played.setup.behind setup_turns (fold core []).next (did_by actor_turns ++ did_by last_turns)
   went = behind_setup_stands
 
   -- the section begins with no file of its own
   none_open : Stands 0 went.seen []
   none_open = record { calls = went.stands.calls; below = tt; rises = tt }
 
-  section_closes : ClosesByNumber is_planned 0 [] (says 0 (said_in_kind Actor sections) done no_names) (carried [] played.setup.behind.told) actor_turns played.actor.names played.actor.behind
-  section_closes = closes is_planned 0 history alone.legal [] actor_turns (says 0 (said_in_kind Actor sections) done no_names) (carried [] played.setup.behind.told) played.actor.behind played.actor.names
+  section_closes : ClosesByNumber driver 0 [] (says 0 (said_in_kind Actor sections) done no_names) (carried [] played.setup.behind.told) actor_turns played.actor.names played.actor.behind
+  section_closes = closes driver 0 history alone.legal [] actor_turns (says 0 (said_in_kind Actor sections) done no_names) (carried [] played.setup.behind.told) played.actor.behind played.actor.names
       went.seen went.behind (did_by last_turns) went.whole none_open went.later (λ none. files_close_by_number (said_in_kind Actor sections))
-      (subst (λ (q : Program Names). Follows is_planned 0 q (carried [] played.setup.behind.told) actor_turns (done played.actor.names) played.actor.behind) (are_statements_and_the_end 0 (said_in_kind Actor sections) no_names) played.actor.played.follows)
+      (subst (λ (q : Program Names). Follows driver 0 q (carried [] played.setup.behind.told) actor_turns (done played.actor.names) played.actor.behind) (are_statements_and_the_end 0 (said_in_kind Actor sections) no_names) played.actor.played.follows)
 
-  after_closes : ClosesByNumber is_planned 0 setup_turns (behind_setup sections played.setup.names) (carried played.setup.behind.files played.actor.behind.told) last_turns played.last.names played.last.behind
+  after_closes : ClosesByNumber driver 0 setup_turns (behind_setup sections played.setup.names) (carried played.setup.behind.files played.actor.behind.told) last_turns played.last.names played.last.behind
   after_closes =
-      let on = walk is_planned 0 CloseByNumber history alone.legal actor_turns (actor_of sections) (done played.actor.names) (carried [] played.setup.behind.told) played.actor.behind went.seen went.behind (did_by last_turns) went.whole none_open went.later played.actor.played.follows in
-      closes is_planned 0 history alone.legal setup_turns last_turns (behind_setup sections played.setup.names) (carried played.setup.behind.files played.actor.behind.told) played.last.behind played.last.names on.seen on.behind [] on.whole
+      let on = walk driver 0 CloseByNumber history alone.legal actor_turns (actor_of sections) (done played.actor.names) (carried [] played.setup.behind.told) played.actor.behind went.seen went.behind (did_by last_turns) went.whole none_open went.later played.actor.played.follows in
+      closes driver 0 history alone.legal setup_turns last_turns (behind_setup sections played.setup.names) (carried played.setup.behind.files played.actor.behind.told) played.last.behind played.last.names on.seen on.behind [] on.whole
       (record { calls = on.stands.calls; below = below_more (fold core went.seen).next (fold core on.seen).next played.setup.behind.files on.no_fewer went.stands.below; rises = went.stands.rises })
       (on.later ∙ sym (append-nil (did_by last_turns))) (went.numbers (number_both sections))
-      (subst (λ (q : Program Names). Follows is_planned 0 q (carried played.setup.behind.files played.actor.behind.told) last_turns (done played.last.names) played.last.behind) (to_the_end sections played.setup.names) played.last.played.follows)
+      (subst (λ (q : Program Names). Follows driver 0 q (carried played.setup.behind.files played.actor.behind.told) last_turns (done played.last.names) played.last.behind) (to_the_end sections played.setup.names) played.last.played.follows)
 
-pub one_actor_closes_by_number : OneActorClosesByNumber
-one_actor_closes_by_number = record { section = section_closes; after = after_closes }
+pub one_actor_closes_by_number : (driver : DriverKind) → OneActorClosesByNumber driver
+one_actor_closes_by_number driver = record { section = section_closes driver; after = after_closes driver }

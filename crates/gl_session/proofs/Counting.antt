@@ -19,6 +19,7 @@ use Rattle.gl_talk.specs.Open.{Names, no_names}
 use Rattle.gl_talk.specs.Talk.{quits, talks}
 use Rattle.gl_talk.proofs.StatementCosts.{end_cost, says_cost}
 use Rattle.gl_core.specs.Device.{OneDeed, OneEntry, core}
+use Rattle.gl_check.specs.Drivers.{DriverKind}
 use Rattle.gl_check.specs.Programs.{after_of, setup_of}
 use Rattle.gl_check.specs.Many.{AllPlayed, Texts, actor_sections, no_section, program_of, words_of}
 use Rattle.gl_check.specs.One.{is_kind, said_in_kind}
@@ -92,20 +93,20 @@ entries_length [] = refl
 entries_length (d ∷ did) = ap suc (entries_length did)
 
 -- a program that was carried out made no more entries than it costs
-pub played_within : (is_planned : Bool) (n limit : ℕ) (program : Program Names) (s r : Carried) (text : List ℕ) (did : List OneDeed) (names : Names) (es : List OneEntry) → CostsAtMost limit program
-    → Played is_planned n program s text did names r → entries_in did ≡ es → length es + length r.files ≤ limit + length s.files
-played_within is_planned n limit program s r text did names es costs h entries =
-    let w = entries_within_cost is_planned n limit program s h.turns (done names) r costs h.follows in
+pub played_within : (driver : DriverKind) (n limit : ℕ) (program : Program Names) (s r : Carried) (text : List ℕ) (did : List OneDeed) (names : Names) (es : List OneEntry) → CostsAtMost limit program
+    → Played driver n program s text did names r → entries_in did ≡ es → length es + length r.files ≤ limit + length s.files
+played_within driver n limit program s r text did names es costs h entries =
+    let w = entries_within_cost driver n limit program s h.turns (done names) r costs h.follows in
     let same : length did ≡ length (did_by h.turns) = ap (λ (l : List OneDeed). length l) h.did_is in
     let many : length es ≡ length did = ap (λ (l : List OneEntry). length l) (sym entries) ∙ entries_length did in omega (arith, w.2)
 
-pub within_cost : (is_planned : Bool) (before left : ℕ → Option Told) (sections : List SaidSection) (history : List OneEntry) (texts : Texts) → AllPlayed is_planned before left sections history texts → length history ≤ session_cost sections
-within_cost is_planned before left sections history texts h =
+pub within_cost : (driver : DriverKind) (before left : ℕ → Option Told) (sections : List SaidSection) (history : List OneEntry) (texts : Texts) → AllPlayed driver before left sections history texts → length history ≤ session_cost sections
+within_cost driver before left sections history texts h =
     let costs = sessions_cost_their_parts sections in let whole = costs.whole in
     let actors : ℕ = length (actor_sections sections) in let many = h.as_many in
-    let first = played_within is_planned 0 (cost_in_kind Setup sections) (setup_of sections) (carried [] (before 0)) h.waiting texts.setup (deeds_of core 0 h.first) h.names (entries_of 0 h.first) costs.setup h.setup
+    let first = played_within driver 0 (cost_in_kind Setup sections) (setup_of sections) (carried [] (before 0)) h.waiting texts.setup (deeds_of core 0 h.first) h.names (entries_of 0 h.first) costs.setup h.setup
     (deeds_entries core core.opening 0 h.first) in
-    let last = played_within is_planned 0 (cost_in_kind After sections) (after_of sections h.names) h.waiting h.behind texts.last (deeds_from core (fold core (h.first ++ h.middle)) 0 h.last) h.end (entries_of 0 h.last) (costs.last h.names) h.after
+    let last = played_within driver 0 (cost_in_kind After sections) (after_of sections h.names) h.waiting h.behind texts.last (deeds_from core (fold core (h.first ++ h.middle)) 0 h.last) h.end (entries_of 0 h.last) (costs.last h.names) h.after
     (deeds_entries core (fold core (h.first ++ h.middle)) 0 h.last) in
     let zeroth : length (entries_of 0 history) ≡ length (entries_of 0 h.first) + length (entries_of 0 h.last) =
     ap (λ (l : List OneEntry). length (entries_of 0 l)) h.is ∙ ap (λ (l : List OneEntry). length l) (entries_append 0 (h.first ++ h.middle) h.last)
@@ -120,10 +121,10 @@ within_cost is_planned before left sections history texts h =
     plus_none n = omega arith
 
     one_within : (i : ℕ) → i < length (actor_sections sections) → length (entries_of (1 + i) history) ≤ section_costs (get_or (actor_sections sections) i no_section)
-    one_within i less = let many = h.as_many in let a = actor_at is_planned before left sections history 1 texts.actors h.actors (suc i) (omega arith) (omega arith) in
+    one_within i less = let many = h.as_many in let a = actor_at driver before left sections history 1 texts.actors h.actors (suc i) (omega arith) (omega arith) in
         let words : List (List Span) = words_of (get_or (actor_sections sections) i no_section) in
         let first : i ≡ suc i - 1 = omega arith in
-        let w = played_within is_planned (suc i) (sum_by words_cost words) (program_of sections (suc i)) (carried [] (before (suc i))) a.1.behind a.0 (deeds_of core (suc i) history) a.1.names (entries_of (suc i) history)
+        let w = played_within driver (suc i) (sum_by words_cost words) (program_of sections (suc i)) (carried [] (before (suc i))) a.1.behind a.0 (deeds_of core (suc i) history) a.1.names (entries_of (suc i) history)
         (subst (λ j. CostsAtMost (sum_by words_cost words) (talks 0 (words_of (get_or (actor_sections sections) j no_section)) no_names)) first (says_cost 0 words quits end_cost no_names))
         a.1.played (deeds_entries core core.opening (suc i) history) in
         let n : 1 + i ≡ suc i = omega arith in let same : length (entries_of (1 + i) history) ≡ length (entries_of (suc i) history) = ap (λ k. length (entries_of k history)) n in omega arith

@@ -1,5 +1,5 @@
 -- The end of a session of several actors: what all promises say of the one history.
-use Rattle.std.proofs.Common.{◌≡◌, ◌⊎◌, ⊎_elim, inl, inr, ℕ, zero, suc, ◌+◌, ◌<◌, ◌≤◌, List, [], ◌∷◌, ◌++◌, length, length-append, map, sym, refl, ap, ◌∙◌, subst, arith, Bool, Option, Result, Ok}
+use Rattle.std.proofs.Common.{◌≡◌, ◌⊎◌, ⊎_elim, inl, inr, ℕ, zero, suc, ◌+◌, ◌<◌, ◌≤◌, List, [], ◌∷◌, ◌++◌, length, length-append, map, sym, refl, ap, ◌∙◌, subst, arith, Option, Result, Ok}
 use Rattle.std.proofs.lemmas.List.{append_assoc, length-map}
 use mathlib.Core.Logic.{dite}
 use native.Mathlib.Decide.{ℕ_discrete}
@@ -17,6 +17,7 @@ use Rattle.gl_script.specs.Section.{SaidSection}
 use Rattle.gl_talk.specs.Open.{Names}
 use Rattle.gl_core.specs.Device.{OneDeed, OneEntry, core}
 use Rattle.gl_chip.specs.Values.{OneView}
+use Rattle.gl_check.specs.Drivers.{DriverKind}
 use Rattle.gl_check.specs.Programs.{after_of, setup_of}
 use Rattle.gl_check.specs.Many.{ActorsPlayed, AllPlayed, actor_sections, program_of}
 use Rattle.gl_session.specs.Performed.{PlaysOn}
@@ -47,11 +48,11 @@ none_last : (n : ℕ) (xs ys : List OneEntry) → entries_of n (xs ++ ys) ≡ []
 none_last n xs ys e = nothing_behind (entries_of n xs) (entries_of n ys) (sym (entries_append n xs ys) ∙ e)
 
 -- a promise that was kept, of one of several numbers
-module _ (is_planned : Bool) (sections : List SaidSection) (before left : ℕ → Option Told) (v : OneView) where
-  pub kept_at : (first : OneView) (k : ℕ) (texts : List (Result (List ℕ) Errno)) → AreKept is_planned (program_of sections) before left v first k texts → (n : ℕ) → k ≤ n → n < k + length texts → (t : Result (List ℕ) Errno) × IsKept is_planned (program_of sections) before left v first n t
+module _ (driver : DriverKind) (sections : List SaidSection) (before left : ℕ → Option Told) (v : OneView) where
+  pub kept_at : (first : OneView) (k : ℕ) (texts : List (Result (List ℕ) Errno)) → AreKept driver (program_of sections) before left v first k texts → (n : ℕ) → k ≤ n → n < k + length texts → (t : Result (List ℕ) Errno) × IsKept driver (program_of sections) before left v first n t
   kept_at first k [] h n low high = absurd (omega arith)
   kept_at first k (t ∷ ts) h n low high = dite (ℕ_discrete k n)
-      (λ same. (t, subst (λ j. IsKept is_planned (program_of sections) before left v first j t) same h.0))
+      (λ same. (t, subst (λ j. IsKept driver (program_of sections) before left v first j t) same h.0))
       (λ other. let ne : (k ≡ n → ⊥) = other in kept_at first (k + 1) ts h.1 n (above k n low ne) (omega arith))
     where
       above : (k n : ℕ) → k ≤ n → (k ≡ n → ⊥) → k + 1 ≤ n
@@ -59,17 +60,17 @@ module _ (is_planned : Bool) (sections : List SaidSection) (before left : ℕ �
 
   module _ (history : List OneEntry) (first : OneView) (begins : StartsWith history first.seen) (all : HasAllOf first.joined history) where
     -- the deeds of such an actor in the history are those that it knew of
-    kept_deeds : (n : ℕ) (t : List ℕ) (k : IsKept is_planned (program_of sections) before left v first n (Ok t))
-        → Played is_planned n (program_of sections n) (carried [] (before n)) t (deeds_of core n history) k.came.names (carried k.came.files (left n))
-    kept_deeds n t k = subst (λ ds. Played is_planned n (program_of sections n) (carried [] (before n)) t ds k.came.names (carried k.came.files (left n)))
+    kept_deeds : (n : ℕ) (t : List ℕ) (k : IsKept driver (program_of sections) before left v first n (Ok t))
+        → Played driver n (program_of sections n) (carried [] (before n)) t (deeds_of core n history) k.came.names (carried k.came.files (left n))
+    kept_deeds n t k = subst (λ ds. Played driver n (program_of sections n) (carried [] (before n)) t ds k.came.names (carried k.came.files (left n)))
         (sym (deeds_stay core n history k.saw (begins_further history first.seen k.saw begins k.begins) (all k.place (record { number = n; mine = k.mine }) k.joined ∙ sym k.own))) k.came.played
 
-    pub kept_played : (n : ℕ) (texts : List (List ℕ)) → AreKept is_planned (program_of sections) before left v first n (map Ok texts) → ActorsPlayed is_planned before left sections history n texts
+    pub kept_played : (n : ℕ) (texts : List (List ℕ)) → AreKept driver (program_of sections) before left v first n (map Ok texts) → ActorsPlayed driver before left sections history n texts
     kept_played n [] h = tt
     kept_played n (t ∷ ts) h = (record { names = h.0.came.names; behind = carried h.0.came.files (left n); played = kept_deeds n t h.0; left_is = refl }, kept_played (n + 1) ts h.1)
 
     -- and after what the first actor had seen as it took them in, there is no entry of them
-    kept_last : (last : List OneEntry) → history ≡ first.seen ++ last → (n : ℕ) (t : Result (List ℕ) Errno) → IsKept is_planned (program_of sections) before left v first n t → entries_of n last ≡ []
+    kept_last : (last : List OneEntry) → history ≡ first.seen ++ last → (n : ℕ) (t : Result (List ℕ) Errno) → IsKept driver (program_of sections) before left v first n t → entries_of n last ≡ []
     kept_last last is n t k = let rest : List OneEntry = k.begins.0 in let whole : history ≡ k.saw ++ (rest ++ last) = is ∙ (ap (λ l. l ++ last) k.begins.1 ∙ append_assoc k.saw rest last) in
         none_last n rest last (none_behind n k.saw (rest ++ last) k.mine (ap (λ l. entries_of n l) (sym whole) ∙ all k.place (record { number = n; mine = k.mine }) k.joined) k.own)
 
@@ -79,16 +80,16 @@ side zero (suc k) = inl (omega arith)
 side (suc n) (suc k) = ⊎_elim (λ h. inl (omega arith)) (λ h. inr (omega arith)) (side n k)
 
 -- v0: the first actor at the beginning; v1: after `setup`; v2: after the others were made; v3: after they were taken in; v4: after `after`
-pub all_played : (is_planned : Bool) (before left : ℕ → Option Told) (sections : List SaidSection) (room made_count joined_count : ℕ) (v0 v1 v2 v3 v4 : OneView) (names end : Names) (waiting behind : Carried) (first_text last_text : List ℕ) (texts : List (List ℕ)) (history : List OneEntry)
+pub all_played : (driver : DriverKind) (before left : ℕ → Option Told) (sections : List SaidSection) (room made_count joined_count : ℕ) (v0 v1 v2 v3 v4 : OneView) (names end : Names) (waiting behind : Carried) (first_text last_text : List ℕ) (texts : List (List ℕ)) (history : List OneEntry)
     → v0 ≡ newcomer 0 room [] 1 [] []
-    → PlaysOn is_planned (setup_of sections) v0 (carried [] (before 0)) [] (done names) v1 waiting first_text
-    → HasSplit v1 made_count v2 → HasJoined v2 joined_count v3 → AreKept is_planned (program_of sections) before left v1 v3 1 (map Ok texts) → HasItsOwn v3
-    → PlaysOn is_planned (after_of sections names) v3 waiting [] (done end) v4 behind last_text
+    → PlaysOn driver (setup_of sections) v0 (carried [] (before 0)) [] (done names) v1 waiting first_text
+    → HasSplit v1 made_count v2 → HasJoined v2 joined_count v3 → AreKept driver (program_of sections) before left v1 v3 1 (map Ok texts) → HasItsOwn v3
+    → PlaysOn driver (after_of sections names) v3 waiting [] (done end) v4 behind last_text
     → behind.told ≡ left 0
     → Legal core history → StartsWith history v4.seen → entries_of 0 history ≡ v4.mine → HasAllOf v4.joined history → ((n : ℕ) → v4.made ≤ n → entries_of n history ≡ [])
     → made_count ≡ length texts → length texts ≡ length (actor_sections sections)
-    → AllPlayed is_planned before left sections history (record { setup = first_text; actors = texts; last = last_text })
-all_played is_planned before left sections room made_count joined_count v0 v1 v2 v3 v4 names end waiting behind first_text last_text texts history new setup split joined kept own3 after left_is legal begins mine all others split_all as_many =
+    → AllPlayed driver before left sections history (record { setup = first_text; actors = texts; last = last_text })
+all_played driver before left sections room made_count joined_count v0 v1 v2 v3 v4 names end waiting behind first_text last_text texts history new setup split joined kept own3 after left_is legal begins mine all others split_all as_many =
     let results : List (Result (List ℕ) Errno) = map Ok texts in
     let as_results : length results ≡ length texts = length-map texts Ok in
     let d1 : List OneDeed = did_by setup.turns in let d2 : List OneDeed = did_by after.turns in
@@ -121,16 +122,16 @@ all_played is_planned before left sections room made_count joined_count v0 v1 v2
       middle = middle;
       last = last;
       is = begins3.1 ∙ ap (λ l. l ++ last) whole3.1;
-      others_not_first = λ n positive. ⊎_elim (λ near. (kept_at is_planned sections before left v1 v3 1 results kept n positive (let same = as_results in omega arith)).1.nothing_before)
+      others_not_first = λ n positive. ⊎_elim (λ near. (kept_at driver sections before left v1 v3 1 results kept n positive (let same = as_results in omega arith)).1.nothing_before)
           (λ far. entries_none n first (middle ++ last) (ap (λ l. entries_of n l) (sym whole1) ∙ no_number n far)) (side n (1 + length texts));
       zero_not_between = none_behind 0 first middle v1.mine (ap (λ l. entries_of 0 l) (sym whole3.1) ∙ own_third) own_first;
-      others_not_last = λ n positive. ⊎_elim (λ near. let k = kept_at is_planned sections before left v1 v3 1 results kept n positive (let same = as_results in omega arith) in kept_last is_planned sections before left v1 history v3 begins3 all3 last begins3.1 n k.0 k.1)
+      others_not_last = λ n positive. ⊎_elim (λ near. let k = kept_at driver sections before left v1 v3 1 results kept n positive (let same = as_results in omega arith) in kept_last driver sections before left v1 history v3 begins3 all3 last begins3.1 n k.0 k.1)
           (λ far. none_last n v3.seen last (ap (λ l. entries_of n l) (sym begins3.1) ∙ no_number n far)) (side n (1 + length texts));
       names = names;
       waiting = waiting;
       setup = record {
         turns = setup.turns;
-        follows = subst (λ k. Follows is_planned k (setup_of sections) (carried [] (before 0)) setup.turns (done names) waiting) number0 setup.follows;
+        follows = subst (λ k. Follows driver k (setup_of sections) (carried [] (before 0)) setup.turns (done names) waiting) number0 setup.follows;
         text_is = setup.text_is;
         did_is = deeds1;
       };
@@ -138,12 +139,12 @@ all_played is_planned before left sections room made_count joined_count v0 v1 v2
       behind = behind;
       after = record {
         turns = after.turns;
-        follows = subst (λ k. Follows is_planned k (after_of sections names) waiting after.turns (done end) behind) number3 after.follows;
+        follows = subst (λ k. Follows driver k (after_of sections names) waiting after.turns (done end) behind) number3 after.follows;
         text_is = after.text_is;
         did_is = ap (λ (l : List OneEntry). deeds_from core (fold core l) 0 last) (sym whole3.1) ∙ deeds2;
       };
       left_is = left_is;
-      actors = kept_played is_planned sections before left v1 history v3 begins3 all3 1 texts kept;
+      actors = kept_played driver sections before left v1 history v3 begins3 all3 1 texts kept;
       as_many = as_many;
       nobody_else = λ n far. no_number n (let m = as_many in omega arith);
     }

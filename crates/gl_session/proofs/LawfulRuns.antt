@@ -12,6 +12,7 @@ use Rattle.gl_trace.specs.HistoryRead.{Bad, Good, HistoriesAreReadAlone, Histori
 use Rattle.gl_trace.specs.HistoryText.{AreTold, history_text}
 use Rattle.gl_trace.proofs.Fields.{both_true}
 use Rattle.gl_core.specs.Device.{OneEntry}
+use Rattle.gl_check.specs.Drivers.{DriverKind, plain, planning}
 use Rattle.gl_check.specs.Many.{Texts, actor_sections, all_new}
 use Rattle.gl_check.specs.Misfit.{IsMisfit, MisfitIsNoneForMany, texts_of}
 use Rattle.gl_check.specs.Texts.{texts_text}
@@ -19,13 +20,14 @@ use Rattle.gl_session.specs.declared.judging.TheConstants.{CHECK_MAX}
 use Rattle.gl_session.specs.declared.verdict.Verdict.{Verdict}
 use Rattle.gl_session.specs.declared.verdict.Verdict.TheVariants.{NoText, Yes}
 use Rattle.gl_session.specs.Judged.{RunsAreLawful}
-use Rattle.gl_session.specs.Many.{AllPlayedCameToMany}
 use Rattle.gl_session.specs.Output.{output}
 use Rattle.gl_session.specs.Verdict.{IsLawful, IsLongVerdict, IsOutputVerdict, IsPartsVerdict, IsSessionVerdict, LawfulIsYes, Parts, YesIsLawful, check_text, entries_verdict, header_of, is_judged}
 use Rattle.gl_session.proofs.Causes.{short}
 use Rattle.gl_session.proofs.FewStatements.{sentence_is_sized}
 use Rattle.gl_session.proofs.Headers.{header_back, header_read}
+use Rattle.gl_session.proofs.ManyFollows.{came_to_many}
 use Rattle.gl_session.proofs.PrintedLines.{printed_lines}
+use Rattle.gl_session.proofs.Silence.{as_plain, many_played, planned_played, played_plainly}
 
 no_fault : (fault : Option Refusal) → not (is_some fault) ≡ true → fault ≡ None
 no_fault None e = refl
@@ -76,8 +78,8 @@ record LawfulOutput (sections : List SaidSection) (printed : List ℕ) : Type 0 
   fits : IsMisfit sections history None
   is : printed ≡ output sections (texts_of sections history) history
 
--- Over what is proved of the layers below: of misfits, of histories that are read, and of what several actors came to.
-module _ (judges : MisfitIsNoneForMany) (back : HistoriesAreReadBack) (alone : HistoriesAreReadAlone) (came : AllPlayedCameToMany) where
+-- Over what is proved of the layers below: of misfits, and of histories that are read.
+module _ (judges : MisfitIsNoneForMany) (back : HistoriesAreReadBack) (alone : HistoriesAreReadAlone) where
   yes_output : (sections : List SaidSection) (printed : List ℕ) (found : History) → history_in printed ≡ found → IsOutputVerdict sections found Yes → LawfulOutput sections printed
   yes_output sections printed (Bad line) is h = cc
   yes_output sections printed (Good front history) is h =
@@ -122,13 +124,13 @@ module _ (judges : MisfitIsNoneForMany) (back : HistoriesAreReadBack) (alone : H
   -- a history of a lawful run isn't longer than its session may be
   history_few : (input : List ℕ) (l : IsLawful input) → length l.history ≤ COST_MAX
   history_few input l =
-      let within = (came true all_new l.planned.0 l.sections l.history l.texts l.planned.1).within in
+      let within = (came_to_many (planning plain) all_new l.planned.0 l.sections l.history l.texts l.planned.1).within in
       let cheap = (sentence_is_sized l.session l.sections l.sentence).cheap in
       omega arith
 
   history_read : (input : List ℕ) (l : IsLawful input) → history_in (output l.sections l.texts l.history) ≡ Good (texts_text l.sections l.texts) l.history
   history_read input l =
-      back (texts_text l.sections l.texts) l.history (printed_lines true all_new l.planned.0 l.sections l.history l.texts l.planned.1) (history_few input l) l.told
+      back (texts_text l.sections l.texts) l.history (printed_lines (planning plain) all_new l.planned.0 l.sections l.history l.texts l.planned.1) (history_few input l) l.told
 
   lawful_output : (input : List ℕ) (l : IsLawful input) (verdict : Verdict) → IsOutputVerdict l.sections (Good (texts_text l.sections l.texts) l.history) verdict → verdict ≡ Yes
   lawful_output input l verdict h =
@@ -149,17 +151,18 @@ module _ (judges : MisfitIsNoneForMany) (back : HistoriesAreReadBack) (alone : H
       lawful_output input l verdict (subst (λ (f : History). IsOutputVerdict l.sections f verdict) (history_read input l) said)
 
 -- what a run of several actors printed is a lawful run
-pub runs_are_lawful : RunsAreLawful
-runs_are_lawful session sections before left text sentence several run new within = record {
-  session = session;
-  sections = sections;
-  texts = run.texts;
-  history = run.history;
-  within = within;
-  is = ap (check_text session) run.prints;
-  sentence = sentence;
-  several = several;
-  many = run.came.many;
-  planned = run.came.as_planned refl new;
-  told = run.told;
-}
+pub runs_are_lawful : (driver : DriverKind) → RunsAreLawful driver
+runs_are_lawful driver is session sections before left text sentence several run new within =
+    let played = played_plainly driver before left sections run.history run.texts run.came.ports in record {
+      session = session;
+      sections = sections;
+      texts = run.texts;
+      history = run.history;
+      within = within;
+      is = ap (check_text session) run.prints;
+      sentence = sentence;
+      several = several;
+      many = many_played (as_plain driver) before left sections run.history run.texts played;
+      planned = planned_played (as_plain driver) before left sections run.history run.texts is new played;
+      told = run.told;
+    }

@@ -1,5 +1,5 @@
 -- No history is full before a session has ended: where an actor found it so, no history fits what the first actor knows then.
-use Rattle.std.proofs.Common.{◌≡◌, ℕ, zero, suc, ◌+◌, ◌<◌, ◌≤◌, Bool, List, [], ◌∷◌, ◌++◌, length, length-append, get_or, map, Option, Result, Ok, Err, refl, sym, ap, ◌∙◌, subst, arith}
+use Rattle.std.proofs.Common.{◌≡◌, ℕ, zero, suc, ◌+◌, ◌<◌, ◌≤◌, List, [], ◌∷◌, ◌++◌, length, length-append, get_or, map, Option, Result, Ok, Err, refl, sym, ap, ◌∙◌, subst, arith}
 use Rattle.std.specs.List.{Contains}
 use Rattle.std.proofs.lemmas.List.{append-nil, length-map}
 use Rattle.gl_base.specs.declared.errno.Errno.{Errno}
@@ -19,6 +19,7 @@ use Rattle.gl_script.specs.declared.section.SectionKind.TheVariants.{Actor, Afte
 use Rattle.gl_talk.specs.Open.{Names}
 use Rattle.gl_core.specs.Device.{OneDeed, OneEntry, core}
 use Rattle.gl_chip.specs.Values.{OneView}
+use Rattle.gl_check.specs.Drivers.{DriverKind}
 use Rattle.gl_check.specs.Programs.{after_of, setup_of}
 use Rattle.gl_asking.specs.Asking.{asking}
 use Rattle.gl_check.specs.Many.{actor_sections, program_of}
@@ -38,11 +39,11 @@ no_longer whole seen h = let l = length-append seen h.0 in let e : length whole 
 
 -- The other actors, as the first one took them in: together they have no more entries than their sections cost, and fewer where one of
 -- them found the history full.
-module _ (is_planned : Bool) (sections : List SaidSection) (start left : ℕ → Option Told) (v w : OneView) (history : List OneEntry) (all : HasAllOf w.joined history) where
+module _ (driver : DriverKind) (sections : List SaidSection) (start left : ℕ → Option Told) (v w : OneView) (history : List OneEntry) (all : HasAllOf w.joined history) where
   abbrev Kept : ℕ → Result (List ℕ) Errno → Type 0
-  Kept n text = IsKept is_planned (program_of sections) start left v w n text
+  Kept n text = IsKept driver (program_of sections) start left v w n text
 
-  kept_nth : (n : ℕ) (texts : List (Result (List ℕ) Errno)) → AreKept is_planned (program_of sections) start left v w n texts → (i m : ℕ) (d : Result (List ℕ) Errno) → i < length texts → n + i ≡ m → Kept m (get_or texts i d)
+  kept_nth : (n : ℕ) (texts : List (Result (List ℕ) Errno)) → AreKept driver (program_of sections) start left v w n texts → (i m : ℕ) (d : Result (List ℕ) Errno) → i < length texts → n + i ≡ m → Kept m (get_or texts i d)
   kept_nth n [] h i m d less is = absurd (omega arith)
   kept_nth n (t ∷ ts) h zero m d less is = let same : n ≡ m = omega arith in subst (λ k. Kept k t) same h.0
   kept_nth n (t ∷ ts) h (suc i) m d less is = kept_nth (n + 1) ts h.1 i m d (omega arith) (omega arith)
@@ -52,21 +53,21 @@ module _ (is_planned : Bool) (sections : List SaidSection) (start left : ℕ →
 
   one_within : (i : ℕ) (t : Result (List ℕ) Errno) → Kept (suc i) t → length (entries_of (suc i) history) ≤ section_costs (section_at sections i)
   one_within i (Ok text) k =
-      let within = played_within is_planned (suc i) (section_costs (section_at sections i)) (program_of sections (suc i)) (carried [] (start (suc i))) (carried k.came.files (left (suc i))) text (deeds_of core (suc i) k.saw) k.came.names
+      let within = played_within driver (suc i) (section_costs (section_at sections i)) (program_of sections (suc i)) (carried [] (start (suc i))) (carried k.came.files (left (suc i))) text (deeds_of core (suc i) k.saw) k.came.names
       (entries_of (suc i) history) (costs sections i) k.came.played (deeds_entries core core.opening (suc i) k.saw ∙ sym (entries_are (suc i) (Ok text) k)) in omega (arith, within)
   one_within i (Err errno) k =
-      let within = entries_within_cost is_planned (suc i) (section_costs (section_at sections i)) (program_of sections (suc i)) (carried [] (start (suc i))) k.came.turns _ k.came.behind (costs sections i) k.came.follows in
+      let within = entries_within_cost driver (suc i) (section_costs (section_at sections i)) (program_of sections (suc i)) (carried [] (start (suc i))) k.came.turns _ k.came.behind (costs sections i) k.came.follows in
       let many = made (suc i) k.saw k.came.turns k.came.did in
       let same : length (entries_of (suc i) history) ≡ length (entries_of (suc i) k.saw) = ap (λ (es : List OneEntry). length es) (entries_are (suc i) (Err errno) k) in omega (arith, within.2)
 
   one_below : (i : ℕ) (errno : Errno) → Kept (suc i) (Err errno) → length (entries_of (suc i) history) < section_costs (section_at sections i)
   one_below i errno k =
       let call = call_of (asking k.came.behind.files k.came.what) k.came.calls in
-      let below = calls_come_below_cost is_planned (suc i) (section_costs (section_at sections i)) (program_of sections (suc i)) (carried [] (start (suc i))) k.came.turns k.came.what k.came.later k.came.behind call.0 (costs sections i) k.came.follows call.1 in
+      let below = calls_come_below_cost driver (suc i) (section_costs (section_at sections i)) (program_of sections (suc i)) (carried [] (start (suc i))) k.came.turns k.came.what k.came.later k.came.behind call.0 (costs sections i) k.came.follows call.1 in
       let many = made (suc i) k.saw k.came.turns k.came.did in
       let same : length (entries_of (suc i) history) ≡ length (entries_of (suc i) k.saw) = ap (λ (es : List OneEntry). length es) (entries_are (suc i) (Err errno) k) in omega arith
 
-  module _ (texts : List (Result (List ℕ) Errno)) (kept : AreKept is_planned (program_of sections) start left v w 1 texts) (as_many : length texts ≡ length (actor_sections sections)) where
+  module _ (texts : List (Result (List ℕ) Errno)) (kept : AreKept driver (program_of sections) start left v w 1 texts) (as_many : length texts ≡ length (actor_sections sections)) where
     each_within : (i : ℕ) → i < length (actor_sections sections) → length (entries_of (1 + i) history) ≤ section_costs (section_at sections i)
     each_within i less = let n : suc i ≡ 1 + i = omega arith in
         subst (λ k. length (entries_of k history) ≤ section_costs (section_at sections i)) n (one_within i (get_or texts i (Err NoMemory)) (kept_nth 1 texts kept i (suc i) (Err NoMemory) (omega arith) (omega arith)))
@@ -83,10 +84,10 @@ module _ (is_planned : Bool) (sections : List SaidSection) (start left : ℕ →
         let same = actors_cost sections in omega arith
 
 -- v0: the first actor at the beginning; v1: after `setup`
-module _ (is_planned : Bool) (sections : List SaidSection) (v0 : OneView) (told : Option Told) (new : v0 ≡ newcomer 0 (session_cost sections) [] 1 [] []) where
-  pub full_in_setup : (w : OneView) → StoppedFull is_planned (setup_of sections) v0 (carried [] told) w → CannotEnd w
+module _ (driver : DriverKind) (sections : List SaidSection) (v0 : OneView) (told : Option Told) (new : v0 ≡ newcomer 0 (session_cost sections) [] 1 [] []) where
+  pub full_in_setup : (w : OneView) → StoppedFull driver (setup_of sections) v0 (carried [] told) w → CannotEnd w
   full_in_setup w stopped =
-      let s = stops_in_setup is_planned sections v0 w told (ap (λ (v : OneView). v.number) new) stopped in
+      let s = stops_in_setup driver sections v0 w told (ap (λ (v : OneView). v.number) new) stopped in
       let grew : Grew core v0 (s.did ++ []) w = grows_on core v0 s.view w s.did [] s.grew s.full.grew in
       let room : s.view.room ≡ session_cost sections = s.grew.room ∙ ap (λ (v : OneView). v.room) new in
       let none : length w.joined ≡ 0 = ap (λ l. length l) (grew.joined ∙ ap (λ (v : OneView). v.joined) new) in
@@ -99,7 +100,7 @@ module _ (is_planned : Bool) (sections : List SaidSection) (v0 : OneView) (told 
             let long = no_longer history w.seen begins in let full = s.full.full in let few = s.few in omega arith;
       }
 
-  module _ (v1 : OneView) (names : Names) (waiting : Carried) (t0 t1 : List ℕ) (setup : PlaysOn is_planned (setup_of sections) v0 (carried [] told) t0 (done names) v1 waiting t1) where
+  module _ (v1 : OneView) (names : Names) (waiting : Carried) (t0 t1 : List ℕ) (setup : PlaysOn driver (setup_of sections) v0 (carried [] told) t0 (done names) v1 waiting t1) where
     room_is : v1.room ≡ session_cost sections
     room_is = setup.grew.room ∙ ap (λ (v : OneView). v.room) new
 
@@ -107,10 +108,10 @@ module _ (is_planned : Bool) (sections : List SaidSection) (v0 : OneView) (told 
     own_are = setup.grew.mine ∙ ap (λ (v : OneView). v.mine ++ entries_in (did_by setup.turns)) new
 
     few_own : length (did_by setup.turns) + length waiting.files ≤ cost_in_kind Setup sections
-    few_own = let within = entries_within_cost is_planned v0.number (cost_in_kind Setup sections) (setup_of sections) (carried [] told) setup.turns (done names) waiting (sessions_cost_their_parts sections).setup setup.follows in omega (arith, within.2)
+    few_own = let within = entries_within_cost driver v0.number (cost_in_kind Setup sections) (setup_of sections) (carried [] told) setup.turns (done names) waiting (sessions_cost_their_parts sections).setup setup.follows in omega (arith, within.2)
 
     -- one of the others found it full
-    pub full_at_fork : (start : ℕ → Option Told) (w : OneView) → HasForkedFull is_planned (program_of sections) start (length (actor_sections sections)) v1 w → CannotEnd w
+    pub full_at_fork : (start : ℕ → Option Told) (w : OneView) → HasForkedFull driver (program_of sections) start (length (actor_sections sections)) v1 w → CannotEnd w
     full_at_fork start w f =
         let none : length v1.joined ≡ 0 = ap (λ l. length l) (setup.grew.joined ∙ ap (λ (v : OneView). v.joined) new) in
         let first : v1.made ≡ 1 = setup.grew.made ∙ ap (λ (v : OneView). v.made) new in
@@ -121,19 +122,19 @@ module _ (is_planned : Bool) (sections : List SaidSection) (v0 : OneView) (told 
           no_history = λ history legal begins mine all others.
               let zeroth : length (entries_of 0 history) ≡ length (did_by setup.turns) =
               ap (λ (l : List OneEntry). length l) (mine ∙ f.joined.mine ∙ f.split.mine ∙ own_are) ∙ length_entries (did_by setup.turns) in
-              let fewer = others_below is_planned sections start f.left v1 w history all f.texts f.kept f.as_many f.errno f.stopped in
+              let fewer = others_below driver sections start f.left v1 w history all f.texts f.kept f.as_many f.errno f.stopped in
               let total = count_all (suc (length (actor_sections sections))) history (λ n far. others n (omega arith)) in
               let whole = (sessions_cost_their_parts sections).whole in let own = few_own in
-              let k = kept_nth is_planned sections start f.left v1 w history all 1 f.texts f.kept f.stopped.0 (1 + f.stopped.0) (Err f.errno) f.stopped.1 refl in
-              let stood : IsKept is_planned (program_of sections) start f.left v1 w (1 + f.stopped.0) (Err f.errno) = subst (λ t. IsKept is_planned (program_of sections) start f.left v1 w (1 + f.stopped.0) t) f.stopped.2 k in
+              let k = kept_nth driver sections start f.left v1 w history all 1 f.texts f.kept f.stopped.0 (1 + f.stopped.0) (Err f.errno) f.stopped.1 refl in
+              let stood : IsKept driver (program_of sections) start f.left v1 w (1 + f.stopped.0) (Err f.errno) = subst (λ t. IsKept driver (program_of sections) start f.left v1 w (1 + f.stopped.0) t) f.stopped.2 k in
               let full : session_cost sections ≤ length stood.saw = subst (λ r. r ≤ length stood.saw) room_is stood.came.full in
               let seen = no_longer w.seen stood.saw stood.begins in let long = no_longer history w.seen begins in omega arith;
         }
 
     -- the first actor itself found it full, in `after`
     pub full_in_after : {P : Type 0} (tells : P → Option Told) (w x : OneView) (ports ports_then : List (Option P)) (texts : List (List ℕ)) (between : Option Told)
-        → HasForked tells is_planned (program_of sections) (length (actor_sections sections)) v1 ports w texts ports_then
-        → StoppedFull is_planned (after_of sections names) w (carried waiting.files between) x → CannotEnd x
+        → HasForked tells driver (program_of sections) (length (actor_sections sections)) v1 ports w texts ports_then
+        → StoppedFull driver (after_of sections names) w (carried waiting.files between) x → CannotEnd x
     full_in_after tells w x ports ports_then texts between f s =
         let did : List OneDeed = did_by s.turns ++ [] in
         let grew : Grew core w did x = grows_on core w s.view x (did_by s.turns) [] s.grew s.full.1.grew in
@@ -150,11 +151,11 @@ module _ (is_planned : Bool) (sections : List SaidSection) (v0 : OneView) (told 
               ap (λ (l : List OneEntry). length l) (mine ∙ own_then) ∙ length-append (entries_in (did_by setup.turns)) (entries_in did)
               ∙ (λ i. length_entries (did_by setup.turns) i + (length_entries did ∙ ap (λ (l : List OneDeed). length l) (append-nil (did_by s.turns))) i) in
               let as_many : length (map Ok texts) ≡ length (actor_sections sections) = length-map texts Ok ∙ f.as_many in
-              let others_few = others_within is_planned sections (told_at tells ports) (told_at tells ports_then) v1 w history (subst (λ l. HasAllOf l history) grew.joined all) (map Ok texts) f.kept as_many in
+              let others_few = others_within driver sections (told_at tells ports) (told_at tells ports_then) v1 w history (subst (λ l. HasAllOf l history) grew.joined all) (map Ok texts) f.kept as_many in
               let total = count_all (suc (length (actor_sections sections))) history (λ n far. others n (omega arith)) in
               let whole = (sessions_cost_their_parts sections).whole in let own = few_own in
               let call = call_of (asking s.then.files s.what) s.full.0 in
-              let fewer = calls_come_below_cost is_planned w.number (cost_in_kind After sections) (after_of sections names) (carried waiting.files between) s.turns s.what s.rest s.then call.0 ((sessions_cost_their_parts sections).last names) s.follows call.1 in
+              let fewer = calls_come_below_cost driver w.number (cost_in_kind After sections) (after_of sections names) (carried waiting.files between) s.turns s.what s.rest s.then call.0 ((sessions_cost_their_parts sections).last names) s.follows call.1 in
               let full : session_cost sections ≤ length x.seen = subst (λ r. r ≤ length x.seen) (s.grew.room ∙ f.joined.room ∙ f.split.room ∙ room_is) s.full.1.full in
               let long = no_longer history x.seen begins in omega arith;
         }

@@ -1,5 +1,5 @@
 -- What comes of an operation of a talk on the device.
-use Rattle.std.proofs.Common.{◌≡◌, ◌⊎◌, inl, inr, ⊎_elim, ℕ, Bool, false, List, [], ◌++◌, length, take, drop, Option, None, Result, Ok, Err, refl, sym, ◌∙◌, ap, subst, arith}
+use Rattle.std.proofs.Common.{◌≡◌, ◌⊎◌, inl, inr, ⊎_elim, ℕ, false, List, [], ◌++◌, length, take, drop, Option, None, Result, Ok, Err, refl, sym, ◌∙◌, ap, subst, arith}
 use Rattle.std.specs.Prelude.{IfOk, IfErr, IsOkUnless}
 use Rattle.std.proofs.lemmas.List.{append-nil, drop_all, take_all}
 use Rattle.gl_base.specs.declared.errno.Errno.{Errno}
@@ -27,7 +27,9 @@ use Rattle.gl_chip.specs.Orders.{CouldNot, WroteTo, op_ordered}
 use Rattle.gl_chip.specs.Steps.{FoundNoRoom}
 use Rattle.gl_chip.specs.Values.{ActorValue, OneView}
 use Rattle.gl_chip.proofs.Telling.{none_own}
+use Rattle.gl_check.specs.Drivers.{DriverKind}
 use Rattle.gl_check.specs.Turns.{Carried, Exchange, IsDone}
+use Rattle.gl_check.proofs.Asked.{port_asked}
 use Rattle.gl_session.specs.Performed.{HasPerformed, IsCall, Performs}
 use Rattle.gl_session.specs.Player.{buffer_for}
 use Rattle.gl_session.proofs.Suiting.{Suits}
@@ -43,23 +45,25 @@ unmoved v = record {
   deeds = sym (append-nil (deeds_of core v.number v.seen));
 }
 
-module _ (is_planned : Bool) (what : Do) (v w : OneView) (s r : Carried) where
+module _ (driver : DriverKind) (what : Do) (v w : OneView) (s r : Carried) where
   -- An operation that is a call: it was made by a device whose driver makes no entries of its own.
   made_exchange : (u : OneView) (call : DeviceCall) (reply : Reply) (bytes : List ℕ) (got : Got) → Calls call ≡ asking s.files what → got ≡ got_of what reply bytes → r.files ≡ files_behind what reply s.files
-      → (called : HasCalled 0 v call reply bytes u) → PortAfter is_planned (op_asked s.files what) (tells_in (entries_in called.did)) s.told r.told
-      → HasPerformed is_planned what v s got u r
+      → (called : HasCalled 0 v call reply bytes u) → PortAfter driver.is_planned (op_asked s.files what) (tells_in (entries_in called.did)) s.told r.told
+      → HasPerformed driver what v s got u r
   made_exchange u call reply bytes got asks gets files called port =
-      let e : Exchange = record { what = what; closed = called.closed; answer = called.answer; did = called.did; reply = reply; wrote = bytes } in
+      let e : Exchange = record { what = what; closed = called.closed; answer = called.answer; own = []; did = called.did; reply = reply; wrote = bytes } in
+      let makes = subst (λ own. Makes v.number called.closed call called.answer own (entries_in called.did)) (none_own called.own called.few_own) called.makes in
       record {
         exchange = e;
         what_is = refl;
         got_is = gets;
         carries = record {
-          is_done = subst (λ (a : Asking). IsDone is_planned v.number a (op_asked s.files what) e s.told r.told) asks (record {
-            makes = subst (λ own. Makes v.number called.closed call called.answer own (entries_in called.did)) (none_own called.own called.few_own) called.makes;
+          is_done = subst (λ (a : Asking). IsDone driver v.number a (op_asked s.files what) e s.told r.told) asks (record {
+            makes = makes;
+            few_own = omega arith;
             reply_is = called.reply_is;
             bytes_are = called.bytes_are;
-            port = port;
+            port = port_asked driver v.number (op_asked s.files what) e s.told r.told call refl makes port;
           });
           files = files;
         };
@@ -69,60 +73,60 @@ module _ (is_planned : Bool) (what : Do) (v w : OneView) (s r : Carried) where
   -- The call was made with this buffer, which is as it came back, and left the files as they were; then they were changed by its reply.
   pub call_performs : (call : DeviceCall) (on : FileKind) (reply : Reply) (old came new : List ℕ) (got : Got) (result : Result Got Errno) (u : OneView) (m : Carried)
       → Calls call ≡ asking s.files what → Suits what (op_asked s.files what) on call → old ≡ buffer_for what → new ≡ came
-      → (bytes : List ℕ) × WroteTo call bytes old came × (called : HasCalled 0 v call reply bytes u) × PortAfter is_planned (op_ordered call on) (tells_in (entries_in called.did)) s.told m.told
+      → (bytes : List ℕ) × WroteTo call bytes old came × (called : HasCalled 0 v call reply bytes u) × PortAfter driver.is_planned (op_ordered call on) (tells_in (entries_in called.did)) s.told m.told
       → m.files ≡ s.files → w ≡ u → r.told ≡ m.told
       → ((wrote : List ℕ) → IsFilled what wrote new → got ≡ got_of what reply wrote)
       → IfOk result (λ g. (g ≡ got) × (r.files ≡ files_behind what reply m.files)) → IsOkUnless result NoMemory
-      → Performs is_planned what result v s w r
+      → Performs driver what result v s w r
   call_performs call on reply old came new got (Ok g) u m asks suits handed back (bytes, wrote, called, port) kept same told gets settled memory =
       let wrote_so : WroteTo call bytes (buffer_for what) new = subst (λ (x : List ℕ × List ℕ). WroteTo call bytes x.0 x.1) (λ i. (handed i, sym back i)) wrote in
-      let port_so : PortAfter is_planned (op_asked s.files what) (tells_in (entries_in called.did)) s.told r.told
-      = subst (λ (x : Option Op × Option Told). PortAfter is_planned x.0 (tells_in (entries_in called.did)) s.told x.1) (λ i. (sym suits.op i, sym told i)) port in
-      subst (λ (x : OneView). HasPerformed is_planned what v s g x r) (sym same)
+      let port_so : PortAfter driver.is_planned (op_asked s.files what) (tells_in (entries_in called.did)) s.told r.told
+      = subst (λ (x : Option Op × Option Told). PortAfter driver.is_planned x.0 (tells_in (entries_in called.did)) s.told x.1) (λ i. (sym suits.op i, sym told i)) port in
+      subst (λ (x : OneView). HasPerformed driver what v s g x r) (sym same)
       (made_exchange u call reply bytes g asks (settled.0 ∙ gets bytes (suits.filled bytes new wrote_so)) (settled.1 ∙ ap (λ (l : List OpenFile). files_behind what reply l) kept) called port_so)
   call_performs call on reply old came new got (Err errno) u m asks suits handed back made kept same told gets settled memory = inl memory
 
   -- the call wasn't made
-  pub could_not_perform : (call : DeviceCall) (errno : Errno) → Calls call ≡ asking s.files what → (errno ≡ NoMemory) ⊎ ((errno ≡ Full) × FoundNoRoom core v w) → Performs is_planned what (Err errno) v s w r
+  pub could_not_perform : (call : DeviceCall) (errno : Errno) → Calls call ≡ asking s.files what → (errno ≡ NoMemory) ⊎ ((errno ≡ Full) × FoundNoRoom core v w) → Performs driver what (Err errno) v s w r
   could_not_perform call errno asks = ⊎_elim (λ wanted. inl wanted) (λ full. inr (full.0, (subst IsCall asks tt, full.1)))
 
   -- An operation that is no call.
   nothing_done : (asks : Asking) (reply : Reply) (got : Got) → asks ≡ asking s.files what → w ≡ v → r.files ≡ files_behind what reply s.files → got ≡ got_of what reply []
-      → IsDone is_planned v.number asks (op_asked s.files what) (record { what = what; closed = false; answer = None; did = []; reply = reply; wrote = [] }) s.told r.told
-      → HasPerformed is_planned what v s got w r
+      → IsDone driver v.number asks (op_asked s.files what) (record { what = what; closed = false; answer = None; own = []; did = []; reply = reply; wrote = [] }) s.told r.told
+      → HasPerformed driver what v s got w r
   nothing_done asks reply got is same files gets done =
-      let e : Exchange = record { what = what; closed = false; answer = None; did = []; reply = reply; wrote = [] } in
+      let e : Exchange = record { what = what; closed = false; answer = None; own = []; did = []; reply = reply; wrote = [] } in
       record {
         exchange = e;
         what_is = refl;
         got_is = gets;
         carries = record {
-          is_done = subst (λ (a : Asking). IsDone is_planned v.number a (op_asked s.files what) e s.told r.told) is done;
+          is_done = subst (λ (a : Asking). IsDone driver v.number a (op_asked s.files what) e s.told r.told) is done;
           files = files;
         };
         grew = subst (λ (u : OneView). Grew core v [] u) (sym same) (unmoved v);
       }
 
   told_alone : (asks : Asking) (reply : Reply) (got : Got) (result : Result Got Errno) (m : Carried) → asks ≡ asking s.files what → w ≡ v → m.files ≡ s.files → got ≡ got_of what reply []
-      → IsDone is_planned v.number asks (op_asked s.files what) (record { what = what; closed = false; answer = None; did = []; reply = reply; wrote = [] }) s.told r.told
+      → IsDone driver v.number asks (op_asked s.files what) (record { what = what; closed = false; answer = None; own = []; did = []; reply = reply; wrote = [] }) s.told r.told
       → IfOk result (λ g. (g ≡ got) × (r.files ≡ files_behind what reply m.files)) → IsOkUnless result NoMemory
-      → Performs is_planned what result v s w r
+      → Performs driver what result v s w r
   told_alone asks reply got (Ok g) m is same kept gets done settled memory =
       nothing_done asks reply g is same (settled.1 ∙ ap (λ (l : List OpenFile). files_behind what reply l) kept) (settled.0 ∙ gets) done
   told_alone asks reply got (Err errno) m is same kept gets done settled memory = inl memory
 
   pub plan_performs : (nth : ℕ) (got : Got) (result : Result Got Errno) (m : Carried) → Plans nth ≡ asking s.files what → w ≡ v → m.files ≡ s.files → m.told ≡ with_plan nth s.told → r.told ≡ m.told → got ≡ got_of what DoneReply []
-      → IfOk result (λ g. (g ≡ got) × (r.files ≡ files_behind what DoneReply m.files)) → IsOkUnless result NoMemory → Performs is_planned what result v s w r
+      → IfOk result (λ g. (g ≡ got) × (r.files ≡ files_behind what DoneReply m.files)) → IsOkUnless result NoMemory → Performs driver what result v s w r
   plan_performs nth got result m is same kept told stays gets settled memory =
       told_alone (Plans nth) DoneReply got result m is same kept gets (record { did = refl; reply_is = refl; bytes_are = refl }, stays ∙ told) settled memory
 
   pub accept_performs : (bits : ℕ) (got : Got) (result : Result Got Errno) (m : Carried) → Accepts bits ≡ asking s.files what → w ≡ v → m.files ≡ s.files → m.told ≡ with_bits bits s.told → r.told ≡ m.told → got ≡ got_of what DoneReply []
-      → IfOk result (λ g. (g ≡ got) × (r.files ≡ files_behind what DoneReply m.files)) → IsOkUnless result NoMemory → Performs is_planned what result v s w r
+      → IfOk result (λ g. (g ≡ got) × (r.files ≡ files_behind what DoneReply m.files)) → IsOkUnless result NoMemory → Performs driver what result v s w r
   accept_performs bits got result m is same kept told stays gets settled memory =
       told_alone (Accepts bits) DoneReply got result m is same kept gets (record { did = refl; reply_is = refl; bytes_are = refl }, stays ∙ told) settled memory
 
   pub refusal_performs : (errno : Errno) (got : Got) (result : Result Got Errno) (m : Carried) → Refuses errno ≡ asking s.files what → w ≡ v → m.files ≡ s.files → m.told ≡ s.told → r.told ≡ m.told → got ≡ got_of what (RefusedReply errno) []
-      → IfOk result (λ g. (g ≡ got) × (r.files ≡ files_behind what (RefusedReply errno) m.files)) → IsOkUnless result NoMemory → Performs is_planned what result v s w r
+      → IfOk result (λ g. (g ≡ got) × (r.files ≡ files_behind what (RefusedReply errno) m.files)) → IsOkUnless result NoMemory → Performs driver what result v s w r
   refusal_performs errno got result m is same kept told stays gets settled memory =
       told_alone (Refuses errno) (RefusedReply errno) got result m is same kept gets (record { did = refl; reply_is = refl; bytes_are = refl }, stays ∙ told) settled memory
 

@@ -14,6 +14,7 @@ use Rattle.gl_script.specs.declared.section.SectionKind.TheVariants.{Setup}
 use Rattle.gl_talk.specs.Open.{Names}
 use Rattle.gl_talk.specs.Talk.{does, quits, says, slot_behind}
 use Rattle.gl_talk.proofs.InARow.{come_in_parts}
+use Rattle.gl_check.specs.Drivers.{DriverKind}
 use Rattle.gl_check.specs.One.{is_kind, said_in_kind}
 use Rattle.gl_session.specs.OneActor.{said_at, said_of}
 use Rattle.gl_asking.specs.Files.{OpenFile}
@@ -58,7 +59,7 @@ says_then begun (words ∷ statements) behind names =
     ∙ sym (in_turn (does names (slot_behind begun) words) (says (begun + 1) statements done) behind)
 
 -- statements of one section and those after them, where the first were carried out
-module _ (is_planned : Bool) (v : OneView) (s : Carried) (begun : ℕ) (here later whole : List (List Span)) (names : Names) (whole_is : whole ≡ here ++ later) where
+module _ (driver : DriverKind) (v : OneView) (s : Carried) (begun : ℕ) (here later whole : List (List Span)) (names : Names) (whole_is : whole ≡ here ++ later) where
   abbrev behind_them : Names → Program Names
   behind_them = says (begun + length here) later done
 
@@ -66,55 +67,55 @@ module _ (is_planned : Bool) (v : OneView) (s : Carried) (begun : ℕ) (here lat
   in_parts = sym (says_then begun here behind_them names) ∙ sym (come_in_parts begun here later done names) ∙ ap (λ (l : List (List Span)). says begun l (λ given_names. done given_names) names) (sym whole_is)
 
   pub section_step : (t0 : List ℕ) (w : OneView) (r : Carried) (t1 : List ℕ) (begun_then : ℕ) (names_then : Names) → begun_then ≡ begun + length here
-      → PlaysOn is_planned (says begun here (λ given_names. done given_names) names) v s t0 (done names_then) w r t1
-      → PlaysOn is_planned (says begun whole (λ given_names. done given_names) names) v s t0 (says begun_then later (λ given_names. done given_names) names_then) w r t1
+      → PlaysOn driver (says begun here (λ given_names. done given_names) names) v s t0 (done names_then) w r t1
+      → PlaysOn driver (says begun whole (λ given_names. done given_names) names) v s t0 (says begun_then later (λ given_names. done given_names) names_then) w r t1
   section_step t0 w r t1 begun_then names_then counted played =
-      subst (λ (n : ℕ). PlaysOn is_planned (says begun whole (λ given_names. done given_names) names) v s t0 (says n later (λ given_names. done given_names) names_then) w r t1) (sym counted)
-      (subst (λ (o : Program Names). PlaysOn is_planned o v s t0 (behind_them names_then) w r t1) in_parts
-      (plays_then is_planned behind_them (says begun here done names) v s t0 (done names_then) w r t1 played))
+      subst (λ (n : ℕ). PlaysOn driver (says begun whole (λ given_names. done given_names) names) v s t0 (says n later (λ given_names. done given_names) names_then) w r t1) (sym counted)
+      (subst (λ (o : Program Names). PlaysOn driver o v s t0 (behind_them names_then) w r t1) in_parts
+      (plays_then driver behind_them (says begun here done names) v s t0 (done names_then) w r t1 played))
 
-  pub section_stops : (w : OneView) → StoppedFull is_planned (says begun here (λ given_names. done given_names) names) v s w
-      → StoppedFull is_planned (says begun whole (λ given_names. done given_names) names) v s w
+  pub section_stops : (w : OneView) → StoppedFull driver (says begun here (λ given_names. done given_names) names) v s w
+      → StoppedFull driver (says begun whole (λ given_names. done given_names) names) v s w
   section_stops w stopped =
-      subst (λ (o : Program Names). StoppedFull is_planned o v s w) in_parts (stops_then is_planned behind_them (says begun here done names) v s w stopped)
+      subst (λ (o : Program Names). StoppedFull driver o v s w) in_parts (stops_then driver behind_them (says begun here done names) v s w stopped)
 
 -- after statements in a row what is open is closed
-module _ (is_planned : Bool) (v : OneView) (s : Carried) (begun : ℕ) (statements : List (List Span)) (names : Names) where
+module _ (driver : DriverKind) (v : OneView) (s : Carried) (begun : ℕ) (statements : List (List Span)) (names : Names) where
   to_the_end : then_by (says begun statements done names) quits ≡ says begun statements quits names
   to_the_end = sym (says_then begun statements quits names)
 
   closed_behind : (t0 : List ℕ) (w : OneView) (r : Carried) (t1 : List ℕ) (names_then : Names)
-      → PlaysOn is_planned (says begun statements (λ given_names. done given_names) names) v s t0 (done names_then) w r t1
-      → PlaysOn is_planned (says begun statements quits names) v s t0 (quits names_then) w r t1
+      → PlaysOn driver (says begun statements (λ given_names. done given_names) names) v s t0 (done names_then) w r t1
+      → PlaysOn driver (says begun statements quits names) v s t0 (quits names_then) w r t1
   closed_behind t0 w r t1 names_then played =
-      subst (λ (o : Program Names). PlaysOn is_planned o v s t0 (quits names_then) w r t1) to_the_end
-      (plays_then is_planned quits (says begun statements done names) v s t0 (done names_then) w r t1 played)
+      subst (λ (o : Program Names). PlaysOn driver o v s t0 (quits names_then) w r t1) to_the_end
+      (plays_then driver quits (says begun statements done names) v s t0 (done names_then) w r t1 played)
 
   pub ends_behind : (t0 : List ℕ) (w : OneView) (r : Carried) (t1 : List ℕ) (names_then : Names) (p : Program Names) (u : OneView) (y : Carried) (t2 : List ℕ) (last : Names)
-      → PlaysOn is_planned (says begun statements (λ given_names. done given_names) names) v s t0 (done names_then) w r t1 → p ≡ quits names_then → PlaysOn is_planned p w r t1 (done last) u y t2
-      → PlaysOn is_planned (says begun statements quits names) v s t0 (done last) u y t2
+      → PlaysOn driver (says begun statements (λ given_names. done given_names) names) v s t0 (done names_then) w r t1 → p ≡ quits names_then → PlaysOn driver p w r t1 (done last) u y t2
+      → PlaysOn driver (says begun statements quits names) v s t0 (done last) u y t2
   ends_behind t0 w r t1 names_then p u y t2 last played is closes =
-      plays_on is_planned (says begun statements quits names) v s t0 (quits names_then) w r t1 (done last) u y t2 (closed_behind t0 w r t1 names_then played)
-      (subst (λ (o : Program Names). PlaysOn is_planned o w r t1 (done last) u y t2) is closes)
+      plays_on driver (says begun statements quits names) v s t0 (quits names_then) w r t1 (done last) u y t2 (closed_behind t0 w r t1 names_then played)
+      (subst (λ (o : Program Names). PlaysOn driver o w r t1 (done last) u y t2) is closes)
 
-  pub stops_before_end : (w : OneView) → StoppedFull is_planned (says begun statements (λ given_names. done given_names) names) v s w
-      → StoppedFull is_planned (says begun statements quits names) v s w
-  stops_before_end w stopped = subst (λ (o : Program Names). StoppedFull is_planned o v s w) to_the_end (stops_then is_planned quits (says begun statements done names) v s w stopped)
+  pub stops_before_end : (w : OneView) → StoppedFull driver (says begun statements (λ given_names. done given_names) names) v s w
+      → StoppedFull driver (says begun statements quits names) v s w
+  stops_before_end w stopped = subst (λ (o : Program Names). StoppedFull driver o v s w) to_the_end (stops_then driver quits (says begun statements done names) v s w stopped)
 
   pub stops_at_end : (t0 : List ℕ) (w : OneView) (r : Carried) (t1 : List ℕ) (names_then : Names) (p : Program Names) (u : OneView)
-      → PlaysOn is_planned (says begun statements (λ given_names. done given_names) names) v s t0 (done names_then) w r t1 → p ≡ quits names_then → StoppedFull is_planned p w r u
-      → StoppedFull is_planned (says begun statements quits names) v s u
+      → PlaysOn driver (says begun statements (λ given_names. done given_names) names) v s t0 (done names_then) w r t1 → p ≡ quits names_then → StoppedFull driver p w r u
+      → StoppedFull driver (says begun statements quits names) v s u
   stops_at_end t0 w r t1 names_then p u played is stopped =
-      stops_on is_planned (says begun statements quits names) v s t0 (quits names_then) w r t1 u (closed_behind t0 w r t1 names_then played)
-      (subst (λ (o : Program Names). StoppedFull is_planned o w r u) is stopped)
+      stops_on driver (says begun statements quits names) v s t0 (quits names_then) w r t1 u (closed_behind t0 w r t1 names_then played)
+      (subst (λ (o : Program Names). StoppedFull driver o w r u) is stopped)
 
 -- the same statements from the same beginning
-module _ (is_planned : Bool) (v : OneView) (told : Option Told) (statements : List (List Span)) (behind : Names → Program Names) (n m : ℕ) (names others : Names) (files : List OpenFile) (before : List OpenFile) (number : n ≡ m) (same : names ≡ others) (open_are : files ≡ before) where
-  pub begins_so : (t0 : List ℕ) (q : Program Names) (w : OneView) (r : Carried) (t1 : List ℕ) → PlaysOn is_planned (says n statements behind names) v (carried files told) t0 q w r t1
-      → PlaysOn is_planned (says m statements behind others) v (carried before told) t0 q w r t1
+module _ (driver : DriverKind) (v : OneView) (told : Option Told) (statements : List (List Span)) (behind : Names → Program Names) (n m : ℕ) (names others : Names) (files : List OpenFile) (before : List OpenFile) (number : n ≡ m) (same : names ≡ others) (open_are : files ≡ before) where
+  pub begins_so : (t0 : List ℕ) (q : Program Names) (w : OneView) (r : Carried) (t1 : List ℕ) → PlaysOn driver (says n statements behind names) v (carried files told) t0 q w r t1
+      → PlaysOn driver (says m statements behind others) v (carried before told) t0 q w r t1
   begins_so t0 q w r t1 played =
-      subst (λ (x : ℕ × Names × List OpenFile). PlaysOn is_planned (says x.0 statements behind x.1) v (carried x.2 told) t0 q w r t1) (λ i. (number i, same i, open_are i)) played
+      subst (λ (x : ℕ × Names × List OpenFile). PlaysOn driver (says x.0 statements behind x.1) v (carried x.2 told) t0 q w r t1) (λ i. (number i, same i, open_are i)) played
 
-  pub stops_so : (w : OneView) → StoppedFull is_planned (says n statements behind names) v (carried files told) w → StoppedFull is_planned (says m statements behind others) v (carried before told) w
+  pub stops_so : (w : OneView) → StoppedFull driver (says n statements behind names) v (carried files told) w → StoppedFull driver (says m statements behind others) v (carried before told) w
   stops_so w stopped =
-      subst (λ (x : ℕ × Names × List OpenFile). StoppedFull is_planned (says x.0 statements behind x.1) v (carried x.2 told) w) (λ i. (number i, same i, open_are i)) stopped
+      subst (λ (x : ℕ × Names × List OpenFile). StoppedFull driver (says x.0 statements behind x.1) v (carried x.2 told) w) (λ i. (number i, same i, open_are i)) stopped

@@ -1,6 +1,7 @@
 -- What an operation hands to its call, and what it takes from it.
-use Rattle.std.proofs.Common.{◌≡◌, ℕ, ◌<◌, ◌^◌, Bool, true, false, List, [], take, Option, None, Some, refl, sym, ap, subst, arith}
+use Rattle.std.proofs.Common.{◌≡◌, ℕ, ◌<◌, ◌^◌, Bool, true, false, List, [], take, Option, None, Some, refl, sym, ap, ◌∙◌, subst, arith}
 use Rattle.std.specs.Prelude.{nat_lt, if◌then◌else◌}
+use Rattle.std.proofs.lemmas.Bool.{true≢false}
 use Rattle.std.proofs.lemmas.List.{length-replicate}
 use Rattle.gl_base.specs.Lines.{IsLineCount}
 use Rattle.gl_base.specs.declared.errno.Errno.{Errno}
@@ -22,11 +23,12 @@ use Rattle.gl_model.specs.declared.device_call.DeviceCall.TheVariants.{Commandin
 use Rattle.gl_model.specs.declared.reply.Reply.{Reply}
 use Rattle.gl_model.specs.declared.reply.Reply.TheVariants.{Done, Number, Go, Found, Text, Ready, Refused}
 use Rattle.gl_asking.specs.Asking.{asking, buffer_of, file_for, finds, got_of, has_lines, lines_named, lives, on_file, once, polls, reads_from}
-use Rattle.gl_asking.specs.Changes.{IsFilled, OpensWithin}
+use Rattle.gl_asking.specs.Changes.{IsFilled, NamesMade, OpensWithin}
 use Rattle.gl_asking.specs.Driving.{lines_by, op_asked, op_for, op_of, op_on, op_requested}
 use Rattle.gl_asking.specs.Files.{OpenFile, file_in}
 use Rattle.gl_asking.specs.Handed.{command_in, handed_in}
-use Rattle.gl_asking.specs.Rows.{HasLines, IsSomeRow, file_of, is_chip, lines_of}
+use Rattle.gl_asking.specs.Rows.{HasLines, IsSomeRow, file_of, is_chip, is_on_chip, lines_of}
+use Rattle.gl_asking.specs.declared.kinds.Answered.{Answered}
 use Rattle.gl_asking.specs.declared.kinds.Asking.{Asking}
 use Rattle.gl_asking.specs.declared.kinds.Asking.TheVariants.{Calls, Plans, Accepts, Refuses}
 use Rattle.gl_asking.specs.declared.kinds.FileKind.{FileKind}
@@ -34,7 +36,7 @@ use Rattle.gl_asking.specs.declared.kinds.FileKind.TheVariants.{Chip, Request}
 use Rattle.gl_asking.specs.declared.kinds.FileRow.{FileRow}
 use Rattle.gl_chip.specs.Called.{HasCalled}
 use Rattle.gl_chip.specs.DriverCommands.{IsOp}
-use Rattle.gl_chip.specs.Orders.{AnswersOrder, FitsFile, FitsOut, WroteTo, op_ordered}
+use Rattle.gl_chip.specs.Orders.{AnswersOrder, FitsFile, FitsOut, GivesLines, WroteTo, op_ordered}
 use Rattle.gl_chip.specs.Values.{OneView}
 use Rattle.gl_chip.proofs.OpenedChips.{named_within, opened_in}
 use Rattle.gl_session.specs.Player.{buffer_for, kind_of}
@@ -47,6 +49,7 @@ pub record Suits (what : Do) (asked : Option Op) (on : FileKind) (call : DeviceC
   pub op : asked ≡ op_ordered call on
   pub filled : (bytes new : List ℕ) → WroteTo call bytes (buffer_for what) new → IsFilled what bytes new
   pub opens : (v w : OneView) (reply : Reply) (bytes : List ℕ) → HasCalled 0 v call reply bytes w → AnswersOrder call on reply → OpensWithin what reply
+  pub named : (row : Option FileRow) (answered : Answered) → kind_of row ≡ on → GivesLines call on answered → NamesMade what row answered
 
 abbrev ForCall : (DeviceCall → Type 0) → Asking → Type 0
 ForCall P (Calls call) = P call
@@ -62,16 +65,16 @@ chosen what on call errno true suits = suits
 chosen what on call errno false suits = tt
 
 read_suits : (slot len : ℕ) (on : FileKind) (file : OpenFile) (of_chip : Bool) → ForOp (ReadFile slot len) None on (once (if of_chip then ReadInfo file.place file.fd len else ReadEdges file.place file.fd len))
-read_suits slot len on file true = record { file = tt; buffer = length-replicate len 0; op = refl; filled = λ bytes new w. w; opens = λ v w reply bytes called form. tt }
-read_suits slot len on file false = record { file = tt; buffer = length-replicate len 0; op = refl; filled = λ bytes new w. w; opens = λ v w reply bytes called form. tt }
+read_suits slot len on file true = record { file = tt; buffer = length-replicate len 0; op = refl; filled = λ bytes new w. w; opens = λ v w reply bytes called form. tt; named = λ row answered at gives. tt }
+read_suits slot len on file false = record { file = tt; buffer = length-replicate len 0; op = refl; filled = λ bytes new w. w; opens = λ v w reply bytes called form. tt; named = λ row answered at gives. tt }
 
 read_on : (slot len : ℕ) (on : FileKind) (o : Option OpenFile) → ForOp (ReadFile slot len) None on (on_file o (λ file. once (reads_from len file)))
 read_on slot len on None = tt
 read_on slot len on (Some file) = read_suits slot len on file file.of_chip
 
 poll_suits : (slot : ℕ) (on : FileKind) (file : OpenFile) (of_chip : Bool) → ForOp (Poll slot) None on (once (if of_chip then PollChip file.place file.fd else PollLine file.place file.fd))
-poll_suits slot on file true = record { file = tt; buffer = tt; op = refl; filled = λ bytes new w. tt; opens = λ v w reply bytes called form. tt }
-poll_suits slot on file false = record { file = tt; buffer = tt; op = refl; filled = λ bytes new w. tt; opens = λ v w reply bytes called form. tt }
+poll_suits slot on file true = record { file = tt; buffer = tt; op = refl; filled = λ bytes new w. tt; opens = λ v w reply bytes called form. tt; named = λ row answered at gives. tt }
+poll_suits slot on file false = record { file = tt; buffer = tt; op = refl; filled = λ bytes new w. tt; opens = λ v w reply bytes called form. tt; named = λ row answered at gives. tt }
 
 poll_on : (slot : ℕ) (on : FileKind) (o : Option OpenFile) → ForOp (Poll slot) None on (on_file o (λ file. once (polls file)))
 poll_on slot on None = tt
@@ -79,19 +82,19 @@ poll_on slot on (Some file) = poll_suits slot on file file.of_chip
 
 close_on : (slot : ℕ) (on : FileKind) (o : Option OpenFile) → ForOp (DoClose slot) None on (on_file o (λ file. once (Close file.fd)))
 close_on slot on None = tt
-close_on slot on (Some file) = record { file = tt; buffer = tt; op = refl; filled = λ bytes new w. tt; opens = λ v w reply bytes called form. tt }
+close_on slot on (Some file) = record { file = tt; buffer = tt; op = refl; filled = λ bytes new w. tt; opens = λ v w reply bytes called form. tt; named = λ row answered at gives. tt }
 
 find_on : (slot : ℕ) (name : List ℕ) (on : FileKind) (o : Option OpenFile) → ForOp (DoFind (Some slot) name) None on (on_file o (λ file. once (Find (Some file.place) name)))
 find_on slot name on None = tt
-find_on slot name on (Some file) = record { file = tt; buffer = tt; op = refl; filled = λ bytes new w. tt; opens = λ v w reply bytes called form. tt }
+find_on slot name on (Some file) = record { file = tt; buffer = tt; op = refl; filled = λ bytes new w. tt; opens = λ v w reply bytes called form. tt; named = λ row answered at gives. tt }
 
 find_suits : (slot : Option ℕ) (name : List ℕ) (on : FileKind) (files : List OpenFile) → ForOp (DoFind slot name) None on (finds slot name files)
-find_suits None name on files = record { file = tt; buffer = tt; op = refl; filled = λ bytes new w. tt; opens = λ v w reply bytes called form. tt }
+find_suits None name on files = record { file = tt; buffer = tt; op = refl; filled = λ bytes new w. tt; opens = λ v w reply bytes called form. tt; named = λ row answered at gives. tt }
 find_suits (Some slot) name on files = find_on slot name on (file_in slot files)
 
 live_suits : (device : List ℕ) (up : Bool) (on : FileKind) → ForOp (DoLive device up) None on (lives device up)
-live_suits device true on = record { file = tt; buffer = tt; op = refl; filled = λ bytes new w. tt; opens = λ v w reply bytes called form. tt }
-live_suits device false on = record { file = tt; buffer = tt; op = refl; filled = λ bytes new w. tt; opens = λ v w reply bytes called form. tt }
+live_suits device true on = record { file = tt; buffer = tt; op = refl; filled = λ bytes new w. tt; opens = λ v w reply bytes called form. tt; named = λ row answered at gives. tt }
+live_suits device false on = record { file = tt; buffer = tt; op = refl; filled = λ bytes new w. tt; opens = λ v w reply bytes called form. tt; named = λ row answered at gives. tt }
 
 -- a reply that tells a number tells a small one
 
@@ -132,6 +135,11 @@ command_opens slot cmd len made place fd bytes of_chip lines reply form = (
   λ is n e. command_count lines (command_of cmd) (buffer_of len bytes) place fd cmd of_chip (ap command_of is) (form n e).1,
 )
 
+-- a row of a request isn't a chip's
+request_on : (row : Option FileRow) (lines : Lines) → kind_of row ≡ Request lines → is_on_chip row ≡ false
+request_on None lines at = refl
+request_on (Some row) lines at = ap is_chip at
+
 command_kind : (slot cmd len made place fd : ℕ) (bytes : List ℕ) (on : FileKind) → HasLines on
     → Suits (DoIoctl slot cmd len bytes made) (op_for (lines_by (is_chip on) (lines_of on) (buffer_of len bytes)) (command_in place fd (is_chip on) cmd (buffer_of len bytes))) on
     (Commanding (command_in place fd (is_chip on) cmd (buffer_of len bytes)))
@@ -141,6 +149,7 @@ command_kind slot cmd len made place fd bytes Chip has = record {
   op = refl;
   filled = λ wrote new w. w;
   opens = λ v w reply wrote called form. command_opens slot cmd len made place fd bytes true (lines_named (buffer_of len bytes)) reply form;
+  named = λ row answered at gives. λ is n e chip. gives n e;
 }
 command_kind slot cmd len made place fd bytes (Request lines) has = record {
   file = (refl, has);
@@ -148,6 +157,7 @@ command_kind slot cmd len made place fd bytes (Request lines) has = record {
   op = refl;
   filled = λ wrote new w. w;
   opens = λ v w reply wrote called form. command_opens slot cmd len made place fd bytes false lines reply form;
+  named = λ row answered at gives. λ is n e chip. absurd (true≢false (sym chip ∙ request_on row lines at));
 }
 
 command_on : (slot cmd len made : ℕ) (bytes : List ℕ) (row : Option FileRow) (o : Option OpenFile) → IsSomeRow row → o ≡ file_of row
@@ -169,21 +179,22 @@ module _ (files : List OpenFile) (row : Option FileRow) where
     op = refl;
     filled = λ bytes new w. tt;
     opens = λ v w reply bytes called form. (opened_small word reply form, named_within v w word reply (opened_in 0 v w word reply bytes called));
+    named = λ row answered at gives. tt;
   }
 
   suits : (what : Do) → IsSomeRow row → file_for what files ≡ file_of row → ForOp what (op_asked files what) (kind_of row) (asking files what)
-  suits (DoProbe label lines) is at = chosen (DoProbe label lines) _ _ _ (has_lines lines) (record { file = tt; buffer = tt; op = refl; filled = λ bytes new w. tt; opens = λ v w reply bytes called form. tt })
-  suits (DoUnplug place) is at = chosen (DoUnplug place) _ _ _ (nat_lt place PLACES) (record { file = tt; buffer = tt; op = refl; filled = λ bytes new w. tt; opens = λ v w reply bytes called form. tt })
-  suits (DoMakeDir path) is at = record { file = tt; buffer = tt; op = refl; filled = λ bytes new w. tt; opens = λ v w reply bytes called form. tt }
-  suits (DoRemoveDir path) is at = record { file = tt; buffer = tt; op = refl; filled = λ bytes new w. tt; opens = λ v w reply bytes called form. tt }
-  suits (DoWrite path value) is at = record { file = tt; buffer = tt; op = refl; filled = λ bytes new w. tt; opens = λ v w reply bytes called form. tt }
-  suits (DoRead path) is at = record { file = tt; buffer = tt; op = refl; filled = λ bytes new w. tt; opens = λ v w reply bytes called form. tt }
+  suits (DoProbe label lines) is at = chosen (DoProbe label lines) _ _ _ (has_lines lines) (record { file = tt; buffer = tt; op = refl; filled = λ bytes new w. tt; opens = λ v w reply bytes called form. tt; named = λ row answered at gives. tt })
+  suits (DoUnplug place) is at = chosen (DoUnplug place) _ _ _ (nat_lt place PLACES) (record { file = tt; buffer = tt; op = refl; filled = λ bytes new w. tt; opens = λ v w reply bytes called form. tt; named = λ row answered at gives. tt })
+  suits (DoMakeDir path) is at = record { file = tt; buffer = tt; op = refl; filled = λ bytes new w. tt; opens = λ v w reply bytes called form. tt; named = λ row answered at gives. tt }
+  suits (DoRemoveDir path) is at = record { file = tt; buffer = tt; op = refl; filled = λ bytes new w. tt; opens = λ v w reply bytes called form. tt; named = λ row answered at gives. tt }
+  suits (DoWrite path value) is at = record { file = tt; buffer = tt; op = refl; filled = λ bytes new w. tt; opens = λ v w reply bytes called form. tt; named = λ row answered at gives. tt }
+  suits (DoRead path) is at = record { file = tt; buffer = tt; op = refl; filled = λ bytes new w. tt; opens = λ v w reply bytes called form. tt; named = λ row answered at gives. tt }
   suits (DoLive device up) is at = live_suits device up (kind_of row)
-  suits (DoTick mono real) is at = record { file = tt; buffer = tt; op = refl; filled = λ bytes new w. tt; opens = λ v w reply bytes called form. tt }
-  suits (DoPin place what) is at = chosen (DoPin place what) _ _ _ (nat_lt place PLACES) (record { file = tt; buffer = tt; op = refl; filled = λ bytes new w. tt; opens = λ v w reply bytes called form. tt })
-  suits (DoIrq place offset what) is at = chosen (DoIrq place offset what) _ _ _ (nat_lt place PLACES) (record { file = tt; buffer = tt; op = refl; filled = λ bytes new w. tt; opens = λ v w reply bytes called form. tt })
-  suits (DoPull place offset up) is at = chosen (DoPull place offset up) _ _ _ (nat_lt place PLACES) (record { file = tt; buffer = tt; op = refl; filled = λ bytes new w. tt; opens = λ v w reply bytes called form. tt })
-  suits (DoLevel place offset pull) is at = chosen (DoLevel place offset pull) _ _ _ (nat_lt place PLACES) (record { file = tt; buffer = tt; op = refl; filled = λ bytes new w. tt; opens = λ v w reply bytes called form. tt })
+  suits (DoTick mono real) is at = record { file = tt; buffer = tt; op = refl; filled = λ bytes new w. tt; opens = λ v w reply bytes called form. tt; named = λ row answered at gives. tt }
+  suits (DoPin place what) is at = chosen (DoPin place what) _ _ _ (nat_lt place PLACES) (record { file = tt; buffer = tt; op = refl; filled = λ bytes new w. tt; opens = λ v w reply bytes called form. tt; named = λ row answered at gives. tt })
+  suits (DoIrq place offset what) is at = chosen (DoIrq place offset what) _ _ _ (nat_lt place PLACES) (record { file = tt; buffer = tt; op = refl; filled = λ bytes new w. tt; opens = λ v w reply bytes called form. tt; named = λ row answered at gives. tt })
+  suits (DoPull place offset up) is at = chosen (DoPull place offset up) _ _ _ (nat_lt place PLACES) (record { file = tt; buffer = tt; op = refl; filled = λ bytes new w. tt; opens = λ v w reply bytes called form. tt; named = λ row answered at gives. tt })
+  suits (DoLevel place offset pull) is at = chosen (DoLevel place offset pull) _ _ _ (nat_lt place PLACES) (record { file = tt; buffer = tt; op = refl; filled = λ bytes new w. tt; opens = λ v w reply bytes called form. tt; named = λ row answered at gives. tt })
   suits (DoOpenChip slot word) is at = open_suits slot word
   suits (DoFind slot name) is at = find_suits slot name (kind_of row) files
   suits (DoIoctl slot cmd len bytes made) is at = command_on slot cmd len made bytes row (file_in slot files) is at

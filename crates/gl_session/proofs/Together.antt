@@ -1,5 +1,5 @@
 -- Actors at work together make fewer entries than their session costs, while one of them has a call before it.
-use Rattle.std.proofs.Common.{◌≡◌, ℕ, zero, suc, ◌+◌, ◌-◌, ◌<◌, ◌≤◌, Bool, List, [], ◌∷◌, length, get_or, Option, sym, ap, ◌∙◌, subst, arith}
+use Rattle.std.proofs.Common.{◌≡◌, ℕ, zero, suc, ◌+◌, ◌-◌, ◌<◌, ◌≤◌, List, [], ◌∷◌, length, get_or, Option, sym, ap, ◌∙◌, subst, arith}
 use Rattle.std.specs.Prelude.{sum_by}
 use Rattle.std.proofs.lemmas.List.Sums.{sum_by-cons}
 use Rattle.gl_base.specs.Words.{Span}
@@ -15,6 +15,7 @@ use Rattle.gl_talk.specs.Talk.{quits, talks}
 use Rattle.gl_talk.proofs.StatementCosts.{end_cost, says_cost}
 use Rattle.gl_driver.specs.Told.{Told}
 use Rattle.gl_core.specs.Device.{OneDeed, OneEntry, core}
+use Rattle.gl_check.specs.Drivers.{DriverKind}
 use Rattle.gl_check.specs.Programs.{setup_of}
 use Rattle.gl_check.specs.Many.{actor_sections, no_section, program_of, words_of}
 use Rattle.gl_check.specs.Turns.{Turn, carried, did_by}
@@ -54,26 +55,26 @@ count_below cost history n (section ∷ sections) h (suc m) less fewer =
     m (omega arith) (subst (λ k. length (entries_of k history) < cost (get_or sections m no_section)) s fewer) in
     let whole = sum_by-cons cost section sections in omega arith
 
-module _ (is_planned : Bool) (before : ℕ → Option Told) (sections : List SaidSection) (history : List OneEntry) (w : AtWork is_planned before sections history) where
+module _ (driver : DriverKind) (before : ℕ → Option Told) (sections : List SaidSection) (history : List OneEntry) (w : AtWork driver before sections history) where
   one_within : (i : ℕ) → i < length (actor_sections sections) → length (entries_of (1 + i) history) ≤ section_costs (section_at sections i)
   one_within i less =
-      let a : SoFar is_planned before sections history (suc i) = w.actors (suc i) (omega arith) (omega arith) in
-      let within = entries_within_cost is_planned (suc i) (section_costs (section_at sections i)) (program_of sections (suc i)) (carried [] (before (suc i))) a.turns a.rest a.behind (costs sections i) a.come.follows in
+      let a : SoFar driver before sections history (suc i) = w.actors (suc i) (omega arith) (omega arith) in
+      let within = entries_within_cost driver (suc i) (section_costs (section_at sections i)) (program_of sections (suc i)) (carried [] (before (suc i))) a.turns a.rest a.behind (costs sections i) a.come.follows in
       let many = made (suc i) history a.turns a.come.did in
       let n : 1 + i ≡ suc i = omega arith in let same : length (entries_of (1 + i) history) ≡ length (entries_of (suc i) history) = ap (λ k. length (entries_of k history)) n in omega (arith, within.2)
 
-  one_below : (i : ℕ) → BeforeCall is_planned before sections history (suc i) → length (entries_of (1 + i) history) < section_costs (section_at sections i)
+  one_below : (i : ℕ) → BeforeCall driver before sections history (suc i) → length (entries_of (1 + i) history) < section_costs (section_at sections i)
   one_below i b =
-      let below = calls_come_below_cost is_planned (suc i) (section_costs (section_at sections i)) (program_of sections (suc i)) (carried [] (before (suc i))) b.turns b.what b.later b.behind b.call (costs sections i) b.come.follows b.calls in
+      let below = calls_come_below_cost driver (suc i) (section_costs (section_at sections i)) (program_of sections (suc i)) (carried [] (before (suc i))) b.turns b.what b.later b.behind b.call (costs sections i) b.come.follows b.calls in
       let many = made (suc i) history b.turns b.come.did in
       let n : 1 + i ≡ suc i = omega arith in let same : length (entries_of (1 + i) history) ≡ length (entries_of (suc i) history) = ap (λ k. length (entries_of k history)) n in omega arith
 
-pub actors_at_work_have_room : ActorsAtWorkHaveRoom
-actors_at_work_have_room is_planned before sections history w zero positive low b = absurd (omega arith)
-actors_at_work_have_room is_planned before sections history w (suc m) positive low b =
+pub actors_at_work_have_room : (driver : DriverKind) → ActorsAtWorkHaveRoom driver
+actors_at_work_have_room driver before sections history w zero positive low b = absurd (omega arith)
+actors_at_work_have_room driver before sections history w (suc m) positive low b =
     let parts = sessions_cost_their_parts sections in let whole = parts.whole in
-    let first = played_within is_planned 0 (cost_in_kind Setup sections) (setup_of sections) (carried [] (before 0)) w.setup.behind w.setup.text w.setup.did w.setup.names (entries_of 0 history) parts.setup w.setup.played
+    let first = played_within driver 0 (cost_in_kind Setup sections) (setup_of sections) (carried [] (before 0)) w.setup.behind w.setup.text w.setup.did w.setup.names (entries_of 0 history) parts.setup w.setup.played
     (ap (λ (l : List OneDeed). entries_in l) (sym w.first) ∙ deeds_entries core core.opening 0 history) in
-    let middle = count_below section_costs history 1 (actor_sections sections) (λ i less. one_within is_planned before sections history w i less) m (omega arith) (one_below is_planned before sections history w m b) in
+    let middle = count_below section_costs history 1 (actor_sections sections) (λ i less. one_within driver before sections history w i less) m (omega arith) (one_below driver before sections history w m b) in
     let same = actors_cost sections in
     let all = count_all (suc (length (actor_sections sections))) history (λ n far. w.nobody_else n (omega arith)) in omega arith

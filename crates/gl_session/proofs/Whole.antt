@@ -1,5 +1,5 @@
 -- The three parts of a session make a whole, or stop with less than it costs.
-use Rattle.std.proofs.Common.{◌≡◌, ℕ, ◌≤◌, Bool, List, [], ◌++◌, length, Option, refl, sym, ap, ◌∙◌, subst, arith}
+use Rattle.std.proofs.Common.{◌≡◌, ℕ, ◌≤◌, List, [], ◌++◌, length, Option, refl, sym, ap, ◌∙◌, subst, arith}
 use Rattle.std.proofs.lemmas.List.{append-nil}
 use Rattle.gl_world.specs.Deeds.{entries_in}
 use Rattle.gl_world.specs.History.{Legal, StartsWith, entries_of}
@@ -18,6 +18,7 @@ use Rattle.gl_driver.specs.declared.map.Map.{Map}
 use Rattle.gl_chip.specs.Values.{IsQuietDriver, MayOwn, OneView, OwnRelation}
 use Rattle.gl_core.specs.Device.{OneDeed, OneEntry, core, tells_in}
 use Rattle.gl_session.specs.Alone.{Part, PlayedSession}
+use Rattle.gl_check.specs.Drivers.{DriverKind}
 use Rattle.gl_check.specs.Programs.{actor_of, after_of, setup_of}
 use Rattle.gl_asking.specs.declared.kinds.Asking.{Asking}
 use Rattle.gl_asking.specs.declared.kinds.Asking.TheVariants.{Calls, Plans, Accepts, Refuses}
@@ -43,78 +44,78 @@ call_of (Plans nth) is = absurd is
 call_of (Accepts bits) is = absurd is
 call_of (Refuses errno) is = absurd is
 
-module _ (is_planned : Bool) where
+module _ (driver : DriverKind) where
   abbrev as_part : (program : Program Names) (v w : OneView) (files : List OpenFile) (told : Option Told) (t0 t1 : List ℕ) (names : Names) (r : Carried) → v.number ≡ 0
-      → PlaysOn is_planned program v (carried files told) t0 (done names) w r t1 → Part is_planned program files told
+      → PlaysOn driver program v (carried files told) t0 (done names) w r t1 → Part driver program files told
   as_part program v w files told t0 t1 names r zero p = record {
     text = said_by p.turns;
     did = did_by p.turns;
     names = names;
     behind = r;
-    played = record { turns = p.turns; follows = number_same is_planned program (carried files told) p.turns (done names) r 0 v.number zero p.follows; text_is = refl; did_is = refl };
+    played = record { turns = p.turns; follows = number_same driver program (carried files told) p.turns (done names) r 0 v.number zero p.follows; text_is = refl; did_is = refl };
   }
 
-  abbrev as_stop : (program : Program Names) (v w : OneView) (files : List OpenFile) (told : Option Told) → v.number ≡ 0 → StoppedFull is_planned program v (carried files told) w → Stop is_planned program files told
+  abbrev as_stop : (program : Program Names) (v w : OneView) (files : List OpenFile) (told : Option Told) → v.number ≡ 0 → StoppedFull driver program v (carried files told) w → Stop driver program files told
   as_stop program v w files told zero s = let call = call_of (asking s.then.files s.what) s.full.0 in record {
     turns = s.turns;
     what = s.what;
     later = s.rest;
     behind = s.then;
     call = call.0;
-    follows = number_same is_planned program (carried files told) s.turns (ask s.what s.rest) s.then 0 v.number zero s.follows;
+    follows = number_same driver program (carried files told) s.turns (ask s.what s.rest) s.then 0 v.number zero s.follows;
     calls = call.1;
   }
 
-module _ (is_planned : Bool) (sections : List SaidSection) (v w : OneView) (told : Option Told) (zero : v.number ≡ 0) where
-  pub stops_in_setup : StoppedFull is_planned (setup_of sections) v (carried [] told) w → StoppedBelow (session_cost sections) v w
+module _ (driver : DriverKind) (sections : List SaidSection) (v w : OneView) (told : Option Told) (zero : v.number ≡ 0) where
+  pub stops_in_setup : StoppedFull driver (setup_of sections) v (carried [] told) w → StoppedBelow (session_cost sections) v w
   stops_in_setup s = record {
     did = did_by s.turns;
     view = s.view;
     grew = s.grew;
     full = s.full.1;
-    few = calls_have_room.in_setup is_planned sections told (as_stop is_planned (setup_of sections) v w [] told zero s);
+    few = (calls_have_room driver).in_setup sections told (as_stop driver (setup_of sections) v w [] told zero s);
   }
 
-module _ (is_planned : Bool) (sections : List SaidSection) (v w : OneView) (told : Option Told) (zero : v.number ≡ 0) (t0 t1 : List ℕ) (names : Names) (r : Carried) (setup : PlaysOn is_planned (setup_of sections) v (carried [] told) t0 (done names) w r t1) where
-  abbrev setup_part : Part is_planned (setup_of sections) [] told
-  setup_part = as_part is_planned (setup_of sections) v w [] told t0 t1 names r zero setup
+module _ (driver : DriverKind) (sections : List SaidSection) (v w : OneView) (told : Option Told) (zero : v.number ≡ 0) (t0 t1 : List ℕ) (names : Names) (r : Carried) (setup : PlaysOn driver (setup_of sections) v (carried [] told) t0 (done names) w r t1) where
+  abbrev setup_part : Part driver (setup_of sections) [] told
+  setup_part = as_part driver (setup_of sections) v w [] told t0 t1 names r zero setup
 
   zero_then : w.number ≡ 0
   zero_then = setup.grew.number ∙ zero
 
-  pub stops_in_actor : (u : OneView) → StoppedFull is_planned (actor_of sections) w (carried [] r.told) u → StoppedBelow (session_cost sections) v u
+  pub stops_in_actor : (u : OneView) → StoppedFull driver (actor_of sections) w (carried [] r.told) u → StoppedBelow (session_cost sections) v u
   stops_in_actor u s = record {
     did = did_by setup.turns ++ did_by s.turns;
     view = s.view;
     grew = grows_on core v w s.view (did_by setup.turns) (did_by s.turns) setup.grew s.grew;
     full = s.full.1;
-    few = calls_have_room.in_actor is_planned sections told setup_part (as_stop is_planned (actor_of sections) w u [] r.told zero_then s);
+    few = (calls_have_room driver).in_actor sections told setup_part (as_stop driver (actor_of sections) w u [] r.told zero_then s);
   }
 
-  module _ (u : OneView) (t2 : List ℕ) (own_names : Names) (own : Carried) (actor : PlaysOn is_planned (actor_of sections) w (carried [] r.told) t1 (done own_names) u own t2) where
-    abbrev actor_part : Part is_planned (actor_of sections) [] r.told
-    actor_part = as_part is_planned (actor_of sections) w u [] r.told t1 t2 own_names own zero_then actor
+  module _ (u : OneView) (t2 : List ℕ) (own_names : Names) (own : Carried) (actor : PlaysOn driver (actor_of sections) w (carried [] r.told) t1 (done own_names) u own t2) where
+    abbrev actor_part : Part driver (actor_of sections) [] r.told
+    actor_part = as_part driver (actor_of sections) w u [] r.told t1 t2 own_names own zero_then actor
 
     zero_last : u.number ≡ 0
     zero_last = actor.grew.number ∙ zero_then
 
-    pub stops_in_after : (x : OneView) → StoppedFull is_planned (after_of sections names) u (carried r.files own.told) x → StoppedBelow (session_cost sections) v x
+    pub stops_in_after : (x : OneView) → StoppedFull driver (after_of sections names) u (carried r.files own.told) x → StoppedBelow (session_cost sections) v x
     stops_in_after x s = record {
       did = did_by setup.turns ++ (did_by actor.turns ++ did_by s.turns);
       view = s.view;
       grew = grows_on core v w s.view (did_by setup.turns) (did_by actor.turns ++ did_by s.turns) setup.grew (grows_on core w u s.view (did_by actor.turns) (did_by s.turns) actor.grew s.grew);
       full = s.full.1;
-      few = calls_have_room.in_after is_planned sections told setup_part actor_part (as_stop is_planned (after_of sections names) u x r.files own.told zero_last s);
+      few = (calls_have_room driver).in_after sections told setup_part actor_part (as_stop driver (after_of sections names) u x r.files own.told zero_last s);
     }
 
-    pub has_played : (x : OneView) (t3 : List ℕ) (last_names : Names) (last : Carried) → t0 ≡ [] → PlaysOn is_planned (after_of sections names) u (carried r.files own.told) t2 (done last_names) x last t3
-        → HasPlayed is_planned sections told t3 last.told v x
+    pub has_played : (x : OneView) (t3 : List ℕ) (last_names : Names) (last : Carried) → t0 ≡ [] → PlaysOn driver (after_of sections names) u (carried r.files own.told) t2 (done last_names) x last t3
+        → HasPlayed driver sections told t3 last.told v x
     has_played x t3 last_names last empty after = (
       did_by setup.turns ++ (did_by actor.turns ++ did_by after.turns),
       record {
         setup = setup_part;
         actor = actor_part;
-        last = as_part is_planned (after_of sections names) u x r.files own.told t2 t3 last_names last zero_last after;
+        last = as_part driver (after_of sections names) u x r.files own.told t2 t3 last_names last zero_last after;
         text_is = after.text_is ∙ ap (λ l. l ++ said_by after.turns) (actor.text_is ∙ ap (λ l. l ++ said_by actor.turns) (setup.text_is ∙ ap (λ l. l ++ said_by setup.turns) empty));
         did_is = refl;
         left_is = refl;
@@ -131,21 +132,21 @@ never_full limit v w new strangers s =
     let count : length w.seen ≡ length s.did = ap (λ (l : List OneEntry). length l) seen ∙ length_entries (s.did ++ []) ∙ ap (λ (l : List OneDeed). length l) (append-nil s.did) in
     let full = s.full.full in let few = s.few in omega arith
 
-pub came_with_entries : (is_planned : Bool) (sections : List SaidSection) (before left : Option Told) (text : List ℕ) (room : ℕ) (v w : OneView) (history : List OneEntry) → v ≡ newcomer 0 room [] 1 [] []
-    → HasPlayed is_planned sections before text left v w → Legal core history → StartsWith history w.seen → entries_of 0 history ≡ w.mine → ((n : ℕ) → w.made ≤ n → entries_of n history ≡ [])
-    → CameWithEntries is_planned sections before text left (length history)
-came_with_entries is_planned sections before left text room v w history new (did, played, grew) legal begins mine others =
+pub came_with_entries : (driver : DriverKind) (sections : List SaidSection) (before left : Option Told) (text : List ℕ) (room : ℕ) (v w : OneView) (history : List OneEntry) → v ≡ newcomer 0 room [] 1 [] []
+    → HasPlayed driver sections before text left v w → Legal core history → StartsWith history w.seen → entries_of 0 history ≡ w.mine → ((n : ℕ) → w.made ≤ n → entries_of n history ≡ [])
+    → CameWithEntries driver sections before text left (length history)
+came_with_entries driver sections before left text room v w history new (did, played, grew) legal begins mine others =
     let alone = first_actor_is_alone room v w did history new grew legal begins mine others in
-    let prints = prints_one is_planned sections before left text did history played alone in record {
+    let prints = prints_one driver sections before left text did history played alone in record {
       came = record {
         answers = tells_in history;
         prints = prints.0;
         takes = prints.1;
-        within = (let fits = sessions_keep_within_cost is_planned sections before left text did played in
+        within = (let fits = sessions_keep_within_cost driver sections before left text did played in
             let count : length history ≡ length did = ap (λ (l : List OneEntry). length l) alone.entries ∙ length_entries did in let makes = prints.2 in omega arith);
-        as_planned = λ yes t is. answers_as_planned sections t left text did history (subst (λ (x : Bool × Option Told). PlayedSession x.0 sections x.1 text did left) (λ i. (yes i, is i)) played) alone;
-        port = port_tells.whole is_planned sections before left text did history played alone;
-        tells = λ t is. port_tells.answers is_planned sections t left text did history (subst (λ (o : Option Told). PlayedSession is_planned sections o text did left) is played) alone;
+        as_planned = λ yes t is. answers_as_planned driver yes sections t left text did history (subst (λ (o : Option Told). PlayedSession driver sections o text did left) is played) alone;
+        port = (port_tells driver).whole sections before left text did history played alone;
+        tells = λ t is. (port_tells driver).answers sections t left text did history (subst (λ (o : Option Told). PlayedSession driver sections o text did left) is played) alone;
       };
       makes = sym prints.2;
     }

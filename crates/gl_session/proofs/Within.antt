@@ -44,6 +44,7 @@ use Rattle.gl_talk.proofs.StatementCosts.{end_cost, says_cost}
 use Rattle.gl_asking.specs.Opened.{ChipFile, opened_of}
 use Rattle.gl_core.specs.Device.{OneDeed, OneEntry}
 use Rattle.gl_session.specs.Alone.{Part}
+use Rattle.gl_check.specs.Drivers.{DriverKind}
 use Rattle.gl_check.specs.Programs.{actor_of, after_of, setup_of}
 use Rattle.gl_asking.specs.declared.kinds.Asking.{Asking}
 use Rattle.gl_asking.specs.declared.kinds.Asking.TheVariants.{Calls, Plans, Accepts, Refuses}
@@ -52,6 +53,7 @@ use Rattle.gl_asking.specs.Driving.{op_asked}
 use Rattle.gl_asking.specs.Files.{OpenFile, chip_file, file_in, is_in, line_file, without_file}
 use Rattle.gl_check.specs.One.{is_kind, said_in_kind}
 use Rattle.gl_check.specs.Turns.{Carried, Did, Exchange, Follows, IsDone, Said, Turn, did_by}
+use Rattle.gl_check.proofs.Asked.{unmapped}
 use Rattle.gl_session.specs.Within.{CallsComeBelowCost, CallsHaveRoom, EntriesWithinCost, SessionsCostTheirParts, SessionsKeepWithinCost, Stop, cost_in_kind}
 use Rattle.gl_session.proofs.OneHistories.{length_entries}
 
@@ -225,22 +227,22 @@ closes_one test (y ∷ ys) x is = by (test y) is (λ found. closes_one test ys x
     by true found later = omega arith
     by false found later = let rest = later found in omega arith
 
-module _ (is_planned : Bool) (actor : ℕ) where
-  asked_most : (a : Asking) (op : Option Op) (k : ℕ) (e : Exchange) (before after : Option Told) → MostOf k a → IsDone is_planned actor a op e before after → length e.did ≤ k
-  asked_most (Calls call) op k e before after most is = let made = call_entered actor (guard_of call) e.closed call e.answer (entries_in e.did) is.makes.1 in let same = length_entries e.did in omega arith
+module _ (driver : DriverKind) (actor : ℕ) where
+  asked_most : (a : Asking) (op : Option Op) (k : ℕ) (e : Exchange) (before after : Option Told) → MostOf k a → IsDone driver actor a op e before after → length e.did ≤ k
+  asked_most (Calls call) op k e before after most is = let made = call_entered actor (guard_of call) e.closed call e.answer (entries_in e.did) (unmapped driver actor op e before after call is).makes.1 in let same = length_entries e.did in omega arith
   asked_most (Plans nth) op k e before after most is = no_deeds e.did k is.0.did
   asked_most (Accepts bits) op k e before after most is = no_deeds e.did k is.0.did
   asked_most (Refuses errno) op k e before after most is = no_deeds e.did k is.0.did
 
   -- the entries of an operation and the files after it come to what it costs and the files before it
-  op_within : (files : List OpenFile) (what : Do) (e : Exchange) (before after : Option Told) → IsDone is_planned actor (asking files what) (op_asked files what) e before after
+  op_within : (files : List OpenFile) (what : Do) (e : Exchange) (before after : Option Told) → IsDone driver actor (asking files what) (op_asked files what) e before after
       → length e.did + length (files_behind what e.reply files) ≤ entries_of what + length files
   op_within files what e before after is = by what (asked_most (asking files what) (op_asked files what) (entries_made what) e before after (op_most files what) is) is
     where
       did : ℕ
       did = length e.did
 
-      by : (what : Do) → length e.did ≤ entries_made what → IsDone is_planned actor (asking files what) (op_asked files what) e before after → length e.did + length (files_behind what e.reply files) ≤ entries_of what + length files
+      by : (what : Do) → length e.did ≤ entries_made what → IsDone driver actor (asking files what) (op_asked files what) e before after → length e.did + length (files_behind what e.reply files) ≤ entries_of what + length files
       by (DoProbe label lines) most is = omega arith
       by (DoUnplug place) most is = omega arith
       by (DoMakeDir path) most is = omega arith
@@ -263,15 +265,15 @@ module _ (is_planned : Bool) (actor : ℕ) where
       by (Poll slot) most is = omega arith
       by (DoClose slot) most is = closes (file_in slot files) refl is
         where
-          closes : (file : Option OpenFile) → file_in slot files ≡ file → IsDone is_planned actor (asking files (DoClose slot)) None e before after → length e.did + length (without_file slot files) ≤ 0 + length files
+          closes : (file : Option OpenFile) → file_in slot files ≡ file → IsDone driver actor (asking files (DoClose slot)) None e before after → length e.did + length (without_file slot files) ≤ 0 + length files
           closes None none is = let fewer = length-without_first-le (is_in slot) files in
-              let no_deed = no_deeds e.did 0 (subst (λ (f : Option OpenFile). IsDone is_planned actor (on_file f (λ file. once (Close file.fd))) None e before after) none is).0.did in omega arith
+              let no_deed = no_deeds e.did 0 (subst (λ (f : Option OpenFile). IsDone driver actor (on_file f (λ file. once (Close file.fd))) None e before after) none is).0.did in omega arith
           closes (Some file) found is = let fewer = closes_one (is_in slot) files file found in omega arith
       by (Plan nth) most is = omega arith
       by (Accept bits) most is = omega arith
 
   -- turns one after another
-  within : (turns : List Turn) (n : ℕ) (program : Program Names) (s : Carried) (rest : Program Names) (r : Carried) → CostsAtMost n program → Follows is_planned actor program s turns rest r
+  within : (turns : List Turn) (n : ℕ) (program : Program Names) (s : Carried) (rest : Program Names) (r : Carried) → CostsAtMost n program → Follows driver actor program s turns rest r
       → (left : ℕ) × CostsAtMost left rest × (length (did_by turns) + length r.files + left ≤ n + length s.files)
   within [] n program s rest r costs (is, same) = let files : length s.files ≡ length r.files = ap (λ (c : Carried). length c.files) same in (n, subst (λ (p : Program Names). CostsAtMost n p) is costs, omega arith)
   within (Said text ∷ turns) n program s rest r costs (q, mid, (is, same), follows) =
@@ -284,14 +286,14 @@ module _ (is_planned : Bool) (actor : ℕ) where
       let files : length mid.files ≡ length (files_behind e.what e.reply s.files) = ap (λ (l : List OpenFile). length l) carries.files in
       let all : length (e.did ++ did_by turns) ≡ length e.did + length (did_by turns) = length-append e.did (did_by turns) in (on.0, on.1, omega (arith, on.2, k.0))
 
-  part_within : (program : Program Names) (files : List OpenFile) (told : Option Told) (part : Part is_planned program files told) (n : ℕ) → actor ≡ 0 → CostsAtMost n program
+  part_within : (program : Program Names) (files : List OpenFile) (told : Option Told) (part : Part driver program files told) (n : ℕ) → actor ≡ 0 → CostsAtMost n program
       → length part.did + length part.behind.files ≤ n + length files
   part_within program files told part n first costs =
-      let w = within part.played.turns n program (record { files = files; told = told }) (done part.names) part.behind costs (subst (λ k. Follows is_planned k program (record { files = files; told = told }) part.played.turns (done part.names) part.behind) (sym first) part.played.follows) in
+      let w = within part.played.turns n program (record { files = files; told = told }) (done part.names) part.behind costs (subst (λ k. Follows driver k program (record { files = files; told = told }) part.played.turns (done part.names) part.behind) (sym first) part.played.follows) in
       let same : length part.did ≡ length (did_by part.played.turns) = ap (λ (l : List OneDeed). length l) part.played.did_is in omega (arith, w.2)
 
-pub entries_within_cost : EntriesWithinCost
-entries_within_cost is_planned actor n program s turns rest r costs follows = within is_planned actor turns n program s rest r costs follows
+pub entries_within_cost : (driver : DriverKind) → EntriesWithinCost driver
+entries_within_cost driver actor n program s turns rest r costs follows = within driver actor turns n program s rest r costs follows
 
 least_costs : (a b c d : Bool) → 1 ≤ (if a then 3 else if b then 2 else if c then 2 else if d then 2 else 1)
 least_costs true b c d = omega arith
@@ -333,9 +335,9 @@ call_costs files (DoClose slot) call is = by (file_in slot files) refl
 call_costs files (Plan nth) call is = absurd (true≢false (sym (ap is_call is)))
 call_costs files (Accept bits) call is = absurd (true≢false (sym (ap is_call is)))
 
-pub calls_come_below_cost : CallsComeBelowCost
-calls_come_below_cost is_planned actor n program s turns what later r call costs follows is =
-    let w = within is_planned actor turns n program s (ask what later) r costs follows in let next = call_costs r.files what call is in omega (arith, w.2, w.1.0)
+pub calls_come_below_cost : (driver : DriverKind) → CallsComeBelowCost driver
+calls_come_below_cost driver actor n program s turns what later r call costs follows is =
+    let w = within driver actor turns n program s (ask what later) r costs follows in let next = call_costs r.files what call is in omega (arith, w.2, w.1.0)
 
 -- The cost of a session's parts
 
@@ -372,29 +374,29 @@ sessions_cost_their_parts sections = record {
   whole = kinds_cost sections;
 }
 
-pub sessions_keep_within_cost : SessionsKeepWithinCost
-sessions_keep_within_cost is_planned sections before left text did p = let costs = sessions_cost_their_parts sections in
-    let first = part_within is_planned 0 _ [] before p.setup (cost_in_kind Setup sections) refl costs.setup in
-    let middle = part_within is_planned 0 _ [] p.setup.behind.told p.actor (cost_in_kind Actor sections) refl costs.actor in
-    let end = part_within is_planned 0 _ p.setup.behind.files p.actor.behind.told p.last (cost_in_kind After sections) refl (costs.last p.setup.names) in
+pub sessions_keep_within_cost : (driver : DriverKind) → SessionsKeepWithinCost driver
+sessions_keep_within_cost driver sections before left text did p = let costs = sessions_cost_their_parts sections in
+    let first = part_within driver 0 _ [] before p.setup (cost_in_kind Setup sections) refl costs.setup in
+    let middle = part_within driver 0 _ [] p.setup.behind.told p.actor (cost_in_kind Actor sections) refl costs.actor in
+    let end = part_within driver 0 _ p.setup.behind.files p.actor.behind.told p.last (cost_in_kind After sections) refl (costs.last p.setup.names) in
     let all : length did ≡ length (p.setup.did ++ (p.actor.did ++ p.last.did)) = ap (λ (l : List OneDeed). length l) p.did_is in
     let outer = length-append p.setup.did (p.actor.did ++ p.last.did) in let inner = length-append p.actor.did p.last.did in let whole = costs.whole in omega arith
 
-stop_below : (is_planned : Bool) (program : Program Names) (files : List OpenFile) (told : Option Told) (stop : Stop is_planned program files told) (n : ℕ) → CostsAtMost n program
+stop_below : (driver : DriverKind) (program : Program Names) (files : List OpenFile) (told : Option Told) (stop : Stop driver program files told) (n : ℕ) → CostsAtMost n program
     → length (did_by stop.turns) < n + length files
-stop_below is_planned program files told stop n costs = calls_come_below_cost is_planned 0 n program (record { files = files; told = told }) stop.turns stop.what stop.later stop.behind stop.call costs stop.follows stop.calls
+stop_below driver program files told stop n costs = calls_come_below_cost driver 0 n program (record { files = files; told = told }) stop.turns stop.what stop.later stop.behind stop.call costs stop.follows stop.calls
 
-pub calls_have_room : CallsHaveRoom
-calls_have_room = record {
-  in_setup = λ is_planned sections before stop. let costs = sessions_cost_their_parts sections in let whole = costs.whole in
-      let below = stop_below is_planned (setup_of sections) [] before stop (cost_in_kind Setup sections) costs.setup in omega arith;
-  in_actor = λ is_planned sections before setup stop. let costs = sessions_cost_their_parts sections in let whole = costs.whole in
-      let first = part_within is_planned 0 (setup_of sections) [] before setup (cost_in_kind Setup sections) refl costs.setup in
-      let below = stop_below is_planned (actor_of sections) [] setup.behind.told stop (cost_in_kind Actor sections) costs.actor in
+pub calls_have_room : (driver : DriverKind) → CallsHaveRoom driver
+calls_have_room driver = record {
+  in_setup = λ sections before stop. let costs = sessions_cost_their_parts sections in let whole = costs.whole in
+      let below = stop_below driver (setup_of sections) [] before stop (cost_in_kind Setup sections) costs.setup in omega arith;
+  in_actor = λ sections before setup stop. let costs = sessions_cost_their_parts sections in let whole = costs.whole in
+      let first = part_within driver 0 (setup_of sections) [] before setup (cost_in_kind Setup sections) refl costs.setup in
+      let below = stop_below driver (actor_of sections) [] setup.behind.told stop (cost_in_kind Actor sections) costs.actor in
       let all = length-append setup.did (did_by stop.turns) in omega arith;
-  in_after = λ is_planned sections before setup actor stop. let costs = sessions_cost_their_parts sections in let whole = costs.whole in
-      let first = part_within is_planned 0 (setup_of sections) [] before setup (cost_in_kind Setup sections) refl costs.setup in
-      let middle = part_within is_planned 0 (actor_of sections) [] setup.behind.told actor (cost_in_kind Actor sections) refl costs.actor in
-      let below = stop_below is_planned (after_of sections setup.names) setup.behind.files actor.behind.told stop (cost_in_kind After sections) (costs.last setup.names) in
+  in_after = λ sections before setup actor stop. let costs = sessions_cost_their_parts sections in let whole = costs.whole in
+      let first = part_within driver 0 (setup_of sections) [] before setup (cost_in_kind Setup sections) refl costs.setup in
+      let middle = part_within driver 0 (actor_of sections) [] setup.behind.told actor (cost_in_kind Actor sections) refl costs.actor in
+      let below = stop_below driver (after_of sections setup.names) setup.behind.files actor.behind.told stop (cost_in_kind After sections) (costs.last setup.names) in
       let outer = length-append setup.did (actor.did ++ did_by stop.turns) in let inner = length-append actor.did (did_by stop.turns) in omega arith;
 }

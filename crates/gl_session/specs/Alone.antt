@@ -1,6 +1,6 @@
 -- A session of one actor as it was carried out on the device, and what follows of it: its text is One of the answers that the
 -- driver gave. This project's choice.
-use Rattle.std.specs.Prelude.{◌≡◌, ℕ, ◌≤◌, Bool, true, List, [], ◌++◌, length, Option, Some}
+use Rattle.std.specs.Prelude.{◌≡◌, ℕ, ◌≤◌, true, List, [], ◌++◌, length, Option, Some}
 use Rattle.gl_world.specs.Deeds.{deeds_of, entries_in}
 use Rattle.gl_world.specs.History.{Legal, StartsWith, entries_of}
 use Rattle.gl_rule.specs.Turn.{NoStrangers}
@@ -12,6 +12,7 @@ use Rattle.gl_script.specs.Section.{SaidSection}
 use Rattle.gl_talk.specs.Open.{Names}
 use Rattle.gl_core.specs.Device.{OneDeed, OneEntry, core, tells_in}
 use Rattle.gl_chip.specs.Values.{OneView}
+use Rattle.gl_check.specs.Drivers.{DriverKind}
 use Rattle.gl_check.specs.Programs.{actor_of, after_of, setup_of}
 use Rattle.gl_check.specs.Tells.{TellsAfter}
 use Rattle.gl_check.specs.One.{entries_made, one, planned_over, taken, told_behind}
@@ -19,19 +20,19 @@ use Rattle.gl_asking.specs.Files.{OpenFile}
 use Rattle.gl_check.specs.Turns.{Carried, Played}
 
 -- a program that was carried out to its end from these open files on: what it printed, what it did, and what it left
-pub record Part (is_planned : Bool) (program : Program Names) (files : List OpenFile) (told : Option Told) : Type 0 where
+pub record Part (driver : DriverKind) (program : Program Names) (files : List OpenFile) (told : Option Told) : Type 0 where
   pub text : List ℕ
   pub did : List OneDeed
   pub names : Names
   pub behind : Carried
-  pub played : Played is_planned 0 program (record { files = files; told = told }) text did names behind
+  pub played : Played driver 0 program (record { files = files; told = told }) text did names behind
 
 -- The sections of a session, carried out by actor 0 one after another: `setup` and `after` are one talk, which waits in between
 -- with its files and names, and the actor's section is a talk of its own.
-pub record PlayedSession (is_planned : Bool) (sections : List SaidSection) (before : Option Told) (text : List ℕ) (did : List OneDeed) (left : Option Told) : Type 0 where
-  pub setup : Part is_planned (setup_of sections) [] before
-  pub actor : Part is_planned (actor_of sections) [] setup.behind.told
-  pub last : Part is_planned (after_of sections setup.names) setup.behind.files actor.behind.told
+pub record PlayedSession (driver : DriverKind) (sections : List SaidSection) (before : Option Told) (text : List ℕ) (did : List OneDeed) (left : Option Told) : Type 0 where
+  pub setup : Part driver (setup_of sections) [] before
+  pub actor : Part driver (actor_of sections) [] setup.behind.told
+  pub last : Part driver (after_of sections setup.names) setup.behind.files actor.behind.told
   pub text_is : text ≡ (setup.text ++ actor.text) ++ last.text
   pub did_is : did ≡ setup.did ++ (actor.did ++ last.did)
   pub left_is : left ≡ last.behind.told
@@ -55,20 +56,20 @@ abbrev pub FirstActorSeesItself : Type 0
 FirstActorSeesItself = (room : ℕ) (v w : OneView) (did : List OneDeed) → v ≡ newcomer 0 room [] 1 [] [] → Grew core v did w → NoStrangers w w.seen → w.seen ≡ entries_in did
 
 -- What was printed is One of the answers that the driver's tells have in order, One takes just these, and makes as many entries.
-abbrev pub PrintsOne : Type 0
-PrintsOne = (is_planned : Bool) (sections : List SaidSection) (before left : Option Told) (text : List ℕ) (did : List OneDeed) (history : List OneEntry)
-    → PlayedSession is_planned sections before text did left → IsAlone history did
+abbrev pub PrintsOne : DriverKind → Type 0
+PrintsOne driver = (sections : List SaidSection) (before left : Option Told) (text : List ℕ) (did : List OneDeed) (history : List OneEntry)
+    → PlayedSession driver sections before text did left → IsAlone history did
     → (text ≡ one sections (tells_in history)) × (taken sections (tells_in history) ≡ tells_in history) × (entries_made sections (tells_in history) ≡ length history)
 
 -- A planned driver over a port that tells answers as the port's plan and its statements say.
-abbrev pub AnswersAsPlanned : Type 0
-AnswersAsPlanned = (sections : List SaidSection) (t : Told) (left : Option Told) (text : List ℕ) (did : List OneDeed) (history : List OneEntry)
-    → PlayedSession true sections (Some t) text did left → IsAlone history did → tells_in history ≡ planned_over t sections
+abbrev pub AnswersAsPlanned : DriverKind → Type 0
+AnswersAsPlanned driver = driver.is_planned ≡ true → (sections : List SaidSection) (t : Told) (left : Option Told) (text : List ℕ) (did : List OneDeed) (history : List OneEntry)
+    → PlayedSession driver sections (Some t) text did left → IsAlone history did → tells_in history ≡ planned_over t sections
 
 -- Every driver is asked through the port: it tells in the end all that the statements and the calls make of it over the answers of the
 -- history's tells. So where it told, it tells just these answers.
-pub record PortTells : Type 0 where
-  pub whole : (is_planned : Bool) (sections : List SaidSection) (before left : Option Told) (text : List ℕ) (did : List OneDeed) (history : List OneEntry)
-      → PlayedSession is_planned sections before text did left → IsAlone history did → left ≡ told_behind sections (tells_in history) before
-  pub answers : (is_planned : Bool) (sections : List SaidSection) (t : Told) (left : Option Told) (text : List ℕ) (did : List OneDeed) (history : List OneEntry)
-      → PlayedSession is_planned sections (Some t) text did left → IsAlone history did → TellsAfter t (tells_in history) left
+pub record PortTells (driver : DriverKind) : Type 0 where
+  pub whole : (sections : List SaidSection) (before left : Option Told) (text : List ℕ) (did : List OneDeed) (history : List OneEntry)
+      → PlayedSession driver sections before text did left → IsAlone history did → left ≡ told_behind sections (tells_in history) before
+  pub answers : (sections : List SaidSection) (t : Told) (left : Option Told) (text : List ℕ) (did : List OneDeed) (history : List OneEntry)
+      → PlayedSession driver sections (Some t) text did left → IsAlone history did → TellsAfter t (tells_in history) left

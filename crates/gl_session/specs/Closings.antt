@@ -1,5 +1,5 @@
 -- Which files the end of a talk closes on the device, and in which order. This project's choice.
-use Rattle.std.specs.Prelude.{◌≡◌, ℕ, ◌-◌, Bool, nat_lt, List, [], ◌∷◌, ◌++◌, length, map, get_or, Option, None, Some}
+use Rattle.std.specs.Prelude.{◌≡◌, ℕ, ◌-◌, nat_lt, List, [], ◌∷◌, ◌++◌, length, map, get_or, Option, None, Some}
 use Rattle.gl_base.specs.Ordered.{ordered}
 use Rattle.gl_base.specs.declared.operation.Do.{Do}
 use Rattle.gl_base.specs.declared.operation.Do.TheVariants.{Close}
@@ -15,6 +15,7 @@ use Rattle.gl_core.specs.Device.{OneDeed, OneEntry, core}
 use Rattle.gl_session.specs.Alone.{IsAlone, PlayedSession}
 use Rattle.gl_asking.specs.Asking.{files_behind, got_of}
 use Rattle.gl_asking.specs.Files.{OpenFile, file_in}
+use Rattle.gl_check.specs.Drivers.{DriverKind}
 use Rattle.gl_check.specs.Many.{ActorPlayed, AllPlayed, Texts, actor_sections, no_section, words_of}
 use Rattle.gl_check.specs.One.{said_in_kind}
 use Rattle.gl_check.specs.Turns.{Carried, Did, Follows, Said, Turn, carried}
@@ -47,14 +48,14 @@ AreKept (Did e ∷ turns) = IsKept e.what (got_of e.what e.reply e.wrote) × Are
 -- The last turns of a talk, which leave the actor so: first those of its statements, then those of its end; `earlier` are the turns of the
 -- same talk before these. Where no closing among all statements of the talk was refused, the end closes just the files that are open then,
 -- each once, in the order of their numbers, and leaves none.
-pub record ClosesByNumber (is_planned : Bool) (actor : ℕ) (earlier : List Turn) (statements : Program Names) (s : Carried) (turns : List Turn) (last : Names) (r : Carried) : Type 0 where
+pub record ClosesByNumber (driver : DriverKind) (actor : ℕ) (earlier : List Turn) (statements : Program Names) (s : Carried) (turns : List Turn) (last : Names) (r : Carried) : Type 0 where
   pub begun : List Turn
   pub ending : List Turn
   pub turns_are : turns ≡ begun ++ ending
   pub names : Names
   pub between : Carried
-  pub follows : Follows is_planned actor statements s begun (done names) between
-  pub ends : Follows is_planned actor (quits names) between ending (done last) r
+  pub follows : Follows driver actor statements s begun (done names) between
+  pub ends : Follows driver actor (quits names) between ending (done last) r
   pub in_order : AreKept earlier → AreKept begun → closed_in between.files ending ≡ ordered nat_lt (numbers_of between.files)
   pub leaves_none : AreKept earlier → AreKept begun → r.files ≡ []
 
@@ -67,21 +68,21 @@ after_statements sections names = says (length (said_in_kind Setup sections)) (s
 
 -- So each actor's section ends in a legal history of several actors, and so does the talk of `setup` and `after`: of these the end
 -- closes what either left open, and it stands after `after`.
-pub record ActorsCloseByNumber : Type 0 where
-  pub sections : (is_planned : Bool) (before left : ℕ → Option Told) (sections : List SaidSection) (history : List OneEntry) → Legal core history
-      → (n : ℕ) (text : List ℕ) (actor : ActorPlayed is_planned before left sections history n text)
-      → ClosesByNumber is_planned n [] (section_statements sections n) (carried [] (before n)) actor.played.turns actor.names actor.behind
-  pub after : (is_planned : Bool) (before left : ℕ → Option Told) (sections : List SaidSection) (history : List OneEntry) (texts : Texts)
-      (all : AllPlayed is_planned before left sections history texts)
-      → ClosesByNumber is_planned 0 all.setup.turns (after_statements sections all.names) all.waiting all.after.turns all.end all.behind
+pub record ActorsCloseByNumber (driver : DriverKind) : Type 0 where
+  pub sections : (before left : ℕ → Option Told) (sections : List SaidSection) (history : List OneEntry) → Legal core history
+      → (n : ℕ) (text : List ℕ) (actor : ActorPlayed driver before left sections history n text)
+      → ClosesByNumber driver n [] (section_statements sections n) (carried [] (before n)) actor.played.turns actor.names actor.behind
+  pub after : (before left : ℕ → Option Told) (sections : List SaidSection) (history : List OneEntry) (texts : Texts)
+      (all : AllPlayed driver before left sections history texts)
+      → ClosesByNumber driver 0 all.setup.turns (after_statements sections all.names) all.waiting all.after.turns all.end all.behind
 
 -- The same of the two talks of a session of one actor: its section closes its own files alone, while those of `setup` stay open.
-pub record OneActorClosesByNumber : Type 0 where
-  pub section : (is_planned : Bool) (sections : List SaidSection) (before left : Option Told) (text : List ℕ) (did : List OneDeed) (history : List OneEntry)
-      (played : PlayedSession is_planned sections before text did left) → IsAlone history did
-      → ClosesByNumber is_planned 0 [] (says 0 (said_in_kind Actor sections) done no_names) (carried [] played.setup.behind.told)
+pub record OneActorClosesByNumber (driver : DriverKind) : Type 0 where
+  pub section : (sections : List SaidSection) (before left : Option Told) (text : List ℕ) (did : List OneDeed) (history : List OneEntry)
+      (played : PlayedSession driver sections before text did left) → IsAlone history did
+      → ClosesByNumber driver 0 [] (says 0 (said_in_kind Actor sections) done no_names) (carried [] played.setup.behind.told)
       played.actor.played.turns played.actor.names played.actor.behind
-  pub after : (is_planned : Bool) (sections : List SaidSection) (before left : Option Told) (text : List ℕ) (did : List OneDeed) (history : List OneEntry)
-      (played : PlayedSession is_planned sections before text did left) → IsAlone history did
-      → ClosesByNumber is_planned 0 played.setup.played.turns (after_statements sections played.setup.names) (carried played.setup.behind.files played.actor.behind.told)
+  pub after : (sections : List SaidSection) (before left : Option Told) (text : List ℕ) (did : List OneDeed) (history : List OneEntry)
+      (played : PlayedSession driver sections before text did left) → IsAlone history did
+      → ClosesByNumber driver 0 played.setup.played.turns (after_statements sections played.setup.names) (carried played.setup.behind.files played.actor.behind.told)
       played.last.played.turns played.last.names played.last.behind

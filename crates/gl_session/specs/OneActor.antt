@@ -1,5 +1,5 @@
 -- What comes of a session that one actor carries out on a device of its own. This project's choice.
-use Rattle.std.specs.Prelude.{◌≡◌, ◌<◌, ◌≤◌, ℕ, ◌+◌, Bool, true, if◌then◌else◌, List, [], length, map, Option, Some, None, slice_get}
+use Rattle.std.specs.Prelude.{◌≡◌, ◌<◌, ◌≤◌, ℕ, ◌+◌, true, if◌then◌else◌, List, [], length, map, Option, Some, None, slice_get}
 use Rattle.gl_base.specs.Words.{Span}
 use Rattle.gl_base.specs.declared.limits.TheConstants.{COST_MAX}
 use Rattle.gl_gate.specs.Grown.{Grew}
@@ -13,6 +13,7 @@ use Rattle.gl_chip.specs.Steps.{FoundNoRoom}
 use Rattle.gl_core.specs.Device.{OneDeed, core}
 use Rattle.gl_chip.specs.Values.{OneView}
 use Rattle.gl_session.specs.Alone.{PlayedSession}
+use Rattle.gl_check.specs.Drivers.{DriverKind}
 use Rattle.gl_check.specs.Tells.{TellsAfter}
 use Rattle.gl_check.specs.One.{entries_made, is_kind, one, planned_over, said_in_kind, taken, told_behind}
 
@@ -21,18 +22,18 @@ use Rattle.gl_check.specs.One.{entries_made, is_kind, one, planned_over, said_in
 -- say; over a new port they are Planned. The port tells all that the statements and the calls make of what it told: how many calls, the
 -- plan, the accepted bits, and the operation and the answer of the last call. So where it told, it tells as many driver calls more as there are answers, and
 -- as its last answer the last of them.
-pub record CameToOne (is_planned : Bool) (sections : List SaidSection) (before : Option Told) (text : List ℕ) (left : Option Told) : Type 0 where
+pub record CameToOne (driver : DriverKind) (sections : List SaidSection) (before : Option Told) (text : List ℕ) (left : Option Told) : Type 0 where
   pub answers : List (Option ℕ)
   pub prints : text ≡ one sections answers
   pub takes : taken sections answers ≡ answers
   pub within : entries_made sections answers ≤ session_cost sections
-  pub as_planned : is_planned ≡ true → (t : Told) → before ≡ Some t → answers ≡ planned_over t sections
+  pub as_planned : driver.is_planned ≡ true → (t : Told) → before ≡ Some t → answers ≡ planned_over t sections
   pub port : left ≡ told_behind sections answers before
   pub tells : (t : Told) → before ≡ Some t → TellsAfter t answers left
 
 -- The same, and as many entries were made as One makes over these answers.
-pub record CameWithEntries (is_planned : Bool) (sections : List SaidSection) (before : Option Told) (text : List ℕ) (left : Option Told) (entries : ℕ) : Type 0 where
-  pub came : CameToOne is_planned sections before text left
+pub record CameWithEntries (driver : DriverKind) (sections : List SaidSection) (before : Option Told) (text : List ℕ) (left : Option Told) (entries : ℕ) : Type 0 where
+  pub came : CameToOne driver sections before text left
   pub makes : entries ≡ entries_made sections came.answers
 
 -- how many statements the sections of a kind have
@@ -54,8 +55,8 @@ abbrev pub said_at : SectionKind → ℕ → List SaidSection → List (List Spa
 said_at kind i sections = said_of kind (slice_get sections i)
 
 -- all parts were carried out, and these are the deeds of the actor
-abbrev pub HasPlayed : Bool → List SaidSection → Option Told → List ℕ → Option Told → OneView → OneView → Type 0
-HasPlayed is_planned sections before text left v w = (did : List OneDeed) × PlayedSession is_planned sections before text did left × Grew core v did w
+abbrev pub HasPlayed : DriverKind → List SaidSection → Option Told → List ℕ → Option Told → OneView → OneView → Type 0
+HasPlayed driver sections before text left v w = (did : List OneDeed) × PlayedSession driver sections before text did left × Grew core v did w
 
 -- The history was full when a call was to be made, though the actor had made fewer entries than this many.
 pub record StoppedBelow (limit : ℕ) (v w : OneView) : Type 0 where

@@ -1,5 +1,5 @@
 -- One operation of a talk, carried out on the device; and a program in the midst of being carried out.
-use Rattle.std.specs.Prelude.{◌≡◌, ◌⊎◌, ℕ, Bool, List, ◌++◌, Result, Ok, Err}
+use Rattle.std.specs.Prelude.{◌≡◌, ◌⊎◌, ℕ, List, ◌++◌, Result, Ok, Err}
 use Rattle.gl_base.specs.declared.errno.Errno.{Errno}
 use Rattle.gl_base.specs.declared.errno.Errno.TheVariants.{Full, NoMemory}
 use Rattle.gl_base.specs.declared.operation.Do.{Do}
@@ -12,14 +12,15 @@ use Rattle.gl_core.specs.Device.{core}
 use Rattle.gl_asking.specs.declared.kinds.Asking.{Asking}
 use Rattle.gl_asking.specs.declared.kinds.Asking.TheVariants.{Calls, Plans, Accepts, Refuses}
 use Rattle.gl_asking.specs.Asking.{asking, got_of}
+use Rattle.gl_check.specs.Drivers.{DriverKind}
 use Rattle.gl_check.specs.Turns.{Carried, Carries, Exchange, Follows, Turn, did_by, said_by}
 
 -- An operation was carried out by the actor whose pass knew v and knows w then: it got this, and did just the deeds of the exchange.
-pub record HasPerformed (is_planned : Bool) (what : Do) (v : OneView) (s : Carried) (got : Got) (w : OneView) (r : Carried) : Type 0 where
+pub record HasPerformed (driver : DriverKind) (what : Do) (v : OneView) (s : Carried) (got : Got) (w : OneView) (r : Carried) : Type 0 where
   pub exchange : Exchange
   pub what_is : exchange.what ≡ what
   pub got_is : got ≡ got_of what exchange.reply exchange.wrote
-  pub carries : Carries is_planned v.number s exchange r
+  pub carries : Carries driver v.number s exchange r
   pub grew : Grew core v exchange.did w
 
 -- the operation is a call of the device
@@ -34,24 +35,24 @@ abbrev pub MetFull : Do → OneView → Carried → OneView → Type 0
 MetFull what v s w = IsCall (asking s.files what) × FoundNoRoom core v w
 
 -- How an operation comes out: it was carried out; or memory was wanted, or the history was full, and then it has no result.
-abbrev pub Performs : Bool → Do → Result Got Errno → OneView → Carried → OneView → Carried → Type 0
-Performs is_planned what (Ok got) v s w r = HasPerformed is_planned what v s got w r
-Performs is_planned what (Err errno) v s w r = (errno ≡ NoMemory) ⊎ ((errno ≡ Full) × MetFull what v s w)
+abbrev pub Performs : DriverKind → Do → Result Got Errno → OneView → Carried → OneView → Carried → Type 0
+Performs driver what (Ok got) v s w r = HasPerformed driver what v s got w r
+Performs driver what (Err errno) v s w r = (errno ≡ NoMemory) ⊎ ((errno ≡ Full) × MetFull what v s w)
 
 -- A program was carried out so far: what it printed and what it did, and what is left of it.
-pub record PlaysOn {A : Type 0} (is_planned : Bool) (p : Program A) (v : OneView) (s : Carried) (before : List ℕ) (q : Program A) (w : OneView) (r : Carried) (text : List ℕ) : Type 0 where
+pub record PlaysOn {A : Type 0} (driver : DriverKind) (p : Program A) (v : OneView) (s : Carried) (before : List ℕ) (q : Program A) (w : OneView) (r : Carried) (text : List ℕ) : Type 0 where
   pub turns : List Turn
-  pub follows : Follows is_planned v.number p s turns q r
+  pub follows : Follows driver v.number p s turns q r
   pub text_is : text ≡ before ++ said_by turns
   pub grew : Grew core v (did_by turns) w
 
 -- It was carried out until the history was full.
-pub record StoppedFull {A : Type 0} (is_planned : Bool) (p : Program A) (v : OneView) (s : Carried) (w : OneView) : Type 0 where
+pub record StoppedFull {A : Type 0} (driver : DriverKind) (p : Program A) (v : OneView) (s : Carried) (w : OneView) : Type 0 where
   pub turns : List Turn
   pub what : Do
   pub rest : Got → Program A
   pub then : Carried
   pub view : OneView
-  pub follows : Follows is_planned v.number p s turns (ask what rest) then
+  pub follows : Follows driver v.number p s turns (ask what rest) then
   pub grew : Grew core v (did_by turns) view
   pub full : MetFull what view then w

@@ -1,5 +1,5 @@
 -- Actors of a session at work together: what they make, each to its end or so far, is no more than the session costs. This project's choice.
-use Rattle.std.specs.Prelude.{◌≡◌, ◌<◌, ◌≤◌, ℕ, Bool, List, [], length, Option}
+use Rattle.std.specs.Prelude.{◌≡◌, ◌<◌, ◌≤◌, ℕ, List, [], length, Option}
 use Rattle.gl_base.specs.declared.operation.Do.{Do}
 use Rattle.gl_base.specs.declared.operation.Got.{Got}
 use Rattle.gl_world.specs.Deeds.{deeds_of}
@@ -12,6 +12,7 @@ use Rattle.gl_script.specs.Section.{SaidSection}
 use Rattle.gl_talk.specs.Open.{Names}
 use Rattle.gl_core.specs.Device.{OneEntry, core}
 use Rattle.gl_session.specs.Alone.{Part}
+use Rattle.gl_check.specs.Drivers.{DriverKind}
 use Rattle.gl_check.specs.Programs.{setup_of}
 use Rattle.gl_asking.specs.declared.kinds.Asking.TheVariants.{Calls}
 use Rattle.gl_asking.specs.Asking.{asking}
@@ -19,10 +20,10 @@ use Rattle.gl_check.specs.Many.{actor_sections, program_of}
 use Rattle.gl_check.specs.Turns.{Carried, Follows, Turn, carried, did_by}
 
 -- `before`: what the port of each actor told at the beginning.
-module _ (is_planned : Bool) (before : ℕ → Option Told) (sections : List SaidSection) (history : List OneEntry) where
+module _ (driver : DriverKind) (before : ℕ → Option Told) (sections : List SaidSection) (history : List OneEntry) where
   -- Actor n carried its section out so far, or to its end: its entries in the history are those of its turns.
   pub record HasComeTo (n : ℕ) (turns : List Turn) (rest : Program Names) (behind : Carried) : Type 0 where
-    pub follows : Follows is_planned n (program_of sections n) (carried [] (before n)) turns rest behind
+    pub follows : Follows driver n (program_of sections n) (carried [] (before n)) turns rest behind
     pub did : deeds_of core n history ≡ did_by turns
 
   pub record SoFar (n : ℕ) : Type 0 where
@@ -43,13 +44,13 @@ module _ (is_planned : Bool) (before : ℕ → Option Told) (sections : List Sai
 
   -- `setup` was carried out, each actor came so far, and nobody else has an entry.
   pub record AtWork : Type 0 where
-    pub setup : Part is_planned (setup_of sections) [] (before 0)
+    pub setup : Part driver (setup_of sections) [] (before 0)
     pub first : deeds_of core 0 history ≡ setup.did
     pub actors : (n : ℕ) → 1 ≤ n → n ≤ length (actor_sections sections) → SoFar n
     pub nobody_else : (n : ℕ) → length (actor_sections sections) < n → entries_of n history ≡ []
 
 -- While one of the actors has a call of the device before it, the history has fewer entries than the session costs: with room for these it
 -- is not full.
-abbrev pub ActorsAtWorkHaveRoom : Type 0
-ActorsAtWorkHaveRoom = (is_planned : Bool) (before : ℕ → Option Told) (sections : List SaidSection) (history : List OneEntry) → AtWork is_planned before sections history
-    → (n : ℕ) → 1 ≤ n → n ≤ length (actor_sections sections) → BeforeCall is_planned before sections history n → length history < session_cost sections
+abbrev pub ActorsAtWorkHaveRoom : DriverKind → Type 0
+ActorsAtWorkHaveRoom driver = (before : ℕ → Option Told) (sections : List SaidSection) (history : List OneEntry) → AtWork driver before sections history
+    → (n : ℕ) → 1 ≤ n → n ≤ length (actor_sections sections) → BeforeCall driver before sections history n → length history < session_cost sections

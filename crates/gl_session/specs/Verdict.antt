@@ -12,6 +12,7 @@ use Rattle.gl_trace.specs.HistoryText.{AreTold}
 use Rattle.gl_trace.specs.Joined.{joined}
 use Rattle.gl_trace.specs.WordRead.{number_below, stripped}
 use Rattle.gl_core.specs.Device.{OneEntry}
+use Rattle.gl_check.specs.Drivers.{plain}
 use Rattle.gl_check.specs.Many.{Many, PlannedTells, Texts, actor_sections}
 use Rattle.gl_check.specs.Misfit.{IsMisfit, texts_of}
 use Rattle.gl_check.specs.Texts.{texts_text}
@@ -127,8 +128,8 @@ pub record IsLawful (input : List ℕ) : Type 0 where
   pub is : input ≡ check_text session (output sections texts history)
   pub sentence : Sentence session sections
   pub several : 2 ≤ length (actor_sections sections)
-  pub many : Many sections history texts
-  pub planned : PlannedTells sections history texts
+  pub many : Many plain sections history texts
+  pub planned : PlannedTells plain sections history texts
   pub told : AreTold 0 history
 
 -- `yes` is the verdict on lawful runs, and on these alone

@@ -18,6 +18,7 @@ use Rattle.gl_script.specs.declared.section.SectionKind.TheVariants.{Actor}
 use Rattle.gl_talk.specs.Open.{Names}
 use Rattle.gl_chip.specs.Values.{ActorValue, IsActorOf, OneView}
 use Rattle.gl_core.specs.Device.{OneEntry, core}
+use Rattle.gl_check.specs.Drivers.{DriverKind}
 use Rattle.gl_check.specs.Programs.{after_of, setup_of}
 use Rattle.gl_asking.specs.Asking.{asking}
 use Rattle.gl_asking.specs.Files.{OpenFile}
@@ -33,10 +34,10 @@ is_actor_head None = false
 is_actor_head (Some head) = is_kind Actor head.kind
 
 -- A whole program was carried out by an actor without open files: its text, and what it left.
-pub record PlaysWhole (is_planned : Bool) (program : Program Names) (v : OneView) (before : Option Told) (text : List ℕ) (w : OneView) (left : Option Told) : Type 0 where
+pub record PlaysWhole (driver : DriverKind) (program : Program Names) (v : OneView) (before : Option Told) (text : List ℕ) (w : OneView) (left : Option Told) : Type 0 where
   pub names : Names
   pub files : List OpenFile
-  pub plays : PlaysOn is_planned program v (carried [] before) [] (done names) w (carried files left) text
+  pub plays : PlaysOn driver program v (carried [] before) [] (done names) w (carried files left) text
 
 -- what the port of actor n tells, of ports by the numbers of their actors; nothing where there is none
 abbrev pub told_found : {P : Type 0} → (P → Option Told) → Option (Option P) → Option Told
@@ -55,12 +56,12 @@ abbrev pub there_at : {P : Type 0} → List (Option P) → ℕ → Bool
 there_at ports n = is_found (slice_get ports n)
 
 -- What an actor's program came to, by a history that the actor has seen.
-module _ (is_planned : Bool) (n : ℕ) (program : Program Names) (before : Option Told) (saw : List OneEntry) where
+module _ (driver : DriverKind) (n : ℕ) (program : Program Names) (before : Option Told) (saw : List OneEntry) where
   -- it was carried out to the end
   pub record CameToEnd (text : List ℕ) (left : Option Told) : Type 0 where
     pub names : Names
     pub files : List OpenFile
-    pub played : Played is_planned n program (carried [] before) text (deeds_of core n saw) names (carried files left)
+    pub played : Played driver n program (carried [] before) text (deeds_of core n saw) names (carried files left)
 
   -- It was carried out up to a call of the device, and the history had no room for that.
   pub record CameToFull (room : ℕ) : Type 0 where
@@ -68,7 +69,7 @@ module _ (is_planned : Bool) (n : ℕ) (program : Program Names) (before : Optio
     pub what : Do
     pub later : Got → Program Names
     pub behind : Carried
-    pub follows : Follows is_planned n program (carried [] before) turns (ask what later) behind
+    pub follows : Follows driver n program (carried [] before) turns (ask what later) behind
     pub did : deeds_of core n saw ≡ did_by turns
     pub calls : IsCall (asking behind.files what)
     pub full : room ≤ length saw
@@ -96,7 +97,7 @@ module _ {P : Type 0} (told : P → Option Told) (start : ℕ → Option Told) (
   AreFresh v n [] = Unit {0}
   AreFresh v n (a ∷ actors) = IsFresh v n a × AreFresh v (n + 1) actors
 
-  module _ (is_planned : Bool) (programs : ℕ → Program Names) where
+  module _ (driver : DriverKind) (programs : ℕ → Program Names) where
     -- A worker's promise, of its program, its own entries and its port alone: how far it came. It has seen all that the first actor had
     -- seen before, where it had no entry.
     pub record HasWorked (v : OneView) (n : ℕ) (a : ActorValue P) (text : Result (List ℕ) Errno) : Type 0 where
@@ -106,7 +107,7 @@ module _ {P : Type 0} (told : P → Option Told) (start : ℕ → Option Told) (
       pub none_joined : a.pass.view.joined ≡ []
       pub nothing_before : entries_of n v.seen ≡ []
       pub begins : StartsWith a.pass.view.seen v.seen
-      pub came : CameOut is_planned n (programs n) (start n) a.pass.view.seen v.room text (told a.port)
+      pub came : CameOut driver n (programs n) (start n) a.pass.view.seen v.room text (told a.port)
 
     -- what a worker gives back: its promise, unless it was out of memory
     abbrev pub WorkDone : OneView → ℕ → ActorValue P × Result (List ℕ) Errno → Type 0
@@ -116,7 +117,7 @@ module _ {P : Type 0} (told : P → Option Told) (start : ℕ → Option Told) (
     AreDone v n [] = Unit {0}
     AreDone v n (d ∷ done_ones) = WorkDone v n d × AreDone v (n + 1) done_ones
 
-module _ (is_planned : Bool) (programs : ℕ → Program Names) (start left : ℕ → Option Told) (v : OneView) where
+module _ (driver : DriverKind) (programs : ℕ → Program Names) (start left : ℕ → Option Told) (v : OneView) where
   -- the promise of an actor that was taken in by the first one
   pub record IsKept (first : OneView) (n : ℕ) (text : Result (List ℕ) Errno) : Type 0 where
     pub saw : List OneEntry
@@ -126,7 +127,7 @@ module _ (is_planned : Bool) (programs : ℕ → Program Names) (start left : �
     pub begins : StartsWith first.seen saw
     pub own : entries_of n saw ≡ mine
     pub nothing_before : entries_of n v.seen ≡ []
-    pub came : CameOut is_planned n (programs n) (start n) saw v.room text (left n)
+    pub came : CameOut driver n (programs n) (start n) saw v.room text (left n)
 
   -- of the actors with the numbers from n on, with their texts
   abbrev pub AreKept : OneView → ℕ → List (Result (List ℕ) Errno) → Type 0
@@ -153,24 +154,24 @@ pub record HasJoined (v : OneView) (count : ℕ) (w : OneView) : Type 0 where
 
 -- The first actor made so many others, each with the port of its number, and took them in again: they carried their programs out, and the
 -- ports are in their places.
-pub record HasForked {P : Type 0} (told : P → Option Told) (is_planned : Bool) (programs : ℕ → Program Names) (count : ℕ) (v : OneView) (ports : List (Option P)) (w : OneView) (texts : List (List ℕ)) (ports_then : List (Option P)) : Type 0 where
+pub record HasForked {P : Type 0} (told : P → Option Told) (driver : DriverKind) (programs : ℕ → Program Names) (count : ℕ) (v : OneView) (ports : List (Option P)) (w : OneView) (texts : List (List ℕ)) (ports_then : List (Option P)) : Type 0 where
   pub between : OneView
   pub split : HasSplit v count between
   pub joined : HasJoined between count w
-  pub kept : AreKept is_planned programs (told_at told ports) (told_at told ports_then) v w 1 (map Ok texts)
+  pub kept : AreKept driver programs (told_at told ports) (told_at told ports_then) v w 1 (map Ok texts)
   pub as_many : length texts ≡ count
   pub ports_len : length ports_then ≡ length ports
   pub others : (n : ℕ) → count < n → slice_get ports_then n ≡ slice_get ports n
   pub there : (n : ℕ) → 1 ≤ n → n ≤ count → there_at ports_then n ≡ true
 
 -- The first actor made so many others and took them in again, and one of them had found the history full.
-pub record HasForkedFull (is_planned : Bool) (programs : ℕ → Program Names) (start : ℕ → Option Told) (count : ℕ) (v w : OneView) : Type 0 where
+pub record HasForkedFull (driver : DriverKind) (programs : ℕ → Program Names) (start : ℕ → Option Told) (count : ℕ) (v w : OneView) : Type 0 where
   pub between : OneView
   pub split : HasSplit v count between
   pub joined : HasJoined between count w
   pub left : ℕ → Option Told
   pub texts : List (Result (List ℕ) Errno)
-  pub kept : AreKept is_planned programs start left v w 1 texts
+  pub kept : AreKept driver programs start left v w 1 texts
   pub as_many : length texts ≡ count
   pub errno : Errno
   pub stopped : Contains texts (Err errno)
@@ -183,15 +184,15 @@ pub record CannotEnd (w : OneView) : Type 0 where
       → ((n : ℕ) → w.made ≤ n → entries_of n history ≡ []) → ⊥
 
 -- The first actor carried `setup` out, had the actors carry out their sections, and carried `after` out, with this port of its own.
-pub record HasCarriedOut {P : Type 0} (told : P → Option Told) (is_planned : Bool) (sections : List SaidSection) (v : OneView) (before : Option Told) (ports : List (Option P)) (texts : Texts) (w : OneView) (left : Option Told) (ports_then : List (Option P)) : Type 0 where
+pub record HasCarriedOut {P : Type 0} (told : P → Option Told) (driver : DriverKind) (sections : List SaidSection) (v : OneView) (before : Option Told) (ports : List (Option P)) (texts : Texts) (w : OneView) (left : Option Told) (ports_then : List (Option P)) : Type 0 where
   pub names : Names
   pub waiting : Carried
   pub at_fork : OneView
-  pub setup : PlaysOn is_planned (setup_of sections) v (carried [] before) [] (done names) at_fork waiting texts.setup
+  pub setup : PlaysOn driver (setup_of sections) v (carried [] before) [] (done names) at_fork waiting texts.setup
   pub behind_fork : OneView
-  pub forked : HasForked told is_planned (program_of sections) (length (actor_sections sections)) at_fork ports behind_fork texts.actors ports_then
+  pub forked : HasForked told driver (program_of sections) (length (actor_sections sections)) at_fork ports behind_fork texts.actors ports_then
   pub own : HasItsOwn behind_fork
   pub end : Names
   pub behind : Carried
-  pub last : PlaysOn is_planned (after_of sections names) behind_fork waiting [] (done end) w behind texts.last
+  pub last : PlaysOn driver (after_of sections names) behind_fork waiting [] (done end) w behind texts.last
   pub left_is : behind.told ≡ left

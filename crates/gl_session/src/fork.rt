@@ -7,6 +7,7 @@ ghost use Rattle.gl_rule.specs.Views.{taking_in, with_one_more};
 ghost use Rattle.gl_chip.specs.Values.{IsActorOf};
 ghost use Rattle.gl_script.specs.Script.{sections_of};
 ghost use Rattle.gl_script.specs.declared.section.SectionKind.TheVariants.{Actor as ActorKind};
+ghost use Rattle.gl_check.specs.Drivers.{driver_kind};
 ghost use Rattle.gl_check.specs.One.{said_in_kind};
 ghost use Rattle.gl_check.specs.Many.{actor_sections, program_of};
 ghost use Rattle.gl_session.specs.Workers.{AreDone, AreFresh, AreKept, HasJoined, HasSplit, IsFresh, WorkDone, there_at, told_at};
@@ -124,7 +125,7 @@ fn work<R: Wait, D: Driver<Core>>(
     requires fresh { IsFresh D.Port.told (λ _. D.Port.told actor.port) device.now actor.pass.view actor.pass.view.number actor }
     requires section { (1 ≤ actor.pass.view.number) × (actor.pass.view.number ≤ length (actor_sections (sections_of script.now))) }
     requires few { length (said_in_kind ActorKind (sections_of script.now)) ≤ 1048576 }
-    ensures { WorkDone D.Port.told (λ _. D.Port.told actor.port) device.now D.is_planned (program_of (sections_of script.now)) actor.pass.view actor.pass.view.number result }
+    ensures { WorkDone D.Port.told (λ _. D.Port.told actor.port) device.now (driver_kind D.ENTRIES D.is_planned D.OwnEntries D.Follows) (program_of (sections_of script.now)) actor.pass.view actor.pass.view.number result }
 {
     let number = actor.number();
     let statements = actor_statements(script, number);
@@ -148,7 +149,7 @@ fn map_all<R: Threads + Wait + Sync, D: Driver<Core>>(
         × (1 ≤ a.pass.view.number) × (a.pass.view.number ≤ length (actor_sections (sections_of script.now))) }
     ensures len { IfOk result (λ v. vec_len v ≡ vec_len actors) }
     ensures done { IfOk result (λ v. (i : ℕ) (a : _) (d : _) → i < vec_len actors → a ≡ slice_index_or actors.items i a
-        → WorkDone D.Port.told (λ _. D.Port.told a.port) device.now D.is_planned (program_of (sections_of script.now)) a.pass.view a.pass.view.number (slice_index_or v.items i d)) }
+        → WorkDone D.Port.told (λ _. D.Port.told a.port) device.now (driver_kind D.ENTRIES D.is_planned D.OwnEntries D.Follows) (program_of (sections_of script.now)) a.pass.view a.pass.view.number (slice_index_or v.items i d)) }
 {
     let meeting = Rendezvous::of(actors.len());
     let start = &meeting;
@@ -157,7 +158,7 @@ fn map_all<R: Threads + Wait + Sync, D: Driver<Core>>(
         requires few { length (said_in_kind ActorKind (sections_of script.now)) ≤ 1048576 }
         requires fresh { IsFresh D.Port.told (λ _. D.Port.told actor.port) device.now actor.pass.view actor.pass.view.number actor }
         requires section { (1 ≤ actor.pass.view.number) × (actor.pass.view.number ≤ length (actor_sections (sections_of script.now))) }
-        ensures { WorkDone D.Port.told (λ _. D.Port.told actor.port) device.entry.now D.is_planned (program_of (sections_of script.entry.now)) actor.pass.view actor.pass.view.number result }
+        ensures { WorkDone D.Port.told (λ _. D.Port.told actor.port) device.entry.now (driver_kind D.ENTRIES D.is_planned D.OwnEntries D.Follows) (program_of (sections_of script.entry.now)) actor.pass.view actor.pass.view.number result }
     { work(rt, alloc, device, script, start, actor) };
     thread::map_vec(rt, actors, &job)
 }
@@ -176,7 +177,7 @@ pub fn work_all<R: Threads + Wait + Sync, D: Driver<Core>>(
     requires sections { vec_len actors ≤ length (actor_sections (sections_of script.now)) }
     ensures len { IfOk result (λ v. vec_len v ≡ vec_len actors) }
     ensures done { IfOk result (λ all. (start : _) (v : _) → AreFresh D.Port.told start device.now v 1 actors.items
-        → AreDone D.Port.told start device.now D.is_planned (program_of (sections_of script.now)) v 1 all.items) }
+        → AreDone D.Port.told start device.now (driver_kind D.ENTRIES D.is_planned D.OwnEntries D.Follows) (program_of (sections_of script.now)) v 1 all.items) }
 {
     match map_all(rt, alloc, device, script, actors) {
         Ok(done) => Ok(done),
@@ -229,13 +230,13 @@ pub fn join_all<D: Driver<Core>>(
 ) -> Result<Vec<Result<ByteList, Errno>>, Errno>
     requires actor { IsActorOf device.now first.old }
     requires ports { vec_len all < length ports.old }
-    requires done { (start : _) × (programs : _) × (v : _) × AreDone D.Port.told start device.now D.is_planned programs v 1 all.items }
+    requires done { (start : _) × (programs : _) × (v : _) × AreDone D.Port.told start device.now (driver_kind D.ENTRIES D.is_planned D.OwnEntries D.Follows) programs v 1 all.items }
     ensures actor { IsActorOf device.now first.new }
     ensures port { first.new.port ≡ first.old.port }
     ensures joined { OnOk result (HasJoined first.old.pass.view (vec_len all) first.new.pass.view) }
     ensures len { IfOk result (λ texts. vec_len texts ≡ vec_len all) }
-    ensures kept { IfOk result (λ texts. (start : _) (programs : _) (v : _) → AreDone D.Port.told start device.now D.is_planned programs v 1 all.items
-        → AreKept D.is_planned programs start (told_at D.Port.told ports.new) v first.new.pass.view 1 texts.items) }
+    ensures kept { IfOk result (λ texts. (start : _) (programs : _) (v : _) → AreDone D.Port.told start device.now (driver_kind D.ENTRIES D.is_planned D.OwnEntries D.Follows) programs v 1 all.items
+        → AreKept (driver_kind D.ENTRIES D.is_planned D.OwnEntries D.Follows) programs start (told_at D.Port.told ports.new) v first.new.pass.view 1 texts.items) }
     ensures ports_len { length ports.new ≡ length ports.old }
     ensures others { OnOk result ((n : ℕ) → vec_len all < n → slice_get ports.new n ≡ slice_get ports.old n) }
     ensures there { OnOk result ((n : ℕ) → 1 ≤ n → n ≤ vec_len all → there_at ports.new n ≡ true) }

@@ -4,6 +4,7 @@ ghost use Rattle.gl_script.specs.Gen.{load_text};
 ghost use Rattle.gl_script.specs.Script.{sections_of};
 ghost use Rattle.gl_script.specs.Section.{SaidSection, statements_of};
 ghost use Rattle.gl_script.specs.Sentence.{Sentence};
+ghost use Rattle.gl_check.specs.Drivers.{driver_kind};
 ghost use Rattle.gl_session.specs.Figures.{CameToFigures, CameToLoad, figures, statement_count};
 ghost use Rattle.gl_session.specs.Ports.{AreAllThere};
 ghost use Rattle.gl_session.specs.Workers.{told_at};
@@ -82,7 +83,7 @@ fn carry_bytes<R: Wait, D: Driver<Core>>(
     requires none { D.ENTRIES ≡ 0 }
     requires session { (sections : List SaidSection) × Sentence bytes.now sections }
     requires ports { AreAllThere ports.old }
-    ensures came { IfOk result (λ out. CameToFigures D.is_planned bytes.now (told_at D.Port.told ports.old 0) (told_at D.Port.told ports.new 0) out.items) }
+    ensures came { IfOk result (λ out. CameToFigures (driver_kind D.ENTRIES D.is_planned D.OwnEntries D.Follows) bytes.now (told_at D.Port.told ports.old 0) (told_at D.Port.told ports.new 0) out.items) }
     ensures there { IfOk result (λ _. AreAllThere ports.new) }
     ensures others { drop 1 ports.new ≡ drop 1 ports.old }
     ensures memory_alone { IsOkUnless result Errno.NoMemory }
@@ -112,7 +113,7 @@ pub fn carry_load<R: Wait, D: Driver<Core>>(
     requires none { D.ENTRIES ≡ 0 }
     requires turns { (1 ≤ turns) × (turns ≤ TURNS_MAX) }
     requires ports { AreAllThere ports.old }
-    ensures came { IfOk result (λ out. CameToLoad D.is_planned turns (told_at D.Port.told ports.old 0) (told_at D.Port.told ports.new 0) out.items) }
+    ensures came { IfOk result (λ out. CameToLoad (driver_kind D.ENTRIES D.is_planned D.OwnEntries D.Follows) turns (told_at D.Port.told ports.old 0) (told_at D.Port.told ports.new 0) out.items) }
     ensures there { IfOk result (λ _. AreAllThere ports.new) }
     ensures others { drop 1 ports.new ≡ drop 1 ports.old }
     ensures memory_alone { IsOkUnless result Errno.NoMemory }

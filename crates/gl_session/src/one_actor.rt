@@ -9,6 +9,7 @@ ghost use Rattle.gl_script.specs.Script.{sections_of};
 ghost use Rattle.gl_talk.specs.Open.{Names, no_names};
 ghost use Rattle.gl_talk.specs.Over.{columns_in};
 ghost use Rattle.gl_talk.specs.Talk.{names_in, quits, says};
+ghost use Rattle.gl_check.specs.Drivers.{driver_kind};
 ghost use Rattle.gl_check.specs.Programs.{actor_of};
 ghost use Rattle.gl_asking.specs.Files.{OpenFile};
 ghost use Rattle.gl_check.specs.One.{is_kind, said_in_kind};
@@ -84,11 +85,11 @@ pub fn play_kind<R: Wait, D: Driver<Core>>(
     requires begun { talk.old.begun + count_in_kind kind (sections_of script.now) ≤ 1048576 }
     ensures device { player.new.gate ≡ player.old.gate }
     ensures counted { OnOk result (talk.new.begun ≡ talk.old.begun + count_in_kind kind (sections_of script.now)) }
-    ensures played { OnOk result (PlaysOn D.is_planned (says talk.old.begun (said_in_kind kind (sections_of script.now)) done (names_in talk.old))
+    ensures played { OnOk result (PlaysOn (driver_kind D.ENTRIES D.is_planned D.OwnEntries D.Follows) (says talk.old.begun (said_in_kind kind (sections_of script.now)) done (names_in talk.old))
         player.old.view player.old.carried player.old.text
         (done (names_in talk.new)) player.new.view player.new.carried player.new.text) }
     ensures stopped { IfErr result (λ e. (e ≡ NoMemory) ⊎ ((e ≡ Full)
-        × StoppedFull D.is_planned (says talk.old.begun (said_in_kind kind (sections_of script.now)) done (names_in talk.old))
+        × StoppedFull (driver_kind D.ENTRIES D.is_planned D.OwnEntries D.Follows) (says talk.old.begun (said_in_kind kind (sections_of script.now)) done (names_in talk.old))
         player.old.view player.old.carried player.new.view)) }
 {
     for section in 0..script.sections() {
@@ -113,11 +114,11 @@ pub fn play_to_end<R: Wait, D: Driver<Core>>(
     requires none { D.ENTRIES ≡ 0 }
     requires begun { talk.old.begun + count_in_kind kind (sections_of script.now) ≤ 1048576 }
     ensures device { player.new.gate ≡ player.old.gate }
-    ensures played { OnOk result (PlaysOn D.is_planned (says talk.old.begun (said_in_kind kind (sections_of script.now)) quits (names_in talk.old))
+    ensures played { OnOk result (PlaysOn (driver_kind D.ENTRIES D.is_planned D.OwnEntries D.Follows) (says talk.old.begun (said_in_kind kind (sections_of script.now)) quits (names_in talk.old))
         player.old.view player.old.carried player.old.text
         (done (names_in talk.new)) player.new.view player.new.carried player.new.text) }
     ensures stopped { IfErr result (λ e. (e ≡ NoMemory) ⊎ ((e ≡ Full)
-        × StoppedFull D.is_planned (says talk.old.begun (said_in_kind kind (sections_of script.now)) quits (names_in talk.old))
+        × StoppedFull (driver_kind D.ENTRIES D.is_planned D.OwnEntries D.Follows) (says talk.old.begun (said_in_kind kind (sections_of script.now)) quits (names_in talk.old))
         player.old.view player.old.carried player.new.view)) }
 {
     match play_kind(rt, alloc, player, talk, script, kind) {
@@ -142,11 +143,11 @@ fn play_actor<R: Wait, D: Driver<Core>>(
     requires sized { IsSized (sections_of script.now) }
     ensures device { player.new.gate ≡ player.old.gate }
     ensures played { OnOk result ((names : Names) × (files : List OpenFile)
-        × PlaysOn D.is_planned (actor_of (sections_of script.now)) player.old.view (carried [] player.old.carried.told) player.old.text
+        × PlaysOn (driver_kind D.ENTRIES D.is_planned D.OwnEntries D.Follows) (actor_of (sections_of script.now)) player.old.view (carried [] player.old.carried.told) player.old.text
         (done names) player.new.view (carried files player.new.carried.told) player.new.text) }
     ensures waiting { OnOk result (player.new.carried.files ≡ player.old.carried.files) }
     ensures stopped { IfErr result (λ e. (e ≡ NoMemory) ⊎ ((e ≡ Full)
-        × StoppedFull D.is_planned (actor_of (sections_of script.now)) player.old.view (carried [] player.old.carried.told) player.new.view)) }
+        × StoppedFull (driver_kind D.ENTRIES D.is_planned D.OwnEntries D.Follows) (actor_of (sections_of script.now)) player.old.view (carried [] player.old.carried.told) player.new.view)) }
 {
     let waiting = player.change_files(Rows::new(alloc));
     match Talk::new(alloc) {
@@ -178,7 +179,7 @@ fn play_parts<R: Wait, D: Driver<Core>>(
     requires new { (player.old.carried.files ≡ []) × (player.old.text ≡ []) }
     requires first { player.old.view.number ≡ 0 }
     ensures device { player.new.gate ≡ player.old.gate }
-    ensures played { OnOk result (HasPlayed D.is_planned (sections_of script.now) player.old.carried.told player.new.text player.new.carried.told
+    ensures played { OnOk result (HasPlayed (driver_kind D.ENTRIES D.is_planned D.OwnEntries D.Follows) (sections_of script.now) player.old.carried.told player.new.text player.new.carried.told
         player.old.view player.new.view) }
     ensures stopped { IfErr result (λ e. (e ≡ NoMemory) ⊎ ((e ≡ Full) × StoppedBelow (session_cost (sections_of script.now)) player.old.view player.new.view)) }
 {
@@ -208,7 +209,7 @@ fn play_session<R: Wait, D: Driver<Core>>(
     requires new { (player.old.carried.files ≡ []) × (player.old.text ≡ []) }
     requires first { player.old.view ≡ newcomer 0 (session_cost (sections_of script.now)) [] 1 [] [] }
     ensures device { player.new.gate ≡ player.old.gate }
-    ensures played { IfOk result (λ text. HasPlayed D.is_planned (sections_of script.now) player.old.carried.told text.items player.new.carried.told
+    ensures played { IfOk result (λ text. HasPlayed (driver_kind D.ENTRIES D.is_planned D.OwnEntries D.Follows) (sections_of script.now) player.old.carried.told text.items player.new.carried.told
         player.old.view player.new.view) }
     ensures memory_alone { IsOkUnless result Errno.NoMemory }
 {
@@ -237,7 +238,7 @@ pub fn run_one<R: Wait, D: Driver<Core>>(
 ) -> Result<(Vec<u8>, u64, D::Port), Errno>
     requires none { D.ENTRIES ≡ 0 }
     requires sized { IsSized (sections_of script.now) }
-    ensures came { IfOk result (λ ran. CameWithEntries D.is_planned (sections_of script.now) (D.Port.told port) ran.0.items (D.Port.told ran.2) ran.1) }
+    ensures came { IfOk result (λ ran. CameWithEntries (driver_kind D.ENTRIES D.is_planned D.OwnEntries D.Follows) (sections_of script.now) (D.Port.told port) ran.0.items (D.Port.told ran.2) ran.1) }
     ensures memory_alone { IsOkUnless result Errno.NoMemory }
 {
     match Gpio::new(alloc, driver, port, script.cost() as u32) {

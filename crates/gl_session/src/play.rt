@@ -4,6 +4,7 @@ ghost use Rattle.gl_base.specs.declared.errno.Errno.TheVariants.{Full, NoMemory}
 ghost use Rattle.gl_client.specs.Program.{done, given};
 ghost use Rattle.gl_talk.specs.Over.{columns_in};
 ghost use Rattle.gl_talk.specs.Talk.{left, names_in, says};
+ghost use Rattle.gl_check.specs.Drivers.{driver_kind};
 ghost use Rattle.gl_session.specs.Performed.{PlaysOn, StoppedFull};
 
 use crate::player::Player;
@@ -16,43 +17,46 @@ use gl_talk::Talk;
 use std::alloc::Global;
 use std::sync::Wait;
 
-/// What a talk does next, done. False at the end of what is under way.
+/// What a talk does next, done. False at the end of what is under way. `step` is room for what it does.
 fn turn<R: Wait, D: Driver<Core>>(
     rt: &R,
     alloc: Global,
     player: &mut Player<'_, D>,
     talk: &mut Talk,
     got: &mut Option<Got>,
+    step: &mut Next,
 ) -> Result<bool, Errno>
     requires none { D.ENTRIES ≡ 0 }
     requires begun { talk.old.begun ≤ 1048576 }
     ensures device { player.new.gate ≡ player.old.gate }
     ensures counted { OnOk result (talk.new.begun ≡ talk.old.begun) }
     ensures taken { IfOk result (λ more. IsTrue more
-        → PlaysOn D.is_planned (given (left talk.old) got.old) player.old.view player.old.carried player.old.text
+        → PlaysOn (driver_kind D.ENTRIES D.is_planned D.OwnEntries D.Follows) (given (left talk.old) got.old) player.old.view player.old.carried player.old.text
         (given (left talk.new) got.new) player.new.view player.new.carried player.new.text) }
     ensures ended { IfOk result (λ more. more ≡ false
         → (given (left talk.old) got.old ≡ done (names_in talk.new)) × (player.new ≡ player.old)) }
     ensures stopped { IfErr result (λ e. (e ≡ NoMemory) ⊎ ((e ≡ Full)
-        × StoppedFull D.is_planned (given (left talk.old) got.old) player.old.view player.old.carried player.new.view)) }
+        × StoppedFull (driver_kind D.ENTRIES D.is_planned D.OwnEntries D.Follows) (given (left talk.old) got.old) player.old.view player.old.carried player.new.view)) }
 {
-    match &talk.next(alloc, got.as_ref()) {
-        Ok(Next::Call(what)) => match player.perform(rt, alloc, what) {
-            Ok(result_of) => {
-                *got = Some(result_of);
-                Ok(true)
-            }
-            Err(errno) => Err(errno),
+    match talk.put_next(alloc, got.as_ref(), step) {
+        Ok(()) => match &*step {
+            Next::Call(what) => match player.perform(rt, alloc, what) {
+                Ok(result_of) => {
+                    *got = Some(result_of);
+                    Ok(true)
+                }
+                Err(errno) => Err(errno),
+            },
+            Next::Print(piece) => match player.print(piece.as_slice()) {
+                Ok(()) => {
+                    *got = None;
+                    Ok(true)
+                }
+                Err(errno) => Err(errno),
+            },
+            Next::End => Ok(false),
         },
-        Ok(Next::Print(piece)) => match player.print(piece.as_slice()) {
-            Ok(()) => {
-                *got = None;
-                Ok(true)
-            }
-            Err(errno) => Err(errno),
-        },
-        Ok(Next::End) => Ok(false),
-        Err(errno) => Err(*errno),
+        Err(errno) => Err(errno),
     }
 }
 
@@ -67,14 +71,15 @@ pub fn play<R: Wait, D: Driver<Core>>(
     requires begun { talk.old.begun ≤ 1048576 }
     ensures device { player.new.gate ≡ player.old.gate }
     ensures counted { OnOk result (talk.new.begun ≡ talk.old.begun) }
-    ensures played { OnOk result (PlaysOn D.is_planned (given (left talk.old) None) player.old.view player.old.carried player.old.text
+    ensures played { OnOk result (PlaysOn (driver_kind D.ENTRIES D.is_planned D.OwnEntries D.Follows) (given (left talk.old) None) player.old.view player.old.carried player.old.text
         (done (names_in talk.new)) player.new.view player.new.carried player.new.text) }
     ensures stopped { IfErr result (λ e. (e ≡ NoMemory) ⊎ ((e ≡ Full)
-        × StoppedFull D.is_planned (given (left talk.old) None) player.old.view player.old.carried player.new.view)) }
+        × StoppedFull (driver_kind D.ENTRIES D.is_planned D.OwnEntries D.Follows) (given (left talk.old) None) player.old.view player.old.carried player.new.view)) }
 {
     let mut got = None;
+    let mut step = Next::End;
     for _ in rt.forever() {
-        match turn(rt, alloc, player, talk, &mut got) {
+        match turn(rt, alloc, player, talk, &mut got, &mut step) {
             Ok(true) => {}
             Ok(false) => return Ok(()),
             Err(errno) => return Err(errno),
@@ -95,11 +100,11 @@ pub fn play_all<R: Wait, D: Driver<Core>>(
     requires begun { talk.old.begun + length statements.now ≤ 1048576 }
     ensures device { player.new.gate ≡ player.old.gate }
     ensures counted { OnOk result (talk.new.begun ≡ talk.old.begun + length statements.now) }
-    ensures played { OnOk result (PlaysOn D.is_planned (says talk.old.begun (map columns_in statements.now) done (names_in talk.old))
+    ensures played { OnOk result (PlaysOn (driver_kind D.ENTRIES D.is_planned D.OwnEntries D.Follows) (says talk.old.begun (map columns_in statements.now) done (names_in talk.old))
         player.old.view player.old.carried player.old.text
         (done (names_in talk.new)) player.new.view player.new.carried player.new.text) }
     ensures stopped { IfErr result (λ e. (e ≡ NoMemory) ⊎ ((e ≡ Full)
-        × StoppedFull D.is_planned (says talk.old.begun (map columns_in statements.now) done (names_in talk.old))
+        × StoppedFull (driver_kind D.ENTRIES D.is_planned D.OwnEntries D.Follows) (says talk.old.begun (map columns_in statements.now) done (names_in talk.old))
         player.old.view player.old.carried player.new.view)) }
 {
     for statement in statements {

@@ -8,7 +8,7 @@ ghost use Rattle.gl_session.specs.Player.{kind_of};
 
 use crate::buffers::buffer_for;
 use crate::rows::Rows;
-use gl_asking::{Asking, Change, FileKind, FileRow, asking_of, files_behind, got_of};
+use gl_asking::{Answered, Asking, Change, FileKind, FileRow, asking_of, files_behind, got_of};
 use gl_base::command::GET_LINE;
 use gl_base::{Do, Errno, Got};
 use gl_chip::{Actor, Gpio, Order};
@@ -72,13 +72,14 @@ impl<'d, D: Driver<Core>> Player<'d, D> {
     ghost use Rattle.gl_core.specs.Device.{core, tells_in};
     ghost use Rattle.gl_asking.specs.declared.kinds.Asking.TheVariants.{Calls};
     ghost use Rattle.gl_asking.specs.Asking.{asking, file_for, files_behind};
-    ghost use Rattle.gl_asking.specs.Changes.{IsChange, OpensWithin, changed};
+    ghost use Rattle.gl_asking.specs.Changes.{IsChange, NamesMade, OpensWithin, changed};
     ghost use Rattle.gl_asking.specs.Fitting.{FitsDevice};
     ghost use Rattle.gl_asking.specs.Rows.{IsSomeRow, file_of};
     ghost use Rattle.gl_chip.specs.Called.{HasCalled};
-    ghost use Rattle.gl_chip.specs.Orders.{AnswersOrder, FitsOrder, WroteTo, op_ordered};
+    ghost use Rattle.gl_chip.specs.Orders.{AnswersOrder, FitsOrder, GivesLines, WroteTo, op_ordered};
     ghost use Rattle.gl_chip.specs.Steps.{FoundNoRoom};
     ghost use Rattle.gl_chip.specs.Values.{IsActorOf};
+    ghost use Rattle.gl_check.specs.Drivers.{driver_kind};
     ghost use Rattle.gl_session.specs.Performed.{Performs};
 
     /// An actor of this device that has no file open and has printed nothing.
@@ -164,7 +165,7 @@ impl<'d, D: Driver<Core>> Player<'d, D> {
         requires none { D.ENTRIES ≡ 0 }
         ensures device { self.new.gate ≡ self.old.gate }
         ensures text { self.new.text ≡ self.old.text }
-        ensures performs { Performs D.is_planned what.now result self.old.view self.old.carried self.new.view self.new.carried }
+        ensures performs { Performs (driver_kind D.ENTRIES D.is_planned D.OwnEntries D.Follows) what.now result self.old.view self.old.carried self.new.view self.new.carried }
     {
         let row = self.row_for(what);
         let asking = asking_of(what, row);
@@ -178,16 +179,28 @@ impl<'d, D: Driver<Core>> Player<'d, D> {
             }
             Asking::Plans(nth) => {
                 self.plan(*nth);
-                self.settle(what, &row, Reply::Done)?;
+                let answered = Answered {
+                    reply: Reply::Done,
+                    lines: None,
+                };
+                self.settle(what, &row, &answered)?;
                 Ok(Got::Done)
             }
             Asking::Accepts(bits) => {
                 self.accept(*bits);
-                self.settle(what, &row, Reply::Done)?;
+                let answered = Answered {
+                    reply: Reply::Done,
+                    lines: None,
+                };
+                self.settle(what, &row, &answered)?;
                 Ok(Got::Done)
             }
             Asking::Refuses(errno) => {
-                self.settle(what, &row, Reply::Refused(*errno))?;
+                let answered = Answered {
+                    reply: Reply::Refused(*errno),
+                    lines: None,
+                };
+                self.settle(what, &row, &answered)?;
                 Ok(Got::Refused(*errno))
             }
         }
@@ -210,16 +223,16 @@ impl<'d, D: Driver<Core>> Player<'d, D> {
         requires asks { Calls order.now.call ≡ asking self.old.carried.files what.now }
         ensures device { self.new.gate ≡ self.old.gate }
         ensures text { self.new.text ≡ self.old.text }
-        ensures performs { Performs D.is_planned what.now result self.old.view self.old.carried self.new.view self.new.carried }
+        ensures performs { Performs (driver_kind D.ENTRIES D.is_planned D.OwnEntries D.Follows) what.now result self.old.view self.old.carried self.new.view self.new.carried }
     {
         let mut buffer = match buffer_for(alloc, what) {
             Ok(buffer) => buffer,
             Err(errno) => return Err(errno),
         };
         match self.make(rt, alloc, order, &mut buffer) {
-            Ok(reply) => {
-                self.settle(what, row, reply)?;
-                Ok(got_of(what, &reply, buffer))
+            Ok(answered) => {
+                self.settle(what, row, &answered)?;
+                Ok(got_of(what, &answered.reply, buffer))
             }
             Err(errno) => Err(errno),
         }
@@ -232,52 +245,60 @@ impl<'d, D: Driver<Core>> Player<'d, D> {
         alloc: Global,
         order: &Order,
         out: &mut [u8],
-    ) -> Result<Reply, Errno>
+    ) -> Result<Answered, Errno>
         requires none { D.ENTRIES ≡ 0 }
         requires fits { FitsOrder order.now.call order.now.on out.old }
         ensures device { self.new.gate ≡ self.old.gate }
         ensures text { self.new.text ≡ self.old.text }
         ensures files { self.new.carried.files ≡ self.old.carried.files }
         ensures made { IfOk result (λ r. (bytes : List ℕ) × WroteTo order.now.call bytes out.old out.new
-            × (called : HasCalled 0 self.old.view order.now.call r bytes self.new.view)
+            × (called : HasCalled 0 self.old.view order.now.call r.reply bytes self.new.view)
             × PortAfter D.is_planned (op_ordered order.now.call order.now.on) (tells_in (entries_in called.did)) self.old.carried.told self.new.carried.told) }
-        ensures form { IfOk result (λ r. AnswersOrder order.now.call order.now.on r) }
+        ensures form { IfOk result (λ r. AnswersOrder order.now.call order.now.on r.reply) }
+        ensures lines { IfOk result (GivesLines order.now.call order.now.on) }
         ensures could_not { IfErr result (λ e. (e ≡ NoMemory) ⊎ ((e ≡ Full) × FoundNoRoom core self.old.view self.new.view)) }
     {
         self.device.call(rt, alloc, &mut self.actor, order, out)
     }
 
-    /// Keeps what becomes of the open files by the reply.
-    fn settle(&mut self, what: &Do, row: &Option<FileRow>, reply: Reply) -> Result<(), Errno>
+    /// Keeps what becomes of the open files by the answer.
+    fn settle(&mut self, what: &Do, row: &Option<FileRow>, answered: &Answered) -> Result<(), Errno>
         requires row { IsSomeRow row.now }
         requires found { file_for what.now self.old.carried.files ≡ file_of row.now }
-        requires opens { OpensWithin what.now reply }
+        requires opens { OpensWithin what.now answered.now.reply }
+        requires named { NamesMade what.now row.now answered.now }
         ensures device { self.new.gate ≡ self.old.gate }
         ensures view { self.new.view ≡ self.old.view }
         ensures told { self.new.carried.told ≡ self.old.carried.told }
         ensures text { self.new.text ≡ self.old.text }
-        ensures settled { OnOk result (self.new.carried.files ≡ files_behind what.now reply self.old.carried.files) }
+        ensures settled { OnOk result (self.new.carried.files ≡ files_behind what.now answered.now.reply self.old.carried.files) }
         ensures memory_alone { IsOkUnless result NoMemory }
     {
         if !opens_or_closes(what) {
             return Ok(());
         }
-        self.keep_behind(what, row, reply)
+        self.keep_behind(what, row, answered)
     }
 
     /// The same, of an operation that may open or close a file. It stands apart, so that no other has room for a change.
-    fn keep_behind(&mut self, what: &Do, row: &Option<FileRow>, reply: Reply) -> Result<(), Errno>
+    fn keep_behind(
+        &mut self,
+        what: &Do,
+        row: &Option<FileRow>,
+        answered: &Answered,
+    ) -> Result<(), Errno>
         requires row { IsSomeRow row.now }
         requires found { file_for what.now self.old.carried.files ≡ file_of row.now }
-        requires opens { OpensWithin what.now reply }
+        requires opens { OpensWithin what.now answered.now.reply }
+        requires named { NamesMade what.now row.now answered.now }
         ensures device { self.new.gate ≡ self.old.gate }
         ensures view { self.new.view ≡ self.old.view }
         ensures told { self.new.carried.told ≡ self.old.carried.told }
         ensures text { self.new.text ≡ self.old.text }
-        ensures settled { OnOk result (self.new.carried.files ≡ files_behind what.now reply self.old.carried.files) }
+        ensures settled { OnOk result (self.new.carried.files ≡ files_behind what.now answered.now.reply self.old.carried.files) }
         ensures memory_alone { IsOkUnless result NoMemory }
     {
-        self.keep(files_behind(what, *row, reply))
+        self.keep(files_behind(what, *row, answered))
     }
 
     /// Makes a change in the open files.

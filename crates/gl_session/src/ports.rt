@@ -1,6 +1,7 @@
 //! The ports of a run.
 ghost use Rattle.std.specs.Prelude.{◌≡◌, ◌≤◌, drop, length, IfOk, OnOk, IsOkUnless};
 ghost use Rattle.gl_script.specs.Script.{sections_of};
+ghost use Rattle.gl_check.specs.Drivers.{driver_kind};
 ghost use Rattle.gl_check.specs.Many.{actor_sections};
 ghost use Rattle.gl_session.specs.OneActor.{CameWithEntries, IsSized};
 ghost use Rattle.gl_session.specs.Ports.{AreAllThere, OthersStay};
@@ -33,7 +34,7 @@ pub fn run_alone<R: Wait, D: Driver<Core>>(
     requires none { D.ENTRIES ≡ 0 }
     requires sized { IsSized (sections_of script.now) }
     requires ports { AreAllThere ports.old }
-    ensures came { IfOk result (λ ran. CameWithEntries D.is_planned (sections_of script.now) (told_at D.Port.told ports.old 0) ran.0.items (told_at D.Port.told ports.new 0) ran.1) }
+    ensures came { IfOk result (λ ran. CameWithEntries (driver_kind D.ENTRIES D.is_planned D.OwnEntries D.Follows) (sections_of script.now) (told_at D.Port.told ports.old 0) ran.0.items (told_at D.Port.told ports.new 0) ran.1) }
     ensures there { IfOk result (λ _. AreAllThere ports.new) }
     ensures others { drop 1 ports.new ≡ drop 1 ports.old }
     ensures memory_alone { IsOkUnless result Errno.NoMemory }
@@ -65,7 +66,7 @@ pub fn carry_script<R: Threads + Wait + Sync, D: Driver<Core>>(
     requires sized { IsSized (sections_of script.now) }
     requires few { length (actor_sections (sections_of script.now)) ≤ 16 }
     requires ports { AreAllThere ports.old }
-    ensures came { IfOk result (λ text. CameTo D.is_planned (sections_of script.now) (told_at D.Port.told ports.old) (told_at D.Port.told ports.new) text.items) }
+    ensures came { IfOk result (λ text. CameTo (driver_kind D.ENTRIES D.is_planned D.OwnEntries D.Follows) (sections_of script.now) (told_at D.Port.told ports.old) (told_at D.Port.told ports.new) text.items) }
     ensures there { OnOk result (AreAllThere ports.new) }
     ensures others { OnOk result (OthersStay (sections_of script.now) ports.old ports.new) }
     ensures memory_alone { IsOkUnless result Errno.NoMemory }

@@ -6,6 +6,7 @@ ghost use Rattle.gl_script.specs.declared.refusal.Refusal.{Refusal};
 ghost use Rattle.gl_script.specs.Section.{SaidSection};
 ghost use Rattle.gl_script.specs.Sentence.{Sentence, first_fault};
 ghost use Rattle.gl_words.specs.Words.{asks, texts};
+ghost use Rattle.gl_check.specs.Drivers.{driver_kind};
 ghost use Rattle.gl_session.specs.Figures.{CameToLoad, HasWrittenLoad};
 ghost use Rattle.gl_session.specs.Ports.{AreAllThere, OthersStay};
 ghost use Rattle.gl_session.specs.Workers.{told_at};
@@ -65,13 +66,13 @@ pub fn run<R: Threads + Wait + Sync, S: Source, K: Sink, D: Driver<Core>>(
     // told those of its actor.
     ensures output { result ≡ Status.Ran → words.now ≡ [] → IfSome (S.left source.old) (λ input. (sections : List SaidSection) → Sentence input sections →
         IsAtEnd (S.left source.new)
-        × HasWritten D.is_planned sections (told_at D.Port.told ports.old) (told_at D.Port.told ports.new) (K.held sink.old) (K.held sink.new)) }
+        × HasWritten (driver_kind D.ENTRIES D.is_planned D.OwnEntries D.Follows) sections (told_at D.Port.told ports.old) (told_at D.Port.told ports.new) (K.held sink.old) (K.held sink.new)) }
     ensures ran_only_session { result ≡ Status.Ran → words.now ≡ [] → IfSome (S.left source.old) (λ input. (sections : List SaidSection) × Sentence input sections) }
 
     // A load that ran told its four numbers: how many statements it has, how many entries One makes of it over just the answers that its
     // driver gave, how many bytes One prints then, and the sum of these. The answers are as above.
     ensures load { result ≡ Status.Ran → (n : ℕ) → asks (texts words.now) ≡ Some (Task.Load n) →
-        HasWrittenLoad D.is_planned n (told_at D.Port.told ports.old 0) (told_at D.Port.told ports.new 0) (K.held sink.old) (K.held sink.new) }
+        HasWrittenLoad (driver_kind D.ENTRIES D.is_planned D.OwnEntries D.Follows) n (told_at D.Port.told ports.old 0) (told_at D.Port.told ports.new 0) (K.held sink.old) (K.held sink.new) }
     ensures load_ends { (n : ℕ) → asks (texts words.now) ≡ Some (Task.Load n) → (result ≡ Status.Ran) ⊎ ((result ≡ Status.WriteFault) ⊎ (result ≡ Status.NoMemory)) }
 
     // Words that ask for nothing are answered first, and where there are words nothing is read, except for a check.
@@ -103,10 +104,10 @@ pub fn run<R: Threads + Wait + Sync, S: Source, K: Sink, D: Driver<Core>>(
     ensures write_fault_told { K.fault_count sink.old < K.fault_count sink.new → result ≡ Status.WriteFault }
     ensures write_fault_read_through { result ≡ Status.WriteFault → words.now ≡ [] → (bytes : List ℕ) × ReadsThrough SESSION_MAX (S.left source.old) (S.left source.new) bytes }
     ensures write_fault_front { result ≡ Status.WriteFault → words.now ≡ [] → IfSome (S.left source.old) (λ input.
-        (text : List ℕ) × IsOutput D.is_planned (told_at D.Port.told ports.old) (told_at D.Port.told ports.new) input text
+        (text : List ℕ) × IsOutput (driver_kind D.ENTRIES D.is_planned D.OwnEntries D.Follows) (told_at D.Port.told ports.old) (told_at D.Port.told ports.new) input text
         × AppendsFront (K.held sink.old) (K.held sink.new) text) }
     ensures load_front { result ≡ Status.WriteFault → (n : ℕ) → asks (texts words.now) ≡ Some (Task.Load n) → (text : List ℕ)
-        × CameToLoad D.is_planned n (told_at D.Port.told ports.old 0) (told_at D.Port.told ports.new 0) text
+        × CameToLoad (driver_kind D.ENTRIES D.is_planned D.OwnEntries D.Follows) n (told_at D.Port.told ports.old 0) (told_at D.Port.told ports.new 0) text
         × AppendsFront (K.held sink.old) (K.held sink.new) text }
     ensures usage_front { result ≡ Status.WriteFault → asks (texts words.now) ≡ None → AppendsFront (K.held sink.old) (K.held sink.new) usage_line }
 
@@ -175,7 +176,7 @@ fn run_session<R: Threads + Wait + Sync, S: Source, K: Sink, D: Driver<Core>>(
     requires ports { AreAllThere ports.old }
     ensures output { result ≡ Status.Ran → IfSome (S.left source.old) (λ input. (sections : List SaidSection) → Sentence input sections →
         IsAtEnd (S.left source.new)
-        × HasWritten D.is_planned sections (told_at D.Port.told ports.old) (told_at D.Port.told ports.new) (K.held sink.old) (K.held sink.new)) }
+        × HasWritten (driver_kind D.ENTRIES D.is_planned D.OwnEntries D.Follows) sections (told_at D.Port.told ports.old) (told_at D.Port.told ports.new) (K.held sink.old) (K.held sink.new)) }
     ensures ran_only_session { result ≡ Status.Ran → IfSome (S.left source.old) (λ input. (sections : List SaidSection) × Sentence input sections) }
     ensures no_usage { result ≢ Status.Usage }
     ensures no_no { result ≢ Status.No }
@@ -192,7 +193,7 @@ fn run_session<R: Threads + Wait + Sync, S: Source, K: Sink, D: Driver<Core>>(
     ensures write_fault_told { K.fault_count sink.old < K.fault_count sink.new → result ≡ Status.WriteFault }
     ensures write_fault_read_through { result ≡ Status.WriteFault → (bytes : List ℕ) × ReadsThrough SESSION_MAX (S.left source.old) (S.left source.new) bytes }
     ensures write_fault_front { result ≡ Status.WriteFault → IfSome (S.left source.old) (λ input.
-        (text : List ℕ) × IsOutput D.is_planned (told_at D.Port.told ports.old) (told_at D.Port.told ports.new) input text
+        (text : List ℕ) × IsOutput (driver_kind D.ENTRIES D.is_planned D.OwnEntries D.Follows) (told_at D.Port.told ports.old) (told_at D.Port.told ports.new) input text
         × AppendsFront (K.held sink.old) (K.held sink.new) text) }
     ensures no_memory_writes_nothing { result ≡ Status.NoMemory → sink.new ≡ sink.old }
     ensures complete { IfSome (S.left source.old) (λ input. (sections : List SaidSection) → Sentence input sections →
@@ -224,10 +225,10 @@ fn run_load<R: Wait, K: Sink, D: Driver<Core>>(
     requires turns { (1 ≤ turns) × (turns ≤ TURNS_MAX) }
     requires ports { AreAllThere ports.old }
     ensures ends { (result ≡ Status.Ran) ⊎ ((result ≡ Status.WriteFault) ⊎ (result ≡ Status.NoMemory)) }
-    ensures ran { result ≡ Status.Ran → HasWrittenLoad D.is_planned turns (told_at D.Port.told ports.old 0) (told_at D.Port.told ports.new 0) (K.held sink.old) (K.held sink.new) }
+    ensures ran { result ≡ Status.Ran → HasWrittenLoad (driver_kind D.ENTRIES D.is_planned D.OwnEntries D.Follows) turns (told_at D.Port.told ports.old 0) (told_at D.Port.told ports.new 0) (K.held sink.old) (K.held sink.new) }
     ensures write_fault { result ≡ Status.WriteFault → Rises (K.fault_count sink.old) (K.fault_count sink.new) }
     ensures write_fault_told { K.fault_count sink.old < K.fault_count sink.new → result ≡ Status.WriteFault }
-    ensures front { result ≡ Status.WriteFault → (text : List ℕ) × CameToLoad D.is_planned turns (told_at D.Port.told ports.old 0) (told_at D.Port.told ports.new 0) text
+    ensures front { result ≡ Status.WriteFault → (text : List ℕ) × CameToLoad (driver_kind D.ENTRIES D.is_planned D.OwnEntries D.Follows) turns (told_at D.Port.told ports.old 0) (told_at D.Port.told ports.new 0) text
         × AppendsFront (K.held sink.old) (K.held sink.new) text }
     ensures no_memory { result ≡ Status.NoMemory → sink.new ≡ sink.old }
     ensures ports_there { result ≢ Status.NoMemory → AreAllThere ports.new }
@@ -251,13 +252,13 @@ fn answer<R: Threads + Wait + Sync, K: Sink, D: Driver<Core>>(
     requires none { D.ENTRIES ≡ 0 }
     requires ports { AreAllThere ports.old }
     ensures ran { result ≡ Status.Ran → (sections : List SaidSection) × Sentence bytes.now sections
-        × HasWritten D.is_planned sections (told_at D.Port.told ports.old) (told_at D.Port.told ports.new) (K.held sink.old) (K.held sink.new) }
+        × HasWritten (driver_kind D.ENTRIES D.is_planned D.OwnEntries D.Follows) sections (told_at D.Port.told ports.old) (told_at D.Port.told ports.new) (K.held sink.old) (K.held sink.new) }
     ensures refused { result ≡ Status.Refused → (refusal : Refusal) × (first_fault bytes.now ≡ Some refusal)
         × Appends (K.held sink.old) (K.held sink.new) (refused_line refusal) }
     ensures write_fault { result ≡ Status.WriteFault → Rises (K.fault_count sink.old) (K.fault_count sink.new) }
     ensures write_fault_told { K.fault_count sink.old < K.fault_count sink.new → result ≡ Status.WriteFault }
     ensures front { result ≡ Status.WriteFault → (text : List ℕ)
-        × IsOutput D.is_planned (told_at D.Port.told ports.old) (told_at D.Port.told ports.new) bytes.now text
+        × IsOutput (driver_kind D.ENTRIES D.is_planned D.OwnEntries D.Follows) (told_at D.Port.told ports.old) (told_at D.Port.told ports.new) bytes.now text
         × AppendsFront (K.held sink.old) (K.held sink.new) text }
     ensures no_memory { result ≡ Status.NoMemory → sink.new ≡ sink.old }
     ensures no_usage { result ≢ Status.Usage }

@@ -9,6 +9,7 @@ ghost use Rattle.gl_script.specs.Script.{sections_of};
 ghost use Rattle.gl_talk.specs.Open.{no_names};
 ghost use Rattle.gl_talk.specs.Talk.{names_in};
 ghost use Rattle.gl_session.specs.Many.{CameToMany};
+ghost use Rattle.gl_check.specs.Drivers.{driver_kind};
 ghost use Rattle.gl_check.specs.Many.{actor_sections, program_of};
 ghost use Rattle.gl_session.specs.OneActor.{IsSized};
 ghost use Rattle.gl_session.specs.Workers.{CannotEnd, HasCarriedOut, HasForked, HasForkedFull, there_at, told_at};
@@ -59,9 +60,9 @@ fn fork<R: Threads + Wait + Sync, D: Driver<Core>>(
     ensures files { first.new.carried.files ≡ first.old.carried.files }
     ensures told { first.new.carried.told ≡ first.old.carried.told }
     ensures text { first.new.text ≡ first.old.text }
-    ensures forked { IfOk result (λ texts. HasForked D.Port.told D.is_planned (program_of (sections_of script.now)) (length (actor_sections (sections_of script.now)))
+    ensures forked { IfOk result (λ texts. HasForked D.Port.told (driver_kind D.ENTRIES D.is_planned D.OwnEntries D.Follows) (program_of (sections_of script.now)) (length (actor_sections (sections_of script.now)))
         first.old.view ports.old first.new.view texts.items ports.new) }
-    ensures stopped { IfErr result (λ e. (e ≡ NoMemory) ⊎ HasForkedFull D.is_planned (program_of (sections_of script.now)) (told_at D.Port.told ports.old)
+    ensures stopped { IfErr result (λ e. (e ≡ NoMemory) ⊎ HasForkedFull (driver_kind D.ENTRIES D.is_planned D.OwnEntries D.Follows) (program_of (sections_of script.now)) (told_at D.Port.told ports.old)
         (length (actor_sections (sections_of script.now))) first.old.view first.new.view) }
     ensures ports_len { length ports.new ≡ length ports.old }
 {
@@ -85,9 +86,9 @@ fn work_beside<R: Threads + Wait + Sync, D: Driver<Core>>(
     requires there { (n : ℕ) → 1 ≤ n → n < length ports.old → there_at ports.old n ≡ true }
     ensures actor { IsActorOf device.now first.new }
     ensures port { first.new.port ≡ first.old.port }
-    ensures forked { IfOk result (λ texts. HasForked D.Port.told D.is_planned (program_of (sections_of script.now)) (length (actor_sections (sections_of script.now)))
+    ensures forked { IfOk result (λ texts. HasForked D.Port.told (driver_kind D.ENTRIES D.is_planned D.OwnEntries D.Follows) (program_of (sections_of script.now)) (length (actor_sections (sections_of script.now)))
         first.old.pass.view ports.old first.new.pass.view texts.items ports.new) }
-    ensures stopped { IfErr result (λ e. (e ≡ NoMemory) ⊎ HasForkedFull D.is_planned (program_of (sections_of script.now)) (told_at D.Port.told ports.old)
+    ensures stopped { IfErr result (λ e. (e ≡ NoMemory) ⊎ HasForkedFull (driver_kind D.ENTRIES D.is_planned D.OwnEntries D.Follows) (program_of (sections_of script.now)) (told_at D.Port.told ports.old)
         (length (actor_sections (sections_of script.now))) first.old.pass.view first.new.pass.view) }
     ensures ports_len { length ports.new ≡ length ports.old }
 {
@@ -128,7 +129,7 @@ fn carry_parts<R: Threads + Wait + Sync, D: Driver<Core>>(
     requires count { (length (actor_sections (sections_of script.now)) < 256) × (length (actor_sections (sections_of script.now)) < length ports.old) }
     requires there { (n : ℕ) → 1 ≤ n → n < length ports.old → there_at ports.old n ≡ true }
     ensures device { first.new.gate ≡ first.old.gate }
-    ensures out { IfOk result (λ printed. HasCarriedOut D.Port.told D.is_planned (sections_of script.now) first.old.view first.old.carried.told ports.old
+    ensures out { IfOk result (λ printed. HasCarriedOut D.Port.told (driver_kind D.ENTRIES D.is_planned D.OwnEntries D.Follows) (sections_of script.now) first.old.view first.old.carried.told ports.old
         (texts_of printed) first.new.view first.new.carried.told ports.new) }
     ensures stopped { IfErr result (λ e. (e ≡ NoMemory) ⊎ CannotEnd first.new.view) }
     ensures ports_len { length ports.new ≡ length ports.old }
@@ -171,7 +172,7 @@ fn carry_out<R: Threads + Wait + Sync, D: Driver<Core>>(
     requires count { (length (actor_sections (sections_of script.now)) < 256) × (length (actor_sections (sections_of script.now)) < length ports.old) }
     requires there { (n : ℕ) → 1 ≤ n → n < length ports.old → there_at ports.old n ≡ true }
     ensures device { first.new.gate ≡ first.old.gate }
-    ensures out { IfOk result (λ printed. HasCarriedOut D.Port.told D.is_planned (sections_of script.now) first.old.view first.old.carried.told ports.old
+    ensures out { IfOk result (λ printed. HasCarriedOut D.Port.told (driver_kind D.ENTRIES D.is_planned D.OwnEntries D.Follows) (sections_of script.now) first.old.view first.old.carried.told ports.old
         (texts_of printed) first.new.view first.new.carried.told ports.new) }
     ensures stopped { IfErr result (λ e. (e ≡ NoMemory) ⊎ CannotEnd first.new.view) }
     ensures ports_len { length ports.new ≡ length ports.old }
@@ -198,7 +199,7 @@ pub fn run_several<R: Threads + Wait + Sync, D: Driver<Core>>(
     requires sized { IsSized (sections_of script.now) }
     requires count { length (actor_sections (sections_of script.now)) ≤ 16 }
     requires ports { AreAllThere ports.old }
-    ensures came { IfOk result (λ ran. CameToMany D.is_planned (sections_of script.now) (told_at D.Port.told ports.old) (told_at D.Port.told ports.new) ran.1.items (texts_of ran.0)) }
+    ensures came { IfOk result (λ ran. CameToMany (driver_kind D.ENTRIES D.is_planned D.OwnEntries D.Follows) (sections_of script.now) (told_at D.Port.told ports.old) (told_at D.Port.told ports.new) ran.1.items (texts_of ran.0)) }
     ensures there { OnOk result (AreAllThere ports.new) }
     ensures others { OnOk result ((n : ℕ) → length (actor_sections (sections_of script.now)) < n → slice_get ports.new n ≡ slice_get ports.old n) }
     ensures memory_alone { IsOkUnless result Errno.NoMemory }

@@ -6,6 +6,7 @@ ghost use Rattle.gl_script.specs.Script.{sections_of};
 ghost use Rattle.gl_talk.specs.Open.{no_names};
 ghost use Rattle.gl_talk.specs.Over.{columns_in};
 ghost use Rattle.gl_talk.specs.Talk.{talks};
+ghost use Rattle.gl_check.specs.Drivers.{driver_kind};
 ghost use Rattle.gl_check.specs.Many.{actor_sections, no_section, words_of};
 ghost use Rattle.gl_session.specs.Performed.{StoppedFull};
 ghost use Rattle.gl_check.specs.Turns.{carried};
@@ -33,10 +34,10 @@ pub fn play_section<R: Wait, D: Driver<Core>>(
     requires few { length statements.now ≤ 1048576 }
     requires new { (player.old.carried.files ≡ []) × (player.old.text ≡ []) }
     ensures device { player.new.gate ≡ player.old.gate }
-    ensures played { IfOk result (λ text. PlaysWhole D.is_planned (talks 0 (map columns_in statements.now) no_names)
+    ensures played { IfOk result (λ text. PlaysWhole (driver_kind D.ENTRIES D.is_planned D.OwnEntries D.Follows) (talks 0 (map columns_in statements.now) no_names)
         player.old.view player.old.carried.told text player.new.view player.new.carried.told) }
     ensures stopped { IfErr result (λ e. (e ≡ NoMemory) ⊎ ((e ≡ Full)
-        × StoppedFull D.is_planned (talks 0 (map columns_in statements.now) no_names) player.old.view (carried [] player.old.carried.told) player.new.view)) }
+        × StoppedFull (driver_kind D.ENTRIES D.is_planned D.OwnEntries D.Follows) (talks 0 (map columns_in statements.now) no_names) player.old.view (carried [] player.old.carried.told) player.new.view)) }
 {
     let mut talk = match Talk::new(alloc) {
         Ok(talk) => talk,
@@ -65,10 +66,10 @@ pub fn play_beside<R: Wait, D: Driver<Core>>(
     requires few { length statements.now ≤ 1048576 }
     requires new { (player.old.carried.files ≡ []) × (player.old.text ≡ []) }
     ensures device { player.new.gate ≡ player.old.gate }
-    ensures played { IfOk result (λ text. PlaysWhole D.is_planned (talks 0 (map columns_in statements.now) no_names)
+    ensures played { IfOk result (λ text. PlaysWhole (driver_kind D.ENTRIES D.is_planned D.OwnEntries D.Follows) (talks 0 (map columns_in statements.now) no_names)
         player.old.view player.old.carried.told text player.new.view player.new.carried.told) }
     ensures stopped { IfErr result (λ e. (e ≡ NoMemory) ⊎ ((e ≡ Full)
-        × StoppedFull D.is_planned (talks 0 (map columns_in statements.now) no_names) player.old.view (carried [] player.old.carried.told) player.new.view)) }
+        × StoppedFull (driver_kind D.ENTRIES D.is_planned D.OwnEntries D.Follows) (talks 0 (map columns_in statements.now) no_names) player.old.view (carried [] player.old.carried.told) player.new.view)) }
 {
     start.meet();
     play_section(rt, alloc, player, statements)

@@ -8,10 +8,10 @@ use Rattle.gl_check.specs.Many.{actor_sections}
 use Rattle.gl_check.specs.One.{entries_made, one, planned}
 use Rattle.gl_session.specs.Run.{CameBy, HasWritten}
 use Rattle.gl_session.proofs.FewActors.{few_actors}
-use Rattle.gpiosess.specs.Program.{HasPrinted, HasPrintedLoad, PrintsBy, PrintsLoad}
+use Rattle.gpiosess.specs.Program.{HasPrinted, HasPrintedLoad, PrintsBy, PrintsLoad, simulated}
 
 module _ (before left : ℕ → Option Told) (new : (n : ℕ) → n < 17 → before n ≡ Some new_port) where
-  prints_by : (alone : Bool) (sections : List SaidSection) (text : List ℕ) → length (actor_sections sections) ≤ 16 → CameBy alone true sections before left text → PrintsBy alone sections text
+  prints_by : (alone : Bool) (sections : List SaidSection) (text : List ℕ) → length (actor_sections sections) ≤ 16 → CameBy alone simulated sections before left text → PrintsBy alone sections text
   prints_by true sections text few came = came.prints ∙ ap (λ answers. one sections answers) (came.as_planned refl new_port (new 0 (omega arith)))
   prints_by false sections text few came = record {
     history = came.history;
@@ -22,17 +22,17 @@ module _ (before left : ℕ → Option Told) (new : (n : ℕ) → n < 17 → bef
     prints = came.prints;
   }
 
-  has_printed : (sections : List SaidSection) → length (actor_sections sections) ≤ 16 → (old then : Option (List ℕ)) → HasWritten true sections before left old then → HasPrinted sections old then
+  has_printed : (sections : List SaidSection) → length (actor_sections sections) ≤ 16 → (old then : Option (List ℕ)) → HasWritten simulated sections before left old then → HasPrinted sections old then
   has_printed sections few old then w = (w.0, w.1, prints_by (nat_lt (length (actor_sections sections)) 2) sections w.0 few w.2)
 
   -- of a source that tells its bytes
-  pub printed : (input : Option (List ℕ)) (Ends : Type 0) (old then : Option (List ℕ)) → IfSome input (λ bytes. (sections : List SaidSection) → Sentence bytes sections → Ends × HasWritten true sections before left old then)
+  pub printed : (input : Option (List ℕ)) (Ends : Type 0) (old then : Option (List ℕ)) → IfSome input (λ bytes. (sections : List SaidSection) → Sentence bytes sections → Ends × HasWritten simulated sections before left old then)
       → IfSome input (λ bytes. (sections : List SaidSection) → Sentence bytes sections → Ends × HasPrinted sections old then)
   printed None Ends old then h = tt
   printed (Some bytes) Ends old then h = λ sections said. ((h sections said).0, has_printed sections (few_actors bytes sections said) old then (h sections said).1)
 
 -- a load, over the new port of the first actor
-prints_load : (turns : ℕ) (before left : Option Told) (text : List ℕ) → before ≡ Some new_port → CameToLoad true turns before left text → PrintsLoad turns text
+prints_load : (turns : ℕ) (before left : Option Told) (text : List ℕ) → before ≡ Some new_port → CameToLoad simulated turns before left text → PrintsLoad turns text
 prints_load turns before left text new load =
     let answers : load.came.came.answers ≡ planned load.sections = load.came.came.as_planned refl new_port new in record {
       sections = load.sections;
@@ -41,5 +41,5 @@ prints_load turns before left text new load =
           ∙ ap (λ given. figures load.sections (entries_made load.sections given) (one load.sections given)) answers;
     }
 
-pub printed_load : (turns : ℕ) (before left : Option Told) (old then : Option (List ℕ)) → before ≡ Some new_port → HasWrittenLoad true turns before left old then → HasPrintedLoad turns old then
+pub printed_load : (turns : ℕ) (before left : Option Told) (old then : Option (List ℕ)) → before ≡ Some new_port → HasWrittenLoad simulated turns before left old then → HasPrintedLoad turns old then
 printed_load turns before left old then new w = (w.0, w.1, prints_load turns before left w.0 new w.2)

@@ -1,21 +1,27 @@
 -- What the program writes for a session: over the simulated driver, whose answers are planned, and a new port for each actor.
-use Rattle.std.specs.Prelude.{◌≡◌, ℕ, Bool, true, false, nat_lt, List, length, Option}
+use Rattle.std.specs.Prelude.{◌≡◌, ℕ, Bool, true, false, nat_lt, List, [], length, Option, IfSome}
 use Rattle.std.specs.Io.KnownBytes.{Appends}
+use Rattle.gl_driver.specs.Told.{planned_for}
 use Rattle.gl_script.specs.Gen.{load_text}
 use Rattle.gl_script.specs.Section.{SaidSection}
 use Rattle.gl_script.specs.Sentence.{Sentence}
 use Rattle.gl_core.specs.Device.{OneEntry}
 use Rattle.gl_session.specs.Figures.{figures}
+use Rattle.gl_check.specs.Drivers.{DriverKind, driver_kind}
 use Rattle.gl_check.specs.Many.{Many, PlannedTells, Texts, actor_sections}
 use Rattle.gl_check.specs.One.{entries_made, one, planned}
 use Rattle.gl_session.specs.Output.{AreTold, output}
+
+-- The simulated driver: it makes no entries of its own, and its answers are planned.
+abbrev pub simulated : DriverKind
+simulated = driver_kind 0 true (λ map op own. own ≡ []) (λ map told op did room seen answer. IfSome told (λ t. answer ≡ planned_for op t))
 
 -- Output of a session of several actors: of texts and a history with Many, whose tells are as planned, and no other history has it.
 pub record PrintsMany (sections : List SaidSection) (text : List ℕ) : Type 0 where
   pub history : List OneEntry
   pub texts : Texts
-  pub many : Many sections history texts
-  pub as_planned : PlannedTells sections history texts
+  pub many : Many simulated sections history texts
+  pub as_planned : PlannedTells simulated sections history texts
   pub told : AreTold 0 history
   pub prints : text ≡ output sections texts history
 

@@ -3,9 +3,10 @@ use Rattle.gl_script.specs.Gen.{load_text}
 use Rattle.gl_session.specs.Figures.{CameToFigures}
 use Rattle.gl_session.specs.Workers.{told_at}
 use Rattle.gl_session.proofs.load.carry_load.Goals as goal
+use Rattle.gl_check.specs.Drivers.{driver_kind}
 
 pub returns-in-Ok-clause-came : goal.returns-in-Ok-clause-came
 returns-in-Ok-clause-came g c =
     let t = g.D.Port.Port.told in
     let load_is : c.deref.result.now ≡ load_text c.args.turns = search rules in
-    subst (λ (bytes : List ℕ). IfOk c.carry_bytes.result (λ out. CameToFigures g.D.Driver.is_planned bytes (told_at t c.args.ports.now 0) (told_at t c.carry_bytes.new.ports 0) out.items)) load_is c.carry_bytes.ensures.came
+    subst (λ (bytes : List ℕ). IfOk c.carry_bytes.result (λ out. CameToFigures (driver_kind g.D.Driver.ENTRIES g.D.Driver.is_planned g.D.Driver.OwnEntries g.D.Driver.Follows) bytes (told_at t c.args.ports.now 0) (told_at t c.carry_bytes.new.ports 0) out.items)) load_is c.carry_bytes.ensures.came

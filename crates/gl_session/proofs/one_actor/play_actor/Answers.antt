@@ -4,6 +4,7 @@ use Rattle.gl_script.specs.Script.{sections_of}
 use Rattle.gl_script.specs.declared.section.SectionKind.TheVariants.{Actor}
 use Rattle.gl_talk.specs.Open.{no_names}
 use Rattle.gl_talk.specs.Talk.{names_in, quits}
+use Rattle.gl_check.specs.Drivers.{driver_kind}
 use Rattle.gl_check.specs.One.{said_in_kind}
 use Rattle.gl_check.specs.Programs.{actor_of}
 use Rattle.gl_check.specs.Turns.{carried}
@@ -20,10 +21,10 @@ returns-in-Ok-play_to_end-clause-played g c =
     let end = c.play_to_end.new.player in (
       names_in c.play_to_end.new.talk,
       end.carried.files,
-      plays_as g.D.Driver.is_planned (actor_of (sections_of c.args.script.now)) (done (names_in c.play_to_end.new.talk)) player.view (carried [] player.carried.told) player.text end.view end.carried end.text
+      plays_as (driver_kind g.D.Driver.ENTRIES g.D.Driver.is_planned g.D.Driver.OwnEntries g.D.Driver.Follows) (actor_of (sections_of c.args.script.now)) (done (names_in c.play_to_end.new.talk)) player.view (carried [] player.carried.told) player.text end.view end.carried end.text
           c.args.player.now.view (carried [] c.args.player.now.carried.told) c.args.player.now.text c.change_files-left.new.self.view (carried end.carried.files c.change_files-left.new.self.carried.told) c.change_files-left.new.self.text
           aside.view refl aside.told aside.text back.view refl back.told back.text
-          (begins_so g.D.Driver.is_planned player.view player.carried.told (said_in_kind Actor (sections_of c.args.script.now)) quits _ 0 _ no_names player.carried.files [] new.1 new.0 (aside.files ∙ c.new.ensures) player.text _ end.view end.carried end.text c.in-Ok-play_to_end.ensures.played),
+          (begins_so (driver_kind g.D.Driver.ENTRIES g.D.Driver.is_planned g.D.Driver.OwnEntries g.D.Driver.Follows) player.view player.carried.told (said_in_kind Actor (sections_of c.args.script.now)) quits _ 0 _ no_names player.carried.files [] new.1 new.0 (aside.files ∙ c.new.ensures) player.text _ end.view end.carried end.text c.in-Ok-play_to_end.ensures.played),
     )
 
 pub returns-in-Err-play_to_end-clause-stopped : goal.returns-in-Err-play_to_end-clause-stopped
@@ -34,8 +35,8 @@ returns-in-Err-play_to_end-clause-stopped g c =
     ⊎_elim (λ wanted. inl wanted)
     (λ full. inr (
       full.0,
-      stops_as g.D.Driver.is_planned (actor_of (sections_of c.args.script.now)) player.view (carried [] player.carried.told) c.play_to_end.new.player.view c.args.player.now.view (carried [] c.args.player.now.carried.told)
+      stops_as (driver_kind g.D.Driver.ENTRIES g.D.Driver.is_planned g.D.Driver.OwnEntries g.D.Driver.Follows) (actor_of (sections_of c.args.script.now)) player.view (carried [] player.carried.told) c.play_to_end.new.player.view c.args.player.now.view (carried [] c.args.player.now.carried.told)
           aside.view refl aside.told
-          (stops_so g.D.Driver.is_planned player.view player.carried.told (said_in_kind Actor (sections_of c.args.script.now)) quits _ 0 _ no_names player.carried.files [] new.1 new.0 (aside.files ∙ c.new.ensures) c.play_to_end.new.player.view full.1),
+          (stops_so (driver_kind g.D.Driver.ENTRIES g.D.Driver.is_planned g.D.Driver.OwnEntries g.D.Driver.Follows) player.view player.carried.told (said_in_kind Actor (sections_of c.args.script.now)) quits _ 0 _ no_names player.carried.files [] new.1 new.0 (aside.files ∙ c.new.ensures) c.play_to_end.new.player.view full.1),
     ))
     c.in-Err-play_to_end.ensures.stopped

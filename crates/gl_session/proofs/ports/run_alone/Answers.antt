@@ -1,10 +1,11 @@
 use Rattle.std.proofs.Common.{◌∙◌, Some, ap}
 use Rattle.gl_session.proofs.PortPlaces.{all_put_back, came_through}
 use Rattle.gl_session.proofs.ports.run_alone.Goals as goal
+use Rattle.gl_check.specs.Drivers.{driver_kind}
 
 pub returns-in-Ok-clause-came : goal.returns-in-Ok-clause-came
 returns-in-Ok-clause-came g c =
-    came_through g.D.Port.Port.told g.D.Driver.is_planned _ _ _ _ _ _ _ _ c.requires.ports (c.take_port.ensures.taken ∙ ap Some c.in-Some.is) c.take_port.ensures.left c.give_port.ensures c.in-Ok.ensures.came
+    came_through g.D.Port.Port.told (driver_kind g.D.Driver.ENTRIES g.D.Driver.is_planned g.D.Driver.OwnEntries g.D.Driver.Follows) _ _ _ _ _ _ _ _ c.requires.ports (c.take_port.ensures.taken ∙ ap Some c.in-Some.is) c.take_port.ensures.left c.give_port.ensures c.in-Ok.ensures.came
 
 pub returns-in-Ok-clause-there : goal.returns-in-Ok-clause-there
 returns-in-Ok-clause-there g c = (all_put_back _ _ _ _ c.take_port.ensures.left c.give_port.ensures c.requires.ports).0

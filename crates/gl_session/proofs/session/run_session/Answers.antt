@@ -6,10 +6,11 @@ use Rattle.gl_session.specs.Ports.{OthersStay}
 use Rattle.gl_session.specs.Workers.{told_at}
 use Rattle.gl_session.proofs.Causes.{as_lent, if_ran, if_session, if_refused, if_output, if_refusal, if_complete, if_faulty, if_sections}
 use Rattle.gl_session.proofs.session.run_session.Goals as goal
+use Rattle.gl_check.specs.Drivers.{driver_kind}
 
 pub returns-in-Ok-clause-output : goal.returns-in-Ok-clause-output
 returns-in-Ok-clause-output g c = λ e.
-    if_ran _ _ _ (IsAtEnd (g.S.Source.left c.read_through.new.source)) (λ sections. HasWritten g.D.Driver.is_planned sections (told_at g.D.Port.Port.told c.args.ports.now) (told_at g.D.Port.Port.told c.answer.new.ports)
+    if_ran _ _ _ (IsAtEnd (g.S.Source.left c.read_through.new.source)) (λ sections. HasWritten (driver_kind g.D.Driver.ENTRIES g.D.Driver.is_planned g.D.Driver.OwnEntries g.D.Driver.Follows) sections (told_at g.D.Port.Port.told c.args.ports.now) (told_at g.D.Port.Port.told c.answer.new.ports)
     (g.K.Sink.held c.args.sink.now) (g.K.Sink.held c.answer.new.sink))
     (as_lent _ _ _ _ c.deref.result.now c.in-Ok.ensures.ok (search rules)) (as_lent _ _ _ _ c.deref.result.now c.in-Ok.ensures.ok (search rules)).end (c.answer.ensures.ran e)
 

@@ -6,30 +6,31 @@ use Rattle.gl_session.specs.Several.{texts_of}
 use Rattle.gl_session.specs.Workers.{CannotEnd, HasCarriedOut}
 use Rattle.gl_session.proofs.AllTogether.{all_there, came, first_there, taken_there}
 use Rattle.gl_session.proofs.several.run_several.Goals as goal
+use Rattle.gl_check.specs.Drivers.{driver_kind}
 
 pub returns-in-Ok-carry_out-clause-came : goal.returns-in-Ok-carry_out-clause-came
 returns-in-Ok-carry_out-clause-came g c =
     let t = g.D.Port.Port.told in
     let f = c.finish-machine.ensures in
     let some : 0 < length c.args.ports.now = (let n = c.requires.ports.count in omega arith) in
-    let out : HasCarriedOut t g.D.Driver.is_planned (sections_of c.args.script.now) c.new-first.result.view c.new-first.result.carried.told c.take_port.new.ports (texts_of c.in-Ok-carry_out.printed)
+    let out : HasCarriedOut t (driver_kind g.D.Driver.ENTRIES g.D.Driver.is_planned g.D.Driver.OwnEntries g.D.Driver.Follows) (sections_of c.args.script.now) c.new-first.result.view c.new-first.result.carried.told c.take_port.new.ports (texts_of c.in-Ok-carry_out.printed)
     c.into_actor-actor.result.pass.view c.carry_out.new.first.carried.told c.carry_out.new.ports
-    = subst (λ (w : OneView). HasCarriedOut t g.D.Driver.is_planned (sections_of c.args.script.now) c.new-first.result.view c.new-first.result.carried.told c.take_port.new.ports (texts_of c.in-Ok-carry_out.printed)
+    = subst (λ (w : OneView). HasCarriedOut t (driver_kind g.D.Driver.ENTRIES g.D.Driver.is_planned g.D.Driver.OwnEntries g.D.Driver.Follows) (sections_of c.args.script.now) c.new-first.result.view c.new-first.result.carried.told c.take_port.new.ports (texts_of c.in-Ok-carry_out.printed)
     w c.carry_out.new.first.carried.told c.carry_out.new.ports) (sym c.into_actor-actor.ensures.view) c.in-Ok-carry_out.ensures.out in
-    came t g.D.Driver.is_planned (sections_of c.args.script.now) c.args.ports.now c.take_port.new.ports c.carry_out.new.ports c.give_port.new.ports c.in-Some.port c.finish-machine.result.2 some
+    came t (driver_kind g.D.Driver.ENTRIES g.D.Driver.is_planned g.D.Driver.OwnEntries g.D.Driver.Follows) (sections_of c.args.script.now) c.args.ports.now c.take_port.new.ports c.carry_out.new.ports c.give_port.new.ports c.in-Some.port c.finish-machine.result.2 some
     (c.take_port.ensures.taken ∙ ap Some c.in-Some.is) c.take_port.ensures.left c.give_port.ensures _ c.new-first.result.view c.into_actor-actor.result.pass.view _ _ _ _
     (c.new-first.ensures.view ∙ c.in-Ok.ensures.first) (c.new-first.ensures.told ∙ ap t c.in-Ok.ensures.port) (sym c.into_actor-actor.ensures.port ∙ ap t (sym f.port)) out (sym c.in-Ok-carry_out.ensures.ports_len) f.legal f.seen f.mine f.joined f.others
 
 pub returns-in-Ok-carry_out-clause-there : goal.returns-in-Ok-carry_out-clause-there
 returns-in-Ok-carry_out-clause-there g c =
     let some : 0 < length c.args.ports.now = (let n = c.requires.ports.count in omega arith) in
-    (all_there g.D.Port.Port.told g.D.Driver.is_planned (sections_of c.args.script.now) c.args.ports.now c.take_port.new.ports c.carry_out.new.ports c.give_port.new.ports c.in-Some.port c.finish-machine.result.2 some
+    (all_there g.D.Port.Port.told (driver_kind g.D.Driver.ENTRIES g.D.Driver.is_planned g.D.Driver.OwnEntries g.D.Driver.Follows) (sections_of c.args.script.now) c.args.ports.now c.take_port.new.ports c.carry_out.new.ports c.give_port.new.ports c.in-Some.port c.finish-machine.result.2 some
     (c.take_port.ensures.taken ∙ ap Some c.in-Some.is) c.take_port.ensures.left c.give_port.ensures _ _ _ _ _ c.in-Ok-carry_out.ensures.out c.requires.ports).0
 
 pub returns-in-Ok-carry_out-clause-others : goal.returns-in-Ok-carry_out-clause-others
 returns-in-Ok-carry_out-clause-others g c =
     let some : 0 < length c.args.ports.now = (let n = c.requires.ports.count in omega arith) in
-    (all_there g.D.Port.Port.told g.D.Driver.is_planned (sections_of c.args.script.now) c.args.ports.now c.take_port.new.ports c.carry_out.new.ports c.give_port.new.ports c.in-Some.port c.finish-machine.result.2 some
+    (all_there g.D.Port.Port.told (driver_kind g.D.Driver.ENTRIES g.D.Driver.is_planned g.D.Driver.OwnEntries g.D.Driver.Follows) (sections_of c.args.script.now) c.args.ports.now c.take_port.new.ports c.carry_out.new.ports c.give_port.new.ports c.in-Some.port c.finish-machine.result.2 some
     (c.take_port.ensures.taken ∙ ap Some c.in-Some.is) c.take_port.ensures.left c.give_port.ensures _ _ _ _ _ c.in-Ok-carry_out.ensures.out c.requires.ports).1
 
 pub carry_out-requires-clause-there : goal.carry_out-requires-clause-there

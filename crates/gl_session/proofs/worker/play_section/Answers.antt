@@ -5,6 +5,7 @@ use Rattle.gl_talk.specs.Over.{columns_in}
 use Rattle.gl_talk.specs.Talk.{talks}
 use Rattle.gl_driver.specs.Told.{Told}
 use Rattle.gl_chip.specs.Values.{OneView}
+use Rattle.gl_check.specs.Drivers.{driver_kind}
 use Rattle.gl_check.specs.Turns.{Carried}
 use Rattle.gl_session.specs.Workers.{PlaysWhole}
 use Rattle.gl_session.proofs.WholeSections.{plays_whole, stops_among_them, stops_behind_them}
@@ -14,7 +15,7 @@ pub returns-in-Ok-play-clause-played : goal.returns-in-Ok-play-clause-played
 returns-in-Ok-play-clause-played g c =
     let new = c.in-Ok.ensures.ok in
     let taken = c.take_text.ensures in
-    subst (λ (x : List ℕ × OneView × Option Told). PlaysWhole g.D.Driver.is_planned (talks 0 (map columns_in c.args.statements.now) no_names) c.args.player.now.view c.args.player.now.carried.told x.0 x.1 x.2)
+    subst (λ (x : List ℕ × OneView × Option Told). PlaysWhole (driver_kind g.D.Driver.ENTRIES g.D.Driver.is_planned g.D.Driver.OwnEntries g.D.Driver.Follows) (talks 0 (map columns_in c.args.statements.now) no_names) c.args.player.now.view c.args.player.now.carried.told x.0 x.1 x.2)
     (λ i. (sym (c.of.ensures ∙ taken.text) i, sym taken.view i, ap (λ (k : Carried). k.told) (sym taken.carried) i))
     (plays_whole _ (map columns_in c.args.statements.now) _ _ _ c.args.player.now.carried.told c.play_all.new.player.carried.told c.play.new.player.carried.told c.play_all.new.player.carried.files _ _ _ _ _ _ c.args.player.now.carried.files c.play.new.player.carried.files _ _ new.1 new.0 c.requires.new.0 c.requires.new.1 (ap (λ l. given l None) c.quit.ensures.quits) c.in-Ok-play_all.ensures.played c.in-Ok-play.ensures.played)
 

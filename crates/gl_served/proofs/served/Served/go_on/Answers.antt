@@ -1,7 +1,7 @@
 use Rattle.std.proofs.Common.{ℕ, Vec, Global, Bool, Ok, ◌∙◌, ap, sym, subst}
 use Rattle.gl_script.specs.declared.served.LineKind.TheVariants.{Statement}
 use Rattle.gl_talk.specs.Talk.{left, names_in}
-use Rattle.gl_served.specs.Served.{ServedValue, carried_out, said_after}
+use Rattle.gl_served.specs.Served.{ServedValue, accepted_after, carried_out}
 use Rattle.gl_served.specs.UnderWay.{IsGoing, IsTaken, does_behind, text_shown}
 use Rattle.gl_served.specs.declared.answered.Answer.TheVariants.{Text}
 use Rattle.gl_served.proofs.Running.{is_carried, is_stated, keeps_more}
@@ -13,9 +13,9 @@ returns-in-Ok-clause-answered c = λ said line rests begun.
     let v = c.finish.new.self in
     let so = is_carried said line g.step g.first g.printed.items (left v.talk) v.alone (names_in v.talk) (c.finish.ensures.gone (does_behind said line) (carried_out said.statements).behind begun.going) c.in-Ok.ensures.ended c.in-Ok.ensures.told in (
       text_shown g.reads g.first g.printed.items,
-      said_after Statement line said,
+      accepted_after Statement line said,
       c.in-Ok.ensures.text,
-      subst (λ (r : Bool). IsTaken r said line (Ok Statement) Text (text_shown g.reads g.first g.printed.items) (said_after Statement line said)) c.finish.ensures.line.reads
+      subst (λ (r : Bool). IsTaken r said line (Ok Statement) Text (text_shown g.reads g.first g.printed.items) (accepted_after Statement line said)) c.finish.ensures.line.reads
           (is_stated g.reads said line g.printed.items g.first v.alone (names_in v.talk) so),
       keeps_more v said line g.printed.items g.first (c.finish.ensures.session.stage ∙ begun.stage) (c.finish.ensures.session.count ∙ begun.count) (c.finish.ensures.session.under_way ∙ rests) so,
     )

@@ -14,7 +14,7 @@ use Rattle.gl_session.proofs.player.Player.make.Goals as goal
 pub returns-clause-made : goal.returns-clause-made
 returns-clause-made g c =
     subst (λ (p : Playing). IfOk c.call.result (λ r. (bytes : List ℕ) × WroteTo c.args.order.now.call bytes c.args.out.now c.call.new.out
-    × (called : HasCalled 0 p.view c.args.order.now.call r bytes c.call.new.actor.pass.view)
+    × (called : HasCalled 0 p.view c.args.order.now.call r.reply bytes c.call.new.actor.pass.view)
     × PortAfter g.D.Driver.is_planned (op_ordered c.args.order.now.call c.args.order.now.on) (tells_in (entries_in called.did)) p.carried.told (g.D.Port.Port.told c.call.new.actor.port)))
     c.self.view_is (c.call.ensures.port c.requires.none)
 

@@ -3,21 +3,22 @@ use Rattle.gl_base.specs.declared.operation.Got.TheVariants.{Done, Refused}
 use Rattle.gl_session.proofs.Performing.{accept_performs, plan_performs, refusal_performs}
 use Rattle.gl_session.proofs.Suiting.{accepted_got, planned_got, refused_got}
 use Rattle.gl_session.proofs.player.Player.perform.Goals as goal
+use Rattle.gl_check.specs.Drivers.{driver_kind}
 
 pub returns-in_ok-settle-in-Plans-clause-performs : goal.returns-in_ok-settle-in-Plans-clause-performs
 returns-in_ok-settle-in-Plans-clause-performs g c =
     let asks = sym c.in-Plans.is ∙ c.asking_of-asking.ensures.told c.args.self.now.carried.files c.row_for-row.ensures.found in
-    plan_performs g.D.Driver.is_planned c.args.what.now c.args.self.now.view c.settle.new.self.view c.args.self.now.carried c.settle.new.self.carried c.in-Plans.nth Done (Ok Done) c.plan.new.self.carried
+    plan_performs (driver_kind g.D.Driver.ENTRIES g.D.Driver.is_planned g.D.Driver.OwnEntries g.D.Driver.Follows) c.args.what.now c.args.self.now.view c.settle.new.self.view c.args.self.now.carried c.settle.new.self.carried c.in-Plans.nth Done (Ok Done) c.plan.new.self.carried
     asks (c.settle.ensures.view ∙ c.plan.ensures.view) c.plan.ensures.files c.plan.ensures.told c.settle.ensures.told (planned_got c.args.self.now.carried.files c.args.what.now c.in-Plans.nth asks) (refl, c.in_ok-settle-in-Plans.ensures.settled) tt
 
 pub returns-in_ok-settle-in-Accepts-clause-performs : goal.returns-in_ok-settle-in-Accepts-clause-performs
 returns-in_ok-settle-in-Accepts-clause-performs g c =
     let asks = sym c.in-Accepts.is ∙ c.asking_of-asking.ensures.told c.args.self.now.carried.files c.row_for-row.ensures.found in
-    accept_performs g.D.Driver.is_planned c.args.what.now c.args.self.now.view c.settle-in-Accepts.new.self.view c.args.self.now.carried c.settle-in-Accepts.new.self.carried c.in-Accepts.bits Done (Ok Done) c.accept.new.self.carried
+    accept_performs (driver_kind g.D.Driver.ENTRIES g.D.Driver.is_planned g.D.Driver.OwnEntries g.D.Driver.Follows) c.args.what.now c.args.self.now.view c.settle-in-Accepts.new.self.view c.args.self.now.carried c.settle-in-Accepts.new.self.carried c.in-Accepts.bits Done (Ok Done) c.accept.new.self.carried
     asks (c.settle-in-Accepts.ensures.view ∙ c.accept.ensures.view) c.accept.ensures.files c.accept.ensures.told c.settle-in-Accepts.ensures.told (accepted_got c.args.self.now.carried.files c.args.what.now c.in-Accepts.bits asks) (refl, c.in_ok-settle-in-Accepts.ensures.settled) tt
 
 pub returns-in_ok-settle-in-Refuses-clause-performs : goal.returns-in_ok-settle-in-Refuses-clause-performs
 returns-in_ok-settle-in-Refuses-clause-performs g c =
     let asks = sym c.in-Refuses.is ∙ c.asking_of-asking.ensures.told c.args.self.now.carried.files c.row_for-row.ensures.found in
-    refusal_performs g.D.Driver.is_planned c.args.what.now c.args.self.now.view c.settle-in-Refuses.new.self.view c.args.self.now.carried c.settle-in-Refuses.new.self.carried c.in-Refuses.errno (Refused c.in-Refuses.errno) (Ok (Refused c.in-Refuses.errno)) c.args.self.now.carried
+    refusal_performs (driver_kind g.D.Driver.ENTRIES g.D.Driver.is_planned g.D.Driver.OwnEntries g.D.Driver.Follows) c.args.what.now c.args.self.now.view c.settle-in-Refuses.new.self.view c.args.self.now.carried c.settle-in-Refuses.new.self.carried c.in-Refuses.errno (Refused c.in-Refuses.errno) (Ok (Refused c.in-Refuses.errno)) c.args.self.now.carried
     asks c.settle-in-Refuses.ensures.view refl refl c.settle-in-Refuses.ensures.told (refused_got c.args.what.now c.in-Refuses.errno) (refl, c.in_ok-settle-in-Refuses.ensures.settled) tt
