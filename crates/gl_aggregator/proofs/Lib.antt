@@ -12,4 +12,7 @@ pub mod Turns
 pub mod Driven
 pub mod Told
 pub mod Points
+pub mod Joined
+pub mod BitsWhere
 pub mod Gathered
+pub mod Planned

@@ -26,7 +26,7 @@ one_earlier : (op : Op) (answer : Option ℕ) (n : ℕ) (t u : Option Told) → 
 one_earlier op answer n None u h = h
 one_earlier op answer n (Some t) u h = h
 
-not_none : {A : Type 0} (x : A) (xs : List A) → x ∷ xs ≡ [] → ⊥
+pub not_none : {A : Type 0} (x : A) (xs : List A) → x ∷ xs ≡ [] → ⊥
 not_none {A = A} x xs e = subst (λ (l : List A). is_cons l) e tt where
   is_cons : List A → Type 0
   is_cons [] = ⊥
@@ -42,7 +42,7 @@ module _ {M C R G : Type 0} (is_go is_done : R → Bool) (Follows : Option Told 
   behind_ask v later true f es h = behind_tell later (is_done f.reply) es h.2
   behind_ask v later false f es h = absurd (not_none f es h)
 
-  behind_two : (v : Visit C) (vs : List (Option (Visit C))) (e f : Entry M C R G) (es : List (Entry M C R G)) → Own is_go is_done (Some v ∷ vs) (e ∷ f ∷ es) → Own is_go is_done vs es ⊎ (es ≡ [])
+  pub behind_two : (v : Visit C) (vs : List (Option (Visit C))) (e f : Entry M C R G) (es : List (Entry M C R G)) → Own is_go is_done (Some v ∷ vs) (e ∷ f ∷ es) → Own is_go is_done vs es ⊎ (es ≡ [])
   behind_two v vs e f es (inl h) = absurd (not_none f es h.1)
   behind_two v vs e f es (inr h) = behind_ask v (Own is_go is_done vs) (is_go e.reply) f es h.1
 
@@ -75,7 +75,7 @@ module _ {M C R G : Type 0} (is_go is_done : R → Bool) (Follows : Option Told 
   tells_last last (Some v ∷ vs) (e ∷ f ∷ es) t u h (op, answer, op_is, tells, follows, asked) = tells_last (Some (v, f)) vs es (with_call op answer t) u (last_now op answer v f t op_is tells) asked
 
 -- it fails in just these cases
-some_is_not_none : (n : ℕ) → Some n ≡ None → ⊥
+pub some_is_not_none : (n : ℕ) → Some n ≡ None → ⊥
 some_is_not_none n e = subst (λ (o : Option ℕ). is_some o) e tt where
   is_some : Option ℕ → Type 0
   is_some None = ⊥

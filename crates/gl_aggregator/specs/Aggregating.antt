@@ -14,7 +14,7 @@ use Rattle.gl_world.specs.declared.history.Entry.{Entry}
 use Rattle.gl_world.specs.declared.machine.Machine.{Ghosts}
 use Rattle.gl_aggregator.specs.Commands.{visits}
 use Rattle.gl_aggregator.specs.Gather.{gather}
-use Rattle.gl_aggregator.specs.Own.{AskedFor, AtRefusal, Ending, Gathers, NoRoom, Own, Unspelled, Visit, Whole, answer_by, ending}
+use Rattle.gl_aggregator.specs.Own.{AskedFor, AtRefusal, Ending, Gathers, NoRoom, Own, Unspelled, Visit, Whole, answer_by, ending, told_bytes}
 use Rattle.gl_aggregator.specs.Ports.{SameBehind}
 
 -- K: what is kept of a world; the machine's calls are those of `gl_model`
@@ -72,6 +72,16 @@ Fails Whole room seen = ⊥
 Fails AtRefusal room seen = Unit {0}
 Fails Unspelled room seen = Unit {0}
 Fails NoRoom room seen = room ≤ seen
+
+-- so it fails in just these cases, whichever driver is behind it, as its answer follows
+abbrev pub FailsInJustTheseCases : {K : Type 0} → (Option Told → Op → List (Deed K Call Reply Gift) → ℕ → ℕ → Option ℕ → Type 0) → Type 0
+FailsInJustTheseCases {K} Follows = (map : Map) (told : Option Told) (op : Op) (did : List (Deed K Call Reply Gift)) (room seen : ℕ) (answer : Option ℕ)
+    → FollowsAt Follows (Some map) told op did room seen answer → (answer ≡ None) ↔ Fails (ending is_go is_done (visits map op) (entries_in did)) room seen
+
+-- where it doesn't fail, each target was told, so that what is gathered has the bytes of each
+abbrev pub EachTargetIsTold : {K : Type 0} → (Option Told → Op → List (Deed K Call Reply Gift) → ℕ → ℕ → Option ℕ → Type 0) → Type 0
+EachTargetIsTold {K} Follows = (map : Map) (told : Option Told) (op : Op) (did : List (Deed K Call Reply Gift)) (room seen : ℕ) (bits : ℕ)
+    → OwnAt (Some map) op (entries_in did) → FollowsAt Follows (Some map) told op did room seen (Some bits) → length (told_bytes did) ≡ length (visits map op)
 
 module _ {K : Type 0} (m : Ghosts K Call Reply Gift) (Follows : Option Told → Op → Option ℕ → Type 0) where
   -- One call at a place with a map. What the pass did in it is entries of which Own holds, each with its reply in the one history. The answer is what is gathered of

@@ -1,5 +1,6 @@
 pub mod Own
 pub mod Routes
+pub mod Joined
 pub mod Commands
 pub mod Gather
 pub mod Words

@@ -1,5 +1,6 @@
 //! The port of an aggregator: a port, and maps beside it.
 ghost use Rattle.std.specs.Prelude.{◌≡◌, [], None};
+ghost use Rattle.gl_aggregator.specs.Ports.{told_over};
 
 use crate::maps::Maps;
 use crate::tally::Tally;
@@ -70,7 +71,10 @@ impl<P: Port> AggPort<P> {
     pub fn new(inner: P) -> AggPort<P>
         ensures inner { result.inner ≡ inner }
         ensures tally { result.tally ≡ record { calls = 0; last = None; faults = 0 } }
-        ensures maps { result.maps ≡ [] }
+        ensures told { ⟦<AggPort<P> as Port>⟧.told result ≡ told_over 0 None (P.told inner) }
+        ensures faults { ⟦<AggPort<P> as Port>⟧.faults result ≡ 0 }
+        ensures maps { ⟦<AggPort<P> as Port>⟧.maps result ≡ [] }
+        ensures maps_left { ⟦<AggPort<P> as Port>⟧.maps_left result ≡ 4 }
     {
         AggPort {
             inner,
