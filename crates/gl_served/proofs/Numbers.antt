@@ -22,7 +22,6 @@ use Rattle.gl_watch.specs.declared.file.ChipFile.{ChipFile}
 use Rattle.gl_core.specs.Kept.{Kept, StandsFor}
 use Rattle.gl_core.specs.WellKept.{IsWellKept}
 use Rattle.gl_asking.specs.Opened.{place_named, place_or_first}
-use Rattle.gl_asking.specs.declared.kinds.Answered.{Answered}
 use Rattle.gl_attrs.specs.ConfigFault.{config_fault}
 use Rattle.gl_uapi.specs.Fields.{is_zero_at}
 use Rattle.gl_uapi.specs.declared.layout.TheConstants.{REQUEST_PADDING, REQUEST_PADDING_SIZE}
@@ -51,7 +50,7 @@ use Rattle.gl_model.specs.declared.call.Part.TheVariants.{Whole, Ask, Tell}
 use Rattle.gl_model.specs.declared.reply.Reply.{Reply}
 use Rattle.gl_model.specs.declared.reply.Reply.TheVariants.{Done, Number, Go, Found, Text, Ready, Refused}
 use Rattle.gl_check.specs.One.{comes_to, goes_on, inside, is_gone, two}
-use Rattle.gl_served.specs.Opening.{AsksLines, IsRequest, LinesBy, NumberFits, NumbersBy}
+use Rattle.gl_served.specs.Opening.{LinesBy, NumberFits, NumbersBy}
 use Rattle.gl_model.proofs.Columns.{read_past}
 use Rattle.gl_model.proofs.Replies.{replies_have_form}
 use Rattle.gl_model.proofs.Requests.{claim_by_any}
@@ -276,12 +275,6 @@ guard_numbers (Once call) reply poll is = any_number_fits call reply (subst (λ 
 guard_numbers (Removing removal) reply poll is = tt
 guard_numbers (Commanding c) reply poll is = subst (λ r. number_answered r < 2 ^ 32) (sym is) (guard_small poll)
 
--- nor does it make a request
-pub guard_asks : (call : DeviceCall) (answered : Answered) (poll : Bool) → answered.reply ≡ guard_reply poll → AsksLines call answered
-guard_asks (Once call) answered poll is = tt
-guard_asks (Removing removal) answered poll is = tt
-guard_asks (Commanding c) answered poll is = λ asks command faultless fd e. absurd (guard_no_number poll fd (sym is ∙ e))
-
 -- the lines of a request
 
 fault_first : (a b : Option Errno) → option_or a b ≡ None → a ≡ None
@@ -318,25 +311,23 @@ go_by_number w place fd len bytes command is e =
     (go_unrefused (request_fault (take (size_of GetLine) bytes)) w (claim place 0 (asked_in (take (size_of GetLine) bytes)) w) passed.1).0
 
 module _ (w : World) (c : CommandIn) (answer : Option ℕ) (fd : ℕ) where
-  abbrev driven_by : Bool
-  driven_by = is_driver_asked c.of_chip c.len (command_of c.cmd)
+  abbrev Counted : Type 0
+  Counted = IsLineCount (lines_asked (take LINE_REQUEST_SIZE c.bytes)).count
 
   abbrev asks : Call
   asks = in_ask c
 
-  of_two : driven_by ≡ true → (goes : Bool) → goes ≡ is_go (step w 0 (in_ask c)).reply → command_of c.cmd ≡ Some GetLine → (if goes then step (step w 0 (in_ask c)).world 0 (in_tell answer c) else step w 0 (in_ask c)).reply ≡ Number fd → IsRequest c
-  of_two driven true goes command e =
-      let faultless = go_by_number w c.place c.fd c.len c.bytes (command_of c.cmd) command (sym goes) in
-      record { asks = driven; faultless = faultless; count = lines_counted (take LINE_REQUEST_SIZE c.bytes) faultless }
-  of_two driven false goes command e = absurd (true≢false (sym (in_form w c.place c.fd c.cmd c.len c.bytes Ask fd e).1))
+  of_two : (goes : Bool) → goes ≡ is_go (step w 0 (in_ask c)).reply → command_of c.cmd ≡ Some GetLine → (if goes then step (step w 0 (in_ask c)).world 0 (in_tell answer c) else step w 0 (in_ask c)).reply ≡ Number fd → Counted
+  of_two true goes command e = lines_counted (take LINE_REQUEST_SIZE c.bytes) (go_by_number w c.place c.fd c.len c.bytes (command_of c.cmd) command (sym goes))
+  of_two false goes command e = absurd (true≢false (sym (in_form w c.place c.fd c.cmd c.len c.bytes Ask fd e).1))
 
-  of_inside : (driven : Bool) → driven_by ≡ driven → command_of c.cmd ≡ Some GetLine → (if driven then two w (in_ask c) (in_tell answer c) else step w 0 (in_whole c)).reply ≡ Number fd → IsRequest c
-  of_inside true driven command e = of_two driven (goes_on w (in_ask c)) refl command e
-  of_inside false driven command e = absurd (true≢false (sym (in_form w c.place c.fd c.cmd c.len c.bytes Whole fd e).1))
+  of_inside : (driven : Bool) → command_of c.cmd ≡ Some GetLine → (if driven then two w (in_ask c) (in_tell answer c) else step w 0 (in_whole c)).reply ≡ Number fd → Counted
+  of_inside true command e = of_two (goes_on w (in_ask c)) refl command e
+  of_inside false command e = absurd (true≢false (sym (in_form w c.place c.fd c.cmd c.len c.bytes Whole fd e).1))
 
-  of_guard : (gone : Bool) → command_of c.cmd ≡ Some GetLine → (if gone then step w 0 (RefusedCall c.place false) else inside w (Commanding c) answer).reply ≡ Number fd → IsRequest c
+  of_guard : (gone : Bool) → command_of c.cmd ≡ Some GetLine → (if gone then step w 0 (RefusedCall c.place false) else inside w (Commanding c) answer).reply ≡ Number fd → Counted
   of_guard true command e = absurd (guard_no_number false fd e)
-  of_guard false command e = of_inside driven_by refl command e
+  of_guard false command e = of_inside (is_driver_asked c.of_chip c.len (command_of c.cmd)) command e
 
 pub lines_by : (w : World) (call : DeviceCall) (answer : Option ℕ) (reply : Reply) → reply ≡ (comes_to w call answer).reply → LinesBy call reply
 lines_by w (Once call) answer reply is = tt

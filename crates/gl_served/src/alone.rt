@@ -2,7 +2,7 @@
 
 ghost use Rattle.std.specs.Prelude.{vec_len, vec_capacity, ◌≡◌, ◌+◌, ◌≤◌, [], map, replicate, IfOk, OnOk, OnErr, IsOkUnless, ℕ, List};
 ghost use Rattle.gl_asking.specs.Asking.{asking, buffer_of, file_for, files_behind, got_of};
-ghost use Rattle.gl_asking.specs.Changes.{IsFilled, NamesMade, OpensWithin};
+ghost use Rattle.gl_asking.specs.Changes.{IsFilled, OpensWithin};
 ghost use Rattle.gl_asking.specs.Files.{OpenFile};
 ghost use Rattle.gl_asking.specs.Fitting.{FitsDevice};
 ghost use Rattle.gl_asking.specs.Rows.{IsRow, IsSomeRow, file_of, row_file};
@@ -19,7 +19,7 @@ use crate::closing::in_order;
 use crate::making::{Made, make};
 use crate::port::Planned;
 use crate::rows::{change, row_for};
-use gl_asking::{Answered, Asking, FileRow, asking_of, files_behind, got_of};
+use gl_asking::{Asking, FileRow, answered_by, asking_of, files_behind, got_of};
 use gl_base::{Do, Errno, Got};
 use gl_core::Core;
 use gl_core::laws::core_is_well_kept;
@@ -65,28 +65,16 @@ impl Alone {
             Asking::Calls(call) => self.call(alloc, what, row, &call),
             Asking::Plans(nth) => {
                 self.port.plan(nth);
-                let answered = Answered {
-                    reply: Reply::Done,
-                    lines: None,
-                };
-                self.keep(what, row, &answered);
+                self.keep(what, row, Reply::Done);
                 Ok(Got::Done)
             }
             Asking::Accepts(bits) => {
                 self.port.accept(bits);
-                let answered = Answered {
-                    reply: Reply::Done,
-                    lines: None,
-                };
-                self.keep(what, row, &answered);
+                self.keep(what, row, Reply::Done);
                 Ok(Got::Done)
             }
             Asking::Refuses(errno) => {
-                let answered = Answered {
-                    reply: Reply::Refused(errno),
-                    lines: None,
-                };
-                self.keep(what, row, &answered);
+                self.keep(what, row, Reply::Refused(errno));
                 Ok(Got::Refused(errno))
             }
         }
@@ -143,28 +131,28 @@ impl Alone {
         let buffer = buffer_for(alloc, what)?;
         core_is_well_kept(&self.core);
         match make(&mut self.core, alloc, &mut self.port, call, buffer) {
-            Ok(Made { answered, buffer }) => {
-                self.keep(what, row, &answered);
-                Ok(got_of(what, &answered.reply, buffer))
+            Ok(Made { reply, buffer }) => {
+                self.keep(what, row, reply);
+                Ok(got_of(what, &reply, buffer))
             }
             Err(errno) => Err(errno),
         }
     }
 
-    /// The open files after an operation that was answered so. There is room for a file more.
-    fn keep(&mut self, what: &Do, row: Option<FileRow>, answered: &Answered)
+    /// The open files after an operation with this reply. There is room for a file more.
+    fn keep(&mut self, what: &Do, row: Option<FileRow>, reply: Reply)
         requires rows { Each IsRow self.old.rows.items }
         requires room { vec_len self.old.rows + 1 ≤ vec_capacity self.old.rows }
         requires row { IsSomeRow row }
         requires found { file_for what.now (map row_file self.old.rows.items) ≡ file_of row }
-        requires opens { OpensWithin what.now answered.now.reply }
-        requires named { NamesMade what.now row answered.now }
+        requires opens { OpensWithin what.now reply }
         ensures rows { Each IsRow self.new.rows.items }
-        ensures files { map row_file self.new.rows.items ≡ files_behind what.now answered.now.reply (map row_file self.old.rows.items) }
+        ensures files { map row_file self.new.rows.items ≡ files_behind what.now reply (map row_file self.old.rows.items) }
         ensures core { self.new.core ≡ self.old.core }
         ensures port { self.new.port ≡ self.old.port }
     {
-        change(&mut self.rows, files_behind(what, row, answered));
+        let answered = answered_by(what, reply);
+        change(&mut self.rows, files_behind(what, row, &answered));
     }
 }
 

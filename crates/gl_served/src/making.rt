@@ -1,11 +1,10 @@
 //! Calls of the device as one actor makes them, one after another: no other actor is there, so no place is left between two calls of
 //! a removal, and the guard of a place is closed just where its chip is gone.
 
-ghost use Rattle.std.specs.Prelude.{◌≡◌, ◌<◌, ◌∷◌, None, Some, Ok, IfOk, OnErr, IsOkUnless, if◌then◌else◌};
+ghost use Rattle.std.specs.Prelude.{◌≡◌, ◌<◌, ◌∷◌, None, Some, IfOk, OnErr, IsOkUnless, if◌then◌else◌};
 ghost use Rattle.gl_asking.specs.Fitting.{FitsDevice};
 ghost use Rattle.gl_base.specs.declared.limits.TheConstants.{PLACES};
 ghost use Rattle.gl_core.specs.Kept.{StandsFor};
-ghost use Rattle.gl_model.specs.AskedLines.{AskedLines};
 ghost use Rattle.gl_model.specs.Chips.{phase_at};
 ghost use Rattle.gl_model.specs.Entries.{last_call};
 ghost use Rattle.gl_model.specs.Fits.{Fits, FitsBuffer, FitsCall};
@@ -15,13 +14,12 @@ ghost use Rattle.gl_model.specs.World.{World};
 ghost use Rattle.gl_model.specs.declared.device_call.DeviceCall.TheVariants.{Commanding, Removing};
 ghost use Rattle.gl_check.specs.One.{comes_to, goes_on, inside, is_asked, is_gone, two};
 ghost use Rattle.gl_served.specs.Making.{Came, CameBy, FitsMaking, is_asked_inside, is_command_asked};
-ghost use Rattle.gl_served.specs.Opening.{AsksLines, BringsLines, NumberFits, NumbersBy};
+ghost use Rattle.gl_served.specs.Opening.{NumberFits, NumbersBy};
 ghost use Rattle.gl_served.specs.Port.{after_asking, next_to, port_in};
 
 use crate::parts::{applies, first_call, guard_of, in_part, is_poll, last_call};
 use crate::port::Planned;
-use gl_asking::Answered;
-use gl_base::{Errno, Lines, Phase};
+use gl_base::{Errno, Phase};
 use gl_core::Core;
 use gl_core::entries::begins;
 use gl_core::fits::gift_for;
@@ -33,8 +31,8 @@ use std::alloc::Global;
 /// What a call of the device came to.
 #[derive(Drop)]
 pub struct Made {
-    /// What it was answered, with the lines that it asked for.
-    pub answered: Answered,
+    /// What it was answered.
+    pub reply: Reply,
     /// Its buffer.
     pub buffer: Vec<u8>,
 }
@@ -52,44 +50,25 @@ fn nothing() -> Gift
     }
 }
 
-/// The lines that a call asks for, by what it brings.
-fn lines_brought(gift: &Gift) -> Option<Lines>
-    ensures { (asked : AskedLines) → gift.now.asked ≡ Some (Ok asked) → result ≡ Some asked.lines }
-{
-    match &gift.asked {
-        None => None,
-        Some(brought) => match brought {
-            Err(_) => None,
-            Ok(asked) => Some(*asked.lines()),
-        },
-    }
-}
-
 /// Makes a call of the machine.
 fn step(core: &mut Core, call: &Call, gift: Gift, buffer: Vec<u8>) -> Made
     requires { Fits call.now gift buffer.items }
-    ensures came { (w : World) → StandsFor core.old w → Came (step w 0 call.now) result.answered.reply core.new buffer.items result.buffer.items }
-    ensures number { NumberFits call.now result.answered.reply }
-    ensures lines { BringsLines call.now result.answered.lines }
+    ensures came { (w : World) → StandsFor core.old w → Came (step w 0 call.now) result.reply core.new buffer.items result.buffer.items }
+    ensures number { NumberFits call.now result.reply }
 {
     core_is_well_kept(core);
-    let lines = lines_brought(&gift);
     let mut gift = gift;
     let mut buffer = buffer;
     let reply = core.step(0, call, &mut gift, &mut buffer);
-    Made {
-        answered: Answered { reply, lines },
-        buffer,
-    }
+    Made { reply, buffer }
 }
 
 /// Makes one call of the machine, with the memory that it needs.
 fn make_one(core: &mut Core, alloc: Global, call: &Call, buffer: Vec<u8>) -> Result<Made, Errno>
     requires call { FitsCall call.now }
     requires buffer { FitsBuffer call.now buffer.items }
-    ensures made { (w : World) → StandsFor core.old w → IfOk result (λ made. Came (step w 0 call.now) made.answered.reply core.new buffer.items made.buffer.items) }
-    ensures number { IfOk result (λ made. NumberFits call.now made.answered.reply) }
-    ensures lines { IfOk result (λ made. BringsLines call.now made.answered.lines) }
+    ensures made { (w : World) → StandsFor core.old w → IfOk result (λ made. Came (step w 0 call.now) made.reply core.new buffer.items made.buffer.items) }
+    ensures number { IfOk result (λ made. NumberFits call.now made.reply) }
     ensures kept { OnErr result (core.new ≡ core.old) }
     ensures memory_alone { IsOkUnless result Errno.NoMemory }
 {
@@ -108,7 +87,7 @@ fn remove(
 ) -> Result<Made, Errno>
     requires fits { FitsDevice (Removing removal.now) }
     requires buffer { FitsMaking (Removing removal.now) buffer.items }
-    ensures made { (w : World) → StandsFor core.old w → IfOk result (λ made. CameBy (Removing removal.now) (two w (first_call removal.now) (last_call (first_call removal.now))) made.answered.reply core.new buffer.items made.buffer.items) }
+    ensures made { (w : World) → StandsFor core.old w → IfOk result (λ made. CameBy (Removing removal.now) (two w (first_call removal.now) (last_call (first_call removal.now))) made.reply core.new buffer.items made.buffer.items) }
     ensures kept { OnErr result (core.new ≡ core.old) }
     ensures memory_alone { IsOkUnless result Errno.NoMemory }
 {
@@ -128,10 +107,10 @@ fn end_removal(
     made: Made,
 ) -> Made
     requires fits { FitsDevice (Removing removal.now) }
-    ensures made { (w : World) → StandsFor core.old (step w 0 first.now).world → made.answered.reply ≡ (step w 0 first.now).reply
-        → (StandsFor core.new (two w first.now (last_call (first_call removal.now))).world) × (result.answered.reply ≡ (two w first.now (last_call (first_call removal.now))).reply) }
+    ensures made { (w : World) → StandsFor core.old (step w 0 first.now).world → made.reply ≡ (step w 0 first.now).reply
+        → (StandsFor core.new (two w first.now (last_call (first_call removal.now))).world) × (result.reply ≡ (two w first.now (last_call (first_call removal.now))).reply) }
 {
-    if begins(first, &made.answered.reply) {
+    if begins(first, &made.reply) {
         step(core, &last_call(removal), nothing(), Vec::new(alloc))
     } else {
         made
@@ -149,10 +128,9 @@ fn drive(
     requires fits { FitsDevice (Commanding command.now) }
     requires buffer { FitsBuffer (in_ask command.now) buffer.items }
     ensures made { (w : World) → StandsFor core.old w → IfOk result (λ made.
-        Came (two w (in_ask command.now) (in_tell (next_to (Commanding command.now) (port_in port.old)) command.now)) made.answered.reply core.new buffer.items made.buffer.items
+        Came (two w (in_ask command.now) (in_tell (next_to (Commanding command.now) (port_in port.old)) command.now)) made.reply core.new buffer.items made.buffer.items
         × (port_in port.new ≡ after_asking (goes_on w (in_ask command.now)) (port_in port.old))) }
-    ensures number { IfOk result (λ made. NumbersBy (Commanding command.now) made.answered.reply) }
-    ensures lines { IfOk result (λ made. BringsLines (in_ask command.now) made.answered.lines) }
+    ensures number { IfOk result (λ made. NumbersBy (Commanding command.now) made.reply) }
     ensures kept { OnErr result ((core.new ≡ core.old) × (port_in port.new ≡ port_in port.old)) }
     ensures memory_alone { IsOkUnless result Errno.NoMemory }
 {
@@ -176,24 +154,15 @@ fn tell(
     requires fits { FitsDevice (Commanding command.now) }
     requires ask { ask.now ≡ in_ask command.now }
     requires buffer { FitsBuffer (in_ask command.now) spare.items }
-    requires number { NumbersBy (Commanding command.now) made.answered.reply }
-    requires lines { BringsLines (in_ask command.now) made.answered.lines }
-    ensures made { (w : World) → Came (step w 0 (in_ask command.now)) made.answered.reply core.old spare.items made.buffer.items
-        → Came (two w (in_ask command.now) (in_tell (next_to (Commanding command.now) (port_in port.old)) command.now)) result.answered.reply core.new spare.items result.buffer.items
+    requires number { NumbersBy (Commanding command.now) made.reply }
+    ensures made { (w : World) → Came (step w 0 (in_ask command.now)) made.reply core.old spare.items made.buffer.items
+        → Came (two w (in_ask command.now) (in_tell (next_to (Commanding command.now) (port_in port.old)) command.now)) result.reply core.new spare.items result.buffer.items
         × (port_in port.new ≡ after_asking (goes_on w (in_ask command.now)) (port_in port.old)) }
-    ensures number { NumbersBy (Commanding command.now) result.answered.reply }
-    ensures lines { BringsLines (in_ask command.now) result.answered.lines }
+    ensures number { NumbersBy (Commanding command.now) result.reply }
 {
-    if begins(ask, &made.answered.reply) {
+    if begins(ask, &made.reply) {
         let tell = in_part(command, Part::Tell(port.answer(applies(command))));
-        let told = step(core, &tell, nothing(), spare);
-        Made {
-            answered: Answered {
-                reply: told.answered.reply,
-                lines: made.answered.lines,
-            },
-            buffer: told.buffer,
-        }
+        step(core, &tell, nothing(), spare)
     } else {
         made
     }
@@ -210,10 +179,9 @@ fn command(
     requires fits { FitsDevice (Commanding command.now) }
     requires buffer { FitsBuffer (in_ask command.now) buffer.items }
     ensures made { (w : World) → StandsFor core.old w → IfOk result (λ made.
-        CameBy (Commanding command.now) (inside w (Commanding command.now) (next_to (Commanding command.now) (port_in port.old))) made.answered.reply core.new buffer.items made.buffer.items
+        CameBy (Commanding command.now) (inside w (Commanding command.now) (next_to (Commanding command.now) (port_in port.old))) made.reply core.new buffer.items made.buffer.items
         × (port_in port.new ≡ after_asking (is_command_asked w command.now) (port_in port.old))) }
-    ensures number { IfOk result (λ made. NumbersBy (Commanding command.now) made.answered.reply) }
-    ensures lines { IfOk result (λ made. AsksLines (Commanding command.now) made.answered) }
+    ensures number { IfOk result (λ made. NumbersBy (Commanding command.now) made.reply) }
     ensures kept { OnErr result ((core.new ≡ core.old) × (port_in port.new ≡ port_in port.old)) }
     ensures memory_alone { IsOkUnless result Errno.NoMemory }
 {
@@ -235,10 +203,9 @@ fn make_inside(
     requires fits { FitsDevice call.now }
     requires buffer { FitsMaking call.now buffer.items }
     ensures made { (w : World) → StandsFor core.old w → IfOk result (λ made.
-        CameBy call.now (inside w call.now (next_to call.now (port_in port.old))) made.answered.reply core.new buffer.items made.buffer.items
+        CameBy call.now (inside w call.now (next_to call.now (port_in port.old))) made.reply core.new buffer.items made.buffer.items
         × (port_in port.new ≡ after_asking (is_asked_inside w call.now) (port_in port.old))) }
-    ensures number { IfOk result (λ made. NumbersBy call.now made.answered.reply) }
-    ensures lines { IfOk result (λ made. AsksLines call.now made.answered) }
+    ensures number { IfOk result (λ made. NumbersBy call.now made.reply) }
     ensures kept { OnErr result ((core.new ≡ core.old) × (port_in port.new ≡ port_in port.old)) }
     ensures memory_alone { IsOkUnless result Errno.NoMemory }
 {
@@ -270,10 +237,9 @@ pub fn make(
     requires fits { FitsDevice call.now }
     requires buffer { FitsMaking call.now buffer.items }
     ensures made { (w : World) → StandsFor core.old w → IfOk result (λ made.
-        CameBy call.now (comes_to w call.now (next_to call.now (port_in port.old))) made.answered.reply core.new buffer.items made.buffer.items
+        CameBy call.now (comes_to w call.now (next_to call.now (port_in port.old))) made.reply core.new buffer.items made.buffer.items
         × (port_in port.new ≡ after_asking (is_asked w call.now) (port_in port.old))) }
-    ensures number { IfOk result (λ made. NumbersBy call.now made.answered.reply) }
-    ensures lines { IfOk result (λ made. AsksLines call.now made.answered) }
+    ensures number { IfOk result (λ made. NumbersBy call.now made.reply) }
     ensures kept { OnErr result ((core.new ≡ core.old) × (port_in port.new ≡ port_in port.old)) }
     ensures memory_alone { IsOkUnless result Errno.NoMemory }
 {
@@ -297,10 +263,9 @@ fn make_at(
     requires guard { guard_of call.now ≡ Some place }
     requires place { place < PLACES }
     ensures made { (w : World) → StandsFor core.old w → IfOk result (λ made.
-        CameBy call.now (comes_to w call.now (next_to call.now (port_in port.old))) made.answered.reply core.new buffer.items made.buffer.items
+        CameBy call.now (comes_to w call.now (next_to call.now (port_in port.old))) made.reply core.new buffer.items made.buffer.items
         × (port_in port.new ≡ after_asking (is_asked w call.now) (port_in port.old))) }
-    ensures number { IfOk result (λ made. NumbersBy call.now made.answered.reply) }
-    ensures lines { IfOk result (λ made. AsksLines call.now made.answered) }
+    ensures number { IfOk result (λ made. NumbersBy call.now made.reply) }
     ensures kept { OnErr result ((core.new ≡ core.old) × (port_in port.new ≡ port_in port.old)) }
     ensures memory_alone { IsOkUnless result Errno.NoMemory }
 {

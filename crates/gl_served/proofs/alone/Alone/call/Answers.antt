@@ -23,17 +23,8 @@ keep-requires-clause-opens c =
     let files : List OpenFile = map row_file c.args.self.now.rows.items in
     let suits = suits_call files c.args.what.now c.args.call.now (c.requires.asks files c.requires.found) in
     let kept = c.core_is_well_kept.ensures in
-    suits.opens c.in-Ok.field-0.answered.reply c.in-Ok.ensures.number
-    (lines_by kept.world c.args.call.now (next_to c.args.call.now (port_in c.args.self.now.port)) c.in-Ok.field-0.answered.reply (c.in-Ok.ensures.made kept.world kept.stands).0.reply)
-
-pub keep-requires-clause-named : goal.keep-requires-clause-named
-keep-requires-clause-named c =
-    let files : List OpenFile = map row_file c.args.self.now.rows.items in
-    let suits = suits_call files c.args.what.now c.args.call.now (c.requires.asks files c.requires.found) in
-    let kept = c.core_is_well_kept.ensures in
-    suits.named c.args.row c.in-Ok.field-0.answered
-    (lines_by kept.world c.args.call.now (next_to c.args.call.now (port_in c.args.self.now.port)) c.in-Ok.field-0.answered.reply (c.in-Ok.ensures.made kept.world kept.stands).0.reply)
-    c.in-Ok.ensures.lines
+    suits.opens c.in-Ok.field-0.reply c.in-Ok.ensures.number
+    (lines_by kept.world c.args.call.now (next_to c.args.call.now (port_in c.args.self.now.port)) c.in-Ok.field-0.reply (c.in-Ok.ensures.made kept.world kept.stands).0.reply)
 
 pub returns-in-Ok-clause-ok : goal.returns-in-Ok-clause-ok
 returns-in-Ok-clause-ok c = λ s stands.
@@ -41,10 +32,10 @@ returns-in-Ok-clause-ok c = λ s stands.
     let suits = suits_call files c.args.what.now c.args.call.now (c.requires.asks files c.requires.found) in
     let came = c.in-Ok.ensures.made s.world stands.world in
     let same : c.in_ok-buffer.buffer.items ≡ buffer_for c.args.what.now = search rules in
-    performed_from c.args.what.now s c.keep.new.self c.got_of.result c.args.call.now (port_in c.args.self.now.port) files c.in-Ok.field-0.answered.reply c.in_ok-buffer.buffer.items c.in-Ok.field-0.buffer.items
+    performed_from c.args.what.now s c.keep.new.self c.got_of.result c.args.call.now (port_in c.args.self.now.port) files c.in-Ok.field-0.reply c.in_ok-buffer.buffer.items c.in-Ok.field-0.buffer.items
     (c.requires.asks s.files (subst (λ (l : List OpenFile). file_for c.args.what.now l ≡ file_of c.args.row) stands.files c.requires.found))
     stands.source stands.files same suits
-    (subst (λ (k : Kept). CameBy c.args.call.now (comes_to s.world c.args.call.now (next_to c.args.call.now (port_in c.args.self.now.port))) c.in-Ok.field-0.answered.reply k c.in_ok-buffer.buffer.items c.in-Ok.field-0.buffer.items) (sym c.keep.ensures.core) came.0)
+    (subst (λ (k : Kept). CameBy c.args.call.now (comes_to s.world c.args.call.now (next_to c.args.call.now (port_in c.args.self.now.port))) c.in-Ok.field-0.reply k c.in_ok-buffer.buffer.items c.in-Ok.field-0.buffer.items) (sym c.keep.ensures.core) came.0)
     (ap port_in c.keep.ensures.port ∙ came.1)
     c.keep.ensures.files
     c.got_of.ensures
