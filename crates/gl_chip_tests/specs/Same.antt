@@ -1,11 +1,7 @@
 -- Actors from one call to the next.
-use Rattle.std.specs.Prelude.{◌≡◌, []}
+use Rattle.std.specs.Prelude.{◌≡◌}
 use Rattle.gl_chip.specs.Values.{OneView}
 
 -- the same actor: it took no other one in, and made none
 abbrev pub IsSame : (v w : OneView) → Type 0
 IsSame v w = (w.number ≡ v.number) × (w.made ≡ v.made) × (w.joined ≡ v.joined)
-
--- a device's first actor, before there is another one
-abbrev pub IsAlone : (v : OneView) → Type 0
-IsAlone v = (v.number ≡ 0) × (v.made ≡ 1) × (v.joined ≡ [])

@@ -2,11 +2,11 @@
 
 ghost use Rattle.std.specs.Prelude.{◌≤◌};
 
-use crate::devices::Device;
 use gl_base::command::{GET_CHIPINFO, GET_LINEINFO, GET_LINEINFO_UNWATCH, GET_LINEINFO_WATCH};
-use gl_base::{Errno, flag};
+use gl_base::{Errno, Name, flag};
 use gl_chip::ChipFd;
 use gl_core::Core;
+use gl_device::Device;
 use gl_driver::Driver;
 use gl_uapi::layout::{CHIP_INFO_SIZE, LINE_INFO_SIZE, UNWATCH_SIZE};
 use std::alloc::Global;
@@ -74,7 +74,7 @@ fn request_number<D: Driver<Core>, R: Wait>(
     device: &mut Device<D>,
     file: &ChipFd,
 ) -> Result<u32, Errno> {
-    match device.request(rt, alloc, file, &[1], 1 << flag::INPUT) {
+    match device.request(rt, alloc, file, &[1], &Name::empty(), 1 << flag::INPUT) {
         Ok(line) => Ok(line.number()),
         Err(errno) => Err(errno),
     }

@@ -6,15 +6,13 @@ mod chip_files;
 #[cfg(test)]
 mod device_tests;
 #[cfg(test)]
-mod devices;
+mod files;
 #[cfg(test)]
 mod on_places;
 #[cfg(test)]
 mod on_requests;
 #[cfg(test)]
 mod refusal_tests;
-#[cfg(test)]
-mod requesting;
 #[cfg(test)]
 mod tests;
 #[cfg(test)]

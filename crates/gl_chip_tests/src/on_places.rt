@@ -3,9 +3,9 @@
 ghost use Rattle.std.specs.Prelude.{◌<◌};
 ghost use Rattle.gl_base.specs.declared.limits.TheConstants.{PLACES};
 
-use crate::devices::Device;
 use gl_base::{Errno, IrqDo, PinDo};
 use gl_core::Core;
+use gl_device::Device;
 use gl_driver::Driver;
 use std::sync::Wait;
 

@@ -2,11 +2,11 @@
 
 ghost use Rattle.std.specs.Prelude.{◌≤◌};
 
-use crate::devices::Device;
 use gl_base::Errno;
 use gl_base::command::LINE_SET_CONFIG;
 use gl_chip::LineFd;
 use gl_core::Core;
+use gl_device::Device;
 use gl_driver::Driver;
 use gl_uapi::layout::LINE_CONFIG_SIZE;
 use std::sync::Wait;

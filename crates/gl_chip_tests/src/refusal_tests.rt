@@ -1,12 +1,13 @@
 ghost use Rattle.std.specs.Prelude.{◌≤◌, length};
 
 use crate::chip_files::{OnChipFile, call_on_chip_file};
-use crate::devices::{Device, HandedBack};
+use crate::files::{HandedBack, close_chip, close_line, open};
 use crate::on_places::{OnPlace, call_on_place};
 use crate::on_requests::{OnRequest, call_on_request};
 use gl_base::command::LINE_SET_CONFIG;
-use gl_base::{Errno, Kind, Name, flag};
+use gl_base::{Errno, Kind, Name, Path, flag};
 use gl_chip::{ChipFd, LineFd};
+use gl_device::Device;
 use gl_driver::{SimDriver, SimPort};
 use gl_uapi::layout::LINE_CONFIG_SIZE;
 use std::alloc::Global;
@@ -59,7 +60,7 @@ fn are_handed_back<R: Wait>(
         place,
         errno,
     };
-    device.close_line(rt, line) == Err(line_back) && device.close_chip(rt, file) == Err(file_back)
+    close_line(rt, device, line) == Err(line_back) && close_chip(rt, device, file) == Err(file_back)
 }
 
 /// Calls each device with a file of the other one, which is of another kind there. Whether each call is refused.
@@ -82,19 +83,19 @@ fn a_file_of_another_kind_is_refused_and_so_is_a_closed_one(rt: HostRuntime) {
     let Ok(mut first) = with_two_chips(&rt, rt.alloc(), 100) else {
         panic!(rt; "no chips")
     };
-    let Ok(file) = first.open(&rt, rt.alloc(), b"/dev/gpiochip1") else {
+    let Ok(file) = open(&rt, rt.alloc(), &mut first, b"/dev/gpiochip1") else {
         panic!(rt; "no file")
     };
-    let Ok(line) = first.request(&rt, rt.alloc(), &file, &[3], 1 << flag::OUTPUT) else {
+    let Ok(line) = output(&rt, rt.alloc(), &mut first, &file) else {
         panic!(rt; "no request")
     };
     let Ok(mut second) = with_two_chips(&rt, rt.alloc(), 100) else {
         panic!(rt; "no chips")
     };
-    let Ok(third) = second.open(&rt, rt.alloc(), b"1") else {
+    let Ok(third) = open(&rt, rt.alloc(), &mut second, b"1") else {
         panic!(rt; "no file")
     };
-    let Ok(fourth) = second.open(&rt, rt.alloc(), b"1") else {
+    let Ok(fourth) = open(&rt, rt.alloc(), &mut second, b"1") else {
         panic!(rt; "no file")
     };
     let numbers = [file.number(), line.number()];
@@ -102,8 +103,8 @@ fn a_file_of_another_kind_is_refused_and_so_is_a_closed_one(rt: HostRuntime) {
     let unlike = are_of_another_kind(&rt, rt.alloc(), &mut first, &mut second, &line, &fourth);
     assert!(rt; unlike == [true; 2]);
     let closed = [
-        second.close_chip(&rt, third).is_ok(),
-        second.close_chip(&rt, fourth).is_ok(),
+        close_chip(&rt, &mut second, third) == Ok(()),
+        close_chip(&rt, &mut second, fourth) == Ok(()),
     ];
     assert!(rt; closed == [true; 2]);
     assert!(rt; refuse_both(&rt, rt.alloc(), &mut second, &file, &line, Errno::BadF));
@@ -144,6 +145,16 @@ fn are_of_one_line<R: Wait>(
     ]
 }
 
+/// A request of line 3 of a chip as an output.
+fn output<R: Wait>(
+    rt: &R,
+    alloc: Global,
+    device: &mut Device<SimDriver>,
+    file: &ChipFd,
+) -> Result<LineFd, Errno> {
+    device.request(rt, alloc, file, &[3], &Name::empty(), 1 << flag::OUTPUT)
+}
+
 /// A request of the first lines of the chip at place 1 as inputs.
 fn inputs<R: Wait>(
     rt: &R,
@@ -153,8 +164,8 @@ fn inputs<R: Wait>(
 ) -> Result<LineFd, Errno>
     requires few { length offsets.now ≤ 64 }
 {
-    match device.open(rt, alloc, b"gpiochip1") {
-        Ok(file) => device.request(rt, alloc, &file, offsets, 1 << flag::INPUT),
+    match open(rt, alloc, device, b"gpiochip1") {
+        Ok(file) => device.request(rt, alloc, &file, offsets, &Name::empty(), 1 << flag::INPUT),
         Err(errno) => Err(errno),
     }
 }
@@ -179,12 +190,26 @@ fn a_file_of_another_device_is_the_one_of_its_number(rt: HostRuntime) {
 
 /// Which calls of the tree and the clock are refused for want of room, in this order.
 fn are_full_on_the_tree<R: Wait>(rt: &R, device: &mut Device<SimDriver>) -> [bool; 7] {
+    match (Path::of(b"d"), Path::of(b"d/b/label"), Path::of(b"d/live")) {
+        (Some(made), Some(label), Some(live)) => are_full_at(rt, device, &made, &label, &live),
+        _ => [false; 7],
+    }
+}
+
+/// The same, of a device of the tree, its first bank's label, and whether it is live.
+fn are_full_at<R: Wait>(
+    rt: &R,
+    device: &mut Device<SimDriver>,
+    made: &Path,
+    label: &Path,
+    live: &Path,
+) -> [bool; 7] {
     let name = Name::filled(b"d");
     [
-        device.mkdir(rt, b"d") == Err(Errno::Full),
-        device.rmdir(rt, b"d") == Err(Errno::Full),
-        device.write(rt, b"d/b/label", &name) == Err(Errno::Full),
-        device.read(rt, b"d/live") == Err(Errno::Full),
+        device.mkdir(rt, made) == Err(Errno::Full),
+        device.rmdir(rt, made) == Err(Errno::Full),
+        device.write(rt, label, &name) == Err(Errno::Full),
+        device.read(rt, live) == Err(Errno::Full),
         device.live(rt, &name, true) == Err(Errno::Full),
         device.live(rt, &name, false) == Err(Errno::Full),
         device.tick(rt, 1, 1) == Err(Errno::Full),
@@ -198,9 +223,9 @@ fn are_full_on_chips<R: Wait>(rt: &R, alloc: Global, device: &mut Device<SimDriv
         device.probe(rt, name, 4, Kind::Simulated) == Err(Errno::Full),
         device.probe(rt, name, 4, Kind::Remote) == Err(Errno::Full),
         device.unplug(rt, 0) == Err(Errno::Full),
-        matches!(device.open(rt, alloc, b"0"), Err(Errno::Full)),
-        device.find(rt, &name) == Err(Errno::Full),
-        device.find_at(rt, 0, &name) == Err(Errno::Full),
+        matches!(open(rt, alloc, device, b"0"), Err(Errno::Full)),
+        device.find(rt, None, &name) == Err(Errno::Full),
+        device.find(rt, Some(0), &name) == Err(Errno::Full),
         call_on_place(rt, device, 0, 1) == OnPlace::refused(Errno::Full),
     ]
 }
@@ -210,10 +235,10 @@ fn a_full_history_refuses_every_call(rt: HostRuntime) {
     let Ok(mut device) = with_two_chips(&rt, rt.alloc(), 4) else {
         panic!(rt; "no chips")
     };
-    let Ok(file) = device.open(&rt, rt.alloc(), b"gpiochip1") else {
+    let Ok(file) = open(&rt, rt.alloc(), &mut device, b"gpiochip1") else {
         panic!(rt; "no file")
     };
-    let Ok(line) = device.request(&rt, rt.alloc(), &file, &[3], 1 << flag::OUTPUT) else {
+    let Ok(line) = output(&rt, rt.alloc(), &mut device, &file) else {
         panic!(rt; "no request")
     };
     assert!(rt; are_full_on_the_tree(&rt, &mut device) == [true; 7]);

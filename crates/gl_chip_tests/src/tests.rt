@@ -1,8 +1,9 @@
-use crate::devices::Device;
+use crate::files::open;
 use crate::on_places::{OnPlace, call_on_place};
 use crate::unplugging::unplug_and_end;
 use gl_base::{Errno, Kind, Name, flag};
 use gl_chip::LineFd;
+use gl_device::Device;
 use gl_driver::{FakeDriver, SimDriver, SimPort};
 use std::alloc::Global;
 use std::sync::Wait;
@@ -22,7 +23,7 @@ fn of_two_actors_one_fails_by_its_own_port_and_one_unplugs_the_chip(rt: HostRunt
         let Ok(mut device) = one_chip(&rt, rt.alloc()) else {
             panic!(rt; "no chip")
         };
-        let Ok(file) = device.open(&rt, rt.alloc(), b"gpiochip0") else {
+        let Ok(file) = open(&rt, rt.alloc(), &mut device, b"gpiochip0") else {
             panic!(rt; "no file")
         };
         let ended = unplug_and_end(&rt, rt.alloc(), device, &file);
@@ -72,10 +73,17 @@ fn calls_are_answered_by_the_kind_of_their_chip_and_by_its_driver(rt: HostRuntim
         panic!(rt; "no memory")
     };
     assert!(rt; are_answered_by_kind(&rt, &mut device) == [true; 7]);
-    let Ok(file) = device.open(&rt, rt.alloc(), b"gpiochip1") else {
+    let Ok(file) = open(&rt, rt.alloc(), &mut device, b"gpiochip1") else {
         panic!(rt; "no file")
     };
-    let Ok(line) = device.request(&rt, rt.alloc(), &file, &[0, 1], 1 << flag::INPUT) else {
+    let Ok(line) = device.request(
+        &rt,
+        rt.alloc(),
+        &file,
+        &[0, 1],
+        &Name::empty(),
+        1 << flag::INPUT,
+    ) else {
         panic!(rt; "no request")
     };
     assert!(rt; are_as_the_driver_tells(&rt, &mut device, &line) == [true; 6]);

@@ -4,13 +4,15 @@ ghost use Rattle.std.specs.Prelude.{◌≡◌};
 ghost use Rattle.gl_chip.specs.Values.{IsActorOf};
 ghost use Rattle.gl_chip_tests.specs.Same.{IsSame};
 
-use crate::devices::Device;
-use crate::requesting::request;
-use gl_base::{Errno, Phase, flag};
+use gl_base::command::GET_LINE;
+use gl_base::{Errno, Name, Phase, flag};
 use gl_chip::{Actor, ChipFd, Gpio};
 use gl_core::Core;
 use gl_core::laws::first_bad;
+use gl_device::Device;
 use gl_driver::{Port, SimDriver, SimPort};
+use gl_uapi::layout::LINE_REQUEST_SIZE;
+use gl_uapi::write_request;
 use gl_world::{Entry, Machine};
 use std::alloc::Global;
 use std::sync::Wait;
@@ -121,7 +123,9 @@ fn request_and_fail<R: Wait>(
     ensures same { IsSame actor.old.pass.view actor.new.pass.view }
 {
     actor.plan(1);
-    match request(rt, alloc, gpio, actor, file, &[0], 1 << flag::INPUT) {
+    let mut bytes = [0; LINE_REQUEST_SIZE];
+    write_request(&mut bytes, &[0], &Name::empty(), 1 << flag::INPUT, &[], 0);
+    match gpio.chip_ioctl(rt, alloc, actor, file, GET_LINE, &mut bytes) {
         Ok(_) => Ok(()),
         Err(errno) => Err(errno),
     }
@@ -134,7 +138,7 @@ pub fn unplug_and_end<R: Threads + Wait + Sync>(
     device: Device<SimDriver>,
     file: &ChipFd,
 ) -> Ended {
-    let Device { gpio, mut actor } = device;
+    let (gpio, mut actor) = device.into_parts();
     let mut other = gpio.split(&mut actor, SimPort::new());
     let numbers = [actor.number(), other.number()];
     let requested = request_and_fail(rt, alloc, &gpio, &mut other, file);

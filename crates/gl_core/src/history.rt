@@ -4,7 +4,7 @@ ghost use Rattle.std.specs.Prelude.{◌≡◌, ◌<◌, ◌≤◌, ◌^◌, ◌+
 ghost use Rattle.std.specs.Bool.{Decides};
 ghost use Rattle.gl_world.specs.Ranks.{IsClosing, IsNotGone, rank};
 ghost use Rattle.gl_model.specs.Chips.{phase_at};
-ghost use Rattle.gl_model.specs.World.{World};
+ghost use Rattle.gl_model.specs.World.{World, opening};
 ghost use Rattle.gl_core.specs.Kept.{StandsFor};
 ghost use Rattle.gl_model.specs.Fits.{FitsBuffer, FitsCall};
 ghost use Rattle.gl_model.specs.Machine.{bytes_of, world_after};
@@ -32,15 +32,30 @@ pub fn first_bad(history: &[Entry<Core>], alloc: Global) -> Result<Option<u32>, 
 {
     let mut core = Core::new(alloc)?;
     let mut buffer = Vec::new(alloc);
-    for i in 0..history.len() {
-        if !core.goes_on(&history[i], &mut buffer, alloc)? {
-            return Ok(Some(i as u32));
-        }
-    }
-    Ok(None)
+    core.first_bad(history, &mut buffer, alloc)
 }
 
 impl Core {
+    /// The first entry at which a history stops being legal, which is made again on this core, a new one.
+    fn first_bad(
+        &mut self,
+        history: &[Entry<Core>],
+        buffer: &mut Vec<u8>,
+        alloc: Global,
+    ) -> Result<Option<u32>, Errno>
+        requires few { length history.now < 2 ^ 32 }
+        requires opens { StandsFor self.old opening }
+        ensures first { IfOk result (IsFirstBad StandsFor history.now) }
+        ensures memory_alone { IsOkUnless result Errno.NoMemory }
+    {
+        for i in 0..history.len() {
+            if !self.goes_on(&history[i], buffer, alloc)? {
+                return Ok(Some(i as u32));
+            }
+        }
+        Ok(None)
+    }
+
     /// Whether a history that led to the core may go on with an entry. If so, the core makes the entry's call, and what the machine writes
     /// there stands at the start of the call's buffer; after that the buffer stays. It fails only when out of memory. After `false` or a
     /// failure nothing is said of the core and of the buffer any more.

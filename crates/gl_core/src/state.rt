@@ -55,14 +55,14 @@ impl State {
         ensures ok { IfOk result (λ state. StandsFor state opening) }
         ensures memory_alone { IsOkUnless result Errno.NoMemory }
     {
-        let chips = Registry::new(alloc)?;
         let origins = Vec::with_capacity(alloc, usize::from(PLACES))?;
-        let places = Places::new(alloc)?;
-        let timers = Timers::new(alloc)?;
-        let requests = Requests::new(alloc)?;
-        let files = Watches::new(alloc)?;
         let tree = Tree::new(alloc)?;
+        let chips = Registry::new(alloc)?;
         let plan = PreparedBank::new(alloc)?;
+        let timers = Timers::new(alloc)?;
+        let files = Watches::new(alloc)?;
+        let requests = Requests::new(alloc)?;
+        let places = Places::new(alloc)?;
         Ok(State {
             chips,
             origins,

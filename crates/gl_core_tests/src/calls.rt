@@ -1,4 +1,4 @@
-//! Calls as lines.
+//! Calls as lines. A word that is no number is read as 0.
 
 use crate::words::Words;
 use gl_base::{Errno, IrqDo, Kind, PinDo};
@@ -9,13 +9,21 @@ use std::alloc::Global;
 pub fn read_call(words: &mut Words<'_>, alloc: Global) -> Result<Option<Call>, Errno> {
     let word = words.word();
     if word == b"ioctl".as_slice() {
-        return read_ioctl(words, alloc);
+        return match read_ioctl(words, alloc) {
+            Ok(call) => Ok(Some(call)),
+            Err(errno) => Err(errno),
+        };
     }
+    Ok(read_other_call(word, words))
+}
+
+/// A call that is no command.
+fn read_other_call(word: &[u8], words: &mut Words<'_>) -> Option<Call> {
     match read_tree_call(word, words) {
-        Some(call) => Ok(Some(call)),
+        Some(call) => Some(call),
         None => match read_line_call(word, words) {
-            Some(call) => Ok(Some(call)),
-            None => Ok(read_file_call(word, words)),
+            Some(call) => Some(call),
+            None => read_file_call(word, words),
         },
     }
 }
@@ -24,33 +32,27 @@ pub fn read_call(words: &mut Words<'_>, alloc: Global) -> Result<Option<Call>, E
 fn read_tree_call(word: &[u8], words: &mut Words<'_>) -> Option<Call> {
     match word {
         b"probe" => Some(Call::Probe {
-            label: words.name()?,
-            lines: words.word32()?,
-            kind: kind_of(words.is(b"sim", b"remote")?),
+            label: words.name(),
+            lines: words.word32(),
+            kind: kind_of(words.is(b"sim")),
         }),
         b"unplug" => Some(Call::Unplug {
-            place: words.byte()?,
-            last: words.is(b"finish", b"begin")?,
+            place: words.byte(),
+            last: words.is(b"finish"),
         }),
-        b"mkdir" => Some(Call::MakeDir {
-            path: words.path()?,
-        }),
-        b"rmdir" => Some(Call::RemoveDir {
-            path: words.path()?,
-        }),
+        b"mkdir" => Some(Call::MakeDir { path: words.path() }),
+        b"rmdir" => Some(Call::RemoveDir { path: words.path() }),
         b"write" => Some(Call::Write {
-            path: words.path()?,
-            value: words.name()?,
+            path: words.path(),
+            value: words.name(),
         }),
-        b"read" => Some(Call::Read {
-            path: words.path()?,
-        }),
+        b"read" => Some(Call::Read { path: words.path() }),
         b"live" => Some(Call::Live {
-            device: words.name()?,
+            device: words.name(),
         }),
         b"remove" => Some(Call::Remove {
-            device: words.name()?,
-            last: words.is(b"finish", b"begin")?,
+            device: words.name(),
+            last: words.is(b"finish"),
         }),
         _ => None,
     }
@@ -60,32 +62,32 @@ fn read_tree_call(word: &[u8], words: &mut Words<'_>) -> Option<Call> {
 fn read_line_call(word: &[u8], words: &mut Words<'_>) -> Option<Call> {
     match word {
         b"tick" => Some(Call::Tick {
-            mono: words.number()?,
-            real: words.number()?,
+            mono: words.number(),
+            real: words.number(),
         }),
         b"pin" => Some(Call::Pin {
-            place: words.byte()?,
-            what: read_pin(words)?,
+            place: words.byte(),
+            what: read_pin(words),
         }),
         b"irq" => Some(Call::Irq {
-            place: words.byte()?,
-            offset: words.word32()?,
-            what: read_irq(words)?,
+            place: words.byte(),
+            offset: words.word32(),
+            what: read_irq(words),
         }),
         b"pull" => Some(Call::Pull {
-            place: words.byte()?,
-            offset: words.word32()?,
-            up: words.is(b"up", b"down")?,
+            place: words.byte(),
+            offset: words.word32(),
+            up: words.is(b"up"),
         }),
         b"level" => Some(Call::Level {
-            place: words.byte()?,
-            offset: words.word32()?,
-            pull: words.is(b"pull", b"line")?,
+            place: words.byte(),
+            offset: words.word32(),
+            pull: words.is(b"pull"),
         }),
         b"interrupt" => Some(Call::Interrupt {
-            place: words.byte()?,
-            offset: words.word32()?,
-            up: words.is(b"up", b"down")?,
+            place: words.byte(),
+            offset: words.word32(),
+            up: words.is(b"up"),
         }),
         _ => None,
     }
@@ -94,41 +96,37 @@ fn read_line_call(word: &[u8], words: &mut Words<'_>) -> Option<Call> {
 /// A call that opens or closes a file, on an open one, or that was refused at a guard.
 fn read_file_call(word: &[u8], words: &mut Words<'_>) -> Option<Call> {
     match word {
-        b"open" => Some(Call::OpenChip {
-            word: words.path()?,
-        }),
+        b"open" => Some(Call::OpenChip { word: words.path() }),
         b"find" => Some(Call::Find {
             place: None,
-            name: words.name()?,
+            name: words.name(),
         }),
         b"findat" => Some(Call::Find {
-            place: Some(words.byte()?),
-            name: words.name()?,
+            place: Some(words.byte()),
+            name: words.name(),
         }),
         b"edges" => Some(Call::ReadEdges {
-            place: words.byte()?,
-            fd: words.word32()?,
-            len: words.word32()?,
+            place: words.byte(),
+            fd: words.word32(),
+            len: words.word32(),
         }),
         b"changes" => Some(Call::ReadInfo {
-            place: words.byte()?,
-            fd: words.word32()?,
-            len: words.word32()?,
+            place: words.byte(),
+            fd: words.word32(),
+            len: words.word32(),
         }),
         b"polledges" => Some(Call::PollLine {
-            place: words.byte()?,
-            fd: words.word32()?,
+            place: words.byte(),
+            fd: words.word32(),
         }),
         b"pollchanges" => Some(Call::PollChip {
-            place: words.byte()?,
-            fd: words.word32()?,
+            place: words.byte(),
+            fd: words.word32(),
         }),
-        b"close" => Some(Call::Close {
-            fd: words.word32()?,
-        }),
+        b"close" => Some(Call::Close { fd: words.word32() }),
         b"refused" => Some(Call::Refused {
-            place: words.byte()?,
-            poll: words.is(b"poll", b"call")?,
+            place: words.byte(),
+            poll: words.is(b"poll"),
         }),
         _ => None,
     }
@@ -142,63 +140,61 @@ fn kind_of(is_simulated: bool) -> Kind {
     }
 }
 
-fn read_pin(words: &mut Words<'_>) -> Option<PinDo> {
+/// `range`, `hold`, or else `drop`.
+fn read_pin(words: &mut Words<'_>) -> PinDo {
     match words.word() {
-        b"range" => Some(PinDo::Range {
-            offset: words.word32()?,
-            pin: words.word32()?,
-            count: words.word32()?,
-        }),
-        b"hold" => Some(PinDo::Hold(words.word32()?)),
-        b"drop" => Some(PinDo::Release(words.word32()?)),
-        _ => None,
+        b"range" => PinDo::Range {
+            offset: words.word32(),
+            pin: words.word32(),
+            count: words.word32(),
+        },
+        b"hold" => PinDo::Hold(words.word32()),
+        _ => PinDo::Release(words.word32()),
     }
 }
 
-fn read_irq(words: &mut Words<'_>) -> Option<IrqDo> {
+/// `lock`, `unlock`, `enable`, `disable`, or else `never`.
+fn read_irq(words: &mut Words<'_>) -> IrqDo {
     match words.word() {
-        b"lock" => Some(IrqDo::Lock),
-        b"unlock" => Some(IrqDo::Unlock),
-        b"enable" => Some(IrqDo::Enable),
-        b"disable" => Some(IrqDo::Disable),
-        b"never" => Some(IrqDo::Never),
-        _ => None,
+        b"lock" => IrqDo::Lock,
+        b"unlock" => IrqDo::Unlock,
+        b"enable" => IrqDo::Enable,
+        b"disable" => IrqDo::Disable,
+        _ => IrqDo::Never,
     }
 }
 
-fn read_part(words: &mut Words<'_>) -> Option<Part> {
+/// `whole`, `ask`, `told`, or else `failed`.
+fn read_part(words: &mut Words<'_>) -> Part {
     match words.word() {
-        b"whole" => Some(Part::Whole),
-        b"ask" => Some(Part::Ask),
-        b"told" => Some(Part::Tell(Some(words.number()?))),
-        b"failed" => Some(Part::Tell(None)),
-        _ => None,
+        b"whole" => Part::Whole,
+        b"ask" => Part::Ask,
+        b"told" => Part::Tell(Some(words.number())),
+        _ => Part::Tell(None),
     }
 }
 
 /// A command; its bytes are 0 behind those that the line has.
-fn read_ioctl(words: &mut Words<'_>, alloc: Global) -> Result<Option<Call>, Errno> {
-    let (Some(place), Some(fd), Some(cmd), Some(len), Some(part)) = (
-        words.byte(),
-        words.word32(),
-        words.word32(),
-        words.word32(),
-        read_part(words),
-    ) else {
-        return Ok(None);
-    };
+fn read_ioctl(words: &mut Words<'_>, alloc: Global) -> Result<Call, Errno> {
     let mut given = Vec::new(alloc);
+    let (place, fd, cmd, len) = (words.byte(), words.word32(), words.word32(), words.word32());
+    let part = read_part(words);
     words.put_bytes(&mut given)?;
-    let mut bytes = [0u8; 592];
-    for (place, byte) in bytes.iter_mut().zip(given.iter()) {
-        *place = *byte;
-    }
-    Ok(Some(Call::Ioctl {
+    Ok(Call::Ioctl {
         place,
         fd,
         cmd,
         len,
-        bytes,
+        bytes: padded(&given),
         part,
-    }))
+    })
+}
+
+/// Bytes, and zeros behind them.
+fn padded(given: &[u8]) -> [u8; 592] {
+    let mut bytes = [0; 592];
+    for (place, byte) in bytes.iter_mut().zip(given.iter()) {
+        *place = *byte;
+    }
+    bytes
 }

@@ -36,35 +36,56 @@ impl Game {
         out: &mut Vec<u8>,
     ) -> Result<(), Errno> {
         let mut words = words;
-        let Some(actor) = words.byte() else {
-            return no_call(out);
-        };
-        let Some(call) = read_call(&mut words, alloc)? else {
-            return no_call(out);
-        };
-        if !fits_call(&call) {
-            return no_call(out);
+        let actor = words.byte();
+        match read_call(&mut words, alloc)? {
+            Some(call) if fits_call(&call) => self.put_made(actor, &call, alloc, out),
+            _ => no_call(out),
         }
-        let (reply, buffer) = self.make(actor, &call, alloc)?;
-        self.entries.push(Entry { actor, call, reply })?;
-        put_reply(&reply, out)?;
-        if !buffer.is_empty() {
-            out.extend_from_slice(b" : ")?;
-            put_bytes(&buffer, out)?;
-        }
-        Ok(())
     }
 
-    /// Makes a call, and gives what is answered and the buffer behind it.
-    fn make(&mut self, actor: u8, call: &Call, alloc: Global) -> Result<(Reply, Vec<u8>), Errno>
+    /// Makes a call, and appends what is answered and the buffer behind it.
+    fn put_made(
+        &mut self,
+        actor: u8,
+        call: &Call,
+        alloc: Global,
+        out: &mut Vec<u8>,
+    ) -> Result<(), Errno>
         requires { FitsCall call.now }
     {
         let mut gift = gift_for(call, alloc)?;
         let mut buffer = Vec::new(alloc);
-        buffer.resize(buffer_size(call) as usize, 0)?;
-        fill(&mut buffer, call);
-        let reply = self.core.step(actor, call, &mut gift, &mut buffer);
-        Ok((reply, buffer))
+        match buffer.resize(buffer_size(call) as usize, 0) {
+            Ok(()) => {
+                fill(&mut buffer, call);
+                let reply = self.core.step(actor, call, &mut gift, &mut buffer);
+                self.put_kept(actor, call, reply, &buffer, out)
+            }
+            Err(_) => Err(Errno::NoMemory),
+        }
+    }
+
+    /// Keeps a call's entry, and appends what was answered and the buffer.
+    fn put_kept(
+        &mut self,
+        actor: u8,
+        call: &Call,
+        reply: Reply,
+        buffer: &[u8],
+        out: &mut Vec<u8>,
+    ) -> Result<(), Errno> {
+        let entry = Entry {
+            actor,
+            call: *call,
+            reply,
+        };
+        self.entries.push(entry)?;
+        put_reply(&reply, out)?;
+        if !buffer.is_empty() {
+            out.extend_from_slice(b" : ")?;
+            put_bytes(buffer, out)?;
+        }
+        Ok(())
     }
 
     /// Appends whether the entries are legal, or which of them is the first bad one.

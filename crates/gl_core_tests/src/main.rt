@@ -16,18 +16,38 @@ use std::io::{self, Write};
 use words::Words;
 
 fn main(rt: HostRuntime) -> io::Result<()> {
-    let mut out = rt.stdout();
     let mut game = None;
+    play_all(&rt, &mut game)
+}
+
+/// Plays what the lines of the standard input say.
+fn play_all(rt: &HostRuntime, game: &mut Option<Game>) -> io::Result<()> {
+    let mut out = rt.stdout();
     for line in rt.lines(rt.alloc()) {
         let line = line?;
-        let mut text = Vec::new(rt.alloc());
-        match told(&mut game, line.as_str().as_bytes(), rt.alloc(), &mut text) {
-            Ok(()) => out.write_all(&text)?,
-            Err(errno) => out.write_all(errno.name().as_bytes())?,
-        }
-        out.write_all(b"\n")?;
+        play(game, line.as_str().as_bytes(), rt.alloc(), &mut out)?;
     }
     Ok(())
+}
+
+/// Plays what a line says, and writes what is told of it.
+fn play<W: Write>(
+    game: &mut Option<Game>,
+    line: &[u8],
+    alloc: Global,
+    out: &mut W,
+) -> io::Result<()> {
+    let mut text = Vec::new(alloc);
+    match told(game, line, alloc, &mut text) {
+        Ok(()) => write_line(&text, out),
+        Err(errno) => write_line(errno.name().as_bytes(), out),
+    }
+}
+
+/// Writes a text and the end of its line.
+fn write_line<W: Write>(text: &[u8], out: &mut W) -> io::Result<()> {
+    out.write_all(text)?;
+    out.write_all(b"\n")
 }
 
 /// What is told of a line.

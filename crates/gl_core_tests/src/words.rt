@@ -24,41 +24,40 @@ impl<'a> Words<'a> {
         word
     }
 
-    /// The next word as a number.
-    pub fn number(&mut self) -> Option<u64> {
-        read_decimal(self.word())
+    /// The next word as a number: 0 where it is none.
+    pub fn number(&mut self) -> u64 {
+        read_decimal(self.word()).unwrap_or(0)
     }
 
     /// The next word as a number of 32 bits.
-    pub fn word32(&mut self) -> Option<u32> {
-        u32::try_from(self.number()?).ok()
+    pub fn word32(&mut self) -> u32 {
+        u32::try_from(self.number()).unwrap_or(0)
     }
 
     /// The next word as a number of 8 bits.
-    pub fn byte(&mut self) -> Option<u8> {
-        u8::try_from(self.number()?).ok()
+    pub fn byte(&mut self) -> u8 {
+        u8::try_from(self.number()).unwrap_or(0)
     }
 
-    /// The next word as a name.
-    pub fn name(&mut self) -> Option<Name> {
-        Name::of(self.word())
-    }
-
-    /// The next word as a path.
-    pub fn path(&mut self) -> Option<Path> {
-        Path::of(self.word())
-    }
-
-    /// The next word as one of two.
-    pub fn is(&mut self, yes: &[u8], no: &[u8]) -> Option<bool> {
-        let word = self.word();
-        if word == yes {
-            Some(true)
-        } else if word == no {
-            Some(false)
-        } else {
-            None
+    /// The next word as a name: the empty one where it is none.
+    pub fn name(&mut self) -> Name {
+        match Name::of(self.word()) {
+            Some(name) => name,
+            None => Name::empty(),
         }
+    }
+
+    /// The next word as a path: the empty one where it is none.
+    pub fn path(&mut self) -> Path {
+        match Path::of(self.word()) {
+            Some(path) => path,
+            None => Path::of(b"").unwrap(),
+        }
+    }
+
+    /// Whether the next word is this one.
+    pub fn is(&mut self, word: &[u8]) -> bool {
+        self.word() == word
     }
 
     /// The bytes of all words that are left.

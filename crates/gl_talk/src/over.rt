@@ -1,7 +1,7 @@
 //! A whole talk over given results.
 ghost use Rattle.std.specs.Prelude.{◌≡◌, ◌+◌, ◌≤◌, ◌<◌, [], length, drop, map, IfOk, OnOk, IsOkUnless, MatchOption};
-ghost use Rattle.gl_client.specs.Program.{given, then_left};
-ghost use Rattle.gl_talk.specs.Open.{Names};
+ghost use Rattle.gl_client.specs.Program.{done, given, goes_on, then_left};
+ghost use Rattle.gl_talk.specs.Open.{Names, no_names};
 ghost use Rattle.gl_talk.specs.Over.{columns_in, joined, talk_in};
 ghost use Rattle.gl_talk.specs.Talk.{Does, left, names_in, nothing_talked, talk, talked};
 
@@ -36,17 +36,37 @@ pub fn talk_over(
         text: Vec::new(alloc),
     };
     let mut talk = Talk::new(alloc)?;
+    match talk_on(alloc, &mut talk, statements, results, &mut over) {
+        Ok(()) => Ok(over),
+        Err(errno) => Err(errno),
+    }
+}
+
+/// Begins an actor's statements in a talk that is new, each after the one before it has come to its end, and quits, over these results.
+fn talk_on(
+    alloc: Global,
+    current: &mut Talk,
+    statements: &[Statement<'_>],
+    results: &[Got],
+    over: &mut TalkedOver,
+) -> Result<(), Errno>
+    requires few { length statements.now ≤ 1048576 }
+    requires idle { (names_in current.old ≡ no_names) × (current.old.begun ≡ 0) × (left current.old ≡ goes_on (done no_names)) }
+    requires fresh { talk_in over.old ≡ nothing_talked }
+    ensures ok { OnOk result (talk_in over.new ≡ talk (map columns_in statements.now) results.now) }
+    ensures memory_alone { IsOkUnless result Errno.NoMemory }
+{
     let mut at = 0;
     for statement in statements {
-        talk.begin(alloc, statement)?;
-        match finish(alloc, &mut talk, results, at, &mut over)? {
+        current.begin(alloc, statement)?;
+        match finish(alloc, current, results, at, over)? {
             Some(next) => at = next,
-            None => return Ok(over),
+            None => return Ok(()),
         }
     }
-    talk.quit();
-    finish(alloc, &mut talk, results, at, &mut over)?;
-    Ok(over)
+    current.quit();
+    finish(alloc, current, results, at, over)?;
+    Ok(())
 }
 
 /// Goes on to the end of a statement, or of the talk, with the results from `at` on. It answers where the results after

@@ -5,7 +5,7 @@ use Rattle.gl_model.specs.World.{World}
 use Rattle.gl_core.specs.Kept.{StandsFor}
 use Rattle.gl_core.specs.Legal.{GoesOn}
 use Rattle.gl_core.proofs.Replaying.{legal_with, stops_at, world_with}
-use Rattle.gl_core.proofs.history.first_bad.Goals as goal
+use Rattle.gl_core.proofs.machine.Core.first_bad.Goals as goal
 
 pub returns-then-not-branch-clause-first : goal.returns-then-not-branch-clause-first
 returns-then-not-branch-clause-first c =
