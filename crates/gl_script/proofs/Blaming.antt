@@ -15,8 +15,6 @@ use Rattle.gl_script.specs.declared.section.SectionKind.{SectionKind}
 use Rattle.gl_script.specs.declared.section.SectionKind.TheVariants.{Setup, Actor, After}
 use Rattle.gl_script.specs.declared.table.Form.{Form}
 use Rattle.gl_script.specs.declared.table.Form.TheVariants.{FileName}
-use Rattle.gl_script.specs.declared.table.Tail.{Tail}
-use Rattle.gl_script.specs.declared.table.Tail.TheVariants.{NoMore, Anything, Pieces}
 use Rattle.gl_script.specs.declared.table.Keyword.{Keyword}
 use Rattle.gl_script.specs.declared.version.Version.{Version}
 use Rattle.gl_script.specs.Blame.{FaultsAreOfTheText}
@@ -26,7 +24,7 @@ use Rattle.gl_script.specs.Faults.{spot, is_printable, byte_fault, size_fault, m
 use Rattle.gl_script.specs.Forms.{meets}
 use Rattle.gl_script.specs.Section.{SaidSection}
 use Rattle.gl_script.specs.Sentence.{Before, nothing, is_counted, kind_of, is_actor, is_out_of_order, is_used, actor_count, actor_fault, head_fault, in_section_fault, section_fault, header_fault, version_of, versioned_fault, counted_fault, line_fault, behind, refusal_at, fault_from, sections_said, cost_fault, first_fault}
-use Rattle.gl_script.specs.Table.{keyword_in, wanted}
+use Rattle.gl_script.specs.Table.{Tail, keyword_in, wanted, NoMore, Anything, Pieces}
 
 abbrev is_of_text : RefusalKind → Bool
 is_of_text NoMemory = false

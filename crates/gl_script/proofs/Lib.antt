@@ -3,7 +3,7 @@ pub mod Blaming
 pub mod Costing
 pub mod FirstBytes
 pub mod Loads
-pub mod Missing
+pub mod OneByOne
 pub mod Saying
 pub mod ServingLines
 pub mod Spelling

@@ -1,10 +1,9 @@
 -- A statement without a fault says something, and what it says is what its words spell.
 use Rattle.std.proofs.Common.{◌≡◌, ℕ, Bool, true, false, not, ◌||◌, List, [], ◌∷◌, Option, None, Some, refl, sym, ◌∙◌, ap, subst}
-use Rattle.std.specs.Prelude.{if◌then◌else◌, codes, is_some, Result, Ok}
+use Rattle.std.specs.Prelude.{if◌then◌else◌, codes, is_some}
 use Rattle.std.specs.Str.{bytes_eq}
 use Rattle.std.proofs.lemmas.Slice.Eq.{bytes_eq-Decides}
 use Rattle.gl_base.specs.CommandWord.{command_number_of}
-use Rattle.gl_base.specs.Refusals.{first_of}
 use Rattle.gl_base.specs.Words.{Span, end_of, text_at}
 use Rattle.gl_base.specs.declared.irq.IrqDo.{IrqDo}
 use Rattle.gl_base.specs.declared.irq.IrqDo.TheVariants.{Lock, Unlock, Enable, Disable, Never}
@@ -14,26 +13,15 @@ use Rattle.gl_v1.specs.Words.{old_number_of}
 use Rattle.gl_script.specs.declared.refusal.Spot.{Spot}
 use Rattle.gl_script.specs.declared.said.Said.{Said}
 use Rattle.gl_script.specs.declared.said.Said.TheVariants.{Probe as SaidProbe, Unplug as SaidUnplug, MakeDir as SaidMakeDir, RemoveDir as SaidRemoveDir, Write as SaidWrite, Read as SaidRead, Clock as SaidClock, Fault as SaidFault, Accept as SaidAccept, Pin as SaidPin, Irq as SaidIrq, Open as SaidOpen, Ioctl as SaidIoctl, Events as SaidEvents, OldIoctl as SaidOldIoctl, OldEvents as SaidOldEvents, Changes as SaidChanges, Poll as SaidPoll, Close as SaidClose, Detect as SaidDetect, Info as SaidInfo, Get as SaidGet, Set as SaidSet, Start as SaidStart, Step as SaidStep, Stop as SaidStop}
-use Rattle.gl_script.specs.declared.section.SectionKind.{SectionKind}
-use Rattle.gl_script.specs.declared.served.LineKind.{LineKind}
-use Rattle.gl_script.specs.declared.served.LineKind.TheVariants.{Passed, Setup as SetupLine, Statement}
-use Rattle.gl_script.specs.declared.served.Stage.{Stage}
-use Rattle.gl_script.specs.declared.served.Stage.TheVariants.{Opening, Headed, Open as OpenStage}
-use Rattle.gl_script.specs.declared.section.SectionKind.TheVariants.{Setup as SetupSection, Actor, After}
 use Rattle.gl_script.specs.declared.table.Form.{Form}
 use Rattle.gl_script.specs.declared.table.Form.TheVariants.{FileName, Label, Number, Chip, Command, OldCommand, PinWord, IrqWord}
 use Rattle.gl_script.specs.declared.table.Keyword.{Keyword}
 use Rattle.gl_script.specs.declared.table.Keyword.TheVariants.{Probe, Unplug, MakeDir, RemoveDir, Write, Read, Clock, Fault, Accept, Pin, Irq, Open, Ioctl, Events, OldIoctl, OldEvents, Changes, Poll, Close, Detect, Info, Get, Set, Start, Step, Stop}
-use Rattle.gl_script.specs.declared.table.Tail.TheVariants.{NoMore, Pieces}
 use Rattle.gl_script.specs.declared.version.Version.{Version}
-use Rattle.gl_script.specs.Columns.{columns}
-use Rattle.gl_script.specs.Faults.{byte_fault, forms_fault, makes_file, more_fault, size_fault, statement_fault, tail_fault, wanted_fault}
+use Rattle.gl_script.specs.Faults.{forms_fault, makes_file, statement_fault, tail_fault, wanted_fault}
 use Rattle.gl_script.specs.Forms.{is_there, meets, number_within}
-use Rattle.gl_script.specs.Said.{ArePins, AreValues, Spells, StatementsAreSaid, VersionsAreSaid, chip_of, clock_said, hold_of, irq_name, irq_of, irq_said, keyword_said, one, pin_said, range_of, release_of, said_by, said_of, small_of, unless_fault, values, values_by, values_of, wide_of}
-use Rattle.gl_script.specs.Section.{SaidSection}
-use Rattle.gl_script.specs.Sentence.{Before, counted_fault, in_section_fault, is_comment, is_counted, kind_of, line_fault, section_fault, version_of, versioned_fault}
-use Rattle.gl_script.specs.Served.{headed_kind, kind_at, open_kind, opening_kind, unless, words_kind}
-use Rattle.gl_script.specs.Table.{is_in, keyword_in, keyword_of, only, only_in}
+use Rattle.gl_script.specs.Said.{ArePins, AreValues, Spells, StatementsAreSaid, VersionsAreSaid, chip_of, clock_said, hold_of, irq_name, irq_of, irq_said, keyword_said, one, pin_said, range_of, release_of, said_by, said_of, small_of, unless_fault, values, wide_of}
+use Rattle.gl_script.specs.Table.{is_in, keyword_in, keyword_of, only, only_in, NoMore, Pieces}
 
 -- a word that meets its form
 passes : (b : Bool) (x : Option Spot) (y : Spot) → (if b then x else Some y) ≡ None → (b ≡ true) × (x ≡ None)
@@ -203,19 +191,18 @@ unfolding said_of
 versions_are_said version first words n =
     said_there (keyword_of first.text) first words ∙ ap (λ (o : Option Spot). not (is_some o)) (in_version version (keyword_of first.text) first words n)
 
--- what words say is what is read of them, where they are a statement
-by_fault : (o : Option Spot) (v : Option Said) → is_some (unless_fault o v) ≡ true → unless_fault o v ≡ v
-by_fault None v e = refl
-by_fault (Some fault) v e = cc
+-- what a statement of either version says
+kept_said : (b : Bool) (keyword : Keyword) (first : Span) (words : List Span) (said : Said) → said_by (if b then Some keyword else None) first words ≡ Some said → said_by (Some keyword) first words ≡ Some said
+kept_said true keyword first words said e = e
+kept_said false keyword first words said e = cc
 
-by_keyword : (o : Option Keyword) (first : Span) (words : List Span) → is_some (said_by o first words) ≡ true → said_by o first words ≡ values_by o words
-by_keyword None first words e = cc
-by_keyword (Some keyword) first words e = by_fault (statement_fault (Some keyword) first words) (values keyword words) e
+said_in_version : (version : Version) (o : Option Keyword) (first : Span) (words : List Span) (said : Said) → said_by (only_in version o) first words ≡ Some said → said_by o first words ≡ Some said
+said_in_version version None first words said e = e
+said_in_version version (Some keyword) first words said e = kept_said (is_in version keyword) keyword first words said e
 
-pub values_said : (words : List Span) → is_some (said_of words) ≡ true → said_of words ≡ values_of words
+pub stated : (version : Version) (first : Span) (words all : List Span) (said : Said) → all ≡ first ∷ words → said_by (keyword_in version first.text) first words ≡ Some said → said_of all ≡ Some said
 unfolding said_of
-values_said [] e = cc
-values_said (first ∷ words) e = by_keyword (keyword_of first.text) first words e
+stated version first words all said is e = ap (λ (ws : List Span). said_of ws) is ∙ said_in_version version (keyword_of first.text) first words said e
 
 -- what is said is spelled by its words
 same_said : (a b : Said) → Some a ≡ Some b → a ≡ b
@@ -353,74 +340,3 @@ pub said_is_spelled : (words : List Span) (said : Said) → said_of words ≡ So
 unfolding said_of
 said_is_spelled [] said e = cc
 said_is_spelled (first ∷ words) said e = spelled_by (keyword_of first.text) first words said refl e
-
--- a line without a fault that is a statement's
-third : (a b c : Option Spot) → first_of (a ∷ b ∷ c ∷ []) ≡ None → c ≡ None
-third (Some a) b c e = cc
-third None (Some b) c e = cc
-third None None None e = refl
-third None None (Some c) e = cc
-
-in_section : (version : Option Version) (current : Option SaidSection) (first : Span) (words : List Span) → in_section_fault version current first words ≡ None → is_some (said_of (first ∷ words)) ≡ true
-in_section None current first words e = cc
-in_section (Some version) None first words e = cc
-in_section (Some version) (Some section) first words e = versions_are_said version first words e
-
-abbrev words_fault : Before → List Span → Option Spot
-words_fault before words = if is_counted words then counted_fault before words else None
-
-versioned_said : (version : Option Version) (before : Before) (first : Span) (words : List Span) → is_some version ≡ true → versioned_fault version before first words ≡ None → section_fault (kind_of first.text) before first words ≡ None
-versioned_said None before first words there e = cc
-versioned_said (Some version) before first words there e = e
-
-pub line_said : (before : Before) (line : List ℕ) (first : Span) (words : List Span) → columns line ≡ first ∷ words → is_comment first.text ≡ false
-    → is_some before.version ≡ true → kind_of first.text ≡ None → line_fault before line ≡ None → is_some (said_of (columns line)) ≡ true
-line_said before line first words cols comment there kind e =
-    let last : words_fault before (columns line) ≡ None = third (byte_fault 1 line) (size_fault 0 (columns line)) (words_fault before (columns line)) e in
-    let here : words_fault before (first ∷ words) ≡ None = subst (λ (ws : List Span). words_fault before ws ≡ None) cols last in
-    let counted : versioned_fault before.version before first words ≡ None = subst (λ (b : Bool). (if not b then counted_fault before (first ∷ words) else None) ≡ None) comment here in
-    let versioned : section_fault (kind_of first.text) before first words ≡ None = versioned_said before.version before first words there counted in
-    let stated : section_fault None before first words ≡ None = subst (λ (o : Option SectionKind). section_fault o before first words ≡ None) kind versioned in
-    subst (λ (ws : List Span). is_some (said_of ws) ≡ true) (sym cols) (in_section before.version before.current first words stated)
-
--- words that are accepted as a statement
-abbrev pub IsStatement : Result LineKind Spot → Type 0
-IsStatement r = r ≡ Ok Statement
-
-unless_ok : (o : Option Spot) (r : Result LineKind Spot) → IsStatement (unless o r) → IsStatement r
-unless_ok None r e = e
-unless_ok (Some fault) r e = cc
-
-unless_none : (o : Option Spot) (r : Result LineKind Spot) → IsStatement (unless o r) → o ≡ None
-unless_none None r e = refl
-unless_none (Some fault) r e = cc
-
-opening_said : (o : Option Version) (first : Span) (words : List Span) → IsStatement (opening_kind o first) → is_some (said_of (first ∷ words)) ≡ true
-opening_said None first words e = cc
-opening_said (Some version) first words e = cc
-
-no_setup : IsStatement (Ok SetupLine) → ⊥
-no_setup e = cc
-
-headed_said : (o : Option SectionKind) (first : Span) (words : List Span) → IsStatement (headed_kind o first words) → is_some (said_of (first ∷ words)) ≡ true
-headed_said None first words e = cc
-headed_said (Some SetupSection) first words e = absurd (no_setup (unless_ok (more_fault words) (Ok SetupLine) e))
-headed_said (Some Actor) first words e = cc
-headed_said (Some After) first words e = cc
-
-open_said : (version : Version) (o : Option SectionKind) (first : Span) (words : List Span) → IsStatement (open_kind version o first words) → is_some (said_of (first ∷ words)) ≡ true
-open_said version None first words e = versions_are_said version first words (unless_none (statement_fault (keyword_in version first.text) first words) (Ok Statement) e)
-open_said version (Some kind) first words e = cc
-
-stage_said : (stage : Stage) (first : Span) (words : List Span) → IsStatement (kind_at stage first words) → is_some (said_of (first ∷ words)) ≡ true
-stage_said Opening first words e = opening_said (version_of (first ∷ words)) first words e
-stage_said (Headed version) first words e = headed_said (kind_of first.text) first words e
-stage_said (OpenStage version) first words e = open_said version (kind_of first.text) first words e
-
-comment_said : (b : Bool) (stage : Stage) (first : Span) (words : List Span) → IsStatement (if b then Ok Passed else kind_at stage first words) → is_some (said_of (first ∷ words)) ≡ true
-comment_said true stage first words e = cc
-comment_said false stage first words e = stage_said stage first words e
-
-pub words_said : (stage : Stage) (words : List Span) → IsStatement (words_kind stage words) → is_some (said_of words) ≡ true
-words_said stage [] e = cc
-words_said stage (first ∷ words) e = comment_said (is_comment first.text) stage first words e

@@ -12,8 +12,6 @@ use Rattle.gl_script.specs.declared.refusal.Spot.{Spot}
 use Rattle.gl_script.specs.declared.refusal.Refusal.{Refusal}
 use Rattle.gl_script.specs.declared.section.SectionKind.{SectionKind}
 use Rattle.gl_script.specs.declared.section.SectionKind.TheVariants.{Setup as SetupSection, Actor, After}
-use Rattle.gl_script.specs.declared.served.LineKind.{LineKind}
-use Rattle.gl_script.specs.declared.served.LineKind.TheVariants.{Passed, Header, Setup, Statement}
 use Rattle.gl_script.specs.declared.served.Stage.{Stage}
 use Rattle.gl_script.specs.declared.served.Stage.TheVariants.{Opening, Headed, Open}
 use Rattle.gl_script.specs.declared.version.Version.{Version}
@@ -21,24 +19,24 @@ use Rattle.gl_script.specs.Columns.{columns}
 use Rattle.gl_script.specs.Cost.{session_cost}
 use Rattle.gl_script.specs.Faults.{byte_fault, more_fault, size_fault, spot, statement_fault}
 use Rattle.gl_script.specs.Sentence.{Before, behind, behind_all, behind_counted, behind_head, cost_fault, counted_fault, end_fault, fault_from, header_fault, is_comment, is_counted, kind_of, line_fault, nothing, refusal_at, section_fault, sections_in, sections_said, version_of}
-use Rattle.gl_script.specs.Served.{headed_kind, kind_at, line_kind, open_kind, opening_kind, stage_after, unless, words_kind}
+use Rattle.gl_script.specs.Served.{Kind, Passed, Header, Setup, Statement, headed_kind, kind_at, line_kind, open_kind, opening_kind, stage_after, unless, words_kind}
 use Rattle.gl_script.specs.ServedLines.{Accepted, AcceptedLinesHaveNoFault, AcceptedTextsAreSessions, RefusedLinesHaveTheirFault, accepts, accepts_all, said_behind, setup_of, stands}
 use Rattle.gl_script.specs.Spelled.{behind_header}
 use Rattle.gl_script.specs.Table.{keyword_in}
 
 -- of a kind unless there is a fault
-unless_ok : (o : Option Spot) (r : Result LineKind Spot) (kind : LineKind) → unless o r ≡ Ok kind → (o ≡ None) × (r ≡ Ok kind)
+unless_ok : (o : Option Spot) (r : Result Kind Spot) (kind : Kind) → unless o r ≡ Ok kind → (o ≡ None) × (r ≡ Ok kind)
 unless_ok None r kind e = (refl, e)
 unless_ok (Some fault) r kind e = cc
 
-unless_err : (o : Option Spot) (r : Result LineKind Spot) (fault : Spot) → unless o r ≡ Err fault → (o ≡ Some fault) ⊎ ((o ≡ None) × (r ≡ Err fault))
+unless_err : (o : Option Spot) (r : Result Kind Spot) (fault : Spot) → unless o r ≡ Err fault → (o ≡ Some fault) ⊎ ((o ≡ None) × (r ≡ Err fault))
 unless_err None r fault e = inr (refl, e)
 unless_err (Some other) r fault e = inl (let same : other ≡ fault = cc in ap Some same)
 
-abbrev Same : Result LineKind Spot → Result LineKind Spot → Type 0
+abbrev Same : Result Kind Spot → Result Kind Spot → Type 0
 Same a b = a ≡ b
 
-same_kind : (a b : LineKind) → Same (Ok a) (Ok b) → a ≡ b
+same_kind : (a b : Kind) → Same (Ok a) (Ok b) → a ≡ b
 same_kind a b e = cc
 
 abbrev words_fault : Before → List Span → Option Spot
@@ -48,19 +46,19 @@ abbrev words_behind : Before → Span → List Span → Before
 words_behind before line words = if is_counted words then behind_counted before line words else before
 
 -- a line goes on where it has no fault, and leads to the next stage
-abbrev GoesOn : Stage → List Span → Span → LineKind → Option Spot → Before → Type 0
+abbrev GoesOn : Stage → List Span → Span → Kind → Option Spot → Before → Type 0
 GoesOn stage said line kind fault after = (fault ≡ None) × (after ≡ stands (stage_after stage kind) (said_behind kind line said))
 
-passed : (stage : Stage) (said : List Span) (line : Span) (kind : LineKind) → Passed ≡ kind → GoesOn stage said line kind None (stands stage said)
+passed : (stage : Stage) (said : List Span) (line : Span) (kind : Kind) → Passed ≡ kind → GoesOn stage said line kind None (stands stage said)
 passed stage said line kind e = subst (λ k. GoesOn stage said line k None (stands stage said)) e (refl, refl)
 
-opening : (version : Option Version) (first : Span) (said : List Span) (line : Span) (kind : LineKind) → opening_kind version first ≡ Ok kind
+opening : (version : Option Version) (first : Span) (said : List Span) (line : Span) (kind : Kind) → opening_kind version first ≡ Ok kind
     → GoesOn Opening said line kind (header_fault version first) (record { version = version; complete = []; current = None })
 opening None first said line kind e = cc
 opening (Some version) first said line kind e =
     subst (λ k. GoesOn Opening said line k None (behind_header version [] None)) (same_kind (Header version) kind e) (refl, refl)
 
-headed : (version : Version) (o : Option SectionKind) (first : Span) (words said : List Span) (line : Span) (kind : LineKind) → headed_kind o first words ≡ Ok kind
+headed : (version : Version) (o : Option SectionKind) (first : Span) (words said : List Span) (line : Span) (kind : Kind) → headed_kind o first words ≡ Ok kind
     → GoesOn (Headed version) said line kind (section_fault o (stands (Headed version) said) first words) (behind_head o (stands (Headed version) said) line words)
 headed version None first words said line kind e = cc
 headed version (Some SetupSection) first [] said line kind e =
@@ -69,26 +67,26 @@ headed version (Some SetupSection) first (word ∷ words) said line kind e = cc
 headed version (Some Actor) first words said line kind e = cc
 headed version (Some After) first words said line kind e = cc
 
-among : (version : Version) (o : Option SectionKind) (first : Span) (words said : List Span) (line : Span) (kind : LineKind) → open_kind version o first words ≡ Ok kind
+among : (version : Version) (o : Option SectionKind) (first : Span) (words said : List Span) (line : Span) (kind : Kind) → open_kind version o first words ≡ Ok kind
     → GoesOn (Open version) said line kind (section_fault o (stands (Open version) said) first words) (behind_head o (stands (Open version) said) line words)
 among version None first words said line kind e =
     let parts = unless_ok (statement_fault (keyword_in version first.text) first words) (Ok Statement) kind e in
     subst (λ k. GoesOn (Open version) said line k (section_fault None (stands (Open version) said) first words) (behind_head None (stands (Open version) said) line words)) (same_kind Statement kind parts.1) (parts.0, refl)
 among version (Some section) first words said line kind e = cc
 
-at_stage : (stage : Stage) (first : Span) (words said : List Span) (line : Span) (kind : LineKind) → kind_at stage first words ≡ Ok kind
+at_stage : (stage : Stage) (first : Span) (words said : List Span) (line : Span) (kind : Kind) → kind_at stage first words ≡ Ok kind
     → GoesOn stage said line kind (counted_fault (stands stage said) (first ∷ words)) (behind_counted (stands stage said) line (first ∷ words))
 at_stage Opening first words said line kind e = opening (version_of (first ∷ words)) first said line kind e
 at_stage (Headed version) first words said line kind e = headed version (kind_of first.text) first words said line kind e
 at_stage (Open version) first words said line kind e = among version (kind_of first.text) first words said line kind e
 
-comment_or : (b : Bool) (stage : Stage) (first : Span) (words said : List Span) (line : Span) (kind : LineKind)
+comment_or : (b : Bool) (stage : Stage) (first : Span) (words said : List Span) (line : Span) (kind : Kind)
     → (if b then Ok Passed else kind_at stage first words) ≡ Ok kind
     → GoesOn stage said line kind (if not b then counted_fault (stands stage said) (first ∷ words) else None) (if not b then behind_counted (stands stage said) line (first ∷ words) else stands stage said)
 comment_or true stage first words said line kind e = passed stage said line kind (same_kind Passed kind e)
 comment_or false stage first words said line kind e = at_stage stage first words said line kind e
 
-of_words : (stage : Stage) (words said : List Span) (line : Span) (kind : LineKind) → words_kind stage words ≡ Ok kind
+of_words : (stage : Stage) (words said : List Span) (line : Span) (kind : Kind) → words_kind stage words ≡ Ok kind
     → GoesOn stage said line kind (words_fault (stands stage said) words) (words_behind (stands stage said) line words)
 of_words stage [] said line kind e = passed stage said line kind (same_kind Passed kind e)
 of_words stage (first ∷ words) said line kind e = comment_or (is_comment first.text) stage first words said line kind e
@@ -114,7 +112,7 @@ same_fault a b e = cc
 is_section : (at : ℕ) (fault : Spot) → Same (Err (spot at SectionFault)) (Err fault) → fault.kind ≡ SectionFault
 is_section at fault e = sym (ap (λ (s : Spot). s.kind) (same_fault (spot at SectionFault) fault e))
 
-refused_unless : (o found : Option Spot) (kind : LineKind) (fault : Spot) → found ≡ o → unless o (Ok kind) ≡ Err fault → Refuses found fault
+refused_unless : (o found : Option Spot) (kind : Kind) (fault : Spot) → found ≡ o → unless o (Ok kind) ≡ Err fault → Refuses found fault
 refused_unless None found kind fault same e = cc
 refused_unless (Some other) found kind fault same e = inl (same ∙ ap Some (same_fault other fault e))
 
@@ -155,11 +153,11 @@ third : (a b c : Option Spot) (fault : Spot) → a ≡ None → b ≡ None → R
 third a b c fault e f (inl g) = inl (rw (e, f, g) refl)
 third a b c fault e f (inr g) = inr g
 
-second : (a b c : Option Spot) (r : Result LineKind Spot) (fault : Spot) → a ≡ None → unless b r ≡ Err fault → (r ≡ Err fault → Refuses c fault) → Refuses (first_of_three a b c) fault
+second : (a b c : Option Spot) (r : Result Kind Spot) (fault : Spot) → a ≡ None → unless b r ≡ Err fault → (r ≡ Err fault → Refuses c fault) → Refuses (first_of_three a b c) fault
 second a None c r fault e f h = third a None c fault e refl (h f)
 second a (Some other) c r fault e f h = inl (let same : other ≡ fault = same_fault other fault f in rw (e, same) refl)
 
-first : (a b c : Option Spot) (r : Result LineKind Spot) (fault : Spot) → unless a (unless b r) ≡ Err fault → (r ≡ Err fault → Refuses c fault) → Refuses (first_of_three a b c) fault
+first : (a b c : Option Spot) (r : Result Kind Spot) (fault : Spot) → unless a (unless b r) ≡ Err fault → (r ≡ Err fault → Refuses c fault) → Refuses (first_of_three a b c) fault
 first None b c r fault e h = second None b c r fault refl e h
 first (Some other) b c r fault e h = inl (ap Some (same_fault other fault e))
 
@@ -186,7 +184,7 @@ one_further before further number line lines b e f h = (
   ap (λ o. option_or (refusal_at number o) (fault_from (behind before line) (number + 1) lines)) e ∙ ap (λ (s : Before). fault_from s (number + 1) lines) f ∙ h.1,
 )
 
-accepted_by : (r : Result LineKind Spot) (a b : Accepted) (line : Span) (lines : List Span) (number : ℕ) → line_kind a.stage line.text ≡ r → accepts_all (accepts r line a) lines ≡ Some b
+accepted_by : (r : Result Kind Spot) (a b : Accepted) (line : Span) (lines : List Span) (number : ℕ) → line_kind a.stage line.text ≡ r → accepts_all (accepts r line a) lines ≡ Some b
     → ((n : ℕ) (next : Accepted) → accepts_all (Some next) lines ≡ Some b → Reaches (stands next.stage next.said) n lines b) → Reaches (stands a.stage a.said) number (line ∷ lines) b
 accepted_by (Ok kind) a b line lines number is e h =
     let next : Accepted = record { stage = stage_after a.stage kind; said = said_behind kind line a.said } in

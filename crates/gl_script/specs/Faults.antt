@@ -11,13 +11,11 @@ use Rattle.gl_script.specs.declared.refusal.RefusalKind.TheVariants.{Byte, State
 use Rattle.gl_script.specs.declared.refusal.Spot.{Spot}
 use Rattle.gl_script.specs.declared.table.Form.{Form}
 use Rattle.gl_script.specs.declared.table.Form.TheVariants.{FileName}
-use Rattle.gl_script.specs.declared.table.Tail.{Tail}
-use Rattle.gl_script.specs.declared.table.Tail.TheVariants.{NoMore, Anything, Pieces}
 use Rattle.gl_script.specs.declared.table.Keyword.{Keyword}
 use Rattle.gl_script.specs.declared.table.Keyword.TheVariants.{OldIoctl}
 use Rattle.gl_v1.specs.Words.{makes_file as makes_old_file, old_number_of}
 use Rattle.gl_base.specs.Words.{Span, end_of, text_at}
-use Rattle.gl_script.specs.Table.{Wanted, wanted}
+use Rattle.gl_script.specs.Table.{Tail, Wanted, wanted, NoMore, Anything, Pieces}
 use Rattle.gl_script.specs.Forms.{meets}
 
 -- a fault at a column

@@ -139,15 +139,6 @@ unfoldable pub said_of : List Span → Option Said
 said_of [] = None
 said_of (first ∷ words) = said_by (keyword_of first.text) first words
 
--- the same, of words that are a statement
-abbrev pub values_by : Option Keyword → List Span → Option Said
-values_by None words = None
-values_by (Some keyword) words = values keyword words
-
-abbrev pub values_of : List Span → Option Said
-values_of [] = None
-values_of (first ∷ words) = values_by (keyword_of first.text) words
-
 -- Words say something exactly where they have no fault as a statement, and they have none where they have none in a session of either version.
 abbrev pub StatementsAreSaid : Type 0
 StatementsAreSaid = (first : Span) (words : List Span) → is_some (said_of (first ∷ words)) ≡ not (is_some (statement_fault (keyword_of first.text) first words))

@@ -7,15 +7,13 @@ use Rattle.gl_script.specs.declared.limits.TheConstants.{SESSION_MAX}
 use Rattle.gl_script.specs.declared.refusal.RefusalKind.TheVariants.{Section}
 use Rattle.gl_script.specs.declared.refusal.Spot.{Spot}
 use Rattle.gl_script.specs.declared.section.SectionKind.TheVariants.{Setup as SetupSection}
-use Rattle.gl_script.specs.declared.served.LineKind.{LineKind}
-use Rattle.gl_script.specs.declared.served.LineKind.TheVariants.{Passed, Header, Setup, Statement}
 use Rattle.gl_script.specs.declared.served.Stage.{Stage}
 use Rattle.gl_script.specs.declared.served.Stage.TheVariants.{Opening, Headed, Open}
 use Rattle.gl_script.specs.declared.version.Version.{Version}
 use Rattle.gl_script.specs.Cost.{session_cost}
 use Rattle.gl_script.specs.Section.{SaidSection}
 use Rattle.gl_script.specs.Sentence.{Before, Sentence, behind, line_fault, nothing}
-use Rattle.gl_script.specs.Served.{line_kind, stage_after}
+use Rattle.gl_script.specs.Served.{Kind, Passed, Header, Setup, Statement, line_kind, stage_after}
 use Rattle.gl_script.specs.Spelled.{behind_header}
 
 -- `setup` with these statements
@@ -29,7 +27,7 @@ stands (Headed version) said = behind_header version [] None
 stands (Open version) said = behind_header version [] (Some (setup_of said))
 
 -- the statements so far, behind a line of a kind
-abbrev pub said_behind : LineKind → Span → List Span → List Span
+abbrev pub said_behind : Kind → Span → List Span → List Span
 said_behind Passed line said = said
 said_behind (Header version) line said = said
 said_behind Setup line said = []
@@ -37,7 +35,7 @@ said_behind Statement line said = said ++ line ∷ []
 
 -- A line that is accepted has no fault behind those before it, and what stands behind it is the next stage.
 abbrev pub AcceptedLinesHaveNoFault : Type 0
-AcceptedLinesHaveNoFault = (stage : Stage) (said : List Span) (line : Span) (kind : LineKind) → line_kind stage line.text ≡ Ok kind
+AcceptedLinesHaveNoFault = (stage : Stage) (said : List Span) (line : Span) (kind : Kind) → line_kind stage line.text ≡ Ok kind
     → (line_fault (stands stage said) line.text ≡ None) × (behind (stands stage said) line ≡ stands (stage_after stage kind) (said_behind kind line said))
 
 -- A line that is refused has that fault behind those before it, or is refused as a section.
@@ -50,7 +48,7 @@ pub record Accepted : Type 0 where
   pub stage : Stage
   pub said : List Span
 
-abbrev pub accepts : Result LineKind Spot → Span → Accepted → Option Accepted
+abbrev pub accepts : Result Kind Spot → Span → Accepted → Option Accepted
 accepts (Ok kind) line before = Some (record { stage = stage_after before.stage kind; said = said_behind kind line before.said })
 accepts (Err fault) line before = None
 

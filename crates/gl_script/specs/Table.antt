@@ -3,9 +3,6 @@ use Rattle.std.specs.Prelude.{◌≡◌, ℕ, Bool, true, false, if◌then◌els
 use Rattle.std.specs.Str.{bytes_eq}
 use Rattle.gl_script.specs.declared.table.Form.{Form}
 use Rattle.gl_script.specs.declared.table.Form.TheVariants.{FileName, Label, Path, Number, Chip, Word, Command, OldCommand, PinWord, IrqWord, HeldTool}
-use Rattle.gl_script.specs.declared.table.Tail.{Tail}
-use Rattle.gl_script.specs.declared.table.Tail.TheVariants.{NoMore, Anything, Pieces}
-use Rattle.gl_script.specs.declared.table.Shape.{Shape}
 use Rattle.gl_script.specs.declared.table.Keyword.{Keyword}
 use Rattle.gl_script.specs.declared.table.Keyword.TheVariants.{Probe, Unplug, MakeDir, RemoveDir, Write, Read, Clock, Fault, Accept, Pin, Irq, Open, Ioctl, Events, OldIoctl, OldEvents, Changes, Poll, Close, Detect, Info, Get, Set, Start, Step, Stop}
 use Rattle.gl_script.specs.declared.table.TheConstants.{KEYWORDS}
@@ -71,6 +68,12 @@ keyword_in version word = only_in version (keyword_of word)
 abbrev pub StatementsHaveTheirWords : Type 0
 StatementsHaveTheirWords = (keyword : Keyword) → keyword_of (keyword_name keyword) ≡ Some keyword
 
+-- what may stand behind the words that have forms: nothing, any words, or pieces of bytes and then `as NAME` exactly where the command makes a file
+pub data Tail : Type 0 where
+  NoMore : Tail
+  Anything : Tail
+  Pieces : (makes : Bool) → Tail
+
 -- the forms of the further words, and what may stand behind them
 pub record Wanted : Type 0 where
   pub forms : List Form
@@ -81,9 +84,6 @@ only forms = record { forms = forms; tail = NoMore }
 
 abbrev pub followed : List Form → Tail → Wanted
 followed forms tail = record { forms = forms; tail = tail }
-
-abbrev pub wanted_of : Shape → Wanted
-wanted_of shape = record { forms = shape.forms.now; tail = shape.tail }
 
 -- one row a statement; the second word, and whether the third is a command that makes a file, decide where a statement has several forms
 abbrev pub wanted : Keyword → List ℕ → Bool → Wanted

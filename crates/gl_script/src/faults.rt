@@ -1,17 +1,15 @@
 //! The first fault of a line's words.
 ghost use Rattle.std.specs.Prelude.{◌≡◌, ◌+◌, ◌<◌, ◌≤◌, ◌^◌, ◌&&◌, length, codes, IfOk};
 ghost use Rattle.gl_base.specs.BytesText.{piece_size};
-ghost use Rattle.gl_base.specs.Words.{Span, end_of, text_at, words_at};
-ghost use Rattle.gl_script.specs.Faults.{err_of, spot, is_printable, byte_fault, size_fault, more_fault, forms_fault, name_fault, as_fault, piece_fault, size_of, pieces_fault, bytes_fault, tail_fault, is_get_line, makes, statement_fault};
-ghost use Rattle.gl_script.specs.Table.{wanted_of};
+ghost use Rattle.gl_base.specs.Words.{text_at, words_at};
+ghost use Rattle.gl_script.specs.Faults.{err_of, spot, is_printable, byte_fault, size_fault, more_fault, name_fault, as_fault, piece_fault, size_of, pieces_fault, bytes_fault};
 ghost use Rattle.std.specs.Str.{bytes_eq};
 
 use crate::forms::meets;
 use crate::limits::{PIECES_MAX, WORD_MAX, WORDS_MAX};
 use crate::refusal::{RefusalKind, Spot};
-use crate::table::{Form, Keyword, Shape, Tail};
-use gl_base::command::GET_LINE;
-use gl_base::{command_number, next_word, piece_size};
+use crate::table::Form;
+use gl_base::{next_word, piece_size};
 
 /// The first byte that isn't printable.
 pub fn byte_fault(at: usize, line: &[u8]) -> Option<Spot>
@@ -71,43 +69,6 @@ pub fn more_fault(at: usize, line: &[u8]) -> Option<Spot>
     match next_word(at, line) {
         Some(found) => Some(spot(found.at, RefusalKind::Words)),
         None => None,
-    }
-}
-
-/// The first fault of the words behind one that ends at a place, which are to be of a shape.
-#[tactic(auto, using(crate::proofs::Missing::forms_missing))]
-pub fn shape_fault(shape: &Shape, end: usize, at: usize, line: &[u8]) -> Option<Spot>
-    requires long { at + length line.now + 1 < 2 ^ 32 }
-    requires end { end < 2 ^ 32 }
-    ensures { result ≡ forms_fault (wanted_of shape.now).forms (tail_fault shape.now.tail) end (words_at at line.now) }
-{
-    let mut end = end;
-    let mut at = at;
-    let mut rest = line;
-    for form in shape.forms {
-        let Some(found) = next_word(at, rest) else {
-            return Some(spot(end, RefusalKind::Words));
-        };
-        if !meets(*form, found.word) {
-            return Some(spot(found.at, RefusalKind::Word));
-        }
-        end = found.at + found.word.len();
-        at = found.rest_at;
-        rest = found.rest;
-    }
-    tail_fault(&shape.tail, end, at, rest)
-}
-
-/// The first fault of the words behind those that have forms.
-fn tail_fault(tail: &Tail, end: usize, at: usize, line: &[u8]) -> Option<Spot>
-    requires long { at + length line.now + 1 < 2 ^ 32 }
-    requires end { end < 2 ^ 32 }
-    ensures { result ≡ tail_fault tail.now end (words_at at line.now) }
-{
-    match tail {
-        Tail::NoMore => more_fault(at, line),
-        Tail::Anything => None,
-        Tail::Pieces { makes } => bytes_fault(*makes, end, at, line),
     }
 }
 
@@ -202,7 +163,7 @@ fn is_as(makes: bool, word: &[u8]) -> bool
 }
 
 /// `-` alone or at least one piece, and then `as NAME` exactly where a file is made.
-fn bytes_fault(makes: bool, end: usize, at: usize, line: &[u8]) -> Option<Spot>
+pub fn bytes_fault(makes: bool, end: usize, at: usize, line: &[u8]) -> Option<Spot>
     requires long { at + length line.now + 1 < 2 ^ 32 }
     requires end { end < 2 ^ 32 }
     ensures { result ≡ bytes_fault makes end (words_at at line.now) }
@@ -240,47 +201,4 @@ pub fn text_at(i: u32, at: usize, line: &[u8]) -> &[u8]
         rest = found.rest;
     }
     &[]
-}
-
-/// The first fault of a statement that begins with a word.
-pub fn statement_fault(
-    keyword: Option<Keyword>,
-    start: usize,
-    end: usize,
-    at: usize,
-    line: &[u8],
-) -> Option<Spot>
-    requires start { start < 2 ^ 32 }
-    requires end { end < 2 ^ 32 }
-    requires long { at + length line.now + 1 < 2 ^ 32 }
-    ensures { (first : Span) → first.at ≡ start → end_of first ≡ end → result ≡ statement_fault keyword first (words_at at line.now) }
-{
-    match keyword {
-        Some(keyword) => {
-            let makes = makes(keyword, text_at(1, at, line));
-            let shape = keyword.shape(text_at(0, at, line), makes);
-            shape_fault(&shape, end, at, line)
-        }
-        None => Some(spot(start, RefusalKind::Statement)),
-    }
-}
-
-/// Whether the command of a statement makes a file, by the command's word.
-fn makes(keyword: Keyword, command: &[u8]) -> bool
-    ensures { result ≡ makes keyword command.now }
-{
-    match keyword {
-        Keyword::OldIoctl => gl_v1::makes_file(gl_v1::command_number(command)),
-        _ => is_get_line(command_number(command)),
-    }
-}
-
-/// Whether a command is the one that makes a file.
-fn is_get_line(command: Option<u32>) -> bool
-    ensures { result ≡ is_get_line command }
-{
-    match command {
-        Some(number) => number == GET_LINE,
-        None => false,
-    }
 }

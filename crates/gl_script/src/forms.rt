@@ -3,12 +3,25 @@ ghost use Rattle.std.specs.Prelude.{◌≡◌};
 ghost use Rattle.std.specs.List.{list_all};
 ghost use Rattle.gl_base.specs.Label.{is_label_byte};
 ghost use Rattle.gl_script.specs.Forms.{meets, is_one_of, is_of, is_path_byte, is_there, within, number_within, irq_words};
+ghost use Rattle.gl_script.specs.Left.{pin_word_of};
+ghost use Rattle.gl_script.specs.Said.{chip_of, irq_of};
 
 use crate::table::Form;
-use gl_base::{are_label_bytes, chip_number, command_number, read_decimal};
+use gl_base::{IrqDo, are_label_bytes, chip_number, command_number, read_decimal};
 
 /// The greatest number of a chip that a word may have.
 const CHIP_MAX: u64 = 63;
+
+/// What is done with the pins of a chip, by the word behind `pin`.
+#[derive(Clone, Copy, PartialEq, Eq, Debug)]
+pub enum PinWord {
+    /// `range`.
+    Range,
+    /// `hold`.
+    Hold,
+    /// `drop`.
+    Drop,
+}
 
 /// Whether a word is of a form.
 pub fn meets(form: Form, word: &[u8]) -> bool
@@ -48,6 +61,62 @@ fn within(low: u64, high: u64, number: Option<u64>) -> Option<u64>
     match number {
         Some(number) if low <= number && number <= high => Some(number),
         _ => None,
+    }
+}
+
+/// The number of the chip that a word names.
+pub fn chip_of(word: &[u8]) -> Option<u8>
+    ensures { result ≡ chip_of word.now }
+{
+    chip_within(chip_number(word))
+}
+
+/// A number as that of a chip, if it is one.
+fn chip_within(number: Option<u64>) -> Option<u8>
+    ensures { result ≡ within 0 63 number }
+{
+    match number {
+        Some(number) => {
+            if number <= CHIP_MAX {
+                return Some(number as u8);
+            }
+            None
+        }
+        None => None,
+    }
+}
+
+/// What is done with an interrupt, by its word.
+pub fn irq_of(word: &[u8]) -> Option<IrqDo>
+    ensures { result ≡ irq_of word.now }
+{
+    if word == b"lock".as_slice() {
+        Some(IrqDo::Lock)
+    } else if word == b"unlock".as_slice() {
+        Some(IrqDo::Unlock)
+    } else if word == b"enable".as_slice() {
+        Some(IrqDo::Enable)
+    } else if word == b"disable".as_slice() {
+        Some(IrqDo::Disable)
+    } else if word == b"none".as_slice() {
+        Some(IrqDo::Never)
+    } else {
+        None
+    }
+}
+
+/// What is done with pins, by the word behind `pin`.
+pub fn pin_word_of(word: &[u8]) -> Option<PinWord>
+    ensures { result ≡ pin_word_of word.now }
+{
+    if word == b"range".as_slice() {
+        Some(PinWord::Range)
+    } else if word == b"hold".as_slice() {
+        Some(PinWord::Hold)
+    } else if word == b"drop".as_slice() {
+        Some(PinWord::Drop)
+    } else {
+        None
     }
 }
 

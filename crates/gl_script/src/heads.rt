@@ -4,10 +4,9 @@ ghost use Rattle.std.specs.List.{list_any};
 ghost use Rattle.gl_base.specs.Words.{span, words_at};
 ghost use Rattle.gl_script.specs.Meaning.{said_in, head_in};
 ghost use Rattle.gl_script.specs.Section.{titled};
-ghost use Rattle.gl_script.specs.Sentence.{header_fault, is_comment, kind_of, is_actor, is_after, is_named, version_of, version_said};
+ghost use Rattle.gl_script.specs.Sentence.{is_comment, kind_of, is_actor, is_after, is_named, version_of, version_said};
 
-use crate::faults::spot;
-use crate::refusal::{Refusal, RefusalKind, Spot};
+use crate::refusal::{Refusal, RefusalKind};
 use crate::section::{Head, Section, SectionKind};
 use crate::version::Version;
 use gl_base::{Found, next_word};
@@ -82,17 +81,6 @@ pub fn kind_of(word: &[u8]) -> Option<SectionKind>
         return Some(SectionKind::After);
     }
     None
-}
-
-/// The fault of the first line that counts, whose first word this is, where it says no version.
-pub fn header_fault(version: Option<Version>, first: &Found<'_>) -> Option<Spot>
-    requires word { first.now.at + length first.now.word.now < 2 ^ 32 }
-    ensures { result ≡ header_fault version (span first.now.at first.now.word.now) }
-{
-    match version {
-        Some(_) => None,
-        None => Some(spot(first.at, RefusalKind::Header)),
-    }
 }
 
 /// The version that a line says, if it is `session 1` or `session 2`.

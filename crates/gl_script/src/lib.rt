@@ -2,6 +2,7 @@
 #![tactic(auto)]
 
 mod cost;
+mod cursor;
 mod faults;
 mod feed;
 mod forms;
@@ -12,6 +13,7 @@ mod limits;
 mod load;
 mod reading;
 mod refusal;
+mod rows;
 mod said;
 mod script;
 mod section;

@@ -1,26 +1,33 @@
 //! A session is read line by line.
-ghost use Rattle.std.specs.Prelude.{◌≡◌, ◌<◌, ◌≤◌, ◌+◌, ◌^◌, [], ◌∷◌, None, Some, true, is_some, map, length, count_by, OnOk, IfOk, IsOkUnless};
-ghost use Rattle.std.specs.List.{list_any};
-ghost use Rattle.gl_base.specs.Words.{span, text_at, words_at};
+ghost use Rattle.std.specs.Prelude.{◌≡◌, ◌<◌, ◌≤◌, ◌+◌, ◌^◌, ◌++◌, [], ◌∷◌, None, Some, map, length, OnOk, IfOk, IfErr, IsOkUnless};
+ghost use Rattle.gl_base.specs.Words.{span, words_at};
 ghost use Rattle.gl_script.specs.Columns.{columns};
-ghost use Rattle.gl_script.specs.Faults.{spot};
 ghost use Rattle.gl_script.specs.Meaning.{said_in, current_in};
-ghost use Rattle.gl_script.specs.Said.{said_of};
-ghost use Rattle.gl_script.specs.Reading.{before_in};
-ghost use Rattle.gl_script.specs.Sentence.{nothing, is_comment, kind_of, is_actor, is_after, is_out_of_order, actor_count, is_named, names_current, is_used, actor_fault, section_fault, counted_fault, line_fault, with_statement, behind, sections_in};
+ghost use Rattle.gl_script.specs.Reading.{Follows, before_in};
+ghost use Rattle.gl_script.specs.Sentence.{nothing, is_out_of_order, actor_count, names_current, is_used, actor_fault, header_fault, in_section_fault, section_fault, counted_fault, line_fault, behind, behind_counted, behind_head, sections_in, version_of};
 
-use crate::faults::{byte_fault, more_fault, size_fault, spot, statement_fault, text_at};
+use crate::faults::{byte_fault, more_fault, size_fault, spot, text_at};
 use crate::forms::meets;
 use crate::heads::{
-    actors_among, header_fault, is_actor, is_after, is_comment, is_one_named, kind_of, version_of,
+    actors_among, is_actor, is_after, is_comment, is_one_named, kind_of, version_of,
 };
 use crate::limits::ACTORS_MAX;
 use crate::refusal::{RefusalKind, Spot};
+use crate::rows::statement_said;
 use crate::section::{Section, SectionKind, Statement};
 use crate::table::{Form, keyword_in};
 use crate::version::Version;
 use gl_base::{Errno, Found, next_word};
 use std::alloc::Global;
+
+/// Why a line is not taken in.
+#[derive(Clone, Copy, PartialEq, Eq, Debug)]
+pub enum Stop {
+    /// Its first fault.
+    Fault(Spot),
+    /// Memory is wanted.
+    NoMemory,
+}
 
 /// What was read of a session so far.
 #[derive(Drop)]
@@ -40,49 +47,6 @@ impl<'a> Reading<'a> {
             version: None,
             complete: Vec::new(alloc),
             current: None,
-        }
-    }
-
-    /// The first fault of a line.
-    pub fn line_fault(&self, line: &[u8]) -> Option<Spot>
-        requires { length line.now + 2 < 2 ^ 32 }
-        ensures { result ≡ line_fault (before_in self.now) line.now }
-    {
-        if let Some(fault) = byte_fault(1, line) {
-            return Some(fault);
-        }
-        if let Some(fault) = size_fault(1, line) {
-            return Some(fault);
-        }
-        match next_word(1, line) {
-            Some(first) => {
-                if is_comment(first.word) {
-                    return None;
-                }
-                self.counted_fault(&first)
-            }
-            None => None,
-        }
-    }
-
-    fn counted_fault(&self, first: &Found<'_>) -> Option<Spot>
-        requires word { first.now.at + length first.now.word.now < 2 ^ 32 }
-        requires rest { first.now.rest_at + length first.now.rest.now + 1 < 2 ^ 32 }
-        ensures { result ≡ counted_fault (before_in self.now) (span first.now.at first.now.word.now ∷ words_at first.now.rest_at first.now.rest.now) }
-    {
-        let Some(version) = self.version else {
-            return header_fault(version_of(first), first);
-        };
-        match kind_of(first.word) {
-            Some(kind) => self.head_fault(kind, first),
-            None => {
-                if self.current.is_none() {
-                    return Some(spot(first.at, RefusalKind::Section));
-                }
-                let keyword = keyword_in(version, first.word);
-                let end = first.at + first.word.len();
-                statement_fault(keyword, first.at, end, first.rest_at, first.rest)
-            }
         }
     }
 
@@ -166,35 +130,85 @@ impl<'a> Reading<'a> {
 }
 
 impl<'a> Reading<'a> {
-    /// Takes a line without a fault in.
-    pub fn read(&mut self, alloc: Global, at: usize, line: &'a [u8]) -> Result<(), Errno>
-        requires { line_fault (before_in self.old) line.now ≡ None }
-        ensures ok { OnOk result (before_in self.new ≡ behind (before_in self.old) (span at line.now)) }
+    /// Takes a line in, unless it has a fault.
+    pub fn read(&mut self, alloc: Global, at: usize, line: &'a [u8]) -> Result<(), Stop>
+        requires { length line.now + 2 < 2 ^ 32 }
+        ensures read { Follows (line_fault (before_in self.old) line.now) (behind (before_in self.old) (span at line.now)) (before_in self.new) result }
         ensures few { OnOk result (length (sections_in (before_in self.new)) ≤ length (sections_in (before_in self.old)) + 1) }
-        ensures memory_alone { IsOkUnless result Errno.NoMemory }
     {
+        if let Some(fault) = byte_fault(1, line) {
+            return Err(Stop::Fault(fault));
+        }
+        if let Some(fault) = size_fault(1, line) {
+            return Err(Stop::Fault(fault));
+        }
         match next_word(1, line) {
             Some(first) => {
                 if is_comment(first.word) {
                     return Ok(());
                 }
-                if self.version.is_none() {
-                    self.version = version_of(&first);
-                    return Ok(());
-                }
-                match kind_of(first.word) {
-                    Some(kind) => self.begin(alloc, kind, text_at(0, first.rest_at, first.rest)),
-                    None => self.add(at, line),
-                }
+                self.count(alloc, at, line, &first)
             }
             None => Ok(()),
         }
     }
 
+    /// Takes a line in that counts.
+    fn count(
+        &mut self,
+        alloc: Global,
+        at: usize,
+        line: &'a [u8],
+        first: &Found<'a>,
+    ) -> Result<(), Stop>
+        requires word { first.now.at + length first.now.word.now < 2 ^ 32 }
+        requires rest { first.now.rest_at + length first.now.rest.now + 1 < 2 ^ 32 }
+        requires line { columns line.now ≡ span first.now.at first.now.word.now ∷ words_at first.now.rest_at first.now.rest.now }
+        ensures read { Follows (counted_fault (before_in self.old) (columns line.now)) (behind_counted (before_in self.old) (span at line.now) (columns line.now)) (before_in self.new) result }
+        ensures few { OnOk result (length (sections_in (before_in self.new)) ≤ length (sections_in (before_in self.old)) + 1) }
+    {
+        let Some(version) = self.version else {
+            return self.head(first);
+        };
+        match kind_of(first.word) {
+            Some(kind) => self.begin(alloc, kind, first),
+            None => self.add(version, at, line, first),
+        }
+    }
+
+    /// Takes the header in.
+    fn head(&mut self, first: &Found<'a>) -> Result<(), Stop>
+        requires word { first.now.at + length first.now.word.now < 2 ^ 32 }
+        requires rest { first.now.rest_at + length first.now.rest.now + 1 < 2 ^ 32 }
+        ensures read { Follows (header_fault (version_of (span first.now.at first.now.word.now ∷ words_at first.now.rest_at first.now.rest.now)) (span first.now.at first.now.word.now)) (record { version = version_of (span first.now.at first.now.word.now ∷ words_at first.now.rest_at first.now.rest.now); complete = (before_in self.old).complete; current = (before_in self.old).current }) (before_in self.new) result }
+    {
+        match version_of(first) {
+            Some(version) => {
+                self.version = Some(version);
+                Ok(())
+            }
+            None => Err(Stop::Fault(spot(first.at, RefusalKind::Header))),
+        }
+    }
+
+    /// Takes the head of a section in.
+    fn begin(&mut self, alloc: Global, kind: SectionKind, first: &Found<'a>) -> Result<(), Stop>
+        requires word { first.now.at + length first.now.word.now < 2 ^ 32 }
+        requires rest { first.now.rest_at + length first.now.rest.now + 1 < 2 ^ 32 }
+        ensures read { Follows (section_fault (Some kind) (before_in self.old) (span first.now.at first.now.word.now) (words_at first.now.rest_at first.now.rest.now)) (behind_head (Some kind) (before_in self.old) (span first.now.at first.now.word.now) (words_at first.now.rest_at first.now.rest.now)) (before_in self.new) result }
+    {
+        if let Some(fault) = self.head_fault(kind, first) {
+            return Err(Stop::Fault(fault));
+        }
+        match self.open(alloc, kind, text_at(0, first.rest_at, first.rest)) {
+            Ok(()) => Ok(()),
+            Err(_) => Err(Stop::NoMemory),
+        }
+    }
+
     /// Begins a section.
-    fn begin(&mut self, alloc: Global, kind: SectionKind, name: &'a [u8]) -> Result<(), Errno>
+    fn open(&mut self, alloc: Global, kind: SectionKind, name: &'a [u8]) -> Result<(), Errno>
         ensures ok { OnOk result (before_in self.new ≡ record { version = self.old.version; complete = sections_in (before_in self.old); current = Some (record { kind = kind; name = name.now; statements = [] }) }) }
-        ensures memory_alone { IsOkUnless result Errno.NoMemory }
     {
         if let Some(section) = self.current.take() {
             self.complete.push(section)?;
@@ -208,18 +222,45 @@ impl<'a> Reading<'a> {
     }
 
     /// Adds the statement of a line to the section.
-    fn add(&mut self, at: usize, line: &'a [u8]) -> Result<(), Errno>
-        requires { is_some (said_of (columns line.now)) ≡ true }
-        ensures ok { OnOk result (before_in self.new ≡ record { version = self.old.version; complete = (before_in self.old).complete; current = with_statement (span at line.now) (current_in self.old.current) }) }
-        ensures memory_alone { IsOkUnless result Errno.NoMemory }
+    fn add(
+        &mut self,
+        version: Version,
+        at: usize,
+        line: &'a [u8],
+        first: &Found<'a>,
+    ) -> Result<(), Stop>
+        requires word { first.now.at + length first.now.word.now < 2 ^ 32 }
+        requires rest { first.now.rest_at + length first.now.rest.now + 1 < 2 ^ 32 }
+        requires line { columns line.now ≡ span first.now.at first.now.word.now ∷ words_at first.now.rest_at first.now.rest.now }
+        ensures read { Follows (in_section_fault (Some version) (before_in self.old).current (span first.now.at first.now.word.now) (words_at first.now.rest_at first.now.rest.now)) (behind_head None (before_in self.old) (span at line.now) (words_at first.now.rest_at first.now.rest.now)) (before_in self.new) result }
     {
         match &mut self.current {
             Some(section) => {
-                section.statements.push(Statement::of(at, line))?;
-                Ok(())
+                let keyword = keyword_in(version, first.word);
+                match statement_said(keyword, first) {
+                    Ok(said) => push_statement(
+                        &mut section.statements,
+                        Statement { at, line, said },
+                    ),
+                    Err(fault) => Err(Stop::Fault(fault)),
+                }
             }
-            None => Ok(()),
+            None => Err(Stop::Fault(spot(first.at, RefusalKind::Section))),
         }
+    }
+}
+
+/// Adds a statement to those of a section.
+fn push_statement<'a>(
+    statements: &mut Vec<Statement<'a>>,
+    statement: Statement<'a>,
+) -> Result<(), Stop>
+    ensures added { OnOk result (statements.new.items ≡ statements.old.items ++ statement.entry ∷ []) }
+    ensures memory_alone { IfErr result (λ stop. stop ≡ Stop.NoMemory) }
+{
+    match statements.push(statement) {
+        Ok(()) => Ok(()),
+        Err(_) => Err(Stop::NoMemory),
     }
 }
 

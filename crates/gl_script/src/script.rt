@@ -6,7 +6,7 @@ ghost use Rattle.gl_script.specs.Meaning.{said_in};
 use crate::cost::cost_within_limit;
 use crate::heads::{head_of, refusal, whole_refusal};
 use crate::limits::SESSION_MAX;
-use crate::reading::Reading;
+use crate::reading::{Reading, Stop};
 use crate::refusal::{Refusal, RefusalKind};
 use crate::section::{Head, Section, Statement};
 use gl_base::split_first;
@@ -46,11 +46,10 @@ impl<'a> Script<'a> {
         let mut rest = Some(bytes);
         while let Some(text) = rest {
             let (line, after) = split_first(text, b'\n');
-            if let Some(fault) = reading.line_fault(line) {
-                return Err(refusal(number, fault.column, fault.kind));
-            }
-            if reading.read(alloc, at, line).is_err() {
-                return Err(whole_refusal(RefusalKind::NoMemory));
+            match reading.read(alloc, at, line) {
+                Ok(()) => {}
+                Err(Stop::Fault(fault)) => return Err(refusal(number, fault.column, fault.kind)),
+                Err(Stop::NoMemory) => return Err(whole_refusal(RefusalKind::NoMemory)),
             }
             number += 1;
             at += line.len() + 1;

@@ -1,10 +1,10 @@
 //! Sections and their statements, as stretches of the source.
-ghost use Rattle.std.specs.Prelude.{◌≡◌, ◌<◌, ◌≤◌, Some, true, is_some, length, MatchOption};
+ghost use Rattle.std.specs.Prelude.{◌≡◌, ◌<◌, ◌≤◌, Some, length, MatchOption};
 ghost use Rattle.std.specs.Coded.{Coded-set, coded_option};
 ghost use Rattle.gl_script.specs.Columns.{columns};
 ghost use Rattle.gl_script.specs.Said.{said_of};
 
-use crate::said::{Said, values_of};
+use crate::said::Said;
 use gl_base::nth_word;
 
 /// The kind of a section.
@@ -51,16 +51,12 @@ impl<'a> Statement<'a> {
     ghost use Rattle.gl_script.specs.Meaning.{line_in};
     ghost use Rattle.gl_script.specs.Said.{Spells};
 
-    /// The statement of a line that is one, which begins at a place in the source. (`line_kind` says which lines are.)
-    #[tactic(auto, using(crate::proofs::Saying::values_said))]
-    pub fn of(at: usize, line: &'a [u8]) -> Statement<'a>
-        requires { is_some (said_of (columns line.now)) ≡ true }
+    /// The statement of a line, which begins at a place in the source, and what its words say. (`line_kind` reads it.)
+    pub fn of(at: usize, line: &'a [u8], said: Said) -> Statement<'a>
+        requires { said_of (columns line.now) ≡ Some said }
         ensures { line_in result ≡ span at line.now }
     {
-        match values_of(line) {
-            Some(said) => Statement { at, line, said },
-            None => unreachable!(),
-        }
+        Statement { at, line, said }
     }
 
     /// Where its line begins in the source, in bytes counted from 0.

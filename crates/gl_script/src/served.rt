@@ -1,14 +1,15 @@
 //! The lines of a session that is answered line by line.
-ghost use Rattle.std.specs.Prelude.{◌≡◌, ◌<◌, ◌+◌, ◌^◌, ◌∷◌, Ok, true, is_some, length};
+ghost use Rattle.std.specs.Prelude.{◌≡◌, ◌<◌, ◌+◌, ◌^◌, ◌∷◌, length, IfOk};
 ghost use Rattle.gl_base.specs.Words.{span, words_at};
 ghost use Rattle.gl_script.specs.Columns.{columns};
-ghost use Rattle.gl_script.specs.Said.{said_of};
-ghost use Rattle.gl_script.specs.Served.{headed_kind, line_kind, open_kind, opened, opening_kind, stage_after, unless, words_kind};
+ghost use Rattle.gl_script.specs.Served.{IsSaid, headed_kind, kind_in, kinds, line_kind, open_kind, opened, opening_kind, stage_after, words_kind};
 ghost use Rattle.gl_script.specs.Sentence.{kind_of, version_of};
 
-use crate::faults::{byte_fault, more_fault, size_fault, spot, statement_fault};
+use crate::faults::{byte_fault, more_fault, size_fault, spot};
 use crate::heads::{is_comment, kind_of, version_of};
 use crate::refusal::{RefusalKind, Spot};
+use crate::rows::statement_said;
+use crate::said::Said;
 use crate::section::SectionKind;
 use crate::table::keyword_in;
 use crate::version::Version;
@@ -26,7 +27,7 @@ pub enum Stage {
 }
 
 /// What a line is.
-#[derive(Clone, Copy, PartialEq, Eq, Debug)]
+#[derive(Clone, Copy, Debug)]
 pub enum LineKind {
     /// It is passed over.
     Passed,
@@ -34,19 +35,19 @@ pub enum LineKind {
     Header(Version),
     /// `setup`.
     Setup,
-    /// A statement.
-    Statement,
+    /// A statement, which says this.
+    Statement(Said),
 }
 
 impl LineKind {
     /// The stage after a line of this kind.
     pub fn stage_after(self, stage: Stage) -> Stage
-        ensures { result ≡ stage_after stage self }
+        ensures { result ≡ stage_after stage (kind_in self) }
     {
         match self {
             LineKind::Header(version) => Stage::Headed(version),
             LineKind::Setup => opened(stage),
-            LineKind::Passed | LineKind::Statement => stage,
+            LineKind::Passed | LineKind::Statement(_) => stage,
         }
     }
 }
@@ -61,11 +62,11 @@ fn opened(stage: Stage) -> Stage
     }
 }
 
-/// What a line is at a stage, or its first fault. A line that is a statement is one that `Statement::of` reads.
+/// What a line is at a stage, or its first fault. Of a line that is a statement it gives what its words say (`Statement::of` takes it).
 pub fn line_kind(stage: Stage, line: &[u8]) -> Result<LineKind, Spot>
     requires { length line.now + 2 < 2 ^ 32 }
-    ensures kind { result ≡ line_kind stage line.now }
-    ensures statement { result ≡ Ok LineKind.Statement → is_some (said_of (columns line.now)) ≡ true }
+    ensures kind { kinds result ≡ line_kind stage line.now }
+    ensures said { IfOk result (λ kind. IsSaid (columns line.now) kind) }
 {
     if let Some(fault) = byte_fault(1, line) {
         return Err(fault);
@@ -83,7 +84,8 @@ pub fn line_kind(stage: Stage, line: &[u8]) -> Result<LineKind, Spot>
 fn counted_kind(stage: Stage, first: &Found<'_>) -> Result<LineKind, Spot>
     requires word { first.now.at + length first.now.word.now < 2 ^ 32 }
     requires rest { first.now.rest_at + length first.now.rest.now + 1 < 2 ^ 32 }
-    ensures { result ≡ words_kind stage (span first.now.at first.now.word.now ∷ words_at first.now.rest_at first.now.rest.now) }
+    ensures kind { kinds result ≡ words_kind stage (span first.now.at first.now.word.now ∷ words_at first.now.rest_at first.now.rest.now) }
+    ensures said { IfOk result (λ kind. IsSaid (span first.now.at first.now.word.now ∷ words_at first.now.rest_at first.now.rest.now) kind) }
 {
     if is_comment(first.word) {
         return Ok(LineKind::Passed);
@@ -99,7 +101,8 @@ fn counted_kind(stage: Stage, first: &Found<'_>) -> Result<LineKind, Spot>
 fn opening_kind(first: &Found<'_>) -> Result<LineKind, Spot>
     requires word { first.now.at + length first.now.word.now < 2 ^ 32 }
     requires rest { first.now.rest_at + length first.now.rest.now + 1 < 2 ^ 32 }
-    ensures { result ≡ opening_kind (version_of (span first.now.at first.now.word.now ∷ words_at first.now.rest_at first.now.rest.now)) (span first.now.at first.now.word.now) }
+    ensures kind { kinds result ≡ opening_kind (version_of (span first.now.at first.now.word.now ∷ words_at first.now.rest_at first.now.rest.now)) (span first.now.at first.now.word.now) }
+    ensures said { IfOk result (λ kind. IsSaid (span first.now.at first.now.word.now ∷ words_at first.now.rest_at first.now.rest.now) kind) }
 {
     match version_of(first) {
         Some(version) => Ok(LineKind::Header(version)),
@@ -107,26 +110,18 @@ fn opening_kind(first: &Found<'_>) -> Result<LineKind, Spot>
     }
 }
 
-/// A kind of line, unless it has a fault.
-fn unless(fault: Option<Spot>, kind: LineKind) -> Result<LineKind, Spot>
-    ensures { result ≡ unless fault (Ok kind) }
-{
-    match fault {
-        Some(fault) => Err(fault),
-        None => Ok(kind),
-    }
-}
-
 /// What a line before the statements is.
 fn setup_kind(first: &Found<'_>) -> Result<LineKind, Spot>
     requires word { first.now.at + length first.now.word.now < 2 ^ 32 }
     requires rest { first.now.rest_at + length first.now.rest.now + 1 < 2 ^ 32 }
-    ensures { result ≡ headed_kind (kind_of first.now.word.now) (span first.now.at first.now.word.now) (words_at first.now.rest_at first.now.rest.now) }
+    ensures kind { kinds result ≡ headed_kind (kind_of first.now.word.now) (span first.now.at first.now.word.now) (words_at first.now.rest_at first.now.rest.now) }
+    ensures said { IfOk result (λ kind. IsSaid (span first.now.at first.now.word.now ∷ words_at first.now.rest_at first.now.rest.now) kind) }
 {
     match kind_of(first.word) {
-        Some(SectionKind::Setup) => {
-            unless(more_fault(first.rest_at, first.rest), LineKind::Setup)
-        }
+        Some(SectionKind::Setup) => match more_fault(first.rest_at, first.rest) {
+            Some(fault) => Err(fault),
+            None => Ok(LineKind::Setup),
+        },
         Some(SectionKind::Actor | SectionKind::After) | None => {
             Err(spot(first.at, RefusalKind::Section))
         }
@@ -137,15 +132,16 @@ fn setup_kind(first: &Found<'_>) -> Result<LineKind, Spot>
 fn open_kind(version: Version, first: &Found<'_>) -> Result<LineKind, Spot>
     requires word { first.now.at + length first.now.word.now < 2 ^ 32 }
     requires rest { first.now.rest_at + length first.now.rest.now + 1 < 2 ^ 32 }
-    ensures { result ≡ open_kind version (kind_of first.now.word.now) (span first.now.at first.now.word.now) (words_at first.now.rest_at first.now.rest.now) }
+    ensures kind { kinds result ≡ open_kind version (kind_of first.now.word.now) (span first.now.at first.now.word.now) (words_at first.now.rest_at first.now.rest.now) }
+    ensures said { IfOk result (λ kind. IsSaid (span first.now.at first.now.word.now ∷ words_at first.now.rest_at first.now.rest.now) kind) }
 {
     match kind_of(first.word) {
         Some(_) => Err(spot(first.at, RefusalKind::Section)),
         None => {
-            let end = first.at + first.word.len();
-            let keyword = keyword_in(version, first.word);
-            let fault = statement_fault(keyword, first.at, end, first.rest_at, first.rest);
-            unless(fault, LineKind::Statement)
+            match statement_said(keyword_in(version, first.word), first) {
+                Ok(said) => Ok(LineKind::Statement(said)),
+                Err(fault) => Err(fault),
+            }
         }
     }
 }

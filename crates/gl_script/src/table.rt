@@ -1,11 +1,10 @@
-//! The table of statements: the word that each begins with, and the forms of its further words.
+//! The table of statements: the word that each begins with, and the forms that words have.
 ghost use Rattle.std.specs.Prelude.{◌≡◌, find, option_copied};
 ghost use Rattle.gl_script.specs.FirstBytes.{keywords_from};
-ghost use Rattle.gl_script.specs.Table.{has_accept, keyword_name, is_keyword, is_in, keyword_in, keyword_of, only_in, wanted, wanted_of, only, followed};
+ghost use Rattle.gl_script.specs.Table.{has_accept, keyword_name, is_keyword, is_in, keyword_in, keyword_of, only_in};
 
 use crate::initials::beginning_with;
 use crate::version::Version;
-use gl_base::LINES_MAX;
 
 /// The form of a word.
 #[derive(Clone, Copy, PartialEq, Eq, Debug)]
@@ -32,17 +31,6 @@ pub enum Form {
     IrqWord,
     /// `gpioset`, `gpiomon` or `gpionotify`.
     HeldTool,
-}
-
-/// What may stand behind the words that have forms.
-#[derive(Clone, Copy, PartialEq, Eq, Debug)]
-pub enum Tail {
-    /// Nothing.
-    NoMore,
-    /// Any words.
-    Anything,
-    /// Pieces of bytes, or `-`; then `as NAME` exactly where the command makes a file.
-    Pieces { makes: bool },
 }
 
 /// The word that a statement begins with.
@@ -102,15 +90,6 @@ pub enum Keyword {
     Stop,
 }
 
-/// The forms of a statement's further words, and what may stand behind them.
-#[derive(Clone, Copy, Debug)]
-pub struct Shape {
-    /// The forms.
-    pub forms: &'static [Form],
-    /// What may stand behind.
-    pub tail: Tail,
-}
-
 /// All statements.
 pub const KEYWORDS: [Keyword; 26] = [
     Keyword::Probe,
@@ -140,24 +119,6 @@ pub const KEYWORDS: [Keyword; 26] = [
     Keyword::Step,
     Keyword::Stop,
 ];
-
-/// A number of lines of a chip.
-const LINES: Form = Form::Number {
-    low: 1,
-    high: LINES_MAX as u64,
-};
-
-/// A number of 32 bits.
-const BELOW_2_32: Form = Form::Number {
-    low: 0,
-    high: 0xFFFF_FFFF,
-};
-
-/// A number of 64 bits.
-const BELOW_2_64: Form = Form::Number {
-    low: 0,
-    high: 0xFFFF_FFFF_FFFF_FFFF,
-};
 
 impl Keyword {
     /// The word.
@@ -193,80 +154,6 @@ impl Keyword {
             Keyword::Stop => "stop",
         }
     }
-
-    /// The forms of the further words, one row a statement. `second` is the statement's second word, and `makes` says
-    /// whether its third is a command that makes a file.
-    pub fn shape(self, second: &[u8], makes: bool) -> Shape
-        ensures { wanted_of result ≡ wanted self second.now makes }
-    {
-        match self {
-            Keyword::Probe => only(&[Form::Label, LINES]),
-            Keyword::Unplug => only(&[Form::Chip]),
-            Keyword::MakeDir => only(&[Form::Path]),
-            Keyword::RemoveDir => only(&[Form::Path]),
-            Keyword::Write => only(&[Form::Path, Form::Label]),
-            Keyword::Read => only(&[Form::Path]),
-            Keyword::Clock => only(&[BELOW_2_64, BELOW_2_64]),
-            Keyword::Fault => only(&[Form::Number {
-                low: 1,
-                high: 1_000_000,
-            }]),
-            Keyword::Accept => only(&[BELOW_2_64]),
-            Keyword::Pin if second == b"range".as_slice() => only(&[
-                Form::PinWord,
-                Form::Chip,
-                BELOW_2_32,
-                BELOW_2_32,
-                BELOW_2_32,
-            ]),
-            Keyword::Pin => only(&[Form::PinWord, Form::Chip, BELOW_2_32]),
-            Keyword::Irq => only(&[Form::IrqWord, Form::Chip, BELOW_2_32]),
-            Keyword::Open => only(&[Form::FileName, Form::Word]),
-            Keyword::Ioctl => followed(&[Form::FileName, Form::Command], Tail::Pieces { makes }),
-            Keyword::Events => only(&[
-                Form::FileName,
-                Form::Number {
-                    low: 0,
-                    high: 49_152,
-                },
-            ]),
-            Keyword::OldIoctl => {
-                followed(&[Form::FileName, Form::OldCommand], Tail::Pieces { makes })
-            }
-            Keyword::OldEvents => only(&[
-                Form::FileName,
-                Form::Number {
-                    low: 0,
-                    high: 16_384,
-                },
-            ]),
-            Keyword::Changes => only(&[Form::FileName, Form::Number { low: 0, high: 9216 }]),
-            Keyword::Poll => only(&[Form::FileName]),
-            Keyword::Close => only(&[Form::FileName]),
-            Keyword::Detect => followed(&[], Tail::Anything),
-            Keyword::Info => followed(&[], Tail::Anything),
-            Keyword::Get => followed(&[], Tail::Anything),
-            Keyword::Set => followed(&[], Tail::Anything),
-            Keyword::Start => followed(&[Form::FileName, Form::HeldTool], Tail::Anything),
-            Keyword::Step => only(&[Form::FileName, Form::Number { low: 1, high: 1000 }]),
-            Keyword::Stop => only(&[Form::FileName]),
-        }
-    }
-}
-
-fn only(forms: &'static [Form]) -> Shape
-    ensures { wanted_of result ≡ only forms.now }
-{
-    Shape {
-        forms,
-        tail: Tail::NoMore,
-    }
-}
-
-fn followed(forms: &'static [Form], tail: Tail) -> Shape
-    ensures { wanted_of result ≡ followed forms.now tail }
-{
-    Shape { forms, tail }
 }
 
 /// The statement that a word begins in a session of either version, if it begins one.

@@ -1,0 +1,193 @@
+//! The words of a statement, read one after the other, each once.
+ghost use Rattle.std.specs.Prelude.{◌≡◌, ◌+◌, ◌<◌, ◌≤◌, ◌^◌, [], ◌∷◌, length, IfOk, IfErr, OnOk, Some};
+ghost use Rattle.gl_base.specs.CommandWord.{command_number_of};
+ghost use Rattle.gl_base.specs.Words.{span, words_at};
+ghost use Rattle.gl_v1.specs.Words.{old_number_of};
+ghost use Rattle.gl_script.specs.Faults.{spot};
+ghost use Rattle.gl_script.specs.Forms.{number_within};
+ghost use Rattle.gl_script.specs.Left.{ArePieces, IsEnd, IsShort, Reads, left_in, pin_word_of};
+ghost use Rattle.gl_script.specs.Said.{chip_of, irq_of};
+
+use crate::faults::{bytes_fault, spot};
+use crate::forms::{PinWord, chip_of, irq_of, meets, number_within, pin_word_of};
+use crate::refusal::{RefusalKind, Spot};
+use crate::table::Form;
+use gl_base::{Found, IrqDo, command_number, next_word};
+
+/// What is left of a statement's line.
+#[derive(Clone, Copy, Debug)]
+pub struct Cursor<'a> {
+    /// Where the word before ends.
+    pub end: usize,
+    /// Where what is left begins.
+    pub at: usize,
+    /// What is left.
+    pub rest: &'a [u8],
+}
+
+impl<'a> Cursor<'a> {
+    /// What is left behind a word.
+    pub fn behind(word: &Found<'a>) -> Cursor<'a>
+        requires word { word.now.at + length word.now.word.now < 2 ^ 32 }
+        requires rest { word.now.rest_at + length word.now.rest.now + 1 < 2 ^ 32 }
+        ensures left { left_in result ≡ record { end = word.now.at + length word.now.word.now; words = words_at word.now.rest_at word.now.rest.now } }
+        ensures short { IsShort result }
+    {
+        Cursor {
+            end: word.at + word.word.len(),
+            at: word.rest_at,
+            rest: word.rest,
+        }
+    }
+
+    /// The next word, or that it is missing.
+    fn next(&mut self) -> Result<Found<'a>, Spot>
+        requires { IsShort self.old }
+        ensures found { IfOk result (λ found. ((left_in self.old).words ≡ span found.at found.word.now ∷ (left_in self.new).words) × (self.new.end ≡ found.at + length found.word.now) × (found.at < 2 ^ 32)) }
+        ensures missing { IfErr result (λ fault. ((left_in self.old).words ≡ []) × (fault ≡ spot self.old.end RefusalKind.Words)) }
+        ensures short { OnOk result (IsShort self.new) }
+    {
+        match next_word(self.at, self.rest) {
+            Some(found) => {
+                self.end = found.at + found.word.len();
+                self.at = found.rest_at;
+                self.rest = found.rest;
+                Ok(found)
+            }
+            None => Err(spot(self.end, RefusalKind::Words)),
+        }
+    }
+
+    /// A word that stands for itself.
+    pub fn text(&mut self, form: Form) -> Result<(), Spot>
+        requires { IsShort self.old }
+        ensures read { Reads form (λ word. Some tt) (left_in self.old) (left_in self.new) result }
+        ensures short { OnOk result (IsShort self.new) }
+    {
+        let found = self.next()?;
+        if !meets(form, found.word) {
+            return Err(spot(found.at, RefusalKind::Word));
+        }
+        Ok(())
+    }
+
+    /// A number from `low` to `high`.
+    pub fn number(&mut self, low: u64, high: u64) -> Result<u64, Spot>
+        requires { IsShort self.old }
+        ensures read { Reads (Form.Number low high) (number_within low high) (left_in self.old) (left_in self.new) result }
+        ensures short { OnOk result (IsShort self.new) }
+    {
+        let found = self.next()?;
+        match number_within(low, high, found.word) {
+            Some(number) => Ok(number),
+            None => Err(spot(found.at, RefusalKind::Word)),
+        }
+    }
+
+    /// A number of 32 bits.
+    pub fn small(&mut self, low: u32, high: u32) -> Result<u32, Spot>
+        requires { IsShort self.old }
+        ensures read { Reads (Form.Number low high) (number_within low high) (left_in self.old) (left_in self.new) result }
+        ensures short { OnOk result (IsShort self.new) }
+    {
+        let number = self.number(u64::from(low), u64::from(high))?;
+        Ok(number as u32)
+    }
+
+    /// A number of 16 bits.
+    pub fn short(&mut self, high: u16) -> Result<u16, Spot>
+        requires { IsShort self.old }
+        ensures read { Reads (Form.Number 0 high) (number_within 0 high) (left_in self.old) (left_in self.new) result }
+        ensures short { OnOk result (IsShort self.new) }
+    {
+        let number = self.number(0, u64::from(high))?;
+        Ok(number as u16)
+    }
+
+    /// The number of a chip.
+    pub fn chip(&mut self) -> Result<u8, Spot>
+        requires { IsShort self.old }
+        ensures read { Reads Form.Chip chip_of (left_in self.old) (left_in self.new) result }
+        ensures short { OnOk result (IsShort self.new) }
+    {
+        let found = self.next()?;
+        match chip_of(found.word) {
+            Some(chip) => Ok(chip),
+            None => Err(spot(found.at, RefusalKind::Word)),
+        }
+    }
+
+    /// The number of a command.
+    pub fn command(&mut self) -> Result<u32, Spot>
+        requires { IsShort self.old }
+        ensures read { Reads Form.Command command_number_of (left_in self.old) (left_in self.new) result }
+        ensures short { OnOk result (IsShort self.new) }
+    {
+        let found = self.next()?;
+        match command_number(found.word) {
+            Some(number) => Ok(number),
+            None => Err(spot(found.at, RefusalKind::Word)),
+        }
+    }
+
+    /// The number of a command of the first uAPI.
+    pub fn old_command(&mut self) -> Result<u32, Spot>
+        requires { IsShort self.old }
+        ensures read { Reads Form.OldCommand old_number_of (left_in self.old) (left_in self.new) result }
+        ensures short { OnOk result (IsShort self.new) }
+    {
+        let found = self.next()?;
+        match gl_v1::command_number(found.word) {
+            Some(number) => Ok(number),
+            None => Err(spot(found.at, RefusalKind::Word)),
+        }
+    }
+
+    /// What is done with an interrupt.
+    pub fn irq(&mut self) -> Result<IrqDo, Spot>
+        requires { IsShort self.old }
+        ensures read { Reads Form.IrqWord irq_of (left_in self.old) (left_in self.new) result }
+        ensures short { OnOk result (IsShort self.new) }
+    {
+        let found = self.next()?;
+        match irq_of(found.word) {
+            Some(what) => Ok(what),
+            None => Err(spot(found.at, RefusalKind::Word)),
+        }
+    }
+
+    /// What is done with pins.
+    pub fn pin(&mut self) -> Result<PinWord, Spot>
+        requires { IsShort self.old }
+        ensures read { Reads Form.PinWord pin_word_of (left_in self.old) (left_in self.new) result }
+        ensures short { OnOk result (IsShort self.new) }
+    {
+        let found = self.next()?;
+        match pin_word_of(found.word) {
+            Some(what) => Ok(what),
+            None => Err(spot(found.at, RefusalKind::Word)),
+        }
+    }
+
+    /// No word is left.
+    pub fn no_more(&self) -> Result<(), Spot>
+        requires { IsShort self.now }
+        ensures { IsEnd (left_in self.now) result }
+    {
+        match next_word(self.at, self.rest) {
+            Some(found) => Err(spot(found.at, RefusalKind::Words)),
+            None => Ok(()),
+        }
+    }
+
+    /// Pieces of bytes, or `-`; then `as NAME` exactly where a file is made.
+    pub fn pieces(&self, makes: bool) -> Result<(), Spot>
+        requires { IsShort self.now }
+        ensures { ArePieces makes (left_in self.now) result }
+    {
+        match bytes_fault(makes, self.end, self.at, self.rest) {
+            Some(fault) => Err(fault),
+            None => Ok(()),
+        }
+    }
+}
