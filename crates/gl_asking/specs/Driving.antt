@@ -33,6 +33,12 @@ op_of lines (Some GetValues) bytes = Some (Get lines)
 op_of lines (Some SetValues) bytes = Some (Set lines (mask_in (take (size_of SetValues) bytes)) (bits_in (take (size_of SetValues) bytes)))
 op_of lines (Some command) bytes = None
 
+-- a command for which the driver configures lines
+abbrev pub applies : Option Command → Bool
+applies (Some GetLine) = true
+applies (Some SetConfig) = true
+applies _ = false
+
 -- what the driver is asked for a command on a file of these lines, where it is asked
 abbrev pub op_for : Lines → CommandIn → Option Op
 op_for lines c = op_of lines (command_of c.cmd) c.bytes

@@ -1,5 +1,5 @@
 -- The open files of a client, by the slots that its operations name. This project's choice.
-use Rattle.std.specs.Prelude.{ℕ, Bool, true, false, ◌==◌, List, [], ◌∷◌, ◌++◌, Option, find}
+use Rattle.std.specs.Prelude.{ℕ, Bool, true, false, ◌==◌, List, [], ◌∷◌, ◌++◌, Option, None, Some, find}
 use Rattle.gl_base.specs.Rows.{without_first}
 use Rattle.gl_base.specs.declared.lines.Lines.{Lines}
 
@@ -21,6 +21,11 @@ is_in slot file = file.slot == slot
 -- the file in a slot, if there is one
 abbrev pub file_in : ℕ → List OpenFile → Option OpenFile
 file_in slot files = find (is_in slot) files
+
+-- the file in this slot, if a slot is named and the file is there
+abbrev pub file_at : Option ℕ → List OpenFile → Option OpenFile
+file_at None files = None
+file_at (Some slot) files = file_in slot files
 
 -- a file more, and a file less
 abbrev pub with_file : OpenFile → List OpenFile → List OpenFile

@@ -1,7 +1,4 @@
-//! What a client gets of an operation.
-//!
-//! A reply of another form than the call's doesn't come (`has_form` of `gl_model`); each function answers it with nothing, zero or no
-//! bytes, so that none needs a condition.
+//! What a client gets of an operation, by what its reply comes to.
 
 ghost use Rattle.std.specs.Prelude.{◌≡◌, ℕ, List, take};
 ghost use Rattle.gl_base.specs.declared.operation.Got.TheVariants.{Done, Number, Text, Ready, Bytes};
@@ -10,7 +7,8 @@ ghost use Rattle.gl_asking.specs.Asking.{got_by, got_of, found_got, level_got};
 ghost use Rattle.gl_asking.specs.Changes.{IsFilled};
 ghost use Rattle.gl_asking.specs.Results.{done_of, found_of, level_of, number_of, ready_of, text_of};
 
-use gl_base::{ByteList, Do, Got, Name};
+use crate::results;
+use gl_base::{ByteList, Do, Got};
 use gl_model::Reply;
 use gl_uapi::layout::LINE_REQUEST_SIZE;
 
@@ -18,10 +16,9 @@ use gl_uapi::layout::LINE_REQUEST_SIZE;
 fn number(reply: Reply) -> Got
     ensures { result ≡ got_by Number (number_of reply) }
 {
-    match reply {
-        Reply::Refused(errno) => Got::Refused(errno),
-        Reply::Number(number) => Got::Number(number),
-        _ => Got::Number(0),
+    match results::number(reply) {
+        Ok(number) => Got::Number(number),
+        Err(errno) => Got::Refused(errno),
     }
 }
 
@@ -29,10 +26,9 @@ fn number(reply: Reply) -> Got
 fn level(reply: Reply) -> Got
     ensures { result ≡ got_by level_got (level_of reply) }
 {
-    match reply {
-        Reply::Refused(errno) => Got::Refused(errno),
-        Reply::Number(1) => Got::Number(1),
-        _ => Got::Number(0),
+    match results::level(reply) {
+        Ok(up) => Got::Number(up as u64),
+        Err(errno) => Got::Refused(errno),
     }
 }
 
@@ -40,10 +36,9 @@ fn level(reply: Reply) -> Got
 fn text(reply: Reply) -> Got
     ensures { result ≡ got_by Text (text_of reply) }
 {
-    match reply {
-        Reply::Refused(errno) => Got::Refused(errno),
-        Reply::Text(text) => Got::Text(text),
-        _ => Got::Text(Name::empty()),
+    match results::text(reply) {
+        Ok(text) => Got::Text(text),
+        Err(errno) => Got::Refused(errno),
     }
 }
 
@@ -51,10 +46,9 @@ fn text(reply: Reply) -> Got
 fn ready(reply: Reply) -> Got
     ensures { result ≡ got_by Ready (ready_of reply) }
 {
-    match reply {
-        Reply::Refused(errno) => Got::Refused(errno),
-        Reply::Ready(bits) => Got::Ready(bits),
-        _ => Got::Ready(0),
+    match results::ready(reply) {
+        Ok(bits) => Got::Ready(bits),
+        Err(errno) => Got::Refused(errno),
     }
 }
 
@@ -62,22 +56,13 @@ fn ready(reply: Reply) -> Got
 fn found(reply: Reply) -> Got
     ensures { result ≡ got_by found_got (found_of reply) }
 {
-    match reply {
-        Reply::Refused(errno) => Got::Refused(errno),
-        Reply::Found {
-            place,
-            offset,
-            count,
-        } => Got::Found {
+    match results::found(reply) {
+        Ok((place, offset, count)) => Got::Found {
             place,
             offset,
             count,
         },
-        _ => Got::Found {
-            place: 0,
-            offset: 0,
-            count: 0,
-        },
+        Err(errno) => Got::Refused(errno),
     }
 }
 
@@ -86,12 +71,12 @@ fn filled(reply: Reply, buffer: Vec<u8>) -> Got
     ensures { result ≡ got_by (λ _. Bytes (take LINE_REQUEST_SIZE buffer.items)) (done_of reply) }
 {
     let mut buffer = buffer;
-    match reply {
-        Reply::Refused(errno) => Got::Refused(errno),
-        _ => {
+    match results::done(reply) {
+        Ok(()) => {
             buffer.truncate(LINE_REQUEST_SIZE);
             Got::Bytes(ByteList::of(buffer))
         }
+        Err(errno) => Got::Refused(errno),
     }
 }
 
@@ -100,16 +85,12 @@ fn read(reply: Reply, buffer: Vec<u8>) -> Got
     ensures { result ≡ got_by (λ count. Bytes (take count buffer.items)) (number_of reply) }
 {
     let mut buffer = buffer;
-    match reply {
-        Reply::Refused(errno) => Got::Refused(errno),
-        Reply::Number(count) => {
+    match results::number(reply) {
+        Ok(count) => {
             buffer.truncate(count as usize);
             Got::Bytes(ByteList::of(buffer))
         }
-        _ => {
-            buffer.truncate(0);
-            Got::Bytes(ByteList::of(buffer))
-        }
+        Err(errno) => Got::Refused(errno),
     }
 }
 
@@ -117,9 +98,9 @@ fn read(reply: Reply, buffer: Vec<u8>) -> Got
 fn done(reply: Reply) -> Got
     ensures { result ≡ got_by (λ _. Done) (done_of reply) }
 {
-    match reply {
-        Reply::Refused(errno) => Got::Refused(errno),
-        _ => Got::Done,
+    match results::done(reply) {
+        Ok(()) => Got::Done,
+        Err(errno) => Got::Refused(errno),
     }
 }
 

@@ -1,7 +1,6 @@
 //! The open files after an operation.
 
 ghost use Rattle.std.specs.Prelude.{◌≡◌, ℕ, ◌<◌, ◌^◌, List, Option, Some, true};
-ghost use Rattle.gl_base.specs.Lines.{IsLineCount};
 ghost use Rattle.gl_base.specs.declared.command.TheConstants.{GET_LINE};
 ghost use Rattle.gl_base.specs.declared.limits.TheConstants.{PLACES};
 ghost use Rattle.gl_base.specs.declared.lines.Lines.{Lines as SomeLines};
@@ -60,18 +59,6 @@ fn opened(slot: u32, word: &Path, reply: Reply) -> Change
     }
 }
 
-/// The lines that were asked for.
-fn lines_made(lines: &Option<Lines>) -> &Lines
-    requires { AreSome lines.now }
-    ensures lines { lines.now ≡ Some result.now }
-    ensures count { IsLineCount result.now.count }
-{
-    match lines {
-        Some(lines) => lines,
-        None => unreachable!(),
-    }
-}
-
 /// A request of the lines that were asked for, which was made on a file, into a slot.
 fn made(slot: u32, row: Option<FileRow>, answered: &Answered) -> Change
     requires number { number_answered answered.now.reply < 2 ^ 32 }
@@ -81,7 +68,7 @@ fn made(slot: u32, row: Option<FileRow>, answered: &Answered) -> Change
     ensures told { (files : List OpenFile) (lines : SomeLines) → ((fd : ℕ) → answered.now.reply ≡ Number fd → is_on_chip row ≡ true → answered.now.lines ≡ Some lines)
         → made_on slot (file_of row) lines answered.now.reply files ≡ changed result files }
 {
-    match (row, answered.reply) {
+    match (row, answered.reply, answered.lines) {
         (
             Some(
                 FileRow {
@@ -91,11 +78,12 @@ fn made(slot: u32, row: Option<FileRow>, answered: &Answered) -> Change
                 },
             ),
             Reply::Number(number),
+            Some(lines),
         ) => Change::Adds(FileRow {
             slot,
             place,
             fd: number as u32,
-            kind: FileKind::Request(*lines_made(&answered.lines)),
+            kind: FileKind::Request(lines),
         }),
         _ => Change::Stays,
     }

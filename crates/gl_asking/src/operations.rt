@@ -13,7 +13,7 @@ ghost use Rattle.gl_model.specs.declared.device_call.RemovalOf.TheVariants.{OfCh
 ghost use Rattle.gl_asking.specs.Fitting.{FitsAsking, FitsDevice};
 ghost use Rattle.gl_asking.specs.declared.kinds.Asking.TheVariants.{Calls};
 ghost use Rattle.gl_asking.specs.Asking.{asking, at_place, buffer_of, file_for, has_lines, lives, once, polls, probes, reads_from};
-ghost use Rattle.gl_asking.specs.Files.{OpenFile};
+ghost use Rattle.gl_asking.specs.Files.{OpenFile, file_at};
 ghost use Rattle.gl_asking.specs.Handed.{command_in};
 ghost use Rattle.gl_asking.specs.Rows.{IsRow, IsSomeRow, file_of, is_chip, row_file};
 
@@ -330,5 +330,22 @@ pub fn asking_of(what: &Do, row: Option<FileRow>) -> Asking
             Some(row) => on_file(&row, what),
             None => Asking::Refuses(Errno::BadF),
         },
+    }
+}
+
+/// The slot of the file that an operation is on, if it names one.
+pub fn slot_named(what: &Do) -> Option<u32>
+    ensures { (files : List OpenFile) → file_for what.now files ≡ file_at result files }
+{
+    match what {
+        Do::Find {
+            slot: Some(slot),
+            ..
+        } => Some(*slot),
+        Do::Ioctl { slot, .. } => Some(*slot),
+        Do::ReadFile { slot, .. } => Some(*slot),
+        Do::Poll { slot } => Some(*slot),
+        Do::Close { slot } => Some(*slot),
+        _ => None,
     }
 }

@@ -28,9 +28,9 @@ use Rattle.gl_core.specs.Device.{OneDeed, OneEntry, call_tells, tells_in}
 use Rattle.gl_asking.specs.declared.kinds.Asking.{Asking}
 use Rattle.gl_asking.specs.declared.kinds.Asking.TheVariants.{Calls, Plans, Accepts, Refuses}
 use Rattle.gl_asking.specs.Asking.{asking, files_behind, got_of}
-use Rattle.gl_asking.specs.Driving.{op_asked}
+use Rattle.gl_asking.specs.Driving.{applies, op_asked}
 use Rattle.gl_check.specs.One.{PlannedPort}
-use Rattle.gl_check.specs.Ports.{applies, next_answer}
+use Rattle.gl_check.specs.Ports.{next_answer}
 use Rattle.gl_check.specs.Seats.{Bearing, IsRefusedAt, Passes, Seat, SuitsFirst, SuitsStand, answers, called, first_inside, goes_by, is_ended, is_refusal, moved, moved_by, seat, second_of, settles}
 use Rattle.gl_check.specs.Drivers.{plain, planning}
 use Rattle.gl_check.specs.Turns.{Carried, Did, Exchange, Follows, HasMade, IsDone, Played, Said, Takes, Turn, did_by, said_by}

@@ -27,10 +27,9 @@ use Rattle.gl_model.specs.declared.reply.Reply.{Reply}
 use Rattle.gl_asking.specs.declared.kinds.Asking.{Asking}
 use Rattle.gl_asking.specs.declared.kinds.Asking.TheVariants.{Calls, Plans, Accepts, Refuses}
 use Rattle.gl_asking.specs.Asking.{asking, buffer_of, finds, has_lines, lives, on_file, once, polls, reads_from}
-use Rattle.gl_asking.specs.Driving.{lines_by, op_asked, op_of, op_on, op_requested}
+use Rattle.gl_asking.specs.Driving.{applies, lines_by, op_asked, op_of, op_on, op_requested}
 use Rattle.gl_asking.specs.Files.{OpenFile, file_in}
 use Rattle.gl_asking.specs.Handed.{command_in}
-use Rattle.gl_check.specs.Ports.{applies}
 use Rattle.gl_check.proofs.Going.{go_by_number}
 
 abbrev pub ForCall : (DeviceCall → Type 0) → Asking → Type 0

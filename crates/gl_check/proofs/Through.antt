@@ -28,9 +28,9 @@ use Rattle.gl_core.specs.Device.{OneDeed, OneEntry, call_tells, last_bytes, tell
 use Rattle.gl_asking.specs.declared.kinds.Asking.{Asking}
 use Rattle.gl_asking.specs.declared.kinds.Asking.TheVariants.{Calls, Plans, Accepts, Refuses}
 use Rattle.gl_asking.specs.Asking.{asking, files_behind, got_of}
-use Rattle.gl_asking.specs.Driving.{op_asked}
+use Rattle.gl_asking.specs.Driving.{applies, op_asked}
 use Rattle.gl_check.specs.One.{PlannedPort, from_plan}
-use Rattle.gl_check.specs.Ports.{after_answer, applies, next_answer}
+use Rattle.gl_check.specs.Ports.{after_answer, next_answer}
 use Rattle.gl_check.specs.Seats.{Bearing, IsRefusedAt, Passes, Seat, SuitsFirst, answers, called, deed, first_inside, goes_by, is_refusal, moved, seat, second_of, settles}
 use Rattle.gl_check.specs.Drivers.{plain, planning}
 use Rattle.gl_check.specs.Turns.{Carried, Carries, Did, DidNothing, Exchange, Follows, IsDone, Said, Turn, did_by, said_by}

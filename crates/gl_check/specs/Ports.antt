@@ -1,20 +1,12 @@
 -- What a planned driver answers next through a port, and what its port is after that answer. This project's choice.
-use Rattle.std.specs.Prelude.{ℕ, Bool, true, false, if◌then◌else◌, Option, Some, None}
+use Rattle.std.specs.Prelude.{ℕ, Bool, if◌then◌else◌, Option, None}
 use Rattle.gl_base.specs.Count.{counted_up}
 use Rattle.gl_base.specs.Planned.{planned_answer}
-use Rattle.gl_uapi.specs.declared.commands.Command.{Command}
-use Rattle.gl_uapi.specs.declared.commands.Command.TheVariants.{GetLine, SetConfig}
 use Rattle.gl_check.specs.One.{PlannedPort}
 
 -- a new port: no call, no plan and accepted bits 0
 abbrev pub unplanned : PlannedPort
 unplanned = record { calls = 0; plan = None; bits = 0 }
-
--- a command for which the driver configures lines
-abbrev pub applies : Option Command → Bool
-applies (Some GetLine) = true
-applies (Some SetConfig) = true
-applies _ = false
 
 -- what the driver answers next, where it configures lines, and else
 abbrev pub next_answer : Bool → PlannedPort → Option ℕ

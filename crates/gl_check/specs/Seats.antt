@@ -19,9 +19,10 @@ use Rattle.gl_core.specs.Device.{OneDeed, OneEntry}
 use Rattle.gl_asking.specs.declared.kinds.Asking.{Asking}
 use Rattle.gl_asking.specs.declared.kinds.Asking.TheVariants.{Calls, Plans, Accepts, Refuses}
 use Rattle.gl_asking.specs.Asking.{asking, files_behind, got_of}
+use Rattle.gl_asking.specs.Driving.{applies}
 use Rattle.gl_asking.specs.Files.{OpenFile}
 use Rattle.gl_check.specs.One.{PlannedPort, from_plan}
-use Rattle.gl_check.specs.Ports.{after_answer, applies, next_answer, unplanned}
+use Rattle.gl_check.specs.Ports.{after_answer, next_answer, unplanned}
 use Rattle.gl_check.specs.declared.stand.Stand.{Stand}
 use Rattle.gl_check.specs.declared.stand.Stand.TheVariants.{Ended, Before, Between}
 

@@ -7,13 +7,15 @@ pub mod laws;
 mod parts;
 mod port;
 mod replaying;
-mod rows;
+pub mod rows;
 mod seat;
-mod sections;
+pub mod sections;
 mod speech;
 mod stand;
 mod started;
 mod suiting;
 mod texts;
 
+pub use buffers::buffer_for;
+pub use port::Planned;
 pub use replaying::replay;

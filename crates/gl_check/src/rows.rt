@@ -1,4 +1,4 @@
-//! The open files of the actor, by the slots that operations name.
+//! The open files of an actor, by the slots that operations name.
 
 ghost use Rattle.std.specs.Prelude.{vec_len, vec_capacity, ◌≡◌, ◌+◌, ◌≤◌, map};
 ghost use Rattle.std.specs.List.{position};
@@ -9,7 +9,7 @@ ghost use Rattle.gl_asking.specs.Rows.{IsRow, IsSomeRow, file_of, row_file};
 ghost use Rattle.gl_base.specs.Rows.{Each};
 ghost use Rattle.gl_check.specs.Rows.{is_row};
 
-use gl_asking::{Change, FileRow, answered_by, files_behind};
+use gl_asking::{Change, FileRow, answered_by, files_behind, slot_named};
 use gl_base::Do;
 use gl_model::Reply;
 
@@ -38,16 +38,9 @@ pub fn row_for(rows: &[FileRow], what: &Do) -> Option<FileRow>
     ensures found { file_for what.now (map row_file rows.now) ≡ file_of result }
     ensures row { IsSomeRow result }
 {
-    match what {
-        Do::Find {
-            slot: Some(slot),
-            ..
-        } => row_in(rows, *slot),
-        Do::Ioctl { slot, .. } => row_in(rows, *slot),
-        Do::ReadFile { slot, .. } => row_in(rows, *slot),
-        Do::Poll { slot } => row_in(rows, *slot),
-        Do::Close { slot } => row_in(rows, *slot),
-        _ => None,
+    match slot_named(what) {
+        Some(slot) => row_in(rows, slot),
+        None => None,
     }
 }
 

@@ -34,8 +34,8 @@ fn is_head_of(kind: SectionKind, head: Head<'_>) -> bool
     }
 }
 
-/// The statements of a section, if it is of this kind.
-fn statements_of_kind<'a>(
+/// The statements of a section, by its number, counted from 0, if it is of this kind; else none.
+pub fn statements_of_kind<'a>(
     script: &'a Script<'_>,
     section: u32,
     kind: SectionKind,

@@ -10,9 +10,10 @@ ghost use Rattle.gl_model.specs.declared.device_call.DeviceCall.TheVariants.{Onc
 ghost use Rattle.gl_check.specs.Seating.{port_in};
 ghost use Rattle.gl_check.specs.Seats.{IsRefusedAt, SuitsFirst, SuitsStand, is_refusal, second_of};
 
-use crate::parts::{guard_reply, is_poll, is_refusal, second_of};
+use crate::parts::{guard_reply, is_refusal, second_of};
 use crate::port::Planned;
 use crate::stand::Stand;
+use gl_asking::parts::is_poll;
 use gl_core::{Core, entries};
 use gl_model::Call;
 use gl_world::Entry;

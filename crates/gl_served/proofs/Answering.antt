@@ -1,16 +1,17 @@
 -- What a line is answered, by what the code keeps.
 use Rattle.std.proofs.Common.{◌≡◌, ℕ, ◌+◌, ◌^◌, ◌<◌, ◌≤◌, Bool, true, false, cond, List, [], ◌++◌, length, drop, codes, Option, Result, Ok, Err, IfOk, refl, sym, ap, ◌∙◌, subst, arith, inl, inr, length-append, length-drop}
 use Rattle.std.proofs.lemmas.Bool.{cases_lt, le-ltb}
-use Rattle.gl_base.specs.Words.{text_at}
+use Rattle.gl_base.specs.Words.{Span, text_at}
 use Rattle.gl_base.specs.declared.errno.Errno.{Errno}
 use Rattle.gl_debounce.specs.Earliest.{earliest}
 use Rattle.gl_script.specs.Columns.{columns}
 use Rattle.gl_script.specs.Faults.{spot}
-use Rattle.gl_script.specs.Served.{line_kind, opened}
+use Rattle.gl_script.specs.Served.{IsSaid, Kind, Passed, Header, Setup, Statement, kind_in, line_kind, opened}
 use Rattle.gl_script.specs.declared.refusal.RefusalKind.TheVariants.{Limit}
 use Rattle.gl_script.specs.declared.refusal.Spot.{Spot}
+use Rattle.gl_script.specs.declared.said.Said.{Said}
 use Rattle.gl_script.specs.declared.served.LineKind.{LineKind}
-use Rattle.gl_script.specs.declared.served.LineKind.TheVariants.{Passed, Header, Setup, Statement}
+use Rattle.gl_script.specs.declared.served.LineKind.TheVariants.{Passed as PassedLine, Header as HeaderLine, Setup as SetupLine, Statement as StatementLine}
 use Rattle.gl_script.specs.declared.served.Stage.{Stage}
 use Rattle.gl_talk.specs.Open.{Names, file_of, is_chip_file}
 use Rattle.gl_talk.specs.Talk.{names_in}
@@ -35,24 +36,24 @@ short_kind said line pair stage own reached short =
     ∙ ap (λ (s : Stage). limited (pair_after said) (line_kind s line)) reached
     ∙ sym (ap (λ b. cond b (Err (spot (LINE_MAX + 1) Limit)) (limited (pair_after said) (line_kind said.stage line))) (le-ltb LINE_MAX (length line) short))
 
--- what is a statement within its limits, is one
-pub limited_statement : (pair : Option ℕ) (kind : Result LineKind Spot) → limited pair kind ≡ Ok Statement → kind ≡ Ok Statement
-limited_statement pair (Ok Passed) e = cc
-limited_statement pair (Ok (Header version)) e = cc
-limited_statement pair (Ok Setup) e = cc
-limited_statement pair (Ok Statement) e = refl
-limited_statement pair (Err fault) e = cc
+-- what was read of a line is said of it within its limits and at other columns too
+pub same_said : (words : List Span) (kind told : Result LineKind Spot) → IfOk told (λ line. kind ≡ Ok line) → IfOk kind (λ line. IsSaid words line) → IfOk told (λ line. IsSaid words line)
+same_said words kind (Ok line) same said = subst (λ (r : Result LineKind Spot). IfOk r (λ l. IsSaid words l)) same said
+same_said words kind (Err fault) same said = tt
 
-unmoved : (shift : ℕ) (kind : Result LineKind Spot) → moved shift kind ≡ Ok Statement → kind ≡ Ok Statement
-unmoved shift (Ok kind) e = e
-unmoved shift (Err fault) e = cc
+pub moved_said : (words : List Span) (kind other : Result LineKind Spot) (line : LineKind) → IfOk other (λ l. kind ≡ Ok l) → other ≡ Ok line → IfOk kind (λ l. IsSaid words l) → IsSaid words line
+moved_said words kind other line same is said = subst (λ (r : Result LineKind Spot). IfOk r (λ l. IsSaid words l)) is (same_said words kind other same said)
 
-pub moved_statement : (pair : Option ℕ) (shift : ℕ) (kind : Result LineKind Spot) → limited pair (moved shift kind) ≡ Ok Statement → kind ≡ Ok Statement
-moved_statement pair shift kind e = unmoved shift kind (limited_statement pair (moved shift kind) e)
+-- what was not read as a statement is none
+pub no_statement : (kind : LineKind) → ((said : Said) → kind ≡ StatementLine said → ⊥) → kind_in kind ≡ Statement → ⊥
+no_statement PassedLine other e = cc
+no_statement (HeaderLine version) other e = cc
+no_statement SetupLine other e = cc
+no_statement (StatementLine said) other e = other said refl
 
 -- a refused line
-pub refuses : (said : Accepted) (line : List ℕ) (kind : Result LineKind Spot) (fault : Spot) → Err fault ≡ kind → IsAnswer said line kind (Refused fault) [] said
-refuses said line kind fault is = subst (λ (k : Result LineKind Spot). IsAnswer said line k (Refused fault) [] said) is (refl, refl, refl)
+pub refuses : (said : Accepted) (line : List ℕ) (kind : Result Kind Spot) (fault : Spot) → Err fault ≡ kind → IsAnswer said line kind (Refused fault) [] said
+refuses said line kind fault is = subst (λ (k : Result Kind Spot). IsAnswer said line k (Refused fault) [] said) is (refl, refl, refl)
 
 -- a stage more is reached
 pub reached : (before stage : Stage) (talk : Talk) (count : ℕ) (alone : Alone) (under_way : Option UnderWay) (served : ServedValue) (said : Accepted) → record { stage = before; talk = talk; count = count; alone = alone; under_way = under_way } ≡ served
@@ -75,30 +76,36 @@ opened_up before stage talk count alone under_way served said is opens keeps =
 
 module _ (result : Result Answer Errno) (old new : List ℕ) (now : ServedValue) (said : Accepted) where
   -- by what the line is
-  pub said_by : (line : List ℕ) (kind other : Result LineKind Spot) → kind ≡ other
+  pub said_by : (line : List ℕ) (kind other : Result Kind Spot) → kind ≡ other
       → IfOk result (λ answer. (text : List ℕ) × (then : Accepted) × (new ≡ old ++ text) × IsAnswer said line kind answer text then × Keeps now then)
       → IfOk result (λ answer. (text : List ℕ) × (then : Accepted) × (new ≡ old ++ text) × IsAnswer said line other answer text then × Keeps now then)
   said_by line kind other is told =
-      subst (λ (k : Result LineKind Spot). IfOk result (λ answer. (text : List ℕ) × (then : Accepted) × (new ≡ old ++ text) × IsAnswer said line k answer text then × Keeps now then)) is told
+      subst (λ (k : Result Kind Spot). IfOk result (λ answer. (text : List ℕ) × (then : Accepted) × (new ≡ old ++ text) × IsAnswer said line k answer text then × Keeps now then)) is told
 
-  pub read_by : (line stood : List ℕ) (kind other : Result LineKind Spot) → line ≡ stood → kind ≡ other
+  pub read_by : (line stood : List ℕ) (kind other : Result Kind Spot) → line ≡ stood → kind ≡ other
       → IfOk result (λ answer. (text : List ℕ) × (then : Accepted) × (new ≡ old ++ text) × IsData said line kind answer text then × Keeps now then)
       → IfOk result (λ answer. (text : List ℕ) × (then : Accepted) × (new ≡ old ++ text) × IsData said stood other answer text then × Keeps now then)
   read_by line stood kind other same is told =
       subst (λ (l : List ℕ). IfOk result (λ answer. (text : List ℕ) × (then : Accepted) × (new ≡ old ++ text) × IsData said l other answer text then × Keeps now then)) same
-      (subst (λ (k : Result LineKind Spot). IfOk result (λ answer. (text : List ℕ) × (then : Accepted) × (new ≡ old ++ text) × IsData said line k answer text then × Keeps now then)) is told)
+      (subst (λ (k : Result Kind Spot). IfOk result (λ answer. (text : List ℕ) × (then : Accepted) × (new ≡ old ++ text) × IsData said line k answer text then × Keeps now then)) is told)
 
-  pub reads_by : (line : List ℕ) (kind : Result LineKind Spot) (reads other : Bool) → reads ≡ other
+  pub reads_by : (line : List ℕ) (kind : Result Kind Spot) (reads other : Bool) → reads ≡ other
       → IfOk result (λ answer. (text : List ℕ) × (then : Accepted) × (new ≡ old ++ text) × IsTaken reads said line kind answer text then × Keeps now then)
       → IfOk result (λ answer. (text : List ℕ) × (then : Accepted) × (new ≡ old ++ text) × IsTaken other said line kind answer text then × Keeps now then)
   reads_by line kind reads other is told =
       subst (λ (r : Bool). IfOk result (λ answer. (text : List ℕ) × (then : Accepted) × (new ≡ old ++ text) × IsTaken r said line kind answer text then × Keeps now then)) is told
 
-  pub kind_by : (line : List ℕ) (reads : Bool) (kind other : LineKind) → kind ≡ other
+  pub line_by : (line stood : List ℕ) (reads : Bool) (kind : Result Kind Spot) → line ≡ stood
+      → IfOk result (λ answer. (text : List ℕ) × (then : Accepted) × (new ≡ old ++ text) × IsTaken reads said line kind answer text then × Keeps now then)
+      → IfOk result (λ answer. (text : List ℕ) × (then : Accepted) × (new ≡ old ++ text) × IsTaken reads said stood kind answer text then × Keeps now then)
+  line_by line stood reads kind is told =
+      subst (λ (l : List ℕ). IfOk result (λ answer. (text : List ℕ) × (then : Accepted) × (new ≡ old ++ text) × IsTaken reads said l kind answer text then × Keeps now then)) is told
+
+  pub kind_by : (line : List ℕ) (reads : Bool) (kind other : Kind) → kind ≡ other
       → IfOk result (λ answer. (text : List ℕ) × (then : Accepted) × (new ≡ old ++ text) × IsTaken reads said line (Ok kind) answer text then × Keeps now then)
       → IfOk result (λ answer. (text : List ℕ) × (then : Accepted) × (new ≡ old ++ text) × IsTaken reads said line (Ok other) answer text then × Keeps now then)
   kind_by line reads kind other is told =
-      subst (λ (k : LineKind). IfOk result (λ answer. (text : List ℕ) × (then : Accepted) × (new ≡ old ++ text) × IsTaken reads said line (Ok k) answer text then × Keeps now then)) is told
+      subst (λ (k : Kind). IfOk result (λ answer. (text : List ℕ) × (then : Accepted) × (new ≡ old ++ text) × IsTaken reads said line (Ok k) answer text then × Keeps now then)) is told
 
   -- by which question it is
   pub replied_by : (line : List ℕ) (q : Question) → question_of said.stage line ≡ q
@@ -108,20 +115,20 @@ module _ (result : Result Answer Errno) (old new : List ℕ) (now : ServedValue)
       subst (λ (p : Question). IfOk result (λ answer. (text : List ℕ) × (then : Accepted) × (new ≡ old ++ text) × IsReplyTo p said line answer text then × Keeps now then)) (sym is) told
 
 -- what isn't a statement is answered as any line
-read_plainly : (said : Accepted) (line : List ℕ) (kind : LineKind) (answer : Answer) (text : List ℕ) (then : Accepted) → (kind ≡ Statement → ⊥)
+read_plainly : (said : Accepted) (line : List ℕ) (kind : Kind) (answer : Answer) (text : List ℕ) (then : Accepted) → (kind ≡ Statement → ⊥)
     → IsAnswer said line (Ok kind) answer text then → IsData said line (Ok kind) answer text then
 read_plainly said line Passed answer text then other told = told
 read_plainly said line (Header version) answer text then other told = told
 read_plainly said line Setup answer text then other told = told
 read_plainly said line Statement answer text then other told = absurd (other refl)
 
-pub taken_plainly : (reads : Bool) (said : Accepted) (line : List ℕ) (kind : LineKind) (answer : Answer) (text : List ℕ) (then : Accepted) → (kind ≡ Statement → ⊥)
+pub taken_plainly : (reads : Bool) (said : Accepted) (line : List ℕ) (kind : Kind) (answer : Answer) (text : List ℕ) (then : Accepted) → (kind ≡ Statement → ⊥)
     → IsAnswer said line (Ok kind) answer text then → IsTaken reads said line (Ok kind) answer text then
 taken_plainly false said line kind answer text then other told = told
 taken_plainly true said line kind answer text then other told = read_plainly said line kind answer text then other told
 
-pub refuses_data : (said : Accepted) (line : List ℕ) (kind : Result LineKind Spot) (fault : Spot) → Err fault ≡ kind → IsData said line kind (Refused fault) [] said
-refuses_data said line kind fault is = subst (λ (k : Result LineKind Spot). IsData said line k (Refused fault) [] said) is (refl, refl, refl)
+pub refuses_data : (said : Accepted) (line : List ℕ) (kind : Result Kind Spot) (fault : Spot) → Err fault ≡ kind → IsData said line kind (Refused fault) [] said
+refuses_data said line kind fault is = subst (λ (k : Result Kind Spot). IsData said line k (Refused fault) [] said) is (refl, refl, refl)
 
 pub due_told : (result : Result Answer Errno) (old new : List ℕ) (now : ServedValue) (said : Accepted) (line : List ℕ)
     → IfOk result (λ answer. (answer ≡ Text) × (new ≡ old ++ due_text (earliest (carried_out said.statements).behind.world.timers)) × Keeps now said)
@@ -156,10 +163,10 @@ module _ (said : Accepted) (line statement : List ℕ) (names : Names) (chip : B
   pub stands : statement ≡ stands_for (carried_out said.statements).value line
   stands = made ∙ ap (λ b. read_word b ++ drop 5 line) chip_named
 
-  pub kind_told : (pair : Option ℕ) (shift : ℕ) (stage : Stage) (kind other told : Result LineKind Spot) → pair ≡ pair_after said → stage ≡ said.stage → shift ≡ shift_of chip
+  pub kind_told : (pair : Option ℕ) (shift : ℕ) (stage : Stage) (kind other told : Result Kind Spot) → pair ≡ pair_after said → stage ≡ said.stage → shift ≡ shift_of chip
       → kind ≡ line_kind stage statement → other ≡ moved shift kind → told ≡ limited pair other → told ≡ data_kind said line
   kind_told pair shift stage kind other told own reach by first then last =
       last ∙ ap (λ (p : Option ℕ). limited p other) own
-      ∙ ap (λ (k : Result LineKind Spot). limited (pair_after said) k)
-      (then ∙ ap (λ (k : Result LineKind Spot). moved shift k) (first ∙ ap (λ (s : Stage). line_kind s statement) reach ∙ ap (λ (l : List ℕ). line_kind said.stage l) stands)
+      ∙ ap (λ (k : Result Kind Spot). limited (pair_after said) k)
+      (then ∙ ap (λ (k : Result Kind Spot). moved shift k) (first ∙ ap (λ (s : Stage). line_kind s statement) reach ∙ ap (λ (l : List ℕ). line_kind said.stage l) stands)
       ∙ ap (λ (n : ℕ). moved n (line_kind said.stage (stands_for (carried_out said.statements).value line))) (by ∙ ap (λ b. shift_of b) chip_named))

@@ -9,9 +9,8 @@ use Rattle.gl_base.specs.Count.{counted_up}
 use Rattle.gl_base.specs.Rows.{Each}
 use Rattle.gl_script.specs.declared.refusal.Spot.{Spot}
 use Rattle.gl_script.specs.Faults.{spot}
-use Rattle.gl_script.specs.Served.{line_kind}
+use Rattle.gl_script.specs.Served.{Kind, line_kind}
 use Rattle.gl_script.specs.declared.refusal.RefusalKind.TheVariants.{Limit}
-use Rattle.gl_script.specs.declared.served.LineKind.{LineKind}
 use Rattle.gl_script.specs.declared.served.Stage.{Stage}
 use Rattle.gl_script.specs.declared.served.Stage.TheVariants.{Opening, Headed, Open}
 use Rattle.gl_served.specs.declared.question.Question.{Question}
@@ -72,7 +71,7 @@ long_kind said line long = ap (λ b. cond b (Err (spot (LINE_MAX + 1) Limit)) (l
 
 long_reply : (said : Accepted) (line : List ℕ) (answer : Answer) (text : List ℕ) (then : Accepted) → LINE_MAX < length line → IsReply said line answer text then ≡ IsAnswer said [] (Err (spot (LINE_MAX + 1) Limit)) answer text then
 long_reply said line answer text then long =
-    ap (λ (q : Question). IsReplyTo q said line answer text then) (long_asks said.stage line long) ∙ ap (λ (k : Result LineKind Spot). IsAnswer said line k answer text then) (long_kind said line long)
+    ap (λ (q : Question). IsReplyTo q said line answer text then) (long_asks said.stage line long) ∙ ap (λ (k : Result Kind Spot). IsAnswer said line k answer text then) (long_kind said line long)
 
 pub cut_reply : (said : Accepted) (line rest : List ℕ) (answer : Answer) (text : List ℕ) (then : Accepted) → line ≡ take (LINE_MAX + 1) rest → IsReply said line answer text then → IsReply said rest answer text then
 cut_reply said line rest answer text then is reply = elim (cases_lt LINE_MAX (length rest)) [

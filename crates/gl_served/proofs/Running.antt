@@ -12,7 +12,7 @@ use Rattle.gl_client.specs.declared.next.Next.{Next}
 use Rattle.gl_client.specs.declared.next.Next.TheVariants.{Call, End, Print}
 use Rattle.gl_core.specs.Kept.{StandsFor}
 use Rattle.gl_script.specs.Columns.{columns}
-use Rattle.gl_script.specs.declared.served.LineKind.TheVariants.{Statement}
+use Rattle.gl_script.specs.Served.{Statement}
 use Rattle.gl_script.specs.declared.served.Stage.{Stage}
 use Rattle.gl_talk.specs.Open.{Names, no_names}
 use Rattle.gl_talk.specs.declared.talk.Talk.{Talk}

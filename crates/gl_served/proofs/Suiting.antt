@@ -37,11 +37,15 @@ use Rattle.gl_model.specs.declared.device_call.CommandIn.{CommandIn}
 use Rattle.gl_model.specs.Written.{number_answered}
 use Rattle.gl_core.specs.Kept.{StandsFor}
 use Rattle.gl_base.specs.declared.op.Op.{Op}
-use Rattle.gl_asking.specs.Driving.{lines_by, op_asked, op_of, op_on, op_requested}
+use Rattle.gl_asking.proofs.Told.{accepted_got as got_of_bits, planned_got as got_of_plan, refused_got as got_of_refusal}
+use Rattle.gl_asking.specs.Driving.{applies, lines_by, op_asked, op_of, op_on, op_requested}
 use Rattle.gl_check.specs.One.{PlannedPort, Standing, at_guard, bits_asked, comes_to, from_plan, is_asked, performs, performs_as, two, with_answer}
-use Rattle.gl_served.specs.Alone.{StandsAs, buffer_for}
+use Rattle.gl_check.specs.Buffers.{buffer_for}
+use Rattle.gl_check.specs.Ports.{next_answer}
+use Rattle.gl_check.specs.Seating.{port_in}
+use Rattle.gl_served.specs.Alone.{StandsAs}
 use Rattle.gl_served.specs.declared.alone.Alone.{Alone}
-use Rattle.gl_served.specs.Port.{after_asking, applies, next_answer, next_to, port_in}
+use Rattle.gl_served.specs.Port.{after_asking, next_to}
 use Rattle.gl_served.specs.Making.{CameBy, FitsMaking, Wrote}
 use Rattle.gl_served.specs.Opening.{LinesBy, NumbersBy}
 
@@ -160,70 +164,13 @@ opens_nothing (Accept bits) reply small other = tt
 
 -- what is got of a refusal, and of what is said to the port
 pub refused_got : (what : Do) (errno : Errno) → GotRefused errno ≡ got_of what (RefusedReply errno) []
-refused_got (DoProbe label lines) errno = refl
-refused_got (DoUnplug place) errno = refl
-refused_got (DoMakeDir path) errno = refl
-refused_got (DoRemoveDir path) errno = refl
-refused_got (DoWrite path value) errno = refl
-refused_got (DoRead path) errno = refl
-refused_got (DoLive device up) errno = refl
-refused_got (DoTick mono real) errno = refl
-refused_got (DoPin place what) errno = refl
-refused_got (DoIrq place offset what) errno = refl
-refused_got (DoPull place offset up) errno = refl
-refused_got (DoLevel place offset pull) errno = refl
-refused_got (DoOpenChip slot word) errno = refl
-refused_got (DoFind slot name) errno = refl
-refused_got (DoIoctl slot cmd len bytes made) errno = refl
-refused_got (ReadFile slot len) errno = refl
-refused_got (Poll slot) errno = refl
-refused_got (DoClose slot) errno = refl
-refused_got (Plan nth) errno = refl
-refused_got (Accept bits) errno = refl
-
-abbrev ForPlan : Type 0 → Asking → Type 0
-ForPlan P (Calls call) = Unit {0}
-ForPlan P (Plans nth) = P
-ForPlan P (Accepts bits) = P
-ForPlan P (Refuses errno) = Unit {0}
-
-no_plan : (P : Type 0) (call : DeviceCall) (errno : Errno) (b : Bool) → ForPlan P (if b then Calls call else Refuses errno)
-no_plan P call errno true = tt
-no_plan P call errno false = tt
-
-no_plan_on : (P : Type 0) (o : Option OpenFile) (calls : OpenFile → DeviceCall) → ForPlan P (on_file o (λ file. Calls (calls file)))
-no_plan_on P None calls = tt
-no_plan_on P (Some file) calls = tt
-
-plan_got : (files : List OpenFile) (what : Do) → ForPlan (GotDone ≡ got_of what DoneReply []) (asking files what)
-plan_got files (DoProbe label lines) = no_plan _ _ _ (has_lines lines)
-plan_got files (DoUnplug place) = no_plan _ _ _ (nat_lt place PLACES)
-plan_got files (DoMakeDir path) = tt
-plan_got files (DoRemoveDir path) = tt
-plan_got files (DoWrite path value) = tt
-plan_got files (DoRead path) = tt
-plan_got files (DoLive device true) = tt
-plan_got files (DoLive device false) = tt
-plan_got files (DoTick mono real) = tt
-plan_got files (DoPin place what) = no_plan _ _ _ (nat_lt place PLACES)
-plan_got files (DoIrq place offset what) = no_plan _ _ _ (nat_lt place PLACES)
-plan_got files (DoPull place offset up) = no_plan _ _ _ (nat_lt place PLACES)
-plan_got files (DoLevel place offset pull) = no_plan _ _ _ (nat_lt place PLACES)
-plan_got files (DoOpenChip slot word) = tt
-plan_got files (DoFind None name) = tt
-plan_got files (DoFind (Some slot) name) = no_plan_on _ (file_in slot files) _
-plan_got files (DoIoctl slot cmd len bytes made) = no_plan_on _ (file_in slot files) _
-plan_got files (ReadFile slot len) = no_plan_on _ (file_in slot files) _
-plan_got files (Poll slot) = no_plan_on _ (file_in slot files) _
-plan_got files (DoClose slot) = no_plan_on _ (file_in slot files) _
-plan_got files (Plan nth) = refl
-plan_got files (Accept bits) = refl
+refused_got what errno = got_of_refusal what errno
 
 pub planned_got : (files : List OpenFile) (what : Do) (nth : ℕ) → Plans nth ≡ asking files what → GotDone ≡ got_of what DoneReply []
-planned_got files what nth is = subst (λ (x : Asking). ForPlan (GotDone ≡ got_of what DoneReply []) x) (sym is) (plan_got files what)
+planned_got files what nth is = got_of_plan files what nth is
 
 pub accepted_got : (files : List OpenFile) (what : Do) (bits : ℕ) → Accepts bits ≡ asking files what → GotDone ≡ got_of what DoneReply []
-accepted_got files what bits is = subst (λ (x : Asking). ForPlan (GotDone ≡ got_of what DoneReply []) x) (sym is) (plan_got files what)
+accepted_got files what bits is = got_of_bits files what bits is
 
 -- What the driver answers to an operation, as the code has it of the operation's call.
 abbrev Answered : Option Op → DeviceCall → Type 0

@@ -10,7 +10,7 @@ use Rattle.gl_talk.specs.Talk.{closes_all, says}
 use Rattle.gl_base.specs.declared.operation.Do.TheVariants.{Close}
 use Rattle.gl_check.specs.One.{PlannedPort, Ran, Standing, behind_setup, from_plan, performs, run, run_actor, said_in_kind}
 use Rattle.gl_served.specs.Served.{Accepted, start}
-use Rattle.gl_served.specs.Port.{unplanned}
+use Rattle.gl_check.specs.Ports.{unplanned}
 use Rattle.gl_served.specs.declared.limits.TheConstants.{PAIRS}
 use Rattle.gl_served.specs.Whole.{TextIsOne, session_of}
 use Rattle.gl_served.proofs.Listed.{planned_is_one}

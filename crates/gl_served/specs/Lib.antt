@@ -7,7 +7,6 @@ pub mod Making
 pub mod Opening
 pub mod Port
 pub mod Questions
-pub mod Rows
 pub mod Served
 pub mod Slots
 pub mod UnderWay

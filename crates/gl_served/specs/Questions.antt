@@ -12,10 +12,8 @@ use Rattle.gl_base.specs.declared.operation.Got.TheVariants.{Bytes}
 use Rattle.gl_debounce.specs.Earliest.{earliest}
 use Rattle.gl_lines.specs.Texts.{line as text_line}
 use Rattle.gl_script.specs.Columns.{columns}
-use Rattle.gl_script.specs.Served.{line_kind}
+use Rattle.gl_script.specs.Served.{Kind, Statement, line_kind}
 use Rattle.gl_script.specs.declared.refusal.Spot.{Spot}
-use Rattle.gl_script.specs.declared.served.LineKind.{LineKind}
-use Rattle.gl_script.specs.declared.served.LineKind.TheVariants.{Statement}
 use Rattle.gl_script.specs.declared.served.Stage.{Stage}
 use Rattle.gl_script.specs.declared.served.Stage.TheVariants.{Opening, Headed, Open}
 use Rattle.gl_talk.specs.Open.{Names, file_of, is_chip_file}
@@ -59,7 +57,7 @@ abbrev pub stands_for : Names → List ℕ → List ℕ
 stands_for names line = read_word (names_chip names line) ++ drop 5 line
 
 -- its faults, at the columns of the `data`
-abbrev pub moved : ℕ → Result LineKind Spot → Result LineKind Spot
+abbrev pub moved : ℕ → Result Kind Spot → Result Kind Spot
 moved count (Ok kind) = Ok kind
 moved count (Err fault) = Err (record fault { column = fault.column - count })
 
@@ -67,7 +65,7 @@ abbrev pub shift_of : Bool → ℕ
 shift_of true = 3
 shift_of false = 2
 
-abbrev pub data_kind : Accepted → List ℕ → Result LineKind Spot
+abbrev pub data_kind : Accepted → List ℕ → Result Kind Spot
 data_kind said line =
     let names = (carried_out said.statements).value in
     limited (pair_after said) (moved (shift_of (names_chip names line)) (line_kind said.stage (stands_for names line)))
@@ -103,7 +101,7 @@ pub record IsRead (said : Accepted) (line : List ℕ) (text : List ℕ) (after :
   pub adds : text_of after ≡ text_of said ++ extra
   pub shows : text ≡ shown (first_got (does (carried_out said.statements).value (slot_of (pair_after said)) (columns line)) (carried_out said.statements).behind) extra
 
-abbrev pub IsData : Accepted → List ℕ → Result LineKind Spot → Answer → List ℕ → Accepted → Type 0
+abbrev pub IsData : Accepted → List ℕ → Result Kind Spot → Answer → List ℕ → Accepted → Type 0
 IsData said line (Ok Statement) answer text after = (answer ≡ Text) × IsRead said line text after
 IsData said line (Ok kind) answer text after = IsAnswer said line (Ok kind) answer text after
 IsData said line (Err fault) answer text after = IsAnswer said line (Err fault) answer text after

@@ -3,11 +3,9 @@ use Rattle.std.specs.Prelude.{◌≡◌, ℕ, ◌+◌, nat_lt, min, if◌then◌
 use Rattle.gl_model.specs.World.{opening}
 use Rattle.gl_script.specs.Columns.{columns}
 use Rattle.gl_script.specs.Faults.{spot}
-use Rattle.gl_script.specs.Served.{line_kind, opened}
+use Rattle.gl_script.specs.Served.{Kind, Passed, Header, Setup, Statement, line_kind, opened}
 use Rattle.gl_script.specs.declared.refusal.RefusalKind.TheVariants.{Limit}
 use Rattle.gl_script.specs.declared.refusal.Spot.{Spot}
-use Rattle.gl_script.specs.declared.served.LineKind.{LineKind}
-use Rattle.gl_script.specs.declared.served.LineKind.TheVariants.{Passed, Header, Setup, Statement}
 use Rattle.gl_script.specs.declared.served.Stage.{Stage}
 use Rattle.gl_script.specs.declared.served.Stage.TheVariants.{Opening, Headed}
 use Rattle.gl_talk.specs.Open.{Names, no_names}
@@ -15,7 +13,7 @@ use Rattle.gl_talk.specs.Talk.{does, names_in}
 use Rattle.gl_talk.specs.declared.talk.Talk.{Talk}
 use Rattle.gl_check.specs.One.{PlannedPort, Ran, Standing, behind_text, from_plan, run}
 use Rattle.gl_served.specs.Alone.{StandsAs}
-use Rattle.gl_served.specs.Port.{unplanned}
+use Rattle.gl_check.specs.Ports.{unplanned}
 use Rattle.gl_served.specs.Slots.{pair_behind, slot_of}
 use Rattle.gl_served.specs.declared.limits.TheConstants.{LINE_MAX, PAIRS}
 use Rattle.gl_served.specs.declared.alone.Alone.{Alone}
@@ -49,7 +47,7 @@ abbrev pub nothing_accepted : Accepted
 nothing_accepted = record { stage = Opening; statements = [] }
 
 -- a line more of this kind was accepted
-abbrev pub accepted_after : LineKind → List ℕ → Accepted → Accepted
+abbrev pub accepted_after : Kind → List ℕ → Accepted → Accepted
 accepted_after Passed line said = said
 accepted_after (Header version) line said = record { stage = Headed version; statements = said.statements }
 accepted_after Setup line said = record { stage = opened said.stage; statements = said.statements }
@@ -64,11 +62,11 @@ abbrev pub pair_after : Accepted → Option ℕ
 pair_after said = pair_behind (length said.statements) (carried_out said.statements).behind.files
 
 -- A line has at most `LINE_MAX` bytes, and a statement a pair of slots.
-abbrev pub in_pair : Option ℕ → Result LineKind Spot
+abbrev pub in_pair : Option ℕ → Result Kind Spot
 in_pair None = Err (spot 1 Limit)
 in_pair (Some pair) = Ok Statement
 
-abbrev pub limited : Option ℕ → Result LineKind Spot → Result LineKind Spot
+abbrev pub limited : Option ℕ → Result Kind Spot → Result Kind Spot
 limited pair (Ok Statement) = in_pair pair
 limited pair kind = kind
 
@@ -77,11 +75,11 @@ abbrev pub counted : ℕ → ℕ
 counted count = min count PAIRS
 
 -- what a line is, after what was accepted, or why it is refused
-abbrev pub kind_after : Accepted → List ℕ → Result LineKind Spot
+abbrev pub kind_after : Accepted → List ℕ → Result Kind Spot
 kind_after said line = if nat_lt LINE_MAX (length line) then Err (spot (LINE_MAX + 1) Limit) else limited (pair_after said) (line_kind said.stage line)
 
 -- A line is answered: a refused one counts as not given, and of an accepted one the answer is just what it adds to the session's text.
-abbrev pub IsAnswer : Accepted → List ℕ → Result LineKind Spot → Answer → List ℕ → Accepted → Type 0
+abbrev pub IsAnswer : Accepted → List ℕ → Result Kind Spot → Answer → List ℕ → Accepted → Type 0
 IsAnswer said line (Err fault) answer text after = (answer ≡ Refused fault) × (text ≡ []) × (after ≡ said)
 IsAnswer said line (Ok kind) answer text after = (answer ≡ Text) × (after ≡ accepted_after kind line said) × (text_of after ≡ text_of said ++ text)
 

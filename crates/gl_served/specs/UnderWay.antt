@@ -7,9 +7,8 @@ use Rattle.gl_base.specs.declared.errno.Errno.{Errno}
 use Rattle.gl_base.specs.declared.operation.Do.{Do}
 use Rattle.gl_base.specs.declared.operation.Got.{Got}
 use Rattle.gl_script.specs.Columns.{columns}
+use Rattle.gl_script.specs.Served.{Kind, Statement}
 use Rattle.gl_script.specs.declared.refusal.Spot.{Spot}
-use Rattle.gl_script.specs.declared.served.LineKind.{LineKind}
-use Rattle.gl_script.specs.declared.served.LineKind.TheVariants.{Statement}
 use Rattle.gl_talk.specs.Open.{Names}
 use Rattle.gl_talk.specs.Talk.{does, left}
 use Rattle.gl_check.specs.One.{PlannedPort, Standing, behind_text, from_plan, performs, run}
@@ -96,7 +95,7 @@ statement_for false said line = line
 statement_for true said line = stands_for (carried_out said.statements).value line
 
 -- what that is answered, where it is of a kind
-abbrev pub IsTaken : Bool → Accepted → List ℕ → Result LineKind Spot → Answer → List ℕ → Accepted → Type 0
+abbrev pub IsTaken : Bool → Accepted → List ℕ → Result Kind Spot → Answer → List ℕ → Accepted → Type 0
 IsTaken false said line kind answer text after = IsAnswer said line kind answer text after
 IsTaken true said line kind answer text after = IsData said line kind answer text after
 

@@ -1,8 +1,8 @@
 //! The machine with its one actor: the open files, and the answers of its driver.
 
-ghost use Rattle.std.specs.Prelude.{vec_len, vec_capacity, ◌≡◌, ◌+◌, ◌≤◌, [], map, replicate, IfOk, OnOk, OnErr, IsOkUnless, ℕ, List};
-ghost use Rattle.gl_asking.specs.Asking.{asking, buffer_of, file_for, files_behind, got_of};
-ghost use Rattle.gl_asking.specs.Changes.{IsFilled, OpensWithin};
+ghost use Rattle.std.specs.Prelude.{vec_len, vec_capacity, ◌≡◌, ◌+◌, ◌≤◌, [], map, IfOk, OnOk, OnErr, IsOkUnless, List};
+ghost use Rattle.gl_asking.specs.Asking.{asking, file_for, files_behind, got_of};
+ghost use Rattle.gl_asking.specs.Changes.{OpensWithin};
 ghost use Rattle.gl_asking.specs.Files.{OpenFile};
 ghost use Rattle.gl_asking.specs.Fitting.{FitsDevice};
 ghost use Rattle.gl_asking.specs.Rows.{IsRow, IsSomeRow, file_of, row_file};
@@ -11,16 +11,17 @@ ghost use Rattle.gl_base.specs.Rows.{Each};
 ghost use Rattle.gl_core.specs.Kept.{StandsFor};
 ghost use Rattle.gl_model.specs.World.{opening};
 ghost use Rattle.gl_check.specs.One.{PlannedPort, Standing, from_plan, performs};
-ghost use Rattle.gl_served.specs.Alone.{StandsAs, alone_in, buffer_for};
+ghost use Rattle.gl_check.specs.Ports.{unplanned};
+ghost use Rattle.gl_check.specs.Seating.{port_in};
+ghost use Rattle.gl_served.specs.Alone.{StandsAs, alone_in};
 ghost use Rattle.gl_served.specs.Closing.{all_closed, closes};
-ghost use Rattle.gl_served.specs.Port.{port_in, unplanned};
 
 use crate::closing::in_order;
 use crate::making::{Made, make};
-use crate::port::Planned;
-use crate::rows::{change, row_for};
-use gl_asking::{Asking, FileRow, answered_by, asking_of, files_behind, got_of};
+use gl_asking::{Asking, FileRow, asking_of, got_of};
 use gl_base::{Do, Errno, Got};
+use gl_check::rows::{keep, row_for};
+use gl_check::{Planned, buffer_for};
 use gl_core::Core;
 use gl_core::laws::core_is_well_kept;
 use gl_model::{DeviceCall, Reply};
@@ -151,41 +152,6 @@ impl Alone {
         ensures core { self.new.core ≡ self.old.core }
         ensures port { self.new.port ≡ self.old.port }
     {
-        let answered = answered_by(what, reply);
-        change(&mut self.rows, files_behind(what, row, &answered));
+        keep(&mut self.rows, what, row, reply);
     }
-}
-
-/// The buffer of an operation.
-fn buffer_for(alloc: Global, what: &Do) -> Result<Vec<u8>, Errno>
-    ensures ok { IfOk result (λ buffer. buffer.items ≡ buffer_for what.now) }
-    ensures memory_alone { IsOkUnless result Errno.NoMemory }
-{
-    match what {
-        Do::Unplug { .. } | Do::Live { up: false, .. } => zeros(alloc, 2),
-        Do::Ioctl { len, bytes, .. } => bytes_of(alloc, *len, bytes),
-        Do::ReadFile { len, .. } => zeros(alloc, *len as usize),
-        _ => Ok(Vec::new(alloc)),
-    }
-}
-
-/// So many zeros.
-fn zeros(alloc: Global, len: usize) -> Result<Vec<u8>, Errno>
-    ensures ok { IfOk result (λ buffer. buffer.items ≡ replicate len 0) }
-    ensures memory_alone { IsOkUnless result Errno.NoMemory }
-{
-    let buffer = vec![in alloc; 0; len]?;
-    Ok(buffer)
-}
-
-/// So many of these bytes, and zeros after them where there are fewer.
-fn bytes_of(alloc: Global, len: u32, bytes: &[u8]) -> Result<Vec<u8>, Errno>
-    ensures ok { IfOk result (λ buffer. buffer.items ≡ buffer_of len bytes.now) }
-    ensures memory_alone { IsOkUnless result Errno.NoMemory }
-{
-    let count = bytes.len().min(len as usize);
-    let mut buffer = Vec::new(alloc);
-    buffer.extend_from_slice(&bytes[..count])?;
-    buffer.resize(len as usize, 0)?;
-    Ok(buffer)
 }

@@ -1,27 +1,28 @@
 //! Calls of the device as one actor makes them, one after another: no other actor is there, so no place is left between two calls of
 //! a removal, and the guard of a place is closed just where its chip is gone.
 
-ghost use Rattle.std.specs.Prelude.{◌≡◌, ◌<◌, ◌∷◌, None, Some, IfOk, OnErr, IsOkUnless, if◌then◌else◌};
+ghost use Rattle.std.specs.Prelude.{◌≡◌, ◌<◌, None, Some, IfOk, IfSome, OnErr, IsOkUnless};
 ghost use Rattle.gl_asking.specs.Fitting.{FitsDevice};
 ghost use Rattle.gl_base.specs.declared.limits.TheConstants.{PLACES};
 ghost use Rattle.gl_core.specs.Kept.{StandsFor};
 ghost use Rattle.gl_model.specs.Chips.{phase_at};
 ghost use Rattle.gl_model.specs.Entries.{last_call};
 ghost use Rattle.gl_model.specs.Fits.{Fits, FitsBuffer, FitsCall};
-ghost use Rattle.gl_model.specs.Parts.{first_call, guard_of, in_ask, in_tell};
+ghost use Rattle.gl_model.specs.Parts.{first_call, guard_of, in_ask, in_tell, is_poll};
 ghost use Rattle.gl_model.specs.Step.{step};
 ghost use Rattle.gl_model.specs.World.{World};
 ghost use Rattle.gl_model.specs.declared.device_call.DeviceCall.TheVariants.{Commanding, Removing};
 ghost use Rattle.gl_check.specs.One.{comes_to, goes_on, inside, is_asked, is_gone, two};
 ghost use Rattle.gl_served.specs.Making.{Came, CameBy, FitsMaking, is_asked_inside, is_command_asked};
 ghost use Rattle.gl_served.specs.Opening.{NumberFits, NumbersBy};
-ghost use Rattle.gl_served.specs.Port.{after_asking, next_to, port_in};
+ghost use Rattle.gl_check.specs.Seating.{port_in};
+ghost use Rattle.gl_served.specs.Port.{after_asking, next_to};
 
-use crate::parts::{applies, first_call, guard_of, in_part, is_poll, last_call};
-use crate::port::Planned;
+use gl_asking::parts::{applies, first_call, in_part, is_poll, last_call};
 use gl_base::{Errno, Phase};
+use gl_check::Planned;
 use gl_core::Core;
-use gl_core::entries::begins;
+use gl_core::entries::{begins, place_of};
 use gl_core::fits::gift_for;
 use gl_core::laws::core_is_well_kept;
 use gl_model::{Call, CommandIn, DeviceCall, Gift, Part, RemovalOf, Reply, is_driver_asked};
@@ -106,12 +107,13 @@ fn end_removal(
     first: &Call,
     made: Made,
 ) -> Made
-    requires fits { FitsDevice (Removing removal.now) }
+    requires first { first.now ≡ first_call removal.now }
+    requires fits { FitsCall first.now }
     ensures made { (w : World) → StandsFor core.old (step w 0 first.now).world → made.reply ≡ (step w 0 first.now).reply
         → (StandsFor core.new (two w first.now (last_call (first_call removal.now))).world) × (result.reply ≡ (two w first.now (last_call (first_call removal.now))).reply) }
 {
     if begins(first, &made.reply) {
-        step(core, &last_call(removal), nothing(), Vec::new(alloc))
+        step(core, &last_call(first), nothing(), Vec::new(alloc))
     } else {
         made
     }
@@ -161,7 +163,9 @@ fn tell(
     ensures number { NumbersBy (Commanding command.now) result.reply }
 {
     if begins(ask, &made.reply) {
-        let tell = in_part(command, Part::Tell(port.answer(applies(command))));
+        let answer = port.next_answer(applies(command.cmd));
+        port.count();
+        let tell = in_part(command, Part::Tell(answer));
         step(core, &tell, nothing(), spare)
     } else {
         made
@@ -226,6 +230,29 @@ fn is_closed(core: &Core, place: u8) -> bool
     }
 }
 
+/// The place whose guard a call of the device enters.
+fn guard_of(call: &DeviceCall) -> Option<u8>
+    requires { FitsDevice call.now }
+    ensures guard { result ≡ guard_of call.now }
+    ensures below { IfSome result (λ place. place < PLACES) }
+{
+    match call {
+        DeviceCall::Once(call) => place_of(call),
+        DeviceCall::Removing(_) => None,
+        DeviceCall::Commanding(command) => Some(command.place),
+    }
+}
+
+/// A call of the device is a poll.
+fn polls(call: &DeviceCall) -> bool
+    ensures { result ≡ is_poll call.now }
+{
+    match call {
+        DeviceCall::Once(call) => is_poll(call),
+        DeviceCall::Removing(_) | DeviceCall::Commanding(_) => false,
+    }
+}
+
 /// A call of the device.
 pub fn make(
     core: &mut Core,
@@ -271,7 +298,7 @@ fn make_at(
 {
     if is_closed(core, place) {
         core_is_well_kept(core);
-        let poll = is_poll(call);
+        let poll = polls(call);
         make_one(core, alloc, &Call::Refused { place, poll }, buffer)
     } else {
         make_inside(core, alloc, port, call, buffer)

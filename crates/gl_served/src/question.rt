@@ -1,6 +1,7 @@
 //! Lines that are no statements of a session, and what they print.
 
 ghost use Rattle.std.specs.Prelude.{◌≡◌, ◌++◌, ℕ, List, drop, IfOk, OnOk, OnErr, IsOkUnless};
+ghost use Rattle.gl_script.specs.Served.{kinds};
 ghost use Rattle.gl_served.specs.Questions.{bytes_text_line, due_text, moment_text, moved, question_in, question_of, read_word, shift_of, shown, text_or};
 
 use crate::limits::LINE_MAX;
@@ -106,7 +107,8 @@ pub fn shift_of(of_chip: bool) -> u32
 
 /// A fault so many columns further in front.
 pub fn moved(count: u32, kind: Result<LineKind, Spot>) -> Result<LineKind, Spot>
-    ensures { result ≡ moved count kind }
+    ensures moved { kinds result ≡ moved count (kinds kind) }
+    ensures same { IfOk result (λ line. kind ≡ Ok line) }
 {
     match kind {
         Ok(kind) => Ok(kind),

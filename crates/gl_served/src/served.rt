@@ -1,12 +1,11 @@
 //! A session whose lines come one by one, each answered at once.
 
-ghost use Rattle.std.specs.Prelude.{◌≡◌, ◌≢◌, ◌<◌, ◌≤◌, ◌+◌, ◌++◌, ◌∷◌, [], ℕ, List, None, Some, Ok, Err, true, false, is_some, length, map, IfSome, IfOk, OnOk, OnErr, IsOkUnless};
+ghost use Rattle.std.specs.Prelude.{◌≡◌, ◌≢◌, ◌<◌, ◌≤◌, ◌+◌, ◌++◌, ◌∷◌, [], ℕ, List, None, Some, Ok, Err, true, false, length, map, IfSome, IfOk, OnOk, OnErr, IsOkUnless};
 ghost use Rattle.gl_client.specs.Program.{Program, done};
 ghost use Rattle.gl_base.specs.Rows.{Each};
 ghost use Rattle.gl_asking.specs.Rows.{IsRow, row_file};
 ghost use Rattle.gl_script.specs.Columns.{columns};
-ghost use Rattle.gl_script.specs.Said.{said_of};
-ghost use Rattle.gl_script.specs.declared.served.LineKind.TheVariants.{Statement};
+ghost use Rattle.gl_script.specs.Served.{IsSaid, Statement, kind_in, kinds};
 ghost use Rattle.gl_talk.specs.Open.{Names};
 ghost use Rattle.gl_talk.specs.Talk.{left, names_in};
 ghost use Rattle.gl_check.specs.One.{PlannedPort, Standing};
@@ -71,13 +70,14 @@ fn counted(count: u32) -> u32
 
 /// A line of a kind, where a statement has this pair of slots.
 fn limited(pair: Option<u32>, kind: Result<LineKind, Spot>) -> Result<LineKind, Spot>
-    ensures limited { result ≡ limited pair kind }
-    ensures room { result ≡ Ok Statement → pair ≢ None }
+    ensures limited { kinds result ≡ limited pair (kinds kind) }
+    ensures same { IfOk result (λ line. kind ≡ Ok line) }
+    ensures room { IfOk result (λ line. kind_in line ≡ Statement → pair ≢ None) }
 {
     match kind {
-        Ok(LineKind::Statement) => {
+        Ok(LineKind::Statement(said)) => {
             match pair {
-                Some(_) => Ok(LineKind::Statement),
+                Some(_) => Ok(LineKind::Statement(said)),
                 None => Err(Spot {
                     column: 1,
                     kind: RefusalKind::Limit,
@@ -223,9 +223,9 @@ impl Served {
 
     /// What a line is, or why it is refused.
     fn kind(&self, line: &[u8]) -> Result<LineKind, Spot>
-        ensures kind { (said : Accepted) → Keeps self.now said → result ≡ kind_after said line.now }
-        ensures room { result ≡ Ok Statement → pair_behind self.now.count (map row_file self.now.alone.rows.items) ≢ None }
-        ensures read { result ≡ Ok Statement → is_some (said_of (columns line.now)) ≡ true }
+        ensures kind { (said : Accepted) → Keeps self.now said → kinds result ≡ kind_after said line.now }
+        ensures room { IfOk result (λ kind. kind_in kind ≡ Statement → pair_behind self.now.count (map row_file self.now.alone.rows.items) ≢ None) }
+        ensures read { IfOk result (λ kind. IsSaid (columns line.now) kind) }
     {
         if line.len() > LINE_MAX {
             return Err(Spot {
@@ -246,16 +246,19 @@ impl Served {
         statement: &[u8],
         out: &mut Vec<u8>,
     ) -> Result<Answer, Errno>
-        requires room { kind ≡ Statement → pair_behind self.old.count (map row_file self.old.alone.rows.items) ≢ None }
-        requires read { kind ≡ Statement → is_some (said_of (columns statement.now)) ≡ true }
+        requires room { kind_in kind ≡ Statement → pair_behind self.old.count (map row_file self.old.alone.rows.items) ≢ None }
+        requires read { IsSaid (columns statement.now) kind }
         ensures answered { (said : Accepted) → Keeps self.old said → IfOk result (λ answer. (text : List ℕ) × (then : Accepted)
-            × (out.new.items ≡ out.old.items ++ text) × IsTaken reads said statement.now (Ok kind) answer text then × Keeps self.new then) }
-        ensures kept { (said : Accepted) → Keeps self.old said → (kind ≡ Statement → IsStatementLine reads said line.now) → statement.now ≡ statement_for reads said line.now → OnErr result (CanAnswer self.new said line.now) }
+            × (out.new.items ≡ out.old.items ++ text) × IsTaken reads said statement.now (Ok (kind_in kind)) answer text then × Keeps self.new then) }
+        ensures kept { (said : Accepted) → Keeps self.old said → (kind_in kind ≡ Statement → IsStatementLine reads said line.now) → statement.now ≡ statement_for reads said line.now → OnErr result (CanAnswer self.new said line.now) }
         ensures out_kept { OnErr result (out.new.items ≡ out.old.items) }
         ensures memory_alone { IsOkUnless result Errno.NoMemory }
     {
         match kind {
-            LineKind::Statement => self.begin(alloc, reads, line, statement, out),
+            LineKind::Statement(said) => {
+                let statement = gl_script::Statement::of(0, statement, said);
+                self.begin(alloc, reads, line, &statement, out)
+            }
             _ => {
                 self.accept(kind);
                 Ok(Answer::Text)
@@ -265,14 +268,14 @@ impl Served {
 
     /// Accepts a line of a kind that is no statement.
     fn accept(&mut self, kind: LineKind)
-        requires { kind ≢ Statement }
-        ensures { (said : Accepted) (line : List ℕ) → Keeps self.old said → (then : Accepted) × IsAnswer said line (Ok kind) Answer.Text [] then × Keeps self.new then }
+        requires { kind_in kind ≢ Statement }
+        ensures { (said : Accepted) (line : List ℕ) → Keeps self.old said → (then : Accepted) × IsAnswer said line (Ok (kind_in kind)) Answer.Text [] then × Keeps self.new then }
     {
         match kind {
             LineKind::Passed => {}
             LineKind::Header(version) => self.stage = Stage::Headed(version),
             LineKind::Setup => self.stage = LineKind::Setup.stage_after(self.stage),
-            LineKind::Statement => unreachable!(),
+            LineKind::Statement(_) => unreachable!(),
         }
     }
 
@@ -282,14 +285,13 @@ impl Served {
         alloc: Global,
         reads: bool,
         line: &[u8],
-        statement: &[u8],
+        statement: &gl_script::Statement<'_>,
         out: &mut Vec<u8>,
     ) -> Result<Answer, Errno>
         requires room { pair_behind self.old.count (map row_file self.old.alone.rows.items) ≢ None }
-        requires read { is_some (said_of (columns statement.now)) ≡ true }
         ensures answered { (said : Accepted) → Keeps self.old said → IfOk result (λ answer. (text : List ℕ) × (then : Accepted)
-            × (out.new.items ≡ out.old.items ++ text) × IsTaken reads said statement.now (Ok Statement) answer text then × Keeps self.new then) }
-        ensures kept { (said : Accepted) → Keeps self.old said → IsStatementLine reads said line.now → statement.now ≡ statement_for reads said line.now → OnErr result (CanAnswer self.new said line.now) }
+            × (out.new.items ≡ out.old.items ++ text) × IsTaken reads said statement.now.line.now (Ok Statement) answer text then × Keeps self.new then) }
+        ensures kept { (said : Accepted) → Keeps self.old said → IsStatementLine reads said line.now → statement.now.line.now ≡ statement_for reads said line.now → OnErr result (CanAnswer self.new said line.now) }
         ensures out_kept { OnErr result (out.new.items ≡ out.old.items) }
         ensures memory_alone { IsOkUnless result Errno.NoMemory }
     {
@@ -306,22 +308,20 @@ impl Served {
         pair: u32,
         reads: bool,
         line: &[u8],
-        statement: &[u8],
+        statement: &gl_script::Statement<'_>,
         out: &mut Vec<u8>,
     ) -> Result<Answer, Errno>
         requires pair { Some pair ≡ pair_behind self.old.count (map row_file self.old.alone.rows.items) }
         requires within { pair < PAIRS }
-        requires read { is_some (said_of (columns statement.now)) ≡ true }
         ensures answered { (said : Accepted) → Keeps self.old said → IfOk result (λ answer. (text : List ℕ) × (then : Accepted)
-            × (out.new.items ≡ out.old.items ++ text) × IsTaken reads said statement.now (Ok Statement) answer text then × Keeps self.new then) }
-        ensures kept { (said : Accepted) → Keeps self.old said → IsStatementLine reads said line.now → statement.now ≡ statement_for reads said line.now → OnErr result (CanAnswer self.new said line.now) }
+            × (out.new.items ≡ out.old.items ++ text) × IsTaken reads said statement.now.line.now (Ok Statement) answer text then × Keeps self.new then) }
+        ensures kept { (said : Accepted) → Keeps self.old said → IsStatementLine reads said line.now → statement.now.line.now ≡ statement_for reads said line.now → OnErr result (CanAnswer self.new said line.now) }
         ensures out_kept { OnErr result (out.new.items ≡ out.old.items) }
         ensures memory_alone { IsOkUnless result Errno.NoMemory }
     {
         let under_way = UnderWay::new(alloc, reads, line)?;
         self.talk.begun = pair;
-        self.talk
-            .begin(alloc, &gl_script::Statement::of(0, statement))?;
+        self.talk.begin(alloc, statement)?;
         self.count = counted(self.count);
         self.go_on(alloc, under_way, out)
     }

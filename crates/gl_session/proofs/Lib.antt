@@ -22,7 +22,6 @@ pub mod Performing
 pub mod Plays
 pub mod PortPlaces
 pub mod PrintedLines
-pub mod SaidHere
 pub mod Sections
 pub mod Silence
 pub mod Suiting

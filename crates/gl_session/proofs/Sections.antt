@@ -16,7 +16,7 @@ use Rattle.gl_talk.specs.Talk.{does, quits, says, slot_behind}
 use Rattle.gl_talk.proofs.InARow.{come_in_parts}
 use Rattle.gl_check.specs.Drivers.{DriverKind}
 use Rattle.gl_check.specs.One.{is_kind, said_in_kind}
-use Rattle.gl_session.specs.OneActor.{said_at, said_of}
+use Rattle.gl_check.specs.Sections.{said_at, said_of}
 use Rattle.gl_asking.specs.Files.{OpenFile}
 use Rattle.gl_session.specs.Performed.{PlaysOn, StoppedFull}
 use Rattle.gl_check.specs.Turns.{Carried, carried}

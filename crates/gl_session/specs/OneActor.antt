@@ -1,10 +1,8 @@
 -- What comes of a session that one actor carries out on a device of its own. This project's choice.
-use Rattle.std.specs.Prelude.{◌≡◌, ◌<◌, ◌≤◌, ℕ, ◌+◌, true, if◌then◌else◌, List, [], length, map, Option, Some, None, slice_get}
-use Rattle.gl_base.specs.Words.{Span}
+use Rattle.std.specs.Prelude.{◌≡◌, ◌<◌, ◌≤◌, ℕ, ◌+◌, true, List, length, Option, Some}
 use Rattle.gl_base.specs.declared.limits.TheConstants.{COST_MAX}
 use Rattle.gl_gate.specs.Grown.{Grew}
 use Rattle.gl_driver.specs.Told.{Told}
-use Rattle.gl_script.specs.Columns.{columns}
 use Rattle.gl_script.specs.Cost.{session_cost}
 use Rattle.gl_script.specs.Section.{SaidSection}
 use Rattle.gl_script.specs.declared.section.SectionKind.{SectionKind}
@@ -15,7 +13,7 @@ use Rattle.gl_chip.specs.Values.{OneView}
 use Rattle.gl_session.specs.Alone.{PlayedSession}
 use Rattle.gl_check.specs.Drivers.{DriverKind}
 use Rattle.gl_check.specs.Tells.{TellsAfter}
-use Rattle.gl_check.specs.One.{entries_made, is_kind, one, planned_over, said_in_kind, taken, told_behind}
+use Rattle.gl_check.specs.One.{entries_made, one, planned_over, said_in_kind, taken, told_behind}
 
 -- What the session came to, over a port that told this before and tells that now: its text is One of just the answers that One
 -- takes, and it makes no more entries than the session costs. A planned driver gave those that the port's plan before and the statements
@@ -44,15 +42,6 @@ count_in_kind kind sections = length (said_in_kind kind sections)
 pub record IsSized (sections : List SaidSection) : Type 0 where
   pub few : count_in_kind Setup sections + count_in_kind Actor sections + count_in_kind After sections ≤ 1048576
   pub cheap : session_cost sections ≤ COST_MAX
-
--- the words of a section's statements, if it is of this kind
-abbrev pub said_of : SectionKind → Option SaidSection → List (List Span)
-said_of kind None = []
-said_of kind (Some section) = if is_kind kind section.kind then map (λ line. columns line.text) section.statements else []
-
--- the same of the section of a number, counted from 0
-abbrev pub said_at : SectionKind → ℕ → List SaidSection → List (List Span)
-said_at kind i sections = said_of kind (slice_get sections i)
 
 -- all parts were carried out, and these are the deeds of the actor
 abbrev pub HasPlayed : DriverKind → List SaidSection → Option Told → List ℕ → Option Told → OneView → OneView → Type 0

@@ -13,8 +13,7 @@ use Rattle.gl_gate.specs.Calls.{HasAllOf, HasItsOwn}
 use Rattle.gl_gate.specs.Values.{GateValue}
 use Rattle.gl_client.specs.Program.{Program, ask, done}
 use Rattle.gl_driver.specs.Told.{Told}
-use Rattle.gl_script.specs.Section.{SaidHead, SaidSection}
-use Rattle.gl_script.specs.declared.section.SectionKind.TheVariants.{Actor}
+use Rattle.gl_script.specs.Section.{SaidSection}
 use Rattle.gl_talk.specs.Open.{Names}
 use Rattle.gl_chip.specs.Values.{ActorValue, IsActorOf, OneView}
 use Rattle.gl_core.specs.Device.{OneEntry, core}
@@ -23,15 +22,9 @@ use Rattle.gl_check.specs.Programs.{after_of, setup_of}
 use Rattle.gl_asking.specs.Asking.{asking}
 use Rattle.gl_asking.specs.Files.{OpenFile}
 use Rattle.gl_check.specs.Many.{Texts, actor_sections, program_of}
-use Rattle.gl_check.specs.One.{is_kind}
 use Rattle.gl_session.specs.Performed.{IsCall, PlaysOn}
 use Rattle.gl_check.specs.Turns.{Carried, Follows, Played, Turn, carried, did_by}
 use Rattle.gl_session.specs.Ports.{told_by}
-
--- the head of an actor's section
-abbrev pub is_actor_head : Option SaidHead → Bool
-is_actor_head None = false
-is_actor_head (Some head) = is_kind Actor head.kind
 
 -- A whole program was carried out by an actor without open files: its text, and what it left.
 pub record PlaysWhole (driver : DriverKind) (program : Program Names) (v : OneView) (before : Option Told) (text : List ℕ) (w : OneView) (left : Option Told) : Type 0 where

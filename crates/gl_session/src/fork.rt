@@ -14,8 +14,9 @@ ghost use Rattle.gl_session.specs.Workers.{AreDone, AreFresh, AreKept, HasJoined
 
 use crate::player::Player;
 use crate::rendezvous::Rendezvous;
-use crate::worker::{actor_statements, play_beside};
+use crate::worker::play_beside;
 use gl_base::{ByteList, Errno};
+use gl_check::sections::actor_statements;
 use gl_chip::{Actor, Gpio};
 use gl_core::Core;
 use gl_driver::Driver;
@@ -128,7 +129,7 @@ fn work<R: Wait, D: Driver<Core>>(
     ensures { WorkDone D.Port.told (λ _. D.Port.told actor.port) device.now (driver_kind D.ENTRIES D.is_planned D.OwnEntries D.Follows) (program_of (sections_of script.now)) actor.pass.view actor.pass.view.number result }
 {
     let number = actor.number();
-    let statements = actor_statements(script, number);
+    let statements = actor_statements(script, u32::from(number));
     let mut player = Player::new(alloc, device, actor);
     let text = play_beside(rt, alloc, &mut player, start, statements);
     (player.into_actor(), text)

@@ -9,9 +9,9 @@ ghost use Rattle.gl_trace.specs.WordRead.{stripped};
 ghost use Rattle.gl_session.specs.Verdict.{IsOutputVerdict, IsSessionVerdict, IsVerdict, entries_verdict, header_of, is_judged, length_told, parts_by};
 
 use crate::verdict::Verdict;
-use crate::worker::count_actors;
 use gl_base::{Errno, read_plain_decimal, split_first};
 use gl_check::replay;
+use gl_check::sections::count_actors;
 use gl_core::Core;
 use gl_script::{RefusalKind, SESSION_MAX, Script};
 use gl_trace::{NoHistory, read_history};

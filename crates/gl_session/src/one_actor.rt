@@ -1,19 +1,17 @@
 //! A session that one actor carries out on a device of its own: its sections one after the other.
-ghost use Rattle.std.specs.Prelude.{◌≡◌, ◌⊎◌, ◌+◌, ◌≤◌, List, [], IfOk, IfErr, OnOk, IsOkUnless, map, length};
+ghost use Rattle.std.specs.Prelude.{◌≡◌, ◌⊎◌, ◌+◌, ◌≤◌, List, [], IfOk, IfErr, OnOk, IsOkUnless};
 ghost use Rattle.gl_base.specs.declared.errno.Errno.TheVariants.{Full, NoMemory};
 ghost use Rattle.gl_client.specs.Program.{done};
 ghost use Rattle.gl_rule.specs.Views.{newcomer};
 ghost use Rattle.gl_script.specs.Cost.{session_cost};
-ghost use Rattle.gl_script.specs.Meaning.{head_in};
 ghost use Rattle.gl_script.specs.Script.{sections_of};
 ghost use Rattle.gl_talk.specs.Open.{Names, no_names};
-ghost use Rattle.gl_talk.specs.Over.{columns_in};
 ghost use Rattle.gl_talk.specs.Talk.{names_in, quits, says};
 ghost use Rattle.gl_check.specs.Drivers.{driver_kind};
 ghost use Rattle.gl_check.specs.Programs.{actor_of};
 ghost use Rattle.gl_asking.specs.Files.{OpenFile};
-ghost use Rattle.gl_check.specs.One.{is_kind, said_in_kind};
-ghost use Rattle.gl_session.specs.OneActor.{CameWithEntries, HasPlayed, IsSized, StoppedBelow, count_in_kind, said_at};
+ghost use Rattle.gl_check.specs.One.{said_in_kind};
+ghost use Rattle.gl_session.specs.OneActor.{CameWithEntries, HasPlayed, IsSized, StoppedBelow, count_in_kind};
 ghost use Rattle.gl_session.specs.Performed.{PlaysOn, StoppedFull};
 ghost use Rattle.gl_check.specs.Turns.{carried};
 
@@ -21,56 +19,14 @@ use crate::play::{play, play_all};
 use crate::player::Player;
 use crate::rows::Rows;
 use gl_base::Errno;
+use gl_check::sections::statements_of_kind;
 use gl_chip::Gpio;
 use gl_core::Core;
 use gl_driver::Driver;
-use gl_script::{Head, Script, SectionKind, Statement};
+use gl_script::{Script, SectionKind};
 use gl_talk::Talk;
 use std::alloc::Global;
 use std::sync::Wait;
-
-/// Whether a section with this head is of this kind.
-fn is_head_of(kind: SectionKind, head: Head<'_>) -> bool
-    ensures { result ≡ is_kind kind (head_in head.entry).kind }
-{
-    match kind {
-        SectionKind::Setup => match head {
-            Head::Setup => true,
-            Head::Actor(_) => false,
-            Head::After => false,
-        },
-        SectionKind::Actor => match head {
-            Head::Setup => false,
-            Head::Actor(_) => true,
-            Head::After => false,
-        },
-        SectionKind::After => match head {
-            Head::Setup => false,
-            Head::Actor(_) => false,
-            Head::After => true,
-        },
-    }
-}
-
-/// The statements of a section, if it is of this kind.
-fn statements_of_kind<'a>(
-    script: &'a Script<'_>,
-    section: u32,
-    kind: SectionKind,
-) -> &'a [Statement<'a>]
-    ensures { map columns_in result.now ≡ said_at kind section (sections_of script.now) }
-{
-    let Some(head) = script.head(section) else {
-        return &[];
-    };
-    if !is_head_of(kind, head) {
-        return &[];
-    }
-    let Some(statements) = script.statements(section) else {
-        return &[];
-    };
-    statements
-}
 
 /// Carries out the statements of all sections of a kind, in a talk that may go on after them.
 pub fn play_kind<R: Wait, D: Driver<Core>>(

@@ -12,7 +12,7 @@ ghost use Rattle.gl_asking.specs.Rows.{IsRow, IsSomeRow, file_of};
 ghost use Rattle.gl_base.specs.Rows.{Each};
 ghost use Rattle.gl_session.specs.Player.{IsBoxedRow, boxed_file, is_boxed_row};
 
-use gl_asking::{Change, FileRow};
+use gl_asking::{Change, FileRow, slot_named};
 use gl_base::{Do, Errno};
 use std::alloc::Global;
 use std::marker::Model;
@@ -89,16 +89,9 @@ fn row_for(rows: &[Box<FileRow>], what: &Do) -> Option<FileRow>
     ensures found { file_for what.now (map boxed_file rows.now) ≡ file_of result }
     ensures row { IsSomeRow result }
 {
-    match what {
-        Do::Find {
-            slot: Some(slot),
-            ..
-        } => row_in(rows, *slot),
-        Do::Ioctl { slot, .. } => row_in(rows, *slot),
-        Do::ReadFile { slot, .. } => row_in(rows, *slot),
-        Do::Poll { slot } => row_in(rows, *slot),
-        Do::Close { slot } => row_in(rows, *slot),
-        _ => None,
+    match slot_named(what) {
+        Some(slot) => row_in(rows, slot),
+        None => None,
     }
 }
 

@@ -1,16 +1,13 @@
 //! One actor's section, from its first statement to the closing of its files.
-ghost use Rattle.std.specs.Prelude.{◌≡◌, ◌⊎◌, ◌-◌, ◌≤◌, [], length, map, get_or, option_map, IfOk, IfErr};
+ghost use Rattle.std.specs.Prelude.{◌≡◌, ◌⊎◌, ◌≤◌, [], length, map, IfOk, IfErr};
 ghost use Rattle.gl_base.specs.declared.errno.Errno.TheVariants.{Full, NoMemory};
-ghost use Rattle.gl_script.specs.Meaning.{head_in};
-ghost use Rattle.gl_script.specs.Script.{sections_of};
 ghost use Rattle.gl_talk.specs.Open.{no_names};
 ghost use Rattle.gl_talk.specs.Over.{columns_in};
 ghost use Rattle.gl_talk.specs.Talk.{talks};
 ghost use Rattle.gl_check.specs.Drivers.{driver_kind};
-ghost use Rattle.gl_check.specs.Many.{actor_sections, no_section, words_of};
 ghost use Rattle.gl_session.specs.Performed.{StoppedFull};
 ghost use Rattle.gl_check.specs.Turns.{carried};
-ghost use Rattle.gl_session.specs.Workers.{PlaysWhole, is_actor_head};
+ghost use Rattle.gl_session.specs.Workers.{PlaysWhole};
 
 use crate::play::{play, play_all};
 use crate::player::Player;
@@ -18,7 +15,7 @@ use crate::rendezvous::Rendezvous;
 use gl_base::{ByteList, Errno};
 use gl_core::Core;
 use gl_driver::Driver;
-use gl_script::{Head, Script, Statement};
+use gl_script::Statement;
 use gl_talk::Talk;
 use std::alloc::Global;
 use std::sync::Wait;
@@ -73,49 +70,4 @@ pub fn play_beside<R: Wait, D: Driver<Core>>(
 {
     start.meet();
     play_section(rt, alloc, player, statements)
-}
-
-/// Whether the head is an actor's.
-fn is_actor_head(head: Option<Head<'_>>) -> bool
-    ensures { result ≡ is_actor_head (option_map head_in head.entry) }
-{
-    match head {
-        Some(Head::Actor(_)) => true,
-        Some(Head::Setup) => false,
-        Some(Head::After) => false,
-        None => false,
-    }
-}
-
-/// How many actors a session has.
-pub fn count_actors(script: &Script<'_>) -> u32
-    ensures { result ≡ length (actor_sections (sections_of script.now)) }
-{
-    let mut count = 0;
-    for section in 0..script.sections() {
-        if is_actor_head(script.head(section)) {
-            count += 1;
-        }
-    }
-    count
-}
-
-/// The statements of an actor's section, by the actor's number, counted from 1.
-pub fn actor_statements<'s>(script: &'s Script<'_>, number: u8) -> &'s [Statement<'s>]
-    requires { (1 ≤ number) × (number ≤ length (actor_sections (sections_of script.now))) }
-    ensures { map columns_in result.now ≡ words_of (get_or (actor_sections (sections_of script.now)) (number - 1) no_section) }
-{
-    let mut missing = number;
-    for section in 0..script.sections() {
-        if is_actor_head(script.head(section)) {
-            missing -= 1;
-            if missing == 0 {
-                match script.statements(section) {
-                    Some(statements) => return statements,
-                    None => unreachable!(),
-                }
-            }
-        }
-    }
-    unreachable!()
 }

@@ -4,9 +4,10 @@ use Rattle.gl_asking.specs.Files.{OpenFile}
 use Rattle.gl_asking.specs.Rows.{file_of, row_file}
 use Rattle.gl_core.specs.Kept.{Kept}
 use Rattle.gl_check.specs.One.{comes_to}
-use Rattle.gl_served.specs.Alone.{buffer_for}
+use Rattle.gl_check.specs.Buffers.{buffer_for}
 use Rattle.gl_served.specs.Making.{CameBy, FitsMaking}
-use Rattle.gl_served.specs.Port.{next_to, port_in}
+use Rattle.gl_check.specs.Seating.{port_in}
+use Rattle.gl_served.specs.Port.{next_to}
 use Rattle.gl_served.proofs.Numbers.{lines_by}
 use Rattle.gl_served.proofs.Suiting.{performed_from, suits_call}
 use Rattle.gl_served.proofs.alone.Alone.call.Goals as goal

@@ -5,7 +5,7 @@ use Rattle.gl_base.specs.Ordered.{ordered}
 use Rattle.gl_check.specs.One.{PlannedPort, Standing}
 use Rattle.gl_served.specs.Alone.{StandsAs}
 use Rattle.gl_served.specs.Closing.{all_closed, is_row_before}
-use Rattle.gl_served.specs.Port.{port_in}
+use Rattle.gl_check.specs.Seating.{port_in}
 use Rattle.gl_served.proofs.Closed.{closed_in_order, no_rows, none_is_open}
 use Rattle.gl_served.proofs.alone.Alone.close_all.Goals as goal
 

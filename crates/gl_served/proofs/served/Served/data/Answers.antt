@@ -1,17 +1,13 @@
-use Rattle.std.proofs.Common.{◌≡◌, ◌++◌, true, List, ℕ, length, drop, Result, Ok, Err, [], ap, sym, subst, ◌∙◌, arith, length-drop}
-use Rattle.std.specs.Prelude.{is_some}
+use Rattle.std.proofs.Common.{◌≡◌, ◌++◌, List, ℕ, length, drop, Ok, Err, [], ap, sym, subst, ◌∙◌, arith, length-drop}
 use Rattle.std.proofs.lemmas.List.{append-nil}
 use Rattle.gl_base.specs.Words.{text_at}
 use Rattle.gl_script.specs.Columns.{columns}
-use Rattle.gl_script.specs.Said.{said_of}
-use Rattle.gl_script.specs.Served.{line_kind}
-use Rattle.gl_script.specs.declared.refusal.Spot.{Spot}
-use Rattle.gl_script.specs.declared.served.LineKind.{LineKind}
+use Rattle.gl_script.specs.Served.{IsSaid, kind_in, kinds, line_kind}
 use Rattle.gl_talk.specs.Open.{file_of, is_chip_file}
 use Rattle.gl_talk.specs.Talk.{names_in}
 use Rattle.gl_served.specs.Questions.{data_kind, read_word, stands_for}
-use Rattle.gl_served.specs.Served.{ServedValue, carried_out, limited}
-use Rattle.gl_served.proofs.Answering.{is_short, kind_told, moved_statement, read_by, refuses_data, stands}
+use Rattle.gl_served.specs.Served.{ServedValue, carried_out}
+use Rattle.gl_served.proofs.Answering.{is_short, kind_told, moved_said, read_by, refuses_data, stands}
 use Rattle.gl_served.proofs.Running.{keeps_can, on_err_always, pair_kept}
 use Rattle.gl_served.proofs.served.Served.data.Goals as goal
 
@@ -24,9 +20,9 @@ line_kind-requires c =
     (c.deref.ensures.value ∙ c.in_ok-statement.ensures.ok ∙ ap (λ (t : List ℕ). read_word c.has_chip-of_chip.result ++ t) c.behind_data-rest.ensures) c.requires
 
 pub take-requires-clause-read : goal.take-requires-clause-read
-take-requires-clause-read c = λ is.
-    subst (λ (l : List ℕ). is_some (said_of (columns l)) ≡ true) (c.deref.ensures.value ∙ sym c.deref-in-Ok.ensures.value)
-    (c.line_kind.ensures.statement (moved_statement c.pair.result c.shift_of.result c.line_kind.result (ap (λ (k : Result LineKind Spot). limited c.pair.result k) (sym c.moved.ensures) ∙ sym c.in-Ok.ensures.limited ∙ ap Ok is)))
+take-requires-clause-read c =
+    subst (λ (l : List ℕ). IsSaid (columns l) c.in-Ok.kind) (c.deref.ensures.value ∙ sym c.deref-in-Ok.ensures.value)
+    (moved_said (columns c.deref.result.now) c.line_kind.result c.moved.result c.in-Ok.kind c.moved.ensures.same c.in-Ok.ensures.same c.line_kind.ensures.said)
 
 pub returns-in-Ok-clause-answered : goal.returns-in-Ok-clause-answered
 returns-in-Ok-clause-answered c = λ said keeps.
@@ -36,11 +32,11 @@ returns-in-Ok-clause-answered c = λ said keeps.
     c.has_chip-of_chip.ensures ∙ ap (λ (t : List ℕ). is_chip_file (file_of t (names_in c.self.inside.talk).files)) (c.text_at.ensures ∙ ap (λ (l : List ℕ). text_at 0 (columns l)) c.behind_data-rest.ensures) in
     let made : c.in_ok-statement.statement.items ≡ read_word c.has_chip-of_chip.result ++ drop 5 line =
     c.in_ok-statement.ensures.ok ∙ ap (λ (t : List ℕ). read_word c.has_chip-of_chip.result ++ t) c.behind_data-rest.ensures in
-    read_by c.take.result c.args.out.now.items c.take.new.out.items c.take.new.self said c.deref-in-Ok.result.now (stands_for (carried_out said.statements).value line) (Ok c.in-Ok.kind) (data_kind said line)
+    read_by c.take.result c.args.out.now.items c.take.new.out.items c.take.new.self said c.deref-in-Ok.result.now (stands_for (carried_out said.statements).value line) (Ok (kind_in c.in-Ok.kind)) (data_kind said line)
     (c.deref-in-Ok.ensures.value ∙ stands said line c.in_ok-statement.statement.items (names_in c.self.inside.talk) c.has_chip-of_chip.result same chip made)
-    (kind_told said line c.in_ok-statement.statement.items (names_in c.self.inside.talk) c.has_chip-of_chip.result same chip made c.pair.result c.shift_of.result c.self.inside.stage c.line_kind.result c.moved.result (Ok c.in-Ok.kind)
+    (kind_told said line c.in_ok-statement.statement.items (names_in c.self.inside.talk) c.has_chip-of_chip.result same chip made c.pair.result c.shift_of.result c.self.inside.stage (kinds c.line_kind.result) (kinds c.moved.result) (Ok (kind_in c.in-Ok.kind))
     (c.pair.ensures.pair ∙ pair_kept c.args.self.now said keeps) (ap (λ (v : ServedValue). v.stage) c.self.view_is ∙ keeps.stage) c.shift_of.ensures
-    (c.line_kind.ensures.kind ∙ ap (λ (l : List ℕ). line_kind c.self.inside.stage l) c.deref.ensures.value) c.moved.ensures c.in-Ok.ensures.limited)
+    (c.line_kind.ensures.kind ∙ ap (λ (l : List ℕ). line_kind c.self.inside.stage l) c.deref.ensures.value) c.moved.ensures.moved c.in-Ok.ensures.limited)
     (c.take.ensures.answered said keeps)
 
 pub returns-in-Ok-clause-kept : goal.returns-in-Ok-clause-kept
@@ -53,9 +49,9 @@ returns-in-Ok-clause-kept c = λ said keeps question.
     c.in_ok-statement.ensures.ok ∙ ap (λ (t : List ℕ). read_word c.has_chip-of_chip.result ++ t) c.behind_data-rest.ensures in
     c.take.ensures.kept said keeps (λ is. (
       question,
-      sym (kind_told said line c.in_ok-statement.statement.items (names_in c.self.inside.talk) c.has_chip-of_chip.result same chip made c.pair.result c.shift_of.result c.self.inside.stage c.line_kind.result c.moved.result (Ok c.in-Ok.kind)
+      sym (kind_told said line c.in_ok-statement.statement.items (names_in c.self.inside.talk) c.has_chip-of_chip.result same chip made c.pair.result c.shift_of.result c.self.inside.stage (kinds c.line_kind.result) (kinds c.moved.result) (Ok (kind_in c.in-Ok.kind))
           (c.pair.ensures.pair ∙ pair_kept c.args.self.now said keeps) (ap (λ (v : ServedValue). v.stage) c.self.view_is ∙ keeps.stage) c.shift_of.ensures
-          (c.line_kind.ensures.kind ∙ ap (λ (l : List ℕ). line_kind c.self.inside.stage l) c.deref.ensures.value) c.moved.ensures c.in-Ok.ensures.limited) ∙ ap Ok is,
+          (c.line_kind.ensures.kind ∙ ap (λ (l : List ℕ). line_kind c.self.inside.stage l) c.deref.ensures.value) c.moved.ensures.moved c.in-Ok.ensures.limited) ∙ ap Ok is,
     ))
     (c.deref-in-Ok.ensures.value ∙ stands said line c.in_ok-statement.statement.items (names_in c.self.inside.talk) c.has_chip-of_chip.result same chip made)
 
@@ -71,9 +67,9 @@ returns-clause-answered c = λ said keeps.
       said,
       sym (append-nil c.args.out.now.items),
       refuses_data said (stands_for (carried_out said.statements).value line) (data_kind said line) c.in-Err.spot
-          (kind_told said line c.in_ok-statement.statement.items (names_in c.self.inside.talk) c.has_chip-of_chip.result same chip made c.pair.result c.shift_of.result c.self.inside.stage c.line_kind.result c.moved.result (Err c.in-Err.spot)
+          (kind_told said line c.in_ok-statement.statement.items (names_in c.self.inside.talk) c.has_chip-of_chip.result same chip made c.pair.result c.shift_of.result c.self.inside.stage (kinds c.line_kind.result) (kinds c.moved.result) (Err c.in-Err.spot)
           (c.pair.ensures.pair ∙ pair_kept c.args.self.now said keeps) (ap (λ (v : ServedValue). v.stage) c.self.view_is ∙ keeps.stage) c.shift_of.ensures
-          (c.line_kind.ensures.kind ∙ ap (λ (l : List ℕ). line_kind c.self.inside.stage l) c.deref.ensures.value) c.moved.ensures c.in-Err.ensures.limited),
+          (c.line_kind.ensures.kind ∙ ap (λ (l : List ℕ). line_kind c.self.inside.stage l) c.deref.ensures.value) c.moved.ensures.moved c.in-Err.ensures.limited),
       keeps,
     )
 

@@ -1,5 +1,5 @@
 use Rattle.std.proofs.Common.{ℕ, Vec, Global, Bool, Ok, ◌∙◌, ap, sym, subst}
-use Rattle.gl_script.specs.declared.served.LineKind.TheVariants.{Statement}
+use Rattle.gl_script.specs.Served.{Statement}
 use Rattle.gl_talk.specs.Talk.{left, names_in}
 use Rattle.gl_served.specs.Served.{ServedValue, accepted_after, carried_out}
 use Rattle.gl_served.specs.UnderWay.{IsGoing, IsTaken, does_behind, text_shown}

@@ -1,7 +1,7 @@
 use Rattle.std.proofs.Common.{Ok, refl, sym, ◌∙◌}
 use Rattle.gl_base.specs.declared.operation.Got.TheVariants.{Done, Refused}
 use Rattle.gl_session.proofs.Performing.{accept_performs, plan_performs, refusal_performs}
-use Rattle.gl_session.proofs.Suiting.{accepted_got, planned_got, refused_got}
+use Rattle.gl_asking.proofs.Told.{accepted_got, planned_got, refused_got}
 use Rattle.gl_session.proofs.player.Player.perform.Goals as goal
 use Rattle.gl_check.specs.Drivers.{driver_kind}
 
