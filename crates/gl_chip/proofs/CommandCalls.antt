@@ -173,6 +173,14 @@ pub fits_after_go : (v w : OneView) (c : CommandIn) (op : Option Op) (reply : Re
     → ((world : World) (actor n : ℕ) → core.reply_of world actor (in_ask c) ≡ Go n → IsOp op) → IsOp op
 fits_after_go v w c op reply old new step go fits = let g = go_is reply go in let a = step.answered in fits (fold core a.before) v.number g.0 (sym a.reply_is ∙ g.1)
 
+-- a reply that can't be Go isn't
+pub never_go : (reply : Reply) → (is_go reply ≡ true → ⊥) → is_go reply ≡ false
+never_go reply never = by_test (is_go reply) refl
+  where
+    by_test : (go : Bool) → is_go reply ≡ go → is_go reply ≡ false
+    by_test true e = absurd (never e)
+    by_test false e = e
+
 -- a pass does as many deeds as it makes entries
 entries_length : (did : List OneDeed) → length (entries_in did) ≡ length did
 entries_length [] = refl

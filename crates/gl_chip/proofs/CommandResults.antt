@@ -1,5 +1,5 @@
 -- Commands on open files, as their callers get them.
-use Rattle.std.proofs.Common.{◌≡◌, ℕ, ◌≤◌, List, [], ◌∷◌, length, sym, refl, ap, ◌∙◌, subst, arith, Bool, true, false, Option, Some, None, Result, Err, inl, inr}
+use Rattle.std.proofs.Common.{◌≡◌, ◌≢◌, ℕ, ◌≤◌, List, [], ◌∷◌, length, sym, refl, ap, ◌∙◌, subst, arith, Bool, true, false, Option, Some, None, Result, Err, inl, inr}
 use Rattle.std.proofs.lemmas.Bool.{true≢false}
 use Rattle.gl_base.specs.Count.{Rises}
 use Rattle.gl_base.specs.declared.errno.Errno.{Errno}
@@ -26,14 +26,16 @@ use Rattle.gl_model.specs.Replies.{IoCause}
 use Rattle.gl_model.specs.Step.{guard_reply}
 use Rattle.gl_model.specs.World.{World}
 use Rattle.gl_model.proofs.IoCauses.{io_has_cause}
-use Rattle.gl_chip.specs.Called.{ComesOut, HasCalled, last_entry}
+use Rattle.gl_chip.specs.Answering.{WasLetIn}
+use Rattle.gl_chip.specs.Called.{HasCalled, last_entry}
 use Rattle.gl_chip.specs.DriverCommands.{CommandsOut, HasCommanded, IoComesOf, PortOf, is_asked}
 use Rattle.gl_asking.specs.Results.{value_of}
+use Rattle.gl_chip.specs.Orders.{CouldNot}
 use Rattle.gl_chip.specs.Steps.{FoundNoRoom}
 use Rattle.gl_chip.specs.Values.{ActorValue, FollowsRelation, OneView, OwnRelation}
 use Rattle.gl_core.specs.Device.{OneEntry, core}
 use Rattle.gl_chip.proofs.CommandCalls.{not_gone_io}
-use Rattle.gl_chip.proofs.WholeCalls.{called_not_full, called_not_memory, errno_is_told, last_reply_is, reply_or}
+use Rattle.gl_chip.proofs.WholeCalls.{called_not_full, called_not_memory, errno_in, errno_is_told, last_reply_is, reply_or}
 
 -- EIO of a whole command
 io_whole : (Counted : Type 0) (w : World) (place fd : ℕ) (command : Option Command) (bytes : List ℕ) → IoCause w place fd command bytes Whole → IoComesOf Counted w place fd command bytes
@@ -126,8 +128,29 @@ module _ {P : Type 0} (told : P → Option Told) (faults : P → ℕ) (maps : P 
       → CommandsOut told faults maps maps_left Own Follows limit {X = X} (λ r. value_of value r) (Err errno) op a c [] b
   command_is_full value errno op a b c is full same = inr (ap Err is, full, same, refl)
 
-  -- a command for which the driver isn't asked, as its caller gets it
-  pub whole_comes_out : {X : Type 0} (value : Reply → X) (result : Result X Errno) (op : Option Op) (a b : ActorValue P) (c : CommandIn) (bytes : List ℕ) → is_driver_asked c.of_chip c.len (command_of c.cmd) ≡ false
-      → ComesOut (λ r. value_of value r) result a.pass.view (Commanding c) bytes b.pass.view → b.port ≡ a.port → CommandsOut told faults maps maps_left Own Follows limit {X = X} (λ r. value_of value r) result op a c bytes b
-  whole_comes_out value result op a b c bytes not_asked (inl made) same = command_is_made value result op a b c bytes made.reply made.result_is (whole_commanded op a b c made.reply bytes not_asked made.called same)
-  whole_comes_out value result op a b c bytes not_asked (inr full) same = inr (full.0, full.1, same, full.2)
+-- a call that wasn't made
+
+abbrev is_full : Errno → Bool
+is_full Full = true
+is_full _ = false
+
+pub full_no_memory : (errno : Errno) → errno ≡ Full → errno ≡ NoMemory → ⊥
+full_no_memory errno full memory = true≢false (ap is_full (sym full ∙ memory))
+
+abbrev pub failed : (X : Type 0) → Errno → Result X Errno
+failed X errno = Err errno
+
+module _ {P X : Type 0} where
+  -- where memory was wanted nothing was done
+  pub wanted_memory : (errno : Errno) (a b : ActorValue P) → CouldNot errno a b → failed X errno ≡ failed X NoMemory → (errno ≡ NoMemory) × (b ≡ a)
+  wanted_memory errno a b (inl wanted) is = wanted
+  wanted_memory errno a b (inr full) is = absurd (full_no_memory errno full.0 (ap (λ (r : Result X Errno). errno_in r) is))
+
+  -- else the history was full
+  pub else_full : (errno : Errno) (a b : ActorValue P) → CouldNot errno a b → failed X errno ≢ failed X NoMemory → (errno ≡ Full) × (b.port ≡ a.port) × FoundNoRoom core a.pass.view b.pass.view
+  else_full errno a b (inl wanted) other = absurd (other (ap (λ e. failed X e) wanted.0))
+  else_full errno a b (inr full) other = full
+
+  -- and the machine wasn't asked
+  pub not_let_in : (errno : Errno) (a b : ActorValue P) → CouldNot errno a b → WasLetIn (failed X errno) → ⊥
+  not_let_in errno a b could_not let_in = let_in.1 (ap (λ e. failed X e) (else_full errno a b could_not let_in.0).0)

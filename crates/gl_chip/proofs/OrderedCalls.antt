@@ -75,10 +75,6 @@ module _ {P : Type 0} where
   wanted errno a is = inl (is, refl)
 
   -- the history was full
-  pub was_full : (result : Result Reply Errno) (a b : ActorValue P) (old new : List ℕ) → IfErr result (λ e. (e ≡ Full) × (new ≡ old) × (b.port ≡ a.port) × FoundNoRoom core a.pass.view b.pass.view)
-      → IfErr result (λ e. CouldNot e a b × (new ≡ old))
-  was_full result a b old new h = if_err result _ _ (λ e k. (inr (k.0, k.2, k.3), k.1)) h
-
   pub was_full_alone : (result : Result Reply Errno) (a b : ActorValue P) (old new : List ℕ) → b.port ≡ a.port → IfErr result (λ e. (e ≡ Full) × (new ≡ old) × FoundNoRoom core a.pass.view b.pass.view)
       → IfErr result (λ e. CouldNot e a b × (new ≡ old))
   was_full_alone result a b old new same h = if_err result _ _ (λ e k. (inr (k.0, same, k.2), k.1)) h

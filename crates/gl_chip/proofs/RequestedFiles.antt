@@ -167,26 +167,3 @@ pub file_where_requested : (limit : ℕ) (v w : OneView) (c : CommandIn) (reply 
     → HasCalled limit v (Commanding c) reply bytes w → IfOk result (λ file. is_some file ≡ is_get_line (command_of c.cmd))
 file_where_requested limit v w c reply bytes place lines result is called = subst (λ (r : Result (Option LineFile) Errno). IfOk r (λ file. is_some file ≡ is_get_line (command_of c.cmd))) (sym is)
     (by_told place lines (command_of c.cmd) reply (told_called limit v w c reply bytes called))
-
--- a command that asks no driver is never answered a number
-
-no_whole : (command : Option Command) (n : ℕ) → numbered_form command Whole (Number n) ≡ true → ⊥
-no_whole None n e = true≢false (sym e)
-no_whole (Some ChipInfo) n e = true≢false (sym e)
-no_whole (Some LineInfo) n e = true≢false (sym e)
-no_whole (Some Watch) n e = true≢false (sym e)
-no_whole (Some Unwatch) n e = true≢false (sym e)
-no_whole (Some GetLine) n e = true≢false (sym e)
-no_whole (Some SetConfig) n e = true≢false (sym e)
-no_whole (Some GetValues) n e = true≢false (sym e)
-no_whole (Some SetValues) n e = true≢false (sym e)
-
-pub whole_no_number : (c : CommandIn) (reply : Reply) → (reply ≡ guard_reply false) ⊎ (has_form (in_whole c) reply ≡ true) → is_number reply ≡ false
-whole_no_number c Done form = refl
-whole_no_number c (Number n) (inl is) = absurd (true≢false (ap is_number is))
-whole_no_number c (Number n) (inr form) = absurd (no_whole (command_of c.cmd) n form)
-whole_no_number c (Go n) form = refl
-whole_no_number c (Found p o n) form = refl
-whole_no_number c (Text t) form = refl
-whole_no_number c (Ready b) form = refl
-whole_no_number c (Refused errno) form = refl

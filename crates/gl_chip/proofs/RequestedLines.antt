@@ -1,5 +1,5 @@
 -- GET_LINE: what its bytes say, and the number that it is answered.
-use Rattle.std.proofs.Common.{◌≡◌, ℕ, ◌<◌, ◌^◌, List, [], ◌∷◌, ◌++◌, length, map, take, sym, refl, ap, ◌∙◌, subst, arith, Bool, true, false, Option, Some, None}
+use Rattle.std.proofs.Common.{◌≡◌, ℕ, ◌<◌, ◌^◌, List, [], ◌∷◌, ◌++◌, map, take, sym, refl, ap, ◌∙◌, subst, arith, Bool, true, false, Option, Some, None}
 use Rattle.std.specs.Prelude.{IfSome}
 use Rattle.std.specs.Option.{option_and_then}
 use Rattle.std.proofs.lemmas.Bool.{true≢false}
@@ -9,7 +9,6 @@ use Rattle.gl_base.specs.declared.errno.Errno.{Errno}
 use Rattle.gl_base.specs.declared.lines.Lines.{Lines}
 use Rattle.gl_driver.specs.Calls.{FitsOp}
 use Rattle.gl_base.specs.declared.op.Op.{Op}
-use Rattle.gl_base.specs.declared.op.Op.TheVariants.{Apply, Get, Set}
 use Rattle.gl_uapi.specs.Command.{command_of, size_of}
 use Rattle.gl_uapi.specs.declared.commands.Command.{Command}
 use Rattle.gl_uapi.specs.declared.commands.Command.TheVariants.{ChipInfo, LineInfo, Watch, Unwatch, GetLine, SetConfig, GetValues, SetValues}
@@ -35,7 +34,7 @@ use Rattle.gl_model.specs.Replies.{numbered_form}
 use Rattle.gl_model.specs.World.{World, Request, has_number, request_at}
 use Rattle.gl_model.specs.Written.{number_answered}
 use Rattle.gl_model.proofs.Requests.{claim_by_any}
-use Rattle.gl_chip.specs.DriverCommands.{IsApplied, IsAppliedTo, IsOp, IsOpAfterGo, TakesMemory, op_brought}
+use Rattle.gl_chip.specs.DriverCommands.{IsOp, IsOpAfterGo, TakesMemory, lines_for, op_brought}
 use Rattle.gl_asking.specs.Driving.{op_for, op_of, op_requested}
 
 abbrev is_request : Option Request → Bool
@@ -170,20 +169,13 @@ pub op_goes : (c : CommandIn) (op : Option Op) → command_of c.cmd ≡ Some Get
 op_goes c op is asked fits w actor n e =
     op_after_go (request_fault (take LINE_REQUEST_SIZE c.bytes)) (take LINE_REQUEST_SIZE c.bytes) op asked fits (go_has_no_fault w actor n c.place c.fd c.cmd c.len c.bytes is e)
 
--- and it applies settings to the lines that the bytes name
-applied : (fault : Option Errno) (bytes : List ℕ) (op : Option Op) → op ≡ op_requested fault bytes → IsOp op → IsApplied op × IsAppliedTo (lines_asked bytes) op
-applied None bytes op is there = subst (λ (o : Option Op). IsApplied o × IsAppliedTo (lines_asked bytes) o) (sym is) ((subst (λ (o : Option Op). IsOp o) is there).0, refl)
-applied (Some errno) bytes op is there = absurd (subst (λ (o : Option Op). IsOp o) is there)
+-- and the lines that it is asked for are those that the bytes name
+lines_by_fault : (fault : Option Errno) (bytes : List ℕ) (op : Option Op) → op ≡ op_requested fault bytes → IsOp op → lines_for op ≡ Some (lines_asked bytes)
+lines_by_fault None bytes op is there = ap lines_for is
+lines_by_fault (Some errno) bytes op is there = absurd (subst (λ (o : Option Op). IsOp o) is there)
 
-pub applied_to_named : (c : CommandIn) (op : Option Op) → AsksByBytes c op → IsOp op → IsApplied op × IsAppliedTo (lines_asked (take LINE_REQUEST_SIZE c.bytes)) op
-applied_to_named c op asked there = applied (request_fault (take LINE_REQUEST_SIZE c.bytes)) (take LINE_REQUEST_SIZE c.bytes) op asked there
-
--- there is one list of lines to which it applies them
-pub one_list : (op : Option Op) (a b : Lines) → IsAppliedTo a op → IsAppliedTo b op → a ≡ b
-one_list None a b is its = absurd is
-one_list (Some (Get on)) a b is its = absurd is
-one_list (Some (Set on mask bits)) a b is its = absurd is
-one_list (Some (Apply on settings)) a b is its = sym is ∙ its
+pub lines_are_named : (c : CommandIn) (op : Option Op) → AsksByBytes c op → IsOp op → lines_for op ≡ Some (lines_asked (take LINE_REQUEST_SIZE c.bytes))
+lines_are_named c op asked there = lines_by_fault (request_fault (take LINE_REQUEST_SIZE c.bytes)) (take LINE_REQUEST_SIZE c.bytes) op asked there
 
 -- memory was wanted for it
 pub takes_memory : (c : CommandIn) → c.of_chip ≡ true → is_driver_asked c.of_chip c.len (command_of c.cmd) ≡ true → request_fault (take LINE_REQUEST_SIZE c.bytes) ≡ None → TakesMemory c

@@ -148,7 +148,7 @@ alone_not_full v w call reply old new step = never_full v.number call reply step
 pub guarded_not_full : (place : ℕ) (refused : Call) (v w : OneView) (call : Call) (reply : Reply) (old new : List ℕ) → CalledGuarded core place refused v call reply old new w → reply ≢ Refused Full
 guarded_not_full place refused v w call reply old new c = never_full v.number (cond c.closed refused call) reply c.wrote c.answered
 
-abbrev errno_in : {X : Type 0} → Result X Errno → Errno
+abbrev pub errno_in : {X : Type 0} → Result X Errno → Errno
 errno_in (Ok x) = NoEnt
 errno_in (Err errno) = errno
 

@@ -4,7 +4,6 @@ use Rattle.gl_base.specs.Count.{Rises}
 use Rattle.gl_base.specs.declared.errno.Errno.{Errno}
 use Rattle.gl_base.specs.declared.errno.Errno.TheVariants.{Full, Io, NoMemory}
 use Rattle.gl_base.specs.declared.lines.Lines.{Lines}
-use Rattle.gl_base.specs.Lines.{IsLineCount}
 use Rattle.gl_driver.specs.Calls.{FitsOp}
 use Rattle.gl_driver.specs.declared.map.Map.{Map}
 use Rattle.gl_driver.specs.Maps.{map_for}
@@ -49,19 +48,16 @@ op_brought None = None
 op_brought (Some (Err errno)) = None
 op_brought (Some (Ok asked)) = Some (Apply asked.lines asked.settings)
 
--- there is an operation, and it applies settings to 1 to 64 lines
-abbrev pub IsApplied : Option Op → Type 0
-IsApplied None = ⊥
-IsApplied (Some (Get lines)) = ⊥
-IsApplied (Some (Set lines mask bits)) = ⊥
-IsApplied (Some (Apply lines settings)) = IsLineCount lines.count
+-- the lines that an operation is on
+abbrev pub lines_of_op : Op → Lines
+lines_of_op (Get lines) = lines
+lines_of_op (Set lines mask bits) = lines
+lines_of_op (Apply lines settings) = lines
 
--- and these are the lines
-abbrev pub IsAppliedTo : Lines → Option Op → Type 0
-IsAppliedTo lines None = ⊥
-IsAppliedTo lines (Some (Get on)) = ⊥
-IsAppliedTo lines (Some (Set on mask bits)) = ⊥
-IsAppliedTo lines (Some (Apply on settings)) = on ≡ lines
+-- the lines that the driver is asked for, where it is asked
+abbrev pub lines_for : Option Op → Option Lines
+lines_for None = None
+lines_for (Some op) = Some (lines_of_op op)
 
 -- the file of a request of these lines at this place: its number is the one that was answered; nothing where none was
 abbrev pub request_in : ℕ → Lines → Reply → Option LineFile

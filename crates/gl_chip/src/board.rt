@@ -13,7 +13,8 @@ ghost use Rattle.gl_chip.specs.Values.{IsActorOf, IsSameActor};
 use crate::actor::Actor;
 use crate::gpio::Gpio;
 use crate::inner::nothing;
-use crate::results;
+use crate::numbers;
+use gl_asking::results;
 use gl_base::{Errno, Kind, Name};
 use gl_core::{Call, Core};
 use gl_driver::Driver;
@@ -42,7 +43,7 @@ impl<D: Driver<Core>> Gpio<D> {
     {
         let mut gift = nothing();
         match self.plain(rt, actor, &Call::Probe { label, lines, kind }, &mut gift) {
-            Ok(reply) => results::place(reply),
+            Ok(reply) => numbers::place(reply),
             Err(errno) => Err(errno),
         }
     }

@@ -35,34 +35,7 @@ impl<D: Driver<Core>> Gpio<D> {
     ///
     /// Where its guard is closed it is answered `NoDev`, and a poll 6, as a reply. `Full` where the history is full; that is its only
     /// error.
-    pub fn once<R: Wait>(
-        &self,
-        rt: &R,
-        actor: &mut Actor<D>,
-        call: Call,
-        gift: &mut Gift,
-        out: &mut [u8],
-    ) -> Result<Reply, Errno>
-        requires actor { IsActorOf self.now actor.old }
-        requires single { is_single call ≡ true }
-        requires fits { Fits call gift.old out.old }
-        ensures actor { IsActorOf self.now actor.new }
-        ensures same { IsSameActor actor.old.pass.view actor.new.pass.view }
-        ensures port { actor.new.port ≡ actor.old.port }
-        ensures places { KnowsBy (guarded_place call) actor.old.pass.view actor.new.pass.view }
-        ensures called { IfOk result (λ r. (bytes : List ℕ) × (out.new ≡ bytes ++ drop (length bytes) out.old)
-            × HasCalled 0 actor.old.pass.view (Once call) r bytes actor.new.pass.view) }
-        ensures form { IfOk result (Answers (guarded_place call) call) }
-        ensures lengths { IfOk result (WroteBy (guarded_place call) call out.old out.new) }
-        ensures not_full { IfOk result (λ r. r ≢ Refused Full) }
-        ensures full { IfErr result (λ e. (e ≡ Full) × (out.new ≡ out.old)
-            × FoundNoRoom core actor.old.pass.view actor.new.pass.view) }
-    {
-        self.one_call(rt, actor, &call, gift, out)
-    }
-
-    /// The same of a call that is lent.
-    pub(crate) fn one_call<R: Wait>(
+    pub(crate) fn once<R: Wait>(
         &self,
         rt: &R,
         actor: &mut Actor<D>,
@@ -117,6 +90,6 @@ impl<D: Driver<Core>> Gpio<D> {
         ensures not_full { IfOk result (λ r. r ≢ Refused Full) }
         ensures full { IfErr result (λ e. (e ≡ Full) × FoundNoRoom core actor.old.pass.view actor.new.pass.view) }
     {
-        self.one_call(rt, actor, call, gift, &mut [])
+        self.once(rt, actor, call, gift, &mut [])
     }
 }

@@ -1,12 +1,11 @@
 //! Commands on open files that ask the driver: each is an ask and, where that is answered Go, the driver's call and a tell.
 
-ghost use Rattle.std.specs.Prelude.{◌≡◌, ◌<◌, ◌^◌, ◌++◌, ℕ, List, true, Some, length, drop, IfOk, IfErr};
+ghost use Rattle.std.specs.Prelude.{◌≡◌, ◌<◌, ◌^◌, ◌++◌, ℕ, List, true, length, drop, IfOk, IfErr};
 ghost use Rattle.gl_base.specs.declared.errno.Errno.TheVariants.{Full};
 ghost use Rattle.gl_base.specs.declared.limits.TheConstants.{PLACES};
 ghost use Rattle.gl_uapi.specs.Command.{command_of};
 ghost use Rattle.gl_gate.specs.Values.{IsPassOf};
 ghost use Rattle.gl_gate.specs.Calls.{IsInside};
-ghost use Rattle.gl_driver.specs.Calls.{FitsOp};
 ghost use Rattle.gl_model.specs.declared.reply.Reply.TheVariants.{Number};
 ghost use Rattle.gl_model.specs.Entries.{is_go};
 ghost use Rattle.gl_model.specs.Fits.{FitsGift};
@@ -35,24 +34,13 @@ fn is_go(reply: &Reply) -> bool
     matches!(reply, Reply::Go(_))
 }
 
-/// The operation that there is.
-fn the_op(op: &Option<Op>) -> &Op
-    requires { IsOp op.now }
-    ensures this { op.now ≡ Some result.now }
-    ensures fits { FitsOp result.now }
-{
-    match op {
-        Some(op) => op,
-        None => unreachable!(),
-    }
-}
-
 /// A command that asks the driver, what the driver is asked for it where the machine lets it, and the memory that it brings.
 #[derive(Drop)]
 pub(crate) struct DriverCommand<'a> {
     /// The command, with the buffer that it is called with.
     pub(crate) command: &'a CommandIn,
-    /// The operation. There is one wherever the machine answers the ask Go.
+    /// The operation. There is one wherever the machine answers the ask Go; there is none of a request of lines that its bytes alone
+    /// have refused.
     pub(crate) op: &'a Option<Op>,
     /// What its ask brings.
     pub(crate) gift: Gift,
@@ -85,6 +73,7 @@ impl<D: Driver<Core>> Gpio<D> {
             × StoodFull core pass.old.view pass.new.view) }
     {
         let command = asked.command;
+        let op = asked.op;
         let asking = Call::Ioctl {
             place: command.place,
             fd: command.fd,
@@ -95,25 +84,29 @@ impl<D: Driver<Core>> Gpio<D> {
         };
         match ask(rt, &self.gate, pass, &asking, &mut asked.gift, out) {
             Err(errno) => Err(errno),
-            Ok(reply) => {
-                if !is_go(&reply) {
-                    return Ok(reply);
+            Ok(reply) => match op {
+                // A request of lines that its bytes alone have refused.
+                None => Ok(reply),
+                Some(op) => {
+                    if !is_go(&reply) {
+                        return Ok(reply);
+                    }
+                    let inside = OpInside {
+                        place: command.place,
+                        op,
+                    };
+                    let answer = drive(rt, &self.gate, &self.driver, port, pass, &inside);
+                    let telling = Call::Ioctl {
+                        place: command.place,
+                        fd: command.fd,
+                        cmd: command.cmd,
+                        len: command.len,
+                        bytes: command.bytes,
+                        part: Part::Tell(answer),
+                    };
+                    Ok(tell(rt, &self.gate, pass, &telling, &mut asked.gift, out))
                 }
-                let inside = OpInside {
-                    place: command.place,
-                    op: the_op(asked.op),
-                };
-                let answer = drive(rt, &self.gate, &self.driver, port, pass, &inside);
-                let telling = Call::Ioctl {
-                    place: command.place,
-                    fd: command.fd,
-                    cmd: command.cmd,
-                    len: command.len,
-                    bytes: command.bytes,
-                    part: Part::Tell(answer),
-                };
-                Ok(tell(rt, &self.gate, pass, &telling, &mut asked.gift, out))
-            }
+            },
         }
     }
 

@@ -6,7 +6,7 @@ ghost use Rattle.gl_driver.specs.Calls.{FitsOp};
 ghost use Rattle.gl_uapi.specs.Command.{command_of};
 ghost use Rattle.gl_model.specs.Parts.{is_driver_asked};
 ghost use Rattle.gl_asking.specs.Driving.{op_of};
-ghost use Rattle.gl_chip.specs.DriverCommands.{op_brought};
+ghost use Rattle.gl_chip.specs.DriverCommands.{lines_for, lines_of_op, op_brought};
 
 use gl_attrs::settings_of;
 use gl_base::Lines;
@@ -93,5 +93,28 @@ pub(crate) fn request_op(gift: &Gift) -> Option<Op>
                 settings: *asked.settings(),
             }),
         },
+    }
+}
+
+/// The lines that an operation is on.
+fn lines_of_op(op: &Op) -> &Lines
+    ensures { result.now ≡ lines_of_op op.now }
+{
+    match op {
+        Op::Get { lines } => lines,
+        Op::Set { lines, .. } => lines,
+        Op::Apply { lines, .. } => lines,
+    }
+}
+
+/// The lines that the driver is asked for, where it is asked.
+pub(crate) fn lines_for(op: &Option<Op>) -> Option<Lines>
+    requires { IfSome op.now (λ op. FitsOp op) }
+    ensures lines { result ≡ lines_for op.now }
+    ensures counts { IfSome result (λ lines. IsLineCount lines.count) }
+{
+    match op {
+        None => None,
+        Some(op) => Some(*lines_of_op(op)),
     }
 }

@@ -1,6 +1,8 @@
 //! Open files of the device, as their holders have them.
 
+use gl_asking::handed_in;
 use gl_base::Lines;
+use gl_model::CommandIn;
 use std::marker::Model;
 
 /// An open chip. It is closed by `Gpio::close_chip`.
@@ -23,7 +25,8 @@ impl Model for ChipFd {
 }
 
 impl ChipFd {
-    ghost use Rattle.std.specs.Prelude.{◌≡◌, ◌<◌};
+    ghost use Rattle.std.specs.Prelude.{◌≡◌, ◌<◌, ◌^◌, true, length};
+    ghost use Rattle.gl_asking.specs.Handed.{command_in};
     ghost use Rattle.gl_base.specs.declared.limits.TheConstants.{PLACES};
 
     /// The number of the file.
@@ -39,6 +42,22 @@ impl ChipFd {
         ensures below { result < PLACES }
     {
         self.place
+    }
+
+    /// A command on it, with the buffer that it is called with.
+    pub(crate) fn command(&self, cmd: u32, buffer: &[u8]) -> CommandIn
+        requires { length buffer.now < 2 ^ 32 }
+        ensures told { result ≡ command_in self.now.place self.now.fd true cmd buffer.now }
+        ensures place { result.place < PLACES }
+    {
+        CommandIn {
+            place: self.place,
+            fd: self.fd,
+            of_chip: true,
+            cmd,
+            len: buffer.len() as u32,
+            bytes: handed_in(buffer),
+        }
     }
 }
 
@@ -64,7 +83,8 @@ impl Model for LineFd {
 }
 
 impl LineFd {
-    ghost use Rattle.std.specs.Prelude.{◌≡◌, ◌<◌};
+    ghost use Rattle.std.specs.Prelude.{◌≡◌, ◌<◌, ◌^◌, false, length};
+    ghost use Rattle.gl_asking.specs.Handed.{command_in};
     ghost use Rattle.gl_base.specs.Lines.{IsLineCount};
     ghost use Rattle.gl_base.specs.declared.limits.TheConstants.{PLACES};
 
@@ -89,5 +109,21 @@ impl LineFd {
         ensures count { IsLineCount result.count }
     {
         self.lines
+    }
+
+    /// A command on it, with the buffer that it is called with.
+    pub(crate) fn command(&self, cmd: u32, buffer: &[u8]) -> CommandIn
+        requires { length buffer.now < 2 ^ 32 }
+        ensures told { result ≡ command_in self.now.place self.now.fd false cmd buffer.now }
+        ensures place { result.place < PLACES }
+    {
+        CommandIn {
+            place: self.place,
+            fd: self.fd,
+            of_chip: false,
+            cmd,
+            len: buffer.len() as u32,
+            bytes: handed_in(buffer),
+        }
     }
 }

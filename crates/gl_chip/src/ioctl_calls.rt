@@ -1,13 +1,18 @@
 //! Commands on open files, by their numbers.
 
-ghost use Rattle.std.specs.Prelude.{◌≡◌, ◌≢◌, ◌<◌, ◌^◌, ◌++◌, ℕ, List, false, true, Some, Err, length, take, drop, is_some, IfOk};
+ghost use Rattle.std.specs.Prelude.{◌≡◌, ◌≢◌, ◌<◌, ◌^◌, ◌++◌, ℕ, List, false, true, Some, Err, length, take, drop, is_some, IfOk, IfSome};
 ghost use Rattle.gl_base.specs.Count.{Rises};
+ghost use Rattle.gl_base.specs.Lines.{IsLineCount};
 ghost use Rattle.gl_base.specs.declared.errno.Errno.TheVariants.{NoMemory};
+ghost use Rattle.gl_base.specs.declared.limits.TheConstants.{PLACES};
+ghost use Rattle.gl_base.specs.declared.lines.Lines.{Lines as SomeLines};
 ghost use Rattle.gl_uapi.specs.Command.{command_of};
 ghost use Rattle.gl_uapi.specs.declared.commands.Command.TheVariants.{SetConfig};
 ghost use Rattle.gl_uapi.specs.declared.layout.TheConstants.{LINE_REQUEST_SIZE};
 ghost use Rattle.gl_model.specs.AskedLines.{lines_asked};
 ghost use Rattle.gl_model.specs.Entries.{is_get_line};
+ghost use Rattle.gl_model.specs.Written.{number_answered};
+ghost use Rattle.gl_model.specs.declared.reply.Reply.TheVariants.{Number};
 ghost use Rattle.gl_model.specs.Parts.{is_driver_asked};
 ghost use Rattle.gl_chip.specs.Answering.{AnswersInOrder, ConfiguresInOrder, RequestsInOrder, WasLetIn};
 ghost use Rattle.gl_chip.specs.DriverCommands.{CommandsOut, TakesMemory, requested_of};
@@ -17,20 +22,32 @@ ghost use Rattle.gl_asking.specs.Results.{done_of};
 ghost use Rattle.gl_chip.specs.Values.{IsActorOf, IsSameActor};
 
 use crate::actor::Actor;
-use crate::driver_commands::DriverCommand;
-use crate::driver_operations::line_op;
 use crate::files::{ChipFd, LineFd};
-use crate::get_line::without_file;
 use crate::gpio::Gpio;
-use crate::inner::nothing;
-use crate::results;
-use gl_asking::handed_in;
+use gl_asking::{Answered, results};
 use gl_base::Errno;
-use gl_core::Core;
+use gl_core::{Core, Reply};
 use gl_driver::Driver;
-use gl_model::{CommandIn, is_driver_asked};
 use std::alloc::Global;
 use std::sync::Wait;
+
+/// The file of a request that a command on a chip of this place made, or why the command was refused. Any other command gives no file.
+fn requested(place: u8, answered: &Answered) -> Result<Option<LineFd>, Errno>
+    requires place { place < PLACES }
+    requires number { number_answered answered.now.reply < 2 ^ 32 }
+    requires counts { IfSome answered.now.lines (λ lines. IsLineCount lines.count) }
+    ensures { (lines : SomeLines) → ((n : ℕ) → answered.now.reply ≡ Number n → answered.now.lines ≡ Some lines) → result ≡ requested_of place lines answered.now.reply }
+{
+    match (answered.reply, answered.lines) {
+        (Reply::Refused(errno), _) => Err(errno),
+        (Reply::Number(number), Some(lines)) => Ok(Some(LineFd {
+            place,
+            fd: number as u32,
+            lines,
+        })),
+        _ => Ok(None),
+    }
+}
 
 impl<D: Driver<Core>> Gpio<D> {
     /// A command on an open chip, by its number in `linux/gpio.h`, with its structure in the buffer.
@@ -71,20 +88,14 @@ impl<D: Driver<Core>> Gpio<D> {
         ensures first_faulty { is_driver_asked true (length buf.old) (command_of cmd) ≡ true → WasLetIn result → let c = command_in fd.now.place fd.now.fd true cmd buf.old in
             RequestsInOrder (Rises (D.Port.faults actor.old.port) (D.Port.faults actor.new.port)) result actor.old.pass.view actor.new.pass.view c }
     {
-        let bytes = handed_in(buf);
-        let command = CommandIn {
-            place: fd.place,
-            fd: fd.fd,
-            of_chip: true,
-            cmd,
-            len: buf.len() as u32,
-            bytes,
-        };
-        if is_driver_asked(&command) {
-            return self.get_line(rt, alloc, actor, &command, buf);
-        }
-        match self.whole_command(rt, actor, &command, buf) {
-            Ok(reply) => without_file(reply),
+        let command = fd.command(cmd, buf);
+        // What holds of every actor is known once it has told its number.
+        let _before = actor.number();
+        match self.command_on_chip(rt, alloc, actor, &command, buf) {
+            Ok(answered) => {
+                let _after = actor.number();
+                requested(command.place, &answered)
+            }
             Err(errno) => Err(errno),
         }
     }
@@ -122,29 +133,10 @@ impl<D: Driver<Core>> Gpio<D> {
             → let c = command_in fd.now.place fd.now.fd false cmd buf.old in
             ConfiguresInOrder (Rises (D.Port.faults actor.old.port) (D.Port.faults actor.new.port)) result actor.new.pass.view c }
     {
-        let bytes = handed_in(buf);
-        let command = CommandIn {
-            place: fd.place,
-            fd: fd.fd,
-            of_chip: false,
-            cmd,
-            len: buf.len() as u32,
-            bytes,
-        };
-        match line_op(&fd.lines, cmd, command.len, &command.bytes) {
-            None => self.done_by_command(rt, actor, &command, buf),
-            Some(op) => {
-                let op = Some(op);
-                let mut asked = DriverCommand {
-                    command: &command,
-                    op: &op,
-                    gift: nothing(),
-                };
-                match self.driven_command(rt, actor, &mut asked, buf) {
-                    Ok(reply) => results::done(reply),
-                    Err(errno) => Err(errno),
-                }
-            }
+        let command = fd.command(cmd, buf);
+        match self.command_on_request(rt, actor, &command, &fd.lines(), buf) {
+            Ok(reply) => results::done(reply),
+            Err(errno) => Err(errno),
         }
     }
 }

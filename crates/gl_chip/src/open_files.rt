@@ -13,7 +13,8 @@ use crate::actor::Actor;
 use crate::files::{ChipFd, LineFd};
 use crate::gpio::Gpio;
 use crate::inner::nothing;
-use crate::results;
+use crate::numbers;
+use gl_asking::results;
 use gl_base::Errno;
 use gl_core::{Call, Core};
 use gl_driver::Driver;
@@ -78,14 +79,14 @@ impl<D: Driver<Core>> Gpio<D> {
     {
         let (place, fd) = (fd.place, fd.fd);
         let len = buf.len() as u32;
-        match self.one_call(
+        match self.once(
             rt,
             actor,
             &Call::ReadInfo { place, fd, len },
             &mut nothing(),
             buf,
         ) {
-            Ok(reply) => results::count(reply),
+            Ok(reply) => numbers::count(reply),
             Err(errno) => Err(errno),
         }
     }
@@ -111,14 +112,14 @@ impl<D: Driver<Core>> Gpio<D> {
     {
         let (place, fd) = (fd.place, fd.fd);
         let len = buf.len() as u32;
-        match self.one_call(
+        match self.once(
             rt,
             actor,
             &Call::ReadEdges { place, fd, len },
             &mut nothing(),
             buf,
         ) {
-            Ok(reply) => results::count(reply),
+            Ok(reply) => numbers::count(reply),
             Err(errno) => Err(errno),
         }
     }

@@ -1,6 +1,6 @@
 //! Opening chips. This call takes no guard.
 
-ghost use Rattle.std.specs.Prelude.{◌≡◌, ◌≢◌, ◌↔◌, ◌<◌, ◌^◌, ℕ, [], Some, Err, IfOk};
+ghost use Rattle.std.specs.Prelude.{◌≡◌, ◌≢◌, ◌↔◌, ◌<◌, ◌^◌, ℕ, [], true, Some, Err, IfOk};
 ghost use Rattle.gl_base.specs.ChipWord.{chip_number_of};
 ghost use Rattle.gl_base.specs.declared.errno.Errno.TheVariants.{Full, NoDev, NoMemory};
 ghost use Rattle.gl_base.specs.declared.limits.TheConstants.{PLACES};
@@ -8,6 +8,7 @@ ghost use Rattle.gl_gate.specs.Calls.{KnowsTheSame};
 ghost use Rattle.gl_model.specs.declared.call.Call.TheVariants.{OpenChip};
 ghost use Rattle.gl_model.specs.declared.reply.Reply.TheVariants.{Number};
 ghost use Rattle.gl_model.specs.declared.device_call.DeviceCall.TheVariants.{Once};
+ghost use Rattle.gl_model.specs.Replies.{has_form};
 ghost use Rattle.gl_model.specs.Written.{number_answered};
 ghost use Rattle.gl_chip.specs.Called.{ComesOut};
 ghost use Rattle.gl_asking.specs.Opened.{opened_of, place_named};
@@ -19,14 +20,15 @@ use crate::files::ChipFd;
 use crate::gpio::Gpio;
 use gl_asking::place_named;
 use gl_base::{Errno, Path};
-use gl_core::{Call, Core, Gift, Reply};
+use gl_core::fits::gift_for;
+use gl_core::{Call, Core, Reply};
 use gl_driver::Driver;
-use gl_watch::InfoQueue;
 use std::alloc::Global;
 use std::sync::Wait;
 
-/// The file of a chip that was opened by this word, or why it wasn't. A reply of another form doesn't come.
+/// The file of a chip that was opened by this word, or why it wasn't.
 fn opened(word: &Path, reply: Reply) -> Result<ChipFd, Errno>
+    requires form { has_form (OpenChip word.now) reply ≡ true }
     requires number { number_answered reply < 2 ^ 32 }
     requires place { (fd : ℕ) → reply ≡ Number fd → place_named word.now < PLACES }
     ensures { result ≡ opened_of word.now reply }
@@ -37,7 +39,7 @@ fn opened(word: &Path, reply: Reply) -> Result<ChipFd, Errno>
             place: place_named(word),
             fd: number as u32,
         }),
-        _ => Ok(ChipFd { place: 0, fd: 0 }),
+        _ => unreachable!(),
     }
 }
 
@@ -66,18 +68,13 @@ impl<D: Driver<Core>> Gpio<D> {
         ensures leaving { result ≢ Err NoMemory → result ≢ Err Full
             → ((result ≡ Err NoDev) ↔ LastFinds (names_leaving word.now) actor.new.pass.view.seen) }
     {
-        let queue = match InfoQueue::new(alloc) {
-            Ok(queue) => queue,
-            Err(errno) => return Err(errno),
-        };
-        let mut gift = Gift {
-            ring: None,
-            queue: Some(queue),
-            asked: None,
-        };
-        match self.plain(rt, actor, &Call::OpenChip { word: *word }, &mut gift) {
-            Ok(reply) => opened(word, reply),
+        let call = Call::OpenChip { word: *word };
+        match gift_for(&call, alloc) {
             Err(errno) => Err(errno),
+            Ok(mut gift) => match self.plain(rt, actor, &call, &mut gift) {
+                Ok(reply) => opened(word, reply),
+                Err(errno) => Err(errno),
+            },
         }
     }
 }

@@ -1,20 +1,18 @@
 //! Any call of the device, as one value.
 
-ghost use Rattle.std.specs.Prelude.{◌≡◌, ◌<◌, ◌^◌, ◌++◌, ℕ, List, Some, true, false, length, drop, IfOk, IfErr};
-ghost use Rattle.gl_base.specs.Lines.{IsLineCount};
-ghost use Rattle.gl_base.specs.declared.lines.Lines.{Lines as SomeLines};
+ghost use Rattle.std.specs.Prelude.{◌≡◌, ◌<◌, ◌^◌, ◌++◌, ℕ, List, true, length, drop, IfOk, IfErr};
 ghost use Rattle.gl_base.specs.declared.limits.TheConstants.{PLACES};
 ghost use Rattle.gl_world.specs.Deeds.{entries_in};
 ghost use Rattle.gl_model.specs.declared.device_call.DeviceCall.TheVariants.{Commanding, Once, Removing};
 ghost use Rattle.gl_model.specs.declared.reply.Reply.TheVariants.{Number};
 ghost use Rattle.gl_model.specs.Fits.{FitsBuffer, FitsCall};
 ghost use Rattle.gl_model.specs.Parts.{first_call, is_single};
-ghost use Rattle.gl_asking.specs.declared.kinds.FileKind.TheVariants.{Chip, Request};
+ghost use Rattle.gl_asking.specs.declared.kinds.FileKind.TheVariants.{Chip};
 ghost use Rattle.gl_asking.specs.Fitting.{FitsDevice};
 ghost use Rattle.gl_asking.specs.Handed.{command_in};
 ghost use Rattle.gl_asking.specs.Rows.{HasLines, is_chip};
 ghost use Rattle.gl_chip.specs.Called.{HasCalled};
-ghost use Rattle.gl_chip.specs.DriverCommands.{HasCommanded, IsAppliedTo, IsOp};
+ghost use Rattle.gl_chip.specs.DriverCommands.{HasCommanded, IsOp};
 ghost use Rattle.gl_asking.specs.Driving.{op_for};
 ghost use Rattle.gl_chip.specs.Orders.{AnswersOrder, CouldNot, FitsOrder, GivesLines, GivesOn, HasDone, WroteTo, lines_on, op_ordered};
 ghost use Rattle.gl_chip.specs.Removals.{is_first_call, removal_of};
@@ -23,16 +21,13 @@ ghost use Rattle.gl_core.specs.Device.{tells_in};
 ghost use Rattle.gl_chip.specs.Values.{IsActorOf, IsSameActor};
 
 use crate::actor::Actor;
-use crate::driver_commands::DriverCommand;
-use crate::driver_operations::{line_op, request_op};
 use crate::gpio::Gpio;
-use crate::inner::nothing;
 use gl_asking::{Answered, FileKind};
-use gl_base::{Errno, Lines};
-use gl_core::fits::{gift_for, gift_for_lines};
+use gl_base::Errno;
+use gl_core::fits::gift_for;
 use gl_core::{Call, Core, Reply};
-use gl_driver::{Driver, Op};
-use gl_model::{CommandIn, DeviceCall, RemovalOf, is_driver_asked};
+use gl_driver::Driver;
+use gl_model::{CommandIn, DeviceCall, RemovalOf};
 use std::alloc::Global;
 use std::sync::Wait;
 
@@ -72,19 +67,6 @@ fn first_call(removal: &RemovalOf) -> Call
     }
 }
 
-/// The lines to which settings are applied, where they are.
-fn lines_applied(op: &Option<Op>) -> Option<Lines>
-    ensures { (lines : SomeLines) → IsAppliedTo lines op.now → result ≡ Some lines }
-{
-    match op {
-        None => None,
-        Some(op) => match op {
-            Op::Apply { lines, .. } => Some(*lines),
-            Op::Get { .. } | Op::Set { .. } => None,
-        },
-    }
-}
-
 impl<D: Driver<Core>> Gpio<D> {
     /// One call of the machine, with the memory that it brings.
     fn order_once<R: Wait>(
@@ -108,7 +90,7 @@ impl<D: Driver<Core>> Gpio<D> {
     {
         match gift_for(call, alloc) {
             Err(errno) => Err(errno),
-            Ok(mut gift) => self.one_call(rt, actor, call, &mut gift, out),
+            Ok(mut gift) => self.once(rt, actor, call, &mut gift, out),
         }
     }
 
@@ -129,88 +111,6 @@ impl<D: Driver<Core>> Gpio<D> {
         ensures could_not { IfErr result (λ e. CouldNot e actor.old actor.new) }
     {
         self.remove_by(rt, actor, &first_call(removal))
-    }
-
-    /// A command on an open chip.
-    fn order_on_chip<R: Wait>(
-        &self,
-        rt: &R,
-        alloc: Global,
-        actor: &mut Actor<D>,
-        command: &CommandIn,
-        out: &mut [u8],
-    ) -> Result<Answered, Errno>
-        requires actor { IsActorOf self.now actor.old }
-        requires place { command.now.place < PLACES }
-        requires chip { command.now.of_chip ≡ true }
-        requires handed { let c = command.now in c ≡ command_in c.place c.fd c.of_chip c.cmd out.old }
-        ensures actor { IsActorOf self.now actor.new }
-        ensures same { IsSameActor actor.old.pass.view actor.new.pass.view }
-        ensures commanded { IfOk result (λ r. (bytes : List ℕ) × (out.new ≡ bytes ++ drop (length bytes) out.old)
-            × HasCommanded D.Port.told D.Port.faults D.Port.maps D.Port.maps_left D.OwnEntries D.Follows D.ENTRIES (op_for (lines_on Chip command.now) command.now) actor.old command.now r.reply bytes actor.new) }
-        ensures number { IfOk result (λ r. (n : ℕ) → r.reply ≡ Number n → (n < 2 ^ 31) × IsOp (op_for (lines_on Chip command.now) command.now)) }
-        ensures lines { IfOk result (GivesOn Chip command.now) }
-        ensures could_not { IfErr result (λ e. CouldNot e actor.old actor.new × (out.new ≡ out.old)) }
-    {
-        if !is_driver_asked(command) {
-            return match self.whole_command(rt, actor, command, out) {
-                Ok(reply) => Ok(Answered { reply, lines: None }),
-                Err(errno) => Err(errno),
-            };
-        }
-        match gift_for_lines(&command.bytes, alloc) {
-            Err(errno) => Err(errno),
-            Ok(gift) => {
-                let op = request_op(&gift);
-                let mut asked = DriverCommand {
-                    command,
-                    op: &op,
-                    gift,
-                };
-                match self.driven_command(rt, actor, &mut asked, out) {
-                    Ok(reply) => Ok(Answered {
-                        reply,
-                        lines: lines_applied(&op),
-                    }),
-                    Err(errno) => Err(errno),
-                }
-            }
-        }
-    }
-
-    /// A command on an open request of these lines.
-    fn order_on_request<R: Wait>(
-        &self,
-        rt: &R,
-        actor: &mut Actor<D>,
-        command: &CommandIn,
-        lines: &Lines,
-        out: &mut [u8],
-    ) -> Result<Reply, Errno>
-        requires actor { IsActorOf self.now actor.old }
-        requires place { command.now.place < PLACES }
-        requires count { IsLineCount lines.now.count }
-        requires request { command.now.of_chip ≡ false }
-        requires handed { let c = command.now in c ≡ command_in c.place c.fd c.of_chip c.cmd out.old }
-        ensures actor { IsActorOf self.now actor.new }
-        ensures same { IsSameActor actor.old.pass.view actor.new.pass.view }
-        ensures commanded { IfOk result (λ r. (bytes : List ℕ) × (out.new ≡ bytes ++ drop (length bytes) out.old)
-            × HasCommanded D.Port.told D.Port.faults D.Port.maps D.Port.maps_left D.OwnEntries D.Follows D.ENTRIES (op_for lines.now command.now) actor.old command.now r bytes actor.new) }
-        ensures number { IfOk result (λ r. (n : ℕ) → r ≡ Number n → (n < 2 ^ 31) × IsOp (op_for lines.now command.now)) }
-        ensures could_not { IfErr result (λ e. CouldNot e actor.old actor.new × (out.new ≡ out.old)) }
-    {
-        match line_op(lines, command.cmd, command.len, &command.bytes) {
-            None => self.whole_command(rt, actor, command, out),
-            Some(op) => {
-                let op = Some(op);
-                let mut asked = DriverCommand {
-                    command,
-                    op: &op,
-                    gift: nothing(),
-                };
-                self.driven_command(rt, actor, &mut asked, out)
-            }
-        }
     }
 
     /// A command on an open file of this kind.
@@ -235,9 +135,9 @@ impl<D: Driver<Core>> Gpio<D> {
         ensures could_not { IfErr result (λ e. CouldNot e actor.old actor.new × (out.new ≡ out.old)) }
     {
         match order.on {
-            FileKind::Chip => self.order_on_chip(rt, alloc, actor, order.command, out),
+            FileKind::Chip => self.command_on_chip(rt, alloc, actor, order.command, out),
             FileKind::Request(lines) => {
-                match self.order_on_request(rt, actor, order.command, lines, out) {
+                match self.command_on_request(rt, actor, order.command, lines, out) {
                     Ok(reply) => Ok(Answered { reply, lines: None }),
                     Err(errno) => Err(errno),
                 }

@@ -9,9 +9,8 @@ ghost use Rattle.gl_model.specs.declared.device_call.DeviceCall.TheVariants.{Com
 ghost use Rattle.gl_model.specs.Parts.{in_whole, is_driver_asked};
 ghost use Rattle.gl_model.specs.Replies.{has_form};
 ghost use Rattle.gl_model.specs.Step.{guard_reply};
-ghost use Rattle.gl_chip.specs.Called.{ComesOut, HasCalled};
+ghost use Rattle.gl_chip.specs.Called.{HasCalled};
 ghost use Rattle.gl_asking.specs.Handed.{command_in};
-ghost use Rattle.gl_asking.specs.Results.{done_of};
 ghost use Rattle.gl_chip.specs.Steps.{FoundNoRoom};
 ghost use Rattle.gl_chip.specs.Values.{IsActorOf, IsSameActor};
 ghost use Rattle.gl_core.specs.Device.{core};
@@ -19,7 +18,6 @@ ghost use Rattle.gl_core.specs.Device.{core};
 use crate::actor::Actor;
 use crate::gpio::Gpio;
 use crate::guarding::{Guard, guarded};
-use crate::results;
 use gl_base::Errno;
 use gl_core::{Call, Core, Part, Reply};
 use gl_driver::Driver;
@@ -62,29 +60,5 @@ impl<D: Driver<Core>> Gpio<D> {
             poll: false,
         };
         guarded(rt, &self.gate, &mut actor.pass, guard, &call, out)
-    }
-
-    /// The same, by what its caller gets.
-    pub(crate) fn done_by_command<R: Wait>(
-        &self,
-        rt: &R,
-        actor: &mut Actor<D>,
-        command: &CommandIn,
-        out: &mut [u8],
-    ) -> Result<(), Errno>
-        requires actor { IsActorOf self.now actor.old }
-        requires place { command.now.place < PLACES }
-        requires not_asked { is_driver_asked command.now.of_chip command.now.len (command_of command.now.cmd) ≡ false }
-        requires handed { let c = command.now in c ≡ command_in c.place c.fd c.of_chip c.cmd out.old }
-        ensures actor { IsActorOf self.now actor.new }
-        ensures same { IsSameActor actor.old.pass.view actor.new.pass.view }
-        ensures port { actor.new.port ≡ actor.old.port }
-        ensures called { (bytes : List ℕ) × (out.new ≡ bytes ++ drop (length bytes) out.old)
-            × ComesOut done_of result actor.old.pass.view (Commanding command.now) bytes actor.new.pass.view }
-    {
-        match self.whole_command(rt, actor, command, out) {
-            Ok(reply) => results::done(reply),
-            Err(errno) => Err(errno),
-        }
     }
 }

@@ -18,7 +18,7 @@ ghost use Rattle.gl_core.specs.Device.{core};
 
 use crate::actor::Actor;
 use crate::gpio::Gpio;
-use crate::results;
+use gl_asking::results;
 use gl_base::{Errno, Name};
 use gl_core::{Call, Core};
 use gl_driver::Driver;

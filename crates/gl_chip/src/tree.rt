@@ -11,7 +11,7 @@ ghost use Rattle.gl_chip.specs.Values.{IsActorOf, IsSameActor};
 use crate::actor::Actor;
 use crate::gpio::Gpio;
 use crate::inner::nothing;
-use crate::results;
+use gl_asking::results;
 use gl_base::{Errno, Name, Path};
 use gl_core::{Call, Core};
 use gl_driver::Driver;

@@ -1,90 +1,90 @@
-use Rattle.std.proofs.Common.{◌≡◌, ◌≢◌, ℕ, List, [], ◌++◌, length, take, drop, true, Option, Err, sym, ap, subst, ◌∙◌}
-use Rattle.gl_base.specs.Count.{Rises}
+use Rattle.std.proofs.Common.{◌≡◌, ℕ, List, [], ◌++◌, length, drop, true, Option, sym, ap, refl, subst, ◌∙◌}
 use Rattle.gl_base.specs.declared.errno.Errno.TheVariants.{NoMemory}
-use Rattle.gl_base.specs.declared.lines.Lines.{Lines}
-use Rattle.gl_uapi.specs.declared.layout.TheConstants.{LINE_REQUEST_SIZE}
-use Rattle.gl_model.specs.AskedLines.{lines_asked}
 use Rattle.gl_model.specs.declared.device_call.CommandIn.{CommandIn}
 use Rattle.gl_model.specs.declared.device_call.DeviceCall.TheVariants.{Commanding}
-use Rattle.gl_chip.specs.Answering.{AnswersInOrder, RequestsInOrder}
-use Rattle.gl_chip.specs.Called.{HasCalled}
-use Rattle.gl_chip.specs.DriverCommands.{CommandsOut, TakesMemory, request_in, requested_of}
+use Rattle.gl_asking.specs.declared.kinds.FileKind.TheVariants.{Chip}
 use Rattle.gl_asking.specs.Driving.{op_for}
-use Rattle.gl_asking.specs.Opened.{ChipFile}
+use Rattle.gl_asking.specs.Handed.{command_in}
+use Rattle.gl_chip.specs.DriverCommands.{HasCommanded, IsOp, TakesMemory, request_in, requested_of}
 use Rattle.gl_chip.specs.Files.{LineFile}
-use Rattle.gl_asking.specs.Handed.{command_in, handed_in}
-use Rattle.gl_chip.proofs.HandedBytes.{handed_command, with_bytes}
-use Rattle.gl_chip.proofs.CommandResults.{command_is_full, command_is_made, whole_commanded}
-use Rattle.gl_chip.proofs.RequestedFiles.{file_where_requested, whole_no_number}
+use Rattle.gl_chip.specs.Orders.{lines_on}
+use Rattle.gl_chip.proofs.Answering.{answers_in_order, requests_in_order}
+use Rattle.gl_chip.proofs.CommandResults.{command_is_full, command_is_made, else_full, not_let_in, wanted_memory}
+use Rattle.gl_chip.proofs.HandedBytes.{handed_back}
+use Rattle.gl_chip.proofs.RequestedFiles.{file_where_requested}
+use Rattle.gl_chip.proofs.RequestedLines.{gets_line, number_below}
 use Rattle.gl_chip.proofs.WholeCalls.{called_not_memory, errno_is_told}
 use Rattle.gl_chip.proofs.gpio.Gpio.chip_ioctl.Goals as goal
 
-pub without_file-requires : goal.without_file-requires
-without_file-requires g c = record { number = whole_no_number (with_bytes c.fd.inside.place c.fd.inside.fd true c.args.cmd (length c.args.buf.now) c.handed_in-bytes.result) c.in-Ok.reply c.in-Ok.ensures.form }
+pub command_on_chip-requires-clause-chip : goal.command_on_chip-requires-clause-chip
+command_on_chip-requires-clause-chip g c κs within = ap (λ (x : CommandIn). x.of_chip) c.command-command.ensures.told
 
-pub returns-in-Ok-clause-called : goal.returns-in-Ok-clause-called
-returns-in-Ok-clause-called g c = let h = subst (λ (x : CommandIn). (bytes : List ℕ) × (c.whole_command.new.out ≡ bytes ++ drop (length bytes) c.args.buf.now) × HasCalled 0 c.args.actor.now.pass.view (Commanding x) c.in-Ok.reply bytes c.whole_command.new.actor.pass.view)
-    (handed_command c.fd.inside.place c.fd.inside.fd true c.args.cmd c.args.buf.now c.handed_in-bytes.result c.handed_in-bytes.ensures) c.in-Ok.ensures.called in
-    let named : Lines = lines_asked (take LINE_REQUEST_SIZE (handed_in c.args.buf.now)) in
-    λ _. subst (λ (f : ChipFile). (bytes : List ℕ) × (c.whole_command.new.out ≡ bytes ++ drop (length bytes) c.args.buf.now)
-    × CommandsOut g.D.Port.Port.told g.D.Port.Port.faults g.D.Port.Port.maps g.D.Port.Port.maps_left g.D.Driver.OwnEntries g.D.Driver.Follows g.D.Driver.ENTRIES (requested_of f.place named) c.without_file.result (op_for named (command_in f.place f.fd true c.args.cmd c.args.buf.now))
-    c.args.actor.now (command_in f.place f.fd true c.args.cmd c.args.buf.now) bytes c.whole_command.new.actor) c.fd.view_is (
-      h.0,
-      h.1,
-      command_is_made g.D.Port.Port.told g.D.Port.Port.faults g.D.Port.Port.maps g.D.Port.Port.maps_left g.D.Driver.OwnEntries g.D.Driver.Follows g.D.Driver.ENTRIES {X = Option LineFile} (request_in c.fd.inside.place named) c.without_file.result
-          (op_for named (command_in c.fd.inside.place c.fd.inside.fd true c.args.cmd c.args.buf.now)) c.args.actor.now c.whole_command.new.actor (command_in c.fd.inside.place c.fd.inside.fd true c.args.cmd c.args.buf.now) h.0 c.in-Ok.reply
-          (c.without_file.ensures c.fd.inside.place named)
-          (whole_commanded g.D.Port.Port.told g.D.Port.Port.faults g.D.Port.Port.maps g.D.Port.Port.maps_left g.D.Driver.OwnEntries g.D.Driver.Follows g.D.Driver.ENTRIES (op_for named (command_in c.fd.inside.place c.fd.inside.fd true c.args.cmd c.args.buf.now)) c.args.actor.now c.whole_command.new.actor
-          (command_in c.fd.inside.place c.fd.inside.fd true c.args.cmd c.args.buf.now) c.in-Ok.reply h.0 (sym c.if-is_driver_asked.ensures) h.2 c.in-Ok.ensures.port),
-    )
+pub command_on_chip-requires-clause-handed : goal.command_on_chip-requires-clause-handed
+command_on_chip-requires-clause-handed g c κs within = handed_back c.command-command.result c.args.fd.now.place c.args.fd.now.fd true c.args.cmd c.args.buf.now c.command-command.ensures.told
 
-pub returns-in-Err-clause-called : goal.returns-in-Err-clause-called
-returns-in-Err-clause-called g c = let full = c.in-Err.ensures.full in
-    let named : Lines = lines_asked (take LINE_REQUEST_SIZE (handed_in c.args.buf.now)) in
-    λ _. (
-      [],
-      full.1,
-      command_is_full g.D.Port.Port.told g.D.Port.Port.faults g.D.Port.Port.maps g.D.Port.Port.maps_left g.D.Driver.OwnEntries g.D.Driver.Follows g.D.Driver.ENTRIES {X = Option LineFile} (request_in c.args.fd.now.place named) c.in-Err.errno
-          (op_for named (command_in c.args.fd.now.place c.args.fd.now.fd true c.args.cmd c.args.buf.now)) c.args.actor.now c.whole_command.new.actor (command_in c.args.fd.now.place c.args.fd.now.fd true c.args.cmd c.args.buf.now) full.0 full.2 c.in-Err.ensures.port,
-    )
+pub requested-requires-clause-number : goal.requested-requires-clause-number
+requested-requires-clause-number g c = number_below c.in-Ok.answered.reply (IsOp (op_for (lines_on Chip c.command-command.result) c.command-command.result)) c.in-Ok.ensures.number
 
 pub returns-in-Ok-clause-memory : goal.returns-in-Ok-clause-memory
-returns-in-Ok-clause-memory g c = let h = subst (λ (x : CommandIn). (bytes : List ℕ) × (c.whole_command.new.out ≡ bytes ++ drop (length bytes) c.args.buf.now) × HasCalled 0 c.args.actor.now.pass.view (Commanding x) c.in-Ok.reply bytes c.whole_command.new.actor.pass.view)
-    (handed_command c.fd.inside.place c.fd.inside.fd true c.args.cmd c.args.buf.now c.handed_in-bytes.result c.handed_in-bytes.ensures) c.in-Ok.ensures.called in
-    let named : Lines = lines_asked (take LINE_REQUEST_SIZE (handed_in c.args.buf.now)) in
-    λ e. absurd (called_not_memory 0 c.args.actor.now.pass.view c.whole_command.new.actor.pass.view (Commanding (command_in c.fd.inside.place c.fd.inside.fd true c.args.cmd c.args.buf.now)) c.in-Ok.reply h.0 h.2
-    (errno_is_told (request_in c.fd.inside.place named) NoMemory c.in-Ok.reply (sym (c.without_file.ensures c.fd.inside.place named) ∙ e)))
+returns-in-Ok-clause-memory g c = let k = subst (λ (x : CommandIn). ((bytes : List ℕ) × (c.command_on_chip.new.out ≡ bytes ++ drop (length bytes) c.args.buf.now)
+    × HasCommanded g.D.Port.Port.told g.D.Port.Port.faults g.D.Port.Port.maps g.D.Port.Port.maps_left g.D.Driver.OwnEntries g.D.Driver.Follows g.D.Driver.ENTRIES (op_for (lines_on Chip x) x) c.args.actor.now x c.in-Ok.answered.reply bytes c.command_on_chip.new.actor)
+    × (c.requested.result ≡ requested_of x.place (lines_on Chip x) c.in-Ok.answered.reply))
+    c.command-command.ensures.told (c.in-Ok.ensures.commanded, c.requested.ensures (lines_on Chip c.command-command.result) c.in-Ok.ensures.lines) in
+    let command : CommandIn = command_in c.args.fd.now.place c.args.fd.now.fd true c.args.cmd c.args.buf.now in
+    λ e. absurd (called_not_memory g.D.Driver.ENTRIES c.args.actor.now.pass.view c.command_on_chip.new.actor.pass.view (Commanding command) c.in-Ok.answered.reply k.0.0 k.0.2.called
+    (errno_is_told (request_in command.place (lines_on Chip command)) NoMemory c.in-Ok.answered.reply (sym k.1 ∙ e)))
+
+pub returns-in-Ok-clause-called : goal.returns-in-Ok-clause-called
+returns-in-Ok-clause-called g c = let k = subst (λ (x : CommandIn). ((bytes : List ℕ) × (c.command_on_chip.new.out ≡ bytes ++ drop (length bytes) c.args.buf.now)
+    × HasCommanded g.D.Port.Port.told g.D.Port.Port.faults g.D.Port.Port.maps g.D.Port.Port.maps_left g.D.Driver.OwnEntries g.D.Driver.Follows g.D.Driver.ENTRIES (op_for (lines_on Chip x) x) c.args.actor.now x c.in-Ok.answered.reply bytes c.command_on_chip.new.actor)
+    × (c.requested.result ≡ requested_of x.place (lines_on Chip x) c.in-Ok.answered.reply))
+    c.command-command.ensures.told (c.in-Ok.ensures.commanded, c.requested.ensures (lines_on Chip c.command-command.result) c.in-Ok.ensures.lines) in
+    let command : CommandIn = command_in c.args.fd.now.place c.args.fd.now.fd true c.args.cmd c.args.buf.now in λ _. (
+      k.0.0,
+      k.0.1,
+      command_is_made g.D.Port.Port.told g.D.Port.Port.faults g.D.Port.Port.maps g.D.Port.Port.maps_left g.D.Driver.OwnEntries g.D.Driver.Follows g.D.Driver.ENTRIES {X = Option LineFile} (request_in command.place (lines_on Chip command)) c.requested.result (op_for (lines_on Chip command) command) c.args.actor.now c.command_on_chip.new.actor command k.0.0 c.in-Ok.answered.reply k.1 k.0.2,
+    )
 
 pub returns-in-Ok-clause-file : goal.returns-in-Ok-clause-file
-returns-in-Ok-clause-file g c = let h = subst (λ (x : CommandIn). (bytes : List ℕ) × (c.whole_command.new.out ≡ bytes ++ drop (length bytes) c.args.buf.now) × HasCalled 0 c.args.actor.now.pass.view (Commanding x) c.in-Ok.reply bytes c.whole_command.new.actor.pass.view)
-    (handed_command c.fd.inside.place c.fd.inside.fd true c.args.cmd c.args.buf.now c.handed_in-bytes.result c.handed_in-bytes.ensures) c.in-Ok.ensures.called in
-    let named : Lines = lines_asked (take LINE_REQUEST_SIZE (handed_in c.args.buf.now)) in
-    file_where_requested 0 c.args.actor.now.pass.view c.whole_command.new.actor.pass.view (command_in c.fd.inside.place c.fd.inside.fd true c.args.cmd c.args.buf.now) c.in-Ok.reply h.0 c.fd.inside.place named c.without_file.result (c.without_file.ensures c.fd.inside.place named) h.2
+returns-in-Ok-clause-file g c = let k = subst (λ (x : CommandIn). ((bytes : List ℕ) × (c.command_on_chip.new.out ≡ bytes ++ drop (length bytes) c.args.buf.now)
+    × HasCommanded g.D.Port.Port.told g.D.Port.Port.faults g.D.Port.Port.maps g.D.Port.Port.maps_left g.D.Driver.OwnEntries g.D.Driver.Follows g.D.Driver.ENTRIES (op_for (lines_on Chip x) x) c.args.actor.now x c.in-Ok.answered.reply bytes c.command_on_chip.new.actor)
+    × (c.requested.result ≡ requested_of x.place (lines_on Chip x) c.in-Ok.answered.reply))
+    c.command-command.ensures.told (c.in-Ok.ensures.commanded, c.requested.ensures (lines_on Chip c.command-command.result) c.in-Ok.ensures.lines) in
+    let command : CommandIn = command_in c.args.fd.now.place c.args.fd.now.fd true c.args.cmd c.args.buf.now in
+    file_where_requested g.D.Driver.ENTRIES c.args.actor.now.pass.view c.command_on_chip.new.actor.pass.view command c.in-Ok.answered.reply k.0.0 command.place (lines_on Chip command) c.requested.result k.1 k.0.2.called
 
-pub get_line-requires-clause-handed : goal.get_line-requires-clause-handed
-get_line-requires-clause-handed g c κs within = handed_command c.fd.inside.place c.fd.inside.fd true c.args.cmd c.args.buf.now c.handed_in-bytes.result c.handed_in-bytes.ensures
+pub returns-in-Ok-clause-told : goal.returns-in-Ok-clause-told
+returns-in-Ok-clause-told g c = let k = subst (λ (x : CommandIn). ((bytes : List ℕ) × (c.command_on_chip.new.out ≡ bytes ++ drop (length bytes) c.args.buf.now)
+    × HasCommanded g.D.Port.Port.told g.D.Port.Port.faults g.D.Port.Port.maps g.D.Port.Port.maps_left g.D.Driver.OwnEntries g.D.Driver.Follows g.D.Driver.ENTRIES (op_for (lines_on Chip x) x) c.args.actor.now x c.in-Ok.answered.reply bytes c.command_on_chip.new.actor)
+    × (c.requested.result ≡ requested_of x.place (lines_on Chip x) c.in-Ok.answered.reply))
+    c.command-command.ensures.told (c.in-Ok.ensures.commanded, c.requested.ensures (lines_on Chip c.command-command.result) c.in-Ok.ensures.lines) in
+    let command : CommandIn = command_in c.args.fd.now.place c.args.fd.now.fd true c.args.cmd c.args.buf.now in
+    λ asks let_in. answers_in_order g.D.Port.Port.told g.D.Port.Port.faults g.D.Port.Port.maps g.D.Port.Port.maps_left g.D.Driver.OwnEntries g.D.Driver.Follows g.D.Driver.ENTRIES {X = Option LineFile} (request_in command.place (lines_on Chip command)) c.requested.result (op_for (lines_on Chip command) command) c.args.actor.now c.command_on_chip.new.actor command c.in-Ok.answered.reply k.0.0 k.0.2 k.1 asks let_in.2
+    (λ _. (gets_line command refl asks, c.number-after.ensures.idle, c.number-after.ensures.own))
 
-pub whole_command-requires-clause-handed : goal.whole_command-requires-clause-handed
-whole_command-requires-clause-handed g c κs within = handed_command c.fd.inside.place c.fd.inside.fd true c.args.cmd c.args.buf.now c.handed_in-bytes.result c.handed_in-bytes.ensures
+pub returns-in-Ok-clause-first_faulty : goal.returns-in-Ok-clause-first_faulty
+returns-in-Ok-clause-first_faulty g c = let k = subst (λ (x : CommandIn). ((bytes : List ℕ) × (c.command_on_chip.new.out ≡ bytes ++ drop (length bytes) c.args.buf.now)
+    × HasCommanded g.D.Port.Port.told g.D.Port.Port.faults g.D.Port.Port.maps g.D.Port.Port.maps_left g.D.Driver.OwnEntries g.D.Driver.Follows g.D.Driver.ENTRIES (op_for (lines_on Chip x) x) c.args.actor.now x c.in-Ok.answered.reply bytes c.command_on_chip.new.actor)
+    × (c.requested.result ≡ requested_of x.place (lines_on Chip x) c.in-Ok.answered.reply))
+    c.command-command.ensures.told (c.in-Ok.ensures.commanded, c.requested.ensures (lines_on Chip c.command-command.result) c.in-Ok.ensures.lines) in
+    let command : CommandIn = command_in c.args.fd.now.place c.args.fd.now.fd true c.args.cmd c.args.buf.now in
+    λ asks let_in. requests_in_order g.D.Port.Port.told g.D.Port.Port.faults g.D.Port.Port.maps g.D.Port.Port.maps_left g.D.Driver.OwnEntries g.D.Driver.Follows g.D.Driver.ENTRIES {X = Option LineFile} (request_in command.place (lines_on Chip command)) c.requested.result (op_for (lines_on Chip command) command) c.args.actor.now c.command_on_chip.new.actor command c.in-Ok.answered.reply k.0.0 k.0.2 k.1 asks let_in.2
+    (gets_line command refl asks) refl c.number-before.ensures.idle c.number-after.ensures.idle c.number-after.ensures.own
 
-pub returns-then-is_driver_asked-clause-memory : goal.returns-then-is_driver_asked-clause-memory
-returns-then-is_driver_asked-clause-memory g c =
-    subst (λ (x : CommandIn). c.get_line.result ≡ Err NoMemory → TakesMemory x × (c.get_line.new.actor ≡ c.args.actor.now) × (c.get_line.new.buf ≡ c.args.buf.now))
-    (handed_command c.fd.inside.place c.fd.inside.fd true c.args.cmd c.args.buf.now c.handed_in-bytes.result c.handed_in-bytes.ensures ∙ ap (λ (f : ChipFile). command_in f.place f.fd true c.args.cmd c.args.buf.now) c.fd.view_is) c.get_line.ensures.memory
+pub returns-in-Err-clause-memory : goal.returns-in-Err-clause-memory
+returns-in-Err-clause-memory g c = λ is. let wanted = wanted_memory {X = Option LineFile} c.in-Err.errno c.args.actor.now c.command_on_chip.new.actor c.in-Err.ensures.could_not.0 is in
+    (subst (λ (x : CommandIn). TakesMemory x) c.command-command.ensures.told (c.in-Err.ensures.memory wanted.0), wanted.1, c.in-Err.ensures.could_not.1)
 
-pub returns-then-is_driver_asked-clause-called : goal.returns-then-is_driver_asked-clause-called
-returns-then-is_driver_asked-clause-called g c =
-    subst (λ (x : CommandIn). c.get_line.result ≢ Err NoMemory → (bytes : List ℕ) × (c.get_line.new.buf ≡ bytes ++ drop (length bytes) c.args.buf.now)
-    × CommandsOut g.D.Port.Port.told g.D.Port.Port.faults g.D.Port.Port.maps g.D.Port.Port.maps_left g.D.Driver.OwnEntries g.D.Driver.Follows g.D.Driver.ENTRIES (requested_of x.place (lines_asked (take LINE_REQUEST_SIZE x.bytes))) c.get_line.result (op_for (lines_asked (take LINE_REQUEST_SIZE x.bytes)) x)
-    c.args.actor.now x bytes c.get_line.new.actor)
-    (handed_command c.fd.inside.place c.fd.inside.fd true c.args.cmd c.args.buf.now c.handed_in-bytes.result c.handed_in-bytes.ensures ∙ ap (λ (f : ChipFile). command_in f.place f.fd true c.args.cmd c.args.buf.now) c.fd.view_is) c.get_line.ensures.called
+pub returns-in-Err-clause-called : goal.returns-in-Err-clause-called
+returns-in-Err-clause-called g c = λ other. let full = else_full {X = Option LineFile} c.in-Err.errno c.args.actor.now c.command_on_chip.new.actor c.in-Err.ensures.could_not.0 other in
+    let command : CommandIn = command_in c.args.fd.now.place c.args.fd.now.fd true c.args.cmd c.args.buf.now in (
+      [],
+      c.in-Err.ensures.could_not.1,
+      command_is_full g.D.Port.Port.told g.D.Port.Port.faults g.D.Port.Port.maps g.D.Port.Port.maps_left g.D.Driver.OwnEntries g.D.Driver.Follows g.D.Driver.ENTRIES {X = Option LineFile} (request_in command.place (lines_on Chip command)) c.in-Err.errno (op_for (lines_on Chip command) command) c.args.actor.now c.command_on_chip.new.actor command full.0 full.2 full.1,
+    )
 
-pub returns-then-is_driver_asked-clause-told : goal.returns-then-is_driver_asked-clause-told
-returns-then-is_driver_asked-clause-told g c = λ _ let_in.
-    subst (λ (x : CommandIn). AnswersInOrder (requested_of x.place (lines_asked (take LINE_REQUEST_SIZE x.bytes))) c.get_line.result c.args.actor.now.pass.view c.get_line.new.actor.pass.view x)
-    (handed_command c.fd.inside.place c.fd.inside.fd true c.args.cmd c.args.buf.now c.handed_in-bytes.result c.handed_in-bytes.ensures ∙ ap (λ (f : ChipFile). command_in f.place f.fd true c.args.cmd c.args.buf.now) c.fd.view_is) (c.get_line.ensures.told let_in)
+pub returns-in-Err-clause-told : goal.returns-in-Err-clause-told
+returns-in-Err-clause-told g c = λ _ let_in. absurd (not_let_in {X = Option LineFile} c.in-Err.errno c.args.actor.now c.command_on_chip.new.actor c.in-Err.ensures.could_not.0 let_in)
 
-pub returns-then-is_driver_asked-clause-first_faulty : goal.returns-then-is_driver_asked-clause-first_faulty
-returns-then-is_driver_asked-clause-first_faulty g c = λ _ let_in.
-    subst (λ (x : CommandIn). RequestsInOrder (Rises (g.D.Port.Port.faults c.args.actor.now.port) (g.D.Port.Port.faults c.get_line.new.actor.port)) c.get_line.result c.args.actor.now.pass.view c.get_line.new.actor.pass.view x)
-    (handed_command c.fd.inside.place c.fd.inside.fd true c.args.cmd c.args.buf.now c.handed_in-bytes.result c.handed_in-bytes.ensures ∙ ap (λ (f : ChipFile). command_in f.place f.fd true c.args.cmd c.args.buf.now) c.fd.view_is) (c.get_line.ensures.first_faulty let_in)
+pub returns-in-Err-clause-first_faulty : goal.returns-in-Err-clause-first_faulty
+returns-in-Err-clause-first_faulty g c = λ _ let_in. absurd (not_let_in {X = Option LineFile} c.in-Err.errno c.args.actor.now c.command_on_chip.new.actor c.in-Err.ensures.could_not.0 let_in)

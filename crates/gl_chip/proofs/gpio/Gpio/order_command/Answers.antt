@@ -6,28 +6,28 @@ use Rattle.gl_chip.specs.Orders.{GivesOn, lines_on}
 use Rattle.gl_chip.proofs.OrderedCalls.{as_answered, as_ordered, number_as}
 use Rattle.gl_chip.proofs.gpio.Gpio.order_command.Goals as goal
 
-pub order_on_chip-requires-clause-chip : goal.order_on_chip-requires-clause-chip
-order_on_chip-requires-clause-chip g c κs within = c.requires.file.0 ∙ ap (λ (k : FileKind). is_chip k) c.in-Chip.is
+pub command_on_chip-requires-clause-chip : goal.command_on_chip-requires-clause-chip
+command_on_chip-requires-clause-chip g c κs within = c.requires.file.0 ∙ ap (λ (k : FileKind). is_chip k) c.in-Chip.is
 
-pub order_on_request-requires-clause-request : goal.order_on_request-requires-clause-request
-order_on_request-requires-clause-request g c κs within = c.requires.file.0 ∙ ap (λ (k : FileKind). is_chip k) c.in-Request.is
+pub command_on_request-requires-clause-request : goal.command_on_request-requires-clause-request
+command_on_request-requires-clause-request g c κs within = c.requires.file.0 ∙ ap (λ (k : FileKind). is_chip k) c.in-Request.is
 
-pub order_on_request-requires-clause-count : goal.order_on_request-requires-clause-count
-order_on_request-requires-clause-count g c κs within = subst (λ (k : FileKind). HasLines k) c.in-Request.is c.requires.file.1
+pub command_on_request-requires-clause-count : goal.command_on_request-requires-clause-count
+command_on_request-requires-clause-count g c κs within = subst (λ (k : FileKind). HasLines k) c.in-Request.is c.requires.file.1
 
 pub returns-in-Chip-clause-commanded : goal.returns-in-Chip-clause-commanded
 returns-in-Chip-clause-commanded g c =
-    as_answered g.D.Port.Port.told g.D.Port.Port.faults g.D.Port.Port.maps g.D.Port.Port.maps_left g.D.Driver.OwnEntries g.D.Driver.Follows g.D.Driver.ENTRIES c.order_on_chip.result _ (op_for (lines_on c.args.order.now.on.now c.args.order.now.command.now) c.args.order.now.command.now) c.args.actor.now c.order_on_chip.new.actor
-    c.args.order.now.command.now c.args.out.now c.order_on_chip.new.out (ap (λ (k : FileKind). op_for (lines_on k c.args.order.now.command.now) c.args.order.now.command.now) c.in-Chip.is) c.order_on_chip.ensures.commanded
+    as_answered g.D.Port.Port.told g.D.Port.Port.faults g.D.Port.Port.maps g.D.Port.Port.maps_left g.D.Driver.OwnEntries g.D.Driver.Follows g.D.Driver.ENTRIES c.command_on_chip.result _ (op_for (lines_on c.args.order.now.on.now c.args.order.now.command.now) c.args.order.now.command.now) c.args.actor.now c.command_on_chip.new.actor
+    c.args.order.now.command.now c.args.out.now c.command_on_chip.new.out (ap (λ (k : FileKind). op_for (lines_on k c.args.order.now.command.now) c.args.order.now.command.now) c.in-Chip.is) c.command_on_chip.ensures.commanded
 
 pub returns-in-Chip-clause-number : goal.returns-in-Chip-clause-number
 returns-in-Chip-clause-number g c =
-    number_as c.order_on_chip.result _ (op_for (lines_on c.args.order.now.on.now c.args.order.now.command.now) c.args.order.now.command.now) (ap (λ (k : FileKind). op_for (lines_on k c.args.order.now.command.now) c.args.order.now.command.now) c.in-Chip.is) c.order_on_chip.ensures.number
+    number_as c.command_on_chip.result _ (op_for (lines_on c.args.order.now.on.now c.args.order.now.command.now) c.args.order.now.command.now) (ap (λ (k : FileKind). op_for (lines_on k c.args.order.now.command.now) c.args.order.now.command.now) c.in-Chip.is) c.command_on_chip.ensures.number
 
 pub returns-in-Chip-clause-lines : goal.returns-in-Chip-clause-lines
-returns-in-Chip-clause-lines g c = subst (λ (k : FileKind). IfOk c.order_on_chip.result (GivesOn k c.args.order.now.command.now)) (sym c.in-Chip.is) c.order_on_chip.ensures.lines
+returns-in-Chip-clause-lines g c = subst (λ (k : FileKind). IfOk c.command_on_chip.result (GivesOn k c.args.order.now.command.now)) (sym c.in-Chip.is) c.command_on_chip.ensures.lines
 
 pub returns-in-Ok-clause-commanded : goal.returns-in-Ok-clause-commanded
 returns-in-Ok-clause-commanded g c =
-    as_ordered g.D.Port.Port.told g.D.Port.Port.faults g.D.Port.Port.maps g.D.Port.Port.maps_left g.D.Driver.OwnEntries g.D.Driver.Follows g.D.Driver.ENTRIES (Ok c.in-Ok.reply) (op_for c.in-Request.lines c.args.order.now.command.now) (op_for (lines_on c.args.order.now.on.now c.args.order.now.command.now) c.args.order.now.command.now) c.args.actor.now c.order_on_request.new.actor
-    c.args.order.now.command.now c.args.out.now c.order_on_request.new.out (ap (λ (k : FileKind). op_for (lines_on k c.args.order.now.command.now) c.args.order.now.command.now) c.in-Request.is) c.in-Ok.ensures.commanded
+    as_ordered g.D.Port.Port.told g.D.Port.Port.faults g.D.Port.Port.maps g.D.Port.Port.maps_left g.D.Driver.OwnEntries g.D.Driver.Follows g.D.Driver.ENTRIES (Ok c.in-Ok.reply) (op_for c.in-Request.lines c.args.order.now.command.now) (op_for (lines_on c.args.order.now.on.now c.args.order.now.command.now) c.args.order.now.command.now) c.args.actor.now c.command_on_request.new.actor
+    c.args.order.now.command.now c.args.out.now c.command_on_request.new.out (ap (λ (k : FileKind). op_for (lines_on k c.args.order.now.command.now) c.args.order.now.command.now) c.in-Request.is) c.in-Ok.ensures.commanded

@@ -11,7 +11,7 @@ pub returns-in-Err-clause-could_not : goal.returns-in-Err-clause-could_not
 returns-in-Err-clause-could_not g c = (wanted c.in-Err.errno c.args.actor.now c.in-Err.ensures.memory_alone, refl)
 
 pub returns-in-Ok-clause-done : goal.returns-in-Ok-clause-done
-returns-in-Ok-clause-done g c = if_ok c.one_call.result _ _ (λ r h. (h.0, h.1, (h.2, c.one_call.ensures.port))) c.one_call.ensures.called
+returns-in-Ok-clause-done g c = if_ok c.once.result _ _ (λ r h. (h.0, h.1, (h.2, c.once.ensures.port))) c.once.ensures.called
 
 pub returns-in-Ok-clause-could_not : goal.returns-in-Ok-clause-could_not
-returns-in-Ok-clause-could_not g c = was_full_alone c.one_call.result c.args.actor.now c.one_call.new.actor c.args.out.now c.one_call.new.out c.one_call.ensures.port c.one_call.ensures.full
+returns-in-Ok-clause-could_not g c = was_full_alone c.once.result c.args.actor.now c.once.new.actor c.args.out.now c.once.new.out c.once.ensures.port c.once.ensures.full

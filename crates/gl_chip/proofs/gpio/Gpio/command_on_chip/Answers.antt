@@ -1,12 +1,13 @@
-use Rattle.std.proofs.Common.{take, refl, sym, Ok, Err}
+use Rattle.std.proofs.Common.{take, refl, sym, ◌∙◌, Ok, Err}
 use Rattle.gl_uapi.specs.declared.layout.TheConstants.{LINE_REQUEST_SIZE}
 use Rattle.gl_asking.specs.declared.kinds.FileKind.TheVariants.{Chip}
 use Rattle.gl_asking.specs.Driving.{op_for}
 use Rattle.gl_chip.specs.Orders.{lines_on}
+use Rattle.gl_chip.proofs.CommandResults.{full_no_memory}
 use Rattle.gl_chip.proofs.OrderedCalls.{as_ordered, number_ordered, wanted, was_full_alone, whole_ordered}
-use Rattle.gl_chip.proofs.RequestedLines.{applied_to_named, gets_line, op_goes, op_is_for, op_is_requested}
+use Rattle.gl_chip.proofs.RequestedLines.{gets_line, lines_are_named, op_goes, op_is_for, op_is_requested, takes_memory}
 use Rattle.gl_chip.proofs.SameActors.{same_actor}
-use Rattle.gl_chip.proofs.gpio.Gpio.order_on_chip.Goals as goal
+use Rattle.gl_chip.proofs.gpio.Gpio.command_on_chip.Goals as goal
 
 pub whole_command-requires-clause-not_asked : goal.whole_command-requires-clause-not_asked
 whole_command-requires-clause-not_asked g c κs within = sym c.if-not-is_driver_asked.ensures
@@ -49,5 +50,14 @@ returns-in-Ok-driven_command-clause-number g c =
     c.in-Ok-driven_command.ensures.number
 
 pub returns-in-Ok-driven_command-clause-lines : goal.returns-in-Ok-driven_command-clause-lines
-returns-in-Ok-driven_command-clause-lines g c = λ n e.
-    c.lines_applied.ensures _ (applied_to_named c.args.command.now c.request_op-op.result (op_is_requested (take LINE_REQUEST_SIZE c.args.command.now.bytes) c.in-Ok-gift_for_lines.gift c.request_op-op.result c.request_op-op.ensures.op c.in-Ok-gift_for_lines.ensures.ok) (c.in-Ok-driven_command.ensures.number n e).1).1
+returns-in-Ok-driven_command-clause-lines g c = λ n e. c.lines_for.ensures.lines
+    ∙ lines_are_named c.args.command.now c.request_op-op.result (op_is_requested (take LINE_REQUEST_SIZE c.args.command.now.bytes) c.in-Ok-gift_for_lines.gift c.request_op-op.result c.request_op-op.ensures.op c.in-Ok-gift_for_lines.ensures.ok) (c.in-Ok-driven_command.ensures.number n e).1
+
+pub returns-in-Err-clause-memory : goal.returns-in-Err-clause-memory
+returns-in-Err-clause-memory g c = λ is. absurd (full_no_memory c.in-Err.errno c.in-Err.ensures.full.0 is)
+
+pub returns-in-Err-gift_for_lines-clause-memory : goal.returns-in-Err-gift_for_lines-clause-memory
+returns-in-Err-gift_for_lines-clause-memory g c = λ _. takes_memory c.args.command.now c.requires.chip (sym c.if-not-is_driver_asked.ensures) c.in-Err-gift_for_lines.ensures.memory.1
+
+pub returns-clause-memory : goal.returns-clause-memory
+returns-clause-memory g c = λ is. absurd (full_no_memory c.in-Err-driven_command.errno c.in-Err-driven_command.ensures.full.0 is)

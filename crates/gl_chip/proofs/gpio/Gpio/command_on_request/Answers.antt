@@ -4,8 +4,9 @@ use Rattle.gl_uapi.specs.Command.{command_of}
 use Rattle.gl_model.specs.Parts.{is_driver_asked}
 use Rattle.gl_asking.specs.Driving.{op_for}
 use Rattle.gl_chip.proofs.Answering.{no_get_line}
-use Rattle.gl_chip.proofs.OrderedCalls.{as_ordered, number_ordered, was_full, was_full_alone, whole_numbers, whole_ordered}
-use Rattle.gl_chip.proofs.gpio.Gpio.order_on_request.Goals as goal
+use Rattle.gl_chip.proofs.GateSteps.{if_err}
+use Rattle.gl_chip.proofs.OrderedCalls.{as_ordered, number_ordered, whole_numbers, whole_ordered}
+use Rattle.gl_chip.proofs.gpio.Gpio.command_on_request.Goals as goal
 
 pub whole_command-requires-clause-not_asked : goal.whole_command-requires-clause-not_asked
 whole_command-requires-clause-not_asked g c κs within = subst (λ (b : Bool). is_driver_asked b c.args.command.now.len (command_of c.args.command.now.cmd) ≡ false) (sym c.requires.request) c.in-None.ensures.none
@@ -19,8 +20,8 @@ returns-in-None-clause-commanded g c =
 pub returns-in-None-clause-number : goal.returns-in-None-clause-number
 returns-in-None-clause-number g c = whole_numbers c.whole_command.result (op_for c.args.lines.now c.args.command.now) c.args.command.now c.whole_command.ensures.form
 
-pub returns-in-None-clause-could_not : goal.returns-in-None-clause-could_not
-returns-in-None-clause-could_not g c = was_full_alone c.whole_command.result c.args.actor.now c.whole_command.new.actor c.args.out.now c.whole_command.new.out c.whole_command.ensures.port c.whole_command.ensures.full
+pub returns-in-None-clause-full : goal.returns-in-None-clause-full
+returns-in-None-clause-full g c = if_err c.whole_command.result _ _ (λ e full. (full.0, full.1, c.whole_command.ensures.port, full.2)) c.whole_command.ensures.full
 
 pub driven_command-requires-clause-asked : goal.driven_command-requires-clause-asked
 driven_command-requires-clause-asked g c κs within = subst (λ (b : Bool). is_driver_asked b c.args.command.now.len (command_of c.args.command.now.cmd) ≡ true) (sym c.requires.request) c.in-Some.ensures.op.0
@@ -38,6 +39,3 @@ returns-in-Some-clause-commanded g c =
 
 pub returns-in-Some-clause-number : goal.returns-in-Some-clause-number
 returns-in-Some-clause-number g c = number_ordered c.driven_command.result (Some c.in-Some.op) (op_for c.args.lines.now c.args.command.now) c.in-Some.ensures.op.1 c.driven_command.ensures.number
-
-pub returns-in-Some-clause-could_not : goal.returns-in-Some-clause-could_not
-returns-in-Some-clause-could_not g c = was_full c.driven_command.result c.args.actor.now c.driven_command.new.actor c.args.out.now c.driven_command.new.out c.driven_command.ensures.full
