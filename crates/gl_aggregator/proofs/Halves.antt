@@ -104,7 +104,7 @@ module _ {M C R G : Type 0} (m : Ghosts M C R G) where
       }
 
 -- What the halves come to.
-module _ {M C R G : Type 0} (m : Ghosts M C R G) (is_go is_done : R → Bool) (Follows : Option Told → Op → Option ℕ → Type 0) (visit : Visit C) where
+module _ {M C R G : Type 0} (m : Ghosts M C R G) (is_go is_done : R → Bool) (Follows : ℕ → Option Told → Op → Option ℕ → Type 0) (visit : Visit C) where
   -- the driver isn't asked
   pub refused_came : (v w : View M C R G) (t : Option Told) → ((r : R) → m.begins visit.ask r ≡ is_go r) → m.ends visit.ask ≡ false → m.ends visit.refused ≡ false → WasRefused m visit.refused visit.ask v w
       → Came m is_go is_done Follows visit v w None t t
@@ -148,7 +148,7 @@ module _ {M C R G : Type 0} (m : Ghosts M C R G) (is_go is_done : R → Bool) (F
 
     -- the target was passed
     pub passed_came : ((r : R) → m.begins visit.ask r ≡ is_go r) → visit.op ≡ Some op → WasAsked m place visit.ask v w → IsBack m w [] u → (b : WasTold m place (visit.tell answer) u x reply old new)
-        → Follows t op answer → after ≡ with_call op answer t → is_done reply ≡ true → Came m is_go is_done Follows visit v x (Some b.second.bytes) t after
+        → Follows (length x.seen) t op answer → after ≡ with_call op answer t → is_done reply ≡ true → Came m is_go is_done Follows visit v x (Some b.second.bytes) t after
     passed_came goes op_is a between b follows after_is done = record {
       did = a.first ∷ b.second ∷ [];
       back = whole a between b;
@@ -172,7 +172,7 @@ module _ {M C R G : Type 0} (m : Ghosts M C R G) (is_go is_done : R → Bool) (F
 
     -- the tell was refused
     pub failed_came : ((r : R) → m.begins visit.ask r ≡ is_go r) → visit.op ≡ Some op → WasAsked m place visit.ask v w → IsBack m w [] u → (b : WasTold m place (visit.tell answer) u x reply old new)
-        → Follows t op answer → after ≡ with_call op answer t → is_done reply ≡ false → Came m is_go is_done Follows visit v x None t after
+        → Follows (length x.seen) t op answer → after ≡ with_call op answer t → is_done reply ≡ false → Came m is_go is_done Follows visit v x None t after
     failed_came goes op_is a between b follows after_is not_done =
         let go : is_go a.first.entry.reply ≡ true = sym (goes a.first.entry.reply) ∙ a.begins in
         let failed : is_done b.second.entry.reply ≡ false = ap (λ r. is_done r) b.replies ∙ not_done in record {
@@ -190,7 +190,7 @@ module _ {M C R G : Type 0} (m : Ghosts M C R G) (is_go is_done : R → Bool) (F
             counts = subst (λ n. CountsMore n t after) (sym (one_tell a b)) (subst (λ (o : Option Told). CountsMore 1 t o) (sym after_is) (counts_one op answer t));
           };
         } where
-          at_end : (vs : List (Option (Visit C))) → AskedFor {M = M} {R = R} {G = G} Follows (with_call op answer t) vs [] after
+          at_end : (vs : List (Option (Visit C))) → AskedFor {M = M} {R = R} {G = G} (Follows (length x.seen)) (with_call op answer t) vs [] after
           at_end [] = after_is
           at_end (None ∷ vs) = after_is
           at_end (Some v ∷ vs) = after_is

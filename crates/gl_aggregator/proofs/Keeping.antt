@@ -22,6 +22,10 @@ is_none (Some x) = ⊥
 no_map : (map : Map) → None ≡ Some map → ⊥
 no_map map is = subst (λ (o : Option Map). is_none o) is tt
 
+-- a place that has a map isn't one without
+pub has_map : {A : Type 0} (map : Map) (found : Option Map) → found ≡ Some map → found ≡ None → A
+has_map map found some none = absurd (no_map map (sym none ∙ some))
+
 -- the map of a place is one of those that are kept
 pub fits_of : (maps : List Map) (place : ℕ) (map : Map) → Each FitsMap maps → map_at place maps ≡ Some map → FitsMap map
 fits_of [] place map each is = absurd (no_map map is)

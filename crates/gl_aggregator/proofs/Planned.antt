@@ -1,5 +1,5 @@
 -- The answers that the tells hold over a planned driver, and the cases in which a call fails.
-use Rattle.std.proofs.Common.{◌≡◌, ℕ, Bool, true, false, List, [], ◌∷◌, ◌++◌, length, Option, Some, None, inl, inr, sym, refl, ap, ◌∙◌, subst, arith}
+use Rattle.std.proofs.Common.{◌≡◌, ◌≤◌, ℕ, Bool, true, false, List, [], ◌∷◌, ◌++◌, length, Option, Some, None, inl, inr, sym, refl, ap, ◌∙◌, subst, arith}
 use Rattle.std.proofs.lemmas.Bool.{true≢false}
 use Rattle.std.specs.Prelude.{◌↔◌}
 use Rattle.gl_base.specs.Count.{counted_up}
@@ -15,7 +15,8 @@ use Rattle.gl_model.specs.declared.gift.Gift.{Gift}
 use Rattle.gl_model.specs.declared.reply.Reply.{Reply}
 use Rattle.gl_world.specs.Deeds.{Deed, entries_in}
 use Rattle.gl_world.specs.declared.history.Entry.{Entry}
-use Rattle.gl_aggregator.specs.Aggregating.{EachTargetIsTold, Fails, FailsInJustTheseCases, FollowsBehind}
+use Rattle.gl_aggregator.specs.Aggregating.{EachTargetIsTold, Fails, FailsInJustTheseCases, FollowsBehind, FollowsByMore, FullStandsBefore}
+use Rattle.gl_aggregator.specs.Course.{FollowsOn}
 use Rattle.gl_aggregator.specs.Commands.{command_to, visit_by, visit_if, visits, visits_on}
 use Rattle.gl_aggregator.specs.Gather.{gather}
 use Rattle.gl_aggregator.specs.Own.{AskedFor, AtRefusal, BehindAsk, BehindTell, Ending, NoRoom, Own, Unspelled, Visit, Whole, by_ending, ending, if_done, is_whole, told_bytes}
@@ -23,6 +24,7 @@ use Rattle.gl_aggregator.specs.Plans.{PlannedOnMaps, called, op_if, ops_asked, p
 use Rattle.gl_aggregator.specs.Ports.{SameBehind}
 use Rattle.gl_aggregator.specs.Routes.{lines_on, routes}
 use Rattle.gl_aggregator.specs.declared.routes.Route.{Route}
+use Rattle.gl_aggregator.proofs.Behind.{behind_on}
 use Rattle.gl_aggregator.proofs.Points.{behind_two, fails_in, not_none, some_is_not_none}
 
 -- no entries tell nothing, and nothing was asked for them
@@ -86,7 +88,7 @@ pub planned_on_maps : (is_planned : Bool) (Follows : Option Told → Op → List
     → (is_planned ≡ true → (t : Told) (op : Op) (did : List OneDeed) (room seen : ℕ) (answer : Option ℕ) → Follows (Some t) op did room seen answer → answer ≡ planned_for op t)
     → PlannedOnMaps is_planned Follows
 planned_on_maps is_planned Follows planned holds map t op did room seen answer own (gathers, (Some inner, after, same, asked)) =
-    of_targets (FollowsBehind Follows room) (λ x asked_op said f. planned holds x asked_op [] room f.0 said f.1) op (routes map op) (entries_in did) inner after own asked
+    of_targets (FollowsBehind Follows room seen) (λ x asked_op said f. planned holds x asked_op [] room f.0 said f.2) op (routes map op) (entries_in did) inner after own asked
     ∙ same_plan (ops_asked (visits map op) (entries_in did)) inner t same
 planned_on_maps is_planned Follows planned holds map t op did room seen answer own (gathers, (None, after, same, asked)) = absurd (subst (λ (o : Option Told). is_none o) (same 0 None) tt)
 
@@ -94,6 +96,25 @@ pub fails_in_just_these_cases : {K : Type 0} (Follows : Option Told → Op → L
 fails_in_just_these_cases Follows map told op did room seen answer follows =
     let ends = ending is_go is_done (visits map op) (entries_in did) in
     subst (λ (o : Option ℕ). (o ≡ None) ↔ Fails ends room seen) (sym follows.0.answer_is) (fails_in (gather map op) (told_bytes did) ends room seen follows.0.full)
+
+-- by all that stand before the tell
+asked_on : {M C R G : Type 0} (F : ℕ → Option Told → Op → Option ℕ → Type 0) → FollowsOn F → (seen more : ℕ) → seen ≤ more → (vs : List (Option (Visit C))) (es : List (Entry M C R G)) (t u : Option Told)
+    → AskedFor (F seen) t vs es u → AskedFor (F more) t vs es u
+asked_on F on seen more le [] es t u h = h
+asked_on F on seen more le (None ∷ vs) es t u h = h
+asked_on F on seen more le (Some v ∷ vs) [] t u h = h
+asked_on F on seen more le (Some v ∷ vs) (e ∷ []) t u h = h
+asked_on F on seen more le (Some v ∷ vs) (e ∷ f ∷ es) t u (op, answer, op_is, tells, follows, asked) =
+    (op, answer, op_is, tells, on seen more t op answer le follows, asked_on F on seen more le vs es (with_call op answer t) u asked)
+
+pub follows_by_more : {K : Type 0} (Follows : Option Told → Op → List (Deed K Call Reply Gift) → ℕ → ℕ → Option ℕ → Type 0) → FollowsByMore Follows
+follows_by_more Follows map told op did room seen before answer (gathers, (inner, after, same, asked)) more = (
+  record { answer_is = gathers.answer_is; full = λ lacks. (let full : room ≤ seen = gathers.full lacks in omega (arith, more)) },
+  (inner, after, same, asked_on (FollowsBehind Follows room) (behind_on Follows room) seen before more (visits map op) (entries_in did) inner after asked),
+)
+
+pub full_stands_before : {K : Type 0} (Follows : Option Told → Op → List (Deed K Call Reply Gift) → ℕ → ℕ → Option ℕ → Type 0) → FullStandsBefore Follows
+full_stands_before Follows map told op did room seen before answer follows more lacks = let full : room ≤ seen = follows.0.full lacks in omega (arith, more)
 
 -- where the entries ended behind the last target, each target was told
 not_whole : (e : Ending) → is_whole e ≡ false → e ≡ Whole → ⊥

@@ -87,8 +87,8 @@ fails_in gather told AtRefusal room seen full = ((λ e. tt), (λ h. refl))
 fails_in gather told Unspelled room seen full = ((λ e. tt), (λ h. refl))
 fails_in gather told NoRoom room seen full = ((λ e. full refl), (λ h. refl))
 
-pub aggregated : {K : Type 0} (m : Ghosts K Call Reply Gift) (Follows : Option Told → Op → Option ℕ → Type 0) (map : Map) (op : Op) (before after : Option Told) (v w : View K Call Reply Gift) (answer : Option ℕ)
-    → Called m is_go is_done Follows (gather map op) (visits map op) before after v w answer → Aggregates m Follows map op before after v w answer
+pub aggregated : {K : Type 0} (m : Ghosts K Call Reply Gift) (Follows : ℕ → Option Told → Op → Option ℕ → Type 0) (map : Map) (op : Op) (before after : Option Told) (v w : View K Call Reply Gift) (answer : Option ℕ)
+    → Called m is_go is_done Follows (gather map op) (visits map op) before after v w answer → Aggregates m (Follows (length w.seen)) map op before after v w answer
 aggregated m Follows map op before after v w answer called = record {
   did = called.did;
   in_history = called.back.grew;
@@ -97,16 +97,16 @@ aggregated m Follows map op before after v w answer called = record {
   fails = subst (λ (o : Option ℕ). (o ≡ None) ↔ Fails (ending is_go is_done (visits map op) (entries_in called.did)) w.room (length w.seen)) (sym called.gathers.answer_is)
       (fails_in (gather map op) (told_bytes called.did) (ending is_go is_done (visits map op) (entries_in called.did)) w.room (length w.seen) called.gathers.full);
   asked = called.asked;
-  calls = tells_more is_go is_done Follows (visits map op) (entries_in called.did) before after called.own called.asked;
-  last = tells_last is_go is_done Follows None (visits map op) (entries_in called.did) before after tt called.asked;
+  calls = tells_more is_go is_done (Follows (length w.seen)) (visits map op) (entries_in called.did) before after called.own called.asked;
+  last = tells_last is_go is_done (Follows (length w.seen)) None (visits map op) (entries_in called.did) before after tt called.asked;
 }
 
 -- at the place of a call
-pub aggregates_at : {K : Type 0} (m : Ghosts K Call Reply Gift) (Follows : Option Told → Op → Option ℕ → Type 0) (map : Map) (op : Op) (before after : Option Told) (v w : View K Call Reply Gift) (answer said : Option ℕ) (found : Option Map)
-    → found ≡ Some map → said ≡ answer → Called m is_go is_done Follows (gather map op) (visits map op) before after v w answer → IfSome found (λ map. Aggregates m Follows map op before after v w said)
+pub aggregates_at : {K : Type 0} (m : Ghosts K Call Reply Gift) (Follows : ℕ → Option Told → Op → Option ℕ → Type 0) (map : Map) (op : Op) (before after : Option Told) (v w : View K Call Reply Gift) (answer said : Option ℕ) (found : Option Map)
+    → found ≡ Some map → said ≡ answer → Called m is_go is_done Follows (gather map op) (visits map op) before after v w answer → IfSome found (λ map. Aggregates m (Follows (length w.seen)) map op before after v w said)
 aggregates_at m Follows map op before after v w answer said found found_is said_is called =
-    subst (λ (o : Option Map). IfSome o (λ map. Aggregates m Follows map op before after v w said)) (sym found_is)
-    (subst (λ (x : Option ℕ). Aggregates m Follows map op before after v w x) (sym said_is) (aggregated m Follows map op before after v w answer called))
+    subst (λ (o : Option Map). IfSome o (λ map. Aggregates m (Follows (length w.seen)) map op before after v w said)) (sym found_is)
+    (subst (λ (x : Option ℕ). Aggregates m (Follows (length w.seen)) map op before after v w x) (sym said_is) (aggregated m Follows map op before after v w answer called))
 
 pub none_aggregates : (P : Map → Type 0) (found : Option Map) → found ≡ None → IfSome found P
 none_aggregates P found is = subst (λ (o : Option Map). IfSome o P) (sym is) tt

@@ -21,6 +21,7 @@ use Rattle.gl_rule.specs.declared.view.View.{View}
 use Rattle.gl_uapi.specs.Command.{command_of}
 use Rattle.gl_uapi.specs.declared.commands.Command.TheVariants.{GetValues}
 use Rattle.gl_world.specs.Deeds.{Deed}
+use Rattle.gl_world.specs.History.{StartsWith}
 use Rattle.gl_aggregator.specs.Aggregating.{FollowsBehind}
 use Rattle.gl_aggregator.specs.Calling.{Calling}
 use Rattle.gl_aggregator.specs.Commands.{visit_on, visits, visits_on}
@@ -30,7 +31,8 @@ use Rattle.gl_aggregator.specs.Routes.{LineAt, lines_on, routes, with_bits_where
 use Rattle.gl_aggregator.specs.Visiting.{Ends, Gets, WasAsked, WasRefused, visit_in}
 use Rattle.gl_aggregator.specs.declared.commands.Asking.{Asking}
 use Rattle.gl_aggregator.specs.declared.routes.Route.{Route}
-use Rattle.gl_aggregator.proofs.Behind.{back_behind, follows_behind, told_behind}
+use Rattle.gl_aggregator.proofs.Behind.{back_behind, behind_on, follows_behind, told_behind}
+use Rattle.gl_aggregator.proofs.Course.{sees_on}
 use Rattle.gl_aggregator.proofs.Halves.{failed_came, passed_came, refused_came}
 use Rattle.gl_aggregator.proofs.Loop.{ends_stopped, goes_on}
 
@@ -61,23 +63,24 @@ module _ (Own : Option Map → Op → List OneEntry → Type 0) (Follows : Optio
     told : after ≡ with_call asking.op answer now
     told = told_behind core Own Follows limit asking.command.place maps asking.op now after answer a u none driven_so
 
-    follows : FollowsBehind (Follows None) v.room now asking.op answer
-    follows = follows_behind core Own Follows limit asking.command.place maps asking.op now after answer a u none driven_so v.room (asked.grew.room ∙ calling.back.grew.room)
+    follows : (e : StartsWith x.seen u.seen) → FollowsBehind (Follows None) v.room (length x.seen) now asking.op answer
+    follows e = follows_behind core Own Follows limit asking.command.place maps asking.op now after answer a u none driven_so v.room (length x.seen) (asked.grew.room ∙ calling.back.grew.room)
+        (sees_on core is_go is_done (FollowsBehind (Follows None) v.room) u x e)
 
     -- its tell was refused
     pub turn_failed : Ends core asking answer u x None → Called core is_go is_done (FollowsBehind (Follows None) v.room) (gather_on op 0 rows) (visits_on op rows) before after v x None
     turn_failed e = ends_stopped core (FollowsBehind (Follows None) v.room) op rows before now at d v w bits less calling (visit_in asking) x after is
-        (failed_came core is_go is_done (FollowsBehind (Follows None) v.room) (visit_in asking) asking.command.place asking.op answer w a u x e.reply e.old e.new now after (λ reply. refl) refl asked back e.told follows told e.gives)
+        (failed_came core is_go is_done (FollowsBehind (Follows None) v.room) (visit_in asking) asking.command.place asking.op answer w a u x e.reply e.old e.new now after (λ reply. refl) refl asked back e.told (follows e.told.grew.seen) told e.gives)
 
     -- it was passed
     pub turn_passed : (word next : ℕ) → Gets op asking → Ends core asking answer u x (Some word) → next ≡ with_bits_from op bits word (lines_on op (get_or rows at d))
         → Calling core (FollowsBehind (Follows None) v.room) op rows (at + 1) before after v x next
-    turn_passed word next gets e next_is = goes_on core (FollowsBehind (Follows None) v.room) op rows before now at d v w bits less calling (visit_in asking) x after e.told.second.bytes next is
-        (passed_came core is_go is_done (FollowsBehind (Follows None) v.room) (visit_in asking) asking.command.place asking.op answer w a u x e.reply e.old e.new now after (λ reply. refl) refl asked back e.told follows told e.gives.0)
+    turn_passed word next gets e next_is = goes_on core (FollowsBehind (Follows None) v.room) op rows before now at d v w bits less calling (visit_in asking) x after e.told.second.bytes next (behind_on (Follows None) v.room) is
+        (passed_came core is_go is_done (FollowsBehind (Follows None) v.room) (visit_in asking) asking.command.place asking.op answer w a u x e.reply e.old e.new now after (λ reply. refl) refl asked back e.told (follows e.told.grew.seen) told e.gives.0)
         (next_is ∙ same_bits op asking bits word e.told.second.bytes (lines_on op (get_or rows at d)) gets e.gives.1)
 
 -- the call over the routes of a map is the one over its visits
-pub over_map : (Follows : Option Told → Op → Option ℕ → Type 0) (map : Map) (op : Op) (found rows : List Route) (before after : Option Told) (v w : View Kept Call Reply Gift) (answer : Option ℕ) → rows ≡ found → found ≡ routes map op
+pub over_map : (Follows : ℕ → Option Told → Op → Option ℕ → Type 0) (map : Map) (op : Op) (found rows : List Route) (before after : Option Told) (v w : View Kept Call Reply Gift) (answer : Option ℕ) → rows ≡ found → found ≡ routes map op
     → Called core is_go is_done Follows (gather_on op 0 rows) (visits_on op rows) before after v w answer → Called core is_go is_done Follows (gather map op) (visits map op) before after v w answer
 over_map Follows map op found rows before after v w answer rows_is found_is called =
     subst (λ l. Called core is_go is_done Follows (gather_on op 0 l) (visits_on op l) before after v w answer) (rows_is ∙ found_is) called

@@ -1,7 +1,8 @@
 -- An aggregator as a driver: which entries of its own it may make, which answer follows, and what it did in one call.
-use Rattle.std.specs.Prelude.{◌≡◌, ◌↔◌, ◌≤◌, ℕ, suc, List, [], ◌∷◌, length, Option, Some, None, IfSome}
+use Rattle.std.specs.Prelude.{◌≡◌, ◌↔◌, ◌≤◌, ℕ, true, suc, List, [], ◌∷◌, length, Option, Some, None, IfSome}
 use Rattle.gl_base.specs.declared.op.Op.{Op}
-use Rattle.gl_driver.specs.Told.{Told, counted_on}
+use Rattle.gl_driver.specs.Calls.{IsBack}
+use Rattle.gl_driver.specs.Told.{Told, counted_on, with_call}
 use Rattle.gl_driver.specs.declared.map.Map.{Map}
 use Rattle.gl_gate.specs.Grown.{Grew}
 use Rattle.gl_model.specs.Entries.{is_done, is_go}
@@ -14,7 +15,7 @@ use Rattle.gl_world.specs.declared.history.Entry.{Entry}
 use Rattle.gl_world.specs.declared.machine.Machine.{Ghosts}
 use Rattle.gl_aggregator.specs.Commands.{visits}
 use Rattle.gl_aggregator.specs.Gather.{gather}
-use Rattle.gl_aggregator.specs.Own.{AskedFor, AtRefusal, Ending, Gathers, NoRoom, Own, Unspelled, Visit, Whole, answer_by, ending, told_bytes}
+use Rattle.gl_aggregator.specs.Own.{AskedFor, AtRefusal, Ending, Gathers, NoRoom, Own, Unspelled, Visit, Whole, answer_by, ending, lacks_room, told_bytes}
 use Rattle.gl_aggregator.specs.Ports.{SameBehind}
 
 -- K: what is kept of a world; the machine's calls are those of `gl_model`
@@ -25,20 +26,20 @@ module _ {K : Type 0} where
   OwnAt (Some map) op own = Own is_go is_done (visits map op) own
 
   module _ (Follows : Option Told → Op → List (Deed K Call Reply Gift) → ℕ → ℕ → Option ℕ → Type 0) where
-    -- an answer of the driver behind follows, whatever the pass had seen by then
-    abbrev pub FollowsBehind : ℕ → Option Told → Op → Option ℕ → Type 0
-    FollowsBehind room told op answer = (seen : ℕ) × Follows told op [] room seen answer
+    -- an answer of the driver behind follows, by the entries that the pass had seen then, which are so many at most
+    abbrev pub FollowsBehind : ℕ → ℕ → Option Told → Op → Option ℕ → Type 0
+    FollowsBehind room most told op answer = (seen : ℕ) × (seen ≤ most) × Follows told op [] room seen answer
 
     -- the driver behind was asked for each tell, through a port that told this but for the calls that went through it
-    abbrev pub AsksBehind : Map → Option Told → Op → List (Deed K Call Reply Gift) → ℕ → Type 0
-    AsksBehind map told op did room = (inner : Option Told) × (after : Option Told) × SameBehind inner told × AskedFor (FollowsBehind room) inner (visits map op) (entries_in did) after
+    abbrev pub AsksBehind : Map → Option Told → Op → List (Deed K Call Reply Gift) → ℕ → ℕ → Type 0
+    AsksBehind map told op did room most = (inner : Option Told) × (after : Option Told) × SameBehind inner told × AskedFor (FollowsBehind room most) inner (visits map op) (entries_in did) after
 
     -- The answer that follows: at a place without a map the one that follows of the driver behind; at one with a map what is gathered, or the
     -- failure, where the driver behind was asked for each tell.
     abbrev pub FollowsAt : Option Map → Option Told → Op → List (Deed K Call Reply Gift) → ℕ → ℕ → Option ℕ → Type 0
     FollowsAt None told op did room seen answer = (inner : Option Told) × SameBehind inner told × Follows inner op did room seen answer
     FollowsAt (Some map) told op did room seen answer =
-        Gathers is_go is_done (gather map op) (visits map op) did room seen answer × AsksBehind map told op did room
+        Gathers is_go is_done (gather map op) (visits map op) did room seen answer × AsksBehind map told op did room seen
 
 -- how many tells stand in a call's own entries: each second one is one
 abbrev pub tells_among : {M C R G : Type 0} → List (Entry M C R G) → ℕ
@@ -78,6 +79,16 @@ abbrev pub FailsInJustTheseCases : {K : Type 0} → (Option Told → Op → List
 FailsInJustTheseCases {K} Follows = (map : Map) (told : Option Told) (op : Op) (did : List (Deed K Call Reply Gift)) (room seen : ℕ) (answer : Option ℕ)
     → FollowsAt Follows (Some map) told op did room seen answer → (answer ≡ None) ↔ Fails (ending is_go is_done (visits map op) (entries_in did)) room seen
 
+-- What follows by the entries that a pass had seen follows by all that stand before the tell of its call, of whichever actors they are.
+abbrev pub FollowsByMore : {K : Type 0} → (Option Told → Op → List (Deed K Call Reply Gift) → ℕ → ℕ → Option ℕ → Type 0) → Type 0
+FollowsByMore {K} Follows = (map : Map) (told : Option Told) (op : Op) (did : List (Deed K Call Reply Gift)) (room seen before : ℕ) (answer : Option ℕ)
+    → FollowsAt Follows (Some map) told op did room seen answer → seen ≤ before → FollowsAt Follows (Some map) told op did room before answer
+
+-- So where its entries ended because the history was full, at least as many as there is room for stand there.
+abbrev pub FullStandsBefore : {K : Type 0} → (Option Told → Op → List (Deed K Call Reply Gift) → ℕ → ℕ → Option ℕ → Type 0) → Type 0
+FullStandsBefore {K} Follows = (map : Map) (told : Option Told) (op : Op) (did : List (Deed K Call Reply Gift)) (room seen before : ℕ) (answer : Option ℕ)
+    → FollowsAt Follows (Some map) told op did room seen answer → seen ≤ before → lacks_room (ending is_go is_done (visits map op) (entries_in did)) ≡ true → room ≤ before
+
 -- where it doesn't fail, each target was told, so that what is gathered has the bytes of each
 abbrev pub EachTargetIsTold : {K : Type 0} → (Option Told → Op → List (Deed K Call Reply Gift) → ℕ → ℕ → Option ℕ → Type 0) → Type 0
 EachTargetIsTold {K} Follows = (map : Map) (told : Option Told) (op : Op) (did : List (Deed K Call Reply Gift)) (room seen : ℕ) (bits : ℕ)
@@ -96,3 +107,11 @@ module _ {K : Type 0} (m : Ghosts K Call Reply Gift) (Follows : Option Told → 
     pub asked : AskedFor Follows before (visits map op) (entries_in did) after
     pub calls : TellsMore (tells_among (entries_in did)) before after
     pub last : TellsLast (last_tell None (visits map op) (entries_in did)) after
+
+module _ {K : Type 0} (m : Ghosts K Call Reply Gift) (Follows : Option Told → Op → List (Deed K Call Reply Gift) → ℕ → ℕ → Option ℕ → Type 0) where
+  -- One call at a place without a map. The driver behind was asked once, for just this operation, and what it answered is the answer, which follows by what its
+  -- port told then. No entry was made. So the port behind, where it tells, tells one call more, and this operation and its answer as its last.
+  pub record PassesOn (op : Op) (before after : Option Told) (v w : View K Call Reply Gift) (answer : Option ℕ) : Type 0 where
+    pub back : IsBack m v [] w
+    pub follows : Follows before op [] v.room (length w.seen) answer
+    pub told : after ≡ with_call op answer before

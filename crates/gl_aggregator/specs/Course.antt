@@ -21,13 +21,18 @@ with_more more (Some t) = Some (record t { counted = counted_on more t.counted }
 abbrev pub CountsMore : ℕ → Option Told → Option Told → Type 0
 CountsMore more before after = (calls : ℕ) (last : Option DriverCall) → told_over calls last after ≡ with_more more (told_over calls last before)
 
-module _ {M C R G : Type 0} (m : Ghosts M C R G) (is_go is_done : R → Bool) (Follows : Option Told → Op → Option ℕ → Type 0) where
-  -- The first targets were passed, and these are left. What may come for those completes the whole.
-  pub record SoFar (vs : List (Option (Visit C))) (before : Option Told) (did : List (Deed M C R G)) (told : List (List ℕ)) (left : List (Option (Visit C))) (now : Option Told) : Type 0 where
+-- which answers of the driver behind follow by at most so many entries, follow by more
+abbrev pub FollowsOn : (ℕ → Option Told → Op → Option ℕ → Type 0) → Type 0
+FollowsOn Follows = (seen more : ℕ) (told : Option Told) (op : Op) (answer : Option ℕ) → seen ≤ more → Follows seen told op answer → Follows more told op answer
+
+-- Follows: which answers of the driver behind follow, by how many entries the pass has seen at most
+module _ {M C R G : Type 0} (m : Ghosts M C R G) (is_go is_done : R → Bool) (Follows : ℕ → Option Told → Op → Option ℕ → Type 0) where
+  -- The first targets were passed, by when the pass had seen so many entries, and these are left. What may come for those completes the whole.
+  pub record SoFar (vs : List (Option (Visit C))) (before : Option Told) (did : List (Deed M C R G)) (told : List (List ℕ)) (left : List (Option (Visit C))) (now : Option Told) (seen : ℕ) : Type 0 where
     pub own : (more : List (Entry M C R G)) → Own is_go is_done left more → Own is_go is_done vs (entries_in did ++ more)
     pub ends : (more : List (Entry M C R G)) → ending is_go is_done vs (entries_in did ++ more) ≡ ending is_go is_done left more
     pub tells : (more : List (Deed M C R G)) → told_bytes (did ++ more) ≡ told ++ told_bytes more
-    pub asked : (more : List (Entry M C R G)) (after : Option Told) → AskedFor Follows now left more after → AskedFor Follows before vs (entries_in did ++ more) after
+    pub asked : (most : ℕ) → seen ≤ most → (more : List (Entry M C R G)) (after : Option Told) → AskedFor (Follows most) now left more after → AskedFor (Follows most) before vs (entries_in did ++ more) after
     pub counts : CountsMore (ended_in m (entries_in did)) before now
 
   -- the call ended here, before all targets were passed
@@ -35,11 +40,12 @@ module _ {M C R G : Type 0} (m : Ghosts M C R G) (is_go is_done : R → Bool) (F
     pub own : Own is_go is_done vs (entries_in did)
     pub not_whole : is_whole (ending is_go is_done vs (entries_in did)) ≡ false
     pub full : lacks_room (ending is_go is_done vs (entries_in did)) ≡ true → w.room ≤ length w.seen
-    pub asked : AskedFor Follows before vs (entries_in did) after
+    pub asked : AskedFor (Follows (length w.seen)) before vs (entries_in did) after
     pub counts : CountsMore (ended_in m (entries_in did)) before after
 
-  -- A target was passed: its ask was answered Go, the driver behind was asked, and its tell was done, which wrote this.
-  pub record Passed (v : Visit C) (did : List (Deed M C R G)) (wrote : List ℕ) (before after : Option Told) : Type 0 where
+  -- A target was passed, by when the pass had seen so many entries: its ask was answered Go, the driver behind was asked, and its tell was done, which
+  -- wrote this.
+  pub record Passed (v : Visit C) (did : List (Deed M C R G)) (wrote : List ℕ) (before after : Option Told) (seen : ℕ) : Type 0 where
     pub first : Deed M C R G
     pub second : Deed M C R G
     pub are : did ≡ first ∷ second ∷ []
@@ -51,13 +57,13 @@ module _ {M C R G : Type 0} (m : Ghosts M C R G) (is_go is_done : R → Bool) (F
     pub tells : second.entry.call ≡ v.tell answer
     pub done : is_done second.entry.reply ≡ true
     pub wrote_is : second.bytes ≡ wrote
-    pub follows : Follows before op answer
+    pub follows : Follows seen before op answer
     pub after_is : after ≡ with_call op answer before
     pub one_ended : ended_in m (entries_in did) ≡ 1
 
   -- what one target came to: it was passed, or it stopped the call, whatever would have come after it
   abbrev pub CameTo : Visit C → List (Deed M C R G) → View M C R G → Option (List ℕ) → Option Told → Option Told → Type 0
-  CameTo v did w (Some wrote) before after = Passed v did wrote before after
+  CameTo v did w (Some wrote) before after = Passed v did wrote before after (length w.seen)
   CameTo v did w None before after = (vs : List (Option (Visit C))) → Stopped (Some v ∷ vs) did w before after
 
   pub record Came (visit : Visit C) (v w : View M C R G) (wrote : Option (List ℕ)) (before after : Option Told) : Type 0 where
@@ -71,5 +77,5 @@ module _ {M C R G : Type 0} (m : Ghosts M C R G) (is_go is_done : R → Bool) (F
     pub back : IsBack m v did w
     pub own : Own is_go is_done vs (entries_in did)
     pub gathers : Gathers is_go is_done gather vs did w.room (length w.seen) answer
-    pub asked : AskedFor Follows before vs (entries_in did) after
+    pub asked : AskedFor (Follows (length w.seen)) before vs (entries_in did) after
     pub counts : CountsMore (ended_in m (entries_in did)) before after

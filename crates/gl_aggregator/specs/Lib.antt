@@ -10,3 +10,5 @@ pub mod Visiting
 pub mod Course
 pub mod Calling
 pub mod Plans
+pub mod NewPlaces
+pub mod Quiet

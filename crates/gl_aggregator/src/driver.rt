@@ -8,7 +8,7 @@ ghost use Rattle.gl_driver.specs.Maps.{map_at};
 ghost use Rattle.gl_driver.specs.Told.{answer_of, faults_after};
 ghost use Rattle.gl_gate.specs.Calls.{HoldsNoTurn, IsInside};
 ghost use Rattle.gl_gate.specs.Values.{IsPassOf};
-ghost use Rattle.gl_aggregator.specs.Aggregating.{Aggregates, FollowsAt, FollowsBehind, OwnAt};
+ghost use Rattle.gl_aggregator.specs.Aggregating.{Aggregates, FollowsAt, FollowsBehind, OwnAt, PassesOn};
 ghost use Rattle.gl_aggregator.specs.Ports.{told_over};
 ghost use Rattle.gl_aggregator.specs.declared.maps.TheConstants.{MAPS_MAX};
 ghost use Rattle.gl_aggregator.specs.Plans.{follows_plan, owns_none};
@@ -91,8 +91,10 @@ impl<D: Driver<Core>> Driver<Core> for AggDriver<D> {
         requires no_turn { HoldsNoTurn pass.old.view }
         requires op { FitsOp op.now }
         requires entries { ◌≢◌ {A = ℕ} 8 0 → MayMakeEntries core PLACES gate.now pass.old.view place }
-        ensures aggregates { IfSome (map_at place port.old.maps) (λ map. Aggregates core (FollowsBehind (D.Follows None) pass.old.view.room) map op.now
+        ensures aggregates { IfSome (map_at place port.old.maps) (λ map. Aggregates core (FollowsBehind (D.Follows None) pass.old.view.room (length pass.new.view.seen)) map op.now
             (D.Port.told port.old.inner) (D.Port.told port.new.inner) pass.old.view pass.new.view (answer_of result)) }
+        ensures passes_on { map_at place port.old.maps ≡ None → PassesOn core (D.Follows None) op.now
+            (D.Port.told port.old.inner) (D.Port.told port.new.inner) pass.old.view pass.new.view (answer_of result) }
         ensures gate { IsPassOf gate.now pass.new }
         ensures drives { Drives core 8 (λ map op own. OwnAt map op own) (λ map told op did room seen answer. FollowsAt (D.Follows None) map told op did room seen answer)
             (map_at place port.old.maps) op.now (told_over port.old.tally.calls port.old.tally.last (D.Port.told port.old.inner))

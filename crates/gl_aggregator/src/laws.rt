@@ -1,12 +1,15 @@
 //! What a call of an aggregator comes to. Each is a function with nothing to do: its contract is the law, and a caller gets it by the call.
 ghost use Rattle.std.specs.Prelude.{None};
-ghost use Rattle.gl_aggregator.specs.Aggregating.{EachTargetIsTold, FailsInJustTheseCases};
+ghost use Rattle.gl_aggregator.specs.Aggregating.{EachTargetIsTold, FailsInJustTheseCases, FollowsByMore, FullStandsBefore};
 ghost use Rattle.gl_aggregator.specs.Gather.{GatheredBits, GetGivesBits};
 ghost use Rattle.gl_aggregator.specs.Joined.{LinesAreInOneTarget};
+ghost use Rattle.gl_aggregator.specs.NewPlaces.{ProbesTakeFreePlaces};
 ghost use Rattle.gl_aggregator.specs.Plans.{PlannedOnMaps};
+ghost use Rattle.gl_aggregator.specs.Quiet.{OwnEntriesAreQuiet};
 
 use gl_core::Core;
 use gl_driver::Driver;
+use gl_model::Image;
 
 /// A line of an aggregated chip is in one target at most.
 pub fn lines_are_in_one_target()
@@ -30,7 +33,25 @@ pub fn fails_in_just_these_cases<D: Driver<Core>>()
     ensures told { EachTargetIsTold (D.Follows None) }
 {}
 
+/// The entries that an aggregator makes of its own begin no removal, end none, and request no lines: so it may be the driver of a device.
+pub fn own_entries_are_quiet()
+    ensures { OwnEntriesAreQuiet }
+{}
+
+/// An answer that follows by the entries that a pass had seen follows by all that stand before the tell of its call, of whichever actors they are. So
+/// where its own entries ended because the history was full, at least as many entries as there is room for stand there.
+pub fn full_stands_before_the_tell<D: Driver<Core>>()
+    ensures follows { FollowsByMore (D.Follows None) }
+    ensures full { FullStandsBefore (D.Follows None) }
+{}
+
 /// Over a planned driver the tells of a call at a place with a map hold the planned answers.
 pub fn planned_on_maps<D: Driver<Core>>()
     ensures { PlannedOnMaps D.is_planned (D.Follows None) }
+{}
+
+/// What a Probe is answered is the place of no request, in each world that a legal history leads to. So a chip that was made just now stands at
+/// another place than the targets of its map.
+pub fn probes_take_free_places<K: Image>()
+    ensures { ProbesTakeFreePlaces K.Image.stands_for }
 {}

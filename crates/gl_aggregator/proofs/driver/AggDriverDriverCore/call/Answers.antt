@@ -7,7 +7,7 @@ use Rattle.gl_aggregator.specs.Aggregating.{FollowsBehind}
 use Rattle.gl_aggregator.specs.Calling.{Calling}
 use Rattle.gl_aggregator.specs.declared.routes.Route.{Route}
 use Rattle.gl_aggregator.proofs.Driven.{driven_at}
-use Rattle.gl_aggregator.proofs.Keeping.{apart, fits_of, fits_route, outside_of}
+use Rattle.gl_aggregator.proofs.Keeping.{apart, fits_of, fits_route, has_map, outside_of}
 use Rattle.gl_aggregator.proofs.Loop.{done, ends_unspelled, first}
 use Rattle.gl_aggregator.proofs.Points.{aggregates_at}
 use Rattle.gl_aggregator.proofs.Turns.{over_map, turn_failed, turn_passed, turn_refused}
@@ -94,3 +94,15 @@ returns-after-loop-route-clause-aggregates g c = aggregates_at core (FollowsBehi
     (ap (λ p. map_at c.args.place p.maps) (sym c.port.view_is) ∙ (sym c.map.ensures ∙ c.in-Some.is)) c.take_down-in-Some.ensures.answer
     (over_map (FollowsBehind (g.D.Driver.Follows None) c.args.pass.now.view.room) c.in-Some.map c.args.op.now c.routes_of-routes.result c.rows-rows.result.now (g.D.Port.Port.told c.args.port.now.inner) (g.D.Port.Port.told c.loop-route.port-inside.inner) c.args.pass.now.view c.loop-route.pass.view (Some c.loop-route.bits) c.rows-rows.ensures c.routes_of-routes.ensures.routes
     (done core (FollowsBehind (g.D.Driver.Follows None) c.args.pass.now.view.room) c.args.op.now c.rows-rows.result.now (g.D.Port.Port.told c.args.port.now.inner) (g.D.Port.Port.told c.loop-route.port-inside.inner) c.loop-route.route-index c.args.pass.now.view c.loop-route.pass.view c.loop-route.bits (omega (arith, c.loop-route-test.false)) c.loop-route.invariant.3))
+
+pub returns-in-None-asking_on-clause-passes_on : goal.returns-in-None-asking_on-clause-passes_on
+returns-in-None-asking_on-clause-passes_on g c none = has_map c.in-Some.map (map_at c.args.place c.args.port.now.maps) (ap (λ p. map_at c.args.place p.maps) (sym c.port.view_is) ∙ (sym c.map.ensures ∙ c.in-Some.is)) none
+
+pub returns-then-not-begin_visit-clause-passes_on : goal.returns-then-not-begin_visit-clause-passes_on
+returns-then-not-begin_visit-clause-passes_on g c none = has_map c.in-Some.map (map_at c.args.place c.args.port.now.maps) (ap (λ p. map_at c.args.place p.maps) (sym c.port.view_is) ∙ (sym c.map.ensures ∙ c.in-Some.is)) none
+
+pub returns-in-None-end_visit-clause-passes_on : goal.returns-in-None-end_visit-clause-passes_on
+returns-in-None-end_visit-clause-passes_on g c none = has_map c.in-Some.map (map_at c.args.place c.args.port.now.maps) (ap (λ p. map_at c.args.place p.maps) (sym c.port.view_is) ∙ (sym c.map.ensures ∙ c.in-Some.is)) none
+
+pub returns-after-loop-route-clause-passes_on : goal.returns-after-loop-route-clause-passes_on
+returns-after-loop-route-clause-passes_on g c none = has_map c.in-Some.map (map_at c.args.place c.args.port.now.maps) (ap (λ p. map_at c.args.place p.maps) (sym c.port.view_is) ∙ (sym c.map.ensures ∙ c.in-Some.is)) none
