@@ -117,18 +117,7 @@ pub fn gift_for(call: &Call, alloc: Global) -> Result<Gift, Errno>
             part,
             ..
         } => gift_in_part(*cmd, bytes, part, alloc),
-        _ => Ok(nothing()),
-    }
-}
-
-/// A gift with nothing in it.
-fn nothing() -> Gift
-    ensures { result.asked ≡ None }
-{
-    Gift {
-        ring: None,
-        queue: None,
-        asked: None,
+        _ => Ok(Gift::nothing()),
     }
 }
 
@@ -144,7 +133,7 @@ fn gift_in_part(
 {
     match part {
         Part::Ask => gift_for_ask(cmd, bytes, alloc),
-        Part::Whole | Part::Tell(_) => Ok(nothing()),
+        Part::Whole | Part::Tell(_) => Ok(Gift::nothing()),
     }
 }
 
@@ -155,7 +144,7 @@ fn gift_for_ask(cmd: u32, bytes: &[u8; LINE_REQUEST_SIZE], alloc: Global) -> Res
 {
     match Command::of(cmd) {
         Some(Command::GetLine) => gift_for_lines(bytes, alloc),
-        _ => Ok(nothing()),
+        _ => Ok(Gift::nothing()),
     }
 }
 

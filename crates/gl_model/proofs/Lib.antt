@@ -37,3 +37,4 @@ pub mod EndingRemovals
 pub mod Rings
 pub mod Banks
 pub mod Marks
+pub mod NewPlaces

@@ -44,3 +44,4 @@ pub mod Banks
 pub mod SoundRequests
 pub mod Names
 pub mod Marks
+pub mod NewPlaces

@@ -1,5 +1,7 @@
 //! Memory that a call brings along.
 
+ghost use Rattle.std.specs.Prelude.{◌≡◌, None};
+
 use crate::asked::Asked;
 use gl_base::Errno;
 use gl_ring::EdgeRing;
@@ -16,4 +18,19 @@ pub struct Gift {
     pub queue: Option<InfoQueue>,
     /// What a request of lines asks for, or why its bytes alone have it refused. It stays in the gift.
     pub asked: Option<Result<Asked, Errno>>,
+}
+
+impl Gift {
+    /// A gift with nothing in it, as most calls bring.
+    pub fn nothing() -> Gift
+        ensures ring { result.ring ≡ None }
+        ensures queue { result.queue ≡ None }
+        ensures asked { result.asked ≡ None }
+    {
+        Gift {
+            ring: None,
+            queue: None,
+            asked: None,
+        }
+    }
 }

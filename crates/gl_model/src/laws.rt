@@ -10,6 +10,7 @@ ghost use Rattle.gl_model.specs.Holds.{OneHolder};
 ghost use Rattle.gl_model.specs.Machine.{CallLaws, machine};
 ghost use Rattle.gl_model.specs.Marks.{TellsMarkLines};
 ghost use Rattle.gl_model.specs.Names.{LegalWorldsHaveNames, NamesStay};
+ghost use Rattle.gl_model.specs.NewPlaces.{ProbesTakeFreePlaces};
 ghost use Rattle.gl_model.specs.OneClaim.{CallsFinishClaims, OneClaim};
 ghost use Rattle.gl_model.specs.OneRemoval.{BeginsOnce, OneRemoval};
 ghost use Rattle.gl_model.specs.SoundRequests.{RequestsStaySound};
@@ -130,4 +131,10 @@ pub fn last_calls_are_done<K: Image>()
 /// stay as they were.
 pub fn tells_mark_lines()
     ensures { TellsMarkLines }
+{}
+
+/// What a Probe is answered is the place of no request, in each world that a legal history leads to. So a chip that was made just now stands at
+/// another place than each line that is requested.
+pub fn probes_take_free_places<K: Image>()
+    ensures { ProbesTakeFreePlaces K.Image.stands_for }
 {}

@@ -20,6 +20,6 @@ pub use device_call::{CommandIn, DeviceCall, RemovalOf};
 pub use driver_asked::{asks_driver, is_driver_asked};
 pub use gift::Gift;
 pub use image::Image;
-pub use parsed_request::lines_in;
+pub use parsed_request::lines_asked;
 pub use place::{Origin, Place};
 pub use reply::Reply;

@@ -65,7 +65,7 @@ fn asked_in(request: &RequestRef<'_>) -> Result<ParsedRequest, Errno>
     match resolve(request.config(), count) {
         Err(errno) => Err(errno),
         Ok(settings) => Ok(ParsedRequest {
-            lines: lines_in(request),
+            lines: lines_asked(request),
             consumer: Name::read(request.consumer()),
             settings,
             capacity: capacity_for(count, request.event_buffer_size()),
@@ -74,7 +74,7 @@ fn asked_in(request: &RequestRef<'_>) -> Result<ParsedRequest, Errno>
 }
 
 /// The lines that a request names, in order, as many as its bytes say.
-pub fn lines_in(request: &RequestRef<'_>) -> Lines
+pub fn lines_asked(request: &RequestRef<'_>) -> Lines
     ensures { result ≡ lines_asked request.now }
 {
     let mut offsets = [0; LINES_PER_REQUEST as usize];

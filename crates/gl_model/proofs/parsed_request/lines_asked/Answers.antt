@@ -1,7 +1,7 @@
 use Rattle.std.proofs.Common.{ap, ◌∙◌, arith}
 use Rattle.gl_base.proofs.AtPositions.{table_from-filled}
 use Rattle.gl_model.specs.AskedLines.{lines_asked, offset_asked}
-use Rattle.gl_model.proofs.parsed_request.lines_in.Goals as goal
+use Rattle.gl_model.proofs.parsed_request.lines_asked.Goals as goal
 
 pub returns : goal.returns
 returns c =
