@@ -1,8 +1,12 @@
 -- What the rows of the code stand for.
-use Rattle.std.specs.Prelude.{◌<◌, Bool, true, false, Option, None, Some}
+use Rattle.std.specs.Prelude.{◌≡◌, ◌<◌, Bool, true, false, Option, None, Some}
 use Rattle.gl_base.specs.Lines.{IsLineCount}
 use Rattle.gl_base.specs.declared.limits.TheConstants.{PLACES}
 use Rattle.gl_base.specs.declared.lines.Lines.{Lines}
+use Rattle.gl_model.specs.declared.device_call.DeviceCall.{DeviceCall}
+use Rattle.gl_model.specs.declared.device_call.DeviceCall.TheVariants.{Once, Removing, Commanding}
+use Rattle.gl_asking.specs.declared.kinds.Asking.{Asking}
+use Rattle.gl_asking.specs.declared.kinds.Asking.TheVariants.{Calls, Plans, Accepts, Refuses}
 use Rattle.gl_asking.specs.declared.kinds.FileKind.{FileKind}
 use Rattle.gl_asking.specs.declared.kinds.FileKind.TheVariants.{Chip, Request}
 use Rattle.gl_asking.specs.declared.kinds.FileRow.{FileRow}
@@ -24,6 +28,11 @@ abbrev pub file_of : Option FileRow → Option OpenFile
 file_of None = None
 file_of (Some row) = Some (row_file row)
 
+-- what the file of an operation is of; where it names none, that means nothing
+abbrev pub kind_of : Option FileRow → FileKind
+kind_of None = Chip
+kind_of (Some row) = row.kind
+
 -- there is a row, and it is a chip's
 abbrev pub is_on_chip : Option FileRow → Bool
 is_on_chip None = false
@@ -42,3 +51,17 @@ pub record IsRow (row : FileRow) : Type 0 where
 abbrev pub IsSomeRow : Option FileRow → Type 0
 IsSomeRow None = Unit {0}
 IsSomeRow (Some row) = IsRow row
+
+-- a command is on the file of this row
+abbrev pub IsOn : DeviceCall → Option FileRow → Type 0
+IsOn (Once call) row = Unit {0}
+IsOn (Removing removal) row = Unit {0}
+IsOn (Commanding command) None = ⊥
+IsOn (Commanding command) (Some row) = (command.place ≡ row.place) × (command.fd ≡ row.fd) × (command.of_chip ≡ is_chip row.kind)
+
+-- what is asked for is on the file of this row, where it is a command
+abbrev pub AsksOn : Option FileRow → Asking → Type 0
+AsksOn row (Calls call) = IsOn call row
+AsksOn row (Plans nth) = Unit {0}
+AsksOn row (Accepts bits) = Unit {0}
+AsksOn row (Refuses errno) = Unit {0}

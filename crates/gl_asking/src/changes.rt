@@ -13,7 +13,7 @@ ghost use Rattle.gl_asking.specs.Opened.{opened_of, place_named};
 ghost use Rattle.gl_asking.specs.declared.kinds.FileRow.{FileRow as RowOf};
 ghost use Rattle.gl_asking.specs.Rows.{IsSomeRow, file_of, is_on_chip};
 
-use crate::commanding::{handed_of, lines_named};
+use crate::commanding::lines_named;
 use crate::kinds::{Answered, Change, FileKind, FileRow};
 use gl_base::command::GET_LINE;
 use gl_base::{Do, Lines, Path, chip_number};
@@ -89,13 +89,6 @@ fn made(slot: u32, row: Option<FileRow>, answered: &Answered) -> Change
     }
 }
 
-/// The lines that the structure in a command's buffer names.
-fn lines_asked(len: u32, bytes: &[u8; LINE_REQUEST_SIZE]) -> Lines
-    ensures { result ≡ lines_named (buffer_of len bytes.now) }
-{
-    lines_named(&handed_of(len, bytes))
-}
-
 /// What a command was answered, with the lines that its structure names where it made a request.
 fn command_answered(cmd: u32, len: u32, bytes: &[u8; LINE_REQUEST_SIZE], reply: Reply) -> Answered
     ensures reply { result.reply ≡ reply }
@@ -107,7 +100,7 @@ fn command_answered(cmd: u32, len: u32, bytes: &[u8; LINE_REQUEST_SIZE], reply: 
     match reply {
         Reply::Number(_) => Answered {
             reply,
-            lines: Some(lines_asked(len, bytes)),
+            lines: Some(lines_named(len, bytes)),
         },
         _ => Answered::without_lines(reply),
     }

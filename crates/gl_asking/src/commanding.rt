@@ -1,18 +1,17 @@
 //! A command on an open file, as it is handed in.
 
-ghost use Rattle.std.specs.Prelude.{◌≡◌, ◌<◌, length, take};
-ghost use Rattle.gl_model.specs.AskedLines.{lines_asked};
+ghost use Rattle.std.specs.Prelude.{◌≡◌, ◌<◌, length};
 ghost use Rattle.gl_model.specs.Fits.{FitsBytes};
 ghost use Rattle.gl_model.specs.declared.device_call.DeviceCall.TheVariants.{Commanding};
 ghost use Rattle.gl_uapi.specs.declared.layout.TheConstants.{LINE_REQUEST_SIZE};
-ghost use Rattle.gl_asking.specs.Asking.{buffer_of};
+ghost use Rattle.gl_asking.specs.Asking.{buffer_of, lines_named};
 ghost use Rattle.gl_asking.specs.Fitting.{FitsDevice};
 ghost use Rattle.gl_asking.specs.Handed.{command_in, handed_in};
 ghost use Rattle.gl_asking.specs.Rows.{IsRow, is_chip};
 
 use crate::kinds::{FileKind, FileRow};
 use gl_base::Lines;
-use gl_model::{CommandIn, lines_in};
+use gl_model::{CommandIn, lines_asked};
 use gl_uapi::RequestRef;
 use gl_uapi::layout::LINE_REQUEST_SIZE;
 
@@ -37,13 +36,6 @@ fn with_zeros(buffer: &[u8]) -> [u8; LINE_REQUEST_SIZE]
     bytes
 }
 
-/// The lines that the bytes of a request name, in order, as many as the bytes say.
-pub(crate) fn lines_named(bytes: &[u8; LINE_REQUEST_SIZE]) -> Lines
-    ensures { result ≡ lines_asked (take LINE_REQUEST_SIZE bytes.now) }
-{
-    lines_in(&RequestRef::of(bytes).unwrap())
-}
-
 /// The bytes that are handed in for a buffer of this length that begins with these bytes.
 pub(crate) fn handed_of(len: u32, bytes: &[u8; LINE_REQUEST_SIZE]) -> [u8; LINE_REQUEST_SIZE]
     ensures told { result ≡ handed_in (buffer_of len bytes.now) }
@@ -51,6 +43,14 @@ pub(crate) fn handed_of(len: u32, bytes: &[u8; LINE_REQUEST_SIZE]) -> [u8; LINE_
 {
     let count = bytes.len().min(len as usize);
     handed_in(&bytes[..count])
+}
+
+/// The lines that the structure in a command's buffer names, in order, as many as it says. The buffer has this length, and begins with these bytes.
+pub(crate) fn lines_named(len: u32, bytes: &[u8; LINE_REQUEST_SIZE]) -> Lines
+    ensures { result ≡ lines_named (buffer_of len bytes.now) }
+{
+    let handed = handed_of(len, bytes);
+    lines_asked(&RequestRef::of(&handed).unwrap())
 }
 
 /// The row is a chip's.

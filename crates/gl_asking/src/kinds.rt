@@ -1,6 +1,7 @@
 //! What an operation is, the row of an open file, and what becomes of the open files.
 
 ghost use Rattle.std.specs.Prelude.{◌≡◌, None};
+ghost use Rattle.gl_asking.specs.Rows.{kind_of};
 
 use gl_base::{Errno, Lines};
 use gl_model::{DeviceCall, Reply};
@@ -14,17 +15,53 @@ pub enum FileKind {
     Request(Lines),
 }
 
-/// An open file, as who carries operations out keeps it.
+/// An open file, as who carries operations out keeps it. Its fields are this crate's own: `files_behind` alone makes one, of what was answered to an
+/// open or to a request of lines.
 #[derive(Clone, Copy)]
 pub struct FileRow {
     /// The slot by which operations name it.
-    pub slot: u32,
+    pub(crate) slot: u32,
     /// The place of its chip, below `PLACES`.
-    pub place: u8,
+    pub(crate) place: u8,
     /// Its number.
-    pub fd: u32,
+    pub(crate) fd: u32,
     /// What it is of.
-    pub kind: FileKind,
+    pub(crate) kind: FileKind,
+}
+
+impl FileRow {
+    ghost use Rattle.std.specs.Prelude.{◌≡◌};
+
+    /// The slot by which operations name it.
+    pub fn slot(&self) -> u32
+        ensures { result ≡ self.now.slot }
+    {
+        self.slot
+    }
+
+    /// Its number.
+    pub fn number(&self) -> u32
+        ensures { result ≡ self.now.fd }
+    {
+        self.fd
+    }
+
+    /// What it is of.
+    pub fn kind(&self) -> FileKind
+        ensures { result ≡ self.now.kind }
+    {
+        self.kind
+    }
+}
+
+/// What the file of a row is of; a chip where there is no row.
+pub fn kind_of(row: &Option<FileRow>) -> FileKind
+    ensures { result ≡ kind_of row.now }
+{
+    match row {
+        Some(row) => row.kind(),
+        None => FileKind::Chip,
+    }
 }
 
 /// What an operation is.
@@ -51,7 +88,8 @@ pub enum Change {
     Removes(u32),
 }
 
-/// What a call of the device is answered.
+/// What a call of the device is answered. `Gpio::call` of `gl_chip` makes one. So does who makes the steps of the machine itself, or reads in a
+/// history that they were made (`answered_by`), and who answers an operation without a call.
 #[derive(Clone, Copy)]
 pub struct Answered {
     /// The reply of its last entry.

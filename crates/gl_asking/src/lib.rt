@@ -20,5 +20,5 @@ pub use answers::got_of;
 pub use buffers::{buffer_of, zeros};
 pub use changes::{answered_by, files_behind, place_named};
 pub use commanding::handed_in;
-pub use kinds::{Answered, Asking, Change, FileKind, FileRow};
+pub use kinds::{Answered, Asking, Change, FileKind, FileRow, kind_of};
 pub use operations::{asking_of, slot_named};

@@ -15,7 +15,7 @@ ghost use Rattle.gl_asking.specs.declared.kinds.Asking.TheVariants.{Calls};
 ghost use Rattle.gl_asking.specs.Asking.{asking, at_place, buffer_of, file_for, has_lines, lives, once, polls, probes, reads_from};
 ghost use Rattle.gl_asking.specs.Files.{OpenFile, file_at};
 ghost use Rattle.gl_asking.specs.Handed.{command_in};
-ghost use Rattle.gl_asking.specs.Rows.{IsRow, IsSomeRow, file_of, is_chip, row_file};
+ghost use Rattle.gl_asking.specs.Rows.{AsksOn, IsRow, IsSomeRow, file_of, is_chip, row_file};
 
 use crate::commanding::{command_on, is_chip};
 use crate::kinds::{Asking, FileRow};
@@ -299,6 +299,7 @@ fn finds_on_all(name: &Name) -> Asking
 pub fn asking_of(what: &Do, row: Option<FileRow>) -> Asking
     requires row { IsSomeRow row }
     ensures told { (files : List OpenFile) → file_for what.now files ≡ file_of row → result ≡ asking files what.now }
+    ensures on { (files : List OpenFile) → file_for what.now files ≡ file_of row → AsksOn row result }
     ensures fits { FitsAsking result }
 {
     match what {

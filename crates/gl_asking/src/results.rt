@@ -1,7 +1,8 @@
 //! What a reply of the machine comes to: the value of its call, or why the call was refused.
 //!
-//! Who reads a reply reads it here. One of another form than the call's doesn't come (`has_form` of `gl_model`); it comes to what the
-//! definitions say, nothing, zero or no bytes, so that no reading needs a condition.
+//! A client's result and what a caller of `gl_chip` gets are read here. A reply is matched elsewhere where it makes a file (`files_behind`, and an
+//! open and a request of `gl_chip`), where it says how a call goes on, and where it is written. One of another form than the call's doesn't come
+//! (`has_form` of `gl_model`); here it comes to what the definitions say, nothing, zero or no bytes, so that no reading needs a condition.
 
 ghost use Rattle.std.specs.Prelude.{◌≡◌, IfOk};
 ghost use Rattle.gl_model.specs.Written.{number_answered};
