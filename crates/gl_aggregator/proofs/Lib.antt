@@ -16,5 +16,4 @@ pub mod Joined
 pub mod BitsWhere
 pub mod Gathered
 pub mod Planned
-pub mod NewPlaces
 pub mod Quiet

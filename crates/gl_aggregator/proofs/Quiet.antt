@@ -4,7 +4,7 @@ use Rattle.std.specs.Prelude.{if◌then◌else◌}
 use Rattle.gl_base.specs.declared.lines.Lines.{Lines}
 use Rattle.gl_base.specs.declared.op.Op.{Op}
 use Rattle.gl_base.specs.declared.op.Op.TheVariants.{Apply, Get, Set}
-use Rattle.gl_core.specs.Device.{OneEntry}
+use Rattle.gl_core.specs.Device.{MayOwn, OneEntry}
 use Rattle.gl_driver.specs.declared.map.Target.{Target}
 use Rattle.gl_model.specs.Entries.{begun_places, is_done, is_get_line, is_get_line_call, is_go, is_last_removal}
 use Rattle.gl_model.specs.declared.call.Call.{Call}
@@ -15,7 +15,7 @@ use Rattle.gl_uapi.specs.NewRequest.{new_config_bytes}
 use Rattle.gl_base.specs.declared.command.TheConstants.{LINE_SET_CONFIG}
 use Rattle.gl_aggregator.specs.Commands.{attributes_to, command_by, command_to, fit, flag_words, on_target, visit_by, visit_if, visits_on}
 use Rattle.gl_aggregator.specs.Own.{BehindAsk, BehindTell, Own, Visit}
-use Rattle.gl_aggregator.specs.Quiet.{AreQuiet, OwnEntriesAreQuiet}
+use Rattle.gl_aggregator.specs.Quiet.{OwnEntriesAreQuiet}
 use Rattle.gl_aggregator.specs.Routes.{LineAt, lines_on, routes}
 use Rattle.gl_aggregator.specs.declared.routes.Route.{Route}
 
@@ -35,25 +35,25 @@ AreCalm [] = Unit {0}
 AreCalm (None ∷ vs) = AreCalm vs
 AreCalm (Some v ∷ vs) = IsCalmVisit v × AreCalm vs
 
-quiet_none : (es : List OneEntry) → es ≡ [] → AreQuiet es
-quiet_none es none = subst (λ (l : List OneEntry). AreQuiet l) (sym none) (record { quiet = tt; no_claims = tt })
+quiet_none : (es : List OneEntry) → es ≡ [] → MayOwn es
+quiet_none es none = subst (λ (l : List OneEntry). MayOwn l) (sym none) (record { quiet = tt; no_claims = tt })
 
-one_more : (e : OneEntry) (es : List OneEntry) (call : Call) → e.call ≡ call → IsCalm call → AreQuiet es → AreQuiet (e ∷ es)
+one_more : (e : OneEntry) (es : List OneEntry) (call : Call) → e.call ≡ call → IsCalm call → MayOwn es → MayOwn (e ∷ es)
 one_more e es call is calm later = let here : IsCalm e.call = subst (λ (c : Call). IsCalm c) (sym is) calm in record {
   quiet = ((λ bytes. here.begins e.reply bytes, here.ends), later.quiet);
   no_claims = (here.claims, later.no_claims);
 }
 
-behind_tell : (later : List OneEntry → Type 0) → ((es : List OneEntry) → later es → AreQuiet es) → (b : Bool) (es : List OneEntry) → BehindTell is_go is_done later b es → AreQuiet es
+behind_tell : (later : List OneEntry → Type 0) → ((es : List OneEntry) → later es → MayOwn es) → (b : Bool) (es : List OneEntry) → BehindTell is_go is_done later b es → MayOwn es
 behind_tell later quiet true es h = quiet es h
 behind_tell later quiet false es h = quiet_none es h
 
-behind_ask : (v : Visit Call) (later : List OneEntry → Type 0) → IsCalmVisit v → ((es : List OneEntry) → later es → AreQuiet es) → (b : Bool) (es : List OneEntry) → BehindAsk is_go is_done v later b es → AreQuiet es
+behind_ask : (v : Visit Call) (later : List OneEntry → Type 0) → IsCalmVisit v → ((es : List OneEntry) → later es → MayOwn es) → (b : Bool) (es : List OneEntry) → BehindAsk is_go is_done v later b es → MayOwn es
 behind_ask v later calm quiet false es h = quiet_none es h
 behind_ask v later calm quiet true [] h = absurd h
 behind_ask v later calm quiet true (e ∷ es) (answer, tells, rest) = one_more e es (v.tell answer) tells (calm.tell answer) (behind_tell later quiet (is_done e.reply) es rest)
 
-own_quiet : (vs : List (Option (Visit Call))) → AreCalm vs → (es : List OneEntry) → Own is_go is_done vs es → AreQuiet es
+own_quiet : (vs : List (Option (Visit Call))) → AreCalm vs → (es : List OneEntry) → Own is_go is_done vs es → MayOwn es
 own_quiet [] calm es own = quiet_none es own
 own_quiet (None ∷ vs) calm es own = quiet_none es own
 own_quiet (Some v ∷ vs) calm [] own = record { quiet = tt; no_claims = tt }

@@ -10,5 +10,4 @@ pub mod Visiting
 pub mod Course
 pub mod Calling
 pub mod Plans
-pub mod NewPlaces
 pub mod Quiet

@@ -9,9 +9,7 @@ use Rattle.gl_model.specs.Fits.{FitsBytes}
 use Rattle.gl_model.specs.Parts.{in_ask, in_tell}
 use Rattle.gl_model.specs.Values.{bits_in}
 use Rattle.gl_model.specs.declared.call.Call.{Call}
-use Rattle.gl_model.specs.declared.call.Call.TheVariants.{Ioctl, Refused as RefusedCall}
-use Rattle.gl_model.specs.declared.call.Part.{Part}
-use Rattle.gl_model.specs.declared.device_call.CommandIn.{CommandIn}
+use Rattle.gl_model.specs.declared.call.Call.TheVariants.{Refused as RefusedCall}
 use Rattle.gl_model.specs.declared.gift.Gift.{Gift}
 use Rattle.gl_model.specs.declared.reply.Reply.{Reply}
 use Rattle.gl_model.specs.Entries.{is_done, is_get_line}
@@ -97,10 +95,6 @@ module _ {M C R G : Type 0} (m : Ghosts M C R G) where
     pub no_turn : HoldsNoTurn x
     pub owed : owes m x + 1 ≡ owes m u
     pub knows : KnowsAsMuch u x
-
--- a command in one of its parts
-abbrev pub call_of : CommandIn → Part → Call
-call_of c part = Ioctl c.place c.fd c.cmd c.len c.bytes part
 
 -- what the code has of a visit
 abbrev pub visit_in : Asking → Visit Call

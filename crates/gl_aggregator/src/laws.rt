@@ -3,13 +3,11 @@ ghost use Rattle.std.specs.Prelude.{None};
 ghost use Rattle.gl_aggregator.specs.Aggregating.{EachTargetIsTold, FailsInJustTheseCases, FollowsByMore, FullStandsBefore};
 ghost use Rattle.gl_aggregator.specs.Gather.{GatheredBits, GetGivesBits};
 ghost use Rattle.gl_aggregator.specs.Joined.{LinesAreInOneTarget};
-ghost use Rattle.gl_aggregator.specs.NewPlaces.{ProbesTakeFreePlaces};
 ghost use Rattle.gl_aggregator.specs.Plans.{PlannedOnMaps};
 ghost use Rattle.gl_aggregator.specs.Quiet.{OwnEntriesAreQuiet};
 
 use gl_core::Core;
 use gl_driver::Driver;
-use gl_model::Image;
 
 /// A line of an aggregated chip is in one target at most.
 pub fn lines_are_in_one_target()
@@ -48,10 +46,4 @@ pub fn full_stands_before_the_tell<D: Driver<Core>>()
 /// Over a planned driver the tells of a call at a place with a map hold the planned answers.
 pub fn planned_on_maps<D: Driver<Core>>()
     ensures { PlannedOnMaps D.is_planned (D.Follows None) }
-{}
-
-/// What a Probe is answered is the place of no request, in each world that a legal history leads to. So a chip that was made just now stands at
-/// another place than the targets of its map.
-pub fn probes_take_free_places<K: Image>()
-    ensures { ProbesTakeFreePlaces K.Image.stands_for }
 {}

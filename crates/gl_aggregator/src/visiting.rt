@@ -10,12 +10,12 @@ ghost use Rattle.gl_model.specs.declared.call.Call.TheVariants.{Refused as Refus
 ghost use Rattle.gl_model.specs.Values.{bits_in};
 ghost use Rattle.gl_uapi.specs.declared.layout.TheConstants.{LINE_VALUES_SIZE};
 ghost use Rattle.gl_rule.specs.Turn.{owes};
-ghost use Rattle.gl_aggregator.specs.Visiting.{Begins, Ends, IsAskAt, IsAsking, IsRecordOf, IsTellAt, WasTold, call_of};
+ghost use Rattle.gl_aggregator.specs.Visiting.{Begins, Ends, IsAskAt, IsAsking, IsRecordOf, IsTellAt, WasTold};
 
 use crate::commands::Asking;
+use gl_asking::parts::in_part;
 use gl_core::{Call, Core, Gift, Part, Reply};
 use gl_gate::{Gate, Pass};
-use gl_model::CommandIn;
 use gl_model::answers::replies_tell_lengths;
 use gl_uapi::ValuesRef;
 use gl_uapi::layout::LINE_REQUEST_SIZE;
@@ -101,41 +101,6 @@ fn end<M: Machine, R: Wait>(
     }
 }
 
-/// A gift with nothing in it.
-fn nothing() -> Gift
-    ensures ring { result.ring ≡ None }
-    ensures queue { result.queue ≡ None }
-    ensures asked { result.asked ≡ None }
-{
-    Gift {
-        ring: None,
-        queue: None,
-        asked: None,
-    }
-}
-
-/// A command in one of its parts.
-fn in_part(command: &CommandIn, part: Part) -> Call
-    ensures { result ≡ call_of command.now part }
-{
-    let CommandIn {
-        place,
-        fd,
-        cmd,
-        len,
-        bytes,
-        ..
-    } = *command;
-    Call::Ioctl {
-        place,
-        fd,
-        cmd,
-        len,
-        bytes,
-        part,
-    }
-}
-
 /// Enters a target's place and asks there; true where the driver behind is to be asked next. Where the place is closed, just that is recorded.
 pub(crate) fn begin_visit<R: Wait>(
     rt: &R,
@@ -158,7 +123,7 @@ pub(crate) fn begin_visit<R: Wait>(
     let mut out = asking.command.bytes;
     let refused = Call::Refused { place, poll: false };
     let ask = in_part(&asking.command, Part::Ask);
-    let mut gift = nothing();
+    let mut gift = Gift::nothing();
     begin(
         rt,
         gate,
@@ -192,7 +157,7 @@ pub(crate) fn end_visit<R: Wait>(
     replies_tell_lengths::<Core>();
     let mut out = asking.command.bytes;
     let tell = in_part(&asking.command, Part::Tell(answer));
-    let mut gift = nothing();
+    let mut gift = Gift::nothing();
     let reply = end(
         rt,
         gate,

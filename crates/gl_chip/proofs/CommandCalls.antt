@@ -46,14 +46,14 @@ use Rattle.gl_model.specs.Bounds.{HasBounds}
 use Rattle.gl_model.proofs.Bounds.{legal_worlds_have_bounds}
 use Rattle.gl_model.proofs.IoCauses.{io_has_cause}
 use Rattle.gl_model.proofs.Replies.{replies_have_form}
-use Rattle.gl_core.specs.Device.{OneDeed, OneEntry, core, last_bytes}
+use Rattle.gl_core.specs.Device.{MayOwn, OneDeed, OneEntry, core, last_bytes}
 use Rattle.gl_chip.specs.Called.{last_entry}
 use Rattle.gl_chip.specs.DriverCommands.{CommandedInside, HasCommanded, IoComesOf, IsOp, PortOf, is_asked}
 use Rattle.gl_asking.specs.Handed.{command_in}
 use Rattle.gl_asking.proofs.HandedBytes.{handed_fits, handed_start}
 use Rattle.gl_base.specs.declared.limits.TheConstants.{PLACES}
 use Rattle.gl_chip.specs.Steps.{CalledOnce, EndsWith, IsAsk, IsTell, StoodFull, deed_of}
-use Rattle.gl_chip.specs.Values.{ActorValue, FollowsRelation, IsIdle, MayOwn, OneView, OwnRelation}
+use Rattle.gl_chip.specs.Values.{ActorValue, FollowsRelation, IsIdle, OneView, OwnRelation}
 use Rattle.gl_chip.proofs.GateSteps.{knows_on, knows_same}
 use Rattle.gl_chip.proofs.WholeCalls.{idle_called, idle_still, none_not_some, place_or}
 
@@ -69,6 +69,10 @@ named_inside v place fd cmd len bytes part inside = record {
   named = λ p at. subst (λ q. IsInside v q) (ap (place_or p) at) inside;
   refused = λ p at. absurd (none_not_some p at);
 }
+
+-- a call that is known as a part of a command
+pub as_part : (v w : OneView) (call part : Call) (reply : Reply) (old new : List ℕ) → call ≡ part → CalledOnce core v call reply old new w → CalledOnce core v part reply old new w
+as_part v w call part reply old new is step = subst (λ (x : Call). CalledOnce core v x reply old new w) is step
 
 -- what the machine answered at the last entry
 pub answered_last : (v w : OneView) (call : Call) (reply : Reply) (last : EndsWith w.seen (entry v.number call reply)) → Legal core w.seen → reply ≡ core.reply_of (fold core last.0) v.number call

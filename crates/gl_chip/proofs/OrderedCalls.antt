@@ -1,5 +1,5 @@
 -- Any call of the device, as it is ordered.
-use Rattle.std.proofs.Common.{◌≡◌, ◌⊎◌, inl, inr, ℕ, ◌<◌, Bool, true, false, List, ◌++◌, length, drop, Option, Result, IfOk, IfErr, refl, sym, ap, ◌∙◌, subst}
+use Rattle.std.proofs.Common.{◌≡◌, ◌≢◌, ◌⊎◌, inl, inr, ℕ, ◌<◌, Bool, true, false, List, ◌++◌, length, drop, Option, Result, Ok, Err, IfOk, IfErr, refl, sym, ap, ◌∙◌, subst}
 use Rattle.std.specs.Prelude.{◌^◌}
 use Rattle.std.proofs.lemmas.Bool.{true≢false}
 use Rattle.gl_base.specs.declared.errno.Errno.{Errno}
@@ -8,26 +8,34 @@ use Rattle.gl_driver.specs.declared.map.Map.{Map}
 use Rattle.gl_driver.specs.Told.{Told}
 use Rattle.gl_base.specs.declared.op.Op.{Op}
 use Rattle.gl_uapi.specs.Command.{command_of}
+use Rattle.gl_gate.specs.Calls.{KnowsClosed, KnowsDrained, KnowsTheSame}
+use Rattle.gl_model.specs.Entries.{is_done}
+use Rattle.gl_model.specs.declared.call.Call.{Call}
+use Rattle.gl_model.specs.declared.call.Call.TheVariants.{Unplug}
 use Rattle.gl_model.specs.declared.device_call.CommandIn.{CommandIn}
-use Rattle.gl_model.specs.declared.device_call.DeviceCall.TheVariants.{Commanding, Removing}
+use Rattle.gl_model.specs.declared.device_call.DeviceCall.{DeviceCall}
+use Rattle.gl_model.specs.declared.device_call.DeviceCall.TheVariants.{Commanding, Once, Removing}
 use Rattle.gl_model.specs.declared.device_call.RemovalOf.{RemovalOf}
+use Rattle.gl_model.specs.declared.device_call.RemovalOf.TheVariants.{OfChip, OfDevice}
 use Rattle.gl_model.specs.declared.reply.Reply.{Reply}
-use Rattle.gl_model.specs.declared.reply.Reply.TheVariants.{Number}
-use Rattle.gl_model.specs.Parts.{in_whole, is_driver_asked}
+use Rattle.gl_model.specs.declared.reply.Reply.TheVariants.{Number, Refused}
+use Rattle.gl_model.specs.Parts.{first_call, in_whole, is_driver_asked}
 use Rattle.gl_model.specs.Replies.{has_form}
 use Rattle.gl_model.specs.Step.{guard_reply}
 use Rattle.gl_chip.specs.Called.{HasCalled}
 use Rattle.gl_chip.specs.DriverCommands.{HasCommanded, IsOp}
 use Rattle.gl_asking.specs.declared.kinds.Answered.{Answered}
+use Rattle.gl_asking.specs.declared.kinds.FileKind.{FileKind}
 use Rattle.gl_asking.specs.declared.kinds.FileKind.TheVariants.{Chip}
-use Rattle.gl_chip.specs.Orders.{CouldNot, HasDone}
-use Rattle.gl_chip.specs.Removals.{AllDrained}
+use Rattle.gl_chip.specs.Orders.{CouldNot, HasDone, KnowsGone, KnowsRemoved}
+use Rattle.gl_chip.specs.Removals.{AllDrained, is_first_call, removal_of}
 use Rattle.gl_chip.specs.Steps.{FoundNoRoom}
-use Rattle.gl_chip.specs.Values.{ActorValue, FollowsRelation, OwnRelation}
+use Rattle.gl_chip.specs.Values.{ActorValue, FollowsRelation, OneView, OwnRelation}
 use Rattle.gl_core.specs.Device.{core}
 use Rattle.gl_chip.proofs.CommandResults.{whole_commanded}
 use Rattle.gl_chip.proofs.GateSteps.{if_err, if_ok}
 use Rattle.gl_chip.proofs.RequestedLines.{whole_no_number}
+use Rattle.gl_chip.proofs.WholeCalls.{called_not_full, called_not_memory}
 
 module _ {P : Type 0} (told : P → Option Told) (faults : P → ℕ) (maps : P → List Map) (maps_left : P → ℕ) (Own : OwnRelation) (Follows : FollowsRelation) (limit : ℕ) where
   -- a command, by what the driver is asked for it
@@ -82,6 +90,25 @@ module _ {P : Type 0} where
   pub was_full_removing : (result : Result Reply Errno) (a b : ActorValue P) → b.port ≡ a.port → IfErr result (λ e. (e ≡ Full) × FoundNoRoom core a.pass.view b.pass.view) → IfErr result (λ e. CouldNot e a b)
   was_full_removing result a b same h = if_err result _ _ (λ e k. inr (k.0, same, k.1)) h
 
+-- the first call of a removal, and whose it is
+pub begins_removal : (removal : RemovalOf) → is_first_call (first_call removal) ≡ true
+begins_removal (OfChip place) = refl
+begins_removal (OfDevice device) = refl
+
+pub whose_removal : (removal : RemovalOf) → removal_of (first_call removal) ≡ removal
+whose_removal (OfChip place) = refl
+whose_removal (OfDevice device) = refl
+
+-- what its actor knows of places then
+gone_by : (removal : RemovalOf) (first : Call) (w : OneView) → first ≡ first_call removal → ((place : ℕ) → first ≡ Unplug place false → KnowsClosed w place × KnowsDrained w place) → KnowsGone removal w
+gone_by (OfChip place) first w is drained = drained place is
+gone_by (OfDevice device) first w is drained = tt
+
+pub knows_removed : (result : Result Reply Errno) (v w : OneView) (removal : RemovalOf) (first : Call) → first ≡ first_call removal → IfOk result (λ r. is_done r ≡ false → KnowsTheSame v w)
+    → IfOk result (λ r. is_done r ≡ true → (place : ℕ) → first ≡ Unplug place false → KnowsClosed w place × KnowsDrained w place) → IfOk result (λ r. KnowsRemoved removal r v w)
+knows_removed (Ok reply) v w removal first is same drained = record { removed = λ done. gone_by removal first w is (drained done); refused = same }
+knows_removed (Err errno) v w removal first is same drained = tt
+
 -- a removal that was made
 module _ {P : Type 0} (told : P → Option Told) (faults : P → ℕ) (maps : P → List Map) (maps_left : P → ℕ) (Own : OwnRelation) (Follows : FollowsRelation) (limit : ℕ) where
   pub removal_done : (result : Result Reply Errno) (a b : ActorValue P) (removal given : RemovalOf) → given ≡ removal → b.port ≡ a.port
@@ -90,3 +117,15 @@ module _ {P : Type 0} (told : P → Option Told) (faults : P → ℕ) (maps : P 
   removal_done result a b removal given is same h =
       if_ok result _ _ (λ r k. (k.0, (k.1, k.2, same)))
       (subst (λ (x : RemovalOf). IfOk result (λ r. (bytes : List ℕ) × (called : HasCalled 0 a.pass.view (Removing x) r bytes b.pass.view) × AllDrained called.did b.pass.view)) is h)
+
+  -- the actor of a command that was answered as at a closed guard
+  pub knows_commanded : (result : Result Answered Errno) (op : Option Op) (a b : ActorValue P) (c : CommandIn) (old new : List ℕ)
+      → IfOk result (λ r. (bytes : List ℕ) × (new ≡ bytes ++ drop (length bytes) old) × HasCommanded told faults maps maps_left Own Follows limit op a c r.reply bytes b)
+      → IfOk result (λ r. r.reply ≡ guard_reply false → KnowsClosed b.pass.view c.place)
+  knows_commanded result op a b c old new h = if_ok result _ _ (λ r k gone. let guard = k.2.called.guard c.place refl in guard.knows (guard.gone_alone gone)) h
+
+  -- a reply is neither of a call's errors
+  pub done_is_answer : (call : DeviceCall) (on : FileKind) (a b : ActorValue P) (reply : Reply) (bytes : List ℕ) → HasDone told faults maps maps_left Own Follows limit call on a reply bytes b → (reply ≢ Refused Full) × (reply ≢ Refused NoMemory)
+  done_is_answer (Once call) on a b reply bytes h = (called_not_full 0 a.pass.view b.pass.view (Once call) reply bytes h.0, called_not_memory 0 a.pass.view b.pass.view (Once call) reply bytes h.0)
+  done_is_answer (Removing removal) on a b reply bytes h = (called_not_full 0 a.pass.view b.pass.view (Removing removal) reply bytes h.0, called_not_memory 0 a.pass.view b.pass.view (Removing removal) reply bytes h.0)
+  done_is_answer (Commanding c) on a b reply bytes h = (called_not_full limit a.pass.view b.pass.view (Commanding c) reply bytes h.called, called_not_memory limit a.pass.view b.pass.view (Commanding c) reply bytes h.called)

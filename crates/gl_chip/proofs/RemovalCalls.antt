@@ -39,8 +39,8 @@ use Rattle.gl_chip.specs.Called.{HasCalled}
 use Rattle.gl_chip.specs.Removals.{AllDrained, EndsAsBegun, HasBegun, HasDrained, HasEnded, RemovedBy, RemovesOut, is_first_call, removal_of}
 use Rattle.gl_asking.specs.Results.{done_of}
 use Rattle.gl_chip.specs.Steps.{FoundNoRoom, deed_of}
-use Rattle.gl_chip.specs.Values.{IsIdle, MayOwn, OneView}
-use Rattle.gl_core.specs.Device.{OneEntry, core}
+use Rattle.gl_chip.specs.Values.{IsIdle, OneView}
+use Rattle.gl_core.specs.Device.{MayOwn, OneEntry, core}
 use Rattle.gl_chip.proofs.GateSteps.{free_owes, is_free, knows_on, knows_same, own_in_front, owes_refused, stood_full}
 use Rattle.gl_chip.proofs.WholeCalls.{called_not_full, called_not_memory, errno_is_told, idle_still, no_room_alone, none_not_some}
 

@@ -1,9 +1,10 @@
 -- A call leaves an actor the same.
-use Rattle.std.proofs.Common.{List, Result, Ok, Err, IfOk, IfErr, refl}
+use Rattle.std.proofs.Common.{ℕ, List, Option, None, Some, Result, Ok, Err, IfOk, IfErr, refl}
 use Rattle.std.proofs.lemmas.List.{append-nil}
 use Rattle.std.proofs.Common.{[], sym}
 use Rattle.gl_gate.specs.Calls.{KnowsAsMuch, KnowsTheSame, SamePass}
 use Rattle.gl_gate.specs.Grown.{Grew}
+use Rattle.gl_chip.specs.Calling.{KnowsBy}
 use Rattle.gl_chip.specs.Values.{IsSameActor, OneView}
 use Rattle.gl_core.specs.Device.{OneDeed, core}
 
@@ -25,3 +26,8 @@ knows_still v w same = record { closed = same.closed; drained = same.drained }
 
 pub knows_itself : (v : OneView) → KnowsTheSame v v
 knows_itself v = record { closed = refl; drained = refl }
+
+-- who made no call, whichever guard it needs
+pub knows_by_itself : (guard : Option ℕ) (v : OneView) → KnowsBy guard v v
+knows_by_itself None v = knows_itself v
+knows_by_itself (Some place) v = tt

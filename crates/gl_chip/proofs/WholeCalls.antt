@@ -32,8 +32,8 @@ use Rattle.gl_model.proofs.Replies.{replies_have_form}
 use Rattle.gl_chip.specs.Called.{ComesOut, HasCalled, last_entry}
 use Rattle.gl_asking.specs.Results.{value_of}
 use Rattle.gl_chip.specs.Steps.{CalledGuarded, CalledOnce, EndsWith, FoundNoRoom, IsAnswered, IsWhole, Owes, StoodFull, deed_of}
-use Rattle.gl_chip.specs.Values.{ActorValue, IsIdle, MayOwn, OneView}
-use Rattle.gl_core.specs.Device.{OneEntry, core}
+use Rattle.gl_chip.specs.Values.{ActorValue, IsIdle, OneView}
+use Rattle.gl_core.specs.Device.{MayOwn, OneEntry, core}
 use Rattle.gl_chip.proofs.GateSteps.{is_free, knows_same}
 
 abbrev pub place_or : ℕ → Option ℕ → ℕ
@@ -249,6 +249,11 @@ guarded_by place poll v w call whole reply wrote one false last room before grew
 pub called_guarded : (place : ℕ) (poll : Bool) (v w : OneView) (call : Call) (whole : DeviceCall) (reply : Reply) (old new : List ℕ) → IsOneEntry place poll call whole
     → CalledGuarded core place (RefusedCall place poll) v call reply old new w → (bytes : List ℕ) × (new ≡ bytes ++ drop (length bytes) old) × HasCalled 0 v whole reply bytes w
 called_guarded place poll v w call whole reply old new one c = (c.wrote, c.bytes, guarded_by place poll v w call whole reply c.wrote one c.closed c.last c.had_room c.own_before c.grew c.legal c.answered c.known c.knows c.knows_as_much)
+
+-- the same of a call that is known as another one
+pub guarded_as : (result : Result Reply Errno) (place : ℕ) (poll : Bool) (v w : OneView) (call part : Call) (old new : List ℕ) → call ≡ part
+    → IfOk result (λ r. CalledGuarded core place (RefusedCall place poll) v call r old new w) → IfOk result (λ r. CalledGuarded core place (RefusedCall place poll) v part r old new w)
+guarded_as result place poll v w call part old new is h = subst (λ (x : Call). IfOk result (λ r. CalledGuarded core place (RefusedCall place poll) v x r old new w)) is h
 
 -- the form of what it is answered
 form_by : (place : ℕ) (poll : Bool) (n : ℕ) (call : Call) (reply : Reply) (wrote : List ℕ) (b : Bool) → IsAnswered core n (cond b (RefusedCall place poll) call) reply wrote → (reply ≡ guard_reply poll) ⊎ (has_form call reply ≡ true)

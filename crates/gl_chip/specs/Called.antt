@@ -11,8 +11,8 @@ use Rattle.gl_model.specs.declared.device_call.DeviceCall.{DeviceCall}
 use Rattle.gl_model.specs.Parts.{Makes, guard_of, is_poll, last_reply}
 use Rattle.gl_model.specs.Step.{guard_reply}
 use Rattle.gl_chip.specs.Steps.{EndsWith, FoundNoRoom}
-use Rattle.gl_core.specs.Device.{OneDeed, OneEntry, core, last_bytes}
-use Rattle.gl_chip.specs.Values.{MayOwn, OneView}
+use Rattle.gl_core.specs.Device.{MayOwn, OneDeed, OneEntry, core, last_bytes}
+use Rattle.gl_chip.specs.Values.{OneView}
 
 abbrev pub first_entry : List OneEntry → Option OneEntry
 first_entry [] = None

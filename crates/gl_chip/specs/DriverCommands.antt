@@ -31,11 +31,11 @@ use Rattle.gl_model.specs.Replies.{AsksLockedOutput, SetsLockedOutput}
 use Rattle.gl_model.specs.Step.{guard_reply}
 use Rattle.gl_model.specs.World.{World}
 use Rattle.gl_chip.specs.Called.{EndsWithLast, HadRoom, HasCalled}
-use Rattle.gl_core.specs.Device.{OneDeed, OneEntry, core, last_bytes}
+use Rattle.gl_core.specs.Device.{MayOwn, OneDeed, OneEntry, core, last_bytes}
 use Rattle.gl_chip.specs.Files.{LineFile}
 use Rattle.gl_asking.specs.Results.{value_of}
 use Rattle.gl_chip.specs.Steps.{FoundNoRoom}
-use Rattle.gl_chip.specs.Values.{ActorValue, FollowsRelation, MayOwn, OneView, OwnRelation}
+use Rattle.gl_chip.specs.Values.{ActorValue, FollowsRelation, OneView, OwnRelation}
 
 -- there is an operation, on 1 to 64 lines
 abbrev pub IsOp : Option Op → Type 0

@@ -1,5 +1,5 @@
 -- Any call of the device as one value, and how it comes out.
-use Rattle.std.specs.Prelude.{◌≡◌, ◌⊎◌, ℕ, ◌<◌, ◌^◌, false, List, ◌++◌, length, take, drop, Option, None, Some}
+use Rattle.std.specs.Prelude.{◌≡◌, ◌⊎◌, ℕ, ◌<◌, ◌^◌, true, false, List, ◌++◌, length, take, drop, Option, None, Some, Result, IfOk}
 use Rattle.gl_base.specs.declared.errno.Errno.{Errno}
 use Rattle.gl_base.specs.declared.errno.Errno.TheVariants.{Full, NoMemory}
 use Rattle.gl_base.specs.declared.lines.Lines.{Lines}
@@ -7,14 +7,18 @@ use Rattle.gl_driver.specs.declared.map.Map.{Map}
 use Rattle.gl_driver.specs.Told.{Told}
 use Rattle.gl_base.specs.declared.op.Op.{Op}
 use Rattle.gl_uapi.specs.declared.layout.TheConstants.{LINE_REQUEST_SIZE}
+use Rattle.gl_gate.specs.Calls.{KnowsClosed, KnowsDrained, KnowsTheSame}
 use Rattle.gl_model.specs.declared.device_call.CommandIn.{CommandIn}
 use Rattle.gl_model.specs.declared.device_call.DeviceCall.{DeviceCall}
 use Rattle.gl_model.specs.declared.device_call.DeviceCall.TheVariants.{Once, Removing, Commanding}
+use Rattle.gl_model.specs.declared.device_call.RemovalOf.{RemovalOf}
+use Rattle.gl_model.specs.declared.device_call.RemovalOf.TheVariants.{OfChip, OfDevice}
 use Rattle.gl_model.specs.declared.reply.Reply.{Reply}
 use Rattle.gl_model.specs.declared.reply.Reply.TheVariants.{Number, Refused}
 use Rattle.gl_model.specs.AskedLines.{lines_asked}
 use Rattle.gl_model.specs.Entries.{guarded_place, is_done}
 use Rattle.gl_model.specs.Fits.{FitsBuffer}
+use Rattle.gl_model.specs.Step.{guard_reply}
 use Rattle.gl_asking.specs.declared.kinds.Answered.{Answered}
 use Rattle.gl_asking.specs.declared.kinds.FileKind.{FileKind}
 use Rattle.gl_asking.specs.declared.kinds.FileKind.TheVariants.{Chip, Request}
@@ -22,12 +26,12 @@ use Rattle.gl_asking.specs.Fitting.{FitsDevice}
 use Rattle.gl_asking.specs.Handed.{command_in}
 use Rattle.gl_asking.specs.Rows.{HasLines, is_chip}
 use Rattle.gl_chip.specs.Called.{HasCalled}
-use Rattle.gl_chip.specs.Calling.{Answers}
+use Rattle.gl_chip.specs.Calling.{Answers, KnowsBy}
 use Rattle.gl_chip.specs.DriverCommands.{HasCommanded, IsOp}
 use Rattle.gl_asking.specs.Driving.{op_for}
 use Rattle.gl_chip.specs.Removals.{AllDrained}
 use Rattle.gl_chip.specs.Steps.{FoundNoRoom}
-use Rattle.gl_chip.specs.Values.{ActorValue, FollowsRelation, OwnRelation}
+use Rattle.gl_chip.specs.Values.{ActorValue, FollowsRelation, OneView, OwnRelation}
 use Rattle.gl_core.specs.Device.{core}
 
 -- the lines that a command is on: on a chip those that its structure names, on a request the request's
@@ -82,6 +86,23 @@ abbrev pub GivesLines : DeviceCall → FileKind → Answered → Type 0
 GivesLines (Once call) on answered = Unit {0}
 GivesLines (Removing removal) on answered = Unit {0}
 GivesLines (Commanding c) on answered = GivesOn on c answered
+
+-- the place of a chip that was removed is closed and drained
+abbrev pub KnowsGone : RemovalOf → OneView → Type 0
+KnowsGone (OfChip place) w = KnowsClosed w place × KnowsDrained w place
+KnowsGone (OfDevice device) w = Unit {0}
+
+-- What an actor knows of places after a removal, by the answer: a removal that was refused taught it nothing.
+pub record KnowsRemoved (removal : RemovalOf) (reply : Reply) (v w : OneView) : Type 0 where
+  pub removed : is_done reply ≡ true → KnowsGone removal w
+  pub refused : is_done reply ≡ false → KnowsTheSame v w
+
+-- What an actor knows of places after a call, by what it is: one call of the machine without a guard taught it nothing; after a command
+-- that was answered as at a closed guard it knows the place closed.
+abbrev pub KnowsAfter : DeviceCall → Result Answered Errno → OneView → OneView → Type 0
+KnowsAfter (Once call) result v w = KnowsBy (guarded_place call) v w
+KnowsAfter (Removing removal) result v w = IfOk result (λ r. KnowsRemoved removal r.reply v w)
+KnowsAfter (Commanding c) result v w = IfOk result (λ r. r.reply ≡ guard_reply false → KnowsClosed w c.place)
 
 -- A call wasn't made: memory was wanted, and nothing was done; or the history was full.
 abbrev pub CouldNot : {P : Type 0} → Errno → ActorValue P → ActorValue P → Type 0

@@ -1,7 +1,5 @@
 -- What contracts see of the device and of its actors.
-use Rattle.std.specs.Prelude.{◌≡◌, ℕ, false, List, Option}
-use Rattle.gl_base.specs.Rows.{Each}
-use Rattle.gl_world.specs.Removal.{AllQuiet}
+use Rattle.std.specs.Prelude.{◌≡◌, ℕ, List, Option}
 use Rattle.gl_world.specs.History.{StartsWith}
 use Rattle.gl_rule.specs.declared.view.View.{View}
 use Rattle.gl_gate.specs.Values.{GateValue, PassValue, IsPassOf}
@@ -14,8 +12,7 @@ use Rattle.gl_model.specs.declared.call.Call.{Call}
 use Rattle.gl_model.specs.declared.gift.Gift.{Gift}
 use Rattle.gl_model.specs.declared.reply.Reply.{Reply}
 use Rattle.gl_model.specs.Calling.{AreOfCalls}
-use Rattle.gl_model.specs.Entries.{is_get_line_call}
-use Rattle.gl_core.specs.Device.{OneDeed, OneEntry, core}
+use Rattle.gl_core.specs.Device.{MayOwn, OneDeed, OneEntry, core}
 use Rattle.gl_core.specs.Kept.{Kept, StandsFor}
 
 -- what a pass of its gate knows
@@ -55,11 +52,6 @@ OwnRelation = Option Map → Op → List OneEntry → Type 0
 -- many entries it had seen at the end, and the answer
 abbrev pub FollowsRelation : Type 1
 FollowsRelation = Option Map → Option Told → Op → List OneDeed → ℕ → ℕ → Option ℕ → Type 0
-
--- entries that a driver may make of its own: they have nothing to do with removals, and request no lines
-pub record MayOwn (own : List OneEntry) : Type 0 where
-  pub quiet : AllQuiet core own
-  pub no_claims : Each (λ (e : OneEntry). is_get_line_call e.call ≡ false) own
 
 -- all own entries of a driver are such
 abbrev pub IsQuietDriver : OwnRelation → Type 0

@@ -12,10 +12,9 @@ ghost use Rattle.gl_chip.specs.Values.{IsActorOf, IsSameActor};
 
 use crate::actor::Actor;
 use crate::gpio::Gpio;
-use crate::inner::nothing;
 use gl_asking::results;
 use gl_base::Errno;
-use gl_core::{Call, Core};
+use gl_core::{Call, Core, Gift};
 use gl_driver::Driver;
 use std::sync::Wait;
 
@@ -36,7 +35,7 @@ impl<D: Driver<Core>> Gpio<D> {
         ensures places { KnowsBy (guarded_place call.now) actor.old.pass.view actor.new.pass.view }
         ensures called { ComesOut done_of result actor.old.pass.view (Once call.now) [] actor.new.pass.view }
     {
-        let mut gift = nothing();
+        let mut gift = Gift::nothing();
         match self.plain(rt, actor, call, &mut gift) {
             Ok(reply) => results::done(reply),
             Err(errno) => Err(errno),

@@ -12,11 +12,10 @@ ghost use Rattle.gl_chip.specs.Values.{IsActorOf, IsSameActor};
 
 use crate::actor::Actor;
 use crate::gpio::Gpio;
-use crate::inner::nothing;
 use crate::numbers;
 use gl_asking::results;
 use gl_base::{Errno, Kind, Name};
-use gl_core::{Call, Core};
+use gl_core::{Call, Core, Gift};
 use gl_driver::Driver;
 use std::sync::Wait;
 
@@ -41,7 +40,7 @@ impl<D: Driver<Core>> Gpio<D> {
         ensures places { KnowsTheSame actor.old.pass.view actor.new.pass.view }
         ensures called { ComesOut number_of result actor.old.pass.view (Once (ProbeCall label lines kind)) [] actor.new.pass.view }
     {
-        let mut gift = nothing();
+        let mut gift = Gift::nothing();
         match self.plain(rt, actor, &Call::Probe { label, lines, kind }, &mut gift) {
             Ok(reply) => numbers::place(reply),
             Err(errno) => Err(errno),
@@ -87,7 +86,7 @@ impl<D: Driver<Core>> Gpio<D> {
         ensures places { KnowsTheSame actor.old.pass.view actor.new.pass.view }
         ensures called { ComesOut found_of result actor.old.pass.view (Once (FindCall place name.now)) [] actor.new.pass.view }
     {
-        let mut gift = nothing();
+        let mut gift = Gift::nothing();
         match self.plain(rt, actor, &Call::Find { place, name: *name }, &mut gift) {
             Ok(reply) => results::found(reply),
             Err(errno) => Err(errno),

@@ -6,7 +6,7 @@ ghost use Rattle.gl_model.specs.declared.device_call.DeviceCall.TheVariants.{Onc
 ghost use Rattle.gl_model.specs.declared.reply.Reply.TheVariants.{Refused};
 ghost use Rattle.gl_model.specs.Entries.{guarded_place};
 ghost use Rattle.gl_model.specs.Fits.{Fits};
-ghost use Rattle.gl_model.specs.Parts.{is_poll, is_single};
+ghost use Rattle.gl_model.specs.Parts.{is_single};
 ghost use Rattle.gl_chip.specs.Called.{HasCalled};
 ghost use Rattle.gl_chip.specs.Calling.{Answers, KnowsBy, WroteBy};
 ghost use Rattle.gl_chip.specs.Steps.{FoundNoRoom};
@@ -16,18 +16,12 @@ ghost use Rattle.gl_core.specs.Device.{core};
 use crate::actor::Actor;
 use crate::gpio::Gpio;
 use crate::guarding::Guard;
+use gl_asking::parts::is_poll;
 use gl_base::Errno;
 use gl_core::entries::place_of;
 use gl_core::{Call, Core, Gift, Reply};
 use gl_driver::Driver;
 use std::sync::Wait;
-
-/// The call is a poll.
-fn is_poll(call: &Call) -> bool
-    ensures { result ≡ is_poll (Once call.now) }
-{
-    matches!(call, Call::PollLine { .. } | Call::PollChip { .. })
-}
 
 impl<D: Driver<Core>> Gpio<D> {
     /// A call of the machine that is whole by itself, with the guard that it needs, if it needs one. It brings the memory that

@@ -18,11 +18,10 @@ use crate::actor::Actor;
 use crate::driver_commands::DriverCommand;
 use crate::driver_operations::{line_op, lines_for, request_op};
 use crate::gpio::Gpio;
-use crate::inner::nothing;
 use gl_asking::Answered;
 use gl_base::{Errno, Lines};
 use gl_core::fits::gift_for_lines;
-use gl_core::{Core, Reply};
+use gl_core::{Core, Gift, Reply};
 use gl_driver::Driver;
 use gl_model::{CommandIn, is_driver_asked};
 use std::alloc::Global;
@@ -55,7 +54,7 @@ impl<D: Driver<Core>> Gpio<D> {
     {
         if !is_driver_asked(command) {
             return match self.whole_command(rt, actor, command, out) {
-                Ok(reply) => Ok(Answered { reply, lines: None }),
+                Ok(reply) => Ok(Answered::without_lines(reply)),
                 Err(errno) => Err(errno),
             };
         }
@@ -108,7 +107,7 @@ impl<D: Driver<Core>> Gpio<D> {
                 let mut asked = DriverCommand {
                     command,
                     op: &op,
-                    gift: nothing(),
+                    gift: Gift::nothing(),
                 };
                 self.driven_command(rt, actor, &mut asked, out)
             }

@@ -20,8 +20,9 @@ use crate::actor::Actor;
 use crate::driving::{OpInside, ask, drive, tell};
 use crate::gpio::Gpio;
 use crate::guarding::{Guard, refused_at};
+use gl_asking::parts::in_part;
 use gl_base::Errno;
-use gl_core::{Call, Core, Gift, Part, Reply};
+use gl_core::{Core, Gift, Part, Reply};
 use gl_driver::{Driver, Op};
 use gl_gate::Pass;
 use gl_model::CommandIn;
@@ -74,14 +75,7 @@ impl<D: Driver<Core>> Gpio<D> {
     {
         let command = asked.command;
         let op = asked.op;
-        let asking = Call::Ioctl {
-            place: command.place,
-            fd: command.fd,
-            cmd: command.cmd,
-            len: command.len,
-            bytes: command.bytes,
-            part: Part::Ask,
-        };
+        let asking = in_part(command, Part::Ask);
         match ask(rt, &self.gate, pass, &asking, &mut asked.gift, out) {
             Err(errno) => Err(errno),
             Ok(reply) => match op {
@@ -96,14 +90,7 @@ impl<D: Driver<Core>> Gpio<D> {
                         op,
                     };
                     let answer = drive(rt, &self.gate, &self.driver, port, pass, &inside);
-                    let telling = Call::Ioctl {
-                        place: command.place,
-                        fd: command.fd,
-                        cmd: command.cmd,
-                        len: command.len,
-                        bytes: command.bytes,
-                        part: Part::Tell(answer),
-                    };
+                    let telling = in_part(command, Part::Tell(answer));
                     Ok(tell(rt, &self.gate, pass, &telling, &mut asked.gift, out))
                 }
             },

@@ -12,10 +12,9 @@ ghost use Rattle.gl_model.specs.Fits.{Fits};
 ghost use Rattle.gl_chip.specs.Steps.{CalledGuarded, CalledOnce, FoundNoRoom, IsWhole, Owes, StoodFull};
 ghost use Rattle.gl_core.specs.Device.{core};
 
-use crate::inner::nothing;
 use crate::steps::alone;
 use gl_base::Errno;
-use gl_core::{Call, Core, Reply};
+use gl_core::{Call, Core, Gift, Reply};
 use gl_gate::{Gate, Pass};
 use std::sync::Wait;
 
@@ -49,7 +48,7 @@ pub(crate) fn refused_at<R: Wait>(
 {
     let Guard { place, poll } = guard;
     let call = Call::Refused { place, poll };
-    let mut gift = nothing();
+    let mut gift = Gift::nothing();
     alone(rt, gate, pass, &call, &mut gift, out)
 }
 
@@ -78,7 +77,7 @@ pub(crate) fn guarded<R: Wait>(
     if !gate.enter(pass, guard.place) {
         return refused_at(rt, gate, pass, guard, out);
     }
-    let mut gift = nothing();
+    let mut gift = Gift::nothing();
     let answer = alone(rt, gate, pass, call, &mut gift, out);
     gate.leave(pass, guard.place);
     answer

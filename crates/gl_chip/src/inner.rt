@@ -26,19 +26,6 @@ use gl_core::{Call, Core, Gift, Reply};
 use gl_driver::Driver;
 use std::sync::Wait;
 
-/// A gift with nothing in it.
-pub(crate) fn nothing() -> Gift
-    ensures ring { result.ring ≡ None }
-    ensures queue { result.queue ≡ None }
-    ensures asked { result.asked ≡ None }
-{
-    Gift {
-        ring: None,
-        queue: None,
-        asked: None,
-    }
-}
-
 impl<D: Driver<Core>> Gpio<D> {
     /// A call that takes no guard and asks no driver.
     pub(crate) fn unguarded<R: Wait>(

@@ -10,10 +10,9 @@ ghost use Rattle.gl_chip.specs.Values.{IsActorOf, IsSameActor};
 
 use crate::actor::Actor;
 use crate::gpio::Gpio;
-use crate::inner::nothing;
 use gl_asking::results;
 use gl_base::{Errno, IrqDo, PinDo};
-use gl_core::{Call, Core};
+use gl_core::{Call, Core, Gift};
 use gl_driver::Driver;
 use std::sync::Wait;
 
@@ -103,7 +102,7 @@ impl<D: Driver<Core>> Gpio<D> {
             offset,
             pull,
         };
-        match self.plain(rt, actor, &call, &mut nothing()) {
+        match self.plain(rt, actor, &call, &mut Gift::nothing()) {
             Ok(reply) => results::level(reply),
             Err(errno) => Err(errno),
         }

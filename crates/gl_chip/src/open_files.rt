@@ -12,11 +12,10 @@ ghost use Rattle.gl_chip.specs.Values.{IsActorOf, IsSameActor};
 use crate::actor::Actor;
 use crate::files::{ChipFd, LineFd};
 use crate::gpio::Gpio;
-use crate::inner::nothing;
 use crate::numbers;
 use gl_asking::results;
 use gl_base::Errno;
-use gl_core::{Call, Core};
+use gl_core::{Call, Core, Gift};
 use gl_driver::Driver;
 use std::sync::Wait;
 
@@ -33,7 +32,12 @@ impl<D: Driver<Core>> Gpio<D> {
         ensures called { ComesOut ready_of result actor.old.pass.view (Once (PollChipCall fd.now.place fd.now.fd)) [] actor.new.pass.view }
     {
         let (place, fd) = (fd.place, fd.fd);
-        match self.plain(rt, actor, &Call::PollChip { place, fd }, &mut nothing()) {
+        match self.plain(
+            rt,
+            actor,
+            &Call::PollChip { place, fd },
+            &mut Gift::nothing(),
+        ) {
             Ok(reply) => results::ready(reply),
             Err(errno) => Err(errno),
         }
@@ -52,7 +56,12 @@ impl<D: Driver<Core>> Gpio<D> {
         ensures called { ComesOut ready_of result actor.old.pass.view (Once (PollLineCall fd.now.place fd.now.fd)) [] actor.new.pass.view }
     {
         let (place, fd) = (fd.place, fd.fd);
-        match self.plain(rt, actor, &Call::PollLine { place, fd }, &mut nothing()) {
+        match self.plain(
+            rt,
+            actor,
+            &Call::PollLine { place, fd },
+            &mut Gift::nothing(),
+        ) {
             Ok(reply) => results::ready(reply),
             Err(errno) => Err(errno),
         }
@@ -83,7 +92,7 @@ impl<D: Driver<Core>> Gpio<D> {
             rt,
             actor,
             &Call::ReadInfo { place, fd, len },
-            &mut nothing(),
+            &mut Gift::nothing(),
             buf,
         ) {
             Ok(reply) => numbers::count(reply),
@@ -116,7 +125,7 @@ impl<D: Driver<Core>> Gpio<D> {
             rt,
             actor,
             &Call::ReadEdges { place, fd, len },
-            &mut nothing(),
+            &mut Gift::nothing(),
             buf,
         ) {
             Ok(reply) => numbers::count(reply),

@@ -1,28 +1,31 @@
 //! Any call of the device, as one value.
 
-ghost use Rattle.std.specs.Prelude.{◌≡◌, ◌<◌, ◌^◌, ◌++◌, ℕ, List, true, length, drop, IfOk, IfErr};
+ghost use Rattle.std.specs.Prelude.{◌≡◌, ◌≢◌, ◌<◌, ◌^◌, ◌++◌, ℕ, List, true, length, drop, IfOk, IfErr};
+ghost use Rattle.gl_base.specs.declared.errno.Errno.TheVariants.{Full, NoMemory};
 ghost use Rattle.gl_base.specs.declared.limits.TheConstants.{PLACES};
 ghost use Rattle.gl_world.specs.Deeds.{entries_in};
 ghost use Rattle.gl_model.specs.declared.device_call.DeviceCall.TheVariants.{Commanding, Once, Removing};
-ghost use Rattle.gl_model.specs.declared.reply.Reply.TheVariants.{Number};
+ghost use Rattle.gl_model.specs.declared.reply.Reply.TheVariants.{Number, Refused};
+ghost use Rattle.gl_model.specs.Entries.{guarded_place};
 ghost use Rattle.gl_model.specs.Fits.{FitsBuffer, FitsCall};
-ghost use Rattle.gl_model.specs.Parts.{first_call, is_single};
+ghost use Rattle.gl_model.specs.Parts.{is_single};
 ghost use Rattle.gl_asking.specs.declared.kinds.FileKind.TheVariants.{Chip};
 ghost use Rattle.gl_asking.specs.Fitting.{FitsDevice};
 ghost use Rattle.gl_asking.specs.Handed.{command_in};
-ghost use Rattle.gl_asking.specs.Rows.{HasLines, is_chip};
+ghost use Rattle.gl_asking.specs.Rows.{HasLines, IsOn, is_chip, kind_of};
 ghost use Rattle.gl_chip.specs.Called.{HasCalled};
+ghost use Rattle.gl_chip.specs.Calling.{KnowsBy};
 ghost use Rattle.gl_chip.specs.DriverCommands.{HasCommanded, IsOp};
 ghost use Rattle.gl_asking.specs.Driving.{op_for};
-ghost use Rattle.gl_chip.specs.Orders.{AnswersOrder, CouldNot, FitsOrder, GivesLines, GivesOn, HasDone, WroteTo, lines_on, op_ordered};
-ghost use Rattle.gl_chip.specs.Removals.{is_first_call, removal_of};
+ghost use Rattle.gl_chip.specs.Orders.{AnswersOrder, CouldNot, FitsOrder, GivesLines, GivesOn, HasDone, KnowsAfter, KnowsRemoved, WroteTo, lines_on, op_ordered};
 ghost use Rattle.gl_driver.specs.Told.{PortAfter};
 ghost use Rattle.gl_core.specs.Device.{tells_in};
 ghost use Rattle.gl_chip.specs.Values.{IsActorOf, IsSameActor};
 
 use crate::actor::Actor;
 use crate::gpio::Gpio;
-use gl_asking::{Answered, FileKind};
+use gl_asking::parts::first_call;
+use gl_asking::{Answered, FileKind, FileRow, kind_of};
 use gl_base::Errno;
 use gl_core::fits::gift_for;
 use gl_core::{Call, Core, Reply};
@@ -35,9 +38,23 @@ use std::sync::Wait;
 #[derive(Clone, Copy)]
 pub struct Order {
     /// The call.
-    pub call: DeviceCall,
+    pub(crate) call: DeviceCall,
     /// What the command's file is of: of a request, its lines.
-    pub on: FileKind,
+    pub(crate) on: FileKind,
+}
+
+impl Order {
+    /// A call of the device, on the file of this row where it is a command. So the lines of a request are those with which it was made.
+    pub fn of(call: DeviceCall, row: &Option<FileRow>) -> Order
+        requires on { IsOn call row.now }
+        ensures call { result.call ≡ call }
+        ensures on { result.on ≡ kind_of row.now }
+    {
+        Order {
+            call,
+            on: kind_of(row),
+        }
+    }
 }
 
 /// A command, and what its file is of.
@@ -45,26 +62,6 @@ pub struct Order {
 struct OnFile<'a> {
     command: &'a CommandIn,
     on: &'a FileKind,
-}
-
-/// The call that begins a removal.
-fn first_call(removal: &RemovalOf) -> Call
-    requires { FitsDevice (Removing removal.now) }
-    ensures told { result ≡ first_call removal.now }
-    ensures first { is_first_call result ≡ true }
-    ensures whose { removal_of result ≡ removal.now }
-    ensures fits { FitsCall result }
-{
-    match removal {
-        RemovalOf::OfChip(place) => Call::Unplug {
-            place: *place,
-            last: false,
-        },
-        RemovalOf::OfDevice(device) => Call::Remove {
-            device: *device,
-            last: false,
-        },
-    }
 }
 
 impl<D: Driver<Core>> Gpio<D> {
@@ -86,6 +83,7 @@ impl<D: Driver<Core>> Gpio<D> {
         ensures done { IfOk result (λ r. (bytes : List ℕ) × (out.new ≡ bytes ++ drop (length bytes) out.old)
             × HasDone D.Port.told D.Port.faults D.Port.maps D.Port.maps_left D.OwnEntries D.Follows D.ENTRIES (Once call.now) Chip actor.old r bytes actor.new) }
         ensures form { IfOk result (λ r. AnswersOrder (Once call.now) Chip r) }
+        ensures places { KnowsBy (guarded_place call.now) actor.old.pass.view actor.new.pass.view }
         ensures could_not { IfErr result (λ e. CouldNot e actor.old actor.new × (out.new ≡ out.old)) }
     {
         match gift_for(call, alloc) {
@@ -108,6 +106,7 @@ impl<D: Driver<Core>> Gpio<D> {
         ensures done { IfOk result (λ r. (bytes : List ℕ)
             × HasDone D.Port.told D.Port.faults D.Port.maps D.Port.maps_left D.OwnEntries D.Follows D.ENTRIES (Removing removal.now) Chip actor.old r bytes actor.new) }
         ensures form { IfOk result (λ r. AnswersOrder (Removing removal.now) Chip r) }
+        ensures places { IfOk result (λ r. KnowsRemoved removal.now r actor.old.pass.view actor.new.pass.view) }
         ensures could_not { IfErr result (λ e. CouldNot e actor.old actor.new) }
     {
         self.remove_by(rt, actor, &first_call(removal))
@@ -138,7 +137,7 @@ impl<D: Driver<Core>> Gpio<D> {
             FileKind::Chip => self.command_on_chip(rt, alloc, actor, order.command, out),
             FileKind::Request(lines) => {
                 match self.command_on_request(rt, actor, order.command, lines, out) {
-                    Ok(reply) => Ok(Answered { reply, lines: None }),
+                    Ok(reply) => Ok(Answered::without_lines(reply)),
                     Err(errno) => Err(errno),
                 }
             }
@@ -172,15 +171,18 @@ impl<D: Driver<Core>> Gpio<D> {
             × PortAfter D.is_planned (op_ordered order.now.call order.now.on) (tells_in (entries_in called.did)) (D.Port.told actor.old.port) (D.Port.told actor.new.port)) }
         ensures form { IfOk result (λ r. AnswersOrder order.now.call order.now.on r.reply) }
         ensures lines { IfOk result (GivesLines order.now.call order.now.on) }
+        ensures places { KnowsAfter order.now.call result actor.old.pass.view actor.new.pass.view }
+        ensures not_full { IfOk result (λ r. r.reply ≢ Refused Full) }
+        ensures not_memory { IfOk result (λ r. r.reply ≢ Refused NoMemory) }
         ensures could_not { IfErr result (λ e. CouldNot e actor.old actor.new × (out.new ≡ out.old)) }
     {
         match &order.call {
             DeviceCall::Once(call) => match self.order_once(rt, alloc, actor, call, out) {
-                Ok(reply) => Ok(Answered { reply, lines: None }),
+                Ok(reply) => Ok(Answered::without_lines(reply)),
                 Err(errno) => Err(errno),
             },
             DeviceCall::Removing(removal) => match self.order_removal(rt, actor, removal) {
-                Ok(reply) => Ok(Answered { reply, lines: None }),
+                Ok(reply) => Ok(Answered::without_lines(reply)),
                 Err(errno) => Err(errno),
             },
             DeviceCall::Commanding(command) => {

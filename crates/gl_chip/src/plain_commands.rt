@@ -18,8 +18,9 @@ ghost use Rattle.gl_core.specs.Device.{core};
 use crate::actor::Actor;
 use crate::gpio::Gpio;
 use crate::guarding::{Guard, guarded};
+use gl_asking::parts::in_part;
 use gl_base::Errno;
-use gl_core::{Call, Core, Part, Reply};
+use gl_core::{Core, Part, Reply};
 use gl_driver::Driver;
 use gl_model::CommandIn;
 use std::sync::Wait;
@@ -47,14 +48,7 @@ impl<D: Driver<Core>> Gpio<D> {
         ensures full { IfErr result (λ e. (e ≡ Full) × (out.new ≡ out.old)
             × FoundNoRoom core actor.old.pass.view actor.new.pass.view) }
     {
-        let call = Call::Ioctl {
-            place: command.place,
-            fd: command.fd,
-            cmd: command.cmd,
-            len: command.len,
-            bytes: command.bytes,
-            part: Part::Whole,
-        };
+        let call = in_part(command, Part::Whole);
         let guard = Guard {
             place: command.place,
             poll: false,

@@ -7,10 +7,10 @@ ghost use Rattle.gl_world.specs.History.{Legal, fold};
 ghost use Rattle.gl_world.specs.Removal.{Removes};
 ghost use Rattle.gl_gate.specs.Values.{IsPassOf};
 ghost use Rattle.gl_gate.specs.Grown.{IsFree};
-ghost use Rattle.gl_gate.specs.Calls.{KnowsClosed, KnowsDrained};
+ghost use Rattle.gl_gate.specs.Calls.{KnowsClosed, KnowsDrained, KnowsTheSame};
 ghost use Rattle.gl_model.specs.declared.call.Call.TheVariants.{Unplug as UnplugCall};
 ghost use Rattle.gl_model.specs.declared.reply.Reply.TheVariants.{Refused};
-ghost use Rattle.gl_model.specs.Entries.{is_done, last_call};
+ghost use Rattle.gl_model.specs.Entries.{is_done};
 ghost use Rattle.gl_model.specs.Fits.{FitsCall};
 ghost use Rattle.gl_model.specs.declared.device_call.DeviceCall.TheVariants.{Removing};
 ghost use Rattle.gl_chip.specs.Called.{HasCalled};
@@ -22,9 +22,9 @@ ghost use Rattle.gl_core.specs.Device.{core};
 
 use crate::actor::Actor;
 use crate::gpio::Gpio;
-use crate::inner::nothing;
+use gl_asking::parts::last_call;
 use gl_base::Errno;
-use gl_core::{Call, Core, Reply};
+use gl_core::{Call, Core, Gift, Reply};
 use gl_driver::Driver;
 use gl_gate::{Gate, Pass};
 use gl_world::Machine;
@@ -65,17 +65,6 @@ fn is_done(reply: &Reply) -> bool
     matches!(reply, Reply::Done)
 }
 
-/// The call that ends the removal which this call begins.
-fn last_call(first: &Call) -> Call
-    ensures { result ≡ last_call first.now }
-{
-    match *first {
-        Call::Unplug { place, .. } => Call::Unplug { place, last: true },
-        Call::Remove { device, .. } => Call::Remove { device, last: true },
-        call => call,
-    }
-}
-
 impl<D: Driver<Core>> Gpio<D> {
     /// Closes and drains the places of a removal that has begun, and makes its last entry.
     fn end_removal<R: Wait>(
@@ -97,7 +86,7 @@ impl<D: Driver<Core>> Gpio<D> {
         ensures ended { HasEnded from count first.now pass.old.view result pass.new.view }
     {
         close_all(rt, &self.gate, pass, from, count);
-        let mut gift = nothing();
+        let mut gift = Gift::nothing();
         match self
             .gate
             .act(rt, pass, last_call(first), &mut gift, &mut [])
@@ -125,6 +114,7 @@ impl<D: Driver<Core>> Gpio<D> {
             × AllDrained called.did actor.new.pass.view) }
         ensures refused { IfOk result (λ r. is_done r ≡ false → (errno : AnErrno) × (r ≡ Refused errno)) }
         ensures ended { IfOk result (λ r. RemovedBy (removal_of first.now) r actor.old.pass.view actor.new.pass.view) }
+        ensures places { IfOk result (λ r. is_done r ≡ false → KnowsTheSame actor.old.pass.view actor.new.pass.view) }
         ensures drained { IfOk result (λ r. is_done r ≡ true → (place : ℕ) → first.now ≡ UnplugCall place false
             → KnowsClosed actor.new.pass.view place × KnowsDrained actor.new.pass.view place) }
         ensures gone { IfOk result (λ r. (place : ℕ) → first.now ≡ UnplugCall place false
@@ -134,7 +124,7 @@ impl<D: Driver<Core>> Gpio<D> {
         // What holds of every pass is known once it has told its number.
         let _number = actor.pass.number();
         let mut places = [0u8; 2];
-        let mut gift = nothing();
+        let mut gift = Gift::nothing();
         let begun = self
             .gate
             .act(rt, &mut actor.pass, *first, &mut gift, &mut places);

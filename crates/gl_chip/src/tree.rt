@@ -10,10 +10,9 @@ ghost use Rattle.gl_chip.specs.Values.{IsActorOf, IsSameActor};
 
 use crate::actor::Actor;
 use crate::gpio::Gpio;
-use crate::inner::nothing;
 use gl_asking::results;
 use gl_base::{Errno, Name, Path};
-use gl_core::{Call, Core};
+use gl_core::{Call, Core, Gift};
 use gl_driver::Driver;
 use std::sync::Wait;
 
@@ -89,7 +88,7 @@ impl<D: Driver<Core>> Gpio<D> {
         ensures places { KnowsTheSame actor.old.pass.view actor.new.pass.view }
         ensures called { ComesOut text_of result actor.old.pass.view (Once (ReadCall path.now)) [] actor.new.pass.view }
     {
-        let mut gift = nothing();
+        let mut gift = Gift::nothing();
         match self.plain(rt, actor, &Call::Read { path: *path }, &mut gift) {
             Ok(reply) => results::text(reply),
             Err(errno) => Err(errno),

@@ -1,7 +1,9 @@
-use Rattle.std.proofs.Common.{take, refl, sym, ◌∙◌, Ok, Err}
+use Rattle.std.proofs.Common.{◌≡◌, ℕ, List, ◌++◌, length, take, drop, refl, sym, subst, ◌∙◌, Ok, Err}
 use Rattle.gl_uapi.specs.declared.layout.TheConstants.{LINE_REQUEST_SIZE}
 use Rattle.gl_asking.specs.declared.kinds.FileKind.TheVariants.{Chip}
 use Rattle.gl_asking.specs.Driving.{op_for}
+use Rattle.gl_model.specs.declared.reply.Reply.{Reply}
+use Rattle.gl_chip.specs.DriverCommands.{HasCommanded}
 use Rattle.gl_chip.specs.Orders.{lines_on}
 use Rattle.gl_chip.proofs.CommandResults.{full_no_memory}
 use Rattle.gl_chip.proofs.OrderedCalls.{as_ordered, number_ordered, wanted, was_full_alone, whole_ordered}
@@ -30,8 +32,10 @@ driven_command-requires-clause-op g c κs within = op_goes c.args.command.now c.
 
 pub returns-in-Ok-clause-commanded : goal.returns-in-Ok-clause-commanded
 returns-in-Ok-clause-commanded g c =
-    whole_ordered g.D.Port.Port.told g.D.Port.Port.faults g.D.Port.Port.maps g.D.Port.Port.maps_left g.D.Driver.OwnEntries g.D.Driver.Follows g.D.Driver.ENTRIES (Ok c.in-Ok.reply) (op_for (lines_on Chip c.args.command.now) c.args.command.now) c.args.actor.now c.whole_command.new.actor
-    c.args.command.now c.args.out.now c.whole_command.new.out (sym c.if-not-is_driver_asked.ensures) c.whole_command.ensures.port c.in-Ok.ensures.called
+    subst (λ (reply : Reply). (bytes : List ℕ) × (c.whole_command.new.out ≡ bytes ++ drop (length bytes) c.args.out.now)
+    × HasCommanded g.D.Port.Port.told g.D.Port.Port.faults g.D.Port.Port.maps g.D.Port.Port.maps_left g.D.Driver.OwnEntries g.D.Driver.Follows g.D.Driver.ENTRIES (op_for (lines_on Chip c.args.command.now) c.args.command.now) c.args.actor.now c.args.command.now reply bytes c.whole_command.new.actor) (sym c.without_lines.ensures.reply)
+    (whole_ordered g.D.Port.Port.told g.D.Port.Port.faults g.D.Port.Port.maps g.D.Port.Port.maps_left g.D.Driver.OwnEntries g.D.Driver.Follows g.D.Driver.ENTRIES (Ok c.in-Ok.reply) (op_for (lines_on Chip c.args.command.now) c.args.command.now) c.args.actor.now c.whole_command.new.actor
+    c.args.command.now c.args.out.now c.whole_command.new.out (sym c.if-not-is_driver_asked.ensures) c.whole_command.ensures.port c.in-Ok.ensures.called)
 
 pub returns-in-Err-clause-could_not : goal.returns-in-Err-clause-could_not
 returns-in-Err-clause-could_not g c = was_full_alone (Err c.in-Err.errno) c.args.actor.now c.whole_command.new.actor c.args.out.now c.whole_command.new.out c.whole_command.ensures.port c.in-Err.ensures.full

@@ -8,13 +8,13 @@ pub close_all-requires-clause-places : goal.close_all-requires-clause-places
 close_all-requires-clause-places g c κs within p low high = subst (λ n. p < n) (sym c.self.invariant.0) (begun_within c.args.from c.args.count c.args.first.now c.args.pass.now.view c.requires.begun c.requires.legal p low high)
 
 pub act-requires-clause-fits : goal.act-requires-clause-fits
-act-requires-clause-fits g c κs within = subst (λ (k : Call). Fits k c.nothing-gift.result _) (sym c.last_call.ensures) (fits_last c.args.first.now c.requires.first c.requires.fits c.nothing-gift.result)
+act-requires-clause-fits g c κs within = subst (λ (k : Call). Fits k c.nothing-gift.result _) (sym c.last_call.ensures.last) (fits_last c.args.first.now c.requires.first c.requires.fits c.nothing-gift.result)
 
 pub returns-clause-free : goal.returns-clause-free
 returns-clause-free g c = let drained = c.close_all.ensures.drained in
     last_leaves_free c.args.from c.args.count c.args.first.now c.close_all.new.pass.view c.act.new.pass.view c.in-Ok.reply _ _ c.requires.first (begun_still c.args.from c.args.count c.args.first.now c.args.pass.now.view c.close_all.new.pass.view drained.moved c.requires.begun)
-    (drained.inside ∙ c.requires.outside) c.in-Ok.ensures.same (acts_last c.close_all.new.pass.view c.act.new.pass.view c.args.first.now c.last_call.result c.in-Ok.reply _ _ c.last_call.ensures c.in-Ok.ensures.acts)
+    (drained.inside ∙ c.requires.outside) c.in-Ok.ensures.same (acts_last c.close_all.new.pass.view c.act.new.pass.view c.args.first.now c.last_call.result c.in-Ok.reply _ _ c.last_call.ensures.last c.in-Ok.ensures.acts)
 
 pub returns-clause-ended : goal.returns-clause-ended
 returns-clause-ended g c = has_ended c.args.from c.args.count c.args.first.now c.args.pass.now.view c.close_all.new.pass.view c.act.new.pass.view c.in-Ok.reply _ _ c.requires.first c.requires.begun c.close_all.ensures.drained c.in-Ok.ensures.same
-    (acts_last c.close_all.new.pass.view c.act.new.pass.view c.args.first.now c.last_call.result c.in-Ok.reply _ _ c.last_call.ensures c.in-Ok.ensures.acts)
+    (acts_last c.close_all.new.pass.view c.act.new.pass.view c.args.first.now c.last_call.result c.in-Ok.reply _ _ c.last_call.ensures.last c.in-Ok.ensures.acts)

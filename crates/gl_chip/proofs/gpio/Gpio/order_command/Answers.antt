@@ -1,7 +1,9 @@
-use Rattle.std.proofs.Common.{ap, ◌∙◌, subst, sym, IfOk, Ok}
+use Rattle.std.proofs.Common.{◌≡◌, ℕ, List, ◌++◌, length, drop, ap, ◌∙◌, subst, sym, IfOk, Ok}
 use Rattle.gl_asking.specs.declared.kinds.FileKind.{FileKind}
 use Rattle.gl_asking.specs.Rows.{HasLines, is_chip}
 use Rattle.gl_asking.specs.Driving.{op_for}
+use Rattle.gl_model.specs.declared.reply.Reply.{Reply}
+use Rattle.gl_chip.specs.DriverCommands.{HasCommanded}
 use Rattle.gl_chip.specs.Orders.{GivesOn, lines_on}
 use Rattle.gl_chip.proofs.OrderedCalls.{as_answered, as_ordered, number_as}
 use Rattle.gl_chip.proofs.gpio.Gpio.order_command.Goals as goal
@@ -29,5 +31,7 @@ returns-in-Chip-clause-lines g c = subst (λ (k : FileKind). IfOk c.command_on_c
 
 pub returns-in-Ok-clause-commanded : goal.returns-in-Ok-clause-commanded
 returns-in-Ok-clause-commanded g c =
-    as_ordered g.D.Port.Port.told g.D.Port.Port.faults g.D.Port.Port.maps g.D.Port.Port.maps_left g.D.Driver.OwnEntries g.D.Driver.Follows g.D.Driver.ENTRIES (Ok c.in-Ok.reply) (op_for c.in-Request.lines c.args.order.now.command.now) (op_for (lines_on c.args.order.now.on.now c.args.order.now.command.now) c.args.order.now.command.now) c.args.actor.now c.command_on_request.new.actor
-    c.args.order.now.command.now c.args.out.now c.command_on_request.new.out (ap (λ (k : FileKind). op_for (lines_on k c.args.order.now.command.now) c.args.order.now.command.now) c.in-Request.is) c.in-Ok.ensures.commanded
+    subst (λ (reply : Reply). (bytes : List ℕ) × (c.command_on_request.new.out ≡ bytes ++ drop (length bytes) c.args.out.now)
+    × HasCommanded g.D.Port.Port.told g.D.Port.Port.faults g.D.Port.Port.maps g.D.Port.Port.maps_left g.D.Driver.OwnEntries g.D.Driver.Follows g.D.Driver.ENTRIES (op_for (lines_on c.args.order.now.on.now c.args.order.now.command.now) c.args.order.now.command.now) c.args.actor.now c.args.order.now.command.now reply bytes c.command_on_request.new.actor) (sym c.without_lines.ensures.reply)
+    (as_ordered g.D.Port.Port.told g.D.Port.Port.faults g.D.Port.Port.maps g.D.Port.Port.maps_left g.D.Driver.OwnEntries g.D.Driver.Follows g.D.Driver.ENTRIES (Ok c.in-Ok.reply) (op_for c.in-Request.lines c.args.order.now.command.now) (op_for (lines_on c.args.order.now.on.now c.args.order.now.command.now) c.args.order.now.command.now) c.args.actor.now c.command_on_request.new.actor
+    c.args.order.now.command.now c.args.out.now c.command_on_request.new.out (ap (λ (k : FileKind). op_for (lines_on k c.args.order.now.command.now) c.args.order.now.command.now) c.in-Request.is) c.in-Ok.ensures.commanded)

@@ -1,9 +1,18 @@
-use Rattle.gl_chip.specs.Removals.{removal_of}
-use Rattle.gl_chip.proofs.OrderedCalls.{removal_done, was_full_removing}
+use Rattle.std.proofs.Common.{◌≡◌, true, ap, ◌∙◌, subst, sym}
+use Rattle.gl_model.specs.declared.call.Call.{Call}
+use Rattle.gl_chip.specs.Removals.{is_first_call, removal_of}
+use Rattle.gl_chip.proofs.OrderedCalls.{begins_removal, knows_removed, removal_done, was_full_removing, whose_removal}
 use Rattle.gl_chip.proofs.gpio.Gpio.order_removal.Goals as goal
 
+pub remove_by-requires-clause-first : goal.remove_by-requires-clause-first
+remove_by-requires-clause-first g c κs within = subst (λ (x : Call). is_first_call x ≡ true) (sym c.first_call.ensures.first) (begins_removal c.args.removal.now)
+
 pub returns-clause-done : goal.returns-clause-done
-returns-clause-done g c = removal_done g.D.Port.Port.told g.D.Port.Port.faults g.D.Port.Port.maps g.D.Port.Port.maps_left g.D.Driver.OwnEntries g.D.Driver.Follows g.D.Driver.ENTRIES c.remove_by.result c.args.actor.now c.remove_by.new.actor c.args.removal.now (removal_of c.first_call.result) c.first_call.ensures.whose c.remove_by.ensures.port c.remove_by.ensures.called
+returns-clause-done g c = removal_done g.D.Port.Port.told g.D.Port.Port.faults g.D.Port.Port.maps g.D.Port.Port.maps_left g.D.Driver.OwnEntries g.D.Driver.Follows g.D.Driver.ENTRIES c.remove_by.result c.args.actor.now c.remove_by.new.actor c.args.removal.now (removal_of c.first_call.result)
+    (ap (λ (x : Call). removal_of x) c.first_call.ensures.first ∙ whose_removal c.args.removal.now) c.remove_by.ensures.port c.remove_by.ensures.called
+
+pub returns-clause-places : goal.returns-clause-places
+returns-clause-places g c = knows_removed c.remove_by.result c.args.actor.now.pass.view c.remove_by.new.actor.pass.view c.args.removal.now c.first_call.result c.first_call.ensures.first c.remove_by.ensures.places c.remove_by.ensures.drained
 
 pub returns-clause-could_not : goal.returns-clause-could_not
 returns-clause-could_not g c = was_full_removing c.remove_by.result c.args.actor.now c.remove_by.new.actor c.remove_by.ensures.port c.remove_by.ensures.full

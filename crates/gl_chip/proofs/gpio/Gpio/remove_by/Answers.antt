@@ -1,5 +1,7 @@
-use Rattle.std.proofs.Common.{rules, ◌≡◌, ℕ, List, length, sym, ◌∙◌}
+use Rattle.std.proofs.Common.{rules, ◌≡◌, ℕ, List, length, sym, ap, ◌∙◌}
 use Rattle.std.proofs.lemmas.Bool.{true≢false}
+use Rattle.gl_gate.specs.Calls.{KnowsTheSame}
+use Rattle.gl_model.specs.Entries.{is_done}
 use Rattle.gl_model.specs.declared.device_call.DeviceCall.TheVariants.{Removing}
 use Rattle.gl_chip.specs.Called.{HasCalled}
 use Rattle.gl_chip.specs.Removals.{AllDrained, RemovedBy, removal_of}
@@ -8,7 +10,7 @@ use Rattle.gl_chip.proofs.RemovalCalls.{done_not_undone, first_is_refused, full_
 use Rattle.gl_chip.proofs.WholeCalls.{idle_called, seen_from}
 use Rattle.gl_chip.specs.Steps.{FoundNoRoom}
 use Rattle.gl_core.specs.Device.{core}
-use Rattle.gl_chip.proofs.SameActors.{same_grown}
+use Rattle.gl_chip.proofs.SameActors.{knows_still, same_grown}
 use Rattle.gl_chip.proofs.gpio.Gpio.remove_by.Goals as goal
 
 pub invariant_of-actor : goal.invariant_of-actor
@@ -74,3 +76,9 @@ returns-then-not-is_done-clause-ended g c = seen_from _ _ (λ v. RemovedBy (remo
 pub returns-clause-ended : goal.returns-clause-ended
 returns-clause-ended g c = seen_from _ _ (λ v. RemovedBy (removal_of c.args.first.now) c.end_removal.result v c.end_removal.new.pass.view) c.actor.view_is
     (removed_whole c.actor.inside.pass.view c.act-begun.new.pass.view c.end_removal.new.pass.view c.args.first.now c.in-Ok.reply c.end_removal.result _ c.act-begun.new.out _ _ c.requires.first c.in-Ok.ensures.same c.in-Ok.ensures.acts (sym c.if-not-is_done.ensures) c.end_removal.ensures.ended)
+
+pub returns-then-not-is_done-clause-places : goal.returns-then-not-is_done-clause-places
+returns-then-not-is_done-clause-places g c = λ _. seen_from _ _ (λ v. KnowsTheSame v c.act-begun.new.pass.view) c.actor.view_is (knows_still c.actor.inside.pass.view c.act-begun.new.pass.view c.in-Ok.ensures.same)
+
+pub returns-clause-places : goal.returns-clause-places
+returns-clause-places g c = λ undone. absurd (true≢false (sym (ap (λ r. is_done r) c.end_removal.ensures.ended.done) ∙ undone))
