@@ -1,10 +1,8 @@
 -- What an operation hands to the entries of its call of the device, and what it takes from them.
-use Rattle.std.proofs.Common.{◌≡◌, ◌≢◌, ℕ, ◌<◌, ◌^◌, Bool, true, false, List, [], ◌++◌, length, drop, take, replicate, Option, None, Some, refl, sym, ap, ◌∙◌, subst, arith}
+use Rattle.std.proofs.Common.{◌≡◌, ℕ, ◌<◌, ◌^◌, Bool, true, false, List, ◌++◌, length, drop, take, Option, None, Some, refl, sym, ap, ◌∙◌, subst, arith}
 use Rattle.std.specs.Prelude.{nat_lt, if◌then◌else◌}
 use Rattle.std.proofs.lemmas.Bool.{false≢true, true≢false}
 use Rattle.std.proofs.lemmas.List.{length-replicate}
-use Rattle.gl_base.specs.Lines.{IsLineCount}
-use Rattle.gl_base.specs.declared.command.TheConstants.{GET_LINE}
 use Rattle.gl_base.specs.declared.errno.Errno.{Errno}
 use Rattle.gl_base.specs.declared.limits.TheConstants.{PLACES}
 use Rattle.gl_base.specs.declared.operation.Do.{Do}
@@ -25,13 +23,13 @@ use Rattle.gl_model.specs.declared.call.Part.{Part}
 use Rattle.gl_model.specs.declared.call.Part.TheVariants.{Whole, Ask, Tell}
 use Rattle.gl_model.specs.declared.device_call.CommandIn.{CommandIn}
 use Rattle.gl_model.specs.declared.device_call.DeviceCall.{DeviceCall}
-use Rattle.gl_model.specs.declared.device_call.DeviceCall.TheVariants.{Once, Removing, Commanding}
+use Rattle.gl_model.specs.declared.device_call.DeviceCall.TheVariants.{Once, Commanding}
 use Rattle.gl_model.specs.declared.reply.Reply.{Reply}
 use Rattle.gl_model.specs.declared.reply.Reply.TheVariants.{Number}
 use Rattle.gl_core.specs.Device.{OneEntry}
 use Rattle.gl_asking.specs.declared.kinds.Asking.{Asking}
 use Rattle.gl_asking.specs.declared.kinds.Asking.TheVariants.{Calls, Plans, Accepts, Refuses}
-use Rattle.gl_asking.specs.Asking.{asking, buffer_of, finds, has_lines, lines_named, lives, on_file, once, polls, reads_from}
+use Rattle.gl_asking.specs.Asking.{asking, buffer_of, finds, has_lines, lives, on_file, once, polls, reads_from}
 use Rattle.gl_asking.specs.Changes.{IsFilled, OpensWithin}
 use Rattle.gl_asking.specs.Files.{OpenFile, file_in}
 use Rattle.gl_asking.specs.Handed.{command_in, handed_in}

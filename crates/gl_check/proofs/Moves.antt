@@ -1,14 +1,14 @@
 -- The judge, an entry at a time.
-use Rattle.std.proofs.Common.{◌≡◌, ◌≢◌, ◌⊎◌, ℕ, zero, suc, ◌+◌, ◌-◌, ◌<◌, ◌≤◌, Bool, true, false, List, [], ◌∷◌, ◌++◌, length, length-append, map, drop, set, get_or, Option, None, Some, refl, sym, ap, ◌∙◌, subst, arith, eq-eqb, ne_eqb, inl, inr}
+use Rattle.std.proofs.Common.{◌≡◌, ◌≢◌, ◌⊎◌, ℕ, zero, suc, ◌+◌, ◌<◌, ◌≤◌, Bool, true, false, List, [], ◌∷◌, ◌++◌, length, length-append, map, drop, set, get_or, Option, None, Some, refl, sym, ap, ◌∙◌, subst, arith, eq-eqb, ne_eqb, inl, inr}
 use Rattle.std.specs.Prelude.{◌&&◌, cond}
 use Rattle.std.specs.Bool.{Decides}
 use Rattle.std.proofs.Math.Seq.{drop-append_seam, drop-length, get_or-append_seam}
-use Rattle.std.proofs.lemmas.Bool.{cases_eq, cases_lt, false≢true, true≢false}
+use Rattle.std.proofs.lemmas.Bool.{cases_eq, cases_lt, false≢true}
 use Rattle.std.proofs.lemmas.List.{get_or-set_other, get_or-set_same, get_or_append_left}
 use Rattle.std.proofs.lemmas.List.{length-map, length-set}
 use Rattle.gl_base.specs.Words.{Span}
 use Rattle.gl_world.specs.Deeds.{deed_in}
-use Rattle.gl_client.specs.Program.{Left, Program, done, given, goes_on, then_left}
+use Rattle.gl_client.specs.Program.{Left, Program, done, given, goes_on}
 use Rattle.gl_model.specs.Machine.{world_after}
 use Rattle.gl_model.specs.World.{World, opening}
 use Rattle.gl_script.specs.Section.{SaidSection}
@@ -16,12 +16,12 @@ use Rattle.gl_script.specs.declared.section.SectionKind.TheVariants.{Setup, Afte
 use Rattle.gl_script.specs.declared.section.Statement.{Statement}
 use Rattle.gl_talk.specs.Open.{Names, no_names}
 use Rattle.gl_talk.specs.Over.{columns_in}
-use Rattle.gl_talk.specs.Talk.{left, names_in, quits, says}
+use Rattle.gl_talk.specs.Talk.{names_in, quits, says}
 use Rattle.gl_core.specs.Device.{OneDeed, OneEntry, core}
 use Rattle.gl_core.specs.Kept.{StandsFor}
 use Rattle.gl_core.specs.Legal.{GoesOn}
-use Rattle.gl_check.specs.Judging.{AreSeats, IsFirst, IsSeatOf, IsTaken, Judges, actor_words, all_words, setup_words}
-use Rattle.gl_check.specs.Misfit.{AtEnd, FitsIn, MayGo, Moment, actors_in, after_begun, after_by, after_entry, all_ended, beginning, last_by, last_of, value_left, with_other}
+use Rattle.gl_check.specs.Judging.{AreSeats, IsFirst, IsSeatOf, Judges, actor_words, all_words, setup_words}
+use Rattle.gl_check.specs.Misfit.{AtEnd, FitsIn, MayGo, Moment, actors_in, after_by, after_entry, all_ended, beginning, last_by, last_of, value_left, with_other}
 use Rattle.gl_check.specs.One.{said_in_kind}
 use Rattle.gl_check.specs.Programs.{after_of}
 use Rattle.gl_check.specs.Seating.{HasEnded, IsKept, bearing_by, comes_behind, left_by, port_in, seat_in}

@@ -1,5 +1,5 @@
 -- The numbers that calls of the machine are answered, and the lines of requests.
-use Rattle.std.proofs.Common.{◌≡◌, ℕ, ◌<◌, ◌≤◌, ◌^◌, Bool, true, false, ◌||◌, List, [], ◌∷◌, ◌++◌, length, map, take, Option, None, Some, refl, sym, ap, ◌∙◌, subst, arith, inl, inr}
+use Rattle.std.proofs.Common.{◌≡◌, ℕ, ◌<◌, ◌≤◌, ◌^◌, Bool, true, false, ◌||◌, List, [], ◌∷◌, ◌++◌, length, map, Option, None, Some, refl, sym, ap, ◌∙◌, subst, arith, inl, inr}
 use Rattle.std.specs.Prelude.{◌==◌, nat_lt, not, if◌then◌else◌}
 use Rattle.std.specs.Option.{option_and_then, option_or}
 use Rattle.std.proofs.lemmas.Bool.{cases_lt, true≢false}
@@ -14,37 +14,28 @@ use Rattle.gl_base.specs.declared.errno.Errno.TheVariants.{Inval}
 use Rattle.gl_base.specs.declared.limits.TheConstants.{LINES_PER_REQUEST, PLACES}
 use Rattle.gl_registry.specs.Chips.{can_be_named, chip_at, named_place, no_chip}
 use Rattle.gl_registry.specs.declared.registry.Chip.{Chip}
-use Rattle.gl_uapi.specs.Command.{command_of, size_of}
+use Rattle.gl_uapi.specs.Command.{command_of}
 use Rattle.gl_uapi.specs.declared.commands.Command.{Command}
-use Rattle.gl_uapi.specs.declared.layout.TheConstants.{LINE_REQUEST_SIZE}
 use Rattle.gl_uapi.specs.declared.commands.Command.TheVariants.{ChipInfo, LineInfo, Watch, Unwatch, GetLine, SetConfig, GetValues, SetValues}
 use Rattle.gl_watch.specs.declared.file.ChipFile.{ChipFile}
-use Rattle.gl_core.specs.Kept.{Kept, StandsFor}
+use Rattle.gl_core.specs.Kept.{Kept}
 use Rattle.gl_core.specs.WellKept.{IsWellKept}
 use Rattle.gl_asking.specs.Opened.{place_named, place_or_first}
 use Rattle.gl_attrs.specs.ConfigFault.{config_fault}
 use Rattle.gl_uapi.specs.Fields.{is_zero_at}
 use Rattle.gl_uapi.specs.declared.layout.TheConstants.{REQUEST_PADDING, REQUEST_PADDING_SIZE}
-use Rattle.gl_model.specs.AskedLines.{asked_in, config_of, header_fault, lines_asked, num_lines, request_fault}
+use Rattle.gl_model.specs.AskedLines.{config_of, header_fault, lines_asked, num_lines, request_fault}
 use Rattle.gl_model.specs.Bounds.{HasBounds}
-use Rattle.gl_model.specs.Claiming.{claim, claim_at, claim_by, claim_number, told_claim}
-use Rattle.gl_model.specs.Chips.{phase_at}
-use Rattle.gl_model.specs.Entries.{is_get_line, is_go}
+use Rattle.gl_model.specs.Claiming.{claim_at, claim_by, claim_number, told_claim}
+use Rattle.gl_model.specs.Entries.{is_get_line}
 use Rattle.gl_model.specs.Holders.{file_numbers}
-use Rattle.gl_model.specs.Ioctl.{act_on, by_number, checked}
-use Rattle.gl_model.specs.OpenFiles.{command_refusal}
+use Rattle.gl_model.specs.Ioctl.{by_number}
 use Rattle.gl_model.specs.Opening.{open_at}
-use Rattle.gl_model.specs.Outcome.{Outcome, refused_or}
-use Rattle.gl_model.specs.Parts.{in_ask, in_tell, in_whole, is_driver_asked}
 use Rattle.gl_model.specs.Replies.{has_form, numbered_form}
-use Rattle.gl_model.specs.Step.{guard_reply, step}
+use Rattle.gl_model.specs.Step.{step}
 use Rattle.gl_model.specs.World.{World, Request, has_number, request_at}
 use Rattle.gl_model.specs.Written.{number_answered}
-use Rattle.gl_model.specs.declared.call.Call.{Call}
-use Rattle.gl_model.specs.declared.call.Call.TheVariants.{Probe, Unplug, MakeDir, RemoveDir, Write, Read, Live, Remove, Tick, Pin, Irq, Pull, Level, Interrupt, OpenChip, Find, Ioctl, ReadEdges, ReadInfo, PollLine, PollChip, Close, Refused as RefusedCall}
-use Rattle.gl_model.specs.declared.device_call.CommandIn.{CommandIn}
-use Rattle.gl_model.specs.declared.device_call.DeviceCall.{DeviceCall}
-use Rattle.gl_model.specs.declared.device_call.DeviceCall.TheVariants.{Once, Removing, Commanding}
+use Rattle.gl_model.specs.declared.call.Call.TheVariants.{OpenChip, Ioctl}
 use Rattle.gl_model.specs.declared.call.Part.{Part}
 use Rattle.gl_model.specs.declared.call.Part.TheVariants.{Whole, Ask, Tell}
 use Rattle.gl_model.specs.declared.reply.Reply.{Reply}

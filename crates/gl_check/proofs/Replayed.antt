@@ -1,14 +1,11 @@
 -- A history, an entry at a time, and what was printed after it.
-use Rattle.std.proofs.Common.{◌≡◌, ◌⊎◌, inl, inr, ℕ, zero, suc, ◌+◌, ◌<◌, ◌≤◌, ◌^◌, Bool, true, false, List, [], ◌∷◌, ◌++◌, length, map, take, get_or, Option, None, Some, refl, sym, ap, ◌∙◌, subst, arith}
-use Rattle.std.specs.Bool.{Decides}
+use Rattle.std.proofs.Common.{◌≡◌, inl, inr, ℕ, suc, ◌+◌, ◌<◌, Bool, true, List, [], ◌∷◌, ◌++◌, length, map, take, get_or, None, Some, refl, sym, ap, ◌∙◌, subst, arith}
 use Rattle.std.proofs.Math.Seq.{take-length}
-use Rattle.std.proofs.lemmas.Bool.{false≢true}
 use Rattle.std.proofs.lemmas.List.{take_more}
 use Rattle.gl_script.specs.Section.{SaidSection}
 use Rattle.gl_core.specs.Device.{OneEntry}
-use Rattle.gl_check.specs.Judging.{AreSeats, AreTaken, IsFirst, Judges}
-use Rattle.gl_check.specs.Many.{Texts}
-use Rattle.gl_check.specs.Misfit.{AllFit, AtEnd, FitsIn, IsMisfit, Moment, actors_in, after_entry, beginning, behind, last_of, others_texts, texts_in, texts_of}
+use Rattle.gl_check.specs.Judging.{AreTaken, IsFirst, Judges}
+use Rattle.gl_check.specs.Misfit.{AllFit, AtEnd, FitsIn, IsMisfit, Moment, actors_in, after_entry, beginning, behind, others_texts, texts_of}
 use Rattle.gl_check.specs.Seating.{text_in}
 use Rattle.gl_check.specs.Seats.{Seat as SeatOf}
 use Rattle.gl_check.specs.declared.judge.Judge.{Judge}

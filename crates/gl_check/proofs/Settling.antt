@@ -1,10 +1,9 @@
 -- How an actor goes on: what it does next, and what comes after its statements.
-use Rattle.std.proofs.Common.{◌≡◌, ℕ, ◌+◌, ◌<◌, ◌≤◌, Bool, true, false, List, [], ◌∷◌, ◌++◌, length, map, drop, drop_of_length-le, get_or, Option, None, Some, refl, sym, ap, ◌∙◌, subst, arith}
+use Rattle.std.proofs.Common.{◌≡◌, ℕ, ◌+◌, ◌<◌, ◌≤◌, Bool, true, false, List, [], ◌∷◌, ◌++◌, length, map, drop, drop_of_length-le, get_or, None, Some, refl, sym, ap, ◌∙◌, arith}
 use Rattle.std.specs.Prelude.{if◌then◌else◌}
 use Rattle.std.proofs.lemmas.List.{drop_more, get_or-map, length-map}
 use Rattle.gl_base.specs.Words.{Span}
 use Rattle.gl_base.specs.declared.operation.Do.{Do}
-use Rattle.gl_base.specs.declared.operation.Got.{Got}
 use Rattle.gl_client.specs.Program.{Goes, Left, Program, ask, done, given, goes_on, print, then_by, then_left, waits}
 use Rattle.gl_client.specs.declared.next.Next.TheVariants.{Call, Print}
 use Rattle.gl_model.specs.Entries.{begins}
@@ -13,7 +12,7 @@ use Rattle.gl_script.specs.Columns.{columns}
 use Rattle.gl_script.specs.declared.section.Statement.{Statement}
 use Rattle.gl_talk.specs.Open.{Names, no_names}
 use Rattle.gl_talk.specs.Over.{columns_in}
-use Rattle.gl_talk.specs.Talk.{Does, does, left, quits, says, slot_behind}
+use Rattle.gl_talk.specs.Talk.{does, left, quits, slot_behind}
 use Rattle.gl_talk.specs.declared.talk.Talk.{Talk}
 use Rattle.gl_core.specs.Device.{OneDeed}
 use Rattle.gl_asking.specs.Asking.{asking}

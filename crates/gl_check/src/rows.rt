@@ -3,21 +3,20 @@
 ghost use Rattle.std.specs.Prelude.{vec_len, vec_capacity, ◌≡◌, ◌+◌, ◌≤◌, map};
 ghost use Rattle.std.specs.List.{position};
 ghost use Rattle.gl_asking.specs.Asking.{file_for, files_behind};
-ghost use Rattle.gl_asking.specs.Changes.{IsChange, OpensWithin, changed};
+ghost use Rattle.gl_asking.specs.Changes.{IsChange, NamesMade, OpensWithin, changed};
 ghost use Rattle.gl_asking.specs.Files.{file_in, without_file};
 ghost use Rattle.gl_asking.specs.Rows.{IsRow, IsSomeRow, file_of, row_file};
 ghost use Rattle.gl_base.specs.Rows.{Each};
 ghost use Rattle.gl_check.specs.Rows.{is_row};
 
-use gl_asking::{Change, FileRow, answered_by, files_behind, slot_named};
+use gl_asking::{Answered, Change, FileRow, files_behind, slot_named};
 use gl_base::Do;
-use gl_model::Reply;
 
 /// Where the file in a slot stands.
 fn position_of(rows: &[FileRow], slot: u32) -> Option<usize>
     ensures { result ≡ position (is_row slot) rows.now }
 {
-    rows.iter().position(|row| row.slot == slot)
+    rows.iter().position(|row| row.slot() == slot)
 }
 
 /// The file in a slot, if there is one.
@@ -44,18 +43,18 @@ pub fn row_for(rows: &[FileRow], what: &Do) -> Option<FileRow>
     }
 }
 
-/// The open files after an operation with this reply. There is room for a file more.
-pub fn keep(rows: &mut Vec<FileRow>, what: &Do, row: Option<FileRow>, reply: Reply)
+/// The open files after an operation that was answered so. There is room for a file more.
+pub fn keep(rows: &mut Vec<FileRow>, what: &Do, row: Option<FileRow>, answered: &Answered)
     requires rows { Each IsRow rows.old.items }
     requires room { vec_len rows.old + 1 ≤ vec_capacity rows.old }
     requires row { IsSomeRow row }
     requires found { file_for what.now (map row_file rows.old.items) ≡ file_of row }
-    requires opens { OpensWithin what.now reply }
+    requires opens { OpensWithin what.now answered.now.reply }
+    requires named { NamesMade what.now row answered.now }
     ensures rows { Each IsRow rows.new.items }
-    ensures files { map row_file rows.new.items ≡ files_behind what.now reply (map row_file rows.old.items) }
+    ensures files { map row_file rows.new.items ≡ files_behind what.now answered.now.reply (map row_file rows.old.items) }
 {
-    let answered = answered_by(what, reply);
-    change(rows, files_behind(what, row, &answered));
+    change(rows, files_behind(what, row, answered));
 }
 
 /// Makes a change. There is room for a row more.

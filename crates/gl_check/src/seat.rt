@@ -20,7 +20,7 @@ use crate::speech::go_on;
 use crate::stand::Stand;
 use crate::started::{Started, ask};
 use crate::suiting::suits;
-use gl_asking::{FileRow, got_of};
+use gl_asking::{FileRow, answered_by, got_of};
 use gl_base::{Do, Errno, Got};
 use gl_client::Next;
 use gl_core::Core;
@@ -206,7 +206,8 @@ impl Seat {
     {
         self.rows.reserve(1)?;
         let row = row_for(&self.rows, what);
-        keep(&mut self.rows, what, row, reply);
+        let answered = answered_by(what, reply);
+        keep(&mut self.rows, what, row, &answered);
         let got = got_of(what, &reply, buffer);
         self.settle(alloc, statements, quit, Some(got))
     }

@@ -2,8 +2,7 @@
 
 ghost use Rattle.std.specs.Prelude.{◌≡◌, ℕ, List, map, IfOk, OnOk, IsOkUnless};
 ghost use Rattle.gl_client.specs.Program.{Left};
-ghost use Rattle.gl_asking.specs.Asking.{asking, file_for};
-ghost use Rattle.gl_asking.specs.Changes.{OpensWithin};
+ghost use Rattle.gl_asking.specs.Asking.{asking};
 ghost use Rattle.gl_asking.specs.Rows.{IsRow, row_file};
 ghost use Rattle.gl_base.specs.Rows.{Each};
 ghost use Rattle.gl_base.specs.declared.operation.Got.{Got as GotOf};
@@ -14,7 +13,7 @@ ghost use Rattle.gl_check.specs.Seats.{Bearing, Seat as SeatOf, goes_by};
 use crate::parts::first_inside;
 use crate::port::Planned;
 use crate::rows::{keep, row_for};
-use gl_asking::{Asking, FileRow, asking_of};
+use gl_asking::{Answered, Asking, FileRow, asking_of};
 use gl_base::{Do, Errno, Got};
 use gl_model::{Call, Reply};
 
@@ -43,16 +42,17 @@ pub fn ask(rows: &mut Vec<FileRow>, port: &mut Planned, what: &Do) -> Result<Sta
         Asking::Calls(call) => Ok(Started::Calls(first_inside(&call))),
         Asking::Plans(nth) => {
             port.plan(nth);
-            keep(rows, what, row, Reply::Done);
+            keep(rows, what, row, &Answered::without_lines(Reply::Done));
             Ok(Started::Done(Got::Done))
         }
         Asking::Accepts(bits) => {
             port.accept(bits);
-            keep(rows, what, row, Reply::Done);
+            keep(rows, what, row, &Answered::without_lines(Reply::Done));
             Ok(Started::Done(Got::Done))
         }
         Asking::Refuses(errno) => {
-            keep(rows, what, row, Reply::Refused(errno));
+            let answered = Answered::without_lines(Reply::Refused(errno));
+            keep(rows, what, row, &answered);
             Ok(Started::Done(Got::Refused(errno)))
         }
     }

@@ -4,16 +4,18 @@ use Rattle.std.specs.Prelude.{if◌then◌else◌}
 use Rattle.std.proofs.lemmas.Bool.{true≢false}
 use Rattle.gl_base.specs.Lines.{IsLineCount}
 use Rattle.gl_base.specs.declared.errno.Errno.{Errno}
+use Rattle.gl_base.specs.declared.lines.Lines.{Lines}
 use Rattle.gl_uapi.specs.Command.{command_of, size_of}
 use Rattle.gl_uapi.specs.declared.commands.Command.{Command}
 use Rattle.gl_uapi.specs.declared.layout.TheConstants.{LINE_REQUEST_SIZE}
 use Rattle.gl_uapi.specs.declared.commands.Command.TheVariants.{GetLine}
 use Rattle.gl_core.specs.Kept.{Kept, StandsFor}
 use Rattle.gl_core.specs.WellKept.{IsWellKept}
-use Rattle.gl_model.specs.AskedLines.{asked_in, lines_asked, request_fault}
+use Rattle.gl_model.specs.AskedLines.{asked_in, asked_where, lines_asked, request_fault}
 use Rattle.gl_model.specs.Claiming.{claim}
 use Rattle.gl_model.specs.Chips.{phase_at}
-use Rattle.gl_model.specs.Entries.{is_go}
+use Rattle.gl_model.specs.Entries.{begins, is_get_line, is_go}
+use Rattle.gl_model.specs.Fits.{FitsGift}
 use Rattle.gl_model.specs.Ioctl.{act_on, by_number, checked}
 use Rattle.gl_model.specs.OpenFiles.{command_refusal}
 use Rattle.gl_model.specs.Outcome.{Outcome, refused_or}
@@ -26,12 +28,14 @@ use Rattle.gl_model.specs.declared.call.Call.TheVariants.{Probe, Unplug, MakeDir
 use Rattle.gl_model.specs.declared.device_call.CommandIn.{CommandIn}
 use Rattle.gl_model.specs.declared.device_call.DeviceCall.{DeviceCall}
 use Rattle.gl_model.specs.declared.device_call.DeviceCall.TheVariants.{Once, Removing, Commanding}
+use Rattle.gl_model.specs.declared.call.Part.{Part}
 use Rattle.gl_model.specs.declared.call.Part.TheVariants.{Whole, Ask}
+use Rattle.gl_model.specs.declared.gift.Gift.{Gift}
 use Rattle.gl_model.specs.declared.reply.Reply.{Reply}
-use Rattle.gl_model.specs.declared.reply.Reply.TheVariants.{Number, Go}
+use Rattle.gl_model.specs.declared.reply.Reply.TheVariants.{Number}
 use Rattle.gl_check.specs.One.{comes_to, goes_on, inside, is_gone, two}
-use Rattle.gl_check.proofs.Numbers.{bounds_of, command_number, in_form, is_a_number, lines_counted, opens_a_number, opens_a_place, small_if}
-use Rattle.gl_served.specs.Opening.{LinesBy, NumberFits, NumbersBy}
+use Rattle.gl_check.proofs.Numbers.{bounds_of, command_number, in_form, is_a_number, is_told, lines_counted, opens_a_number, opens_a_place, small_if}
+use Rattle.gl_served.specs.Opening.{GivesLines, LinesBy, LinesFit, NumberFits, NumbersBy, lines_brought}
 
 -- what a call is answered, whatever world the core stands for
 pub number_fits : (k : Kept) (kept : IsWellKept k) (call : Call) (reply : Reply) → ((w : World) → StandsFor k w → reply ≡ (step w 0 call).reply) → NumberFits call reply
@@ -131,6 +135,41 @@ module _ (w : World) (c : CommandIn) (answer : Option ℕ) (fd : ℕ) where
   of_guard : (gone : Bool) → command_of c.cmd ≡ Some GetLine → (if gone then step w 0 (RefusedCall c.place false) else inside w (Commanding c) answer).reply ≡ Number fd → Counted
   of_guard true command e = absurd (guard_no_number false fd e)
   of_guard false command e = of_inside (is_driver_asked c.of_chip c.len (command_of c.cmd)) command e
+
+-- the lines that an ask brings are those that its structure names, where nothing is wrong with the bytes
+faultless_lines : (fault : Option Errno) (bytes : List ℕ) → fault ≡ None → lines_brought (Some (asked_where fault bytes)) ≡ Some (lines_asked bytes)
+faultless_lines None bytes e = refl
+faultless_lines (Some errno) bytes e = cc
+
+no_number : (w : World) (place fd cmd len : ℕ) (bytes : List ℕ) (part : Part) (n : ℕ) → is_told part ≡ false → (step w 0 (Ioctl place fd cmd len bytes part)).reply ≡ Number n → ⊥
+no_number w place fd cmd len bytes part n early e = true≢false (sym (in_form w 0 place fd cmd len bytes part n e).1 ∙ early)
+
+pub lines_fit : (k : Kept) (kept : IsWellKept k) (call : Call) (gift : Gift) (lines : Option Lines) (reply : Reply)
+    → FitsGift call gift → lines ≡ lines_brought gift.asked → ((w : World) → StandsFor k w → reply ≡ (step w 0 call).reply) → LinesFit call reply lines
+lines_fit k kept (Ioctl place fd cmd len bytes Whole) gift lines reply brings is told = λ n e. no_number kept.world place fd cmd len bytes Whole n refl (sym (told kept.world kept.stands) ∙ e)
+lines_fit k kept (Ioctl place fd cmd len bytes Ask) gift lines reply brings is told = (
+  λ n e. no_number kept.world place fd cmd len bytes Ask n refl (sym (told kept.world kept.stands) ∙ e),
+  λ command goes.
+      let named : List ℕ = take LINE_REQUEST_SIZE bytes in
+      let none = go_by_number kept.world place fd len bytes (command_of cmd) command (subst (λ r. is_go r ≡ true) (told kept.world kept.stands) goes) in
+      is ∙ (ap lines_brought (brings (ap is_get_line command)).asked ∙ faultless_lines (request_fault named) named none),
+)
+lines_fit k kept _ gift lines reply brings is told = tt
+
+-- the lines of a command are those of its ask; none are a request's where it has no tell
+pub asked_lines : (c : CommandIn) (ask : Call) (reply : Reply) (lines : Option Lines) → ask ≡ in_ask c → LinesFit ask reply lines → GivesLines (Commanding c) reply lines
+asked_lines c ask reply lines is fits = λ command n e. absurd ((subst (λ (call : Call). LinesFit call reply lines) is fits).0 n e)
+
+pub told_lines : (c : CommandIn) (ask : Call) (asked told : Reply) (lines : Option Lines) → ask ≡ in_ask c → LinesFit ask asked lines → begins ask asked ≡ true → GivesLines (Commanding c) told lines
+told_lines c ask asked told lines is fits goes = λ command n e. (subst (λ (call : Call). LinesFit call asked lines) is fits).1 command (subst (λ (call : Call). begins call asked ≡ true) is goes)
+
+pub whole_lines : (c : CommandIn) (whole : Call) (reply : Reply) (lines : Option Lines) → whole ≡ in_whole c → LinesFit whole reply lines → GivesLines (Commanding c) reply lines
+whole_lines c whole reply lines is fits = λ command n e. absurd (subst (λ (call : Call). LinesFit call reply lines) is fits n e)
+
+pub guard_lines : (call : DeviceCall) (reply : Reply) (poll : Bool) (lines : Option Lines) → reply ≡ guard_reply poll → GivesLines call reply lines
+guard_lines (Once call) reply poll lines is = tt
+guard_lines (Removing removal) reply poll lines is = tt
+guard_lines (Commanding c) reply poll lines is = λ command n e. absurd (guard_no_number poll n (sym is ∙ e))
 
 pub lines_by : (w : World) (call : DeviceCall) (answer : Option ℕ) (reply : Reply) → reply ≡ (comes_to w call answer).reply → LinesBy call reply
 lines_by w (Once call) answer reply is = tt

@@ -15,11 +15,13 @@ use Rattle.gl_base.specs.declared.operation.Do.TheVariants.{Probe as DoProbe, Un
 use Rattle.gl_uapi.specs.Command.{command_of, size_of}
 use Rattle.gl_uapi.specs.declared.commands.Command.{Command}
 use Rattle.gl_uapi.specs.declared.commands.Command.TheVariants.{ChipInfo, LineInfo, Watch as WatchInfo, Unwatch as UnwatchInfo, GetLine, SetConfig, GetValues, SetValues}
+use Rattle.gl_asking.specs.declared.kinds.Answered.{Answered as CallAnswered}
 use Rattle.gl_asking.specs.declared.kinds.Asking.{Asking}
 use Rattle.gl_asking.specs.declared.kinds.Asking.TheVariants.{Calls, Plans, Accepts, Refuses}
 use Rattle.gl_asking.specs.Asking.{asking, buffer_of, files_behind, finds, got_of, has_lines, lives, on_file, once, polls, reads_from}
 use Rattle.gl_asking.specs.Rows.{row_file}
-use Rattle.gl_asking.specs.Changes.{IsFilled, OpensWithin}
+use Rattle.gl_asking.specs.declared.kinds.FileRow.{FileRow}
+use Rattle.gl_asking.specs.Changes.{IsFilled, NamesMade, OpensWithin}
 use Rattle.gl_asking.specs.Files.{OpenFile, file_in}
 use Rattle.gl_asking.specs.Handed.{command_in}
 use Rattle.gl_asking.proofs.HandedBytes.{handed_start}
@@ -47,13 +49,14 @@ use Rattle.gl_served.specs.Alone.{StandsAs}
 use Rattle.gl_served.specs.declared.alone.Alone.{Alone}
 use Rattle.gl_served.specs.Port.{after_asking, next_to}
 use Rattle.gl_served.specs.Making.{CameBy, FitsMaking, Wrote}
-use Rattle.gl_served.specs.Opening.{LinesBy, NumbersBy}
+use Rattle.gl_served.specs.Opening.{GivesLines, LinesBy, NumbersBy}
 
 -- an operation suits its call
 pub record Suits (what : Do) (call : DeviceCall) : Type 0 where
   pub fits : FitsMaking call (buffer_for what)
   pub filled : (bytes new : List ℕ) → Wrote call bytes (buffer_for what) new → IsFilled what bytes new
   pub opens : (reply : Reply) → NumbersBy call reply → LinesBy call reply → OpensWithin what reply
+  pub named : (row : Option FileRow) (answered : CallAnswered) → GivesLines call answered.reply answered.lines → NamesMade what row answered
 
 abbrev pub ForCall : (DeviceCall → Type 0) → Asking → Type 0
 ForCall P (Calls call) = P call
@@ -65,20 +68,17 @@ chosen : (what : Do) (call : DeviceCall) (errno : Errno) (b : Bool) → Suits wh
 chosen what call errno true suits = suits
 chosen what call errno false suits = tt
 
-plain : (what : Do) → ((bytes new : List ℕ) → IsFilled what bytes new) → ((reply : Reply) → OpensWithin what reply) → (call : DeviceCall) → FitsMaking call (buffer_for what) → Suits what call
-plain what filled opens call fits = record { fits = fits; filled = λ bytes new w. filled bytes new; opens = λ reply n l. opens reply }
-
 read_suits : (slot len : ℕ) (file : OpenFile) (of_chip : Bool) → ForCall (Suits (ReadFile slot len)) (once (if of_chip then ReadInfo file.place file.fd len else ReadEdges file.place file.fd len))
-read_suits slot len file true = record { fits = length-replicate len 0; filled = λ bytes new w. w; opens = λ reply n l. tt }
-read_suits slot len file false = record { fits = length-replicate len 0; filled = λ bytes new w. w; opens = λ reply n l. tt }
+read_suits slot len file true = record { fits = length-replicate len 0; filled = λ bytes new w. w; opens = λ reply n l. tt; named = λ row answered gives. tt }
+read_suits slot len file false = record { fits = length-replicate len 0; filled = λ bytes new w. w; opens = λ reply n l. tt; named = λ row answered gives. tt }
 
 read_on : (slot len : ℕ) (o : Option OpenFile) → ForCall (Suits (ReadFile slot len)) (on_file o (λ file. once (reads_from len file)))
 read_on slot len None = tt
 read_on slot len (Some file) = read_suits slot len file file.of_chip
 
 poll_suits : (slot : ℕ) (file : OpenFile) (of_chip : Bool) → ForCall (Suits (Poll slot)) (once (if of_chip then PollChip file.place file.fd else PollLine file.place file.fd))
-poll_suits slot file true = record { fits = tt; filled = λ bytes new w. tt; opens = λ reply n l. tt }
-poll_suits slot file false = record { fits = tt; filled = λ bytes new w. tt; opens = λ reply n l. tt }
+poll_suits slot file true = record { fits = tt; filled = λ bytes new w. tt; opens = λ reply n l. tt; named = λ row answered gives. tt }
+poll_suits slot file false = record { fits = tt; filled = λ bytes new w. tt; opens = λ reply n l. tt; named = λ row answered gives. tt }
 
 poll_on : (slot : ℕ) (o : Option OpenFile) → ForCall (Suits (Poll slot)) (on_file o (λ file. once (polls file)))
 poll_on slot None = tt
@@ -86,11 +86,11 @@ poll_on slot (Some file) = poll_suits slot file file.of_chip
 
 close_on : (slot : ℕ) (o : Option OpenFile) → ForCall (Suits (DoClose slot)) (on_file o (λ file. once (Close file.fd)))
 close_on slot None = tt
-close_on slot (Some file) = record { fits = tt; filled = λ bytes new w. tt; opens = λ reply n l. tt }
+close_on slot (Some file) = record { fits = tt; filled = λ bytes new w. tt; opens = λ reply n l. tt; named = λ row answered gives. tt }
 
 find_on : (slot : ℕ) (name : List ℕ) (o : Option OpenFile) → ForCall (Suits (DoFind (Some slot) name)) (on_file o (λ file. once (Find (Some file.place) name)))
 find_on slot name None = tt
-find_on slot name (Some file) = record { fits = tt; filled = λ bytes new w. tt; opens = λ reply n l. tt }
+find_on slot name (Some file) = record { fits = tt; filled = λ bytes new w. tt; opens = λ reply n l. tt; named = λ row answered gives. tt }
 
 command_on : (slot cmd len : ℕ) (bytes : List ℕ) (made : ℕ) (o : Option OpenFile)
     → ForCall (Suits (DoIoctl slot cmd len bytes made)) (on_file o (λ file. Calls (Commanding (command_in file.place file.fd file.of_chip cmd (buffer_of len bytes)))))
@@ -99,30 +99,31 @@ command_on slot cmd len bytes made (Some file) = record {
   fits = (refl, handed_start (buffer_of len bytes));
   filled = λ wrote new w. w;
   opens = λ reply number lines. (number, λ is fd e. lines (ap command_of is) fd e);
+  named = λ row answered gives. λ is n e chip. gives (ap command_of is) n e;
 }
 
 live_suits : (device : List ℕ) (up : Bool) → ForCall (Suits (DoLive device up)) (lives device up)
-live_suits device true = record { fits = tt; filled = λ bytes new w. tt; opens = λ reply n l. tt }
-live_suits device false = record { fits = refl; filled = λ bytes new w. tt; opens = λ reply n l. tt }
+live_suits device true = record { fits = tt; filled = λ bytes new w. tt; opens = λ reply n l. tt; named = λ row answered gives. tt }
+live_suits device false = record { fits = refl; filled = λ bytes new w. tt; opens = λ reply n l. tt; named = λ row answered gives. tt }
 
 find_suits : (slot : Option ℕ) (name : List ℕ) (files : List OpenFile) → ForCall (Suits (DoFind slot name)) (finds slot name files)
-find_suits None name files = record { fits = tt; filled = λ bytes new w. tt; opens = λ reply n l. tt }
+find_suits None name files = record { fits = tt; filled = λ bytes new w. tt; opens = λ reply n l. tt; named = λ row answered gives. tt }
 find_suits (Some slot) name files = find_on slot name (file_in slot files)
 
 pub suits : (files : List OpenFile) (what : Do) → ForCall (Suits what) (asking files what)
-suits files (DoProbe label lines) = chosen (DoProbe label lines) _ _ (has_lines lines) (record { fits = tt; filled = λ bytes new w. tt; opens = λ reply n l. tt })
-suits files (DoUnplug place) = chosen (DoUnplug place) _ _ (nat_lt place PLACES) (record { fits = refl; filled = λ bytes new w. tt; opens = λ reply n l. tt })
-suits files (DoMakeDir path) = record { fits = tt; filled = λ bytes new w. tt; opens = λ reply n l. tt }
-suits files (DoRemoveDir path) = record { fits = tt; filled = λ bytes new w. tt; opens = λ reply n l. tt }
-suits files (DoWrite path value) = record { fits = tt; filled = λ bytes new w. tt; opens = λ reply n l. tt }
-suits files (DoRead path) = record { fits = tt; filled = λ bytes new w. tt; opens = λ reply n l. tt }
+suits files (DoProbe label lines) = chosen (DoProbe label lines) _ _ (has_lines lines) (record { fits = tt; filled = λ bytes new w. tt; opens = λ reply n l. tt; named = λ row answered gives. tt })
+suits files (DoUnplug place) = chosen (DoUnplug place) _ _ (nat_lt place PLACES) (record { fits = refl; filled = λ bytes new w. tt; opens = λ reply n l. tt; named = λ row answered gives. tt })
+suits files (DoMakeDir path) = record { fits = tt; filled = λ bytes new w. tt; opens = λ reply n l. tt; named = λ row answered gives. tt }
+suits files (DoRemoveDir path) = record { fits = tt; filled = λ bytes new w. tt; opens = λ reply n l. tt; named = λ row answered gives. tt }
+suits files (DoWrite path value) = record { fits = tt; filled = λ bytes new w. tt; opens = λ reply n l. tt; named = λ row answered gives. tt }
+suits files (DoRead path) = record { fits = tt; filled = λ bytes new w. tt; opens = λ reply n l. tt; named = λ row answered gives. tt }
 suits files (DoLive device up) = live_suits device up
-suits files (DoTick mono real) = record { fits = tt; filled = λ bytes new w. tt; opens = λ reply n l. tt }
-suits files (DoPin place what) = chosen (DoPin place what) _ _ (nat_lt place PLACES) (record { fits = tt; filled = λ bytes new w. tt; opens = λ reply n l. tt })
-suits files (DoIrq place offset what) = chosen (DoIrq place offset what) _ _ (nat_lt place PLACES) (record { fits = tt; filled = λ bytes new w. tt; opens = λ reply n l. tt })
-suits files (DoPull place offset up) = chosen (DoPull place offset up) _ _ (nat_lt place PLACES) (record { fits = tt; filled = λ bytes new w. tt; opens = λ reply n l. tt })
-suits files (DoLevel place offset pull) = chosen (DoLevel place offset pull) _ _ (nat_lt place PLACES) (record { fits = tt; filled = λ bytes new w. tt; opens = λ reply n l. tt })
-suits files (DoOpenChip slot word) = record { fits = tt; filled = λ bytes new w. tt; opens = λ reply n l. n }
+suits files (DoTick mono real) = record { fits = tt; filled = λ bytes new w. tt; opens = λ reply n l. tt; named = λ row answered gives. tt }
+suits files (DoPin place what) = chosen (DoPin place what) _ _ (nat_lt place PLACES) (record { fits = tt; filled = λ bytes new w. tt; opens = λ reply n l. tt; named = λ row answered gives. tt })
+suits files (DoIrq place offset what) = chosen (DoIrq place offset what) _ _ (nat_lt place PLACES) (record { fits = tt; filled = λ bytes new w. tt; opens = λ reply n l. tt; named = λ row answered gives. tt })
+suits files (DoPull place offset up) = chosen (DoPull place offset up) _ _ (nat_lt place PLACES) (record { fits = tt; filled = λ bytes new w. tt; opens = λ reply n l. tt; named = λ row answered gives. tt })
+suits files (DoLevel place offset pull) = chosen (DoLevel place offset pull) _ _ (nat_lt place PLACES) (record { fits = tt; filled = λ bytes new w. tt; opens = λ reply n l. tt; named = λ row answered gives. tt })
+suits files (DoOpenChip slot word) = record { fits = tt; filled = λ bytes new w. tt; opens = λ reply n l. n; named = λ row answered gives. tt }
 suits files (DoFind slot name) = find_suits slot name files
 suits files (DoIoctl slot cmd len bytes made) = command_on slot cmd len bytes made (file_in slot files)
 suits files (ReadFile slot len) = read_on slot len (file_in slot files)
@@ -161,6 +162,11 @@ opens_nothing (Poll slot) reply small other = tt
 opens_nothing (DoClose slot) reply small other = tt
 opens_nothing (Plan nth) reply small other = tt
 opens_nothing (Accept bits) reply small other = tt
+
+-- and makes no request
+pub names_nothing : (what : Do) (row : Option FileRow) (answered : CallAnswered) → has_number answered.reply ≡ false → NamesMade what row answered
+names_nothing (DoIoctl slot cmd len bytes made) row answered other = λ is fd e chip. absurd (true≢false (sym (ap has_number e) ∙ other))
+names_nothing _ row answered other = tt
 
 -- what is got of a refusal, and of what is said to the port
 pub refused_got : (what : Do) (errno : Errno) → GotRefused errno ≡ got_of what (RefusedReply errno) []

@@ -2,7 +2,7 @@
 
 ghost use Rattle.std.specs.Prelude.{vec_len, vec_capacity, ◌≡◌, ◌+◌, ◌≤◌, [], map, IfOk, OnOk, OnErr, IsOkUnless, List};
 ghost use Rattle.gl_asking.specs.Asking.{asking, file_for, files_behind, got_of};
-ghost use Rattle.gl_asking.specs.Changes.{OpensWithin};
+ghost use Rattle.gl_asking.specs.Changes.{NamesMade, OpensWithin};
 ghost use Rattle.gl_asking.specs.Files.{OpenFile};
 ghost use Rattle.gl_asking.specs.Fitting.{FitsDevice};
 ghost use Rattle.gl_asking.specs.Rows.{IsRow, IsSomeRow, file_of, row_file};
@@ -18,7 +18,7 @@ ghost use Rattle.gl_served.specs.Closing.{all_closed, closes};
 
 use crate::closing::in_order;
 use crate::making::{Made, make};
-use gl_asking::{Asking, FileRow, asking_of, got_of};
+use gl_asking::{Answered, Asking, FileRow, asking_of, got_of};
 use gl_base::{Do, Errno, Got};
 use gl_check::rows::{keep, row_for};
 use gl_check::{Planned, buffer_for};
@@ -66,16 +66,17 @@ impl Alone {
             Asking::Calls(call) => self.call(alloc, what, row, &call),
             Asking::Plans(nth) => {
                 self.port.plan(nth);
-                self.keep(what, row, Reply::Done);
+                self.keep(what, row, &Answered::without_lines(Reply::Done));
                 Ok(Got::Done)
             }
             Asking::Accepts(bits) => {
                 self.port.accept(bits);
-                self.keep(what, row, Reply::Done);
+                self.keep(what, row, &Answered::without_lines(Reply::Done));
                 Ok(Got::Done)
             }
             Asking::Refuses(errno) => {
-                self.keep(what, row, Reply::Refused(errno));
+                let answered = Answered::without_lines(Reply::Refused(errno));
+                self.keep(what, row, &answered);
                 Ok(Got::Refused(errno))
             }
         }
@@ -102,7 +103,7 @@ impl Alone {
         ensures memory_alone { IsOkUnless result Errno.NoMemory }
     {
         for row in rows {
-            match self.perform(alloc, &Do::Close { slot: row.slot }) {
+            match self.perform(alloc, &Do::Close { slot: row.slot() }) {
                 Ok(_) => {}
                 Err(errno) => return Err(errno),
             }
@@ -132,26 +133,33 @@ impl Alone {
         let buffer = buffer_for(alloc, what)?;
         core_is_well_kept(&self.core);
         match make(&mut self.core, alloc, &mut self.port, call, buffer) {
-            Ok(Made { reply, buffer }) => {
-                self.keep(what, row, reply);
+            Ok(
+                Made {
+                    reply,
+                    lines,
+                    buffer,
+                },
+            ) => {
+                self.keep(what, row, &Answered { reply, lines });
                 Ok(got_of(what, &reply, buffer))
             }
             Err(errno) => Err(errno),
         }
     }
 
-    /// The open files after an operation with this reply. There is room for a file more.
-    fn keep(&mut self, what: &Do, row: Option<FileRow>, reply: Reply)
+    /// The open files after an operation that was answered so. There is room for a file more.
+    fn keep(&mut self, what: &Do, row: Option<FileRow>, answered: &Answered)
         requires rows { Each IsRow self.old.rows.items }
         requires room { vec_len self.old.rows + 1 ≤ vec_capacity self.old.rows }
         requires row { IsSomeRow row }
         requires found { file_for what.now (map row_file self.old.rows.items) ≡ file_of row }
-        requires opens { OpensWithin what.now reply }
+        requires opens { OpensWithin what.now answered.now.reply }
+        requires named { NamesMade what.now row answered.now }
         ensures rows { Each IsRow self.new.rows.items }
-        ensures files { map row_file self.new.rows.items ≡ files_behind what.now reply (map row_file self.old.rows.items) }
+        ensures files { map row_file self.new.rows.items ≡ files_behind what.now answered.now.reply (map row_file self.old.rows.items) }
         ensures core { self.new.core ≡ self.old.core }
         ensures port { self.new.port ≡ self.old.port }
     {
-        keep(&mut self.rows, what, row, reply);
+        keep(&mut self.rows, what, row, answered);
     }
 }

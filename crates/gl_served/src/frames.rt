@@ -1,6 +1,6 @@
 //! Frames: how many bytes come, and these bytes.
 
-ghost use Rattle.std.specs.Prelude.{◌≡◌, ◌++◌, [], IfOk, OnOk, IsOkUnless};
+ghost use Rattle.std.specs.Prelude.{◌≡◌, IfOk, IsOkUnless};
 ghost use Rattle.gl_served.specs.Frames.{frame, frame_of, refused_line};
 
 use crate::answered::Answer;

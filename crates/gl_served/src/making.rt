@@ -14,12 +14,12 @@ ghost use Rattle.gl_model.specs.World.{World};
 ghost use Rattle.gl_model.specs.declared.device_call.DeviceCall.TheVariants.{Commanding, Removing};
 ghost use Rattle.gl_check.specs.One.{comes_to, goes_on, inside, is_asked, is_gone, two};
 ghost use Rattle.gl_served.specs.Making.{Came, CameBy, FitsMaking, is_asked_inside, is_command_asked};
-ghost use Rattle.gl_served.specs.Opening.{NumberFits, NumbersBy};
+ghost use Rattle.gl_served.specs.Opening.{GivesLines, LinesFit, NumberFits, NumbersBy, lines_brought};
 ghost use Rattle.gl_check.specs.Seating.{port_in};
 ghost use Rattle.gl_served.specs.Port.{after_asking, next_to};
 
 use gl_asking::parts::{applies, first_call, in_part, is_poll, last_call};
-use gl_base::{Errno, Phase};
+use gl_base::{Errno, Lines, Phase};
 use gl_check::Planned;
 use gl_core::Core;
 use gl_core::entries::{begins, place_of};
@@ -34,20 +34,22 @@ use std::alloc::Global;
 pub struct Made {
     /// What it was answered.
     pub reply: Reply,
+    /// The lines that it asked for, where it made a request of lines. Only then do they mean something.
+    pub lines: Option<Lines>,
     /// Its buffer.
     pub buffer: Vec<u8>,
 }
 
-/// A gift with nothing in it.
-fn nothing() -> Gift
-    ensures ring { result.ring ≡ None }
-    ensures queue { result.queue ≡ None }
-    ensures asked { result.asked ≡ None }
+/// The lines that a call asks for by what it brings, where its bytes alone don't have it refused.
+fn lines_brought(gift: &Gift) -> Option<Lines>
+    ensures { result ≡ lines_brought gift.now.asked }
 {
-    Gift {
-        ring: None,
-        queue: None,
-        asked: None,
+    match &gift.asked {
+        None => None,
+        Some(brought) => match brought {
+            Err(_) => None,
+            Ok(asked) => Some(*asked.lines()),
+        },
     }
 }
 
@@ -56,12 +58,18 @@ fn step(core: &mut Core, call: &Call, gift: Gift, buffer: Vec<u8>) -> Made
     requires { Fits call.now gift buffer.items }
     ensures came { (w : World) → StandsFor core.old w → Came (step w 0 call.now) result.reply core.new buffer.items result.buffer.items }
     ensures number { NumberFits call.now result.reply }
+    ensures lines { LinesFit call.now result.reply result.lines }
 {
     core_is_well_kept(core);
+    let lines = lines_brought(&gift);
     let mut gift = gift;
     let mut buffer = buffer;
     let reply = core.step(0, call, &mut gift, &mut buffer);
-    Made { reply, buffer }
+    Made {
+        reply,
+        lines,
+        buffer,
+    }
 }
 
 /// Makes one call of the machine, with the memory that it needs.
@@ -70,6 +78,7 @@ fn make_one(core: &mut Core, alloc: Global, call: &Call, buffer: Vec<u8>) -> Res
     requires buffer { FitsBuffer call.now buffer.items }
     ensures made { (w : World) → StandsFor core.old w → IfOk result (λ made. Came (step w 0 call.now) made.reply core.new buffer.items made.buffer.items) }
     ensures number { IfOk result (λ made. NumberFits call.now made.reply) }
+    ensures lines { IfOk result (λ made. LinesFit call.now made.reply made.lines) }
     ensures kept { OnErr result (core.new ≡ core.old) }
     ensures memory_alone { IsOkUnless result Errno.NoMemory }
 {
@@ -113,7 +122,7 @@ fn end_removal(
         → (StandsFor core.new (two w first.now (last_call (first_call removal.now))).world) × (result.reply ≡ (two w first.now (last_call (first_call removal.now))).reply) }
 {
     if begins(first, &made.reply) {
-        step(core, &last_call(first), nothing(), Vec::new(alloc))
+        step(core, &last_call(first), Gift::nothing(), Vec::new(alloc))
     } else {
         made
     }
@@ -133,6 +142,7 @@ fn drive(
         Came (two w (in_ask command.now) (in_tell (next_to (Commanding command.now) (port_in port.old)) command.now)) made.reply core.new buffer.items made.buffer.items
         × (port_in port.new ≡ after_asking (goes_on w (in_ask command.now)) (port_in port.old))) }
     ensures number { IfOk result (λ made. NumbersBy (Commanding command.now) made.reply) }
+    ensures lines { IfOk result (λ made. GivesLines (Commanding command.now) made.reply made.lines) }
     ensures kept { OnErr result ((core.new ≡ core.old) × (port_in port.new ≡ port_in port.old)) }
     ensures memory_alone { IsOkUnless result Errno.NoMemory }
 {
@@ -157,16 +167,24 @@ fn tell(
     requires ask { ask.now ≡ in_ask command.now }
     requires buffer { FitsBuffer (in_ask command.now) spare.items }
     requires number { NumbersBy (Commanding command.now) made.reply }
+    requires lines { LinesFit ask.now made.reply made.lines }
     ensures made { (w : World) → Came (step w 0 (in_ask command.now)) made.reply core.old spare.items made.buffer.items
         → Came (two w (in_ask command.now) (in_tell (next_to (Commanding command.now) (port_in port.old)) command.now)) result.reply core.new spare.items result.buffer.items
         × (port_in port.new ≡ after_asking (goes_on w (in_ask command.now)) (port_in port.old)) }
     ensures number { NumbersBy (Commanding command.now) result.reply }
+    ensures lines { GivesLines (Commanding command.now) result.reply result.lines }
 {
     if begins(ask, &made.reply) {
         let answer = port.next_answer(applies(command.cmd));
         port.count();
         let tell = in_part(command, Part::Tell(answer));
-        step(core, &tell, nothing(), spare)
+        let lines = made.lines;
+        let Made { reply, buffer, .. } = step(core, &tell, Gift::nothing(), spare);
+        Made {
+            reply,
+            lines,
+            buffer,
+        }
     } else {
         made
     }
@@ -186,6 +204,7 @@ fn command(
         CameBy (Commanding command.now) (inside w (Commanding command.now) (next_to (Commanding command.now) (port_in port.old))) made.reply core.new buffer.items made.buffer.items
         × (port_in port.new ≡ after_asking (is_command_asked w command.now) (port_in port.old))) }
     ensures number { IfOk result (λ made. NumbersBy (Commanding command.now) made.reply) }
+    ensures lines { IfOk result (λ made. GivesLines (Commanding command.now) made.reply made.lines) }
     ensures kept { OnErr result ((core.new ≡ core.old) × (port_in port.new ≡ port_in port.old)) }
     ensures memory_alone { IsOkUnless result Errno.NoMemory }
 {
@@ -210,6 +229,7 @@ fn make_inside(
         CameBy call.now (inside w call.now (next_to call.now (port_in port.old))) made.reply core.new buffer.items made.buffer.items
         × (port_in port.new ≡ after_asking (is_asked_inside w call.now) (port_in port.old))) }
     ensures number { IfOk result (λ made. NumbersBy call.now made.reply) }
+    ensures lines { IfOk result (λ made. GivesLines call.now made.reply made.lines) }
     ensures kept { OnErr result ((core.new ≡ core.old) × (port_in port.new ≡ port_in port.old)) }
     ensures memory_alone { IsOkUnless result Errno.NoMemory }
 {
@@ -267,6 +287,7 @@ pub fn make(
         CameBy call.now (comes_to w call.now (next_to call.now (port_in port.old))) made.reply core.new buffer.items made.buffer.items
         × (port_in port.new ≡ after_asking (is_asked w call.now) (port_in port.old))) }
     ensures number { IfOk result (λ made. NumbersBy call.now made.reply) }
+    ensures lines { IfOk result (λ made. GivesLines call.now made.reply made.lines) }
     ensures kept { OnErr result ((core.new ≡ core.old) × (port_in port.new ≡ port_in port.old)) }
     ensures memory_alone { IsOkUnless result Errno.NoMemory }
 {
@@ -293,6 +314,7 @@ fn make_at(
         CameBy call.now (comes_to w call.now (next_to call.now (port_in port.old))) made.reply core.new buffer.items made.buffer.items
         × (port_in port.new ≡ after_asking (is_asked w call.now) (port_in port.old))) }
     ensures number { IfOk result (λ made. NumbersBy call.now made.reply) }
+    ensures lines { IfOk result (λ made. GivesLines call.now made.reply made.lines) }
     ensures kept { OnErr result ((core.new ≡ core.old) × (port_in port.new ≡ port_in port.old)) }
     ensures memory_alone { IsOkUnless result Errno.NoMemory }
 {

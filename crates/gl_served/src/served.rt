@@ -1,6 +1,6 @@
 //! A session whose lines come one by one, each answered at once.
 
-ghost use Rattle.std.specs.Prelude.{◌≡◌, ◌≢◌, ◌<◌, ◌≤◌, ◌+◌, ◌++◌, ◌∷◌, [], ℕ, List, None, Some, Ok, Err, true, false, length, map, IfSome, IfOk, OnOk, OnErr, IsOkUnless};
+ghost use Rattle.std.specs.Prelude.{◌≡◌, ◌≢◌, ◌<◌, ◌≤◌, ◌+◌, ◌++◌, [], ℕ, List, None, Some, Ok, Err, true, false, length, map, IfSome, IfOk, OnOk, OnErr, IsOkUnless};
 ghost use Rattle.gl_client.specs.Program.{Program, done};
 ghost use Rattle.gl_base.specs.Rows.{Each};
 ghost use Rattle.gl_asking.specs.Rows.{IsRow, row_file};

@@ -1,6 +1,6 @@
 //! The slots of statements.
 
-ghost use Rattle.std.specs.Prelude.{◌≡◌, ◌<◌, ◌≤◌, ◌+◌, map, suc, IfSome, length};
+ghost use Rattle.std.specs.Prelude.{◌≡◌, ◌<◌, ◌+◌, map, suc, IfSome, length};
 ghost use Rattle.gl_asking.specs.Rows.{row_file};
 ghost use Rattle.gl_served.specs.declared.limits.TheConstants.{PAIRS};
 ghost use Rattle.gl_served.specs.Slots.{first_free, is_taken, lowest_free, pair_behind, within_pairs};
@@ -62,7 +62,7 @@ fn is_taken(pair: u64, rows: &[FileRow]) -> bool
     ensures { result ≡ is_taken pair (map row_file rows.now) }
 {
     for row in rows {
-        if u64::from(row.slot / 2) == pair + 1 {
+        if u64::from(row.slot() / 2) == pair + 1 {
             return true;
         }
     }

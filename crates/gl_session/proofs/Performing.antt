@@ -31,7 +31,7 @@ use Rattle.gl_check.specs.Drivers.{DriverKind}
 use Rattle.gl_check.specs.Turns.{Carried, Exchange, IsDone}
 use Rattle.gl_check.proofs.Asked.{port_asked}
 use Rattle.gl_session.specs.Performed.{HasPerformed, IsCall, Performs}
-use Rattle.gl_session.specs.Player.{buffer_for}
+use Rattle.gl_check.specs.Buffers.{buffer_for}
 use Rattle.gl_session.proofs.Suiting.{Suits}
 
 pub unmoved : (v : OneView) → Grew core v [] v

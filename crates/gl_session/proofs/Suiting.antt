@@ -26,7 +26,7 @@ use Rattle.gl_asking.specs.Changes.{IsFilled, NamesMade, OpensWithin}
 use Rattle.gl_asking.specs.Driving.{lines_by, op_asked, op_for, op_of, op_on, op_requested}
 use Rattle.gl_asking.specs.Files.{OpenFile, file_in}
 use Rattle.gl_asking.specs.Handed.{command_in, handed_in}
-use Rattle.gl_asking.specs.Rows.{HasLines, IsSomeRow, file_of, is_chip, is_on_chip, lines_of}
+use Rattle.gl_asking.specs.Rows.{HasLines, IsSomeRow, file_of, is_chip, is_on_chip, kind_of, lines_of}
 use Rattle.gl_asking.specs.declared.kinds.Answered.{Answered}
 use Rattle.gl_asking.specs.declared.kinds.Asking.{Asking}
 use Rattle.gl_asking.specs.declared.kinds.Asking.TheVariants.{Calls, Plans, Accepts, Refuses}
@@ -38,7 +38,7 @@ use Rattle.gl_chip.specs.DriverCommands.{IsOp}
 use Rattle.gl_chip.specs.Orders.{AnswersOrder, FitsFile, FitsOut, GivesLines, WroteTo, op_ordered}
 use Rattle.gl_chip.specs.Values.{OneView}
 use Rattle.gl_chip.proofs.OpenedChips.{named_within, opened_in}
-use Rattle.gl_session.specs.Player.{buffer_for, kind_of}
+use Rattle.gl_check.specs.Buffers.{buffer_for}
 
 -- An operation suits its call, on a file of this kind: what the driver is asked for it, its buffer before the call and after it, and the
 -- files that it opens.

@@ -15,8 +15,8 @@ use Rattle.gl_script.specs.Cost.{session_cost}
 use Rattle.gl_script.specs.Section.{SaidSection}
 use Rattle.gl_talk.specs.Open.{Names}
 use Rattle.gl_driver.specs.declared.map.Map.{Map}
-use Rattle.gl_chip.specs.Values.{IsQuietDriver, MayOwn, OneView, OwnRelation}
-use Rattle.gl_core.specs.Device.{OneDeed, OneEntry, core, tells_in}
+use Rattle.gl_chip.specs.Values.{IsQuietDriver, OneView, OwnRelation}
+use Rattle.gl_core.specs.Device.{MayOwn, OneDeed, OneEntry, core, tells_in}
 use Rattle.gl_session.specs.Alone.{Part, PlayedSession}
 use Rattle.gl_check.specs.Drivers.{DriverKind}
 use Rattle.gl_check.specs.Programs.{actor_of, after_of, setup_of}

@@ -1,12 +1,7 @@
 -- What contracts see of a player: an actor of a device, with the open files of a talk and what its talks printed. This project's choice.
-use Rattle.std.specs.Prelude.{ℕ, ◌==◌, Bool, Box, List, [], Option, None, Some, replicate}
-use Rattle.gl_base.specs.declared.operation.Do.{Do}
-use Rattle.gl_base.specs.declared.operation.Do.TheVariants.{Ioctl, ReadFile}
+use Rattle.std.specs.Prelude.{ℕ, ◌==◌, Bool, Box, List}
 use Rattle.gl_gate.specs.Values.{GateValue}
-use Rattle.gl_asking.specs.declared.kinds.FileKind.{FileKind}
-use Rattle.gl_asking.specs.declared.kinds.FileKind.TheVariants.{Chip}
 use Rattle.gl_asking.specs.declared.kinds.FileRow.{FileRow}
-use Rattle.gl_asking.specs.Asking.{buffer_of}
 use Rattle.gl_asking.specs.Files.{OpenFile}
 use Rattle.gl_asking.specs.Rows.{IsRow, row_file}
 use Rattle.gl_chip.specs.Values.{OneView}
@@ -28,14 +23,3 @@ boxed_file row = row_file row.value
 
 abbrev pub IsBoxedRow : {A : Type 0} → Box FileRow A → Type 0
 IsBoxedRow row = IsRow row.value
-
--- what the file of an operation is of; where it names none, that means nothing
-abbrev pub kind_of : Option FileRow → FileKind
-kind_of None = Chip
-kind_of (Some row) = row.kind
-
--- the buffer of an operation: that of a command begins with its bytes, and that of a read is zeros
-abbrev pub buffer_for : Do → List ℕ
-buffer_for (Ioctl slot cmd len bytes made) = buffer_of len bytes
-buffer_for (ReadFile slot len) = replicate len 0
-buffer_for _ = []

@@ -1,7 +1,6 @@
 //! A session: from the bytes read to the bytes written and the status.
 #![tactic(auto)]
 
-mod buffers;
 mod check;
 pub mod fork;
 mod judging;

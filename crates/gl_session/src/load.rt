@@ -1,6 +1,5 @@
 //! A generated load, run as a session: what it comes to is told by four numbers.
-ghost use Rattle.std.specs.Prelude.{◌≡◌, ◌≤◌, ◌++◌, ◌%◌, ◌^◌, List, drop, length, sum, IfOk, OnOk, IsOkUnless};
-ghost use Rattle.gl_script.specs.Gen.{load_text};
+ghost use Rattle.std.specs.Prelude.{◌≡◌, ◌≤◌, ◌%◌, ◌^◌, List, drop, length, sum, IfOk, IsOkUnless};
 ghost use Rattle.gl_script.specs.Script.{sections_of};
 ghost use Rattle.gl_script.specs.Section.{SaidSection, statements_of};
 ghost use Rattle.gl_script.specs.Sentence.{Sentence};

@@ -1,5 +1,5 @@
 //! The output of a session of several actors, written.
-ghost use Rattle.std.specs.Prelude.{◌≡◌, ◌++◌, ◌∷◌, ◌<◌, ◌^◌, [], get_or, length, codes, IfOk, MatchOption, OnOk, IsOkUnless, false, true};
+ghost use Rattle.std.specs.Prelude.{◌≡◌, ◌++◌, ◌<◌, ◌^◌, get_or, length, codes, IfOk, MatchOption, OnOk, IsOkUnless, false, true};
 ghost use Rattle.gl_base.specs.Rows.{Each};
 ghost use Rattle.gl_script.specs.Script.{sections_of};
 ghost use Rattle.gl_script.specs.declared.section.SectionKind.TheVariants.{Actor as ActorKind};

@@ -1,5 +1,5 @@
 //! A talk, carried out by a player.
-ghost use Rattle.std.specs.Prelude.{◌≡◌, ◌⊎◌, ◌+◌, ◌≤◌, false, IfOk, IfErr, OnOk, IsTrue, None, map, length, option_copied};
+ghost use Rattle.std.specs.Prelude.{◌≡◌, ◌⊎◌, ◌+◌, ◌≤◌, false, IfOk, IfErr, OnOk, IsTrue, None, map, length};
 ghost use Rattle.gl_base.specs.declared.errno.Errno.TheVariants.{Full, NoMemory};
 ghost use Rattle.gl_client.specs.Program.{done, given};
 ghost use Rattle.gl_talk.specs.Over.{columns_in};

@@ -4,13 +4,12 @@ ghost use Rattle.std.specs.Prelude.{◌≡◌, List, false};
 ghost use Rattle.gl_model.specs.declared.reply.Reply.{Reply};
 ghost use Rattle.gl_asking.specs.Asking.{files_behind};
 ghost use Rattle.gl_asking.specs.Files.{OpenFile};
-ghost use Rattle.gl_session.specs.Player.{kind_of};
 
-use crate::buffers::buffer_for;
 use crate::rows::Rows;
-use gl_asking::{Answered, Asking, Change, FileKind, FileRow, asking_of, files_behind, got_of};
+use gl_asking::{Answered, Asking, Change, FileRow, asking_of, files_behind, got_of};
 use gl_base::command::GET_LINE;
 use gl_base::{Do, Errno, Got};
+use gl_check::buffer_for;
 use gl_chip::{Actor, Gpio, Order};
 use gl_core::Core;
 use gl_driver::Driver;
@@ -40,16 +39,6 @@ impl<'d, D: Driver<Core>> Model for Player<'d, D> {
     ghost invariant = { λ p. IsActorOf p.device.now p.actor };
 }
 
-/// What the file of a row is of; a chip where there is no row.
-fn kind_of(row: &Option<FileRow>) -> FileKind
-    ensures { result ≡ kind_of row.now }
-{
-    match row {
-        Some(row) => row.kind,
-        None => FileKind::Chip,
-    }
-}
-
 /// Whether an operation opens or closes a file, where it isn't refused. No other changes the open files.
 fn opens_or_closes(what: &Do) -> bool
     ensures stays { result ≡ false → (reply : Reply) (files : List OpenFile) → files_behind what.now reply files ≡ files }
@@ -74,7 +63,7 @@ impl<'d, D: Driver<Core>> Player<'d, D> {
     ghost use Rattle.gl_asking.specs.Asking.{asking, file_for, files_behind};
     ghost use Rattle.gl_asking.specs.Changes.{IsChange, NamesMade, OpensWithin, changed};
     ghost use Rattle.gl_asking.specs.Fitting.{FitsDevice};
-    ghost use Rattle.gl_asking.specs.Rows.{IsSomeRow, file_of};
+    ghost use Rattle.gl_asking.specs.Rows.{IsSomeRow, file_of, kind_of};
     ghost use Rattle.gl_chip.specs.Called.{HasCalled};
     ghost use Rattle.gl_chip.specs.Orders.{AnswersOrder, FitsOrder, GivesLines, WroteTo, op_ordered};
     ghost use Rattle.gl_chip.specs.Steps.{FoundNoRoom};
@@ -171,35 +160,23 @@ impl<'d, D: Driver<Core>> Player<'d, D> {
         let asking = asking_of(what, row);
         match &asking {
             Asking::Calls(call) => {
-                let order = Order {
-                    call: *call,
-                    on: kind_of(&row),
-                };
+                let order = Order::of(*call, &row);
                 self.call(rt, alloc, what, &row, &order)
             }
             Asking::Plans(nth) => {
                 self.plan(*nth);
-                let answered = Answered {
-                    reply: Reply::Done,
-                    lines: None,
-                };
+                let answered = Answered::without_lines(Reply::Done);
                 self.settle(what, &row, &answered)?;
                 Ok(Got::Done)
             }
             Asking::Accepts(bits) => {
                 self.accept(*bits);
-                let answered = Answered {
-                    reply: Reply::Done,
-                    lines: None,
-                };
+                let answered = Answered::without_lines(Reply::Done);
                 self.settle(what, &row, &answered)?;
                 Ok(Got::Done)
             }
             Asking::Refuses(errno) => {
-                let answered = Answered {
-                    reply: Reply::Refused(*errno),
-                    lines: None,
-                };
+                let answered = Answered::without_lines(Reply::Refused(*errno));
                 self.settle(what, &row, &answered)?;
                 Ok(Got::Refused(*errno))
             }

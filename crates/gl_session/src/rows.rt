@@ -68,7 +68,7 @@ impl Rows {
 fn position_of(rows: &[Box<FileRow>], slot: u32) -> Option<usize>
     ensures { result ≡ position (is_boxed_row slot) rows.now }
 {
-    rows.iter().position(|row| row.slot == slot)
+    rows.iter().position(|row| row.slot() == slot)
 }
 
 /// The file in a slot, if there is one.

@@ -1,7 +1,7 @@
 use Rattle.std.proofs.Common.{List, ℕ, ◌++◌, map, ap, ◌∙◌}
 use Rattle.gl_script.specs.Script.{sections_of}
 use Rattle.gl_check.specs.Many.{Texts}
-use Rattle.gl_check.specs.Misfit.{beginning, behind, texts_of}
+use Rattle.gl_check.specs.Misfit.{beginning, behind}
 use Rattle.gl_check.specs.Seating.{text_in}
 use Rattle.gl_check.specs.Texts.{texts_text}
 use Rattle.gl_check.proofs.Replayed.{printed}

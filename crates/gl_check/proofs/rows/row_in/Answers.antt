@@ -1,4 +1,4 @@
-use Rattle.std.proofs.Common.{sym, ◌∙◌, Some}
+use Rattle.std.proofs.Common.{sym}
 use Rattle.gl_asking.specs.Files.{is_in}
 use Rattle.gl_asking.specs.Rows.{row_file}
 use Rattle.gl_talk.proofs.NamedRows.{row_found, no_row_found}

@@ -1,4 +1,4 @@
-use Rattle.std.proofs.Common.{◌≡◌, ◌<◌, ◌+◌, ◌++◌, List, ℕ, drop, length, map, arith, subst, sym, ap, ◌∙◌}
+use Rattle.std.proofs.Common.{◌<◌, ◌+◌, ◌++◌, ℕ, drop, length, map, arith, sym, ap, ◌∙◌}
 use Rattle.gl_script.specs.Script.{sections_of}
 use Rattle.gl_check.specs.Many.{actor_sections}
 use Rattle.gl_check.specs.Seating.{text_in}

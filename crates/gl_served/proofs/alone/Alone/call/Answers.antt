@@ -27,6 +27,12 @@ keep-requires-clause-opens c =
     suits.opens c.in-Ok.field-0.reply c.in-Ok.ensures.number
     (lines_by kept.world c.args.call.now (next_to c.args.call.now (port_in c.args.self.now.port)) c.in-Ok.field-0.reply (c.in-Ok.ensures.made kept.world kept.stands).0.reply)
 
+pub keep-requires-clause-named : goal.keep-requires-clause-named
+keep-requires-clause-named c =
+    let files : List OpenFile = map row_file c.args.self.now.rows.items in
+    let suits = suits_call files c.args.what.now c.args.call.now (c.requires.asks files c.requires.found) in
+    suits.named c.args.row (record { reply = c.in-Ok.field-0.reply; lines = c.in-Ok.field-0.lines }) c.in-Ok.ensures.lines
+
 pub returns-in-Ok-clause-ok : goal.returns-in-Ok-clause-ok
 returns-in-Ok-clause-ok c = λ s stands.
     let files : List OpenFile = map row_file c.args.self.now.rows.items in

@@ -1,6 +1,7 @@
-use Rattle.std.proofs.Common.{map, take, subst, sym}
+use Rattle.std.proofs.Common.{ℕ, map, take, subst, sym}
+use Rattle.gl_base.specs.declared.operation.Do.TheVariants.{Close}
 use Rattle.gl_asking.specs.Rows.{row_file}
-use Rattle.gl_check.specs.One.{PlannedPort, Standing}
+use Rattle.gl_check.specs.One.{PlannedPort, Standing, from_plan, performs}
 use Rattle.gl_served.specs.Alone.{StandsAs}
 use Rattle.gl_served.specs.Closing.{closes}
 use Rattle.gl_served.proofs.Closed.{row_closed}
@@ -11,5 +12,6 @@ loop-row-preserved c = (
   c.perform.ensures.rows,
   λ s stands.
       let came = c.in-Ok.ensures.ok (closes (map row_file (take c.loop-row.row-index c.args.rows.now)) s) (c.loop-row.invariant.1 s stands) in
-      subst (λ (t : Standing PlannedPort). StandsAs c.perform.new.self t) (sym (row_closed c.args.rows.now c.loop-row.row-index _ s c.loop-row-test.true)) came.1,
+      subst (λ (t : Standing PlannedPort). StandsAs c.perform.new.self t) (sym (row_closed c.args.rows.now c.loop-row.row-index _ s c.loop-row-test.true))
+      (subst (λ (slot : ℕ). StandsAs c.perform.new.self (performs from_plan (Close slot) (closes (map row_file (take c.loop-row.row-index c.args.rows.now)) s)).1) c.slot.ensures came.1),
 )

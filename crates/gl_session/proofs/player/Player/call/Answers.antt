@@ -7,7 +7,8 @@ use Rattle.gl_asking.specs.Files.{OpenFile}
 use Rattle.gl_asking.specs.declared.kinds.FileKind.{FileKind}
 use Rattle.gl_chip.specs.Called.{HasCalled}
 use Rattle.gl_chip.specs.Orders.{AnswersOrder, FitsFile, GivesLines, FitsOut, WroteTo, op_ordered}
-use Rattle.gl_session.specs.Player.{buffer_for, kind_of}
+use Rattle.gl_asking.specs.Rows.{kind_of}
+use Rattle.gl_check.specs.Buffers.{buffer_for}
 use Rattle.gl_session.proofs.Performing.{call_performs, could_not_perform, whole_again}
 use Rattle.gl_session.proofs.Suiting.{suits_call}
 use Rattle.gl_session.proofs.player.Player.call.Goals as goal
