@@ -1,5 +1,5 @@
 //! The two halves of a visit of a target.
-ghost use Rattle.std.specs.Prelude.{◌≡◌, ◌+◌, ◌<◌, ◌≤◌, false, None, take};
+ghost use Rattle.std.specs.Prelude.{◌≡◌, ◌<◌, ◌≤◌, false, None, take};
 ghost use Rattle.gl_base.specs.declared.limits.TheConstants.{PLACES};
 ghost use Rattle.gl_core.specs.Device.{core};
 ghost use Rattle.gl_gate.specs.Calls.{HoldsNoTurn, IsInside, IsOutside};

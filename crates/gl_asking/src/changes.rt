@@ -16,7 +16,7 @@ ghost use Rattle.gl_asking.specs.Rows.{IsSomeRow, file_of, is_on_chip};
 use crate::commanding::lines_named;
 use crate::kinds::{Answered, Change, FileKind, FileRow};
 use gl_base::command::GET_LINE;
-use gl_base::{Do, Lines, Path, chip_number};
+use gl_base::{Do, Path, chip_number};
 use gl_model::Reply;
 use gl_uapi::layout::LINE_REQUEST_SIZE;
 

@@ -3,7 +3,8 @@
 //! A call has some 600 bytes, and a function begins by zeroing each value of that size that any of its branches makes. So a branch that
 //! makes a call is a function.
 
-ghost use Rattle.std.specs.Prelude.{◌≡◌, ◌≤◌, ◌<◌, ℕ, List, None, Some, true, IsTrue};
+ghost use Rattle.std.specs.Prelude.{◌≡◌, ◌≤◌, ◌<◌, List, None, Some, true};
+ghost use Rattle.gl_base.specs.declared.errno.Errno.TheVariants.{BadF};
 ghost use Rattle.gl_base.specs.declared.limits.TheConstants.{LINES_MAX, PLACES};
 ghost use Rattle.gl_model.specs.Fits.{FitsCall};
 ghost use Rattle.gl_model.specs.Parts.{is_single};
@@ -11,11 +12,11 @@ ghost use Rattle.gl_model.specs.declared.call.Call.TheVariants.{Close, Find, Irq
 ghost use Rattle.gl_model.specs.declared.device_call.DeviceCall.TheVariants.{Commanding, Removing};
 ghost use Rattle.gl_model.specs.declared.device_call.RemovalOf.TheVariants.{OfChip};
 ghost use Rattle.gl_asking.specs.Fitting.{FitsAsking, FitsDevice};
-ghost use Rattle.gl_asking.specs.declared.kinds.Asking.TheVariants.{Calls};
-ghost use Rattle.gl_asking.specs.Asking.{asking, at_place, buffer_of, file_for, has_lines, lives, once, polls, probes, reads_from};
+ghost use Rattle.gl_asking.specs.declared.kinds.Asking.TheVariants.{Calls, Refuses};
+ghost use Rattle.gl_asking.specs.Asking.{asking, at_place, buffer_of, file_for, has_lines, lives, on_file, once, polls, probes, reads_from};
 ghost use Rattle.gl_asking.specs.Files.{OpenFile, file_at};
 ghost use Rattle.gl_asking.specs.Handed.{command_in};
-ghost use Rattle.gl_asking.specs.Rows.{AsksOn, IsRow, IsSomeRow, file_of, is_chip, row_file};
+ghost use Rattle.gl_asking.specs.Rows.{AsksOn, IsRow, IsSomeRow, file_of, row_file};
 
 use crate::commanding::{command_on, is_chip};
 use crate::kinds::{Asking, FileRow};
@@ -113,71 +114,73 @@ fn polls(row: &FileRow) -> Call
     }
 }
 
-/// Lines are looked for on the chip of a file.
-fn finds_on(row: &FileRow, name: &Name) -> Asking
-    requires { IsRow row.now }
-    ensures told { result ≡ once (Find (Some row.now.place) name.now) }
+/// The operation names no open file.
+fn not_open() -> Asking
+    ensures told { result ≡ Refuses BadF }
     ensures fits { FitsAsking result }
 {
-    once(Call::Find {
-        place: Some(row.place),
-        name: *name,
-    })
+    Asking::Refuses(Errno::BadF)
+}
+
+/// Lines are looked for on the chip of a file.
+fn finds_on(row: &Option<FileRow>, name: &Name) -> Asking
+    requires { IsSomeRow row.now }
+    ensures told { result ≡ on_file (file_of row.now) (λ file. once (Find (Some file.place) name.now)) }
+    ensures fits { FitsAsking result }
+{
+    match row {
+        Some(row) => once(Call::Find {
+            place: Some(row.place),
+            name: *name,
+        }),
+        None => not_open(),
+    }
 }
 
 /// A command on a file, with a buffer of this length that begins with these bytes.
-fn commands(row: &FileRow, cmd: u32, len: u32, bytes: &[u8; LINE_REQUEST_SIZE]) -> Asking
-    requires { IsRow row.now }
-    ensures told { result ≡ Calls (Commanding (command_in row.now.place row.now.fd (is_chip row.now.kind) cmd (buffer_of len bytes.now))) }
+fn commands(row: &Option<FileRow>, cmd: u32, len: u32, bytes: &[u8; LINE_REQUEST_SIZE]) -> Asking
+    requires { IsSomeRow row.now }
+    ensures told { result ≡ on_file (file_of row.now) (λ file. Calls (Commanding (command_in file.place file.fd file.of_chip cmd (buffer_of len bytes.now)))) }
     ensures fits { FitsAsking result }
 {
-    Asking::Calls(DeviceCall::Commanding(command_on(row, cmd, len, bytes)))
+    match row {
+        Some(row) => Asking::Calls(DeviceCall::Commanding(command_on(row, cmd, len, bytes))),
+        None => not_open(),
+    }
 }
 
 /// A file is read.
-fn reads_file(row: &FileRow, len: u32) -> Asking
-    requires { IsRow row.now }
-    ensures told { result ≡ once (reads_from len (row_file row.now)) }
+fn reads_file(row: &Option<FileRow>, len: u32) -> Asking
+    requires { IsSomeRow row.now }
+    ensures told { result ≡ on_file (file_of row.now) (λ file. once (reads_from len file)) }
     ensures fits { FitsAsking result }
 {
-    once(reads_from(len, row))
+    match row {
+        Some(row) => once(reads_from(len, row)),
+        None => not_open(),
+    }
 }
 
 /// A file is polled.
-fn polls_file(row: &FileRow) -> Asking
-    requires { IsRow row.now }
-    ensures told { result ≡ once (polls (row_file row.now)) }
+fn polls_file(row: &Option<FileRow>) -> Asking
+    requires { IsSomeRow row.now }
+    ensures told { result ≡ on_file (file_of row.now) (λ file. once (polls file)) }
     ensures fits { FitsAsking result }
 {
-    once(polls(row))
+    match row {
+        Some(row) => once(polls(row)),
+        None => not_open(),
+    }
 }
 
 /// A file is closed.
-fn closes(row: &FileRow) -> Asking
-    ensures told { result ≡ once (Close row.now.fd) }
+fn closes(row: &Option<FileRow>) -> Asking
+    ensures told { result ≡ on_file (file_of row.now) (λ file. once (Close file.fd)) }
     ensures fits { FitsAsking result }
 {
-    once(Call::Close { fd: row.fd })
-}
-
-/// What an operation on this file is.
-fn on_file(row: &FileRow, what: &Do) -> Asking
-    requires { IsRow row.now }
-    ensures told { (files : List OpenFile) → file_for what.now files ≡ Some (row_file row.now) → result ≡ asking files what.now }
-    ensures fits { FitsAsking result }
-{
-    match what {
-        Do::Find { name, .. } => finds_on(row, name),
-        Do::Ioctl {
-            cmd,
-            len,
-            bytes,
-            ..
-        } => commands(row, *cmd, *len, bytes),
-        Do::ReadFile { len, .. } => reads_file(row, *len),
-        Do::Poll { .. } => polls_file(row),
-        Do::Close { .. } => closes(row),
-        _ => Asking::Refuses(Errno::BadF),
+    match row {
+        Some(row) => once(Call::Close { fd: row.fd }),
+        None => not_open(),
     }
 }
 
@@ -325,12 +328,21 @@ pub fn asking_of(what: &Do, row: Option<FileRow>) -> Asking
         } => level(*place, *offset, *pull),
         Do::OpenChip { word, .. } => opens_chip(word),
         Do::Find { slot: None, name } => finds_on_all(name),
+        Do::Find {
+            slot: Some(_),
+            name,
+        } => finds_on(&row, name),
+        Do::Ioctl {
+            cmd,
+            len,
+            bytes,
+            ..
+        } => commands(&row, *cmd, *len, bytes),
+        Do::ReadFile { len, .. } => reads_file(&row, *len),
+        Do::Poll { .. } => polls_file(&row),
+        Do::Close { .. } => closes(&row),
         Do::Plan { nth } => Asking::Plans(*nth),
         Do::Accept { bits } => Asking::Accepts(*bits),
-        _ => match row {
-            Some(row) => on_file(&row, what),
-            None => Asking::Refuses(Errno::BadF),
-        },
     }
 }
 
