@@ -13,9 +13,9 @@ use Rattle.gl_script.proofs.Saying.{said_is_spelled}
 
 -- each statement, one after the other
 row_is : (said : Said) (first : Span) (words : List Span) → AreValues said (first ∷ words) → cost (keyword_said said) words ≡ cost_said said words
-row_is (Ioctl command) first words is = ap (λ (o : Option ℕ). if is_get_line o then 3 else 2) is
-row_is (OldIoctl command) first words is = ap (λ (o : Option ℕ). if makes_old_file o then 3 else 2) is
-row_is (Step turns) first words is = ap (λ (o : Option ℕ). or_zero o + 1) is
+row_is (Ioctl command made) first words is = ap (λ (o : Option ℕ). if is_get_line o then 3 else 2) is.0
+row_is (OldIoctl command made) first words is = ap (λ (o : Option ℕ). if makes_old_file o then 3 else 2) is.0
+row_is (Step name turns) first words is = ap (λ (o : Option ℕ). or_zero o + 1) is.1
 row_is said first words is = refl
 
 pub cost_is : (words : List Span) (said : Said) (first : Span) (rest : List Span) → said_of words ≡ Some said → words ≡ first ∷ rest → words_cost words ≡ cost_said said rest

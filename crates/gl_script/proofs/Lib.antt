@@ -8,3 +8,4 @@ pub mod Saying
 pub mod ServingLines
 pub mod Spelling
 pub mod Sums
+pub mod TypedWords

@@ -8,6 +8,7 @@ use Rattle.gl_script.specs.declared.table.Form.{Form}
 use Rattle.gl_script.specs.Faults.{forms_fault, spot}
 use Rattle.gl_script.specs.Forms.{meets}
 use Rattle.gl_script.specs.Left.{Left, Reads, misread}
+use Rattle.gl_script.specs.Pieces.{behind_two}
 
 by_test : (b : Bool) (next : Option Spot) (other fault : Spot) → (if b then None else Some other) ≡ Some fault → (if b then next else Some other) ≡ Some fault
 by_test true next other fault e = cc
@@ -45,3 +46,9 @@ module _ (form : Form) {A : Type 0} (read : List ℕ → Option A) (old new : Le
 
   pub fifth_is : Reads form read old new (Ok value) → text_at 4 old.words ≡ text_at 3 new.words
   fifth_is (word, is, place, meets_it, says) = ap (λ (ws : List Span). text_at 4 ws) is
+
+-- what is left behind two words
+pub behind_are : {A B : Type 0} (form next : Form) (read : List ℕ → Option A) (reads : List ℕ → Option B) (old new more : Left) (value : A) (other : B)
+    → Reads form read old new (Ok value) → Reads next reads new more (Ok other) → behind_two old.words ≡ more.words
+behind_are form next read reads old new more value other (word, is, place, meets_it, says) (second, so, end, meets_too, too) =
+    ap (λ (ws : List Span). behind_two ws) (is ∙ ap (λ (ws : List Span). word ∷ ws) so)

@@ -4,29 +4,36 @@ use Rattle.std.specs.Prelude.{if◌then◌else◌, codes, is_some}
 use Rattle.std.specs.Str.{bytes_eq}
 use Rattle.std.proofs.lemmas.Slice.Eq.{bytes_eq-Decides}
 use Rattle.gl_base.specs.CommandWord.{command_number_of}
+use Rattle.gl_base.specs.Label.{is_label_byte}
+use Rattle.gl_base.specs.Path.{path_of}
 use Rattle.gl_base.specs.Words.{Span, end_of, text_at}
 use Rattle.gl_base.specs.declared.irq.IrqDo.{IrqDo}
 use Rattle.gl_base.specs.declared.irq.IrqDo.TheVariants.{Lock, Unlock, Enable, Disable, Never}
 use Rattle.gl_base.specs.declared.limits.TheConstants.{LINES_MAX}
 use Rattle.gl_base.specs.declared.pin.PinDo.TheVariants.{Range, Hold, Release}
-use Rattle.gl_v1.specs.Words.{old_number_of}
+use Rattle.gl_v1.specs.Words.{makes_file as makes_old_file, old_number_of}
 use Rattle.gl_script.specs.declared.refusal.Spot.{Spot}
 use Rattle.gl_script.specs.declared.said.Said.{Said}
 use Rattle.gl_script.specs.declared.said.Said.TheVariants.{Probe as SaidProbe, Unplug as SaidUnplug, MakeDir as SaidMakeDir, RemoveDir as SaidRemoveDir, Write as SaidWrite, Read as SaidRead, Clock as SaidClock, Fault as SaidFault, Accept as SaidAccept, Pin as SaidPin, Irq as SaidIrq, Open as SaidOpen, Ioctl as SaidIoctl, Events as SaidEvents, OldIoctl as SaidOldIoctl, OldEvents as SaidOldEvents, Changes as SaidChanges, Poll as SaidPoll, Close as SaidClose, Detect as SaidDetect, Info as SaidInfo, Get as SaidGet, Set as SaidSet, Start as SaidStart, Step as SaidStep, Stop as SaidStop}
 use Rattle.gl_script.specs.declared.table.Form.{Form}
-use Rattle.gl_script.specs.declared.table.Form.TheVariants.{FileName, Label, Number, Chip, Command, OldCommand, PinWord, IrqWord}
+use Rattle.gl_script.specs.declared.table.Form.TheVariants.{FileName, HeldTool, Label, Path, Word, Number, Chip, Command, OldCommand, PinWord, IrqWord}
 use Rattle.gl_script.specs.declared.table.Keyword.{Keyword}
 use Rattle.gl_script.specs.declared.table.Keyword.TheVariants.{Probe, Unplug, MakeDir, RemoveDir, Write, Read, Clock, Fault, Accept, Pin, Irq, Open, Ioctl, Events, OldIoctl, OldEvents, Changes, Poll, Close, Detect, Info, Get, Set, Start, Step, Stop}
 use Rattle.gl_script.specs.declared.version.Version.{Version}
-use Rattle.gl_script.specs.Faults.{forms_fault, makes_file, statement_fault, tail_fault, wanted_fault}
-use Rattle.gl_script.specs.Forms.{is_there, meets, number_within}
-use Rattle.gl_script.specs.Said.{ArePins, AreValues, Spells, StatementsAreSaid, VersionsAreSaid, chip_of, clock_said, hold_of, irq_name, irq_of, irq_said, keyword_said, one, pin_said, range_of, release_of, said_by, said_of, small_of, unless_fault, values, wide_of}
-use Rattle.gl_script.specs.Table.{is_in, keyword_in, keyword_of, only, only_in, NoMore, Pieces}
+use Rattle.gl_script.specs.Faults.{forms_fault, is_get_line, makes_file, statement_fault, tail_fault, wanted_fault}
+use Rattle.gl_script.specs.Forms.{file_name_of, is_path_byte, is_there, label_of, meets, number_within, tree_path_of}
+use Rattle.gl_script.specs.Pieces.{behind_three, behind_two, made_by}
+use Rattle.gl_script.specs.Said.{ArePins, AreValues, Spells, StatementsAreSaid, VersionsAreSaid, chip_of, hold_of, irq_name, irq_of, irq_said, keyword_said, one, pin_said, range_of, release_of, said_by, said_of, small_of, two, unless_fault, values, wide_of}
+use Rattle.gl_script.specs.Table.{is_in, keyword_in, keyword_of, only, only_in, Anything, NoMore, Pieces}
+use Rattle.gl_script.proofs.TypedWords.{behind_first, made_there, path_there, text_there}
 
 -- a word that meets its form
 passes : (b : Bool) (x : Option Spot) (y : Spot) → (if b then x else Some y) ≡ None → (b ≡ true) × (x ≡ None)
 passes true x y n = (refl, n)
 passes false x y n = cc
+
+some_fault : (fault : Spot) → Some fault ≡ None → ⊥
+some_fault fault e = cc
 
 -- words that are missing no form meet their forms, one after the other
 module _ (tail : ℕ → List Span → Option Spot) where
@@ -50,15 +57,27 @@ module _ (tail : ℕ → List Span → Option Spot) where
   met5 f g h i j fs end [] n = cc
   met5 f g h i j fs end (word ∷ words) n = met4 g h i j fs (end_of word) words (passes (meets f word.text) (forms_fault (g ∷ h ∷ i ∷ j ∷ fs) tail (end_of word) words) _ n).1
 
--- what says something where each of its words does
-one_there : (says : ℕ → Said) (o : Option ℕ) → is_there o ≡ true → is_some (one says o) ≡ true
-one_there says None e = cc
-one_there says (Some n) e = refl
+  -- what stands behind two words of their forms
+  behind2 : (f g : Form) (end : ℕ) (words : List Span) → forms_fault (f ∷ g ∷ []) tail end words ≡ None → (n : ℕ) × (tail n (behind_two words) ≡ None)
+  behind2 f g end [] n = cc
+  behind2 f g end (word ∷ []) n = absurd (some_fault _ (passes (meets f word.text) (forms_fault (g ∷ []) tail (end_of word) []) _ n).1)
+  behind2 f g end (word ∷ next ∷ words) n =
+      let more = (passes (meets f word.text) (forms_fault (g ∷ []) tail (end_of word) (next ∷ words)) _ n).1 in
+      (end_of next, (passes (meets g next.text) (tail (end_of next) words) _ more).1)
 
-clock_there : (a b : Option ℕ) → is_there a ≡ true → is_there b ≡ true → is_some (clock_said a b) ≡ true
-clock_there None b p q = cc
-clock_there (Some a) None p q = cc
-clock_there (Some a) (Some b) p q = refl
+-- what says something where each of its words does
+number_there : (o : Option ℕ) → is_there o ≡ true → is_some o ≡ true
+number_there None e = cc
+number_there (Some n) e = refl
+
+one_there : {A : Type 0} (says : A → Said) (o : Option A) → is_some o ≡ true → is_some (one says o) ≡ true
+one_there says None e = cc
+one_there says (Some a) e = refl
+
+two_there : {A B : Type 0} (says : A → B → Said) (a : Option A) (b : Option B) → is_some a ≡ true → is_some b ≡ true → is_some (two says a b) ≡ true
+two_there says None b p q = cc
+two_there says (Some a) None p q = cc
+two_there says (Some a) (Some b) p q = refl
 
 range_there : (c a b d : Option ℕ) → is_there c ≡ true → is_there a ≡ true → is_there b ≡ true → is_there d ≡ true → is_some (pin_said c (range_of a b d)) ≡ true
 range_there None a b d p q r s = cc
@@ -124,18 +143,26 @@ irq_there (Some what) (Some c) (Some n) p q r = refl
 
 -- each statement without a fault, one after the other
 values_there : (keyword : Keyword) (first : Span) (words : List Span) → statement_fault (Some keyword) first words ≡ None → is_some (values keyword words) ≡ true
-values_there Probe first words n = one_there (λ x. SaidProbe x) (number_within 1 LINES_MAX (text_at 1 words)) (met2 (tail_fault NoMore) Label (Number 1 LINES_MAX) [] (end_of first) words n)
-values_there Unplug first words n = one_there (λ x. SaidUnplug x) (chip_of (text_at 0 words)) (met1 (tail_fault NoMore) Chip [] (end_of first) words n)
-values_there MakeDir first words n = refl
-values_there RemoveDir first words n = refl
-values_there Write first words n = refl
-values_there Read first words n = refl
+values_there Probe first words n =
+    two_there (λ label x. SaidProbe label x) (label_of (text_at 0 words)) (number_within 1 LINES_MAX (text_at 1 words))
+    (text_there is_label_byte 31 (text_at 0 words) (met1 (tail_fault NoMore) Label (Number 1 LINES_MAX ∷ []) (end_of first) words n))
+    (number_there (number_within 1 LINES_MAX (text_at 1 words)) (met2 (tail_fault NoMore) Label (Number 1 LINES_MAX) [] (end_of first) words n))
+values_there Unplug first words n = one_there (λ x. SaidUnplug x) (chip_of (text_at 0 words)) (number_there (chip_of (text_at 0 words)) (met1 (tail_fault NoMore) Chip [] (end_of first) words n))
+values_there MakeDir first words n = one_there (λ path. SaidMakeDir path) (tree_path_of (text_at 0 words)) (text_there is_path_byte 127 (text_at 0 words) (met1 (tail_fault NoMore) Path [] (end_of first) words n))
+values_there RemoveDir first words n = one_there (λ path. SaidRemoveDir path) (tree_path_of (text_at 0 words)) (text_there is_path_byte 127 (text_at 0 words) (met1 (tail_fault NoMore) Path [] (end_of first) words n))
+values_there Write first words n =
+    two_there (λ path value. SaidWrite path value) (tree_path_of (text_at 0 words)) (label_of (text_at 1 words))
+    (text_there is_path_byte 127 (text_at 0 words) (met1 (tail_fault NoMore) Path (Label ∷ []) (end_of first) words n))
+    (text_there is_label_byte 31 (text_at 1 words) (met2 (tail_fault NoMore) Path Label [] (end_of first) words n))
+values_there Read first words n = one_there (λ path. SaidRead path) (tree_path_of (text_at 0 words)) (text_there is_path_byte 127 (text_at 0 words) (met1 (tail_fault NoMore) Path [] (end_of first) words n))
 values_there Clock first words n =
-    clock_there (wide_of (text_at 0 words)) (wide_of (text_at 1 words))
-    (met1 (tail_fault NoMore) (Number 0 0xFFFFFFFFFFFFFFFF) (Number 0 0xFFFFFFFFFFFFFFFF ∷ []) (end_of first) words n)
-    (met2 (tail_fault NoMore) (Number 0 0xFFFFFFFFFFFFFFFF) (Number 0 0xFFFFFFFFFFFFFFFF) [] (end_of first) words n)
-values_there Fault first words n = one_there (λ x. SaidFault x) (number_within 1 1000000 (text_at 0 words)) (met1 (tail_fault NoMore) (Number 1 1000000) [] (end_of first) words n)
-values_there Accept first words n = one_there (λ x. SaidAccept x) (wide_of (text_at 0 words)) (met1 (tail_fault NoMore) (Number 0 0xFFFFFFFFFFFFFFFF) [] (end_of first) words n)
+    two_there (λ mono real. SaidClock mono real) (wide_of (text_at 0 words)) (wide_of (text_at 1 words))
+    (number_there (wide_of (text_at 0 words)) (met1 (tail_fault NoMore) (Number 0 0xFFFFFFFFFFFFFFFF) (Number 0 0xFFFFFFFFFFFFFFFF ∷ []) (end_of first) words n))
+    (number_there (wide_of (text_at 1 words)) (met2 (tail_fault NoMore) (Number 0 0xFFFFFFFFFFFFFFFF) (Number 0 0xFFFFFFFFFFFFFFFF) [] (end_of first) words n))
+values_there Fault first words n =
+    one_there (λ x. SaidFault x) (number_within 1 1000000 (text_at 0 words)) (number_there (number_within 1 1000000 (text_at 0 words)) (met1 (tail_fault NoMore) (Number 1 1000000) [] (end_of first) words n))
+values_there Accept first words n =
+    one_there (λ x. SaidAccept x) (wide_of (text_at 0 words)) (number_there (wide_of (text_at 0 words)) (met1 (tail_fault NoMore) (Number 0 0xFFFFFFFFFFFFFFFF) [] (end_of first) words n))
 values_there Pin first words n =
     let word = text_at 0 words in
     pin_there (bytes_eq word (codes "range")) (bytes_eq word (codes "hold")) (bytes_eq word (codes "drop")) (end_of first) words
@@ -147,23 +174,40 @@ values_there Irq first words n =
     (met1 (tail_fault NoMore) IrqWord (Chip ∷ Number 0 0xFFFFFFFF ∷ []) (end_of first) words n))
     (met2 (tail_fault NoMore) IrqWord Chip (Number 0 0xFFFFFFFF ∷ []) (end_of first) words n)
     (met3 (tail_fault NoMore) IrqWord Chip (Number 0 0xFFFFFFFF) [] (end_of first) words n)
-values_there Open first words n = refl
+values_there Open first words n =
+    two_there (λ name word. SaidOpen name word) (file_name_of (text_at 0 words)) (path_of (text_at 1 words))
+    (text_there is_label_byte 15 (text_at 0 words) (met1 (tail_fault NoMore) FileName (Word ∷ []) (end_of first) words n))
+    (path_there (text_at 1 words) (met2 (tail_fault NoMore) FileName Word [] (end_of first) words n))
 values_there Ioctl first words n =
-    one_there (λ x. SaidIoctl x) (command_number_of (text_at 1 words)) (met2 (tail_fault (Pieces (makes_file Ioctl words))) FileName Command [] (end_of first) words n)
-values_there Events first words n = one_there (λ x. SaidEvents x) (number_within 0 49152 (text_at 1 words)) (met2 (tail_fault NoMore) FileName (Number 0 49152) [] (end_of first) words n)
+    let tail = tail_fault (Pieces (makes_file Ioctl words)) in
+    let rest = behind2 tail FileName Command (end_of first) words n in
+    two_there (λ x made. SaidIoctl x made) (command_number_of (text_at 1 words)) (made_by (makes_file Ioctl words) (behind_two words))
+    (number_there (command_number_of (text_at 1 words)) (met2 tail FileName Command [] (end_of first) words n)) (made_there (makes_file Ioctl words) rest.0 (behind_two words) rest.1)
+values_there Events first words n =
+    one_there (λ x. SaidEvents x) (number_within 0 49152 (text_at 1 words)) (number_there (number_within 0 49152 (text_at 1 words)) (met2 (tail_fault NoMore) FileName (Number 0 49152) [] (end_of first) words n))
 values_there OldIoctl first words n =
-    one_there (λ x. SaidOldIoctl x) (old_number_of (text_at 1 words)) (met2 (tail_fault (Pieces (makes_file OldIoctl words))) FileName OldCommand [] (end_of first) words n)
-values_there OldEvents first words n = one_there (λ x. SaidOldEvents x) (number_within 0 16384 (text_at 1 words)) (met2 (tail_fault NoMore) FileName (Number 0 16384) [] (end_of first) words n)
-values_there Changes first words n = one_there (λ x. SaidChanges x) (number_within 0 9216 (text_at 1 words)) (met2 (tail_fault NoMore) FileName (Number 0 9216) [] (end_of first) words n)
+    let tail = tail_fault (Pieces (makes_file OldIoctl words)) in
+    let rest = behind2 tail FileName OldCommand (end_of first) words n in
+    two_there (λ x made. SaidOldIoctl x made) (old_number_of (text_at 1 words)) (made_by (makes_file OldIoctl words) (behind_two words))
+    (number_there (old_number_of (text_at 1 words)) (met2 tail FileName OldCommand [] (end_of first) words n)) (made_there (makes_file OldIoctl words) rest.0 (behind_two words) rest.1)
+values_there OldEvents first words n =
+    one_there (λ x. SaidOldEvents x) (number_within 0 16384 (text_at 1 words)) (number_there (number_within 0 16384 (text_at 1 words)) (met2 (tail_fault NoMore) FileName (Number 0 16384) [] (end_of first) words n))
+values_there Changes first words n =
+    one_there (λ x. SaidChanges x) (number_within 0 9216 (text_at 1 words)) (number_there (number_within 0 9216 (text_at 1 words)) (met2 (tail_fault NoMore) FileName (Number 0 9216) [] (end_of first) words n))
 values_there Poll first words n = refl
 values_there Close first words n = refl
 values_there Detect first words n = refl
 values_there Info first words n = refl
 values_there Get first words n = refl
 values_there Set first words n = refl
-values_there Start first words n = refl
-values_there Step first words n = one_there (λ x. SaidStep x) (number_within 1 1000 (text_at 1 words)) (met2 (tail_fault NoMore) FileName (Number 1 1000) [] (end_of first) words n)
-values_there Stop first words n = refl
+values_there Start first words n =
+    one_there (λ name. SaidStart name) (file_name_of (text_at 0 words)) (text_there is_label_byte 15 (text_at 0 words) (met1 (tail_fault Anything) FileName (HeldTool ∷ []) (end_of first) words n))
+values_there Step first words n =
+    two_there (λ name x. SaidStep name x) (file_name_of (text_at 0 words)) (number_within 1 1000 (text_at 1 words))
+    (text_there is_label_byte 15 (text_at 0 words) (met1 (tail_fault NoMore) FileName (Number 1 1000 ∷ []) (end_of first) words n))
+    (number_there (number_within 1 1000 (text_at 1 words)) (met2 (tail_fault NoMore) FileName (Number 1 1000) [] (end_of first) words n))
+values_there Stop first words n =
+    one_there (λ name. SaidStop name) (file_name_of (text_at 0 words)) (text_there is_label_byte 15 (text_at 0 words) (met1 (tail_fault NoMore) FileName [] (end_of first) words n))
 
 there_by : (keyword : Keyword) (first : Span) (words : List Span) (o : Option Spot) → statement_fault (Some keyword) first words ≡ o → is_some (unless_fault o (values keyword words)) ≡ not (is_some o)
 there_by keyword first words None e = values_there keyword first words e
@@ -220,14 +264,15 @@ IsSpelled keyword words said = (keyword_said said ≡ keyword) × AreValues said
 plain : (keyword : Keyword) (words : List Span) (a said : Said) → IsSpelled keyword words a → Some a ≡ Some said → IsSpelled keyword words said
 plain keyword words a said is e = subst (IsSpelled keyword words) (same_said a said e) is
 
-numbered : (keyword : Keyword) (words : List Span) (says : ℕ → Said) (o : Option ℕ) (said : Said) → ((n : ℕ) → o ≡ Some n → IsSpelled keyword words (says n)) → one says o ≡ Some said → IsSpelled keyword words said
-numbered keyword words says None said each e = cc
-numbered keyword words says (Some n) said each e = plain keyword words (says n) said (each n refl) e
+valued : {A : Type 0} (keyword : Keyword) (words : List Span) (says : A → Said) (o : Option A) (said : Said) → ((a : A) → o ≡ Some a → IsSpelled keyword words (says a)) → one says o ≡ Some said → IsSpelled keyword words said
+valued keyword words says None said each e = cc
+valued keyword words says (Some a) said each e = plain keyword words (says a) said (each a refl) e
 
-clocked : (first : Span) (words : List Span) (a b : Option ℕ) (said : Said) → wide_of (text_at 0 words) ≡ a → wide_of (text_at 1 words) ≡ b → clock_said a b ≡ Some said → IsSpelled Clock (first ∷ words) said
-clocked first words None b said p q e = cc
-clocked first words (Some mono) None said p q e = cc
-clocked first words (Some mono) (Some real) said p q e = plain Clock (first ∷ words) (SaidClock mono real) said (let each : AreValues (SaidClock mono real) (first ∷ words) = (p, q) in (refl, each)) e
+paired : {A B : Type 0} (keyword : Keyword) (words : List Span) (says : A → B → Said) (a : Option A) (b : Option B) (said : Said)
+    → ((x : A) (y : B) → a ≡ Some x → b ≡ Some y → IsSpelled keyword words (says x y)) → two says a b ≡ Some said → IsSpelled keyword words said
+paired keyword words says None b said each e = cc
+paired keyword words says (Some x) None said each e = cc
+paired keyword words says (Some x) (Some y) said each e = plain keyword words (says x y) said (each x y refl refl) e
 
 ranged : (first : Span) (words : List Span) (c a b d : Option ℕ) (said : Said) → codes "range" ≡ text_at 0 words → chip_of (text_at 1 words) ≡ c
     → small_of (text_at 2 words) ≡ a → small_of (text_at 3 words) ≡ b → small_of (text_at 4 words) ≡ d → pin_said c (range_of a b d) ≡ Some said → IsSpelled Pin (first ∷ words) said
@@ -295,36 +340,56 @@ done_so first words (Some what) (Some c) (Some n) said p q r e =
     let each : AreValues (SaidIrq what c n) (first ∷ words) = (irq_spelled (text_at 0 words) what p, q, r) in
     plain Irq (first ∷ words) (SaidIrq what c n) said (refl, each) e
 
+-- the name of the file that a command makes
+made_at : (first : Span) (words : List Span) (makes : Option ℕ → Bool) (o : Option ℕ) (n : ℕ) (made : Option (List ℕ)) → o ≡ Some n → made_by (makes o) (behind_two words) ≡ Some made
+    → made_by (makes (Some n)) (behind_three (first ∷ words)) ≡ Some made
+made_at first words makes o n made is e =
+    ap (λ (p : Option ℕ). made_by (makes p) (behind_three (first ∷ words))) (sym is) ∙ ap (λ (ws : List Span). made_by (makes o) ws) (behind_first first words) ∙ e
+
 spelled_at : (keyword : Keyword) (first : Span) (words : List Span) (said : Said) → values keyword words ≡ Some said → IsSpelled keyword (first ∷ words) said
-spelled_at Probe first words said e = numbered Probe (first ∷ words) (λ n. SaidProbe n) (number_within 1 LINES_MAX (text_at 1 words)) said (λ n h. (refl, h)) e
-spelled_at Unplug first words said e = numbered Unplug (first ∷ words) (λ n. SaidUnplug n) (chip_of (text_at 0 words)) said (λ n h. (refl, h)) e
-spelled_at MakeDir first words said e = plain MakeDir (first ∷ words) SaidMakeDir said (refl, tt) e
-spelled_at RemoveDir first words said e = plain RemoveDir (first ∷ words) SaidRemoveDir said (refl, tt) e
-spelled_at Write first words said e = plain Write (first ∷ words) SaidWrite said (refl, tt) e
-spelled_at Read first words said e = plain Read (first ∷ words) SaidRead said (refl, tt) e
-spelled_at Clock first words said e = clocked first words (wide_of (text_at 0 words)) (wide_of (text_at 1 words)) said refl refl e
-spelled_at Fault first words said e = numbered Fault (first ∷ words) (λ n. SaidFault n) (number_within 1 1000000 (text_at 0 words)) said (λ n h. (refl, h)) e
-spelled_at Accept first words said e = numbered Accept (first ∷ words) (λ n. SaidAccept n) (wide_of (text_at 0 words)) said (λ n h. (refl, h)) e
+spelled_at Probe first words said e =
+    paired Probe (first ∷ words) (λ label n. SaidProbe label n) (label_of (text_at 0 words)) (number_within 1 LINES_MAX (text_at 1 words)) said
+    (λ label n h g. let each : AreValues (SaidProbe label n) (first ∷ words) = (h, g) in (refl, each)) e
+spelled_at Unplug first words said e = valued Unplug (first ∷ words) (λ n. SaidUnplug n) (chip_of (text_at 0 words)) said (λ n h. (refl, h)) e
+spelled_at MakeDir first words said e = valued MakeDir (first ∷ words) (λ path. SaidMakeDir path) (tree_path_of (text_at 0 words)) said (λ path h. (refl, h)) e
+spelled_at RemoveDir first words said e = valued RemoveDir (first ∷ words) (λ path. SaidRemoveDir path) (tree_path_of (text_at 0 words)) said (λ path h. (refl, h)) e
+spelled_at Write first words said e =
+    paired Write (first ∷ words) (λ path value. SaidWrite path value) (tree_path_of (text_at 0 words)) (label_of (text_at 1 words)) said
+    (λ path value h g. let each : AreValues (SaidWrite path value) (first ∷ words) = (h, g) in (refl, each)) e
+spelled_at Read first words said e = valued Read (first ∷ words) (λ path. SaidRead path) (tree_path_of (text_at 0 words)) said (λ path h. (refl, h)) e
+spelled_at Clock first words said e =
+    paired Clock (first ∷ words) (λ mono real. SaidClock mono real) (wide_of (text_at 0 words)) (wide_of (text_at 1 words)) said
+    (λ mono real h g. let each : AreValues (SaidClock mono real) (first ∷ words) = (h, g) in (refl, each)) e
+spelled_at Fault first words said e = valued Fault (first ∷ words) (λ n. SaidFault n) (number_within 1 1000000 (text_at 0 words)) said (λ n h. (refl, h)) e
+spelled_at Accept first words said e = valued Accept (first ∷ words) (λ n. SaidAccept n) (wide_of (text_at 0 words)) said (λ n h. (refl, h)) e
 spelled_at Pin first words said e =
     let word = text_at 0 words in
     pinned first words (bytes_eq word (codes "range")) (bytes_eq word (codes "hold")) (bytes_eq word (codes "drop")) said
     (same word (codes "range")) (same word (codes "hold")) (same word (codes "drop")) e
 spelled_at Irq first words said e = done_so first words (irq_of (text_at 0 words)) (chip_of (text_at 1 words)) (small_of (text_at 2 words)) said refl refl refl e
-spelled_at Open first words said e = plain Open (first ∷ words) SaidOpen said (refl, tt) e
-spelled_at Ioctl first words said e = numbered Ioctl (first ∷ words) (λ n. SaidIoctl n) (command_number_of (text_at 1 words)) said (λ n h. (refl, h)) e
-spelled_at Events first words said e = numbered Events (first ∷ words) (λ n. SaidEvents n) (number_within 0 49152 (text_at 1 words)) said (λ n h. (refl, h)) e
-spelled_at OldIoctl first words said e = numbered OldIoctl (first ∷ words) (λ n. SaidOldIoctl n) (old_number_of (text_at 1 words)) said (λ n h. (refl, h)) e
-spelled_at OldEvents first words said e = numbered OldEvents (first ∷ words) (λ n. SaidOldEvents n) (number_within 0 16384 (text_at 1 words)) said (λ n h. (refl, h)) e
-spelled_at Changes first words said e = numbered Changes (first ∷ words) (λ n. SaidChanges n) (number_within 0 9216 (text_at 1 words)) said (λ n h. (refl, h)) e
+spelled_at Open first words said e =
+    paired Open (first ∷ words) (λ name word. SaidOpen name word) (file_name_of (text_at 0 words)) (path_of (text_at 1 words)) said
+    (λ name word h g. let each : AreValues (SaidOpen name word) (first ∷ words) = (h, g) in (refl, each)) e
+spelled_at Ioctl first words said e =
+    paired Ioctl (first ∷ words) (λ n made. SaidIoctl n made) (command_number_of (text_at 1 words)) (made_by (makes_file Ioctl words) (behind_two words)) said
+    (λ n made h g. let each : AreValues (SaidIoctl n made) (first ∷ words) = (h, made_at first words is_get_line (command_number_of (text_at 1 words)) n made h g) in (refl, each)) e
+spelled_at Events first words said e = valued Events (first ∷ words) (λ n. SaidEvents n) (number_within 0 49152 (text_at 1 words)) said (λ n h. (refl, h)) e
+spelled_at OldIoctl first words said e =
+    paired OldIoctl (first ∷ words) (λ n made. SaidOldIoctl n made) (old_number_of (text_at 1 words)) (made_by (makes_file OldIoctl words) (behind_two words)) said
+    (λ n made h g. let each : AreValues (SaidOldIoctl n made) (first ∷ words) = (h, made_at first words makes_old_file (old_number_of (text_at 1 words)) n made h g) in (refl, each)) e
+spelled_at OldEvents first words said e = valued OldEvents (first ∷ words) (λ n. SaidOldEvents n) (number_within 0 16384 (text_at 1 words)) said (λ n h. (refl, h)) e
+spelled_at Changes first words said e = valued Changes (first ∷ words) (λ n. SaidChanges n) (number_within 0 9216 (text_at 1 words)) said (λ n h. (refl, h)) e
 spelled_at Poll first words said e = plain Poll (first ∷ words) SaidPoll said (refl, tt) e
 spelled_at Close first words said e = plain Close (first ∷ words) SaidClose said (refl, tt) e
 spelled_at Detect first words said e = plain Detect (first ∷ words) SaidDetect said (refl, tt) e
 spelled_at Info first words said e = plain Info (first ∷ words) SaidInfo said (refl, tt) e
 spelled_at Get first words said e = plain Get (first ∷ words) SaidGet said (refl, tt) e
 spelled_at Set first words said e = plain Set (first ∷ words) SaidSet said (refl, tt) e
-spelled_at Start first words said e = plain Start (first ∷ words) SaidStart said (refl, tt) e
-spelled_at Step first words said e = numbered Step (first ∷ words) (λ n. SaidStep n) (number_within 1 1000 (text_at 1 words)) said (λ n h. (refl, h)) e
-spelled_at Stop first words said e = plain Stop (first ∷ words) SaidStop said (refl, tt) e
+spelled_at Start first words said e = valued Start (first ∷ words) (λ name. SaidStart name) (file_name_of (text_at 0 words)) said (λ name h. (refl, h)) e
+spelled_at Step first words said e =
+    paired Step (first ∷ words) (λ name n. SaidStep name n) (file_name_of (text_at 0 words)) (number_within 1 1000 (text_at 1 words)) said
+    (λ name n h g. let each : AreValues (SaidStep name n) (first ∷ words) = (h, g) in (refl, each)) e
+spelled_at Stop first words said e = valued Stop (first ∷ words) (λ name. SaidStop name) (file_name_of (text_at 0 words)) said (λ name h. (refl, h)) e
 
 spelled_by_fault : (keyword : Keyword) (o : Option Spot) (first : Span) (words : List Span) (said : Said) → keyword_of first.text ≡ Some keyword → unless_fault o (values keyword words) ≡ Some said → Spells (first ∷ words) said
 spelled_by_fault keyword (Some fault) first words said k e = cc

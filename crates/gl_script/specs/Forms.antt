@@ -23,6 +23,19 @@ is_of kind most word = is_nonempty word && (nat_le (length word) most && list_al
 abbrev pub is_path_byte : ℕ → Bool
 is_path_byte byte = is_label_byte byte || byte == 47
 
+-- the name of a file or a tool that a word is, a label or a value, and a path of the tree
+abbrev pub text_of : (ℕ → Bool) → ℕ → List ℕ → Option (List ℕ)
+text_of kind most word = if is_of kind most word then Some word else None
+
+abbrev pub file_name_of : List ℕ → Option (List ℕ)
+file_name_of word = text_of is_label_byte 15 word
+
+abbrev pub label_of : List ℕ → Option (List ℕ)
+label_of word = text_of is_label_byte 31 word
+
+abbrev pub tree_path_of : List ℕ → Option (List ℕ)
+tree_path_of word = text_of is_path_byte 127 word
+
 -- a number, if it is one from low to high
 abbrev pub within : ℕ → ℕ → Option ℕ → Option ℕ
 within low high None = None

@@ -12,6 +12,7 @@ use Rattle.gl_script.specs.declared.table.Form.{Form}
 use Rattle.gl_script.specs.declared.table.Keyword.{Keyword}
 use Rattle.gl_script.specs.Faults.{bytes_fault, makes_file, more_fault, spot, statement_fault, wanted_fault}
 use Rattle.gl_script.specs.Forms.{meets}
+use Rattle.gl_script.specs.Pieces.{made_by}
 use Rattle.gl_script.specs.Said.{said_by, values}
 use Rattle.gl_script.specs.Table.{Wanted, wanted}
 
@@ -50,15 +51,18 @@ abbrev pub IsEnd : Left → Result (Unit {0}) Spot → Type 0
 IsEnd left (Ok done) = more_fault left.words ≡ None
 IsEnd left (Err fault) = more_fault left.words ≡ Some fault
 
--- pieces of bytes are left, or that is their fault
-abbrev pub ArePieces : Bool → Left → Result (Unit {0}) Spot → Type 0
-ArePieces makes left (Ok done) = bytes_fault makes left.end left.words ≡ None
-ArePieces makes left (Err fault) = bytes_fault makes left.end left.words ≡ Some fault
+-- Words were read: they have no fault, and what they say; or else their fault.
+abbrev pub Finds : {A : Type 0} → Option Spot → Option A → Result A Spot → Type 0
+Finds fault says (Ok value) = (fault ≡ None) × (says ≡ Some value)
+Finds fault says (Err found) = fault ≡ Some found
 
--- Words of these forms were read: they have no fault, and what they say; or else their fault.
+-- pieces of bytes, and the name of the file that is made
+abbrev pub ArePieces : Bool → Left → Result (Option (List ℕ)) Spot → Type 0
+ArePieces makes left result = Finds (bytes_fault makes left.end left.words) (made_by makes left.words) result
+
+-- words of these forms
 abbrev pub Says : Wanted → Option Said → Left → Result Said Spot → Type 0
-Says row says left (Ok said) = (wanted_fault row left.end left.words ≡ None) × (says ≡ Some said)
-Says row says left (Err fault) = wanted_fault row left.end left.words ≡ Some fault
+Says row says left result = Finds (wanted_fault row left.end left.words) says result
 
 -- the same of all words behind that of a statement
 abbrev pub IsRead : Keyword → Left → Result Said Spot → Type 0
@@ -66,5 +70,4 @@ IsRead keyword left result = Says (wanted keyword (text_at 0 left.words) (makes_
 
 -- Words were read as a statement: what they say, or else their first fault.
 abbrev pub IsStated : Option Keyword → Span → List Span → Result Said Spot → Type 0
-IsStated keyword first words (Ok said) = (statement_fault keyword first words ≡ None) × (said_by keyword first words ≡ Some said)
-IsStated keyword first words (Err fault) = statement_fault keyword first words ≡ Some fault
+IsStated keyword first words result = Finds (statement_fault keyword first words) (said_by keyword first words) result

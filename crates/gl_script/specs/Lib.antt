@@ -7,6 +7,7 @@ pub mod Gen
 pub mod FirstBytes
 pub mod Left
 pub mod Meaning
+pub mod Pieces
 pub mod Reading
 pub mod Refusal
 pub mod Said

@@ -1,24 +1,27 @@
--- What a statement says beside the words that stand for themselves: its numbers, its commands, and what is done with pins and
--- interrupts. Names, labels, values, paths and the words of tools stand for themselves. This project's choice.
-use Rattle.std.specs.Prelude.{◌≡◌, ℕ, true, not, if◌then◌else◌, List, [], ◌∷◌, is_some, Option, None, Some, codes}
+-- What a statement says: its numbers and commands, what is done with pins and interrupts, and its names, labels, values and paths.
+-- The words of tools, the pieces of a command and the names of files that are there stand for themselves. This project's choice.
+use Rattle.std.specs.Prelude.{◌≡◌, ℕ, true, not, ◌==◌, if◌then◌else◌, List, [], ◌∷◌, is_some, Option, None, Some, codes}
 use Rattle.std.specs.Str.{bytes_eq}
 use Rattle.gl_base.specs.ChipWord.{chip_number_of}
 use Rattle.gl_base.specs.CommandWord.{command_number_of}
+use Rattle.gl_base.specs.Path.{path_of}
 use Rattle.gl_base.specs.Words.{Span, text_at}
+use Rattle.gl_base.specs.declared.command.TheConstants.{GET_LINE}
 use Rattle.gl_base.specs.declared.irq.IrqDo.{IrqDo}
 use Rattle.gl_base.specs.declared.irq.IrqDo.TheVariants.{Lock, Unlock, Enable, Disable, Never}
 use Rattle.gl_base.specs.declared.limits.TheConstants.{LINES_MAX}
 use Rattle.gl_base.specs.declared.pin.PinDo.{PinDo}
 use Rattle.gl_base.specs.declared.pin.PinDo.TheVariants.{Range, Hold, Release}
-use Rattle.gl_v1.specs.Words.{old_number_of}
+use Rattle.gl_v1.specs.Words.{makes_file as makes_old_file, old_number_of}
 use Rattle.gl_script.specs.declared.refusal.Spot.{Spot}
 use Rattle.gl_script.specs.declared.said.Said.{Said}
 use Rattle.gl_script.specs.declared.said.Said.TheVariants.{Probe as SaidProbe, Unplug as SaidUnplug, MakeDir as SaidMakeDir, RemoveDir as SaidRemoveDir, Write as SaidWrite, Read as SaidRead, Clock as SaidClock, Fault as SaidFault, Accept as SaidAccept, Pin as SaidPin, Irq as SaidIrq, Open as SaidOpen, Ioctl as SaidIoctl, Events as SaidEvents, OldIoctl as SaidOldIoctl, OldEvents as SaidOldEvents, Changes as SaidChanges, Poll as SaidPoll, Close as SaidClose, Detect as SaidDetect, Info as SaidInfo, Get as SaidGet, Set as SaidSet, Start as SaidStart, Step as SaidStep, Stop as SaidStop}
 use Rattle.gl_script.specs.declared.table.Keyword.{Keyword}
 use Rattle.gl_script.specs.declared.table.Keyword.TheVariants.{Probe, Unplug, MakeDir, RemoveDir, Write, Read, Clock, Fault, Accept, Pin, Irq, Open, Ioctl, Events, OldIoctl, OldEvents, Changes, Poll, Close, Detect, Info, Get, Set, Start, Step, Stop}
 use Rattle.gl_script.specs.declared.version.Version.{Version}
-use Rattle.gl_script.specs.Faults.{statement_fault}
-use Rattle.gl_script.specs.Forms.{number_within, within}
+use Rattle.gl_script.specs.Faults.{makes_file, statement_fault}
+use Rattle.gl_script.specs.Forms.{file_name_of, label_of, number_within, tree_path_of, within}
+use Rattle.gl_script.specs.Pieces.{behind_three, behind_two, made_by}
 use Rattle.gl_script.specs.Table.{keyword_in, keyword_of}
 
 -- the number of the chip that a word names
@@ -76,15 +79,15 @@ pin_of words =
     else if bytes_eq (text_at 0 words) (codes "drop") then release_of (small_of (text_at 2 words))
     else None
 
--- a statement of one number, and those of more
-abbrev pub one : (ℕ → Said) → Option ℕ → Option Said
+-- a statement of one value, and those of more
+abbrev pub one : {A : Type 0} → (A → Said) → Option A → Option Said
 one says None = None
-one says (Some n) = Some (says n)
+one says (Some a) = Some (says a)
 
-abbrev pub clock_said : Option ℕ → Option ℕ → Option Said
-clock_said None real = None
-clock_said (Some mono) None = None
-clock_said (Some mono) (Some real) = Some (SaidClock mono real)
+abbrev pub two : {A B : Type 0} → (A → B → Said) → Option A → Option B → Option Said
+two says None b = None
+two says (Some a) None = None
+two says (Some a) (Some b) = Some (says a b)
 
 abbrev pub pin_said : Option ℕ → Option PinDo → Option Said
 pin_said None what = None
@@ -99,21 +102,21 @@ irq_said (Some what) (Some chip) (Some offset) = Some (SaidIrq what chip offset)
 
 -- What the words behind that of a statement say, one row a statement; None where a word that is to be read isn't of its form.
 abbrev pub values : Keyword → List Span → Option Said
-values Probe words = one (λ n. SaidProbe n) (number_within 1 LINES_MAX (text_at 1 words))
+values Probe words = two (λ label n. SaidProbe label n) (label_of (text_at 0 words)) (number_within 1 LINES_MAX (text_at 1 words))
 values Unplug words = one (λ n. SaidUnplug n) (chip_of (text_at 0 words))
-values MakeDir words = Some SaidMakeDir
-values RemoveDir words = Some SaidRemoveDir
-values Write words = Some SaidWrite
-values Read words = Some SaidRead
-values Clock words = clock_said (wide_of (text_at 0 words)) (wide_of (text_at 1 words))
+values MakeDir words = one (λ path. SaidMakeDir path) (tree_path_of (text_at 0 words))
+values RemoveDir words = one (λ path. SaidRemoveDir path) (tree_path_of (text_at 0 words))
+values Write words = two (λ path value. SaidWrite path value) (tree_path_of (text_at 0 words)) (label_of (text_at 1 words))
+values Read words = one (λ path. SaidRead path) (tree_path_of (text_at 0 words))
+values Clock words = two (λ mono real. SaidClock mono real) (wide_of (text_at 0 words)) (wide_of (text_at 1 words))
 values Fault words = one (λ n. SaidFault n) (number_within 1 1000000 (text_at 0 words))
 values Accept words = one (λ n. SaidAccept n) (wide_of (text_at 0 words))
 values Pin words = pin_said (chip_of (text_at 1 words)) (pin_of words)
 values Irq words = irq_said (irq_of (text_at 0 words)) (chip_of (text_at 1 words)) (small_of (text_at 2 words))
-values Open words = Some SaidOpen
-values Ioctl words = one (λ n. SaidIoctl n) (command_number_of (text_at 1 words))
+values Open words = two (λ name word. SaidOpen name word) (file_name_of (text_at 0 words)) (path_of (text_at 1 words))
+values Ioctl words = two (λ n made. SaidIoctl n made) (command_number_of (text_at 1 words)) (made_by (makes_file Ioctl words) (behind_two words))
 values Events words = one (λ n. SaidEvents n) (number_within 0 49152 (text_at 1 words))
-values OldIoctl words = one (λ n. SaidOldIoctl n) (old_number_of (text_at 1 words))
+values OldIoctl words = two (λ n made. SaidOldIoctl n made) (old_number_of (text_at 1 words)) (made_by (makes_file OldIoctl words) (behind_two words))
 values OldEvents words = one (λ n. SaidOldEvents n) (number_within 0 16384 (text_at 1 words))
 values Changes words = one (λ n. SaidChanges n) (number_within 0 9216 (text_at 1 words))
 values Poll words = Some SaidPoll
@@ -122,9 +125,9 @@ values Detect words = Some SaidDetect
 values Info words = Some SaidInfo
 values Get words = Some SaidGet
 values Set words = Some SaidSet
-values Start words = Some SaidStart
-values Step words = one (λ n. SaidStep n) (number_within 1 1000 (text_at 1 words))
-values Stop words = Some SaidStop
+values Start words = one (λ name. SaidStart name) (file_name_of (text_at 0 words))
+values Step words = two (λ name n. SaidStep name n) (file_name_of (text_at 0 words)) (number_within 1 1000 (text_at 1 words))
+values Stop words = one (λ name. SaidStop name) (file_name_of (text_at 0 words))
 
 abbrev pub unless_fault : Option Spot → Option Said → Option Said
 unless_fault None said = said
@@ -148,21 +151,21 @@ VersionsAreSaid = (version : Version) (first : Span) (words : List Span) → sta
 
 -- the statement that is said
 abbrev pub keyword_said : Said → Keyword
-keyword_said (SaidProbe lines) = Probe
+keyword_said (SaidProbe label lines) = Probe
 keyword_said (SaidUnplug chip) = Unplug
-keyword_said SaidMakeDir = MakeDir
-keyword_said SaidRemoveDir = RemoveDir
-keyword_said SaidWrite = Write
-keyword_said SaidRead = Read
+keyword_said (SaidMakeDir path) = MakeDir
+keyword_said (SaidRemoveDir path) = RemoveDir
+keyword_said (SaidWrite path value) = Write
+keyword_said (SaidRead path) = Read
 keyword_said (SaidClock mono real) = Clock
 keyword_said (SaidFault nth) = Fault
 keyword_said (SaidAccept bits) = Accept
 keyword_said (SaidPin chip what) = Pin
 keyword_said (SaidIrq what chip offset) = Irq
-keyword_said SaidOpen = Open
-keyword_said (SaidIoctl command) = Ioctl
+keyword_said (SaidOpen name word) = Open
+keyword_said (SaidIoctl command made) = Ioctl
 keyword_said (SaidEvents len) = Events
-keyword_said (SaidOldIoctl command) = OldIoctl
+keyword_said (SaidOldIoctl command made) = OldIoctl
 keyword_said (SaidOldEvents len) = OldEvents
 keyword_said (SaidChanges len) = Changes
 keyword_said SaidPoll = Poll
@@ -171,9 +174,9 @@ keyword_said SaidDetect = Detect
 keyword_said SaidInfo = Info
 keyword_said SaidGet = Get
 keyword_said SaidSet = Set
-keyword_said SaidStart = Start
-keyword_said (SaidStep turns) = Step
-keyword_said SaidStop = Stop
+keyword_said (SaidStart name) = Start
+keyword_said (SaidStep name turns) = Step
+keyword_said (SaidStop name) = Stop
 
 -- the numbers of what is done with pins are those of these words
 abbrev pub ArePins : PinDo → List Span → Type 0
@@ -183,19 +186,26 @@ ArePins (Release pin) words = small_of (text_at 3 words) ≡ Some pin
 
 -- each value is that of its word
 abbrev pub AreValues : Said → List Span → Type 0
-AreValues (SaidProbe lines) words = number_within 1 LINES_MAX (text_at 2 words) ≡ Some lines
+AreValues (SaidProbe label lines) words = (label_of (text_at 1 words) ≡ Some label) × (number_within 1 LINES_MAX (text_at 2 words) ≡ Some lines)
 AreValues (SaidUnplug chip) words = chip_of (text_at 1 words) ≡ Some chip
+AreValues (SaidMakeDir path) words = tree_path_of (text_at 1 words) ≡ Some path
+AreValues (SaidRemoveDir path) words = tree_path_of (text_at 1 words) ≡ Some path
+AreValues (SaidWrite path value) words = (tree_path_of (text_at 1 words) ≡ Some path) × (label_of (text_at 2 words) ≡ Some value)
+AreValues (SaidRead path) words = tree_path_of (text_at 1 words) ≡ Some path
 AreValues (SaidClock mono real) words = (wide_of (text_at 1 words) ≡ Some mono) × (wide_of (text_at 2 words) ≡ Some real)
 AreValues (SaidFault nth) words = number_within 1 1000000 (text_at 1 words) ≡ Some nth
 AreValues (SaidAccept bits) words = wide_of (text_at 1 words) ≡ Some bits
 AreValues (SaidPin chip what) words = (pin_name what ≡ text_at 1 words) × (chip_of (text_at 2 words) ≡ Some chip) × ArePins what words
 AreValues (SaidIrq what chip offset) words = (irq_name what ≡ text_at 1 words) × (chip_of (text_at 2 words) ≡ Some chip) × (small_of (text_at 3 words) ≡ Some offset)
-AreValues (SaidIoctl command) words = command_number_of (text_at 2 words) ≡ Some command
+AreValues (SaidOpen name word) words = (file_name_of (text_at 1 words) ≡ Some name) × (path_of (text_at 2 words) ≡ Some word)
+AreValues (SaidIoctl command made) words = (command_number_of (text_at 2 words) ≡ Some command) × (made_by (command == GET_LINE) (behind_three words) ≡ Some made)
 AreValues (SaidEvents len) words = number_within 0 49152 (text_at 2 words) ≡ Some len
-AreValues (SaidOldIoctl command) words = old_number_of (text_at 2 words) ≡ Some command
+AreValues (SaidOldIoctl command made) words = (old_number_of (text_at 2 words) ≡ Some command) × (made_by (makes_old_file (Some command)) (behind_three words) ≡ Some made)
 AreValues (SaidOldEvents len) words = number_within 0 16384 (text_at 2 words) ≡ Some len
 AreValues (SaidChanges len) words = number_within 0 9216 (text_at 2 words) ≡ Some len
-AreValues (SaidStep turns) words = number_within 1 1000 (text_at 2 words) ≡ Some turns
+AreValues (SaidStart name) words = file_name_of (text_at 1 words) ≡ Some name
+AreValues (SaidStep name turns) words = (file_name_of (text_at 1 words) ≡ Some name) × (number_within 1 1000 (text_at 2 words) ≡ Some turns)
+AreValues (SaidStop name) words = file_name_of (text_at 1 words) ≡ Some name
 AreValues _ words = Unit {0}
 
 -- what is said is what the words spell: their statement, and each value the one that its word spells

@@ -10,7 +10,7 @@ use Rattle.gl_script.specs.declared.said.Said.TheVariants.{Ioctl, OldIoctl, Step
 
 -- by what is said and the words behind the first
 abbrev pub cost_said : Said → List Span → ℕ
-cost_said (Ioctl command) words = if command == GET_LINE then 3 else 2
-cost_said (OldIoctl command) words = if makes_old_file (Some command) then 3 else 2
-cost_said (Step turns) words = turns + 1
+cost_said (Ioctl command made) words = if command == GET_LINE then 3 else 2
+cost_said (OldIoctl command made) words = if makes_old_file (Some command) then 3 else 2
+cost_said (Step name turns) words = turns + 1
 cost_said said words = cost (keyword_said said) words

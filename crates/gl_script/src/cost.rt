@@ -74,23 +74,23 @@ fn statement_cost(statement: &Statement<'_>) -> u64
 {
     let said = statement.said();
     match next_word(1, statement.line) {
-        Some(first) => said_cost(said, first.rest_at, first.rest).min(OVER),
+        Some(first) => said_cost(&said, first.rest_at, first.rest).min(OVER),
         None => 0,
     }
 }
 
 /// The cost of a statement by what it says and the words behind its first, one row a statement; any number over the limit where it
 /// is over the limit.
-fn said_cost(said: Said, at: usize, line: &[u8]) -> u64
+fn said_cost(said: &Said, at: usize, line: &[u8]) -> u64
     requires { at + length line.now + 1 < 2 ^ 64 }
-    ensures { min result OVER ≡ min (cost_said said (words_at at line.now)) OVER }
+    ensures { min result OVER ≡ min (cost_said said.now (words_at at line.now)) OVER }
 {
     match said {
-        Said::Fault { .. } | Said::Accept { .. } | Said::Close | Said::Stop => 0,
+        Said::Fault { .. } | Said::Accept { .. } | Said::Close | Said::Stop { .. } => 0,
         Said::Probe { .. }
-        | Said::MakeDir
-        | Said::RemoveDir
-        | Said::Read
+        | Said::MakeDir { .. }
+        | Said::RemoveDir { .. }
+        | Said::Read { .. }
         | Said::Clock { .. }
         | Said::Pin { .. }
         | Said::Irq { .. }
@@ -98,15 +98,17 @@ fn said_cost(said: Said, at: usize, line: &[u8]) -> u64
         | Said::OldEvents { .. }
         | Said::Changes { .. }
         | Said::Poll => 1,
-        Said::Write | Said::Unplug { .. } | Said::Open => 2,
-        Said::Ioctl { command } => command_cost(command == GET_LINE),
-        Said::OldIoctl { command } => command_cost(gl_v1::makes_file(Some(command))),
+        Said::Write { .. } | Said::Unplug { .. } | Said::Open { .. } => 2,
+        Said::Ioctl { command, .. } => command_cost(*command == GET_LINE),
+        Said::OldIoctl { command, .. } => command_cost(gl_v1::makes_file(Some(*command))),
         Said::Detect => detect_cost(at, line),
         Said::Info => info_cost(at, line),
         Said::Get => word_count(at, line) + 7,
         Said::Set => word_count(at, line) + 5,
-        Said::Start => start_cost(text_at(1, at, line), word_count(at, line).saturating_sub(2)),
-        Said::Step { turns } => u64::from(turns) + 1,
+        Said::Start { .. } => {
+            start_cost(text_at(1, at, line), word_count(at, line).saturating_sub(2))
+        }
+        Said::Step { turns, .. } => u64::from(*turns) + 1,
     }
 }
 

@@ -1,18 +1,22 @@
 //! The words of a statement, read one after the other, each once.
 ghost use Rattle.std.specs.Prelude.{◌≡◌, ◌+◌, ◌<◌, ◌≤◌, ◌^◌, [], ◌∷◌, length, IfOk, IfErr, OnOk, Some};
 ghost use Rattle.gl_base.specs.CommandWord.{command_number_of};
+ghost use Rattle.gl_base.specs.Path.{path_of};
 ghost use Rattle.gl_base.specs.Words.{span, words_at};
 ghost use Rattle.gl_v1.specs.Words.{old_number_of};
 ghost use Rattle.gl_script.specs.Faults.{spot};
-ghost use Rattle.gl_script.specs.Forms.{number_within};
+ghost use Rattle.gl_script.specs.Forms.{file_name_of, label_of, number_within, tree_path_of};
 ghost use Rattle.gl_script.specs.Left.{ArePieces, IsEnd, IsShort, Reads, left_in, pin_word_of};
 ghost use Rattle.gl_script.specs.Said.{chip_of, irq_of};
 
-use crate::faults::{bytes_fault, spot};
-use crate::forms::{PinWord, chip_of, irq_of, meets, number_within, pin_word_of};
+use crate::faults::{bytes_read, spot};
+use crate::forms::{
+    PinWord, chip_of, chip_word, file_name, irq_of, label, meets, number_within, pin_word_of,
+    tree_path,
+};
 use crate::refusal::{RefusalKind, Spot};
 use crate::table::Form;
-use gl_base::{Found, IrqDo, command_number, next_word};
+use gl_base::{Found, IrqDo, Name, Path, command_number, next_word};
 
 /// What is left of a statement's line.
 #[derive(Clone, Copy, Debug)]
@@ -69,6 +73,58 @@ impl<'a> Cursor<'a> {
             return Err(spot(found.at, RefusalKind::Word));
         }
         Ok(())
+    }
+
+    /// The name of a file or a tool.
+    pub fn file_name(&mut self) -> Result<Name, Spot>
+        requires { IsShort self.old }
+        ensures read { Reads Form.FileName file_name_of (left_in self.old) (left_in self.new) result }
+        ensures short { OnOk result (IsShort self.new) }
+    {
+        let found = self.next()?;
+        if !meets(Form::FileName, found.word) {
+            return Err(spot(found.at, RefusalKind::Word));
+        }
+        Ok(file_name(found.word))
+    }
+
+    /// A label or a value.
+    pub fn label(&mut self) -> Result<Name, Spot>
+        requires { IsShort self.old }
+        ensures read { Reads Form.Label label_of (left_in self.old) (left_in self.new) result }
+        ensures short { OnOk result (IsShort self.new) }
+    {
+        let found = self.next()?;
+        if !meets(Form::Label, found.word) {
+            return Err(spot(found.at, RefusalKind::Word));
+        }
+        Ok(label(found.word))
+    }
+
+    /// A path of the tree.
+    pub fn path(&mut self) -> Result<Path, Spot>
+        requires { IsShort self.old }
+        ensures read { Reads Form.Path tree_path_of (left_in self.old) (left_in self.new) result }
+        ensures short { OnOk result (IsShort self.new) }
+    {
+        let found = self.next()?;
+        if !meets(Form::Path, found.word) {
+            return Err(spot(found.at, RefusalKind::Word));
+        }
+        Ok(tree_path(found.word))
+    }
+
+    /// A word that names a chip.
+    pub fn chip_word(&mut self) -> Result<Path, Spot>
+        requires { IsShort self.old }
+        ensures read { Reads Form.Word path_of (left_in self.old) (left_in self.new) result }
+        ensures short { OnOk result (IsShort self.new) }
+    {
+        let found = self.next()?;
+        if !meets(Form::Word, found.word) {
+            return Err(spot(found.at, RefusalKind::Word));
+        }
+        Ok(chip_word(found.word))
     }
 
     /// A number from `low` to `high`.
@@ -180,14 +236,11 @@ impl<'a> Cursor<'a> {
         }
     }
 
-    /// Pieces of bytes, or `-`; then `as NAME` exactly where a file is made.
-    pub fn pieces(&self, makes: bool) -> Result<(), Spot>
+    /// Pieces of bytes, or `-`; then `as NAME` exactly where a file is made: its name.
+    pub fn pieces(&self, makes: bool) -> Result<Option<Name>, Spot>
         requires { IsShort self.now }
         ensures { ArePieces makes (left_in self.now) result }
     {
-        match bytes_fault(makes, self.end, self.at, self.rest) {
-            Some(fault) => Err(fault),
-            None => Ok(()),
-        }
+        bytes_read(makes, self.end, self.at, self.rest)
     }
 }

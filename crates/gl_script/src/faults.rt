@@ -1,15 +1,18 @@
-//! The first fault of a line's words.
-ghost use Rattle.std.specs.Prelude.{◌≡◌, ◌+◌, ◌<◌, ◌≤◌, ◌^◌, ◌&&◌, length, codes, IfOk};
+//! The first fault of a line's words, and what stands behind a command.
+ghost use Rattle.std.specs.Prelude.{◌≡◌, ◌+◌, ◌<◌, ◌≤◌, ◌^◌, ◌&&◌, true, if◌then◌else◌, length, codes, IfOk};
 ghost use Rattle.gl_base.specs.BytesText.{piece_size};
 ghost use Rattle.gl_base.specs.Words.{text_at, words_at};
 ghost use Rattle.gl_script.specs.Faults.{err_of, spot, is_printable, byte_fault, size_fault, more_fault, name_fault, as_fault, piece_fault, size_of, pieces_fault, bytes_fault};
+ghost use Rattle.gl_script.specs.Forms.{file_name_of};
+ghost use Rattle.gl_script.specs.Left.{Finds};
+ghost use Rattle.gl_script.specs.Pieces.{made_by};
 ghost use Rattle.std.specs.Str.{bytes_eq};
 
-use crate::forms::meets;
+use crate::forms::{file_name, meets};
 use crate::limits::{PIECES_MAX, WORD_MAX, WORDS_MAX};
 use crate::refusal::{RefusalKind, Spot};
 use crate::table::Form;
-use gl_base::{next_word, piece_size};
+use gl_base::{Name, next_word, piece_size};
 
 /// The first byte that isn't printable.
 pub fn byte_fault(at: usize, line: &[u8]) -> Option<Spot>
@@ -72,38 +75,44 @@ pub fn more_fault(at: usize, line: &[u8]) -> Option<Spot>
     }
 }
 
-/// `NAME`, and no more.
-fn name_fault(end: usize, at: usize, line: &[u8]) -> Option<Spot>
+/// `NAME`, and no more: the name.
+fn name_read(end: usize, at: usize, line: &[u8]) -> Result<Name, Spot>
     requires long { at + length line.now + 1 < 2 ^ 32 }
     requires end { end < 2 ^ 32 }
-    ensures { result ≡ name_fault end (words_at at line.now) }
+    ensures { Finds (name_fault end (words_at at line.now)) (file_name_of (text_at 0 (words_at at line.now))) result }
 {
     match next_word(at, line) {
         Some(found) => {
             if !meets(Form::FileName, found.word) {
-                return Some(spot(found.at, RefusalKind::Word));
+                return Err(spot(found.at, RefusalKind::Word));
             }
-            more_fault(found.rest_at, found.rest)
+            match more_fault(found.rest_at, found.rest) {
+                Some(fault) => Err(fault),
+                None => Ok(file_name(found.word)),
+            }
         }
-        None => Some(spot(end, RefusalKind::Words)),
+        None => Err(spot(end, RefusalKind::Words)),
     }
 }
 
-/// `as NAME`, and no more.
-fn as_fault(end: usize, at: usize, line: &[u8]) -> Option<Spot>
+/// `as NAME`, and no more: the name.
+fn as_read(end: usize, at: usize, line: &[u8]) -> Result<Option<Name>, Spot>
     requires long { at + length line.now + 1 < 2 ^ 32 }
     requires end { end < 2 ^ 32 }
-    ensures { result ≡ as_fault end (words_at at line.now) }
+    ensures { Finds (as_fault end (words_at at line.now)) (made_by true (words_at at line.now)) result }
 {
     match next_word(at, line) {
         Some(found) => {
             if found.word != b"as".as_slice() {
-                return Some(spot(found.at, RefusalKind::Word));
+                return Err(spot(found.at, RefusalKind::Word));
             }
             let end = found.at + found.word.len();
-            name_fault(end, found.rest_at, found.rest)
+            match name_read(end, found.rest_at, found.rest) {
+                Ok(name) => Ok(Some(name)),
+                Err(fault) => Err(fault),
+            }
         }
-        None => Some(spot(end, RefusalKind::Words)),
+        None => Err(spot(end, RefusalKind::Words)),
     }
 }
 
@@ -125,12 +134,18 @@ fn piece_fault(said: u64, at: usize, word: &[u8]) -> Result<u64, Spot>
     }
 }
 
-/// Further pieces, and then `as NAME` exactly where a file is made.
-fn pieces_fault(makes: bool, said: u64, end: usize, at: usize, line: &[u8]) -> Option<Spot>
+/// Further pieces, and then `as NAME` exactly where a file is made: its name.
+fn pieces_read(
+    makes: bool,
+    said: u64,
+    end: usize,
+    at: usize,
+    line: &[u8],
+) -> Result<Option<Name>, Spot>
     requires long { at + length line.now + 1 < 2 ^ 32 }
     requires end { end < 2 ^ 32 }
     requires said { said ≤ 1024 }
-    ensures { result ≡ pieces_fault makes said end (words_at at line.now) }
+    ensures { Finds (pieces_fault makes said end (words_at at line.now)) (made_by makes (words_at at line.now)) result }
 {
     let mut said = said;
     let mut end = end;
@@ -139,20 +154,23 @@ fn pieces_fault(makes: bool, said: u64, end: usize, at: usize, line: &[u8]) -> O
     while let Some(found) = next_word(at, rest) {
         let next = found.at + found.word.len();
         if is_as(makes, found.word) {
-            return name_fault(next, found.rest_at, found.rest);
+            match name_read(next, found.rest_at, found.rest) {
+                Ok(name) => return Ok(Some(name)),
+                Err(fault) => return Err(fault),
+            }
         }
         match piece_fault(said, found.at, found.word) {
             Ok(more) => said = more,
-            Err(fault) => return Some(fault),
+            Err(fault) => return Err(fault),
         }
         end = next;
         at = found.rest_at;
         rest = found.rest;
     }
     if makes {
-        return Some(spot(end, RefusalKind::Words));
+        return Err(spot(end, RefusalKind::Words));
     }
-    None
+    Ok(None)
 }
 
 /// Whether a word is the `as` behind the pieces.
@@ -162,25 +180,37 @@ fn is_as(makes: bool, word: &[u8]) -> bool
     makes && word == b"as".as_slice()
 }
 
-/// `-` alone or at least one piece, and then `as NAME` exactly where a file is made.
-pub fn bytes_fault(makes: bool, end: usize, at: usize, line: &[u8]) -> Option<Spot>
+/// `-` alone or at least one piece, and then `as NAME` exactly where a file is made: its name.
+pub fn bytes_read(makes: bool, end: usize, at: usize, line: &[u8]) -> Result<Option<Name>, Spot>
     requires long { at + length line.now + 1 < 2 ^ 32 }
     requires end { end < 2 ^ 32 }
-    ensures { result ≡ bytes_fault makes end (words_at at line.now) }
+    ensures { Finds (bytes_fault makes end (words_at at line.now)) (made_by makes (words_at at line.now)) result }
 {
     let Some(found) = next_word(at, line) else {
-        return Some(spot(end, RefusalKind::Words));
+        return Err(spot(end, RefusalKind::Words));
     };
     let next = found.at + found.word.len();
     if found.word == b"-".as_slice() {
-        if makes {
-            return as_fault(next, found.rest_at, found.rest);
-        }
-        return more_fault(found.rest_at, found.rest);
+        return none_read(makes, next, found.rest_at, found.rest);
     }
     match piece_fault(0, found.at, found.word) {
-        Ok(said) => pieces_fault(makes, said, next, found.rest_at, found.rest),
-        Err(fault) => Some(fault),
+        Ok(said) => pieces_read(makes, said, next, found.rest_at, found.rest),
+        Err(fault) => Err(fault),
+    }
+}
+
+/// What may stand behind `-`: `as NAME` exactly where a file is made.
+fn none_read(makes: bool, end: usize, at: usize, line: &[u8]) -> Result<Option<Name>, Spot>
+    requires long { at + length line.now + 1 < 2 ^ 32 }
+    requires end { end < 2 ^ 32 }
+    ensures { Finds (if makes then as_fault end (words_at at line.now) else more_fault (words_at at line.now)) (made_by makes (words_at at line.now)) result }
+{
+    if makes {
+        return as_read(end, at, line);
+    }
+    match more_fault(at, line) {
+        Some(fault) => Err(fault),
+        None => Ok(None),
     }
 }
 

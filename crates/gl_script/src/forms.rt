@@ -1,13 +1,14 @@
 //! The forms of words.
-ghost use Rattle.std.specs.Prelude.{◌≡◌};
+ghost use Rattle.std.specs.Prelude.{◌≡◌, true, Some};
 ghost use Rattle.std.specs.List.{list_all};
 ghost use Rattle.gl_base.specs.Label.{is_label_byte};
-ghost use Rattle.gl_script.specs.Forms.{meets, is_one_of, is_of, is_path_byte, is_there, within, number_within, irq_words};
+ghost use Rattle.gl_base.specs.Path.{path_of};
+ghost use Rattle.gl_script.specs.Forms.{meets, is_one_of, is_of, is_path_byte, is_there, within, number_within, irq_words, file_name_of, label_of, tree_path_of};
 ghost use Rattle.gl_script.specs.Left.{pin_word_of};
 ghost use Rattle.gl_script.specs.Said.{chip_of, irq_of};
 
 use crate::table::Form;
-use gl_base::{IrqDo, are_label_bytes, chip_number, command_number, read_decimal};
+use gl_base::{IrqDo, Name, Path, are_label_bytes, chip_number, command_number, read_decimal};
 
 /// The greatest number of a chip that a word may have.
 const CHIP_MAX: u64 = 63;
@@ -45,6 +46,48 @@ pub fn meets(form: Form, word: &[u8]) -> bool
                 || word == b"gpiomon".as_slice()
                 || word == b"gpionotify".as_slice()
         }
+    }
+}
+
+/// The name of a file or a tool, by its word.
+#[tactic(auto, using(crate::proofs::TypedWords::file_name_fits))]
+pub fn file_name(word: &[u8]) -> Name
+    requires { meets Form.FileName word.now ≡ true }
+    ensures { file_name_of word.now ≡ Some result }
+{
+    Name::filled(word)
+}
+
+/// A label or a value, by its word.
+#[tactic(auto, using(crate::proofs::TypedWords::label_fits))]
+pub fn label(word: &[u8]) -> Name
+    requires { meets Form.Label word.now ≡ true }
+    ensures { label_of word.now ≡ Some result }
+{
+    Name::filled(word)
+}
+
+/// A path of the tree, by its word.
+#[tactic(auto, using(crate::proofs::TypedWords::path_fits))]
+pub fn tree_path(word: &[u8]) -> Path
+    requires { meets Form.Path word.now ≡ true }
+    ensures { tree_path_of word.now ≡ Some result }
+{
+    match Path::of(word) {
+        Some(path) => path,
+        None => unreachable!(),
+    }
+}
+
+/// The word that names a chip.
+#[tactic(auto, using(crate::proofs::TypedWords::word_fits))]
+pub fn chip_word(word: &[u8]) -> Path
+    requires { meets Form.Word word.now ≡ true }
+    ensures { path_of word.now ≡ Some result }
+{
+    match Path::of(word) {
+        Some(path) => path,
+        None => unreachable!(),
     }
 }
 

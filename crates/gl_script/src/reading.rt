@@ -2,8 +2,9 @@
 ghost use Rattle.std.specs.Prelude.{◌≡◌, ◌<◌, ◌≤◌, ◌+◌, ◌^◌, ◌++◌, [], ◌∷◌, None, Some, map, length, OnOk, IfOk, IfErr, IsOkUnless};
 ghost use Rattle.gl_base.specs.Words.{span, words_at};
 ghost use Rattle.gl_script.specs.Columns.{columns};
-ghost use Rattle.gl_script.specs.Meaning.{said_in, current_in};
+ghost use Rattle.gl_script.specs.Meaning.{line_in, said_in, current_in};
 ghost use Rattle.gl_script.specs.Reading.{Follows, before_in};
+ghost use Rattle.gl_script.specs.Said.{said_of};
 ghost use Rattle.gl_script.specs.Sentence.{nothing, is_out_of_order, actor_count, names_current, is_used, actor_fault, header_fault, in_section_fault, section_fault, counted_fault, line_fault, behind, behind_counted, behind_head, sections_in, version_of};
 
 use crate::faults::{byte_fault, more_fault, size_fault, spot, text_at};
@@ -14,6 +15,7 @@ use crate::heads::{
 use crate::limits::ACTORS_MAX;
 use crate::refusal::{RefusalKind, Spot};
 use crate::rows::statement_said;
+use crate::said::Said;
 use crate::section::{Section, SectionKind, Statement};
 use crate::table::{Form, keyword_in};
 use crate::version::Version;
@@ -238,10 +240,7 @@ impl<'a> Reading<'a> {
             Some(section) => {
                 let keyword = keyword_in(version, first.word);
                 match statement_said(keyword, first) {
-                    Ok(said) => push_statement(
-                        &mut section.statements,
-                        Statement { at, line, said },
-                    ),
+                    Ok(said) => push_statement(&mut section.statements, at, line, &said),
                     Err(fault) => Err(Stop::Fault(fault)),
                 }
             }
@@ -250,15 +249,18 @@ impl<'a> Reading<'a> {
     }
 }
 
-/// Adds a statement to those of a section.
+/// Adds the statement of a line, which says this, to those of a section.
 fn push_statement<'a>(
     statements: &mut Vec<Statement<'a>>,
-    statement: Statement<'a>,
+    at: usize,
+    line: &'a [u8],
+    said: &Said,
 ) -> Result<(), Stop>
-    ensures added { OnOk result (statements.new.items ≡ statements.old.items ++ statement.entry ∷ []) }
+    requires { said_of (columns line.now) ≡ Some said.now }
+    ensures added { OnOk result (map line_in statements.new.items ≡ map line_in statements.old.items ++ span at line.now ∷ []) }
     ensures memory_alone { IfErr result (λ stop. stop ≡ Stop.NoMemory) }
 {
-    match statements.push(statement) {
+    match statements.push(Statement::of(at, line, *said)) {
         Ok(()) => Ok(()),
         Err(_) => Err(Stop::NoMemory),
     }

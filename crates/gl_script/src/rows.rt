@@ -36,10 +36,10 @@ fn words_said(keyword: Keyword, words: &mut Cursor<'_>) -> Result<Said, Spot>
     match keyword {
         Keyword::Probe => probe_said(words),
         Keyword::Unplug => unplug_said(words),
-        Keyword::MakeDir => of_path(Said::MakeDir, words),
-        Keyword::RemoveDir => of_path(Said::RemoveDir, words),
+        Keyword::MakeDir => make_dir_said(words),
+        Keyword::RemoveDir => remove_dir_said(words),
         Keyword::Write => write_said(words),
-        Keyword::Read => of_path(Said::Read, words),
+        Keyword::Read => read_said(words),
         Keyword::Clock => clock_said(words),
         Keyword::Fault => fault_said(words),
         Keyword::Accept => accept_said(words),
@@ -59,21 +59,41 @@ fn words_said(keyword: Keyword, words: &mut Cursor<'_>) -> Result<Said, Spot>
         Keyword::Set => Ok(Said::Set),
         Keyword::Start => start_said(words),
         Keyword::Step => step_said(words),
-        Keyword::Stop => of_name(Said::Stop, words),
+        Keyword::Stop => stop_said(words),
     }
 }
 
-/// A statement of a path alone.
-fn of_path(said: Said, words: &mut Cursor<'_>) -> Result<Said, Spot>
+/// `mkdir PATH`.
+fn make_dir_said(words: &mut Cursor<'_>) -> Result<Said, Spot>
     requires { IsShort words.old }
-    ensures { Says (only (Form.Path ∷ [])) (Some said) (left_in words.old) result }
+    ensures { IsRead Keyword.MakeDir (left_in words.old) result }
 {
-    words.text(Form::Path)?;
+    let path = words.path()?;
     words.no_more()?;
-    Ok(said)
+    Ok(Said::MakeDir { path })
 }
 
-/// A statement of a name alone.
+/// `rmdir PATH`.
+fn remove_dir_said(words: &mut Cursor<'_>) -> Result<Said, Spot>
+    requires { IsShort words.old }
+    ensures { IsRead Keyword.RemoveDir (left_in words.old) result }
+{
+    let path = words.path()?;
+    words.no_more()?;
+    Ok(Said::RemoveDir { path })
+}
+
+/// `read PATH`.
+fn read_said(words: &mut Cursor<'_>) -> Result<Said, Spot>
+    requires { IsShort words.old }
+    ensures { IsRead Keyword.Read (left_in words.old) result }
+{
+    let path = words.path()?;
+    words.no_more()?;
+    Ok(Said::Read { path })
+}
+
+/// A statement of the name of a file alone.
 fn of_name(said: Said, words: &mut Cursor<'_>) -> Result<Said, Spot>
     requires { IsShort words.old }
     ensures { Says (only (Form.FileName ∷ [])) (Some said) (left_in words.old) result }
@@ -88,10 +108,10 @@ fn probe_said(words: &mut Cursor<'_>) -> Result<Said, Spot>
     requires { IsShort words.old }
     ensures { IsRead Keyword.Probe (left_in words.old) result }
 {
-    words.text(Form::Label)?;
+    let label = words.label()?;
     let lines = words.small(1, LINES_MAX)?;
     words.no_more()?;
-    Ok(Said::Probe { lines })
+    Ok(Said::Probe { label, lines })
 }
 
 /// `unplug CHIP`.
@@ -109,10 +129,10 @@ fn write_said(words: &mut Cursor<'_>) -> Result<Said, Spot>
     requires { IsShort words.old }
     ensures { IsRead Keyword.Write (left_in words.old) result }
 {
-    words.text(Form::Path)?;
-    words.text(Form::Label)?;
+    let path = words.path()?;
+    let value = words.label()?;
     words.no_more()?;
-    Ok(Said::Write)
+    Ok(Said::Write { path, value })
 }
 
 /// `clock N N`.
@@ -213,10 +233,10 @@ fn open_said(words: &mut Cursor<'_>) -> Result<Said, Spot>
     requires { IsShort words.old }
     ensures { IsRead Keyword.Open (left_in words.old) result }
 {
-    words.text(Form::FileName)?;
-    words.text(Form::Word)?;
+    let name = words.file_name()?;
+    let word = words.chip_word()?;
     words.no_more()?;
-    Ok(Said::Open)
+    Ok(Said::Open { name, word })
 }
 
 /// `ioctl NAME COMMAND PIECES.. [as NAME]`.
@@ -226,8 +246,8 @@ fn ioctl_said(words: &mut Cursor<'_>) -> Result<Said, Spot>
 {
     words.text(Form::FileName)?;
     let command = words.command()?;
-    words.pieces(command == GET_LINE)?;
-    Ok(Said::Ioctl { command })
+    let made = words.pieces(command == GET_LINE)?;
+    Ok(Said::Ioctl { command, made })
 }
 
 /// `events NAME N`.
@@ -248,8 +268,8 @@ fn old_ioctl_said(words: &mut Cursor<'_>) -> Result<Said, Spot>
 {
     words.text(Form::FileName)?;
     let command = words.old_command()?;
-    words.pieces(gl_v1::makes_file(Some(command)))?;
-    Ok(Said::OldIoctl { command })
+    let made = words.pieces(gl_v1::makes_file(Some(command)))?;
+    Ok(Said::OldIoctl { command, made })
 }
 
 /// `events1 NAME N`.
@@ -279,9 +299,9 @@ fn start_said(words: &mut Cursor<'_>) -> Result<Said, Spot>
     requires { IsShort words.old }
     ensures { IsRead Keyword.Start (left_in words.old) result }
 {
-    words.text(Form::FileName)?;
+    let name = words.file_name()?;
     words.text(Form::HeldTool)?;
-    Ok(Said::Start)
+    Ok(Said::Start { name })
 }
 
 /// `step NAME N`.
@@ -289,8 +309,18 @@ fn step_said(words: &mut Cursor<'_>) -> Result<Said, Spot>
     requires { IsShort words.old }
     ensures { IsRead Keyword.Step (left_in words.old) result }
 {
-    words.text(Form::FileName)?;
+    let name = words.file_name()?;
     let turns = words.small(1, 1000)?;
     words.no_more()?;
-    Ok(Said::Step { turns })
+    Ok(Said::Step { name, turns })
+}
+
+/// `stop NAME`.
+fn stop_said(words: &mut Cursor<'_>) -> Result<Said, Spot>
+    requires { IsShort words.old }
+    ensures { IsRead Keyword.Stop (left_in words.old) result }
+{
+    let name = words.file_name()?;
+    words.no_more()?;
+    Ok(Said::Stop { name })
 }

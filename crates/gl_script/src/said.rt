@@ -1,13 +1,16 @@
-//! What a statement says beside the words that stand for themselves.
+//! What a statement says.
 
-use gl_base::{IrqDo, PinDo};
+use gl_base::{IrqDo, Name, Path, PinDo};
 
-/// What a statement says, one variant a statement. Names, labels, values, paths and the words of tools stand for themselves
-/// (`Statement::word`); each other word is here as what it means.
+/// What a statement says, one variant a statement: each word that is given to the device, or that something is called by from then
+/// on, is here as what it means. The words of tools, the pieces of a command and the name of a file that is there already stand for
+/// themselves (`Statement::word`).
 #[derive(Clone, Copy, Debug)]
 pub enum Said {
     /// `probe LABEL N`.
     Probe {
+        /// The chip's label.
+        label: Name,
         /// How many lines the chip has, 1 to 512.
         lines: u32,
     },
@@ -17,13 +20,27 @@ pub enum Said {
         chip: u8,
     },
     /// `mkdir PATH`.
-    MakeDir,
+    MakeDir {
+        /// The path in the tree.
+        path: Path,
+    },
     /// `rmdir PATH`.
-    RemoveDir,
+    RemoveDir {
+        /// The path in the tree.
+        path: Path,
+    },
     /// `write PATH VALUE`.
-    Write,
+    Write {
+        /// The path in the tree.
+        path: Path,
+        /// The text that is written.
+        value: Name,
+    },
     /// `read PATH`.
-    Read,
+    Read {
+        /// The path in the tree.
+        path: Path,
+    },
     /// `clock N N`.
     Clock {
         /// The monotonic clock, in nanoseconds.
@@ -58,11 +75,18 @@ pub enum Said {
         offset: u32,
     },
     /// `open NAME WORD`.
-    Open,
+    Open {
+        /// The name that the file gets.
+        name: Name,
+        /// The word that names the chip.
+        word: Path,
+    },
     /// `ioctl NAME COMMAND PIECES.. [as NAME]`.
     Ioctl {
         /// The command's number.
         command: u32,
+        /// The name behind `as`, exactly where the command makes a file.
+        made: Option<Name>,
     },
     /// `events NAME N`.
     Events {
@@ -73,6 +97,8 @@ pub enum Said {
     OldIoctl {
         /// The command's number in the first uAPI.
         command: u32,
+        /// The name behind `as`, exactly where the command makes a file.
+        made: Option<Name>,
     },
     /// `events1 NAME N`.
     OldEvents {
@@ -97,12 +123,20 @@ pub enum Said {
     /// `gpioset`.
     Set,
     /// `start NAME TOOL ..`.
-    Start,
+    Start {
+        /// The name that the tool gets.
+        name: Name,
+    },
     /// `step NAME N`.
     Step {
+        /// The tool's name.
+        name: Name,
         /// How many turns the tool makes, 1 to 1000.
         turns: u32,
     },
     /// `stop NAME`.
-    Stop,
+    Stop {
+        /// The tool's name.
+        name: Name,
+    },
 }

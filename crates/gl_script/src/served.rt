@@ -44,8 +44,8 @@ impl LineKind {
     pub fn stage_after(self, stage: Stage) -> Stage
         ensures { result ≡ stage_after stage (kind_in self) }
     {
-        match self {
-            LineKind::Header(version) => Stage::Headed(version),
+        match &self {
+            LineKind::Header(version) => Stage::Headed(*version),
             LineKind::Setup => opened(stage),
             LineKind::Passed | LineKind::Statement(_) => stage,
         }

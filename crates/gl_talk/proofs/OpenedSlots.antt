@@ -34,7 +34,7 @@ use Rattle.gl_talk.specs.Open.{File, MonitorTool, Names, SetTool, has_tool, held
 use Rattle.gl_talk.specs.Actions.{action_of}
 use Rattle.gl_talk.specs.Talk.{acts, does, does_by, file, keeps_monitor, keeps_set, replied_by, runs, starts, starts_said, starts_tool, steps, stops}
 use Rattle.gl_talk.specs.ToolWords.{kind_of, word_texts}
-use Rattle.gl_talk.specs.Words.{behind_two, made_name, name_word, turns_word}
+use Rattle.gl_talk.specs.Words.{behind_two, name_word, turns_word}
 use Rattle.gl_talk.proofs.TalkNames.{ActionFits, file_times, monitor_more, one_more, open_times, action_at, set_more}
 use Rattle.gl_values.specs.Client.{held_program, tool_program}
 use Rattle.gl_values.specs.Set.{Held}
@@ -148,12 +148,12 @@ module _ (slot : ℕ) where
     replied_opens None Edges got = tt
     replied_opens None Infos got = tt
     replied_opens None Ready got = tt
-    replied_opens None Opened got = tt
+    replied_opens None (Opened name) got = tt
     replied_opens None Closed got = tt
-    replied_opens None Made got = tt
+    replied_opens None (Made name) got = tt
     replied_opens None (OldBytes kind command) got = tt
     replied_opens None OldEdges got = tt
-    replied_opens None (OldMade kind) got = tt
+    replied_opens None (OldMade kind name) got = tt
 
     own_first : is_own slot slot ≡ true
     own_first = ap (λ b. b || nat_eq slot (slot + 1)) (same_number slot)
@@ -175,14 +175,14 @@ module _ (slot : ℕ) where
     acts_open (Ask what Edges) fits = asks what Edges (opens_what (is_own slot) (λ s. open_times s names) what (λ s e. (fits s).0))
     acts_open (Ask what Infos) fits = asks what Infos (opens_what (is_own slot) (λ s. open_times s names) what (λ s e. (fits s).0))
     acts_open (Ask what Ready) fits = asks what Ready (opens_what (is_own slot) (λ s. open_times s names) what (λ s e. (fits s).0))
-    acts_open (Ask what Opened) fits = asks what Opened (subst (λ w. Opens (is_own slot) w) (sym (fits 0).1) own_first)
+    acts_open (Ask what (Opened name)) fits = asks what (Opened name) (subst (λ w. Opens (is_own slot) w) (sym (fits 0).1) own_first)
     acts_open (Ask what Closed) fits = asks what Closed (subst (λ w. Opens (is_own slot) w) (sym (fits 0).1) tt)
-    acts_open (Ask what Made) fits =
-        asks what Made (subst (λ w. Opens (is_own slot) w) (sym (fits 0).4.0) (where_so (nat_eq (fits 0).1 GET_LINE) (is_own slot slot ≡ true) own_first))
+    acts_open (Ask what (Made name)) fits =
+        asks what (Made name) (subst (λ w. Opens (is_own slot) w) (sym (fits 0).4.0) (where_so (nat_eq (fits 0).1 GET_LINE) (is_own slot slot ≡ true) own_first))
     acts_open (Ask what (OldBytes kind command)) fits = asks what (OldBytes kind command) (opens_what (is_own slot) (λ s. open_times s names) what (λ s e. (fits s).0))
     acts_open (Ask what OldEdges) fits = asks what OldEdges (opens_what (is_own slot) (λ s. open_times s names) what (λ s e. (fits s).0))
-    acts_open (Ask what (OldMade kind)) fits =
-        asks what (OldMade kind) (subst (λ w. Opens (is_own slot) w) (sym (fits 0).4.0) (where_so (nat_eq (fits 0).1 GET_LINE) (is_own slot slot ≡ true) own_first))
+    acts_open (Ask what (OldMade kind name)) fits =
+        asks what (OldMade kind name) (subst (λ w. Opens (is_own slot) w) (sym (fits 0).4.0) (where_so (nat_eq (fits 0).1 GET_LINE) (is_own slot slot ≡ true) own_first))
 
     runs_open : (tool : Option SaidTool) → Own (runs tool names slot words)
     runs_open None = tt
@@ -309,12 +309,12 @@ module _ (slot : ℕ) where
     one_replied None Edges got = still
     one_replied None Infos got = still
     one_replied None Ready got = still
-    one_replied None Opened got = one_file (text_at 1 words) Chip
+    one_replied None (Opened name) got = one_file name Chip
     one_replied None Closed got = omega (arith, none, files_fewer slot (text_at 1 words) names.files, files_fewer (slot + 1) (text_at 1 words) names.files)
-    one_replied None Made got = one_file (made_name words) Request
+    one_replied None (Made name) got = one_file name Request
     one_replied None (OldBytes kind command) got = still
     one_replied None OldEdges got = still
-    one_replied None (OldMade kind) got = one_file (made_name words) kind
+    one_replied None (OldMade kind name) got = one_file name kind
 
     one_acts : (action : Action) → Gives IsOneMore (acts action names slot words)
     one_acts Nothing = still

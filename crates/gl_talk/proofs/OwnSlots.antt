@@ -32,7 +32,7 @@ use Rattle.gl_talk.specs.Actions.{action_of}
 use Rattle.gl_talk.specs.Slots.{OpenPass, SlotsAreOwn}
 use Rattle.gl_talk.specs.Talk.{acts, does_by, file, keeps_monitor, keeps_set, replied_by, runs, starts, starts_said, starts_tool, steps, stops}
 use Rattle.gl_talk.specs.ToolWords.{kind_of, word_texts}
-use Rattle.gl_talk.specs.Words.{behind_two, made_name, name_word, turns_word}
+use Rattle.gl_talk.specs.Words.{behind_two, name_word, turns_word}
 use Rattle.gl_values.specs.Client.{held_program, tool_program}
 use Rattle.gl_values.specs.Set.{Held}
 use Rattle.gl_values.specs.Set.{stops as stops_holding}
@@ -87,12 +87,12 @@ module _ (test : ℕ → Bool) where
     replied_pass None Edges words got = held_open
     replied_pass None Infos words got = held_open
     replied_pass None Ready words got = held_open
-    replied_pass None Opened words got = file_more (text_at 1 words) Chip
+    replied_pass None (Opened name) words got = file_more name Chip
     replied_pass None Closed words got = file_less (text_at 1 words)
-    replied_pass None Made words got = file_more (made_name words) Request
+    replied_pass None (Made name) words got = file_more name Request
     replied_pass None (OldBytes kind command) words got = held_open
     replied_pass None OldEdges words got = held_open
-    replied_pass None (OldMade kind) words got = file_more (made_name words) kind
+    replied_pass None (OldMade kind name) words got = file_more name kind
 
     acts_pass : (action : Action) (words : List Span) → Gives (OpenPass test) (acts action names slot words)
     acts_pass Nothing words = held_open

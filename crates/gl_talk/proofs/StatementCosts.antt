@@ -74,12 +74,12 @@ told_free n None (Bytes command) names slot words got = tt
 told_free n None Edges names slot words got = tt
 told_free n None Infos names slot words got = tt
 told_free n None Ready names slot words got = tt
-told_free n None Opened names slot words got = tt
+told_free n None (Opened name) names slot words got = tt
 told_free n None Closed names slot words got = tt
-told_free n None Made names slot words got = tt
+told_free n None (Made name) names slot words got = tt
 told_free n None (OldBytes kind command) names slot words got = tt
 told_free n None OldEdges names slot words got = tt
-told_free n None (OldMade kind) names slot words got = tt
+told_free n None (OldMade kind name) names slot words got = tt
 
 acts_cost : (n : ℕ) (action : Action) (names : Names) (slot : ℕ) (words : List Span) → ActionCosts n action → CostsAtMost n (acts action names slot words)
 acts_cost n Nothing names slot words h = tt
@@ -115,9 +115,9 @@ writes_cost : (file : Option LineFile) (path value : List ℕ) → ActionCosts 2
 writes_cost None path value = tree_cost (live_device path) path value
 writes_cost (Some file) path value = action_if 2 file.is_pull _ _ (pulls_cost file (pull_word value)) tt
 
-opens_cost : (taken : Bool) (slot : ℕ) (word : List ℕ) → ActionCosts 2 (opens taken slot word)
-opens_cost true slot word = tt
-opens_cost false slot word = omega arith
+opens_cost : (taken : Bool) (slot : ℕ) (name word : List ℕ) → ActionCosts 2 (opens taken slot name word)
+opens_cost true slot name word = tt
+opens_cost false slot name word = omega arith
 
 file_cost : (file : Option File) (can_be_read : TalkFileKind → Bool) (len : ℕ) (reply : ResultFormat) → ActionCosts 1 (reads_file file can_be_read len reply)
 file_cost None can_be_read len reply = tt
@@ -164,7 +164,7 @@ cmd_if : (b : Bool) (x y : Sent) (n : ℕ) → x.cmd ≡ n → y.cmd ≡ n → (
 cmd_if true x y n p q = p
 cmd_if false x y n p q = q
 
-sent_cmd : (command : CommandV1) (lines : ℕ) (bytes : List ℕ) → (sent_for command lines bytes).cmd ≡ sent_as command
+pub sent_cmd : (command : CommandV1) (lines : ℕ) (bytes : List ℕ) → (sent_for command lines bytes).cmd ≡ sent_as command
 sent_cmd command lines bytes = cmd_if (nat_lt (length bytes) (size_of command)) (without_bytes (sent_as command)) (whole command lines bytes) (sent_as command) refl refl
 
 by_command : (command : CommandV1) → command_entries (sent_as command) ≤ cond (makes_old (Some command)) 3 2
@@ -231,7 +231,7 @@ action_cost Fault files slot first words = omega arith
 action_cost Accept files slot first words = omega arith
 action_cost Pin files slot first words = pins_cost (place_word (text_at 1 words)) (first ∷ words)
 action_cost Irq files slot first words = irqs_cost (place_word (text_at 1 words)) (first ∷ words)
-action_cost Open files slot first words = opens_cost (is_some (file_of (text_at 0 words) files)) slot (text_at 1 words)
+action_cost Open files slot first words = opens_cost (is_some (file_of (text_at 0 words) files)) slot (text_at 0 words) (text_at 1 words)
 action_cost Ioctl files slot first words = ioctls_cost (file_of (text_at 0 words) files) (takes_name (first ∷ words) files) slot first words
 action_cost Events files slot first words = file_cost (file_of (text_at 0 words) files) is_request _ Edges
 action_cost OldIoctl files slot first words = old_ioctls_cost (file_of (text_at 0 words) files) (takes_old_name (first ∷ words) files) slot first words

@@ -1,7 +1,7 @@
 -- What is left of a talk in which memory was wanted is what was left.
 use Rattle.std.proofs.Common.{◌≡◌, ℕ, ◌*◌, List, refl, sym, ◌∙◌, ap}
 use Rattle.gl_client.specs.Program.{done, then_left, waits}
-use Rattle.gl_base.specs.Words.{Span, text_at}
+use Rattle.gl_base.specs.Words.{Span}
 use Rattle.gl_script.specs.Columns.{columns}
 use Rattle.gl_talk.specs.declared.talk.Stage.{Stage}
 use Rattle.gl_talk.specs.declared.talk.Stage.TheVariants.{Idle, Begun, Waiting, Running, Holding, Watching, Quitting, Closing}
@@ -15,8 +15,8 @@ at_stage old new names slot words Idle stays = refl
 at_stage old new names slot words Begun stays = refl
 at_stage old new names slot words (Waiting reply) stays = refl
 at_stage old new names slot words Running stays = ap (λ l. then_left l (λ _. done names)) stays.client
-at_stage old new names slot words Holding stays = ap (λ l. then_left l (keeps_set (text_at 1 words) names)) stays.client
-at_stage old new names slot words Watching stays = ap (λ l. then_left l (keeps_monitor (text_at 1 words) names)) stays.monitor
+at_stage old new names slot words (Holding name) stays = ap (λ l. then_left l (keeps_set name names)) stays.client
+at_stage old new names slot words (Watching name) stays = ap (λ l. then_left l (keeps_monitor name names)) stays.monitor
 at_stage old new names slot words Quitting stays = refl
 at_stage old new names slot words Closing stays = ap (λ slots. waits (λ _. closes_all slots)) stays.closing
 

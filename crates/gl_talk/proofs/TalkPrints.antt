@@ -110,13 +110,13 @@ told_lines None (Bytes command) names slot words got = (structure_ends command (
 told_lines None Edges names slot words got = (edges_text_ends (bytes_of got), tt)
 told_lines None Infos names slot words got = (infos_text_ends (bytes_of got), tt)
 told_lines None Ready names slot words got = (line_ended (ready_text (ready_of got)), tt)
-told_lines None Opened names slot words got = tt
+told_lines None (Opened name) names slot words got = tt
 told_lines None Closed names slot words got = tt
-told_lines None Made names slot words got = (line_ended (codes "fd " ++ decimal (fd_of (bytes_of got))), tt)
+told_lines None (Made name) names slot words got = (line_ended (codes "fd " ++ decimal (fd_of (bytes_of got))), tt)
 told_lines None (OldBytes kind command) names slot words got =
     (line_ended (old_structure (command_for kind command) kind command (bytes_said (behind_three words)) (bytes_of got)), tt)
 told_lines None OldEdges names slot words got = (old_edges_text_ends (bytes_of got), tt)
-told_lines None (OldMade kind) names slot words got = (line_ended (codes "fd " ++ decimal (fd_of (bytes_of got))), tt)
+told_lines None (OldMade kind name) names slot words got = (line_ended (codes "fd " ++ decimal (fd_of (bytes_of got))), tt)
 
 acts_lines : (action : Action) (names : Names) (slot : ℕ) (words : List Span) → PrintsLines (acts action names slot words)
 acts_lines Nothing names slot words = tt

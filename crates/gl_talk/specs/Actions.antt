@@ -87,19 +87,21 @@ writes (Some file) path value = writes_line file value
 writes None path value = writes_tree (live_device path) path value
 
 -- `open NAME WORD`
-abbrev pub opens : Bool → ℕ → List ℕ → Action
-opens true slot word = Refuse Exist
-opens false slot word = Ask (DoOpenChip slot (path_word word)) Opened
+abbrev pub opens : Bool → ℕ → List ℕ → List ℕ → Action
+opens true slot name word = Refuse Exist
+opens false slot name word = Ask (DoOpenChip slot (path_word word)) (Opened (name_word name))
 
--- how the result of a command is told
-abbrev pub command_reply : ℕ → ResultFormat
-command_reply number =
-    if number == GET_LINE then Made
-    else if number == GET_CHIPINFO then Bytes number
+-- how the result of a command is told that makes no file, and of one that may make a file, which has this name
+abbrev pub bytes_reply : ℕ → ResultFormat
+bytes_reply number =
+    if number == GET_CHIPINFO then Bytes number
     else if number == GET_LINEINFO then Bytes number
     else if number == GET_LINEINFO_WATCH then Bytes number
     else if number == LINE_GET_VALUES then Bytes number
     else Silent
+
+abbrev pub command_reply : ℕ → List ℕ → ResultFormat
+command_reply number name = if number == GET_LINE then Made name else bytes_reply number
 
 -- the name after `as` is one that the actor has
 abbrev pub takes_name : List Span → List File → Bool
@@ -110,24 +112,24 @@ abbrev pub asks_for : File → ℕ → Sent → ResultFormat → Action
 asks_for file slot sent reply = Ask (DoIoctl file.slot sent.cmd sent.len sent.bytes slot) reply
 
 -- `ioctl NAME COMMAND PIECES.. [as NAME]`
-abbrev pub ioctls_bytes : File → ℕ → ℕ → List ℕ → Action
-ioctls_bytes file slot command bytes =
-    asks_for file slot (sent_new file.kind command bytes) (command_reply (sent_new file.kind command bytes).cmd)
+abbrev pub ioctls_bytes : File → ℕ → ℕ → List ℕ → List ℕ → Action
+ioctls_bytes file slot command name bytes =
+    asks_for file slot (sent_new file.kind command bytes) (command_reply (sent_new file.kind command bytes).cmd name)
 
 abbrev pub ioctls : Option File → Bool → ℕ → List Span → Action
 ioctls None taken slot words = Refuse BadF
 ioctls (Some file) taken slot words =
-    if taken then Refuse Exist else ioctls_bytes file slot (command_word (text_at 2 words)) (bytes_said (behind_three words))
+    if taken then Refuse Exist else ioctls_bytes file slot (command_word (text_at 2 words)) (name_word (made_name words)) (bytes_said (behind_three words))
 
 -- `ioctl1 NAME COMMAND PIECES.. [as NAME]`
-abbrev pub old_ioctls_bytes : File → ℕ → ℕ → List ℕ → Action
-old_ioctls_bytes file slot command bytes =
-    asks_for file slot (sent_old file.kind command bytes) (old_reply file.kind command bytes (sent_old file.kind command bytes).cmd)
+abbrev pub old_ioctls_bytes : File → ℕ → ℕ → List ℕ → List ℕ → Action
+old_ioctls_bytes file slot command name bytes =
+    asks_for file slot (sent_old file.kind command bytes) (old_reply file.kind command bytes name (sent_old file.kind command bytes).cmd)
 
 abbrev pub old_ioctls : Option File → Bool → ℕ → List Span → Action
 old_ioctls None taken slot words = Refuse BadF
 old_ioctls (Some file) taken slot words =
-    if taken then Refuse Exist else old_ioctls_bytes file slot (old_command_word (text_at 2 words)) (bytes_said (behind_three words))
+    if taken then Refuse Exist else old_ioctls_bytes file slot (old_command_word (text_at 2 words)) (name_word (made_name words)) (bytes_said (behind_three words))
 
 -- `events NAME N` of a request, `events1 NAME N` of a request for edges of the first uAPI, and `changes NAME N` of a chip's file
 abbrev pub read_if : Bool → ℕ → ℕ → ResultFormat → Action
@@ -161,7 +163,7 @@ action_of (Some Fault) files slot words = faults (text_at 1 words)
 action_of (Some Accept) files slot words = accepts (text_at 1 words)
 action_of (Some Pin) files slot words = pins (place_word (text_at 2 words)) words
 action_of (Some Irq) files slot words = irqs (place_word (text_at 2 words)) words
-action_of (Some Open) files slot words = opens (is_some (file_of (text_at 1 words) files)) slot (text_at 2 words)
+action_of (Some Open) files slot words = opens (is_some (file_of (text_at 1 words) files)) slot (text_at 1 words) (text_at 2 words)
 action_of (Some Ioctl) files slot words = ioctls (file_of (text_at 1 words) files) (takes_name words files) slot words
 action_of (Some Events) files slot words = reads_file (file_of (text_at 1 words) files) is_request (number_word 0 49152 (text_at 2 words)) Edges
 action_of (Some OldIoctl) files slot words = old_ioctls (file_of (text_at 1 words) files) (takes_old_name words files) slot words

@@ -57,14 +57,16 @@ takes_old_name words files = makes_file (old_number_of (text_at 2 words)) && is_
 abbrev pub made_kind : ℕ → List ℕ → TalkFileKind
 made_kind command said = if command == LINE_EVENT then Old Event else Old (Handle (number_at 4 V1_HANDLE_LINES (first_bytes said)))
 
--- how the result of the command is told whose statement says these bytes: it goes by what was sent
-abbrev pub old_reply : TalkFileKind → ℕ → List ℕ → ℕ → ResultFormat
-old_reply kind command said number =
-    if number == GET_LINE then OldMade (made_kind command said)
-    else if number == GET_CHIPINFO then OldBytes (kind_v1 kind) command
+-- how the result of the command is told whose statement says these bytes: it goes by what was sent; a file that is made has this name
+abbrev pub old_bytes_reply : TalkFileKind → ℕ → ℕ → ResultFormat
+old_bytes_reply kind command number =
+    if number == GET_CHIPINFO then OldBytes (kind_v1 kind) command
     else if number == GET_LINEINFO then OldBytes (kind_v1 kind) command
     else if number == LINE_GET_VALUES then OldBytes (kind_v1 kind) command
     else Silent
+
+abbrev pub old_reply : TalkFileKind → ℕ → List ℕ → List ℕ → ℕ → ResultFormat
+old_reply kind command said name number = if number == GET_LINE then OldMade (made_kind command said) name else old_bytes_reply kind command number
 
 -- the bytes of a structure, where those that went over are these and those that came back in v2 are those
 abbrev pub old_structure : Option CommandV1 → KindV1 → ℕ → List ℕ → List ℕ → List ℕ

@@ -1,9 +1,9 @@
--- What a word that stands for itself is read as where it is of its form: itself, so no default is taken in a session. This project's
--- choice.
-use Rattle.std.specs.Prelude.{◌≡◌, ℕ, true, List, Option, Some}
+-- What a word is read as where it is of its form: itself, so no default is taken in a session. This project's choice.
+use Rattle.std.specs.Prelude.{◌≡◌, ℕ, true, List, [], length, Option, Some, codes}
 use Rattle.gl_args.specs.declared.names.ToolName.{ToolName}
 use Rattle.gl_args.specs.declared.names.ToolName.TheVariants.{Set, Watch, Notify}
 use Rattle.gl_args.specs.Names.{tool_named}
+use Rattle.gl_base.specs.BytesText.{piece_bytes, piece_of, piece_size}
 use Rattle.gl_script.specs.Forms.{meets}
 use Rattle.gl_script.specs.declared.table.Form.TheVariants.{FileName, Label, Path, Word, HeldTool}
 use Rattle.gl_talk.specs.Words.{name_word, path_word}
@@ -32,3 +32,10 @@ WordsAreRead = (word : List ℕ) → meets Word word ≡ true → path_word word
 -- so is the tool of `start`
 abbrev pub HeldToolsAreRead : Type 0
 HeldToolsAreRead = (word : List ℕ) → meets HeldTool word ≡ true → CanStart (tool_named word)
+
+-- A piece is read as its bytes, and they are as many as its size says; the form of pieces is that they have a size. `-` has no bytes.
+abbrev pub PiecesAreRead : Type 0
+PiecesAreRead = (word : List ℕ) (size : ℕ) → piece_size word ≡ Some size → (piece_of word ≡ Some (piece_bytes word)) × (length (piece_bytes word) ≡ size)
+
+abbrev pub NoBytesAreRead : Type 0
+NoBytesAreRead = piece_bytes (codes "-") ≡ []

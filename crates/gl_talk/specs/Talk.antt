@@ -37,7 +37,7 @@ use Rattle.gl_talk.specs.Open.{File, Names, no_names, file_in, set_in, monitor_i
 use Rattle.gl_talk.specs.Actions.{action_of}
 use Rattle.gl_talk.specs.Replies.{number_of, text_of, level_text, ready_text, structure_text, fd_text, edges_text, infos_text}
 use Rattle.gl_talk.specs.ToolWords.{kind_of, usage_text, word_texts}
-use Rattle.gl_talk.specs.Words.{behind_three, behind_two, bytes_said, made_name, name_word, turns_word}
+use Rattle.gl_talk.specs.Words.{behind_three, behind_two, bytes_said, turns_word}
 
 -- a statement gives the names after it
 abbrev pub Does : Type 0
@@ -53,7 +53,7 @@ shows text names = print text (done names)
 
 -- an open file of this name
 abbrev pub file : List ℕ → ℕ → TalkFileKind → File
-file name slot kind = record { name = name_word name; slot = slot; kind = kind }
+file name slot kind = record { name = name; slot = slot; kind = kind }
 
 -- how a result that is no refusal is told
 abbrev pub told : ResultFormat → Names → ℕ → List Span → Got → Does
@@ -64,13 +64,13 @@ told (Bytes command) names slot words got = shows (structure_text command (bytes
 told Edges names slot words got = shows (edges_text (bytes_of got)) names
 told Infos names slot words got = shows (infos_text (bytes_of got)) names
 told Ready names slot words got = shows (line (ready_text (ready_of got))) names
-told Opened names slot words got = done (with_file (file (text_at 1 words) slot Chip) names)
+told (Opened name) names slot words got = done (with_file (file name slot Chip) names)
 told Closed names slot words got = done (without_file (text_at 1 words) names)
-told Made names slot words got = shows (fd_text (bytes_of got)) (with_file (file (made_name words) slot Request) names)
+told (Made name) names slot words got = shows (fd_text (bytes_of got)) (with_file (file name slot Request) names)
 told (OldBytes kind command) names slot words got =
     shows (old_structure_text kind command (bytes_said (behind_three words)) (bytes_of got)) names
 told OldEdges names slot words got = shows (old_edges_text (bytes_of got)) names
-told (OldMade kind) names slot words got = shows (fd_text (bytes_of got)) (with_file (file (made_name words) slot kind) names)
+told (OldMade kind name) names slot words got = shows (fd_text (bytes_of got)) (with_file (file name slot kind) names)
 
 abbrev pub replied_by : Option Errno → ResultFormat → Names → ℕ → List Span → Got → Does
 replied_by (Some errno) reply names slot words got = refused errno names
@@ -202,8 +202,8 @@ left_at t names slot words Idle = goes_on (done names)
 left_at t names slot words Begun = goes_on (does names slot words)
 left_at t names slot words (Waiting reply) = waits (λ got. replied reply names slot words got)
 left_at t names slot words Running = then_left (client_left t.client) (λ _. done names)
-left_at t names slot words Holding = then_left (client_left t.client) (keeps_set (text_at 1 words) names)
-left_at t names slot words Watching = then_left (some_left t.monitor) (keeps_monitor (text_at 1 words) names)
+left_at t names slot words (Holding name) = then_left (client_left t.client) (keeps_set name names)
+left_at t names slot words (Watching name) = then_left (some_left t.monitor) (keeps_monitor name names)
 left_at t names slot words Quitting = goes_on (quits names)
 left_at t names slot words Closing = waits (λ _. closes_all t.closing.items)
 

@@ -1,5 +1,6 @@
--- The values of a statement's words. A word of another form than the statement's says something harmless; a session's words
--- are of their forms. This project's choice.
+-- The values of a statement's words. The words of a session are of their forms, and each is read as what it is
+-- (`StatementsAskWhatTheySay`). A definition has to say something of other words too: there a number is the least, a place the first,
+-- a name and a path have no bytes, and what is done with an interrupt is that it is taken away for good. This project's choice.
 use Rattle.std.specs.Prelude.{ℕ, Bool, true, false, nat_lt, if◌then◌else◌, List, [], ◌∷◌, ◌++◌, Option, Some, None, codes}
 use Rattle.std.specs.Str.{bytes_eq}
 use Rattle.gl_base.specs.BytesText.{piece_bytes}
@@ -13,6 +14,7 @@ use Rattle.gl_base.specs.declared.irq.IrqDo.TheVariants.{Lock, Unlock, Enable, D
 use Rattle.gl_base.specs.declared.limits.TheConstants.{PLACES}
 use Rattle.gl_script.specs.Cost.{or_zero}
 use Rattle.gl_script.specs.Forms.{number_within}
+pub use Rattle.gl_script.specs.Pieces.{behind_two, behind_three, name_behind_as}
 
 abbrev pub name_word : List ℕ → List ℕ
 name_word word = if is_name word then word else []
@@ -61,24 +63,10 @@ pull_word word = if bytes_eq word (codes "pull-up") then Some true else if bytes
 abbrev pub live_word : List ℕ → Option Bool
 live_word word = if bytes_eq word (codes "1") then Some true else if bytes_eq word (codes "0") then Some false else None
 
--- the words after the first two, and after the first three
-abbrev pub behind_two : List Span → List Span
-behind_two (a ∷ b ∷ words) = words
-behind_two _ = []
-
-abbrev pub behind_three : List Span → List Span
-behind_three (a ∷ b ∷ c ∷ words) = words
-behind_three _ = []
-
 -- the bytes of the pieces before `as`
 abbrev pub bytes_said : List Span → List ℕ
 bytes_said [] = []
 bytes_said (word ∷ words) = if bytes_eq word.text (codes "as") then [] else piece_bytes word.text ++ bytes_said words
-
--- the name after `as`
-abbrev pub name_behind_as : List Span → List ℕ
-name_behind_as [] = []
-name_behind_as (word ∷ words) = if bytes_eq word.text (codes "as") then text_at 0 words else name_behind_as words
 
 -- the name of the file that a command makes: the one after `as`, which stands after the statement's first three words (a file may have the name `as` too)
 abbrev pub made_name : List Span → List ℕ

@@ -3,25 +3,23 @@
 //! An action has some 600 bytes, and a function begins by zeroing each value of that size that any of its branches makes. So a branch
 //! that makes an action is a function.
 
-ghost use Rattle.std.specs.Prelude.{◌≡◌, ◌==◌, ◌*◌, ◌/◌, ◌<◌, ◌≤◌, map, is_some, Some, Ok, option_map, option_copied, IfOk, IfSome, IsOkUnless, true, false};
+ghost use Rattle.std.specs.Prelude.{◌≡◌, ◌*◌, ◌/◌, ◌<◌, ◌≤◌, map, is_some, Some, Ok, option_map, option_copied, IfOk, IfSome, IsOkUnless, true, false};
 ghost use Rattle.gl_base.specs.Words.{text_at};
-ghost use Rattle.gl_base.specs.declared.command.TheConstants.{GET_LINE};
 ghost use Rattle.gl_script.specs.Columns.{columns};
 ghost use Rattle.gl_script.specs.Table.{keyword_of};
-ghost use Rattle.gl_v1.specs.Words.{makes_file};
 ghost use Rattle.gl_talk.specs.Open.{file_in, file_of, is_chip, is_old_event, is_request};
 ghost use Rattle.gl_talk.specs.Paths.{line_file, live_device};
-ghost use Rattle.gl_talk.specs.Actions.{asks_for, closes, command_reply, ioctls_bytes, lives, old_ioctls_bytes, opens, action_of, polls, pulls, read_if, reads, reads_file, unplugs, writes, writes_line, writes_tree};
-ghost use Rattle.gl_talk.specs.SaidActions.{action_said, ioctls_said, is_command, old_ioctls_said, takes};
-ghost use Rattle.gl_talk.specs.Words.{behind_three, bytes_said, name_word, path_word};
+ghost use Rattle.gl_talk.specs.Actions.{asks_for, bytes_reply, closes, command_reply, action_of, polls, pulls, read_if, reads_file, unplugs, writes_line};
+ghost use Rattle.gl_talk.specs.SaidActions.{action_said, ioctls_bytes_said, ioctls_said, is_command, lives_said, old_ioctls_bytes_said, old_ioctls_said, old_reply_said, opens_said, reads_said, reply_said, takes, writes_said, writes_tree_said};
+ghost use Rattle.gl_talk.specs.Words.{behind_three, bytes_said};
 
 use crate::copied::CopiedStatement;
 use crate::files::{TalkFile, TalkFileKind, file_of, has_file, is_chip, is_old_event, is_request};
-use crate::old::{old_reply, sent_new, sent_old};
+use crate::old::{old_bytes_reply, old_reply, sent_new, sent_old};
 use crate::paths::{LineFile, line_file, live_device};
-use crate::words::{bytes_said, live_word, made_name, name_word, path_word, pull_word, word};
+use crate::words::{bytes_said, live_word, pull_word, word};
 use gl_base::command::{GET_CHIPINFO, GET_LINE, GET_LINEINFO, GET_LINEINFO_WATCH, LINE_GET_VALUES};
-use gl_base::{Do, Errno, IrqDo, PinDo};
+use gl_base::{Do, Errno, IrqDo, Name, Path, PinDo};
 use gl_script::Said;
 use gl_v1::{KindV1, Sent};
 use std::alloc::Global;
@@ -43,12 +41,12 @@ pub enum ResultFormat {
     Infos,
     /// What is ready.
     Ready,
-    /// Nothing is printed; the chip's file has the statement's name.
-    Opened,
+    /// Nothing is printed; the chip's file has this name.
+    Opened(Name),
     /// Nothing is printed; the name is free.
     Closed,
-    /// `fd N`; the request has the name after `as`.
-    Made,
+    /// `fd N`; the request has this name.
+    Made(Name),
     /// The bytes of the structure of a command of the first uAPI.
     OldBytes {
         /// The kind of the file.
@@ -58,8 +56,8 @@ pub enum ResultFormat {
     },
     /// The edges that were read, a line each, as the first uAPI has them.
     OldEdges,
-    /// `fd N`; the file of the first uAPI, of this kind, has the name after `as`.
-    OldMade(TalkFileKind),
+    /// `fd N`; the file of the first uAPI, of this kind, has this name.
+    OldMade(TalkFileKind, Name),
 }
 
 /// What a statement does first.
@@ -84,7 +82,7 @@ pub fn action_of(
     ensures memory_alone { IsOkUnless result Errno.NoMemory }
 {
     match line.said() {
-        Some(said) => action_said(alloc, said, files, slot, line),
+        Some(said) => action_said(alloc, &said, files, slot, line),
         None => Ok(Action::Nothing),
     }
 }
@@ -92,51 +90,51 @@ pub fn action_of(
 /// What a statement that says this does first.
 fn action_said(
     alloc: Global,
-    said: Said,
+    said: &Said,
     files: &[TalkFile],
     slot: u32,
     line: &CopiedStatement,
 ) -> Result<Action, Errno>
-    ensures ok { IfOk result (λ what. what ≡ action_said said (map file_in files.now) slot (columns line.now)) }
+    ensures ok { IfOk result (λ what. what ≡ action_said said.now (map file_in files.now) slot (columns line.now)) }
     ensures memory_alone { IsOkUnless result Errno.NoMemory }
 {
     match said {
-        Said::Ioctl { command } => commands(alloc, files, slot, command, line),
-        Said::OldIoctl { command } => old_commands(alloc, files, slot, command, line),
+        Said::Ioctl { command, made } => commands(alloc, files, slot, *command, made, line),
+        Said::OldIoctl { command, made } => old_commands(alloc, files, slot, *command, made, line),
         _ => Ok(row_said(said, files, slot, line)),
     }
 }
 
 /// What a statement that is no command does first: one row a statement.
-fn row_said(said: Said, files: &[TalkFile], slot: u32, line: &CopiedStatement) -> Action
-    requires { is_command said ≡ false }
-    ensures { result ≡ action_said said (map file_in files.now) slot (columns line.now) }
+fn row_said(said: &Said, files: &[TalkFile], slot: u32, line: &CopiedStatement) -> Action
+    requires { is_command said.now ≡ false }
+    ensures { result ≡ action_said said.now (map file_in files.now) slot (columns line.now) }
 {
     match said {
-        Said::Probe { lines } => probes(word(1, line), lines),
-        Said::Unplug { chip } => unplugs(chip),
-        Said::MakeDir => makes_dir(word(1, line)),
-        Said::RemoveDir => removes_dir(word(1, line)),
-        Said::Write => writes(word(1, line), word(2, line)),
-        Said::Read => reads(word(1, line)),
-        Said::Clock { mono, real } => ticks(mono, real),
-        Said::Fault { nth } => plans(nth),
-        Said::Accept { bits } => accepts(bits),
-        Said::Pin { chip, what } => pins(chip, what),
-        Said::Irq { what, chip, offset } => irqs(what, chip, offset),
-        Said::Open => opens(has_file(files, word(1, line)), slot, word(2, line)),
-        Said::Events { len } => events(file_of(files, word(1, line)), len),
-        Said::OldEvents { len } => old_events(file_of(files, word(1, line)), len),
-        Said::Changes { len } => changes(file_of(files, word(1, line)), len),
+        Said::Probe { label, lines } => probes(label, *lines),
+        Said::Unplug { chip } => unplugs(*chip),
+        Said::MakeDir { path } => makes_dir(path),
+        Said::RemoveDir { path } => removes_dir(path),
+        Said::Write { path, value } => writes(path, value),
+        Said::Read { path } => reads(path),
+        Said::Clock { mono, real } => ticks(*mono, *real),
+        Said::Fault { nth } => plans(*nth),
+        Said::Accept { bits } => accepts(*bits),
+        Said::Pin { chip, what } => pins(*chip, *what),
+        Said::Irq { what, chip, offset } => irqs(*what, *chip, *offset),
+        Said::Open { name, word } => opens(has_file(files, name.as_bytes()), slot, name, word),
+        Said::Events { len } => events(file_of(files, word(1, line)), *len),
+        Said::OldEvents { len } => old_events(file_of(files, word(1, line)), *len),
+        Said::Changes { len } => changes(file_of(files, word(1, line)), *len),
         Said::Poll => polls(file_of(files, word(1, line))),
         Said::Close => closes(file_of(files, word(1, line))),
         Said::Detect
         | Said::Info
         | Said::Get
         | Said::Set
-        | Said::Start
+        | Said::Start { .. }
         | Said::Step { .. }
-        | Said::Stop => Action::Nothing,
+        | Said::Stop { .. } => Action::Nothing,
         Said::Ioctl { .. } | Said::OldIoctl { .. } => unreachable!(),
     }
 }
@@ -147,16 +145,16 @@ fn unplugs(chip: u8) -> Action
     Action::Ask(Do::Unplug { place: chip }, ResultFormat::Silent)
 }
 
-fn makes_dir(path: &[u8]) -> Action
-    ensures { result ≡ Action.Ask (Do.MakeDir (path_word path.now)) ResultFormat.Silent }
+fn makes_dir(path: &Path) -> Action
+    ensures { result ≡ Action.Ask (Do.MakeDir path.now) ResultFormat.Silent }
 {
-    Action::Ask(Do::MakeDir(path_word(path)), ResultFormat::Silent)
+    Action::Ask(Do::MakeDir(*path), ResultFormat::Silent)
 }
 
-fn removes_dir(path: &[u8]) -> Action
-    ensures { result ≡ Action.Ask (Do.RemoveDir (path_word path.now)) ResultFormat.Silent }
+fn removes_dir(path: &Path) -> Action
+    ensures { result ≡ Action.Ask (Do.RemoveDir path.now) ResultFormat.Silent }
 {
-    Action::Ask(Do::RemoveDir(path_word(path)), ResultFormat::Silent)
+    Action::Ask(Do::RemoveDir(*path), ResultFormat::Silent)
 }
 
 fn ticks(mono: u64, real: u64) -> Action
@@ -203,24 +201,24 @@ fn refuses(errno: Errno) -> Action
     Action::Refuse(errno)
 }
 
-fn probes(label: &[u8], lines: u32) -> Action
-    ensures { result ≡ Action.Ask (Do.Probe (name_word label.now) lines) ResultFormat.Silent }
+fn probes(label: &Name, lines: u32) -> Action
+    ensures { result ≡ Action.Ask (Do.Probe label.now lines) ResultFormat.Silent }
 {
     Action::Ask(
         Do::Probe {
-            label: name_word(label),
+            label: *label,
             lines,
         },
         ResultFormat::Silent,
     )
 }
 
-fn reads(path: &[u8]) -> Action
-    ensures { result ≡ reads (line_file path.now) path.now }
+fn reads(path: &Path) -> Action
+    ensures { result ≡ reads_said (line_file path.now) path.now }
 {
-    match line_file(path) {
+    match line_file(path.as_bytes()) {
         Some(file) => reads_line(&file),
-        None => Action::Ask(Do::Read(path_word(path)), ResultFormat::Value),
+        None => Action::Ask(Do::Read(*path), ResultFormat::Value),
     }
 }
 
@@ -237,11 +235,11 @@ fn reads_line(file: &LineFile) -> Action
     )
 }
 
-fn writes(path: &[u8], value: &[u8]) -> Action
-    ensures { result ≡ writes (line_file path.now) path.now value.now }
+fn writes(path: &Path, value: &Name) -> Action
+    ensures { result ≡ writes_said (line_file path.now) path.now value.now }
 {
-    match line_file(path) {
-        Some(file) => writes_line(&file, value),
+    match line_file(path.as_bytes()) {
+        Some(file) => writes_line(&file, value.as_bytes()),
         None => writes_tree(path, value),
     }
 }
@@ -265,34 +263,34 @@ fn writes_line(file: &LineFile, value: &[u8]) -> Action
     }
 }
 
-fn writes_tree(path: &[u8], value: &[u8]) -> Action
-    ensures { result ≡ writes_tree (live_device path.now) path.now value.now }
+fn writes_tree(path: &Path, value: &Name) -> Action
+    ensures { result ≡ writes_tree_said (live_device path.now) path.now value.now }
 {
-    match live_device(path) {
-        Some(device) => lives(device, live_word(value)),
+    match live_device(path.as_bytes()) {
+        Some(device) => lives(&device, live_word(value.as_bytes())),
         None => writes_value(path, value),
     }
 }
 
-fn writes_value(path: &[u8], value: &[u8]) -> Action
-    ensures { result ≡ Action.Ask (Do.Write (path_word path.now) (name_word value.now)) ResultFormat.Silent }
+fn writes_value(path: &Path, value: &Name) -> Action
+    ensures { result ≡ Action.Ask (Do.Write path.now value.now) ResultFormat.Silent }
 {
     Action::Ask(
         Do::Write {
-            path: path_word(path),
-            value: name_word(value),
+            path: *path,
+            value: *value,
         },
         ResultFormat::Silent,
     )
 }
 
-fn lives(device: &[u8], up: Option<bool>) -> Action
-    ensures { result ≡ lives device.now up }
+fn lives(device: &Name, up: Option<bool>) -> Action
+    ensures { result ≡ lives_said device.now up }
 {
     match up {
         Some(up) => Action::Ask(
             Do::Live {
-                device: name_word(device),
+                device: *device,
                 up,
             },
             ResultFormat::Silent,
@@ -301,34 +299,53 @@ fn lives(device: &[u8], up: Option<bool>) -> Action
     }
 }
 
-fn opens(is_taken: bool, slot: u32, word: &[u8]) -> Action
-    ensures { result ≡ opens is_taken slot word.now }
+fn opens(is_taken: bool, slot: u32, name: &Name, word: &Path) -> Action
+    ensures { result ≡ opens_said is_taken slot name.now word.now }
 {
     if is_taken {
         return refuses(Errno::Exist);
     }
     Action::Ask(
-        Do::OpenChip {
-            slot,
-            word: path_word(word),
-        },
-        ResultFormat::Opened,
+        Do::OpenChip { slot, word: *word },
+        ResultFormat::Opened(*name),
     )
 }
 
-/// Whether a command makes a file, and the name after `as` is one that the actor has.
-fn takes(makes: bool, files: &[TalkFile], line: &CopiedStatement) -> bool
-    ensures { result ≡ takes makes (columns line.now) (map file_in files.now) }
+/// Whether a command makes a file, and its name is one that the actor has.
+fn takes(made: &Option<Name>, files: &[TalkFile]) -> bool
+    ensures { result ≡ takes made.now (map file_in files.now) }
 {
-    makes && has_file(files, made_name(line))
+    match made {
+        Some(name) => has_file(files, name.as_bytes()),
+        None => false,
+    }
 }
 
-/// How the result of a command is told.
-fn command_reply(number: u32) -> ResultFormat
-    ensures { result ≡ command_reply number }
+/// How the result of a command is told: only one with a name behind `as` makes a file.
+fn reply_said(made: &Option<Name>, number: u32) -> ResultFormat
+    ensures { result ≡ reply_said made.now number }
+{
+    match made {
+        Some(name) => command_reply(number, name),
+        None => bytes_reply(number),
+    }
+}
+
+/// How the result of a command is told that may make a file, which has this name.
+fn command_reply(number: u32, name: &Name) -> ResultFormat
+    ensures { result ≡ command_reply number name.now }
+{
+    if number == GET_LINE {
+        return ResultFormat::Made(*name);
+    }
+    bytes_reply(number)
+}
+
+/// How the result of a command is told that makes no file.
+fn bytes_reply(number: u32) -> ResultFormat
+    ensures { result ≡ bytes_reply number }
 {
     match number {
-        GET_LINE => ResultFormat::Made,
         GET_CHIPINFO | GET_LINEINFO | GET_LINEINFO_WATCH | LINE_GET_VALUES => {
             ResultFormat::Bytes(number)
         }
@@ -347,47 +364,39 @@ fn commands(
     files: &[TalkFile],
     slot: u32,
     command: u32,
+    made: &Option<Name>,
     line: &CopiedStatement,
 ) -> Result<Action, Errno>
-    ensures ok { IfOk result (λ what. what ≡ ioctls_said (file_of (text_at 1 (columns line.now)) (map file_in files.now)) (takes (command == GET_LINE) (columns line.now) (map file_in files.now)) slot command (bytes_said (behind_three (columns line.now)))) }
+    ensures ok { IfOk result (λ what. what ≡ ioctls_said (file_of (text_at 1 (columns line.now)) (map file_in files.now)) slot command made.now (map file_in files.now) (bytes_said (behind_three (columns line.now)))) }
     ensures memory_alone { IsOkUnless result Errno.NoMemory }
 {
-    let file = file_of(files, word(1, line));
-    let is_taken = takes(command == GET_LINE, files, line);
-    ioctls(alloc, file, is_taken, slot, command, line)
-}
-
-fn ioctls(
-    alloc: Global,
-    file: Option<TalkFile>,
-    is_taken: bool,
-    slot: u32,
-    command: u32,
-    line: &CopiedStatement,
-) -> Result<Action, Errno>
-    ensures ok { IfOk result (λ what. what ≡ ioctls_said (option_map file_in file) is_taken slot command (bytes_said (behind_three (columns line.now)))) }
-    ensures memory_alone { IsOkUnless result Errno.NoMemory }
-{
-    let Some(file) = file else {
+    let Some(file) = file_of(files, word(1, line)) else {
         return refuses_command(Errno::BadF);
     };
-    if is_taken {
+    if takes(made, files) {
         return refuses_command(Errno::Exist);
     }
     let bytes = bytes_said(alloc, line)?;
-    Ok(ioctls_bytes(&file, slot, command, &bytes))
+    Ok(ioctls_bytes(&file, slot, command, made, &bytes))
 }
 
-fn ioctls_bytes(file: &TalkFile, slot: u32, command: u32, bytes: &[u8]) -> Action
-    ensures { result ≡ ioctls_bytes (file_in file.now) slot command bytes.now }
+fn ioctls_bytes(
+    file: &TalkFile,
+    slot: u32,
+    command: u32,
+    made: &Option<Name>,
+    bytes: &[u8],
+) -> Action
+    ensures { result ≡ ioctls_bytes_said (file_in file.now) slot command made.now bytes.now }
 {
     let sent = sent_new(file.kind, command, bytes);
-    asks_for(file, slot, &sent, command_reply(sent.cmd))
+    let reply = reply_said(made, sent.cmd);
+    asks_for(file, slot, &sent, &reply)
 }
 
 /// A call of v2 on a file.
-fn asks_for(file: &TalkFile, slot: u32, sent: &Sent, reply: ResultFormat) -> Action
-    ensures { result ≡ asks_for (file_in file.now) slot sent.now reply }
+fn asks_for(file: &TalkFile, slot: u32, sent: &Sent, reply: &ResultFormat) -> Action
+    ensures { result ≡ asks_for (file_in file.now) slot sent.now reply.now }
 {
     Action::Ask(
         Do::Ioctl {
@@ -397,7 +406,7 @@ fn asks_for(file: &TalkFile, slot: u32, sent: &Sent, reply: ResultFormat) -> Act
             bytes: sent.bytes,
             made: slot,
         },
-        reply,
+        *reply,
     )
 }
 
@@ -406,43 +415,50 @@ fn old_commands(
     files: &[TalkFile],
     slot: u32,
     command: u32,
+    made: &Option<Name>,
     line: &CopiedStatement,
 ) -> Result<Action, Errno>
-    ensures ok { IfOk result (λ what. what ≡ old_ioctls_said (file_of (text_at 1 (columns line.now)) (map file_in files.now)) (takes (makes_file (Some command)) (columns line.now) (map file_in files.now)) slot command (bytes_said (behind_three (columns line.now)))) }
+    ensures ok { IfOk result (λ what. what ≡ old_ioctls_said (file_of (text_at 1 (columns line.now)) (map file_in files.now)) slot command made.now (map file_in files.now) (bytes_said (behind_three (columns line.now)))) }
     ensures memory_alone { IsOkUnless result Errno.NoMemory }
 {
-    let file = file_of(files, word(1, line));
-    let is_taken = takes(gl_v1::makes_file(Some(command)), files, line);
-    old_ioctls(alloc, file, is_taken, slot, command, line)
-}
-
-fn old_ioctls(
-    alloc: Global,
-    file: Option<TalkFile>,
-    is_taken: bool,
-    slot: u32,
-    command: u32,
-    line: &CopiedStatement,
-) -> Result<Action, Errno>
-    ensures ok { IfOk result (λ what. what ≡ old_ioctls_said (option_map file_in file) is_taken slot command (bytes_said (behind_three (columns line.now)))) }
-    ensures memory_alone { IsOkUnless result Errno.NoMemory }
-{
-    let Some(file) = file else {
+    let Some(file) = file_of(files, word(1, line)) else {
         return refuses_command(Errno::BadF);
     };
-    if is_taken {
+    if takes(made, files) {
         return refuses_command(Errno::Exist);
     }
     let bytes = bytes_said(alloc, line)?;
-    Ok(old_ioctls_bytes(&file, slot, command, &bytes))
+    Ok(old_ioctls_bytes(&file, slot, command, made, &bytes))
 }
 
-fn old_ioctls_bytes(file: &TalkFile, slot: u32, command: u32, bytes: &[u8]) -> Action
-    ensures { result ≡ old_ioctls_bytes (file_in file.now) slot command bytes.now }
+fn old_ioctls_bytes(
+    file: &TalkFile,
+    slot: u32,
+    command: u32,
+    made: &Option<Name>,
+    bytes: &[u8],
+) -> Action
+    ensures { result ≡ old_ioctls_bytes_said (file_in file.now) slot command made.now bytes.now }
 {
     let sent = sent_old(file.kind, command, bytes);
-    let reply = old_reply(file.kind, command, bytes, sent.cmd);
-    asks_for(file, slot, &sent, reply)
+    let reply = old_reply_said(made, file.kind, command, bytes, sent.cmd);
+    asks_for(file, slot, &sent, &reply)
+}
+
+/// How the result of a command of the first uAPI is told: only one with a name behind `as` makes a file.
+fn old_reply_said(
+    made: &Option<Name>,
+    kind: TalkFileKind,
+    command: u32,
+    bytes: &[u8],
+    number: u32,
+) -> ResultFormat
+    ensures { result ≡ old_reply_said made.now kind command bytes.now number }
+{
+    match made {
+        Some(name) => old_reply(kind, command, bytes, name, number),
+        None => old_bytes_reply(kind, command, number),
+    }
 }
 
 fn events(file: Option<TalkFile>, len: u16) -> Action

@@ -5,6 +5,7 @@ ghost use Rattle.gl_base.specs.Rows.{without_first};
 ghost use Rattle.gl_monitor.specs.Monitor.{watched_by};
 ghost use Rattle.gl_values.specs.Client.{held_by};
 ghost use Rattle.gl_talk.specs.Open.{held_of_name, is_monitor, is_monitor_row, is_set, is_set_row, monitor_in, set_in, watched_of_name};
+ghost use Rattle.gl_talk.specs.Words.{name_word};
 
 use gl_base::Name;
 use gl_monitor::Monitor;
@@ -26,6 +27,14 @@ pub struct MonitorRow {
     pub name: Name,
     /// The tool.
     pub monitor: Monitor,
+}
+
+/// The name of a row, which is kept as it is.
+pub fn row_name(name: &Name) -> Name
+    ensures { result ≡ name_word name.now }
+{
+    let _bytes = name.as_bytes();
+    *name
 }
 
 /// Where the gpioset of a name stands.

@@ -10,15 +10,15 @@ ghost use Rattle.gl_values.specs.Client.{client_left, held_by};
 ghost use Rattle.gl_talk.specs.Open.{has_tool, held_of_name, watched_of_name};
 ghost use Rattle.gl_talk.specs.Talk.{StaysBegun, StaysLeft, keeps_monitor, keeps_set, left, names_in, slot_in, some_left, some_watched, starts, starts_said, starts_tool, steps, stops, words_in};
 ghost use Rattle.gl_talk.specs.ToolWords.{kind_of, word_texts};
-ghost use Rattle.gl_talk.specs.declared.tools.StatementKind.TheVariants.{Stepping};
+ghost use Rattle.gl_talk.specs.declared.tools.StatementKind.TheVariants.{Starting, Stepping, Stopping};
 ghost use Rattle.gl_talk.specs.Words.{behind_two};
 
-use crate::held::{MonitorRow, SetRow, has_monitor, has_set, take_monitor, take_set};
+use crate::held::{MonitorRow, SetRow, has_monitor, has_set, row_name, take_monitor, take_set};
 use crate::talk::{Stage, Talk};
-use crate::tools::{started_tool_of, turns_of, usage_text};
-use crate::words::{name_word, word};
+use crate::tools::{started_tool_of, tool_name, turns_of, usage_text};
+use crate::words::word;
 use gl_args::{ArgFault, Tool};
-use gl_base::{Errno, Got};
+use gl_base::{Errno, Got, Name};
 use gl_client::Next;
 use gl_monitor::Monitor;
 use gl_values::Client;
@@ -28,7 +28,8 @@ use std::mem;
 impl Talk {
     /// The first step of a `start`.
     pub(crate) fn start_held(&mut self, alloc: Global, step: &mut Next) -> Result<(), Errno>
-        requires { self.old.begun ≤ 2147483647 }
+        requires begun { self.old.begun ≤ 2147483647 }
+        requires kind { kind_of (keyword_of (text_at 0 (words_in self.old))) ≡ Starting }
         ensures goes { OnOk result (Goes (starts (has_tool (text_at 1 (words_in self.old)) (names_in self.old)) (names_in self.old) (slot_in self.old) (words_in self.old)) step.new (left self.new)) }
         ensures rests { OnOk result (MatchNext step.new (Unit {0}) (left self.new ≡ goes_on (done (names_in self.new)))) }
         ensures counted { OnOk result (self.new.begun ≡ self.old.begun) }
@@ -51,7 +52,8 @@ impl Talk {
 
     /// The first step of a `start` whose name is free.
     fn start_free(&mut self, alloc: Global, step: &mut Next) -> Result<(), Errno>
-        requires { self.old.begun ≤ 2147483647 }
+        requires begun { self.old.begun ≤ 2147483647 }
+        requires kind { kind_of (keyword_of (text_at 0 (words_in self.old))) ≡ Starting }
         ensures goes { OnOk result (Goes (starts_said (tool_said (word_texts (behind_two (words_in self.old)))) (names_in self.old) (slot_in self.old) (words_in self.old)) step.new (left self.new)) }
         ensures rests { OnOk result (MatchNext step.new (Unit {0}) (left self.new ≡ goes_on (done (names_in self.new)))) }
         ensures counted { OnOk result (self.new.begun ≡ self.old.begun) }
@@ -74,7 +76,8 @@ impl Talk {
 
     /// The first step of a tool that is started.
     fn start_said(&mut self, alloc: Global, tool: Tool, step: &mut Next) -> Result<(), Errno>
-        requires { self.old.begun ≤ 2147483647 }
+        requires begun { self.old.begun ≤ 2147483647 }
+        requires kind { kind_of (keyword_of (text_at 0 (words_in self.old))) ≡ Starting }
         ensures goes { OnOk result (Goes (starts_tool (tool_in tool) (names_in self.old) (slot_in self.old) (text_at 1 (words_in self.old))) step.new (left self.new)) }
         ensures rests { OnOk result (MatchNext step.new (Unit {0}) (left self.new ≡ goes_on (done (names_in self.new)))) }
         ensures counted { OnOk result (self.new.begun ≡ self.old.begun) }
@@ -82,18 +85,19 @@ impl Talk {
         ensures memory_alone { IsOkUnless result Errno.NoMemory }
     {
         let base = 2 * self.begun;
+        let name = tool_name(&self.line);
         match tool {
             Tool::Set(opts) => {
                 self.client = Client::held(alloc, Tool::Set(opts), base);
-                self.hold(alloc, None, step)
+                self.hold(alloc, &name, None, step)
             }
             Tool::Watch(opts) => {
                 self.monitor = Some(Monitor::new(alloc, Tool::Watch(opts), base));
-                self.watch(alloc, None, step)
+                self.watch(alloc, &name, None, step)
             }
             Tool::Notify(opts) => {
                 self.monitor = Some(Monitor::new(alloc, Tool::Notify(opts), base));
-                self.watch(alloc, None, step)
+                self.watch(alloc, &name, None, step)
             }
             Tool::Detect(_) | Tool::Info(_) | Tool::Get(_) => {
                 self.end(step);
@@ -111,18 +115,18 @@ impl Talk {
         ensures kept { left self.old ≡ goes_on (steps (watched_of_name (text_at 1 (words_in self.old)) (names_in self.old).monitors) (held_of_name (text_at 1 (words_in self.old)) (names_in self.old).sets) (names_in self.old) (words_in self.old)) → OnErr result ((left self.new ≡ left self.old) × (self.new.begun ≡ self.old.begun)) }
         ensures memory_alone { IsOkUnless result Errno.NoMemory }
     {
-        let name = word(1, &self.line);
-        match take_monitor(&mut self.monitors, name) {
+        let name = tool_name(&self.line);
+        match take_monitor(&mut self.monitors, name.as_bytes()) {
             Some(monitor) => {
                 let mut monitor = monitor;
                 monitor.step(turns_of(&self.line));
                 self.monitor = Some(monitor);
-                self.stage = Stage::Watching;
-                self.watch(alloc, None, step)?;
+                self.stage = Stage::Watching(name);
+                self.watch(alloc, &name, None, step)?;
                 Ok(())
             }
             None => {
-                if has_set(&self.sets, name) {
+                if has_set(&self.sets, name.as_bytes()) {
                     self.refuse(alloc, Errno::Inval, step)?;
                     return Ok(());
                 }
@@ -134,43 +138,46 @@ impl Talk {
 
     /// The first step of a `stop`.
     pub(crate) fn stop_held(&mut self, alloc: Global, step: &mut Next) -> Result<(), Errno>
+        requires { kind_of (keyword_of (text_at 0 (words_in self.old))) ≡ Stopping }
         ensures goes { OnOk result (Goes (stops (watched_of_name (text_at 1 (words_in self.old)) (names_in self.old).monitors) (held_of_name (text_at 1 (words_in self.old)) (names_in self.old).sets) (names_in self.old) (words_in self.old)) step.new (left self.new)) }
         ensures rests { OnOk result (MatchNext step.new (Unit {0}) (left self.new ≡ goes_on (done (names_in self.new)))) }
         ensures counted { OnOk result (self.new.begun ≡ self.old.begun) }
         ensures kept { left self.old ≡ goes_on (stops (watched_of_name (text_at 1 (words_in self.old)) (names_in self.old).monitors) (held_of_name (text_at 1 (words_in self.old)) (names_in self.old).sets) (names_in self.old) (words_in self.old)) → OnErr result ((left self.new ≡ left self.old) × (self.new.begun ≡ self.old.begun)) }
         ensures memory_alone { IsOkUnless result Errno.NoMemory }
     {
-        match take_monitor(&mut self.monitors, word(1, &self.line)) {
+        let name = tool_name(&self.line);
+        match take_monitor(&mut self.monitors, name.as_bytes()) {
             Some(monitor) => {
                 let mut monitor = monitor;
                 monitor.stop();
                 self.monitor = Some(monitor);
-                self.stage = Stage::Watching;
-                self.watch(alloc, None, step)?;
+                self.stage = Stage::Watching(name);
+                self.watch(alloc, &name, None, step)?;
                 Ok(())
             }
             None => {
-                self.stop_set(alloc, step)?;
+                self.stop_set(alloc, &name, step)?;
                 Ok(())
             }
         }
     }
 
     /// The first step of a `stop` of a name that no monitor has.
-    fn stop_set(&mut self, alloc: Global, step: &mut Next) -> Result<(), Errno>
+    fn stop_set(&mut self, alloc: Global, name: &Name, step: &mut Next) -> Result<(), Errno>
+        requires { name.now ≡ text_at 1 (words_in self.old) }
         ensures goes { OnOk result (Goes (stops None (held_of_name (text_at 1 (words_in self.old)) (names_in self.old).sets) (names_in self.old) (words_in self.old)) step.new (left self.new)) }
         ensures rests { OnOk result (MatchNext step.new (Unit {0}) (left self.new ≡ goes_on (done (names_in self.new)))) }
         ensures counted { OnOk result (self.new.begun ≡ self.old.begun) }
         ensures kept { left self.old ≡ goes_on (stops None (held_of_name (text_at 1 (words_in self.old)) (names_in self.old).sets) (names_in self.old) (words_in self.old)) → OnErr result ((left self.new ≡ left self.old) × (self.new.begun ≡ self.old.begun)) }
         ensures memory_alone { IsOkUnless result Errno.NoMemory }
     {
-        match take_set(&mut self.sets, word(1, &self.line)) {
+        match take_set(&mut self.sets, name.as_bytes()) {
             Some(client) => {
                 let mut client = client;
                 client.stop();
                 self.client = client;
-                self.stage = Stage::Holding;
-                self.hold(alloc, None, step)?;
+                self.stage = Stage::Holding(*name);
+                self.hold(alloc, name, None, step)?;
                 Ok(())
             }
             None => {
@@ -184,10 +191,11 @@ impl Talk {
     pub(crate) fn hold(
         &mut self,
         alloc: Global,
+        name: &Name,
         got: Option<&Got>,
         step: &mut Next,
     ) -> Result<(), Errno>
-        ensures goes { OnOk result (Goes (given (then_left (client_left self.old.client) (keeps_set (text_at 1 (words_in self.old)) (names_in self.old))) (option_copied got.entry)) step.new (left self.new)) }
+        ensures goes { OnOk result (Goes (given (then_left (client_left self.old.client) (keeps_set name.now (names_in self.old))) (option_copied got.entry)) step.new (left self.new)) }
         ensures rests { OnOk result (MatchNext step.new (Unit {0}) (left self.new ≡ goes_on (done (names_in self.new)))) }
         ensures counted { OnOk result (self.new.begun ≡ self.old.begun) }
         ensures kept { OnErr result (StaysLeft self.old self.new) }
@@ -197,24 +205,24 @@ impl Talk {
         self.client.put_next(alloc, got, step)?;
         match &*step {
             Next::Call(_) => {
-                self.stage = Stage::Holding;
+                self.stage = Stage::Holding(*name);
                 Ok(())
             }
             Next::Print(_) => {
-                self.stage = Stage::Holding;
+                self.stage = Stage::Holding(*name);
                 Ok(())
             }
             Next::End => {
-                self.keep_set(step);
+                self.keep_set(name, step);
                 Ok(())
             }
         }
     }
 
     /// The gpioset has its name from now on, where it holds its request.
-    fn keep_set(&mut self, step: &mut Next)
+    fn keep_set(&mut self, name: &Name, step: &mut Next)
         requires room { vec_len self.old.sets + 1 ≤ vec_capacity self.old.sets }
-        ensures goes { Goes (keeps_set (text_at 1 (words_in self.old)) (names_in self.old) (held_by self.old.client)) step.new (left self.new) }
+        ensures goes { Goes (keeps_set name.now (names_in self.old) (held_by self.old.client)) step.new (left self.new) }
         ensures rests { MatchNext step.new (Unit {0}) (left self.new ≡ goes_on (done (names_in self.new))) }
         ensures counted { self.new.begun ≡ self.old.begun }
     {
@@ -222,7 +230,7 @@ impl Talk {
         match client.held_slot() {
             Some(_) => {
                 let row = SetRow {
-                    name: name_word(word(1, &self.line)),
+                    name: row_name(name),
                     client,
                 };
                 match self.sets.push(row) {
@@ -238,10 +246,11 @@ impl Talk {
     pub(crate) fn watch(
         &mut self,
         alloc: Global,
+        name: &Name,
         got: Option<&Got>,
         step: &mut Next,
     ) -> Result<(), Errno>
-        ensures goes { OnOk result (Goes (given (then_left (some_left self.old.monitor) (keeps_monitor (text_at 1 (words_in self.old)) (names_in self.old))) (option_copied got.entry)) step.new (left self.new)) }
+        ensures goes { OnOk result (Goes (given (then_left (some_left self.old.monitor) (keeps_monitor name.now (names_in self.old))) (option_copied got.entry)) step.new (left self.new)) }
         ensures rests { OnOk result (MatchNext step.new (Unit {0}) (left self.new ≡ goes_on (done (names_in self.new)))) }
         ensures counted { OnOk result (self.new.begun ≡ self.old.begun) }
         ensures kept { OnErr result (StaysLeft self.old self.new) }
@@ -256,15 +265,15 @@ impl Talk {
                 match told {
                     Ok(()) => match &*step {
                         Next::Call(_) => {
-                            self.stage = Stage::Watching;
+                            self.stage = Stage::Watching(*name);
                             Ok(())
                         }
                         Next::Print(_) => {
-                            self.stage = Stage::Watching;
+                            self.stage = Stage::Watching(*name);
                             Ok(())
                         }
                         Next::End => {
-                            self.keep_monitor(step);
+                            self.keep_monitor(name, step);
                             Ok(())
                         }
                     },
@@ -279,28 +288,28 @@ impl Talk {
     }
 
     /// The monitor has its name from now on, where it watches its lines.
-    fn keep_monitor(&mut self, step: &mut Next)
+    fn keep_monitor(&mut self, name: &Name, step: &mut Next)
         requires room { vec_len self.old.monitors + 1 ≤ vec_capacity self.old.monitors }
-        ensures goes { Goes (keeps_monitor (text_at 1 (words_in self.old)) (names_in self.old) (some_watched self.old.monitor)) step.new (left self.new) }
+        ensures goes { Goes (keeps_monitor name.now (names_in self.old) (some_watched self.old.monitor)) step.new (left self.new) }
         ensures rests { MatchNext step.new (Unit {0}) (left self.new ≡ goes_on (done (names_in self.new))) }
         ensures counted { self.new.begun ≡ self.old.begun }
     {
         match self.monitor.take() {
-            Some(monitor) => self.keep_watching(monitor, step),
+            Some(monitor) => self.keep_watching(name, monitor, step),
             None => self.end(step),
         }
     }
 
-    fn keep_watching(&mut self, monitor: Monitor, step: &mut Next)
+    fn keep_watching(&mut self, name: &Name, monitor: Monitor, step: &mut Next)
         requires room { vec_len self.old.monitors + 1 ≤ vec_capacity self.old.monitors }
-        ensures goes { Goes (keeps_monitor (text_at 1 (words_in self.old)) (names_in self.old) (watched_by monitor)) step.new (left self.new) }
+        ensures goes { Goes (keeps_monitor name.now (names_in self.old) (watched_by monitor)) step.new (left self.new) }
         ensures rests { MatchNext step.new (Unit {0}) (left self.new ≡ goes_on (done (names_in self.new))) }
         ensures counted { self.new.begun ≡ self.old.begun }
     {
         match monitor.watched_slot() {
             Some(_) => {
                 let row = MonitorRow {
-                    name: name_word(word(1, &self.line)),
+                    name: row_name(name),
                     monitor,
                 };
                 match self.monitors.push(row) {

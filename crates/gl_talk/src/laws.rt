@@ -7,7 +7,7 @@ ghost use Rattle.gl_talk.specs.Numbers.{FilesCloseByNumber};
 ghost use Rattle.gl_talk.specs.InParts.{StatementsComeInParts, TalksAreStatementsAndTheEnd};
 ghost use Rattle.gl_talk.specs.Printed.{StatementsPrintLines, TalksPrintLines};
 ghost use Rattle.gl_talk.specs.SaidActions.{StatementsAskWhatTheySay};
-ghost use Rattle.gl_talk.specs.Readings.{HeldToolsAreRead, LabelsAreRead, NamesAreRead, PathsAreRead, WordsAreRead};
+ghost use Rattle.gl_talk.specs.Readings.{HeldToolsAreRead, LabelsAreRead, NamesAreRead, NoBytesAreRead, PathsAreRead, PiecesAreRead, WordsAreRead};
 
 /// A statement makes at most as many entries of a history as it costs. The closing of a file is
 /// counted where the file is opened.
@@ -77,12 +77,14 @@ pub fn statements_ask_what_they_say()
     ensures { StatementsAskWhatTheySay }
 {}
 
-/// A word that stands for itself and is of its form is read as what it is: no statement of a session is read with a default in
-/// its place. Of the other words `statements_ask_what_they_say` says so.
+/// A word that is of its form is what the definitions read of it, and a piece of a command is read as its bytes: no word of a
+/// session is read as a default. Of the other words `statements_ask_what_they_say` says so.
 pub fn words_are_read_as_they_are()
     ensures labels { LabelsAreRead }
     ensures names { NamesAreRead }
     ensures paths { PathsAreRead }
     ensures words { WordsAreRead }
     ensures held_tools { HeldToolsAreRead }
+    ensures pieces { PiecesAreRead }
+    ensures no_bytes { NoBytesAreRead }
 {}

@@ -6,7 +6,7 @@ ghost use Rattle.gl_uapi.specs.Fields.{stretch, zeros};
 ghost use Rattle.gl_v1.specs.Back.{back, events_back};
 ghost use Rattle.gl_v1.specs.Commands.{command_for, size_of};
 ghost use Rattle.gl_v1.specs.To.{without_bytes};
-ghost use Rattle.gl_talk.specs.Old.{first_bytes, kind_v1, made_kind, old_edge_line, old_edge_lines, old_edge_word, old_edges_text, old_reply, old_structure, old_structure_text, sent_new, sent_old};
+ghost use Rattle.gl_talk.specs.Old.{first_bytes, kind_v1, made_kind, old_edge_line, old_edge_lines, old_edge_word, old_bytes_reply, old_edges_text, old_reply, old_structure, old_structure_text, sent_new, sent_old};
 ghost use Rattle.gl_talk.specs.Words.{behind_three, bytes_said};
 
 use crate::actions::ResultFormat;
@@ -15,7 +15,7 @@ use crate::files::TalkFileKind;
 use crate::replies::line_of;
 use crate::words::{bytes_said, first_bytes};
 use gl_base::command::{GET_CHIPINFO, GET_LINE, GET_LINEINFO, LINE_GET_VALUES};
-use gl_base::{ByteList, Errno, put_bytes, put_decimal};
+use gl_base::{ByteList, Errno, Name, put_bytes, put_decimal};
 use gl_uapi::fields::{bytes_at, u32_at, u64_at};
 use gl_v1::layout::{V1_DATA_ID, V1_DATA_TIMESTAMP, V1_EVENT_DATA_SIZE, V1_HANDLE_LINES};
 use gl_v1::{CommandV1, KindV1, Sent};
@@ -73,12 +73,27 @@ fn kind_v1(kind: TalkFileKind) -> KindV1
     }
 }
 
-/// How the result of what was sent is told, by the command and the bytes that the statement says.
-pub fn old_reply(kind: TalkFileKind, command: u32, said: &[u8], number: u32) -> ResultFormat
-    ensures { result ≡ old_reply kind command said.now number }
+/// How the result of what was sent is told, by the command and the bytes that the statement says; a file that is made has this name.
+pub fn old_reply(
+    kind: TalkFileKind,
+    command: u32,
+    said: &[u8],
+    name: &Name,
+    number: u32,
+) -> ResultFormat
+    ensures { result ≡ old_reply kind command said.now name.now number }
+{
+    if number == GET_LINE {
+        return ResultFormat::OldMade(made_kind(command, said), *name);
+    }
+    old_bytes_reply(kind, command, number)
+}
+
+/// How it is told where no file is made.
+pub fn old_bytes_reply(kind: TalkFileKind, command: u32, number: u32) -> ResultFormat
+    ensures { result ≡ old_bytes_reply kind command number }
 {
     match number {
-        GET_LINE => ResultFormat::OldMade(made_kind(command, said)),
         GET_CHIPINFO | GET_LINEINFO | LINE_GET_VALUES => ResultFormat::OldBytes {
             kind: kind_v1(kind),
             command,

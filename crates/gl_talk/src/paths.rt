@@ -1,11 +1,11 @@
 //! Paths that go to the lines of a chip and to a device, in place of the tree.
-ghost use Rattle.std.specs.Prelude.{◌≡◌, [], ◌∷◌, MatchOption, map, option_copied};
+ghost use Rattle.std.specs.Prelude.{◌≡◌, [], ◌∷◌, MatchOption, map};
 ghost use Rattle.std.specs.List.{list_all};
 ghost use Rattle.gl_base.specs.Words.{pieces, pieces_left};
 ghost use Rattle.gl_script.specs.Forms.{within};
 ghost use Rattle.gl_talk.specs.Paths.{chip_part, is_device, is_pull_part, line_file, line_file_by, line_part, live_by, live_device};
 
-use gl_base::{are_label_bytes, read_plain_decimal, split_first};
+use gl_base::{Name, are_label_bytes, read_plain_decimal, split_first};
 
 /// The pull or the value of a line, as gpio-sim has it among a chip's files.
 #[derive(Clone, Copy, PartialEq, Eq, Debug)]
@@ -111,9 +111,9 @@ fn at_most(most: u32, number: Option<u64>) -> Option<u32>
 }
 
 /// The device whose `live` a path names, if it names one.
-#[tactic(auto, using(crate::proofs::Parts::three_parts))]
-pub fn live_device(path: &[u8]) -> Option<&[u8]>
-    ensures { option_copied result ≡ live_device path.now }
+#[tactic(auto, using(crate::proofs::Parts::three_parts, crate::proofs::WordReadings::device_fits))]
+pub fn live_device(path: &[u8]) -> Option<Name>
+    ensures { result ≡ live_device path.now }
 {
     let (device, rest) = split_first(path, b'/');
     let Some(rest) = rest else {
@@ -124,7 +124,7 @@ pub fn live_device(path: &[u8]) -> Option<&[u8]>
         return None;
     }
     if is_device(device) && name == b"live".as_slice() {
-        return Some(device);
+        return Some(Name::filled(device));
     }
     None
 }

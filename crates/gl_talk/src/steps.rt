@@ -11,7 +11,6 @@ ghost use Rattle.gl_talk.specs.Actions.{action_of};
 ghost use Rattle.gl_talk.specs.Replies.{fd_text};
 ghost use Rattle.gl_talk.specs.Talk.{StaysBegun, StaysLeft, acts, closes_all, does, file, left, names_in, quits, refused, replied, runs, shows, slot_in, told, words_in};
 ghost use Rattle.gl_talk.specs.ToolWords.{word_texts};
-ghost use Rattle.gl_talk.specs.Words.{made_name};
 
 use crate::actions::{Action, ResultFormat, action_of};
 use crate::closing::slots_in_order;
@@ -23,9 +22,9 @@ use crate::replies::{
 };
 use crate::talk::{Stage, Talk};
 use crate::tools::{StatementKind, kind_of, tool_of, usage_text};
-use crate::words::{made_name, name_word, word};
+use crate::words::word;
 use gl_args::ArgFault;
-use gl_base::{ByteList, Do, Errno, Got};
+use gl_base::{ByteList, Do, Errno, Got, Name};
 use gl_client::Next;
 use gl_values::Client;
 use std::alloc::Global;
@@ -188,12 +187,12 @@ impl Talk {
     pub(crate) fn reply(
         &mut self,
         alloc: Global,
-        reply: ResultFormat,
+        reply: &ResultFormat,
         got: Option<&Got>,
         step: &mut Next,
     ) -> Result<(), Errno>
         requires { self.old.begun ≤ 2147483647 }
-        ensures goes { OnOk result (Goes (given (waits (λ got. replied reply (names_in self.old) (slot_in self.old) (words_in self.old) got)) (option_copied got.entry)) step.new (left self.new)) }
+        ensures goes { OnOk result (Goes (given (waits (λ got. replied reply.now (names_in self.old) (slot_in self.old) (words_in self.old) got)) (option_copied got.entry)) step.new (left self.new)) }
         ensures rests { OnOk result (MatchNext step.new (Unit {0}) (left self.new ≡ goes_on (done (names_in self.new)))) }
         ensures counted { OnOk result (self.new.begun ≡ self.old.begun) }
         ensures kept { OnErr result (StaysLeft self.old self.new) }
@@ -214,12 +213,12 @@ impl Talk {
     fn tell(
         &mut self,
         alloc: Global,
-        reply: ResultFormat,
+        reply: &ResultFormat,
         got: &Got,
         step: &mut Next,
     ) -> Result<(), Errno>
         requires { self.old.begun ≤ 2147483647 }
-        ensures goes { OnOk result (Goes (told reply (names_in self.old) (slot_in self.old) (words_in self.old) got.now) step.new (left self.new)) }
+        ensures goes { OnOk result (Goes (told reply.now (names_in self.old) (slot_in self.old) (words_in self.old) got.now) step.new (left self.new)) }
         ensures rests { OnOk result (MatchNext step.new (Unit {0}) (left self.new ≡ goes_on (done (names_in self.new)))) }
         ensures counted { OnOk result (self.new.begun ≡ self.old.begun) }
         ensures kept { OnErr result (StaysLeft self.old self.new) }
@@ -230,27 +229,29 @@ impl Talk {
                 self.end(step);
                 return Ok(());
             }
-            ResultFormat::Opened => return self.opened(step),
+            ResultFormat::Opened(name) => return self.opened(name, step),
             ResultFormat::Closed => {
                 remove_file(&mut self.files, word(1, &self.line));
                 self.end(step);
                 return Ok(());
             }
-            ResultFormat::Made => {
-                return self.made(alloc, TalkFileKind::Request, got.bytes(), step);
+            ResultFormat::Made(name) => {
+                return self.made(alloc, name, TalkFileKind::Request, got.bytes(), step);
             }
-            ResultFormat::OldMade(kind) => return self.made(alloc, kind, got.bytes(), step),
+            ResultFormat::OldMade(kind, name) => {
+                return self.made(alloc, name, *kind, got.bytes(), step);
+            }
             ResultFormat::OldBytes { kind, command } => old_structure_line(
                 alloc,
-                kind,
-                command,
+                *kind,
+                *command,
                 &self.line,
                 got.bytes(),
             )?,
             ResultFormat::OldEdges => old_edges_text(alloc, got.bytes())?,
             ResultFormat::Value => value_line(alloc, got)?,
-            ResultFormat::Level(is_pull) => line_of(alloc, level_text(is_pull, number_of(got)))?,
-            ResultFormat::Bytes(command) => structure_text(alloc, command, got.bytes())?,
+            ResultFormat::Level(is_pull) => line_of(alloc, level_text(*is_pull, number_of(got)))?,
+            ResultFormat::Bytes(command) => structure_text(alloc, *command, got.bytes())?,
             ResultFormat::Edges => edges_text(alloc, got.bytes())?,
             ResultFormat::Infos => infos_text(alloc, got.bytes())?,
             ResultFormat::Ready => line_of(alloc, ready_text(got.ready()))?,
@@ -259,17 +260,17 @@ impl Talk {
         Ok(())
     }
 
-    /// A chip's file was opened.
-    fn opened(&mut self, step: &mut Next) -> Result<(), Errno>
+    /// A chip's file of this name was opened.
+    fn opened(&mut self, name: &Name, step: &mut Next) -> Result<(), Errno>
         requires { self.old.begun ≤ 2147483647 }
-        ensures goes { OnOk result (Goes (done (with_file (file (text_at 1 (words_in self.old)) (slot_in self.old) TalkFileKind.Chip) (names_in self.old))) step.new (left self.new)) }
+        ensures goes { OnOk result (Goes (done (with_file (file name.now (slot_in self.old) TalkFileKind.Chip) (names_in self.old))) step.new (left self.new)) }
         ensures rests { OnOk result (MatchNext step.new (Unit {0}) (left self.new ≡ goes_on (done (names_in self.new)))) }
         ensures counted { OnOk result (self.new.begun ≡ self.old.begun) }
         ensures kept { OnErr result (StaysLeft self.old self.new) }
         ensures memory_alone { IsOkUnless result Errno.NoMemory }
     {
         self.files.push(TalkFile {
-            name: name_word(word(1, &self.line)),
+            name: *name,
             slot: 2 * self.begun,
             kind: TalkFileKind::Chip,
         })?;
@@ -277,16 +278,17 @@ impl Talk {
         Ok(())
     }
 
-    /// A file of this kind was made: a request, or a file of the first uAPI.
+    /// A file of this name and kind was made: a request, or a file of the first uAPI.
     fn made(
         &mut self,
         alloc: Global,
+        name: &Name,
         kind: TalkFileKind,
         bytes: &[u8],
         step: &mut Next,
     ) -> Result<(), Errno>
         requires { self.old.begun ≤ 2147483647 }
-        ensures goes { OnOk result (Goes (shows (fd_text bytes.now) (with_file (file (made_name (words_in self.old)) (slot_in self.old) kind) (names_in self.old))) step.new (left self.new)) }
+        ensures goes { OnOk result (Goes (shows (fd_text bytes.now) (with_file (file name.now (slot_in self.old) kind) (names_in self.old))) step.new (left self.new)) }
         ensures rests { OnOk result (MatchNext step.new (Unit {0}) (left self.new ≡ goes_on (done (names_in self.new)))) }
         ensures counted { OnOk result (self.new.begun ≡ self.old.begun) }
         ensures kept { OnErr result (StaysLeft self.old self.new) }
@@ -294,7 +296,7 @@ impl Talk {
     {
         let text = fd_text(alloc, bytes)?;
         self.files.push(TalkFile {
-            name: name_word(made_name(&self.line)),
+            name: *name,
             slot: 2 * self.begun,
             kind,
         })?;

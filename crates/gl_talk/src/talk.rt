@@ -10,7 +10,7 @@ use crate::actions::ResultFormat;
 use crate::copied::CopiedStatement;
 use crate::files::{TalkFile, file_of, is_chip};
 use crate::held::{MonitorRow, SetRow};
-use gl_base::{Errno, Got};
+use gl_base::{Errno, Got, Name};
 use gl_client::Next;
 use gl_monitor::Monitor;
 use gl_script::Statement;
@@ -28,10 +28,10 @@ pub enum Stage {
     Waiting(ResultFormat),
     /// A tool runs as a statement of its own.
     Running,
-    /// A gpioset is started or stopped.
-    Holding,
-    /// A monitor is started or stopped, or makes a step.
-    Watching,
+    /// The gpioset of this name is started or stopped.
+    Holding(Name),
+    /// The monitor of this name is started or stopped, or makes a step.
+    Watching(Name),
     /// The files that are open are closed.
     Quitting,
     /// One of them is being closed.
@@ -163,10 +163,10 @@ impl Talk {
                 Ok(())
             }
             Stage::Begun => self.start(alloc, step),
-            Stage::Waiting(reply) => self.reply(alloc, *reply, got, step),
+            Stage::Waiting(reply) => self.reply(alloc, reply, got, step),
             Stage::Running => self.run(alloc, got, step),
-            Stage::Holding => self.hold(alloc, got, step),
-            Stage::Watching => self.watch(alloc, got, step),
+            Stage::Holding(name) => self.hold(alloc, name, got, step),
+            Stage::Watching(name) => self.watch(alloc, name, got, step),
             Stage::Quitting => self.close_all(alloc, step),
             Stage::Closing => {
                 self.close(step);

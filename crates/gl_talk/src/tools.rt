@@ -1,5 +1,5 @@
 //! The words of a tool's statement.
-ghost use Rattle.std.specs.Prelude.{Some, None, IsErrOf, ◌≡◌, ◌+◌, ◌<◌, ◌^◌, ◌++◌, length, IfOk, OnOk, IsOkUnless, map};
+ghost use Rattle.std.specs.Prelude.{Some, None, true, IsErrOf, ◌≡◌, ◌+◌, ◌<◌, ◌^◌, ◌++◌, length, IfOk, OnOk, IsOkUnless, map};
 ghost use Rattle.gl_args.specs.Items.{texts};
 ghost use Rattle.gl_args.specs.Options.{tool_in};
 ghost use Rattle.gl_args.specs.Tools.{tool_said};
@@ -7,13 +7,13 @@ ghost use Rattle.gl_base.specs.Words.{text_at, words_at};
 ghost use Rattle.gl_script.specs.Columns.{columns};
 ghost use Rattle.gl_script.specs.Said.{keyword_said};
 ghost use Rattle.gl_script.specs.Table.{keyword_of};
-ghost use Rattle.gl_talk.specs.ToolWords.{kind_of, usage_text, word_texts};
+ghost use Rattle.gl_talk.specs.ToolWords.{kind_of, name_said, names_tool, turns_said, usage_text, word_texts};
 ghost use Rattle.gl_talk.specs.Words.{behind_two, turns_word};
 
 use crate::copied::CopiedStatement;
 use crate::words::behind_two;
 use gl_args::{ArgFault, Tool, read_tool};
-use gl_base::{ByteList, Errno, next_word};
+use gl_base::{ByteList, Errno, Name, next_word};
 use gl_script::Said;
 use std::alloc::Global;
 
@@ -37,32 +37,32 @@ pub fn kind_of(line: &CopiedStatement) -> StatementKind
     ensures { result ≡ kind_of (keyword_of (text_at 0 (columns line.now))) }
 {
     match line.said() {
-        Some(said) => kind_said(said),
+        Some(said) => kind_said(&said),
         None => StatementKind::Plain,
     }
 }
 
 /// The kind of what a statement says.
-fn kind_said(said: Said) -> StatementKind
-    ensures { result ≡ kind_of (Some (keyword_said said)) }
+fn kind_said(said: &Said) -> StatementKind
+    ensures { result ≡ kind_of (Some (keyword_said said.now)) }
 {
     match said {
         Said::Detect | Said::Info | Said::Get | Said::Set => StatementKind::ToolAlone,
-        Said::Start => StatementKind::Starting,
+        Said::Start { .. } => StatementKind::Starting,
         Said::Step { .. } => StatementKind::Stepping,
-        Said::Stop => StatementKind::Stopping,
+        Said::Stop { .. } => StatementKind::Stopping,
         Said::Probe { .. }
         | Said::Unplug { .. }
-        | Said::MakeDir
-        | Said::RemoveDir
-        | Said::Write
-        | Said::Read
+        | Said::MakeDir { .. }
+        | Said::RemoveDir { .. }
+        | Said::Write { .. }
+        | Said::Read { .. }
         | Said::Clock { .. }
         | Said::Fault { .. }
         | Said::Accept { .. }
         | Said::Pin { .. }
         | Said::Irq { .. }
-        | Said::Open
+        | Said::Open { .. }
         | Said::Ioctl { .. }
         | Said::Events { .. }
         | Said::OldIoctl { .. }
@@ -79,18 +79,42 @@ pub fn turns_of(line: &CopiedStatement) -> u32
     ensures { result ≡ turns_word (text_at 2 (columns line.now)) }
 {
     match line.said() {
-        Some(said) => turns_said(said),
+        Some(said) => turns_said(&said),
         None => unreachable!(),
     }
 }
 
 /// How many turns a step has.
-fn turns_said(said: Said) -> u32
-    requires { kind_of (Some (keyword_said said)) ≡ StatementKind.Stepping }
-    ensures { said ≡ Said.Step result }
+fn turns_said(said: &Said) -> u32
+    requires { kind_of (Some (keyword_said said.now)) ≡ StatementKind.Stepping }
+    ensures { turns_said said.now ≡ Some result }
 {
     match said {
-        Said::Step { turns } => turns,
+        Said::Step { turns, .. } => *turns,
+        _ => unreachable!(),
+    }
+}
+
+/// The name of the tool that a statement starts, lets make a step or stops.
+pub fn tool_name(line: &CopiedStatement) -> Name
+    requires { names_tool (kind_of (keyword_of (text_at 0 (columns line.now)))) ≡ true }
+    ensures { result ≡ text_at 1 (columns line.now) }
+{
+    match line.said() {
+        Some(said) => name_said(&said),
+        None => unreachable!(),
+    }
+}
+
+/// The tool's name in what such a statement says.
+fn name_said(said: &Said) -> Name
+    requires { names_tool (kind_of (Some (keyword_said said.now))) ≡ true }
+    ensures { name_said said.now ≡ Some result }
+{
+    match said {
+        Said::Start { name } => *name,
+        Said::Step { name, .. } => *name,
+        Said::Stop { name } => *name,
         _ => unreachable!(),
     }
 }

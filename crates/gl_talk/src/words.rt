@@ -3,10 +3,10 @@ ghost use Rattle.std.specs.Prelude.{◌≡◌, ◌+◌, ◌<◌, ◌≤◌, ◌^
 ghost use Rattle.gl_base.specs.Padded.{padded};
 ghost use Rattle.gl_base.specs.Words.{text_at, words_at};
 ghost use Rattle.gl_script.specs.Columns.{columns};
-ghost use Rattle.gl_talk.specs.Words.{behind_two, behind_three, bytes_said, live_word, made_name, name_behind_as, name_word, path_word, pull_word};
+ghost use Rattle.gl_talk.specs.Words.{behind_two, behind_three, bytes_said, live_word, pull_word};
 
 use crate::copied::CopiedStatement;
-use gl_base::{Errno, Name, Path, next_word, put_piece};
+use gl_base::{Errno, next_word, put_piece};
 use gl_script::text_at;
 use std::alloc::Global;
 
@@ -15,26 +15,6 @@ pub fn word(i: u32, line: &CopiedStatement) -> &[u8]
     ensures { result.now ≡ text_at i (columns line.now) }
 {
     text_at(i, 1, line.as_slice())
-}
-
-/// A word as a name.
-pub fn name_word(word: &[u8]) -> Name
-    ensures { result ≡ name_word word.now }
-{
-    match Name::of(word) {
-        Some(name) => name,
-        None => Name::empty(),
-    }
-}
-
-/// A word as a path.
-pub fn path_word(word: &[u8]) -> Path
-    ensures { result ≡ path_word word.now }
-{
-    match Path::of(word) {
-        Some(path) => path,
-        None => Path::of(&[]).unwrap(),
-    }
 }
 
 /// The direction that the value of a pull names.
@@ -132,30 +112,6 @@ fn bytes_in(alloc: Global, at: usize, line: &[u8]) -> Result<Vec<u8>, Errno>
         rest = found.rest;
     }
     Ok(bytes)
-}
-
-/// The name after `as` in a command's statement.
-pub fn made_name(line: &CopiedStatement) -> &[u8]
-    ensures { result.now ≡ made_name (columns line.now) }
-{
-    let rest = behind_three(line.as_slice());
-    name_in(rest.at, rest.line)
-}
-
-fn name_in(at: usize, line: &[u8]) -> &[u8]
-    requires { at + length line.now + 1 < 2 ^ 64 }
-    ensures { result.now ≡ name_behind_as (words_at at line.now) }
-{
-    let mut at = at;
-    let mut rest = line;
-    while let Some(found) = next_word(at, rest) {
-        if found.word == b"as".as_slice() {
-            return text_at(0, found.rest_at, found.rest);
-        }
-        at = found.rest_at;
-        rest = found.rest;
-    }
-    &[]
 }
 
 /// The first 592 bytes, and zeros after them.

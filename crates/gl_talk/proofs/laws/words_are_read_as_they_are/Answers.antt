@@ -1,4 +1,4 @@
-use Rattle.gl_talk.proofs.WordReadings.{labels_are_read, names_are_read, paths_are_read, words_are_read, held_tools_are_read}
+use Rattle.gl_talk.proofs.WordReadings.{labels_are_read, names_are_read, paths_are_read, words_are_read, held_tools_are_read, pieces_are_read, no_bytes_are_read}
 use Rattle.gl_talk.proofs.laws.words_are_read_as_they_are.Goals as goal
 
 pub returns-clause-labels : goal.returns-clause-labels
@@ -15,3 +15,9 @@ returns-clause-words c = words_are_read
 
 pub returns-clause-held_tools : goal.returns-clause-held_tools
 returns-clause-held_tools c = held_tools_are_read
+
+pub returns-clause-pieces : goal.returns-clause-pieces
+returns-clause-pieces c = pieces_are_read
+
+pub returns-clause-no_bytes : goal.returns-clause-no_bytes
+returns-clause-no_bytes c = no_bytes_are_read

@@ -6,11 +6,9 @@ use Rattle.gl_script.specs.Said.{said_by}
 use Rattle.gl_script.proofs.Saying.{stated}
 use Rattle.gl_script.proofs.reading.Reading.add.Goals as goal
 
-pub invariant_of-push_statement : goal.invariant_of-push_statement
-invariant_of-push_statement c =
+pub push_statement-requires : goal.push_statement-requires
+push_statement-requires c =
     let first : Span = span c.args.first.now.at c.args.first.now.word.now in
     let words = words_at c.args.first.now.rest_at c.args.first.now.rest.now in
-    record {
-      read = stated c.args.version first words (columns c.args.line.now) c.in-Ok.said c.requires.line
-          (sym (ap (λ (o : Option Keyword). said_by o first words) c.keyword_in-keyword.ensures) ∙ c.in-Ok.ensures.1);
-    }
+    stated c.args.version first words (columns c.args.line.now) c.in-Ok.said c.requires.line
+    (sym (ap (λ (o : Option Keyword). said_by o first words) c.keyword_in-keyword.ensures) ∙ c.in-Ok.ensures.1)

@@ -2,17 +2,16 @@ use Rattle.std.proofs.Common.{List, map, sym, ap, subst}
 use Rattle.std.specs.Option.{option_copied}
 use Rattle.gl_client.specs.declared.next.Next.TheVariants.{Call, Print}
 use Rattle.gl_client.specs.Program.{Goes, given, then_left}
-use Rattle.gl_base.specs.Words.{text_at}
 use Rattle.gl_values.specs.Client.{client_left}
 use Rattle.gl_talk.specs.Open.{SetTool, set_in}
-use Rattle.gl_talk.specs.Talk.{keeps_set, names_in, words_in}
+use Rattle.gl_talk.specs.Talk.{keeps_set, names_in}
 use Rattle.gl_talk.proofs.Continuing.{part_step}
 use Rattle.gl_talk.proofs.talk.Talk.hold.Goals as goal
 
 pub returns-in-Call-clause-goes : goal.returns-in-Call-clause-goes
 returns-in-Call-clause-goes c =
     let t = c.args.self.now in
-    let name = text_at 1 (words_in t) in
+    let name = c.args.name.now in
     let before = client_left t.client in
     let after = client_left c.put_next.new.self in
     subst
@@ -23,7 +22,7 @@ returns-in-Call-clause-goes c =
 pub returns-in-Print-clause-goes : goal.returns-in-Print-clause-goes
 returns-in-Print-clause-goes c =
     let t = c.args.self.now in
-    let name = text_at 1 (words_in t) in
+    let name = c.args.name.now in
     let before = client_left t.client in
     let after = client_left c.put_next.new.self in
     subst

@@ -1,7 +1,6 @@
-use Rattle.std.proofs.Common.{map, ap, ◌∙◌, List, ℕ}
-use Rattle.gl_talk.specs.Open.{File, file_in, with_file}
-use Rattle.gl_talk.specs.Talk.{names_in, slot_in}
-use Rattle.gl_talk.specs.Words.{name_word}
+use Rattle.std.proofs.Common.{map, ap, ◌∙◌, List}
+use Rattle.gl_talk.specs.Open.{File, file_in}
+use Rattle.gl_talk.specs.Talk.{names_in}
 use Rattle.gl_talk.proofs.Continuing.{row_added, shows_same}
 use Rattle.gl_talk.proofs.talk.Talk.made.Goals as goal
 
@@ -9,6 +8,5 @@ pub returns-clause-goes : goal.returns-clause-goes
 returns-clause-goes c =
     let names = names_in c.args.self.now in
     shows_same c.in_ok-text.text _ _ _ _ _ c.in_ok-text.ensures.ok
-    (ap (λ (files : List File). record names { files = files }) (ap (map file_in) c.in_ok-push.ensures.items ∙ row_added file_in c.args.self.now.files.items _)
-    ∙ ap (λ (name : List ℕ). with_file (record { name = name; slot = slot_in c.args.self.now; kind = c.args.kind }) names) (c.name_word.ensures ∙ ap name_word c.made_name.ensures))
+    (ap (λ (files : List File). record names { files = files }) (ap (map file_in) c.in_ok-push.ensures.items ∙ row_added file_in c.args.self.now.files.items _))
     c.show.ensures.goes
