@@ -30,7 +30,6 @@ use Rattle.gl_chip.specs.Answering.{WasLetIn}
 use Rattle.gl_chip.specs.Called.{HasCalled, last_entry}
 use Rattle.gl_chip.specs.DriverCommands.{CommandsOut, HasCommanded, IoComesOf, PortOf, is_asked}
 use Rattle.gl_asking.specs.Results.{value_of}
-use Rattle.gl_chip.specs.Orders.{CouldNot}
 use Rattle.gl_chip.specs.Steps.{FoundNoRoom}
 use Rattle.gl_chip.specs.Values.{ActorValue, FollowsRelation, OneView, OwnRelation}
 use Rattle.gl_core.specs.Device.{OneEntry, core}
@@ -140,17 +139,14 @@ full_no_memory errno full memory = true≢false (ap is_full (sym full ∙ memory
 abbrev pub failed : (X : Type 0) → Errno → Result X Errno
 failed X errno = Err errno
 
-module _ {P X : Type 0} where
-  -- where memory was wanted nothing was done
-  pub wanted_memory : (errno : Errno) (a b : ActorValue P) → CouldNot errno a b → failed X errno ≡ failed X NoMemory → (errno ≡ NoMemory) × (b ≡ a)
-  wanted_memory errno a b (inl wanted) is = wanted
-  wanted_memory errno a b (inr full) is = absurd (full_no_memory errno full.0 (ap (λ (r : Result X Errno). errno_in r) is))
+module _ {X : Type 0} where
+  -- a full history is no want of memory
+  pub full_not_wanted : (errno : Errno) → errno ≡ Full → failed X errno ≢ failed X NoMemory
+  full_not_wanted errno full is = full_no_memory errno full (ap (λ (r : Result X Errno). errno_in r) is)
 
-  -- else the history was full
-  pub else_full : (errno : Errno) (a b : ActorValue P) → CouldNot errno a b → failed X errno ≢ failed X NoMemory → (errno ≡ Full) × (b.port ≡ a.port) × FoundNoRoom core a.pass.view b.pass.view
-  else_full errno a b (inl wanted) other = absurd (other (ap (λ e. failed X e) wanted.0))
-  else_full errno a b (inr full) other = full
+  -- where the history was full, or memory was wanted, the machine wasn't asked
+  pub full_not_let_in : (errno : Errno) → errno ≡ Full → WasLetIn (failed X errno) → ⊥
+  full_not_let_in errno full let_in = let_in.1 (ap (λ e. failed X e) full)
 
-  -- and the machine wasn't asked
-  pub not_let_in : (errno : Errno) (a b : ActorValue P) → CouldNot errno a b → WasLetIn (failed X errno) → ⊥
-  not_let_in errno a b could_not let_in = let_in.1 (ap (λ e. failed X e) (else_full errno a b could_not let_in.0).0)
+  pub wanted_not_let_in : (errno : Errno) → errno ≡ NoMemory → WasLetIn (failed X errno) → ⊥
+  wanted_not_let_in errno wanted let_in = let_in.0 (ap (λ e. failed X e) wanted)

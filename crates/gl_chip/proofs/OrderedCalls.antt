@@ -1,15 +1,16 @@
 -- Any call of the device, as it is ordered.
-use Rattle.std.proofs.Common.{◌≡◌, ◌≢◌, ◌⊎◌, inl, inr, ℕ, ◌<◌, Bool, true, false, List, ◌++◌, length, drop, Option, Result, Ok, Err, IfOk, IfErr, refl, sym, ap, ◌∙◌, subst}
+use Rattle.std.proofs.Common.{◌≡◌, ◌≢◌, ◌⊎◌, ◌↔◌, inl, inr, ℕ, ◌<◌, Bool, true, false, List, ◌++◌, length, drop, Option, None, Result, Ok, Err, IfOk, IfErr, refl, sym, ap, ◌∙◌, subst}
 use Rattle.std.specs.Prelude.{◌^◌}
 use Rattle.std.proofs.lemmas.Bool.{true≢false}
 use Rattle.gl_base.specs.declared.errno.Errno.{Errno}
-use Rattle.gl_base.specs.declared.errno.Errno.TheVariants.{Full, NoMemory}
+use Rattle.gl_base.specs.declared.errno.Errno.TheVariants.{Full, NoDev, NoMemory}
+use Rattle.gl_base.specs.declared.limits.TheConstants.{PLACES}
 use Rattle.gl_driver.specs.declared.map.Map.{Map}
 use Rattle.gl_driver.specs.Told.{Told}
 use Rattle.gl_base.specs.declared.op.Op.{Op}
 use Rattle.gl_uapi.specs.Command.{command_of}
 use Rattle.gl_gate.specs.Calls.{KnowsClosed, KnowsDrained, KnowsTheSame}
-use Rattle.gl_model.specs.Entries.{is_done}
+use Rattle.gl_model.specs.Entries.{guarded_place, is_done}
 use Rattle.gl_model.specs.declared.call.Call.{Call}
 use Rattle.gl_model.specs.declared.call.Call.TheVariants.{Unplug}
 use Rattle.gl_model.specs.declared.device_call.CommandIn.{CommandIn}
@@ -17,6 +18,7 @@ use Rattle.gl_model.specs.declared.device_call.DeviceCall.{DeviceCall}
 use Rattle.gl_model.specs.declared.device_call.DeviceCall.TheVariants.{Commanding, Once, Removing}
 use Rattle.gl_model.specs.declared.device_call.RemovalOf.{RemovalOf}
 use Rattle.gl_model.specs.declared.device_call.RemovalOf.TheVariants.{OfChip, OfDevice}
+use Rattle.gl_model.specs.declared.gift.Gift.{Gift}
 use Rattle.gl_model.specs.declared.reply.Reply.{Reply}
 use Rattle.gl_model.specs.declared.reply.Reply.TheVariants.{Number, Refused}
 use Rattle.gl_model.specs.Parts.{first_call, in_whole, is_driver_asked}
@@ -27,14 +29,19 @@ use Rattle.gl_chip.specs.DriverCommands.{HasCommanded, IsOp}
 use Rattle.gl_asking.specs.declared.kinds.Answered.{Answered}
 use Rattle.gl_asking.specs.declared.kinds.FileKind.{FileKind}
 use Rattle.gl_asking.specs.declared.kinds.FileKind.TheVariants.{Chip}
-use Rattle.gl_chip.specs.Orders.{CouldNot, HasDone, KnowsGone, KnowsRemoved}
-use Rattle.gl_chip.specs.Removals.{AllDrained, is_first_call, removal_of}
+use Rattle.gl_asking.specs.Handed.{command_in}
+use Rattle.gl_asking.specs.Rows.{HasLines, is_chip}
+use Rattle.gl_chip.specs.Opened.{LastFinds}
+use Rattle.gl_chip.specs.Orders.{Brings, CouldNot, FitsOrder, HasDone, IsGoneBy, KnowsAfter, KnowsGone, KnowsRemoved}
+use Rattle.gl_chip.specs.Removals.{AllDrained, RemovedBy, is_first_call, is_gone_outside, removal_of}
 use Rattle.gl_chip.specs.Steps.{FoundNoRoom}
 use Rattle.gl_chip.specs.Values.{ActorValue, FollowsRelation, OneView, OwnRelation}
 use Rattle.gl_core.specs.Device.{core}
 use Rattle.gl_chip.proofs.CommandResults.{whole_commanded}
 use Rattle.gl_chip.proofs.GateSteps.{if_err, if_ok}
+use Rattle.gl_chip.proofs.HandedBytes.{command_fits}
 use Rattle.gl_chip.proofs.RequestedLines.{whole_no_number}
+use Rattle.gl_chip.proofs.SameActors.{knows_by_itself}
 use Rattle.gl_chip.proofs.WholeCalls.{called_not_full, called_not_memory}
 
 module _ {P : Type 0} (told : P → Option Told) (faults : P → ℕ) (maps : P → List Map) (maps_left : P → ℕ) (Own : OwnRelation) (Follows : FollowsRelation) (limit : ℕ) where
@@ -83,12 +90,13 @@ module _ {P : Type 0} where
   wanted errno a is = inl (is, refl)
 
   -- the history was full
-  pub was_full_alone : (result : Result Reply Errno) (a b : ActorValue P) (old new : List ℕ) → b.port ≡ a.port → IfErr result (λ e. (e ≡ Full) × (new ≡ old) × FoundNoRoom core a.pass.view b.pass.view)
+  pub was_full : (result : Result Answered Errno) (a b : ActorValue P) (old new : List ℕ) → IfErr result (λ e. (e ≡ Full) × (new ≡ old) × (b.port ≡ a.port) × FoundNoRoom core a.pass.view b.pass.view)
       → IfErr result (λ e. CouldNot e a b × (new ≡ old))
-  was_full_alone result a b old new same h = if_err result _ _ (λ e k. (inr (k.0, same, k.2), k.1)) h
+  was_full result a b old new h = if_err result _ _ (λ e k. (inr (k.0, k.2, k.3), k.1)) h
 
-  pub was_full_removing : (result : Result Reply Errno) (a b : ActorValue P) → b.port ≡ a.port → IfErr result (λ e. (e ≡ Full) × FoundNoRoom core a.pass.view b.pass.view) → IfErr result (λ e. CouldNot e a b)
-  was_full_removing result a b same h = if_err result _ _ (λ e k. inr (k.0, same, k.1)) h
+  pub was_full_removing : (result : Result Reply Errno) (a b : ActorValue P) → b.port ≡ a.port → IfErr result (λ e. (e ≡ Full) × FoundNoRoom core a.pass.view b.pass.view)
+      → IfErr result (λ e. (e ≡ Full) × (b.port ≡ a.port) × FoundNoRoom core a.pass.view b.pass.view)
+  was_full_removing result a b same h = if_err result _ _ (λ e k. (k.0, same, k.1)) h
 
 -- the first call of a removal, and whose it is
 pub begins_removal : (removal : RemovalOf) → is_first_call (first_call removal) ≡ true
@@ -108,6 +116,31 @@ pub knows_removed : (result : Result Reply Errno) (v w : OneView) (removal : Rem
     → IfOk result (λ r. is_done r ≡ true → (place : ℕ) → first ≡ Unplug place false → KnowsClosed w place × KnowsDrained w place) → IfOk result (λ r. KnowsRemoved removal r v w)
 knows_removed (Ok reply) v w removal first is same drained = record { removed = λ done. gone_by removal first w is (drained done); refused = same }
 knows_removed (Err errno) v w removal first is same drained = tt
+
+is_gone_by : (removal : RemovalOf) (reply : Reply) (first : Call) (w : OneView) → first ≡ first_call removal → ((place : ℕ) → first ≡ Unplug place false → (reply ≡ Refused NoDev) ↔ LastFinds (is_gone_outside place) w.seen)
+    → IsGoneBy removal reply w
+is_gone_by (OfChip place) reply first w is gone = gone place is
+is_gone_by (OfDevice device) reply first w is gone = tt
+
+-- its entries
+pub removal_ends : (result : Result Reply Errno) (v w : OneView) (removal : RemovalOf) (first : Call) → first ≡ first_call removal → removal_of first ≡ removal → IfOk result (λ r. RemovedBy (removal_of first) r v w)
+    → IfOk result (λ r. (place : ℕ) → first ≡ Unplug place false → (r ≡ Refused NoDev) ↔ LastFinds (is_gone_outside place) w.seen) → IfOk result (λ r. RemovedBy removal r v w × IsGoneBy removal r w)
+removal_ends (Ok reply) v w removal first is whose ended gone = (subst (λ (x : RemovalOf). RemovedBy x reply v w) whose ended, is_gone_by removal reply first w is gone)
+removal_ends (Err errno) v w removal first is whose ended gone = tt
+
+-- a command with its buffer, as a call of the device
+pub fits_commanding : (c : CommandIn) (on : FileKind) (buffer : List ℕ) → c.place < PLACES → c ≡ command_in c.place c.fd c.of_chip c.cmd buffer → (c.of_chip ≡ is_chip on) × HasLines on → FitsOrder (Commanding c) on buffer
+fits_commanding c on buffer below handed file = record { device = (command_fits c buffer (record { ring = None; queue = None; asked = None }) below handed).fits_call; file = file; buffer = handed }
+
+-- one on a request brings nothing
+pub request_brings : (c : CommandIn) (gift : Gift) → c.of_chip ≡ false → Brings (Commanding c) gift
+request_brings c gift request chip = absurd (true≢false (sym chip ∙ request))
+
+-- who made no call
+pub knows_unmade : (call : DeviceCall) (errno : Errno) (v : OneView) → KnowsAfter call (Err errno) v v
+knows_unmade (Once call) errno v = knows_by_itself (guarded_place call) v
+knows_unmade (Removing removal) errno v = tt
+knows_unmade (Commanding c) errno v = tt
 
 -- a removal that was made
 module _ {P : Type 0} (told : P → Option Told) (faults : P → ℕ) (maps : P → List Map) (maps_left : P → ℕ) (Own : OwnRelation) (Follows : FollowsRelation) (limit : ℕ) where

@@ -1,11 +1,12 @@
 -- Any call of the device as one value, and how it comes out.
-use Rattle.std.specs.Prelude.{◌≡◌, ◌⊎◌, ℕ, ◌<◌, ◌^◌, true, false, List, ◌++◌, length, take, drop, Option, None, Some, Result, IfOk}
+use Rattle.std.specs.Prelude.{◌≡◌, ◌⊎◌, ◌↔◌, ℕ, ◌<◌, ◌^◌, true, false, List, ◌++◌, length, take, drop, Option, None, Some, Result, IfOk}
 use Rattle.gl_base.specs.declared.errno.Errno.{Errno}
-use Rattle.gl_base.specs.declared.errno.Errno.TheVariants.{Full, NoMemory}
+use Rattle.gl_base.specs.declared.errno.Errno.TheVariants.{Full, NoDev, NoMemory}
 use Rattle.gl_base.specs.declared.lines.Lines.{Lines}
 use Rattle.gl_driver.specs.declared.map.Map.{Map}
 use Rattle.gl_driver.specs.Told.{Told}
 use Rattle.gl_base.specs.declared.op.Op.{Op}
+use Rattle.gl_uapi.specs.Command.{command_of}
 use Rattle.gl_uapi.specs.declared.layout.TheConstants.{LINE_REQUEST_SIZE}
 use Rattle.gl_gate.specs.Calls.{KnowsClosed, KnowsDrained, KnowsTheSame}
 use Rattle.gl_model.specs.declared.device_call.CommandIn.{CommandIn}
@@ -13,11 +14,13 @@ use Rattle.gl_model.specs.declared.device_call.DeviceCall.{DeviceCall}
 use Rattle.gl_model.specs.declared.device_call.DeviceCall.TheVariants.{Once, Removing, Commanding}
 use Rattle.gl_model.specs.declared.device_call.RemovalOf.{RemovalOf}
 use Rattle.gl_model.specs.declared.device_call.RemovalOf.TheVariants.{OfChip, OfDevice}
+use Rattle.gl_model.specs.declared.gift.Gift.{Gift}
 use Rattle.gl_model.specs.declared.reply.Reply.{Reply}
 use Rattle.gl_model.specs.declared.reply.Reply.TheVariants.{Number, Refused}
 use Rattle.gl_model.specs.AskedLines.{lines_asked}
 use Rattle.gl_model.specs.Entries.{guarded_place, is_done}
-use Rattle.gl_model.specs.Fits.{FitsBuffer}
+use Rattle.gl_model.specs.Fits.{FitsBuffer, FitsGift, HoldsRequest}
+use Rattle.gl_model.specs.Parts.{is_driver_asked}
 use Rattle.gl_model.specs.Step.{guard_reply}
 use Rattle.gl_asking.specs.declared.kinds.Answered.{Answered}
 use Rattle.gl_asking.specs.declared.kinds.FileKind.{FileKind}
@@ -26,10 +29,11 @@ use Rattle.gl_asking.specs.Fitting.{FitsDevice}
 use Rattle.gl_asking.specs.Handed.{command_in}
 use Rattle.gl_asking.specs.Rows.{HasLines, is_chip}
 use Rattle.gl_chip.specs.Called.{HasCalled}
-use Rattle.gl_chip.specs.Calling.{Answers, KnowsBy}
+use Rattle.gl_chip.specs.Calling.{Answers, KnowsBy, WroteBy}
 use Rattle.gl_chip.specs.DriverCommands.{HasCommanded, IsOp}
 use Rattle.gl_asking.specs.Driving.{op_for}
-use Rattle.gl_chip.specs.Removals.{AllDrained}
+use Rattle.gl_chip.specs.Opened.{LastFinds}
+use Rattle.gl_chip.specs.Removals.{AllDrained, RemovedBy, is_gone_outside}
 use Rattle.gl_chip.specs.Steps.{FoundNoRoom}
 use Rattle.gl_chip.specs.Values.{ActorValue, FollowsRelation, OneView, OwnRelation}
 use Rattle.gl_core.specs.Device.{core}
@@ -63,6 +67,12 @@ pub record FitsOrder (call : DeviceCall) (on : FileKind) (out : List ℕ) : Type
   pub file : FitsFile call on
   pub buffer : FitsOut call out
 
+-- What a call brings: one call of the machine its own memory; a command on a chip that asks the driver, which is GET_LINE, its request.
+abbrev pub Brings : DeviceCall → Gift → Type 0
+Brings (Once call) gift = FitsGift call gift
+Brings (Removing removal) gift = Unit {0}
+Brings (Commanding c) gift = c.of_chip ≡ true → is_driver_asked c.of_chip c.len (command_of c.cmd) ≡ true → HoldsRequest (take LINE_REQUEST_SIZE c.bytes) gift
+
 -- what a call wrote stands at the start of its buffer; a removal writes into none
 abbrev pub WroteTo : DeviceCall → List ℕ → List ℕ → List ℕ → Type 0
 WroteTo (Once call) bytes old new = new ≡ bytes ++ drop (length bytes) old
@@ -75,6 +85,23 @@ abbrev pub AnswersOrder : DeviceCall → FileKind → Reply → Type 0
 AnswersOrder (Once call) on reply = Answers (guarded_place call) call reply
 AnswersOrder (Removing removal) on reply = is_done reply ≡ false → (errno : Errno) × (reply ≡ Refused errno)
 AnswersOrder (Commanding c) on reply = (n : ℕ) → reply ≡ Number n → (n < 2 ^ 31) × IsOp (op_for (lines_on on c) c)
+
+-- how much one call of the machine wrote, by its reply
+abbrev pub WroteByForm : DeviceCall → List ℕ → List ℕ → Reply → Type 0
+WroteByForm (Once call) old new reply = WroteBy (guarded_place call) call old new reply
+WroteByForm (Removing removal) old new reply = Unit {0}
+WroteByForm (Commanding c) old new reply = Unit {0}
+
+-- the removal of a chip is refused as gone where its last entry found it so
+abbrev pub IsGoneBy : RemovalOf → Reply → OneView → Type 0
+IsGoneBy (OfChip place) reply w = (reply ≡ Refused NoDev) ↔ LastFinds (is_gone_outside place) w.seen
+IsGoneBy (OfDevice device) reply w = Unit {0}
+
+-- the entries of a removal, by its answer
+abbrev pub EndsOrder : DeviceCall → Reply → OneView → OneView → Type 0
+EndsOrder (Once call) reply v w = Unit {0}
+EndsOrder (Removing removal) reply v w = RemovedBy removal reply v w × IsGoneBy removal reply w
+EndsOrder (Commanding c) reply v w = Unit {0}
 
 -- The lines that come with the answer of a command on a chip, where it made a request, are those that its structure names.
 abbrev pub GivesOn : FileKind → CommandIn → Answered → Type 0

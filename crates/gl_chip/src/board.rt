@@ -1,7 +1,7 @@
 //! Chips made by a driver, the clock, and lines found by their names. These calls take no guard.
 
-ghost use Rattle.std.specs.Prelude.{◌≡◌, ◌<◌, ◌≤◌, [], Some};
-ghost use Rattle.gl_base.specs.declared.limits.TheConstants.{LINES_MAX, PLACES};
+ghost use Rattle.std.specs.Prelude.{◌≡◌, ◌≤◌, []};
+ghost use Rattle.gl_base.specs.declared.limits.TheConstants.{LINES_MAX};
 ghost use Rattle.gl_gate.specs.Calls.{KnowsTheSame};
 ghost use Rattle.gl_model.specs.declared.call.Call.TheVariants.{Find as FindCall, Probe as ProbeCall, Tick as TickCall};
 ghost use Rattle.gl_model.specs.Fits.{IsSomePlace};

@@ -1,6 +1,6 @@
 //! One call of the machine as a call of the device: with a guard or without one, by the call itself.
 
-ghost use Rattle.std.specs.Prelude.{◌≡◌, ◌≢◌, ◌++◌, ℕ, List, [], Some, None, true, length, drop, IfOk, IfErr};
+ghost use Rattle.std.specs.Prelude.{◌≡◌, ◌≢◌, ◌++◌, ℕ, List, true, length, drop, IfOk, IfErr};
 ghost use Rattle.gl_base.specs.declared.errno.Errno.TheVariants.{Full};
 ghost use Rattle.gl_model.specs.declared.device_call.DeviceCall.TheVariants.{Once};
 ghost use Rattle.gl_model.specs.declared.reply.Reply.TheVariants.{Refused};
@@ -62,28 +62,5 @@ impl<D: Driver<Core>> Gpio<D> {
                 self.behind_guard(rt, actor, guard, call, out)
             }
         }
-    }
-
-    /// Such a call without a buffer.
-    pub(crate) fn plain<R: Wait>(
-        &self,
-        rt: &R,
-        actor: &mut Actor<D>,
-        call: &Call,
-        gift: &mut Gift,
-    ) -> Result<Reply, Errno>
-        requires actor { IsActorOf self.now actor.old }
-        requires single { is_single call.now ≡ true }
-        requires fits { Fits call.now gift.old [] }
-        ensures actor { IsActorOf self.now actor.new }
-        ensures same { IsSameActor actor.old.pass.view actor.new.pass.view }
-        ensures port { actor.new.port ≡ actor.old.port }
-        ensures places { KnowsBy (guarded_place call.now) actor.old.pass.view actor.new.pass.view }
-        ensures called { IfOk result (λ r. HasCalled 0 actor.old.pass.view (Once call.now) r [] actor.new.pass.view) }
-        ensures form { IfOk result (Answers (guarded_place call.now) call.now) }
-        ensures not_full { IfOk result (λ r. r ≢ Refused Full) }
-        ensures full { IfErr result (λ e. (e ≡ Full) × FoundNoRoom core actor.old.pass.view actor.new.pass.view) }
-    {
-        self.once(rt, actor, call, gift, &mut [])
     }
 }

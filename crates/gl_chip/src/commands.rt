@@ -1,15 +1,16 @@
-//! Commands on open files, by what their files are of. Each call of a command goes one of these two ways.
+//! Commands on open files, by what their files are of.
 
 ghost use Rattle.std.specs.Prelude.{◌≡◌, ◌<◌, ◌^◌, ◌++◌, ℕ, List, true, false, length, drop, IfOk, IfErr, IfSome};
 ghost use Rattle.gl_base.specs.Lines.{IsLineCount};
-ghost use Rattle.gl_base.specs.declared.errno.Errno.TheVariants.{Full, NoMemory};
+ghost use Rattle.gl_base.specs.declared.errno.Errno.TheVariants.{Full};
 ghost use Rattle.gl_base.specs.declared.limits.TheConstants.{PLACES};
+ghost use Rattle.gl_model.specs.declared.device_call.DeviceCall.TheVariants.{Commanding};
 ghost use Rattle.gl_model.specs.declared.reply.Reply.TheVariants.{Number};
 ghost use Rattle.gl_asking.specs.declared.kinds.FileKind.TheVariants.{Chip};
 ghost use Rattle.gl_asking.specs.Driving.{op_for};
 ghost use Rattle.gl_asking.specs.Handed.{command_in};
-ghost use Rattle.gl_chip.specs.DriverCommands.{HasCommanded, IsOp, TakesMemory};
-ghost use Rattle.gl_chip.specs.Orders.{CouldNot, GivesOn, lines_on};
+ghost use Rattle.gl_chip.specs.DriverCommands.{HasCommanded, IsOp};
+ghost use Rattle.gl_chip.specs.Orders.{Brings, GivesOn, lines_on};
 ghost use Rattle.gl_chip.specs.Steps.{FoundNoRoom};
 ghost use Rattle.gl_chip.specs.Values.{IsActorOf, IsSameActor};
 ghost use Rattle.gl_core.specs.Device.{core};
@@ -20,28 +21,27 @@ use crate::driver_operations::{line_op, lines_for, request_op};
 use crate::gpio::Gpio;
 use gl_asking::Answered;
 use gl_base::{Errno, Lines};
-use gl_core::fits::gift_for_lines;
 use gl_core::{Core, Gift, Reply};
 use gl_driver::Driver;
 use gl_model::{CommandIn, is_driver_asked};
-use std::alloc::Global;
 use std::sync::Wait;
 
 impl<D: Driver<Core>> Gpio<D> {
-    /// A command on an open chip, and the lines of the request that it made, where it made one. GET_LINE asks the driver; what its ask
-    /// brings is taken before that.
+    /// A command on an open chip, with what its ask brings, and the lines of the request that it made, where it made one. GET_LINE asks the
+    /// driver.
     pub(crate) fn command_on_chip<R: Wait>(
         &self,
         rt: &R,
-        alloc: Global,
         actor: &mut Actor<D>,
         command: &CommandIn,
+        gift: &mut Gift,
         out: &mut [u8],
     ) -> Result<Answered, Errno>
         requires actor { IsActorOf self.now actor.old }
         requires place { command.now.place < PLACES }
         requires chip { command.now.of_chip ≡ true }
         requires handed { let c = command.now in c ≡ command_in c.place c.fd c.of_chip c.cmd out.old }
+        requires brings { Brings (Commanding command.now) gift.old }
         ensures actor { IsActorOf self.now actor.new }
         ensures same { IsSameActor actor.old.pass.view actor.new.pass.view }
         ensures commanded { IfOk result (λ r. (bytes : List ℕ) × (out.new ≡ bytes ++ drop (length bytes) out.old)
@@ -49,8 +49,8 @@ impl<D: Driver<Core>> Gpio<D> {
         ensures number { IfOk result (λ r. (n : ℕ) → r.reply ≡ Number n → (n < 2 ^ 31) × IsOp (op_for (lines_on Chip command.now) command.now)) }
         ensures lines { IfOk result (GivesOn Chip command.now) }
         ensures counts { IfOk result (λ r. IfSome r.lines (λ lines. IsLineCount lines.count)) }
-        ensures memory { IfErr result (λ e. e ≡ NoMemory → TakesMemory command.now) }
-        ensures could_not { IfErr result (λ e. CouldNot e actor.old actor.new × (out.new ≡ out.old)) }
+        ensures full { IfErr result (λ e. (e ≡ Full) × (out.new ≡ out.old) × (actor.new.port ≡ actor.old.port)
+            × FoundNoRoom core actor.old.pass.view actor.new.pass.view) }
     {
         if !is_driver_asked(command) {
             return match self.whole_command(rt, actor, command, out) {
@@ -58,27 +58,18 @@ impl<D: Driver<Core>> Gpio<D> {
                 Err(errno) => Err(errno),
             };
         }
-        match gift_for_lines(&command.bytes, alloc) {
+        let op = request_op(gift);
+        let asked = DriverCommand { command, op: &op };
+        match self.driven_command(rt, actor, &asked, gift, out) {
+            Ok(reply) => Ok(Answered {
+                reply,
+                lines: lines_for(&op),
+            }),
             Err(errno) => Err(errno),
-            Ok(gift) => {
-                let op = request_op(&gift);
-                let mut asked = DriverCommand {
-                    command,
-                    op: &op,
-                    gift,
-                };
-                match self.driven_command(rt, actor, &mut asked, out) {
-                    Ok(reply) => Ok(Answered {
-                        reply,
-                        lines: lines_for(&op),
-                    }),
-                    Err(errno) => Err(errno),
-                }
-            }
         }
     }
 
-    /// A command on an open request of these lines.
+    /// A command on an open request of these lines, which brings nothing.
     pub(crate) fn command_on_request<R: Wait>(
         &self,
         rt: &R,
@@ -104,12 +95,8 @@ impl<D: Driver<Core>> Gpio<D> {
             None => self.whole_command(rt, actor, command, out),
             Some(op) => {
                 let op = Some(op);
-                let mut asked = DriverCommand {
-                    command,
-                    op: &op,
-                    gift: Gift::nothing(),
-                };
-                self.driven_command(rt, actor, &mut asked, out)
+                let asked = DriverCommand { command, op: &op };
+                self.driven_command(rt, actor, &asked, &mut Gift::nothing(), out)
             }
         }
     }

@@ -1,6 +1,6 @@
 //! The steps of a command that asks the driver: the ask, the driver's call, the tell. They are the same for every machine.
 
-ghost use Rattle.std.specs.Prelude.{◌≡◌, ℕ, ◌≤◌, cond, true, false, List, Option, None, IfOk, IfErr};
+ghost use Rattle.std.specs.Prelude.{◌≡◌, ℕ, ◌≤◌, cond, List, Option, None, IfOk, IfErr};
 ghost use Rattle.gl_base.specs.declared.errno.Errno.TheVariants.{Full};
 ghost use Rattle.gl_base.specs.declared.limits.TheConstants.{PLACES};
 ghost use Rattle.gl_base.specs.Count.{Rises};

@@ -1,5 +1,8 @@
 //! Open files of the device, as their holders have them.
 
+ghost use Rattle.std.specs.Prelude.{◌≡◌, ◌<◌, ◌^◌, length};
+ghost use Rattle.gl_asking.specs.Handed.{command_in};
+
 use gl_asking::handed_in;
 use gl_base::Lines;
 use gl_model::CommandIn;
@@ -50,14 +53,7 @@ impl ChipFd {
         ensures told { result ≡ command_in self.now.place self.now.fd true cmd buffer.now }
         ensures place { result.place < PLACES }
     {
-        CommandIn {
-            place: self.place,
-            fd: self.fd,
-            of_chip: true,
-            cmd,
-            len: buffer.len() as u32,
-            bytes: handed_in(buffer),
-        }
+        command_on(self.place, self.fd, true, cmd, buffer)
     }
 }
 
@@ -117,13 +113,21 @@ impl LineFd {
         ensures told { result ≡ command_in self.now.place self.now.fd false cmd buffer.now }
         ensures place { result.place < PLACES }
     {
-        CommandIn {
-            place: self.place,
-            fd: self.fd,
-            of_chip: false,
-            cmd,
-            len: buffer.len() as u32,
-            bytes: handed_in(buffer),
-        }
+        command_on(self.place, self.fd, false, cmd, buffer)
+    }
+}
+
+/// The command of a number on an open file, with the buffer that it is called with.
+fn command_on(place: u8, fd: u32, of_chip: bool, cmd: u32, buffer: &[u8]) -> CommandIn
+    requires { length buffer.now < 2 ^ 32 }
+    ensures { result ≡ command_in place fd of_chip cmd buffer.now }
+{
+    CommandIn {
+        place,
+        fd,
+        of_chip,
+        cmd,
+        len: buffer.len() as u32,
+        bytes: handed_in(buffer),
     }
 }

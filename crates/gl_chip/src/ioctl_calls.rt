@@ -22,12 +22,15 @@ ghost use Rattle.gl_asking.specs.Results.{done_of};
 ghost use Rattle.gl_chip.specs.Values.{IsActorOf, IsSameActor};
 
 use crate::actor::Actor;
+use crate::bringing::brought_by;
 use crate::files::{ChipFd, LineFd};
 use crate::gpio::Gpio;
-use gl_asking::{Answered, results};
+use crate::orders::Order;
+use gl_asking::{Answered, FileKind, results};
 use gl_base::Errno;
-use gl_core::{Core, Reply};
+use gl_core::{Core, Gift, Reply};
 use gl_driver::Driver;
+use gl_model::DeviceCall;
 use std::alloc::Global;
 use std::sync::Wait;
 
@@ -91,12 +94,21 @@ impl<D: Driver<Core>> Gpio<D> {
         let command = fd.command(cmd, buf);
         // What holds of every actor is known once it has told its number.
         let _before = actor.number();
-        match self.command_on_chip(rt, alloc, actor, &command, buf) {
-            Ok(answered) => {
-                let _after = actor.number();
-                requested(command.place, &answered)
-            }
+        match brought_by(&command, alloc) {
             Err(errno) => Err(errno),
+            Ok(mut gift) => {
+                let order = Order {
+                    call: DeviceCall::Commanding(command),
+                    on: FileKind::Chip,
+                };
+                match self.carry(rt, actor, &order, &mut gift, buf) {
+                    Ok(answered) => {
+                        let _after = actor.number();
+                        requested(command.place, &answered)
+                    }
+                    Err(errno) => Err(errno),
+                }
+            }
         }
     }
 
@@ -134,8 +146,12 @@ impl<D: Driver<Core>> Gpio<D> {
             ConfiguresInOrder (Rises (D.Port.faults actor.old.port) (D.Port.faults actor.new.port)) result actor.new.pass.view c }
     {
         let command = fd.command(cmd, buf);
-        match self.command_on_request(rt, actor, &command, &fd.lines(), buf) {
-            Ok(reply) => results::done(reply),
+        let order = Order {
+            call: DeviceCall::Commanding(command),
+            on: FileKind::Request(fd.lines()),
+        };
+        match self.carry(rt, actor, &order, &mut Gift::nothing(), buf) {
+            Ok(answered) => results::done(answered.reply),
             Err(errno) => Err(errno),
         }
     }

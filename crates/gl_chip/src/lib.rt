@@ -2,8 +2,8 @@
 #![tactic(auto)]
 
 mod actor;
-mod answered;
 mod board;
+mod bringing;
 mod calling;
 mod commands;
 mod driver_commands;
@@ -19,6 +19,7 @@ mod making;
 mod numbers;
 mod open_files;
 mod opening;
+mod ordered;
 mod orders;
 mod plain_commands;
 mod removal;

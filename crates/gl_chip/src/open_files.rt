@@ -1,6 +1,6 @@
 //! Calls on open files that ask no driver: polls, reads and closes.
 
-ghost use Rattle.std.specs.Prelude.{◌≡◌, ◌<◌, ◌^◌, ◌++◌, ℕ, List, [], length, drop, Err, IfErr};
+ghost use Rattle.std.specs.Prelude.{◌≡◌, ◌<◌, ◌^◌, ◌++◌, ℕ, List, [], length, drop, IfErr};
 ghost use Rattle.gl_gate.specs.Calls.{KnowsTheSame};
 ghost use Rattle.gl_model.specs.declared.call.Call.TheVariants.{Close, PollChip as PollChipCall, PollLine as PollLineCall, ReadEdges, ReadInfo};
 ghost use Rattle.gl_model.specs.declared.device_call.DeviceCall.TheVariants.{Once};
@@ -88,7 +88,7 @@ impl<D: Driver<Core>> Gpio<D> {
     {
         let (place, fd) = (fd.place, fd.fd);
         let len = buf.len() as u32;
-        match self.once(
+        match self.one_call(
             rt,
             actor,
             &Call::ReadInfo { place, fd, len },
@@ -121,7 +121,7 @@ impl<D: Driver<Core>> Gpio<D> {
     {
         let (place, fd) = (fd.place, fd.fd);
         let len = buf.len() as u32;
-        match self.once(
+        match self.one_call(
             rt,
             actor,
             &Call::ReadEdges { place, fd, len },

@@ -1,34 +1,33 @@
 //! Any call of the device, as one value.
 
-ghost use Rattle.std.specs.Prelude.{◌≡◌, ◌≢◌, ◌<◌, ◌^◌, ◌++◌, ℕ, List, true, length, drop, IfOk, IfErr};
+ghost use Rattle.std.specs.Prelude.{◌≡◌, ◌≢◌, ◌<◌, ◌^◌, ◌++◌, ℕ, List, length, drop, IfOk, IfErr, IfSome};
+ghost use Rattle.gl_base.specs.Lines.{IsLineCount};
 ghost use Rattle.gl_base.specs.declared.errno.Errno.TheVariants.{Full, NoMemory};
 ghost use Rattle.gl_base.specs.declared.limits.TheConstants.{PLACES};
 ghost use Rattle.gl_world.specs.Deeds.{entries_in};
-ghost use Rattle.gl_model.specs.declared.device_call.DeviceCall.TheVariants.{Commanding, Once, Removing};
+ghost use Rattle.gl_model.specs.declared.device_call.DeviceCall.TheVariants.{Commanding, Removing};
 ghost use Rattle.gl_model.specs.declared.reply.Reply.TheVariants.{Number, Refused};
-ghost use Rattle.gl_model.specs.Entries.{guarded_place};
-ghost use Rattle.gl_model.specs.Fits.{FitsBuffer, FitsCall};
-ghost use Rattle.gl_model.specs.Parts.{is_single};
 ghost use Rattle.gl_asking.specs.declared.kinds.FileKind.TheVariants.{Chip};
 ghost use Rattle.gl_asking.specs.Fitting.{FitsDevice};
 ghost use Rattle.gl_asking.specs.Handed.{command_in};
 ghost use Rattle.gl_asking.specs.Rows.{HasLines, IsOn, is_chip, kind_of};
 ghost use Rattle.gl_chip.specs.Called.{HasCalled};
-ghost use Rattle.gl_chip.specs.Calling.{KnowsBy};
 ghost use Rattle.gl_chip.specs.DriverCommands.{HasCommanded, IsOp};
 ghost use Rattle.gl_asking.specs.Driving.{op_for};
-ghost use Rattle.gl_chip.specs.Orders.{AnswersOrder, CouldNot, FitsOrder, GivesLines, GivesOn, HasDone, KnowsAfter, KnowsRemoved, WroteTo, lines_on, op_ordered};
+ghost use Rattle.gl_chip.specs.Orders.{AnswersOrder, Brings, CouldNot, EndsOrder, FitsOrder, GivesLines, GivesOn, HasDone, KnowsAfter, KnowsRemoved, WroteByForm, WroteTo, lines_on, op_ordered};
 ghost use Rattle.gl_driver.specs.Told.{PortAfter};
 ghost use Rattle.gl_core.specs.Device.{tells_in};
+ghost use Rattle.gl_chip.specs.Steps.{FoundNoRoom};
 ghost use Rattle.gl_chip.specs.Values.{IsActorOf, IsSameActor};
+ghost use Rattle.gl_core.specs.Device.{core};
 
 use crate::actor::Actor;
+use crate::bringing::brought;
 use crate::gpio::Gpio;
 use gl_asking::parts::first_call;
 use gl_asking::{Answered, FileKind, FileRow, kind_of};
 use gl_base::Errno;
-use gl_core::fits::gift_for;
-use gl_core::{Call, Core, Reply};
+use gl_core::{Core, Gift, Reply};
 use gl_driver::Driver;
 use gl_model::{CommandIn, DeviceCall, RemovalOf};
 use std::alloc::Global;
@@ -44,7 +43,7 @@ pub struct Order {
 }
 
 impl Order {
-    /// A call of the device, on the file of this row where it is a command. So the lines of a request are those with which it was made.
+    /// A call of the device, on the file of this row where it is a command. The lines of a request are the row's.
     pub fn of(call: DeviceCall, row: &Option<FileRow>) -> Order
         requires on { IsOn call row.now }
         ensures call { result.call ≡ call }
@@ -65,33 +64,6 @@ struct OnFile<'a> {
 }
 
 impl<D: Driver<Core>> Gpio<D> {
-    /// One call of the machine, with the memory that it brings.
-    fn order_once<R: Wait>(
-        &self,
-        rt: &R,
-        alloc: Global,
-        actor: &mut Actor<D>,
-        call: &Call,
-        out: &mut [u8],
-    ) -> Result<Reply, Errno>
-        requires actor { IsActorOf self.now actor.old }
-        requires single { is_single call.now ≡ true }
-        requires fits { FitsCall call.now }
-        requires buffer { FitsBuffer call.now out.old }
-        ensures actor { IsActorOf self.now actor.new }
-        ensures same { IsSameActor actor.old.pass.view actor.new.pass.view }
-        ensures done { IfOk result (λ r. (bytes : List ℕ) × (out.new ≡ bytes ++ drop (length bytes) out.old)
-            × HasDone D.Port.told D.Port.faults D.Port.maps D.Port.maps_left D.OwnEntries D.Follows D.ENTRIES (Once call.now) Chip actor.old r bytes actor.new) }
-        ensures form { IfOk result (λ r. AnswersOrder (Once call.now) Chip r) }
-        ensures places { KnowsBy (guarded_place call.now) actor.old.pass.view actor.new.pass.view }
-        ensures could_not { IfErr result (λ e. CouldNot e actor.old actor.new × (out.new ≡ out.old)) }
-    {
-        match gift_for(call, alloc) {
-            Err(errno) => Err(errno),
-            Ok(mut gift) => self.once(rt, actor, call, &mut gift, out),
-        }
-    }
-
     /// A removal.
     fn order_removal<R: Wait>(
         &self,
@@ -106,40 +78,91 @@ impl<D: Driver<Core>> Gpio<D> {
         ensures done { IfOk result (λ r. (bytes : List ℕ)
             × HasDone D.Port.told D.Port.faults D.Port.maps D.Port.maps_left D.OwnEntries D.Follows D.ENTRIES (Removing removal.now) Chip actor.old r bytes actor.new) }
         ensures form { IfOk result (λ r. AnswersOrder (Removing removal.now) Chip r) }
+        ensures ended { IfOk result (λ r. EndsOrder (Removing removal.now) r actor.old.pass.view actor.new.pass.view) }
         ensures places { IfOk result (λ r. KnowsRemoved removal.now r actor.old.pass.view actor.new.pass.view) }
-        ensures could_not { IfErr result (λ e. CouldNot e actor.old actor.new) }
+        ensures full { IfErr result (λ e. (e ≡ Full) × (actor.new.port ≡ actor.old.port) × FoundNoRoom core actor.old.pass.view actor.new.pass.view) }
     {
         self.remove_by(rt, actor, &first_call(removal))
     }
 
-    /// A command on an open file of this kind.
+    /// A command on an open file of this kind, with what its ask brings.
     fn order_command<R: Wait>(
         &self,
         rt: &R,
-        alloc: Global,
         actor: &mut Actor<D>,
         order: &OnFile<'_>,
+        gift: &mut Gift,
         out: &mut [u8],
     ) -> Result<Answered, Errno>
         requires actor { IsActorOf self.now actor.old }
         requires place { order.now.command.now.place < PLACES }
         requires file { (order.now.command.now.of_chip ≡ is_chip order.now.on.now) × HasLines order.now.on.now }
         requires handed { let c = order.now.command.now in c ≡ command_in c.place c.fd c.of_chip c.cmd out.old }
+        requires brings { Brings (Commanding order.now.command.now) gift.old }
         ensures actor { IsActorOf self.now actor.new }
         ensures same { IsSameActor actor.old.pass.view actor.new.pass.view }
         ensures commanded { let c = order.now.command.now in IfOk result (λ r. (bytes : List ℕ) × (out.new ≡ bytes ++ drop (length bytes) out.old)
             × HasCommanded D.Port.told D.Port.faults D.Port.maps D.Port.maps_left D.OwnEntries D.Follows D.ENTRIES (op_for (lines_on order.now.on.now c) c) actor.old c r.reply bytes actor.new) }
         ensures number { let c = order.now.command.now in IfOk result (λ r. (n : ℕ) → r.reply ≡ Number n → (n < 2 ^ 31) × IsOp (op_for (lines_on order.now.on.now c) c)) }
         ensures lines { IfOk result (GivesOn order.now.on.now order.now.command.now) }
-        ensures could_not { IfErr result (λ e. CouldNot e actor.old actor.new × (out.new ≡ out.old)) }
+        ensures counts { IfOk result (λ r. IfSome r.lines (λ lines. IsLineCount lines.count)) }
+        ensures full { IfErr result (λ e. (e ≡ Full) × (out.new ≡ out.old) × (actor.new.port ≡ actor.old.port)
+            × FoundNoRoom core actor.old.pass.view actor.new.pass.view) }
     {
         match order.on {
-            FileKind::Chip => self.command_on_chip(rt, alloc, actor, order.command, out),
+            FileKind::Chip => self.command_on_chip(rt, actor, order.command, gift, out),
             FileKind::Request(lines) => {
                 match self.command_on_request(rt, actor, order.command, lines, out) {
                     Ok(reply) => Ok(Answered::without_lines(reply)),
                     Err(errno) => Err(errno),
                 }
+            }
+        }
+    }
+
+    /// Carries a call of the device out, with the memory that it brings. Every call of the device goes this way: one call of the machine,
+    /// with the guard that it needs, if it needs one, a removal, or a command on an open file, which may ask the driver.
+    ///
+    /// `Full` where the history is full; that is its only error.
+    pub(crate) fn carry<R: Wait>(
+        &self,
+        rt: &R,
+        actor: &mut Actor<D>,
+        order: &Order,
+        gift: &mut Gift,
+        out: &mut [u8],
+    ) -> Result<Answered, Errno>
+        requires actor { IsActorOf self.now actor.old }
+        requires fits { FitsOrder order.now.call order.now.on out.old }
+        requires brings { Brings order.now.call gift.old }
+        ensures actor { IsActorOf self.now actor.new }
+        ensures same { IsSameActor actor.old.pass.view actor.new.pass.view }
+        ensures done { IfOk result (λ r. (bytes : List ℕ) × WroteTo order.now.call bytes out.old out.new
+            × HasDone D.Port.told D.Port.faults D.Port.maps D.Port.maps_left D.OwnEntries D.Follows D.ENTRIES order.now.call order.now.on actor.old r.reply bytes actor.new) }
+        ensures form { IfOk result (λ r. AnswersOrder order.now.call order.now.on r.reply) }
+        ensures lengths { IfOk result (λ r. WroteByForm order.now.call out.old out.new r.reply) }
+        ensures ended { IfOk result (λ r. EndsOrder order.now.call r.reply actor.old.pass.view actor.new.pass.view) }
+        ensures lines { IfOk result (GivesLines order.now.call order.now.on) }
+        ensures counts { IfOk result (λ r. IfSome r.lines (λ lines. IsLineCount lines.count)) }
+        ensures places { KnowsAfter order.now.call result actor.old.pass.view actor.new.pass.view }
+        ensures full { IfErr result (λ e. (e ≡ Full) × (out.new ≡ out.old) × (actor.new.port ≡ actor.old.port)
+            × FoundNoRoom core actor.old.pass.view actor.new.pass.view) }
+    {
+        match &order.call {
+            DeviceCall::Once(call) => match self.once(rt, actor, call, gift, out) {
+                Ok(reply) => Ok(Answered::without_lines(reply)),
+                Err(errno) => Err(errno),
+            },
+            DeviceCall::Removing(removal) => match self.order_removal(rt, actor, removal) {
+                Ok(reply) => Ok(Answered::without_lines(reply)),
+                Err(errno) => Err(errno),
+            },
+            DeviceCall::Commanding(command) => {
+                let order = OnFile {
+                    command,
+                    on: &order.on,
+                };
+                self.order_command(rt, actor, &order, gift, out)
             }
         }
     }
@@ -176,22 +199,9 @@ impl<D: Driver<Core>> Gpio<D> {
         ensures not_memory { IfOk result (λ r. r.reply ≢ Refused NoMemory) }
         ensures could_not { IfErr result (λ e. CouldNot e actor.old actor.new × (out.new ≡ out.old)) }
     {
-        match &order.call {
-            DeviceCall::Once(call) => match self.order_once(rt, alloc, actor, call, out) {
-                Ok(reply) => Ok(Answered::without_lines(reply)),
-                Err(errno) => Err(errno),
-            },
-            DeviceCall::Removing(removal) => match self.order_removal(rt, actor, removal) {
-                Ok(reply) => Ok(Answered::without_lines(reply)),
-                Err(errno) => Err(errno),
-            },
-            DeviceCall::Commanding(command) => {
-                let order = OnFile {
-                    command,
-                    on: &order.on,
-                };
-                self.order_command(rt, alloc, actor, &order, out)
-            }
+        match brought(&order.call, alloc) {
+            Err(errno) => Err(errno),
+            Ok(mut gift) => self.carry(rt, actor, order, &mut gift, out),
         }
     }
 }

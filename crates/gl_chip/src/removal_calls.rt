@@ -22,6 +22,7 @@ use gl_asking::results;
 use gl_base::{Errno, Name};
 use gl_core::{Call, Core};
 use gl_driver::Driver;
+use gl_model::RemovalOf;
 use gl_rule::known_drained_stays_empty;
 use gl_world::drained_stays_empty;
 use std::sync::Wait;
@@ -48,8 +49,7 @@ impl<D: Driver<Core>> Gpio<D> {
     {
         drained_stays_empty::<Core>();
         known_drained_stays_empty::<Core>();
-        let first = Call::Unplug { place, last: false };
-        match self.remove_by(rt, actor, &first) {
+        match self.remove(rt, actor, RemovalOf::OfChip(place)) {
             Ok(reply) => results::done(reply),
             Err(errno) => Err(errno),
         }
@@ -85,11 +85,7 @@ impl<D: Driver<Core>> Gpio<D> {
         if up {
             return self.done_alone(rt, actor, &Call::Live { device: *device });
         }
-        let first = Call::Remove {
-            device: *device,
-            last: false,
-        };
-        match self.remove_by(rt, actor, &first) {
+        match self.remove(rt, actor, RemovalOf::OfDevice(*device)) {
             Ok(reply) => results::done(reply),
             Err(errno) => Err(errno),
         }

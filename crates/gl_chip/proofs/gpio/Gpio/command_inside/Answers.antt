@@ -14,7 +14,7 @@ use Rattle.gl_chip.proofs.CommandCalls.{as_part, ask_is_ask, asked_and_told, fit
 use Rattle.gl_chip.proofs.gpio.Gpio.command_inside.Goals as goal
 
 pub ask-requires-clause-fits : goal.ask-requires-clause-fits
-ask-requires-clause-fits g c κs within = subst (λ (x : Call). Fits x c.args.asked.now.gift c.args.out.now) (sym c.in_part-asking.ensures.part) (fits_ask c.args.asked.now.command.now c.args.out.now c.args.asked.now.gift c.requires.place c.requires.handed c.requires.brings)
+ask-requires-clause-fits g c κs within = subst (λ (x : Call). Fits x c.args.gift.now c.args.out.now) (sym c.in_part-asking.ensures.part) (fits_ask c.args.asked.now.command.now c.args.out.now c.args.gift.now c.requires.place c.requires.handed c.requires.brings)
 
 pub ask-requires-clause-ask : goal.ask-requires-clause-ask
 ask-requires-clause-ask g c κs within = subst (λ (x : Call). IsAsk core x) (sym c.in_part-asking.ensures.part) (ask_is_ask c.args.asked.now.command.now)

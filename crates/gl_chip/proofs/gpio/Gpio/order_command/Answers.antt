@@ -1,4 +1,6 @@
-use Rattle.std.proofs.Common.{◌≡◌, ℕ, List, ◌++◌, length, drop, ap, ◌∙◌, subst, sym, IfOk, Ok}
+use Rattle.std.proofs.Common.{◌≡◌, ℕ, List, ◌++◌, length, drop, ap, ◌∙◌, subst, sym, IfOk, IfSome, Ok, Option}
+use Rattle.gl_base.specs.Lines.{IsLineCount}
+use Rattle.gl_base.specs.declared.lines.Lines.{Lines}
 use Rattle.gl_asking.specs.declared.kinds.FileKind.{FileKind}
 use Rattle.gl_asking.specs.Rows.{HasLines, is_chip}
 use Rattle.gl_asking.specs.Driving.{op_for}
@@ -35,3 +37,6 @@ returns-in-Ok-clause-commanded g c =
     × HasCommanded g.D.Port.Port.told g.D.Port.Port.faults g.D.Port.Port.maps g.D.Port.Port.maps_left g.D.Driver.OwnEntries g.D.Driver.Follows g.D.Driver.ENTRIES (op_for (lines_on c.args.order.now.on.now c.args.order.now.command.now) c.args.order.now.command.now) c.args.actor.now c.args.order.now.command.now reply bytes c.command_on_request.new.actor) (sym c.without_lines.ensures.reply)
     (as_ordered g.D.Port.Port.told g.D.Port.Port.faults g.D.Port.Port.maps g.D.Port.Port.maps_left g.D.Driver.OwnEntries g.D.Driver.Follows g.D.Driver.ENTRIES (Ok c.in-Ok.reply) (op_for c.in-Request.lines c.args.order.now.command.now) (op_for (lines_on c.args.order.now.on.now c.args.order.now.command.now) c.args.order.now.command.now) c.args.actor.now c.command_on_request.new.actor
     c.args.order.now.command.now c.args.out.now c.command_on_request.new.out (ap (λ (k : FileKind). op_for (lines_on k c.args.order.now.command.now) c.args.order.now.command.now) c.in-Request.is) c.in-Ok.ensures.commanded)
+
+pub returns-in-Ok-clause-counts : goal.returns-in-Ok-clause-counts
+returns-in-Ok-clause-counts g c = subst (λ (lines : Option Lines). IfSome lines (λ l. IsLineCount l.count)) (sym c.without_lines.ensures.lines) tt

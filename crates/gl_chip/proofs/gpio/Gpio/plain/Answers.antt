@@ -5,5 +5,5 @@ use Rattle.gl_chip.proofs.WholeCalls.{made_with_nothing}
 use Rattle.gl_chip.proofs.gpio.Gpio.plain.Goals as goal
 
 pub returns-clause-called : goal.returns-clause-called
-returns-clause-called g c = let empty : length c.once.new.out ≡ 0 = search rules in
-    if_ok c.once.result _ _ (λ r h. made_with_nothing c.args.actor.now.pass.view c.once.new.actor.pass.view (Once c.args.call.now) r [] c.once.new.out empty h) c.once.ensures.called
+returns-clause-called g c = let empty : length c.one_call.new.out ≡ 0 = search rules in
+    if_ok c.one_call.result _ _ (λ r h. made_with_nothing c.args.actor.now.pass.view c.one_call.new.actor.pass.view (Once c.args.call.now) r [] c.one_call.new.out empty h) c.one_call.ensures.called
