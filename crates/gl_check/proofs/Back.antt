@@ -341,6 +341,7 @@ module _ (n : ℕ) where
         (record {
           makes = (has_call at.carried.files what at.call at.calls, makes);
           few_own = omega arith;
+          may_own = record { quiet = tt; no_claims = tt };
           reply_is = refl;
           bytes_are = refl;
           port = port_asked (planning plain) n (op_asked at.carried.files what) (exchange what shut None (d ∷ []) d.entry.reply d.bytes) at.carried.told at.carried.told at.call refl
@@ -379,6 +380,7 @@ module _ (n : ℕ) where
         (record {
           makes = (is_there, open_one call (at.first.entry ∷ d.entry ∷ []) two.answer two.makes);
           few_own = omega arith;
+          may_own = record { quiet = tt; no_claims = tt };
           reply_is = refl;
           bytes_are = refl;
           port = port_asked (planning plain) n op (exchange what false two.answer (at.first ∷ d ∷ []) d.entry.reply d.bytes) r.told two.told call refl

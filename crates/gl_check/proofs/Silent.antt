@@ -51,6 +51,7 @@ module _ (driver : DriverKind) (n : ℕ) where
   done_silenced (Calls call) op e before after h = record {
     makes = h.makes;
     few_own = h.few_own;
+    may_own = h.may_own;
     reply_is = h.reply_is;
     bytes_are = h.bytes_are;
     port = port_silenced (was_asked call (entries_in e.did)) (map_of call) op e before after h.port;

@@ -1,6 +1,6 @@
--- One: what a session with fewer than two actors does, as a function of what it says and of the driver's answers. All of it is
--- actor 0's, one call of the device after another, each answered by the machine's step in the world of those before it. This
--- project's choice.
+-- One: what a session with fewer than two actors does, as a function of what it says and of what the driver does where it is asked. All of
+-- it is actor 0's, one call of the device after another, and within such a call those that the driver makes of its own; each is answered by
+-- the machine's step in the world of those before it. This project's choice.
 use Rattle.std.specs.Prelude.{ℕ, ◌+◌, Bool, true, false, ◌&&◌, not, if◌then◌else◌, List, [], ◌∷◌, ◌++◌, length, map, Option, Some, None}
 use Rattle.gl_base.specs.Count.{counted_up}
 use Rattle.gl_base.specs.Planned.{bits_for, planned_answer, planned_call}
@@ -47,42 +47,71 @@ is_gone Gone = true
 abbrev pub goes_on : World → Call → Bool
 goes_on w first = begins first (step w 0 first).reply
 
--- the two entries of a call of the device, the second where the first begins it
-abbrev pub two : World → Call → Call → Outcome
-two w first second = if goes_on w first then step (step w 0 first).world 0 second else step w 0 first
+-- What a driver does in a call that asks it: the calls that it makes of its own, one after another, and then its answer.
+pub record Answering : Type 0 where
+  pub own : List Call
+  pub answer : Option ℕ
 
--- what a call of the device comes to behind its guard, with this answer of the driver where it is asked
+-- an answer without a call of its own
+abbrev pub at_once : Option ℕ → Answering
+at_once answer = record { own = []; answer = answer }
+
+abbrev pub answer_in : Answering → Option ℕ
+answer_in a = a.answer
+
+-- the world behind calls, one after another
+abbrev pub world_behind : World → List Call → World
+world_behind w [] = w
+world_behind w (call ∷ calls) = world_behind (step w 0 call).world calls
+
+-- the two entries of a call of the device, the second where the first begins it, and between them these calls
+abbrev pub two_around : World → Call → List Call → Call → Outcome
+two_around w first own second = if goes_on w first then step (world_behind (step w 0 first).world own) 0 second else step w 0 first
+
+-- the same with none between them
+abbrev pub two : World → Call → Call → Outcome
+two w first second = two_around w first [] second
+
+-- what a call of the device comes to behind its guard, where the driver does this if it is asked
+abbrev pub inside_by : World → DeviceCall → Answering → Outcome
+inside_by w (Once call) a = step w 0 call
+inside_by w (Removing removal) a = two w (first_call removal) (last_call (first_call removal))
+inside_by w (Commanding c) a =
+    if is_driver_asked c.of_chip c.len (command_of c.cmd) then two_around w (in_ask c) a.own (in_tell a.answer c) else step w 0 (in_whole c)
+
+-- the same with an answer at once
 abbrev pub inside : World → DeviceCall → Option ℕ → Outcome
-inside w (Once call) answer = step w 0 call
-inside w (Removing removal) answer = two w (first_call removal) (last_call (first_call removal))
-inside w (Commanding c) answer =
-    if is_driver_asked c.of_chip c.len (command_of c.cmd) then two w (in_ask c) (in_tell answer c) else step w 0 (in_whole c)
+inside w call answer = inside_by w call (at_once answer)
 
 -- the guard of a place is closed where its chip is gone: one actor is never between the two calls of a removal
 abbrev pub at_guard : Option ℕ → Bool → World → Outcome → Outcome
 at_guard None poll w out = out
 at_guard (Some place) poll w out = if is_gone (phase_at w place) then step w 0 (RefusedCall place poll) else out
 
--- what a call of the device comes to
+-- what a call of the device comes to, and what it comes to with an answer at once
+abbrev pub comes_by : World → DeviceCall → Answering → Outcome
+comes_by w call a = at_guard (guard_of call) (is_poll call) w (inside_by w call a)
+
 abbrev pub comes_to : World → DeviceCall → Option ℕ → Outcome
-comes_to w call answer = at_guard (guard_of call) (is_poll call) w (inside w call answer)
+comes_to w call answer = comes_by w call (at_once answer)
 
 -- the guard of a call is closed
 abbrev pub is_closed : Option ℕ → World → Bool
 is_closed None w = false
 is_closed (Some place) w = is_gone (phase_at w place)
 
--- how many entries a call of the device makes: one at a closed guard, and behind an open one one, or two where the first begins the second
-abbrev pub one_or_two : World → Call → ℕ
-one_or_two w first = if goes_on w first then 2 else 1
+-- How many entries a call of the device makes in which the driver makes so many of its own if it is asked: one at a closed guard; behind an
+-- open guard one, or where the first begins the second, these two and the driver's own.
+abbrev pub one_or_more : World → Call → ℕ → ℕ
+one_or_more w first own = if goes_on w first then 2 + own else 1
 
-abbrev pub count_inside : World → DeviceCall → ℕ
-count_inside w (Once call) = 1
-count_inside w (Removing removal) = one_or_two w (first_call removal)
-count_inside w (Commanding c) = if is_driver_asked c.of_chip c.len (command_of c.cmd) then one_or_two w (in_ask c) else 1
+abbrev pub count_inside : World → DeviceCall → ℕ → ℕ
+count_inside w (Once call) own = 1
+count_inside w (Removing removal) own = one_or_more w (first_call removal) 0
+count_inside w (Commanding c) own = if is_driver_asked c.of_chip c.len (command_of c.cmd) then one_or_more w (in_ask c) own else 1
 
-abbrev pub entry_count : World → DeviceCall → ℕ
-entry_count w call = if is_closed (guard_of call) w then 1 else count_inside w call
+abbrev pub entry_count : World → DeviceCall → ℕ → ℕ
+entry_count w call own = if is_closed (guard_of call) w then 1 else count_inside w call own
 
 -- a call of the device asks the driver: a command of the handle's kind that is long enough, and that the machine answers with Go
 abbrev pub is_asked : World → DeviceCall → Bool
@@ -91,34 +120,34 @@ is_asked w (Removing removal) = false
 is_asked w (Commanding c) = is_driver_asked c.of_chip c.len (command_of c.cmd)
     && (not (is_gone (phase_at w c.place)) && goes_on w (in_ask c))
 
--- Where a driver's answers come from: what it answers next to what it is asked, what is left after such an answer, after a plan of its
--- port, and after bits that its port accepted.
+-- Where a driver's answers come from: what it does next where it is asked this, what is left after that, after a plan of its port, and after
+-- bits that its port accepted.
 pub record Answers (X : Type 0) : Type 0 where
-  pub next : Option Op → X → Option ℕ
+  pub next : Option Op → X → Answering
   pub behind : Option Op → X → X
   pub planned : ℕ → X → X
   pub accepted : ℕ → X → X
 
--- answers in the order of a list; none that is left is a failure
-abbrev pub first_of_list : List (Option ℕ) → Option ℕ
-first_of_list [] = None
-first_of_list (answer ∷ answers) = answer
+-- in the order of a list; where none is left, a failure at once
+abbrev pub first_of_list : List Answering → Answering
+first_of_list [] = at_once None
+first_of_list (a ∷ given) = a
 
-abbrev pub rest_of_list : List (Option ℕ) → List (Option ℕ)
+abbrev pub rest_of_list : List Answering → List Answering
 rest_of_list [] = []
-rest_of_list (answer ∷ answers) = answers
+rest_of_list (a ∷ given) = given
 
-abbrev pub from_list : Answers (List (Option ℕ))
+abbrev pub from_list : Answers (List Answering)
 from_list = record {
-  next = λ op answers. first_of_list answers;
-  behind = λ op answers. rest_of_list answers;
-  planned = λ nth answers. answers;
-  accepted = λ bits answers. answers;
+  next = λ op given. first_of_list given;
+  behind = λ op given. rest_of_list given;
+  planned = λ nth given. given;
+  accepted = λ bits given. given;
 }
 
--- answers in the order of a list, through a port that may tell
+-- in the order of a list, through a port that may tell
 pub record TellingPort : Type 0 where
-  pub left : List (Option ℕ)
+  pub left : List Answering
   pub told : Option Told
 
 abbrev pub told_of : Option Op → Option ℕ → Option Told → Option Told
@@ -128,12 +157,12 @@ told_of (Some op) answer told = with_call op answer told
 abbrev pub from_port : Answers TellingPort
 from_port = record {
   next = λ op port. first_of_list port.left;
-  behind = λ op port. record { left = rest_of_list port.left; told = told_of op (first_of_list port.left) port.told };
+  behind = λ op port. record { left = rest_of_list port.left; told = told_of op (first_of_list port.left).answer port.told };
   planned = λ nth port. record { left = port.left; told = with_plan nth port.told };
   accepted = λ bits port. record { left = port.left; told = with_bits bits port.told };
 }
 
--- answers of a planned driver, by how many calls its port's plan counts, the call that the plan names, and the accepted bits
+-- what a planned driver answers, by how many calls its port's plan counts, the call that the plan names, and the accepted bits
 pub record PlannedPort : Type 0 where
   pub calls : ℕ
   pub plan : Option ℕ
@@ -146,19 +175,19 @@ bits_asked (Some op) bits = bits_for op bits
 
 abbrev pub from_plan : Answers PlannedPort
 from_plan = record {
-  next = λ op port. planned_answer (bits_asked op port.bits) port.plan (counted_up port.calls);
+  next = λ op port. at_once (planned_answer (bits_asked op port.bits) port.plan (counted_up port.calls));
   behind = λ op port. record { calls = counted_up port.calls; plan = port.plan; bits = port.bits };
   planned = λ nth port. record { calls = port.calls; plan = planned_call port.calls nth; bits = port.bits };
   accepted = λ bits port. record { calls = port.calls; plan = port.plan; bits = bits };
 }
 
--- how a session stands: the world, the open files of the talk, where the next answers come from, those that were taken, and how many
+-- how a session stands: the world, the open files of the talk, where the driver's next answers come from, those that were taken, and how many
 -- entries were made
 pub record Standing (X : Type 0) : Type 0 where
   pub world : World
   pub files : List OpenFile
   pub source : X
-  pub took : List (Option ℕ)
+  pub took : List Answering
   pub entries : ℕ
 
 -- so many entries more
@@ -190,7 +219,8 @@ module _ {X : Type 0} (answers : Answers X) where
   -- an operation, and how the session stands after it
   abbrev pub performs_as : Asking → Option Op → Do → Standing X → Got × Standing X
   performs_as (Calls call) op what s =
-      came_to what (comes_to s.world call (answers.next op s.source)) (with_entries (entry_count s.world call) (with_answer op (is_asked s.world call) s))
+      came_to what (comes_by s.world call (answers.next op s.source))
+      (with_entries (entry_count s.world call (length (answers.next op s.source).own)) (with_answer op (is_asked s.world call) s))
   performs_as (Plans nth) op what s = answered what DoneReply [] (record s { source = answers.planned nth s.source })
   performs_as (Accepts bits) op what s = answered what DoneReply [] (record s { source = answers.accepted bits s.source })
   performs_as (Refuses errno) op what s = answered what (RefusedReply errno) [] s
@@ -236,25 +266,35 @@ module _ {X : Type 0} (answers : Answers X) where
   abbrev pub run_session : List SaidSection → X → Ran X Names
   run_session sections source = behind_setup sections (run_setup sections source)
 
--- One: the text of a session's sections, over answers of its driver
+-- One: the text of a session's sections, over what its driver does where it is asked
+abbrev pub one_over : List SaidSection → List Answering → List ℕ
+one_over sections given = (run_session from_list sections given).text
+
+-- what of this a session takes: just what was given where there is neither too much nor too little
+abbrev pub taken_over : List SaidSection → List Answering → List Answering
+taken_over sections given = (run_session from_list sections given).behind.took
+
+-- how many entries it makes then
+abbrev pub entries_over : List SaidSection → List Answering → ℕ
+entries_over sections given = (run_session from_list sections given).behind.entries
+
+-- the same over answers of a driver that makes no calls of its own
 abbrev pub one : List SaidSection → List (Option ℕ) → List ℕ
-one sections answers = (run_session from_list sections answers).text
+one sections answers = one_over sections (map at_once answers)
 
--- the answers that a session takes; these are just the ones given where there are neither too many nor too few
 abbrev pub taken : List SaidSection → List (Option ℕ) → List (Option ℕ)
-taken sections answers = (run_session from_list sections answers).behind.took
+taken sections answers = map answer_in (taken_over sections (map at_once answers))
 
--- how many entries a session makes over answers of its driver
 abbrev pub entries_made : List SaidSection → List (Option ℕ) → ℕ
-entries_made sections answers = (run_session from_list sections answers).behind.entries
+entries_made sections answers = entries_over sections (map at_once answers)
 
--- what a port tells after a session over answers of its driver, by what it told before: all that statements and calls make of it
+-- what a port tells after a session over such answers, by what it told before: all that statements and calls make of it
 abbrev pub told_behind : List SaidSection → List (Option ℕ) → Option Told → Option Told
-told_behind sections answers before = (run_session from_port sections (record { left = answers; told = before })).behind.source.told
+told_behind sections answers before = (run_session from_port sections (record { left = map at_once answers; told = before })).behind.source.told
 
 -- the answers that a planned driver gives to a session through a port that told this
 abbrev pub planned_over : Told → List SaidSection → List (Option ℕ)
-planned_over t sections = (run_session from_plan sections (record { calls = t.counted; plan = t.plan; bits = t.bits })).behind.took
+planned_over t sections = map answer_in (run_session from_plan sections (record { calls = t.counted; plan = t.plan; bits = t.bits })).behind.took
 
 -- Planned: those that it gives through a new port
 abbrev pub planned : List SaidSection → List (Option ℕ)

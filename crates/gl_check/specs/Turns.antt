@@ -15,7 +15,7 @@ use Rattle.gl_model.specs.declared.device_call.DeviceCall.TheVariants.{Once, Rem
 use Rattle.gl_model.specs.Parts.{Makes, last_reply}
 use Rattle.gl_model.specs.declared.reply.Reply.{Reply}
 use Rattle.gl_model.specs.declared.reply.Reply.TheVariants.{Done, Refused}
-use Rattle.gl_core.specs.Device.{OneDeed, OneEntry, core, last_bytes}
+use Rattle.gl_core.specs.Device.{MayOwn, OneDeed, OneEntry, core, last_bytes}
 use Rattle.gl_asking.specs.declared.kinds.Asking.{Asking}
 use Rattle.gl_asking.specs.declared.kinds.Asking.TheVariants.{Calls, Plans, Accepts, Refuses}
 use Rattle.gl_asking.specs.Asking.{asking, files_behind, got_of}
@@ -82,9 +82,11 @@ module _ (driver : DriverKind) (actor : ℕ) where
   PortBy true map op e before after = WasAsked map op e before after
 
   -- A call of the device was made, for which the driver is asked this: its deeds are parts of the call, and reply and bytes are the last one's.
+  -- The entries that the driver made of its own are such as any may make.
   pub record HasMade (call : DeviceCall) (op : Option Op) (e : Exchange) (before after : Option Told) : Type 0 where
     pub makes : Makes actor e.closed call e.answer e.own (entries_in e.did)
     pub few_own : length e.own ≤ driver.limit
+    pub may_own : MayOwn e.own
     pub reply_is : last_reply (entries_in e.did) ≡ Some e.reply
     pub bytes_are : last_bytes e.did ≡ e.wrote
     pub port : PortBy (was_asked call (entries_in e.did)) (map_of call) op e before after

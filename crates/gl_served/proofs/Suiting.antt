@@ -41,7 +41,7 @@ use Rattle.gl_core.specs.Kept.{StandsFor}
 use Rattle.gl_base.specs.declared.op.Op.{Op}
 use Rattle.gl_asking.proofs.Told.{accepted_got as got_of_bits, planned_got as got_of_plan, refused_got as got_of_refusal}
 use Rattle.gl_asking.specs.Driving.{applies, lines_by, op_asked, op_of, op_on, op_requested}
-use Rattle.gl_check.specs.One.{PlannedPort, Standing, at_guard, bits_asked, comes_to, from_plan, is_asked, performs, performs_as, two, with_answer}
+use Rattle.gl_check.specs.One.{PlannedPort, Standing, at_guard, bits_asked, comes_by, comes_to, from_plan, is_asked, performs, performs_as, two, with_answer}
 use Rattle.gl_check.specs.Buffers.{buffer_for}
 use Rattle.gl_check.specs.Ports.{next_answer}
 use Rattle.gl_check.specs.Seating.{port_in}
@@ -180,7 +180,7 @@ accepted_got files what bits is = got_of_bits files what bits is
 
 -- What the driver answers to an operation, as the code has it of the operation's call.
 abbrev Answered : Option Op → DeviceCall → Type 0
-Answered op call = (w : World) (port : PlannedPort) → comes_to w call (from_plan.next op port) ≡ comes_to w call (next_to call port)
+Answered op call = (w : World) (port : PlannedPort) → comes_by w call (from_plan.next op port) ≡ comes_to w call (next_to call port)
 
 answered_if : (op : Option Op) (call : DeviceCall) (errno : Errno) (b : Bool) → Answered op call → ForCall (Answered op) (if b then Calls call else Refuses errno)
 answered_if op call errno true answered = answered
@@ -199,7 +199,7 @@ abbrev named_to : World → CommandIn → Option Command → Option ℕ → Outc
 named_to w c command answer = at_guard (Some c.place) false w (if is_driver_asked c.of_chip c.len command then two w (in_ask c) (in_tell answer c) else step w 0 (in_whole c))
 
 named_answered : (lines : Lines) (c : CommandIn) (w : World) (port : PlannedPort) (command : Option Command)
-    → named_to w c command (from_plan.next (op_of lines command c.bytes) port) ≡ named_to w c command (next_answer (applies command) port)
+    → named_to w c command (from_plan.next (op_of lines command c.bytes) port).answer ≡ named_to w c command (next_answer (applies command) port)
 named_answered lines c w port None = refl
 named_answered lines c w port (Some ChipInfo) = refl
 named_answered lines c w port (Some LineInfo) = refl
@@ -258,14 +258,14 @@ module _ (what : Do) (s : Standing PlannedPort) (a : Alone) (got : Got) where
   abbrev IsPerformed : Asking → Type 0
   IsPerformed x = (got ≡ (performs_as from_plan x (op_asked s.files what) what s).0) × StandsAs a (performs_as from_plan x (op_asked s.files what) what s).1
 
-  pub performed_call : (call : DeviceCall) → Calls call ≡ asking s.files what → let out = comes_to s.world call (from_plan.next (op_asked s.files what) s.source) in
+  pub performed_call : (call : DeviceCall) → Calls call ≡ asking s.files what → let out = comes_by s.world call (from_plan.next (op_asked s.files what) s.source) in
       got ≡ got_of what out.reply out.bytes → StandsFor a.core out.world → map row_file a.rows.items ≡ files_behind what out.reply s.files → port_in a.port ≡ after_asking (is_asked s.world call) s.source
       → (got ≡ (performs from_plan what s).0) × StandsAs a (performs from_plan what s).1
   performed_call call is gets world files port = subst (λ (x : Asking). IsPerformed x) is (
     gets,
     record {
       world = world;
-      files = files ∙ ap (λ (l : List OpenFile). files_behind what (comes_to s.world call (from_plan.next (op_asked s.files what) s.source)).reply l) (sym (answer_files (is_asked s.world call) (op_asked s.files what) s));
+      files = files ∙ ap (λ (l : List OpenFile). files_behind what (comes_by s.world call (from_plan.next (op_asked s.files what) s.source)).reply l) (sym (answer_files (is_asked s.world call) (op_asked s.files what) s));
       source = port ∙ sym (answer_source (is_asked s.world call) (op_asked s.files what) s);
     },
   )
@@ -290,7 +290,7 @@ module _ (what : Do) (s : Standing PlannedPort) (a : Alone) (got : Got) where
       → ((wrote : List ℕ) → IsFilled what wrote new → got ≡ got_of what reply wrote)
       → (got ≡ (performs from_plan what s).0) × StandsAs a (performs from_plan what s).1
   performed_from call port files reply buffer new is source same handed suited came told left gets =
-      let out : Outcome = comes_to s.world call (from_plan.next (op_asked s.files what) s.source) in
+      let out : Outcome = comes_by s.world call (from_plan.next (op_asked s.files what) s.source) in
       let same_answer : Answered (op_asked s.files what) call = subst (λ (x : Asking). ForCall (Answered (op_asked s.files what)) x) (sym is) (answered s.files what) in
       let made : CameBy call out reply a.core buffer new = subst (λ (o : Outcome). CameBy call o reply a.core buffer new) (sym (same_answer s.world s.source))
       (subst (λ (p : PlannedPort). CameBy call (comes_to s.world call (next_to call p)) reply a.core buffer new) source came) in

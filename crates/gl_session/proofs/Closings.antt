@@ -26,7 +26,7 @@ use Rattle.gl_base.specs.declared.op.Op.{Op}
 use Rattle.gl_model.specs.Calling.{AreOfCalls, Called, IsCalled, made_by}
 use Rattle.gl_model.specs.Claiming.{is_claim_of}
 use Rattle.gl_model.specs.Holders.{HoldersAgree}
-use Rattle.gl_model.specs.declared.device_call.DeviceCall.TheVariants.{Commanding, Once}
+use Rattle.gl_model.specs.declared.device_call.DeviceCall.TheVariants.{Commanding}
 use Rattle.gl_model.specs.Parts.{Makes, last_reply}
 use Rattle.gl_model.specs.World.{World, Request}
 use Rattle.gl_model.specs.declared.call.Call.TheVariants.{OpenChip}
@@ -57,7 +57,6 @@ use Rattle.gl_asking.specs.Files.{OpenFile, chip_file, file_in, is_in, line_file
 use Rattle.gl_check.specs.Many.{ActorPlayed, AllPlayed, Texts, actor_sections, no_section, words_of}
 use Rattle.gl_check.specs.One.{said_in_kind}
 use Rattle.gl_check.specs.Turns.{Carried, Did, Exchange, Follows, IsDone, Said, Turn, carried, did_by}
-use Rattle.gl_check.proofs.Asked.{unmapped}
 use Rattle.gl_session.proofs.Numbering.{ClaimsFrom, IsAnswer, IsMade, IsRefused, get_line_answers, next_after, open_answers}
 use Rattle.gl_session.proofs.Plays.{did_append, follows_then}
 use Rattle.gl_session.proofs.Sections.{says_then}
@@ -301,7 +300,7 @@ module _ (driver : DriverKind) (actor : ℕ) (w : World) (es : List OneEntry) (f
     module _ (e : Exchange) (before after : Option Told) (own : entries_of actor es ≡ entries_in e.did) where
       opens : (slot : ℕ) (word : List ℕ) → IsDone driver actor (once (OpenChip word)) None e before after → Fresh files (DoOpenChip slot word) e.reply e.wrote w.next last_number
       opens slot word is =
-          let one = (unmapped driver actor None e before after (Once (OpenChip word)) is).makes.1.0 in
+          let one = is.makes.1.0 in
           let said : one.0 ≡ e.reply = ap (λ o. reply_or e.reply o) (ap (λ (l : List OneEntry). last_reply l) (sym one.1) ∙ is.reply_is) in
           chip_opened slot word e.reply e.wrote (subst (λ r. IsAnswer w.next last_number r) said (open_answers actor w es word one.0 answered (own ∙ one.1)))
 
@@ -315,8 +314,8 @@ module _ (driver : DriverKind) (actor : ℕ) (w : World) (es : List OneEntry) (f
           by_file same (Some file) found = let called = subst (λ o. IsDone driver actor (on_file o (command_on cmd len bytes)) (op_asked files (DoIoctl slot cmd len bytes made)) e before after) found is in
               request_made slot cmd len bytes made same e.reply e.wrote file found file.of_chip refl
               (get_line_answers actor w es (command_in file.place file.fd file.of_chip cmd (buffer_of len bytes)) e.reply (ap command_of (are_one cmd GET_LINE same)) agree claims answered
-              (ap (λ (l : List OneEntry). last_reply l) own ∙ called.reply_is) e.closed e.answer
-              (subst (λ l. Makes actor e.closed (Commanding (command_in file.place file.fd file.of_chip cmd (buffer_of len bytes))) e.answer [] l) (sym own) (unmapped driver actor (op_asked files (DoIoctl slot cmd len bytes made)) e before after (Commanding (command_in file.place file.fd file.of_chip cmd (buffer_of len bytes))) called).makes))
+              (ap (λ (l : List OneEntry). last_reply l) own ∙ called.reply_is) e.closed e.answer e.own
+              (subst (λ l. Makes actor e.closed (Commanding (command_in file.place file.fd file.of_chip cmd (buffer_of len bytes))) e.answer e.own l) (sym own) called.makes))
 
           by : (b : Bool) → nat_eq cmd GET_LINE ≡ b → Fresh files (DoIoctl slot cmd len bytes made) e.reply e.wrote w.next last_number
           by true same = by_file same (file_in slot files) refl
@@ -355,9 +354,9 @@ made_more (x ∷ calls) called = ap (λ (l : List OneEntry). x.made ++ l) (made_
 of_calls : (driver : DriverKind) (actor : ℕ) (entries : List OneEntry) (a : Asking) (op : Option Op) (e : Exchange) (before after : Option Told) → AreOfCalls StandsFor actor entries → IsDone driver actor a op e before after
     → AreOfCalls StandsFor actor (entries ++ entries_in e.did)
 of_calls driver actor entries (Calls call) op e before after so_far is =
-    let called : Called Kept = record { closed = e.closed; call = call; answer = e.answer; own = []; made = entries_in e.did } in record {
+    let called : Called Kept = record { closed = e.closed; call = call; answer = e.answer; own = e.own; made = entries_in e.did } in record {
       calls = so_far.calls ++ called ∷ [];
-      each = each_added (λ c. IsCalled StandsFor actor c) so_far.calls called (record { makes = (unmapped driver actor op e before after call is).makes; quiet = tt; no_claims = tt }) so_far.each;
+      each = each_added (λ c. IsCalled StandsFor actor c) so_far.calls called (record { makes = is.makes; quiet = is.may_own.quiet; no_claims = is.may_own.no_claims }) so_far.each;
       are = ap (λ (l : List OneEntry). l ++ entries_in e.did) so_far.are ∙ sym (made_more so_far.calls called);
     }
 of_calls driver actor entries (Plans nth) op e before after so_far is =

@@ -1,6 +1,7 @@
 pub mod AllTogether
 pub mod Alone
 pub mod AloneRuns
+pub mod Bare
 pub mod Came
 pub mod Causes
 pub mod Closings

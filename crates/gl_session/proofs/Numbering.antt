@@ -2,6 +2,7 @@
 use Rattle.std.proofs.Common.{◌≡◌, ◌≤◌, ◌<◌, ◌⊎◌, inl, inr, ℕ, Bool, true, false, cond, List, [], ◌∷◌, ◌++◌, length, map, Option, None, Some, refl, sym, ◌∙◌, ap, subst, arith}
 use Rattle.std.specs.Prelude.{◌==◌, nat_lt, take, find}
 use Rattle.std.proofs.lemmas.Bool.{true≢false}
+use Rattle.std.proofs.lemmas.List.{append_assoc}
 use Rattle.gl_base.specs.Refusals.{first_of, when}
 use Rattle.gl_base.specs.Rows.{Each, change_first, without_first}
 use Rattle.gl_base.specs.declared.errno.Errno.{Errno}
@@ -230,6 +231,28 @@ after_entry : (a : ℕ) (w : World) (es : List OneEntry) (x : OneEntry) (xs : Li
     → fold_from core w es ≡ fold_from core (step (fold_from core w n.before) x.actor x.call).world n.behind
 after_entry a w es x xs n = ap (λ (l : List OneEntry). fold_from core w l) n.at ∙ fold_append core w n.before (x ∷ n.behind)
 
+-- where the last of an actor's entries stands
+record LastEntry (a : ℕ) (w : World) (es : List OneEntry) (x : OneEntry) : Type 0 where
+  pub before : List OneEntry
+  pub behind : List OneEntry
+  pub at : es ≡ before ++ x ∷ behind
+  pub reply : x.reply ≡ (step (fold_from core w before) x.actor x.call).reply
+
+last_entry : (a : ℕ) (front : List OneEntry) (w : World) (es : List OneEntry) (x : OneEntry) → AnsweredFrom core w es → entries_of a es ≡ front ++ x ∷ [] → LastEntry a w es x
+last_entry a [] w es x answered is = let n = next_entry a w es x [] answered is in record { before = n.before; behind = n.behind; at = n.at; reply = n.reply }
+last_entry a (e ∷ front) w es x answered is =
+    let n = next_entry a w es e (front ++ x ∷ []) answered is in
+    let l = last_entry a front (step (fold_from core w n.before) e.actor e.call).world n.behind x n.answered n.own in record {
+      before = n.before ++ e ∷ l.before;
+      behind = l.behind;
+      at = n.at ∙ ap (λ (later : List OneEntry). n.before ++ e ∷ later) l.at ∙ sym (append_assoc n.before (e ∷ l.before) (x ∷ l.behind));
+      reply = l.reply ∙ ap (λ (v : World). (step v x.actor x.call).reply) (sym (fold_append core w n.before (e ∷ l.before)));
+    }
+
+last_said : (e : OneEntry) (own : List OneEntry) (x : OneEntry) → last_reply (e ∷ (own ++ x ∷ [])) ≡ Some x.reply
+last_said e [] x = refl
+last_said e (o ∷ own) x = last_said o own x
+
 abbrev value_or : Reply → Option Reply → Reply
 value_or d None = d
 value_or d (Some x) = x
@@ -269,44 +292,39 @@ module _ (a : ℕ) (w : World) (es : List OneEntry) (c : CommandIn) (reply : Rep
         let n = next_entry a w es (entry a (in_whole c) told) [] answered is in
         subst IsRefused (sym n.reply ∙ last_is (entry a (in_whole c) told) is) (whole_refused (fold_from core w n.before) a c.place c.fd c.cmd c.len c.bytes command)
 
-    rest_answers : (answer : Option ℕ) (asked : Reply) (rest : List OneEntry) (b : Bool) → entries_of a es ≡ entry a (in_ask c) asked ∷ rest → is_go asked ≡ b
-        → MakesRest a b (in_tell answer c) [] rest → IsAnswer w.next high reply
-    rest_answers answer asked rest false is go makes =
+    rest_answers : (answer : Option ℕ) (own : List OneEntry) (asked : Reply) (rest : List OneEntry) (b : Bool) → entries_of a es ≡ entry a (in_ask c) asked ∷ rest → is_go asked ≡ b
+        → MakesRest a b (in_tell answer c) own rest → IsAnswer w.next high reply
+    rest_answers answer own asked rest false is go makes =
         let one : entries_of a es ≡ entry a (in_ask c) asked ∷ [] = is ∙ ap (λ (l : List OneEntry). entry a (in_ask c) asked ∷ l) makes.0 in
         let n = next_entry a w es (entry a (in_ask c) asked) [] answered one in
         let form : has_form (in_ask c) asked ≡ true = subst (λ r. has_form (in_ask c) r ≡ true) (sym n.reply) (replies_have_form.form (fold_from core w n.before) a (in_ask c)) in
         inr (subst IsRefused (last_is (entry a (in_ask c) asked) one) (ask_refused c.place c.fd c.cmd c.len c.bytes asked command form go))
-    rest_answers answer asked rest true is go makes =
+    rest_answers answer own asked rest true is go makes =
+        let ask : OneEntry = entry a (in_ask c) asked in
         let tell : OneEntry = entry a (in_tell answer c) makes.0 in
-        let two : entries_of a es ≡ entry a (in_ask c) asked ∷ tell ∷ [] = is ∙ ap (λ (l : List OneEntry). entry a (in_ask c) asked ∷ l) makes.1 in
-        let n = next_entry a w es (entry a (in_ask c) asked) (tell ∷ []) answered two in
-        let v : World = fold_from core w n.before in
-        let u : World = (step v a (in_ask c)).world in
-        let m = next_entry a u n.behind tell [] n.answered n.own in
-        let x : World = fold_from core u m.before in
-        let from_v = claims_after a w.next w n.before (omega arith) claims in
-        let rise = next_after w n.before in
-        let from_u = claims_step a w.next v a (in_ask c) rise from_v in
-        let rise_u = next_rises v a (in_ask c) in
-        let from_x = claims_after a w.next u m.before (omega (arith, rise, rise_u)) from_u in
-        let agree_x : HoldersAgree x = agree_after u m.before (holders_stay_agreed v a (in_ask c) (agree_after w n.before agree)) in
+        let all : entries_of a es ≡ (ask ∷ own) ++ tell ∷ [] = is ∙ ap (λ (l : List OneEntry). ask ∷ l) makes.1 in
+        let n = last_entry a (ask ∷ own) w es tell answered all in
+        let x : World = fold_from core w n.before in
+        let from_x = claims_after a w.next w n.before (omega arith) claims in
+        let agree_x : HoldersAgree x = agree_after w n.before agree in
         let told : IsAnswer w.next x.next (step x a (in_tell answer c)).reply = by_command (λ out. IsAnswer w.next x.next out.reply) x a c.place c.fd c.cmd c.len c.bytes (Tell answer) command (told_number a c.place answer c.len c.bytes x w.next agree_x from_x) in
-        let said : makes.0 ≡ reply = ap (λ o. value_or reply o) (ap (λ (l : List OneEntry). last_reply l) (sym two) ∙ last) in
+        let said : makes.0 ≡ reply = ap (λ o. value_or reply o) (sym (last_said ask own tell) ∙ ap (λ (l : List OneEntry). last_reply l) (sym all) ∙ last) in
         let here = next_rises x a (in_tell answer c) in
-        let on = next_after (step x a (in_tell answer c)).world m.behind in
-        let end : high ≡ (fold_from core (step x a (in_tell answer c)).world m.behind).next =
-        ap (λ (y : World). y.next) (after_entry a w es (entry a (in_ask c) asked) (tell ∷ []) n ∙ after_entry a u n.behind tell [] m) in
-        widen w.next x.next w.next high reply (omega arith) (omega (arith, here, on, end)) (subst (λ r. IsAnswer w.next x.next r) (sym m.reply ∙ said) told)
+        let on = next_after (step x a (in_tell answer c)).world n.behind in
+        let end : high ≡ (fold_from core (step x a (in_tell answer c)).world n.behind).next =
+        ap (λ (y : World). y.next) (ap (λ (l : List OneEntry). fold_from core w l) n.at ∙ fold_append core w n.before (tell ∷ n.behind)) in
+        widen w.next x.next w.next high reply (omega arith) (omega (arith, here, on, end)) (subst (λ r. IsAnswer w.next x.next r) (sym n.reply ∙ said) told)
 
-    inside_answers : (of_chip asked : Bool) (answer : Option ℕ) → is_driver_asked of_chip c.len (Some GetLine) ≡ asked → MakesCommand a asked answer c [] (entries_of a es) → IsMade of_chip w.next high reply
-    inside_answers of_chip false answer is makes = refused_made of_chip w.next high reply (whole_answers makes.0.0 makes.0.1)
-    inside_answers true true answer is makes = rest_answers answer makes.0 makes.1 (is_go makes.0) makes.2 refl makes.3
-    inside_answers false true answer is makes = absurd (true≢false (sym is))
+    inside_answers : (of_chip asked : Bool) (answer : Option ℕ) (own : List OneEntry) → is_driver_asked of_chip c.len (Some GetLine) ≡ asked → MakesCommand a asked answer c own (entries_of a es) → IsMade of_chip w.next high reply
+    inside_answers of_chip false answer own is makes = refused_made of_chip w.next high reply (whole_answers makes.0.0 makes.0.1)
+    inside_answers true true answer own is makes = rest_answers answer own makes.0 makes.1 (is_go makes.0) makes.2 refl makes.3
+    inside_answers false true answer own is makes = absurd (true≢false (sym is))
 
-    at_guard : (closed : Bool) (answer : Option ℕ) → Makes a closed (Commanding c) answer [] (entries_of a es) → IsMade c.of_chip w.next high reply
-    at_guard true answer makes = refused_made c.of_chip w.next high reply (NoDev, sym (last_is (entry a (RefusedCall c.place false) (guard_reply false)) makes.1.0))
-    at_guard false answer makes = inside_answers c.of_chip (is_driver_asked c.of_chip c.len (Some GetLine)) answer refl
-        (subst (λ o. MakesCommand a (is_driver_asked c.of_chip c.len o) answer c [] (entries_of a es)) command makes.1)
+    at_guard : (closed : Bool) (answer : Option ℕ) (own : List OneEntry) → Makes a closed (Commanding c) answer own (entries_of a es) → IsMade c.of_chip w.next high reply
+    at_guard true answer own makes = refused_made c.of_chip w.next high reply (NoDev, sym (last_is (entry a (RefusedCall c.place false) (guard_reply false)) makes.1.0))
+    at_guard false answer own makes = inside_answers c.of_chip (is_driver_asked c.of_chip c.len (Some GetLine)) answer own refl
+        (subst (λ o. MakesCommand a (is_driver_asked c.of_chip c.len o) answer c own (entries_of a es)) command makes.1)
 
-    pub get_line_answers : (closed : Bool) (answer : Option ℕ) → Makes a closed (Commanding c) answer [] (entries_of a es) → IsMade c.of_chip w.next high reply
-    get_line_answers closed answer makes = at_guard closed answer makes
+    -- whatever entries the driver made of its own
+    pub get_line_answers : (closed : Bool) (answer : Option ℕ) (own : List OneEntry) → Makes a closed (Commanding c) answer own (entries_of a es) → IsMade c.of_chip w.next high reply
+    get_line_answers closed answer own makes = at_guard closed answer own makes

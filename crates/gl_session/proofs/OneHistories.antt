@@ -1,14 +1,16 @@
 -- One actor alone: its deeds are taken off the history one after another, and between its calls no place is Leaving. Over every
 -- machine.
-use Rattle.std.proofs.Common.{◌≡◌, ℕ, suc, ◌<◌, ◌≤◌, List, [], ◌∷◌, length, sym, refl, ap, ◌∙◌, subst, arith, Some}
-use Rattle.std.specs.Prelude.{Contains}
+use Rattle.std.proofs.Common.{◌≡◌, ℕ, suc, ◌<◌, ◌≤◌, Bool, true, false, List, [], ◌∷◌, ◌++◌, length, sym, refl, ap, ◌∙◌, subst, arith, Some, ne_eqb}
+use Rattle.std.specs.Prelude.{Contains, cond, ◌==◌}
+use Rattle.std.proofs.lemmas.Bool.{true≢false}
 use mathlib.Core.Logic.{dite}
-use native.Mathlib.Decide.{dec_lt}
+use native.Mathlib.Decide.{dec_lt, ℕ_discrete}
 use Rattle.gl_world.specs.declared.machine.Machine.{Ghosts}
 use Rattle.gl_world.specs.declared.history.Entry.{Entry}
-use Rattle.gl_world.specs.History.{AnsweredFrom, PlacedFrom, entry, stage}
+use Rattle.gl_world.specs.History.{AnsweredFrom, PlacedFrom, entries_of, entry, stage}
 use Rattle.gl_world.specs.Deeds.{Deed, deed_in, deeds_from, entries_in}
 use Rattle.gl_world.specs.Laws.{Laws}
+use Rattle.gl_world.proofs.Deeds.{deeds_entries}
 
 nothing_in : (p : ℕ) → Contains {X = ℕ} [] p → ⊥
 nothing_in p c = let less = c.1 in absurd (omega arith)
@@ -41,10 +43,45 @@ module _ {M C R G : Type 0} where
   one_deed (x ∷ []) e is = (x, refl, ap (entry_or e) is)
   one_deed (x ∷ y ∷ ys) e is = let z : length (x.entry ∷ y.entry ∷ entries_in ys) ≡ length (e ∷ []) = ap (λ l. length l) is in absurd (omega arith)
 
-  pub two_deeds : (did : List (Deed M C R G)) (e f : Entry M C R G) → entries_in did ≡ e ∷ f ∷ []
-      → (x : Deed M C R G) × (y : Deed M C R G) × (did ≡ x ∷ y ∷ []) × (x.entry ≡ e) × (y.entry ≡ f)
-  two_deeds [] e f is = let z : 0 ≡ length (e ∷ f ∷ []) = ap (λ l. length l) is in absurd (omega arith)
-  two_deeds (x ∷ xs) e f is = let o = one_deed xs f (ap other_entries is) in (x, o.0, ap (λ l. x ∷ l) o.1, ap (entry_or e) is, o.2)
+  -- the first deed, and the rest
+  pub head_deed : (did : List (Deed M C R G)) (e : Entry M C R G) (es : List (Entry M C R G)) → entries_in did ≡ e ∷ es
+      → (x : Deed M C R G) × (xs : List (Deed M C R G)) × (did ≡ x ∷ xs) × (x.entry ≡ e) × (entries_in xs ≡ es)
+  head_deed [] e es is = let z : 0 ≡ length (e ∷ es) = ap (λ l. length l) is in absurd (omega arith)
+  head_deed (x ∷ xs) e es is = (x, xs, refl, ap (entry_or e) is, ap other_entries is)
+
+  -- the last deed, and those before it
+  pub last_deed : (did : List (Deed M C R G)) (own : List (Entry M C R G)) (f : Entry M C R G) → entries_in did ≡ own ++ f ∷ []
+      → (inner : List (Deed M C R G)) × (y : Deed M C R G) × (did ≡ inner ++ y ∷ []) × (entries_in inner ≡ own) × (y.entry ≡ f)
+  last_deed did [] f is = let o = one_deed did f is in ([], o.0, o.1, refl, o.2)
+  last_deed did (e ∷ own) f is =
+      let first = head_deed did e (own ++ f ∷ []) is in
+      let later = last_deed first.1 own f first.4 in (
+        first.0 ∷ later.0,
+        later.1,
+        first.2 ∙ ap (λ l. first.0 ∷ l) later.2,
+        (λ i. first.3 i ∷ later.3 i),
+        later.4,
+      )
+
+  pub no_deeds : (did : List (Deed M C R G)) → entries_in did ≡ [] → did ≡ []
+  no_deeds [] is = refl
+  no_deeds (x ∷ xs) is = let z : length (x.entry ∷ entries_in xs) ≡ 0 = ap (λ l. length l) is in absurd (omega arith)
+
+  -- entries that are all of an actor's own
+  few_of : (n : ℕ) (es : List (Entry M C R G)) → length (entries_of n es) ≤ length es
+  few_of n [] = omega arith
+  few_of n (e ∷ es) = by (e.actor == n) (few_of n es)
+    where
+      by : (b : Bool) → length (entries_of n es) ≤ length es → length (cond b (e ∷ entries_of n es) (entries_of n es)) ≤ length (e ∷ es)
+      by true few = omega arith
+      by false few = omega arith
+
+  own_first : (n : ℕ) (e : Entry M C R G) (es : List (Entry M C R G)) → entries_of n (e ∷ es) ≡ e ∷ es → e.actor ≡ n
+  own_first n e es all = dite (ℕ_discrete e.actor n) (λ is. is) (λ other. absurd (by (e.actor == n) (ne_eqb e.actor n other) all))
+    where
+      by : (b : Bool) → b ≡ false → cond b (e ∷ entries_of n es) (entries_of n es) ≡ e ∷ es → ⊥
+      by false is h = let same : length (entries_of n es) ≡ length (e ∷ es) = ap (λ l. length l) h in let few = few_of n es in omega arith
+      by true is h = true≢false is
 
 module _ {M C R G : Type 0} (m : Ghosts M C R G) where
   -- what is left of a history that actor 0 made alone, from this world on: just these deeds
@@ -62,6 +99,10 @@ module _ {M C R G : Type 0} (m : Ghosts M C R G) where
     pub named : (p : ℕ) → m.place_of call ≡ Some p → stage m w p < 3
     pub refused : (p : ℕ) → m.refused_at call ≡ Some p → 2 ≤ stage m w p
     pub fits : m.FitsCall call
+
+  -- whoever made a deed of these, it is the actor's
+  pub rest_own : (w : m.World) (d : Deed M C R G) (ds : List (Deed M C R G)) → Rest w (d ∷ ds) → d.entry.actor ≡ 0
+  rest_own w d ds rest = own_first 0 d.entry (entries_in ds) (sym (deeds_entries m w 0 (d.entry ∷ entries_in ds)) ∙ ap entries_in rest.deeds)
 
   -- no place is Leaving
   abbrev pub IsSteady : m.World → Type 0

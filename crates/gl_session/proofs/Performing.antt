@@ -9,12 +9,11 @@ use Rattle.gl_base.specs.declared.operation.Do.{Do}
 use Rattle.gl_base.specs.declared.operation.Got.{Got}
 use Rattle.gl_world.specs.Deeds.{deeds_of, entries_in}
 use Rattle.gl_gate.specs.Grown.{Grew}
-use Rattle.gl_driver.specs.Told.{PortAfter, Told, with_bits, with_plan}
+use Rattle.gl_driver.specs.Told.{Told, with_bits, with_plan}
 use Rattle.gl_model.specs.declared.device_call.DeviceCall.{DeviceCall}
 use Rattle.gl_model.specs.declared.reply.Reply.{Reply}
 use Rattle.gl_model.specs.declared.reply.Reply.TheVariants.{Done as DoneReply, Refused as RefusedReply}
-use Rattle.gl_model.specs.Parts.{Makes}
-use Rattle.gl_core.specs.Device.{core, tells_in}
+use Rattle.gl_core.specs.Device.{core}
 use Rattle.gl_asking.specs.declared.kinds.Asking.{Asking}
 use Rattle.gl_asking.specs.declared.kinds.Asking.TheVariants.{Calls, Plans, Accepts, Refuses}
 use Rattle.gl_asking.specs.declared.kinds.FileKind.{FileKind}
@@ -22,15 +21,12 @@ use Rattle.gl_asking.specs.Asking.{asking, files_behind, got_of}
 use Rattle.gl_asking.specs.Changes.{IsFilled}
 use Rattle.gl_asking.specs.Driving.{op_asked}
 use Rattle.gl_asking.specs.Files.{OpenFile}
-use Rattle.gl_chip.specs.Called.{HasCalled}
 use Rattle.gl_chip.specs.Orders.{CouldNot, WroteTo, op_ordered}
 use Rattle.gl_chip.specs.Steps.{FoundNoRoom}
 use Rattle.gl_chip.specs.Values.{ActorValue, OneView}
-use Rattle.gl_chip.proofs.Telling.{none_own}
 use Rattle.gl_check.specs.Drivers.{DriverKind}
-use Rattle.gl_check.specs.Turns.{Carried, Exchange, IsDone}
-use Rattle.gl_check.proofs.Asked.{port_asked}
-use Rattle.gl_session.specs.Performed.{HasPerformed, IsCall, Performs}
+use Rattle.gl_check.specs.Turns.{Carried, Exchange, IsDone, PortBy, map_of, was_asked}
+use Rattle.gl_session.specs.Performed.{HasPerformed, IsCall, MadeFor, Performs, exchange}
 use Rattle.gl_check.specs.Buffers.{buffer_for}
 use Rattle.gl_session.proofs.Suiting.{Suits}
 
@@ -46,24 +42,23 @@ unmoved v = record {
 }
 
 module _ (driver : DriverKind) (what : Do) (v w : OneView) (s r : Carried) where
-  -- An operation that is a call: it was made by a device whose driver makes no entries of its own.
-  made_exchange : (u : OneView) (call : DeviceCall) (reply : Reply) (bytes : List ℕ) (got : Got) → Calls call ≡ asking s.files what → got ≡ got_of what reply bytes → r.files ≡ files_behind what reply s.files
-      → (called : HasCalled 0 v call reply bytes u) → PortAfter driver.is_planned (op_asked s.files what) (tells_in (entries_in called.did)) s.told r.told
-      → HasPerformed driver what v s got u r
-  made_exchange u call reply bytes got asks gets files called port =
-      let e : Exchange = record { what = what; closed = called.closed; answer = called.answer; own = []; did = called.did; reply = reply; wrote = bytes } in
-      let makes = subst (λ own. Makes v.number called.closed call called.answer own (entries_in called.did)) (none_own called.own called.few_own) called.makes in
+  -- An operation that is a call.
+  made_exchange : (u : OneView) (call : DeviceCall) (on : FileKind) (reply : Reply) (bytes : List ℕ) (got : Got) → Calls call ≡ asking s.files what → op_asked s.files what ≡ op_ordered call on → got ≡ got_of what reply bytes
+      → r.files ≡ files_behind what reply s.files → MadeFor driver call on v reply bytes u s.told r.told → HasPerformed driver what v s got u r
+  made_exchange u call on reply bytes got asks op gets files made = let called = made.called in
+      let e : Exchange = exchange what called.closed called.answer called.own called.did reply bytes in
       record {
         exchange = e;
         what_is = refl;
         got_is = gets;
         carries = record {
           is_done = subst (λ (a : Asking). IsDone driver v.number a (op_asked s.files what) e s.told r.told) asks (record {
-            makes = makes;
-            few_own = omega arith;
+            makes = called.makes;
+            few_own = called.few_own;
+            may_own = called.may_own;
             reply_is = called.reply_is;
             bytes_are = called.bytes_are;
-            port = port_asked driver v.number (op_asked s.files what) e s.told r.told call refl makes port;
+            port = subst (λ (o : Option Op). PortBy driver v.number (was_asked call (entries_in called.did)) (map_of call) o e s.told r.told) (sym op) (made.port what);
           });
           files = files;
         };
@@ -73,17 +68,16 @@ module _ (driver : DriverKind) (what : Do) (v w : OneView) (s r : Carried) where
   -- The call was made with this buffer, which is as it came back, and left the files as they were; then they were changed by its reply.
   pub call_performs : (call : DeviceCall) (on : FileKind) (reply : Reply) (old came new : List ℕ) (got : Got) (result : Result Got Errno) (u : OneView) (m : Carried)
       → Calls call ≡ asking s.files what → Suits what (op_asked s.files what) on call → old ≡ buffer_for what → new ≡ came
-      → (bytes : List ℕ) × WroteTo call bytes old came × (called : HasCalled 0 v call reply bytes u) × PortAfter driver.is_planned (op_ordered call on) (tells_in (entries_in called.did)) s.told m.told
+      → (bytes : List ℕ) × WroteTo call bytes old came × MadeFor driver call on v reply bytes u s.told m.told
       → m.files ≡ s.files → w ≡ u → r.told ≡ m.told
       → ((wrote : List ℕ) → IsFilled what wrote new → got ≡ got_of what reply wrote)
       → IfOk result (λ g. (g ≡ got) × (r.files ≡ files_behind what reply m.files)) → IsOkUnless result NoMemory
       → Performs driver what result v s w r
-  call_performs call on reply old came new got (Ok g) u m asks suits handed back (bytes, wrote, called, port) kept same told gets settled memory =
+  call_performs call on reply old came new got (Ok g) u m asks suits handed back (bytes, wrote, made) kept same told gets settled memory =
       let wrote_so : WroteTo call bytes (buffer_for what) new = subst (λ (x : List ℕ × List ℕ). WroteTo call bytes x.0 x.1) (λ i. (handed i, sym back i)) wrote in
-      let port_so : PortAfter driver.is_planned (op_asked s.files what) (tells_in (entries_in called.did)) s.told r.told
-      = subst (λ (x : Option Op × Option Told). PortAfter driver.is_planned x.0 (tells_in (entries_in called.did)) s.told x.1) (λ i. (sym suits.op i, sym told i)) port in
+      let made_so : MadeFor driver call on v reply bytes u s.told r.told = subst (λ (t : Option Told). MadeFor driver call on v reply bytes u s.told t) (sym told) made in
       subst (λ (x : OneView). HasPerformed driver what v s g x r) (sym same)
-      (made_exchange u call reply bytes g asks (settled.0 ∙ gets bytes (suits.filled bytes new wrote_so)) (settled.1 ∙ ap (λ (l : List OpenFile). files_behind what reply l) kept) called port_so)
+      (made_exchange u call on reply bytes g asks suits.op (settled.0 ∙ gets bytes (suits.filled bytes new wrote_so)) (settled.1 ∙ ap (λ (l : List OpenFile). files_behind what reply l) kept) made_so)
   call_performs call on reply old came new got (Err errno) u m asks suits handed back made kept same told gets settled memory = inl memory
 
   -- the call wasn't made

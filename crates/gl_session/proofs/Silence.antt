@@ -137,6 +137,7 @@ module _ (driver : DriverKind) where
   made_untold n op e before after call h = record {
     makes = h.makes;
     few_own = h.few_own;
+    may_own = h.may_own;
     reply_is = h.reply_is;
     bytes_are = h.bytes_are;
     port = port_untold n (was_asked call (entries_in e.did)) (map_of call) op e before after h.port;
@@ -147,6 +148,7 @@ module _ (driver : DriverKind) where
   made_plainly n op e before after call h = let u = unmapped driver n op e before after call h in record {
     makes = h.makes;
     few_own = subst (λ (own : List OneEntry). length own ≤ 0) (sym u.own) (omega arith);
+    may_own = h.may_own;
     reply_is = h.reply_is;
     bytes_are = h.bytes_are;
     port = port_asked (as_plain driver) n op e before after call u.own u.makes u.port;

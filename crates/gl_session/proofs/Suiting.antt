@@ -47,7 +47,7 @@ pub record Suits (what : Do) (asked : Option Op) (on : FileKind) (call : DeviceC
   pub buffer : FitsOut call (buffer_for what)
   pub op : asked ≡ op_ordered call on
   pub filled : (bytes new : List ℕ) → WroteTo call bytes (buffer_for what) new → IsFilled what bytes new
-  pub opens : (v w : OneView) (reply : Reply) (bytes : List ℕ) → HasCalled 0 v call reply bytes w → AnswersOrder call on reply → OpensWithin what reply
+  pub opens : (limit : ℕ) (v w : OneView) (reply : Reply) (bytes : List ℕ) → HasCalled limit v call reply bytes w → AnswersOrder call on reply → OpensWithin what reply
   pub named : (row : Option FileRow) (answered : Answered) → kind_of row ≡ on → GivesLines call on answered → NamesMade what row answered
 
 abbrev ForCall : (DeviceCall → Type 0) → Asking → Type 0
@@ -64,16 +64,16 @@ chosen what on call errno true suits = suits
 chosen what on call errno false suits = tt
 
 read_suits : (slot len : ℕ) (on : FileKind) (file : OpenFile) (of_chip : Bool) → ForOp (ReadFile slot len) None on (once (if of_chip then ReadInfo file.place file.fd len else ReadEdges file.place file.fd len))
-read_suits slot len on file true = record { file = tt; buffer = length-replicate len 0; op = refl; filled = λ bytes new w. w; opens = λ v w reply bytes called form. tt; named = λ row answered at gives. tt }
-read_suits slot len on file false = record { file = tt; buffer = length-replicate len 0; op = refl; filled = λ bytes new w. w; opens = λ v w reply bytes called form. tt; named = λ row answered at gives. tt }
+read_suits slot len on file true = record { file = tt; buffer = length-replicate len 0; op = refl; filled = λ bytes new w. w; opens = λ limit v w reply bytes called form. tt; named = λ row answered at gives. tt }
+read_suits slot len on file false = record { file = tt; buffer = length-replicate len 0; op = refl; filled = λ bytes new w. w; opens = λ limit v w reply bytes called form. tt; named = λ row answered at gives. tt }
 
 read_on : (slot len : ℕ) (on : FileKind) (o : Option OpenFile) → ForOp (ReadFile slot len) None on (on_file o (λ file. once (reads_from len file)))
 read_on slot len on None = tt
 read_on slot len on (Some file) = read_suits slot len on file file.of_chip
 
 poll_suits : (slot : ℕ) (on : FileKind) (file : OpenFile) (of_chip : Bool) → ForOp (Poll slot) None on (once (if of_chip then PollChip file.place file.fd else PollLine file.place file.fd))
-poll_suits slot on file true = record { file = tt; buffer = tt; op = refl; filled = λ bytes new w. tt; opens = λ v w reply bytes called form. tt; named = λ row answered at gives. tt }
-poll_suits slot on file false = record { file = tt; buffer = tt; op = refl; filled = λ bytes new w. tt; opens = λ v w reply bytes called form. tt; named = λ row answered at gives. tt }
+poll_suits slot on file true = record { file = tt; buffer = tt; op = refl; filled = λ bytes new w. tt; opens = λ limit v w reply bytes called form. tt; named = λ row answered at gives. tt }
+poll_suits slot on file false = record { file = tt; buffer = tt; op = refl; filled = λ bytes new w. tt; opens = λ limit v w reply bytes called form. tt; named = λ row answered at gives. tt }
 
 poll_on : (slot : ℕ) (on : FileKind) (o : Option OpenFile) → ForOp (Poll slot) None on (on_file o (λ file. once (polls file)))
 poll_on slot on None = tt
@@ -81,19 +81,19 @@ poll_on slot on (Some file) = poll_suits slot on file file.of_chip
 
 close_on : (slot : ℕ) (on : FileKind) (o : Option OpenFile) → ForOp (DoClose slot) None on (on_file o (λ file. once (Close file.fd)))
 close_on slot on None = tt
-close_on slot on (Some file) = record { file = tt; buffer = tt; op = refl; filled = λ bytes new w. tt; opens = λ v w reply bytes called form. tt; named = λ row answered at gives. tt }
+close_on slot on (Some file) = record { file = tt; buffer = tt; op = refl; filled = λ bytes new w. tt; opens = λ limit v w reply bytes called form. tt; named = λ row answered at gives. tt }
 
 find_on : (slot : ℕ) (name : List ℕ) (on : FileKind) (o : Option OpenFile) → ForOp (DoFind (Some slot) name) None on (on_file o (λ file. once (Find (Some file.place) name)))
 find_on slot name on None = tt
-find_on slot name on (Some file) = record { file = tt; buffer = tt; op = refl; filled = λ bytes new w. tt; opens = λ v w reply bytes called form. tt; named = λ row answered at gives. tt }
+find_on slot name on (Some file) = record { file = tt; buffer = tt; op = refl; filled = λ bytes new w. tt; opens = λ limit v w reply bytes called form. tt; named = λ row answered at gives. tt }
 
 find_suits : (slot : Option ℕ) (name : List ℕ) (on : FileKind) (files : List OpenFile) → ForOp (DoFind slot name) None on (finds slot name files)
-find_suits None name on files = record { file = tt; buffer = tt; op = refl; filled = λ bytes new w. tt; opens = λ v w reply bytes called form. tt; named = λ row answered at gives. tt }
+find_suits None name on files = record { file = tt; buffer = tt; op = refl; filled = λ bytes new w. tt; opens = λ limit v w reply bytes called form. tt; named = λ row answered at gives. tt }
 find_suits (Some slot) name on files = find_on slot name on (file_in slot files)
 
 live_suits : (device : List ℕ) (up : Bool) (on : FileKind) → ForOp (DoLive device up) None on (lives device up)
-live_suits device true on = record { file = tt; buffer = tt; op = refl; filled = λ bytes new w. tt; opens = λ v w reply bytes called form. tt; named = λ row answered at gives. tt }
-live_suits device false on = record { file = tt; buffer = tt; op = refl; filled = λ bytes new w. tt; opens = λ v w reply bytes called form. tt; named = λ row answered at gives. tt }
+live_suits device true on = record { file = tt; buffer = tt; op = refl; filled = λ bytes new w. tt; opens = λ limit v w reply bytes called form. tt; named = λ row answered at gives. tt }
+live_suits device false on = record { file = tt; buffer = tt; op = refl; filled = λ bytes new w. tt; opens = λ limit v w reply bytes called form. tt; named = λ row answered at gives. tt }
 
 -- a reply that tells a number tells a small one
 
@@ -147,7 +147,7 @@ command_kind slot cmd len made place fd bytes Chip has = record {
   buffer = refl;
   op = refl;
   filled = λ wrote new w. w;
-  opens = λ v w reply wrote called form. command_opens slot cmd len made place fd bytes true (lines_named (buffer_of len bytes)) reply form;
+  opens = λ limit v w reply wrote called form. command_opens slot cmd len made place fd bytes true (lines_named (buffer_of len bytes)) reply form;
   named = λ row answered at gives. λ is n e chip. gives n e;
 }
 command_kind slot cmd len made place fd bytes (Request lines) has = record {
@@ -155,7 +155,7 @@ command_kind slot cmd len made place fd bytes (Request lines) has = record {
   buffer = refl;
   op = refl;
   filled = λ wrote new w. w;
-  opens = λ v w reply wrote called form. command_opens slot cmd len made place fd bytes false lines reply form;
+  opens = λ limit v w reply wrote called form. command_opens slot cmd len made place fd bytes false lines reply form;
   named = λ row answered at gives. λ is n e chip. absurd (true≢false (sym chip ∙ request_on row lines at));
 }
 
@@ -177,23 +177,23 @@ module _ (files : List OpenFile) (row : Option FileRow) where
     buffer = tt;
     op = refl;
     filled = λ bytes new w. tt;
-    opens = λ v w reply bytes called form. (opened_small word reply form, named_within v w word reply (opened_in 0 v w word reply bytes called));
+    opens = λ limit v w reply bytes called form. (opened_small word reply form, named_within v w word reply (opened_in limit v w word reply bytes called));
     named = λ row answered at gives. tt;
   }
 
   suits : (what : Do) → IsSomeRow row → file_for what files ≡ file_of row → ForOp what (op_asked files what) (kind_of row) (asking files what)
-  suits (DoProbe label lines) is at = chosen (DoProbe label lines) _ _ _ (has_lines lines) (record { file = tt; buffer = tt; op = refl; filled = λ bytes new w. tt; opens = λ v w reply bytes called form. tt; named = λ row answered at gives. tt })
-  suits (DoUnplug place) is at = chosen (DoUnplug place) _ _ _ (nat_lt place PLACES) (record { file = tt; buffer = tt; op = refl; filled = λ bytes new w. tt; opens = λ v w reply bytes called form. tt; named = λ row answered at gives. tt })
-  suits (DoMakeDir path) is at = record { file = tt; buffer = tt; op = refl; filled = λ bytes new w. tt; opens = λ v w reply bytes called form. tt; named = λ row answered at gives. tt }
-  suits (DoRemoveDir path) is at = record { file = tt; buffer = tt; op = refl; filled = λ bytes new w. tt; opens = λ v w reply bytes called form. tt; named = λ row answered at gives. tt }
-  suits (DoWrite path value) is at = record { file = tt; buffer = tt; op = refl; filled = λ bytes new w. tt; opens = λ v w reply bytes called form. tt; named = λ row answered at gives. tt }
-  suits (DoRead path) is at = record { file = tt; buffer = tt; op = refl; filled = λ bytes new w. tt; opens = λ v w reply bytes called form. tt; named = λ row answered at gives. tt }
+  suits (DoProbe label lines) is at = chosen (DoProbe label lines) _ _ _ (has_lines lines) (record { file = tt; buffer = tt; op = refl; filled = λ bytes new w. tt; opens = λ limit v w reply bytes called form. tt; named = λ row answered at gives. tt })
+  suits (DoUnplug place) is at = chosen (DoUnplug place) _ _ _ (nat_lt place PLACES) (record { file = tt; buffer = tt; op = refl; filled = λ bytes new w. tt; opens = λ limit v w reply bytes called form. tt; named = λ row answered at gives. tt })
+  suits (DoMakeDir path) is at = record { file = tt; buffer = tt; op = refl; filled = λ bytes new w. tt; opens = λ limit v w reply bytes called form. tt; named = λ row answered at gives. tt }
+  suits (DoRemoveDir path) is at = record { file = tt; buffer = tt; op = refl; filled = λ bytes new w. tt; opens = λ limit v w reply bytes called form. tt; named = λ row answered at gives. tt }
+  suits (DoWrite path value) is at = record { file = tt; buffer = tt; op = refl; filled = λ bytes new w. tt; opens = λ limit v w reply bytes called form. tt; named = λ row answered at gives. tt }
+  suits (DoRead path) is at = record { file = tt; buffer = tt; op = refl; filled = λ bytes new w. tt; opens = λ limit v w reply bytes called form. tt; named = λ row answered at gives. tt }
   suits (DoLive device up) is at = live_suits device up (kind_of row)
-  suits (DoTick mono real) is at = record { file = tt; buffer = tt; op = refl; filled = λ bytes new w. tt; opens = λ v w reply bytes called form. tt; named = λ row answered at gives. tt }
-  suits (DoPin place what) is at = chosen (DoPin place what) _ _ _ (nat_lt place PLACES) (record { file = tt; buffer = tt; op = refl; filled = λ bytes new w. tt; opens = λ v w reply bytes called form. tt; named = λ row answered at gives. tt })
-  suits (DoIrq place offset what) is at = chosen (DoIrq place offset what) _ _ _ (nat_lt place PLACES) (record { file = tt; buffer = tt; op = refl; filled = λ bytes new w. tt; opens = λ v w reply bytes called form. tt; named = λ row answered at gives. tt })
-  suits (DoPull place offset up) is at = chosen (DoPull place offset up) _ _ _ (nat_lt place PLACES) (record { file = tt; buffer = tt; op = refl; filled = λ bytes new w. tt; opens = λ v w reply bytes called form. tt; named = λ row answered at gives. tt })
-  suits (DoLevel place offset pull) is at = chosen (DoLevel place offset pull) _ _ _ (nat_lt place PLACES) (record { file = tt; buffer = tt; op = refl; filled = λ bytes new w. tt; opens = λ v w reply bytes called form. tt; named = λ row answered at gives. tt })
+  suits (DoTick mono real) is at = record { file = tt; buffer = tt; op = refl; filled = λ bytes new w. tt; opens = λ limit v w reply bytes called form. tt; named = λ row answered at gives. tt }
+  suits (DoPin place what) is at = chosen (DoPin place what) _ _ _ (nat_lt place PLACES) (record { file = tt; buffer = tt; op = refl; filled = λ bytes new w. tt; opens = λ limit v w reply bytes called form. tt; named = λ row answered at gives. tt })
+  suits (DoIrq place offset what) is at = chosen (DoIrq place offset what) _ _ _ (nat_lt place PLACES) (record { file = tt; buffer = tt; op = refl; filled = λ bytes new w. tt; opens = λ limit v w reply bytes called form. tt; named = λ row answered at gives. tt })
+  suits (DoPull place offset up) is at = chosen (DoPull place offset up) _ _ _ (nat_lt place PLACES) (record { file = tt; buffer = tt; op = refl; filled = λ bytes new w. tt; opens = λ limit v w reply bytes called form. tt; named = λ row answered at gives. tt })
+  suits (DoLevel place offset pull) is at = chosen (DoLevel place offset pull) _ _ _ (nat_lt place PLACES) (record { file = tt; buffer = tt; op = refl; filled = λ bytes new w. tt; opens = λ limit v w reply bytes called form. tt; named = λ row answered at gives. tt })
   suits (DoOpenChip slot word) is at = open_suits slot word
   suits (DoFind slot name) is at = find_suits slot name (kind_of row) files
   suits (DoIoctl slot cmd len bytes made) is at = command_on slot cmd len made bytes row (file_in slot files) is at

@@ -9,14 +9,12 @@ use Rattle.gl_gate.specs.Grown.{Grew}
 use Rattle.gl_gate.proofs.Grown.{grows_on}
 use Rattle.gl_client.specs.Program.{Program, ask, done}
 use Rattle.gl_driver.specs.Told.{Told}
-use Rattle.gl_base.specs.declared.op.Op.{Op}
 use Rattle.gl_model.specs.declared.device_call.DeviceCall.{DeviceCall}
 use Rattle.gl_script.specs.Cost.{session_cost}
 use Rattle.gl_script.specs.Section.{SaidSection}
 use Rattle.gl_talk.specs.Open.{Names}
-use Rattle.gl_driver.specs.declared.map.Map.{Map}
-use Rattle.gl_chip.specs.Values.{IsQuietDriver, OneView, OwnRelation}
-use Rattle.gl_core.specs.Device.{MayOwn, OneDeed, OneEntry, core, tells_in}
+use Rattle.gl_chip.specs.Values.{OneView}
+use Rattle.gl_core.specs.Device.{OneDeed, OneEntry, core, tells_in}
 use Rattle.gl_session.specs.Alone.{Part, PlayedSession}
 use Rattle.gl_check.specs.Drivers.{DriverKind}
 use Rattle.gl_check.specs.Programs.{actor_of, after_of, setup_of}
@@ -33,10 +31,6 @@ use Rattle.gl_session.proofs.AloneRuns.{answers_as_planned, port_tells, prints_o
 use Rattle.gl_session.proofs.Plays.{number_same}
 use Rattle.gl_session.proofs.OneHistories.{length_entries}
 use Rattle.gl_session.proofs.Within.{calls_have_room, sessions_keep_within_cost}
-
--- a driver that makes no entries owns none that could be about a removal
-pub quiet_driver : (Own : OwnRelation) → ((map : Option Map) (op : Op) (own : List OneEntry) → Own map op own → own ≡ []) → IsQuietDriver Own
-quiet_driver Own none map op own may = subst (λ (l : List OneEntry). MayOwn l) (sym (none map op own may)) (record { quiet = tt; no_claims = tt })
 
 pub call_of : (a : Asking) → IsCall a → (call : DeviceCall) × (a ≡ Calls call)
 call_of (Calls call) is = (call, refl)

@@ -1,6 +1,6 @@
 -- A session of one actor as it was carried out on the device, and what follows of it: its text is One of the answers that the
 -- driver gave. This project's choice.
-use Rattle.std.specs.Prelude.{◌≡◌, ℕ, ◌≤◌, true, List, [], ◌++◌, length, Option, Some}
+use Rattle.std.specs.Prelude.{◌≡◌, ℕ, ◌≤◌, Bool, true, false, ◌&&◌, if◌then◌else◌, List, [], ◌∷◌, ◌++◌, length, Option, Some}
 use Rattle.gl_world.specs.Deeds.{deeds_of, entries_in}
 use Rattle.gl_world.specs.History.{Legal, StartsWith, entries_of}
 use Rattle.gl_rule.specs.Turn.{NoStrangers}
@@ -8,6 +8,9 @@ use Rattle.gl_rule.specs.Views.{newcomer}
 use Rattle.gl_gate.specs.Grown.{Grew}
 use Rattle.gl_client.specs.Program.{Program}
 use Rattle.gl_driver.specs.Told.{Told}
+use Rattle.gl_model.specs.Entries.{begins}
+use Rattle.gl_model.specs.declared.call.Call.{Call}
+use Rattle.gl_model.specs.declared.call.Call.TheVariants.{Ioctl}
 use Rattle.gl_script.specs.Section.{SaidSection}
 use Rattle.gl_talk.specs.Open.{Names}
 use Rattle.gl_core.specs.Device.{OneDeed, OneEntry, core, tells_in}
@@ -15,9 +18,9 @@ use Rattle.gl_chip.specs.Values.{OneView}
 use Rattle.gl_check.specs.Drivers.{DriverKind}
 use Rattle.gl_check.specs.Programs.{actor_of, after_of, setup_of}
 use Rattle.gl_check.specs.Tells.{TellsAfter}
-use Rattle.gl_check.specs.One.{entries_made, one, planned_over, taken, told_behind}
+use Rattle.gl_check.specs.One.{Answering, entries_made, entries_over, one, one_over, planned_over, taken, taken_over, told_behind}
 use Rattle.gl_asking.specs.Files.{OpenFile}
-use Rattle.gl_check.specs.Turns.{Carried, Played}
+use Rattle.gl_check.specs.Turns.{Carried, Did, Exchange, Played, Said, Turn}
 
 -- a program that was carried out to its end from these open files on: what it printed, what it did, and what it left
 pub record Part (driver : DriverKind) (program : Program Names) (files : List OpenFile) (told : Option Told) : Type 0 where
@@ -37,6 +40,38 @@ pub record PlayedSession (driver : DriverKind) (sections : List SaidSection) (be
   pub did_is : did ≡ setup.did ++ (actor.did ++ last.did)
   pub left_is : left ≡ last.behind.told
 
+-- the calls of entries
+abbrev pub calls_in : List OneEntry → List Call
+calls_in [] = []
+calls_in (e ∷ es) = e.call ∷ calls_in es
+
+-- a command on an open file, or a part of one
+abbrev pub is_command : Call → Bool
+is_command (Ioctl place fd cmd len bytes part) = true
+is_command _ = false
+
+-- entries that begin with the ask of a command which was answered Go: between it and the tell the driver was asked
+abbrev pub begins_asked : List OneEntry → Bool
+begins_asked [] = false
+begins_asked (e ∷ es) = is_command e.call && begins e.call e.reply
+
+-- what the driver did in an exchange in which it was asked, in an exchange, and in turns
+abbrev pub answering_in : Exchange → Answering
+answering_in e = record { own = calls_in e.own; answer = e.answer }
+
+abbrev pub given_in : Exchange → List Answering
+given_in e = if begins_asked (entries_in e.did) then answering_in e ∷ [] else []
+
+abbrev pub given_by : List Turn → List Answering
+given_by [] = []
+given_by (Said text ∷ turns) = given_by turns
+given_by (Did e ∷ turns) = given_in e ++ given_by turns
+
+-- and in a session
+abbrev pub given_of : (driver : DriverKind) (sections : List SaidSection) (before : Option Told) (text : List ℕ) (did : List OneDeed) (left : Option Told)
+    → PlayedSession driver sections before text did left → List Answering
+given_of driver sections before text did left p = given_by p.setup.played.turns ++ (given_by p.actor.played.turns ++ given_by p.last.played.turns)
+
 -- a legal history that has the entries of actor 0 alone, and these are what it did
 pub record IsAlone (history : List OneEntry) (did : List OneDeed) : Type 0 where
   pub legal : Legal core history
@@ -54,6 +89,13 @@ FirstActorIsAlone = (room : ℕ) (v w : OneView) (did : List OneDeed) (history :
 -- could see of strangers, each pass of the gate tells: `Pass::number`.)
 abbrev pub FirstActorSeesItself : Type 0
 FirstActorSeesItself = (room : ℕ) (v w : OneView) (did : List OneDeed) → v ≡ newcomer 0 room [] 1 [] [] → Grew core v did w → NoStrangers w w.seen → w.seen ≡ entries_in did
+
+-- What was printed is One over what the driver did where it was asked, calls of its own included; One takes just that, and makes
+-- as many entries.
+abbrev pub PrintsOver : DriverKind → Type 0
+PrintsOver driver = (sections : List SaidSection) (before left : Option Told) (text : List ℕ) (did : List OneDeed) (history : List OneEntry)
+    (p : PlayedSession driver sections before text did left) → IsAlone history did → let given = given_of driver sections before text did left p in
+    (text ≡ one_over sections given) × (taken_over sections given ≡ given) × (entries_over sections given ≡ length history)
 
 -- What was printed is One of the answers that the driver's tells have in order, One takes just these, and makes as many entries.
 abbrev pub PrintsOne : DriverKind → Type 0

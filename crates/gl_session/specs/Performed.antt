@@ -1,19 +1,26 @@
 -- One operation of a talk, carried out on the device; and a program in the midst of being carried out.
-use Rattle.std.specs.Prelude.{◌≡◌, ◌⊎◌, ℕ, List, ◌++◌, Result, Ok, Err}
+use Rattle.std.specs.Prelude.{◌≡◌, ◌⊎◌, ℕ, Bool, List, ◌++◌, Option, Result, Ok, Err}
 use Rattle.gl_base.specs.declared.errno.Errno.{Errno}
 use Rattle.gl_base.specs.declared.errno.Errno.TheVariants.{Full, NoMemory}
 use Rattle.gl_base.specs.declared.operation.Do.{Do}
 use Rattle.gl_base.specs.declared.operation.Got.{Got}
+use Rattle.gl_driver.specs.Told.{Told}
 use Rattle.gl_gate.specs.Grown.{Grew}
+use Rattle.gl_model.specs.declared.device_call.DeviceCall.{DeviceCall}
+use Rattle.gl_model.specs.declared.reply.Reply.{Reply}
+use Rattle.gl_world.specs.Deeds.{entries_in}
 use Rattle.gl_client.specs.Program.{Program, ask}
+use Rattle.gl_chip.specs.Called.{HasCalled}
+use Rattle.gl_chip.specs.Orders.{op_ordered}
 use Rattle.gl_chip.specs.Steps.{FoundNoRoom}
 use Rattle.gl_chip.specs.Values.{OneView}
-use Rattle.gl_core.specs.Device.{core}
+use Rattle.gl_core.specs.Device.{OneDeed, OneEntry, core}
 use Rattle.gl_asking.specs.declared.kinds.Asking.{Asking}
+use Rattle.gl_asking.specs.declared.kinds.FileKind.{FileKind}
 use Rattle.gl_asking.specs.declared.kinds.Asking.TheVariants.{Calls, Plans, Accepts, Refuses}
 use Rattle.gl_asking.specs.Asking.{asking, got_of}
 use Rattle.gl_check.specs.Drivers.{DriverKind}
-use Rattle.gl_check.specs.Turns.{Carried, Carries, Exchange, Follows, Turn, did_by, said_by}
+use Rattle.gl_check.specs.Turns.{Carried, Carries, Exchange, Follows, PortBy, Turn, did_by, map_of, said_by, was_asked}
 
 -- An operation was carried out by the actor whose pass knew v and knows w then: it got this, and did just the deeds of the exchange.
 pub record HasPerformed (driver : DriverKind) (what : Do) (v : OneView) (s : Carried) (got : Got) (w : OneView) (r : Carried) : Type 0 where
@@ -22,6 +29,17 @@ pub record HasPerformed (driver : DriverKind) (what : Do) (v : OneView) (s : Car
   pub got_is : got ≡ got_of what exchange.reply exchange.wrote
   pub carries : Carries driver v.number s exchange r
   pub grew : Grew core v exchange.did w
+
+-- an operation as it was carried out
+abbrev pub exchange : Do → Bool → Option ℕ → List OneEntry → List OneDeed → Reply → List ℕ → Exchange
+exchange what closed answer own did reply wrote = record { what = what; closed = closed; answer = answer; own = own; did = did; reply = reply; wrote = wrote }
+
+-- A call of the device was made on a file of this kind, over this driver, whatever the operation was for: what the actor did, and what became of
+-- the port.
+pub record MadeFor (driver : DriverKind) (call : DeviceCall) (on : FileKind) (v : OneView) (reply : Reply) (bytes : List ℕ) (w : OneView) (before after : Option Told) : Type 0 where
+  pub called : HasCalled driver.limit v call reply bytes w
+  pub port : (what : Do) → PortBy driver v.number (was_asked call (entries_in called.did)) (map_of call) (op_ordered call on)
+      (exchange what called.closed called.answer called.own called.did reply bytes) before after
 
 -- the operation is a call of the device
 abbrev pub IsCall : Asking → Type 0

@@ -3,6 +3,7 @@ use Rattle.std.specs.Prelude.{◌≡◌, ◌⊎◌, ℕ, ◌+◌, ◌<◌, ◌�
 use Rattle.std.specs.List.{Contains}
 use mathlib.Core.Option.{some}
 use lib.ListN.{get_elem?}
+use Rattle.gl_base.specs.Rows.{Each}
 use Rattle.gl_base.specs.declared.errno.Errno.{Errno}
 use Rattle.gl_base.specs.declared.errno.Errno.TheVariants.{NoMemory}
 use Rattle.gl_base.specs.declared.operation.Do.{Do}
@@ -13,6 +14,7 @@ use Rattle.gl_gate.specs.Calls.{HasAllOf, HasItsOwn}
 use Rattle.gl_gate.specs.Values.{GateValue}
 use Rattle.gl_client.specs.Program.{Program, ask, done}
 use Rattle.gl_driver.specs.Told.{Told}
+use Rattle.gl_driver.specs.declared.map.Map.{Map}
 use Rattle.gl_script.specs.Section.{SaidSection}
 use Rattle.gl_talk.specs.Open.{Names}
 use Rattle.gl_chip.specs.Values.{ActorValue, IsActorOf, OneView}
@@ -24,7 +26,7 @@ use Rattle.gl_asking.specs.Files.{OpenFile}
 use Rattle.gl_check.specs.Many.{Texts, actor_sections, program_of}
 use Rattle.gl_session.specs.Performed.{IsCall, PlaysOn}
 use Rattle.gl_check.specs.Turns.{Carried, Follows, Played, Turn, carried, did_by}
-use Rattle.gl_session.specs.Ports.{told_by}
+use Rattle.gl_session.specs.Ports.{GoesByNoMap, told_by}
 
 -- A whole program was carried out by an actor without open files: its text, and what it left.
 pub record PlaysWhole (driver : DriverKind) (program : Program Names) (v : OneView) (before : Option Told) (text : List ℕ) (w : OneView) (left : Option Told) : Type 0 where
@@ -39,6 +41,10 @@ told_found told (Some port) = told_by told port
 
 abbrev pub told_at : {P : Type 0} → (P → Option Told) → List (Option P) → ℕ → Option Told
 told_at told ports n = told_found told (slice_get ports n)
+
+-- through the port of none of the actors such a driver goes by a map
+abbrev pub HaveBarePorts : {P : Type 0} → ℕ → (P → List Map) → List (ActorValue P) → Type 0
+HaveBarePorts {P} limit maps actors = Each (λ (a : ActorValue P). GoesByNoMap limit (maps a.port)) actors
 
 -- the port of actor n is there
 abbrev pub is_found : {P : Type 0} → Option (Option P) → Bool

@@ -10,7 +10,8 @@ ghost use Rattle.gl_script.specs.declared.section.SectionKind.TheVariants.{Actor
 ghost use Rattle.gl_check.specs.Drivers.{driver_kind};
 ghost use Rattle.gl_check.specs.One.{said_in_kind};
 ghost use Rattle.gl_check.specs.Many.{actor_sections, program_of};
-ghost use Rattle.gl_session.specs.Workers.{AreDone, AreFresh, AreKept, HasJoined, HasSplit, IsFresh, WorkDone, there_at, told_at};
+ghost use Rattle.gl_session.specs.Ports.{AreBare, GoesByNoMap, OwnsNothing};
+ghost use Rattle.gl_session.specs.Workers.{AreDone, AreFresh, AreKept, HasJoined, HasSplit, HaveBarePorts, IsFresh, WorkDone, there_at, told_at};
 
 use crate::player::Player;
 use crate::rendezvous::Rendezvous;
@@ -67,11 +68,12 @@ fn split_one<D: Driver<Core>>(
     requires actor { IsActorOf device.now first.old }
     requires number { first.old.pass.view.number ≡ 0 }
     requires few { first.old.pass.view.made < 256 }
+    requires bare { GoesByNoMap D.ENTRIES (D.Port.maps port) }
     ensures actor { IsActorOf device.now first.new }
     ensures view { first.new.pass.view ≡ with_one_more first.old.pass.view }
     ensures port { first.new.port ≡ first.old.port }
     ensures more { OnOk result ((a : _) × (actors.new.items ≡ actors.old.items ++ a ∷ [])
-        × IsFresh D.Port.told (λ _. D.Port.told port) device.now first.old.pass.view first.old.pass.view.made a) }
+        × IsFresh D.Port.told (λ _. D.Port.told port) device.now first.old.pass.view first.old.pass.view.made a × GoesByNoMap D.ENTRIES (D.Port.maps a.port)) }
     ensures memory_alone { IsOkUnless result Errno.NoMemory }
 {
     let actor = device.split(first, port);
@@ -91,8 +93,10 @@ pub fn split_all<D: Driver<Core>>(
     requires few { count < 256 }
     requires ports { count < length ports.old }
     requires there { (n : ℕ) → 1 ≤ n → n < length ports.old → there_at ports.old n ≡ true }
+    requires bare { AreBare D.ENTRIES D.Port.maps ports.old }
     ensures actor { IsActorOf device.now first.new }
     ensures port { first.new.port ≡ first.old.port }
+    ensures bare { IfOk result (λ v. HaveBarePorts D.ENTRIES D.Port.maps v.items) }
     ensures split { OnOk result (HasSplit first.old.pass.view count first.new.pass.view) }
     ensures len { IfOk result (λ v. vec_len v ≡ count) }
     ensures fresh { IfOk result (λ v. AreFresh D.Port.told (told_at D.Port.told ports.old) device.now first.old.pass.view 1 v.items) }
@@ -122,8 +126,9 @@ fn work<R: Wait, D: Driver<Core>>(
     start: &Rendezvous,
     actor: Actor<D>,
 ) -> Done<D>
-    requires none { D.ENTRIES ≡ 0 }
+    requires none { OwnsNothing D.OwnEntries }
     requires fresh { IsFresh D.Port.told (λ _. D.Port.told actor.port) device.now actor.pass.view actor.pass.view.number actor }
+    requires bare { GoesByNoMap D.ENTRIES (D.Port.maps actor.port) }
     requires section { (1 ≤ actor.pass.view.number) × (actor.pass.view.number ≤ length (actor_sections (sections_of script.now))) }
     requires few { length (said_in_kind ActorKind (sections_of script.now)) ≤ 1048576 }
     ensures { WorkDone D.Port.told (λ _. D.Port.told actor.port) device.now (driver_kind D.ENTRIES D.is_planned D.OwnEntries D.Follows) (program_of (sections_of script.now)) actor.pass.view actor.pass.view.number result }
@@ -143,11 +148,12 @@ fn map_all<R: Threads + Wait + Sync, D: Driver<Core>>(
     script: &Script<'_>,
     actors: Vec<Actor<D>>,
 ) -> Result<Vec<Done<D>>, AllocError>
-    requires none { D.ENTRIES ≡ 0 }
+    requires none { OwnsNothing D.OwnEntries }
     requires few { length (said_in_kind ActorKind (sections_of script.now)) ≤ 1048576 }
     requires fresh { (i : ℕ) (a : _) → i < vec_len actors → a ≡ slice_index_or actors.items i a
         → IsFresh D.Port.told (λ _. D.Port.told a.port) device.now a.pass.view a.pass.view.number a
         × (1 ≤ a.pass.view.number) × (a.pass.view.number ≤ length (actor_sections (sections_of script.now))) }
+    requires bare { (i : ℕ) (a : _) → i < vec_len actors → a ≡ slice_index_or actors.items i a → GoesByNoMap D.ENTRIES (D.Port.maps a.port) }
     ensures len { IfOk result (λ v. vec_len v ≡ vec_len actors) }
     ensures done { IfOk result (λ v. (i : ℕ) (a : _) (d : _) → i < vec_len actors → a ≡ slice_index_or actors.items i a
         → WorkDone D.Port.told (λ _. D.Port.told a.port) device.now (driver_kind D.ENTRIES D.is_planned D.OwnEntries D.Follows) (program_of (sections_of script.now)) a.pass.view a.pass.view.number (slice_index_or v.items i d)) }
@@ -155,9 +161,10 @@ fn map_all<R: Threads + Wait + Sync, D: Driver<Core>>(
     let meeting = Rendezvous::of(actors.len());
     let start = &meeting;
     let job = |actor: Actor<D>| -> Done<D>
-        requires none { D.ENTRIES ≡ 0 }
+        requires none { OwnsNothing D.OwnEntries }
         requires few { length (said_in_kind ActorKind (sections_of script.now)) ≤ 1048576 }
         requires fresh { IsFresh D.Port.told (λ _. D.Port.told actor.port) device.now actor.pass.view actor.pass.view.number actor }
+        requires bare { GoesByNoMap D.ENTRIES (D.Port.maps actor.port) }
         requires section { (1 ≤ actor.pass.view.number) × (actor.pass.view.number ≤ length (actor_sections (sections_of script.now))) }
         ensures { WorkDone D.Port.told (λ _. D.Port.told actor.port) device.entry.now (driver_kind D.ENTRIES D.is_planned D.OwnEntries D.Follows) (program_of (sections_of script.entry.now)) actor.pass.view actor.pass.view.number result }
     { work(rt, alloc, device, script, start, actor) };
@@ -172,9 +179,10 @@ pub fn work_all<R: Threads + Wait + Sync, D: Driver<Core>>(
     script: &Script<'_>,
     actors: Vec<Actor<D>>,
 ) -> Result<Vec<Done<D>>, AllocError>
-    requires none { D.ENTRIES ≡ 0 }
+    requires none { OwnsNothing D.OwnEntries }
     requires few { length (said_in_kind ActorKind (sections_of script.now)) ≤ 1048576 }
     requires fresh { (start : _) × (v : _) × AreFresh D.Port.told start device.now v 1 actors.items }
+    requires bare { HaveBarePorts D.ENTRIES D.Port.maps actors.items }
     requires sections { vec_len actors ≤ length (actor_sections (sections_of script.now)) }
     ensures len { IfOk result (λ v. vec_len v ≡ vec_len actors) }
     ensures done { IfOk result (λ all. (start : _) (v : _) → AreFresh D.Port.told start device.now v 1 actors.items

@@ -3,7 +3,7 @@
 
 ghost use Rattle.std.specs.Prelude.{◌≡◌};
 ghost use Rattle.gl_check.specs.Drivers.{driver_kind};
-ghost use Rattle.gl_session.specs.Alone.{AnswersAsPlanned, FirstActorIsAlone, FirstActorSeesItself, PortTells, PrintsOne};
+ghost use Rattle.gl_session.specs.Alone.{AnswersAsPlanned, FirstActorIsAlone, FirstActorSeesItself, PortTells, PrintsOne, PrintsOver};
 ghost use Rattle.gl_session.specs.Closings.{ActorsCloseByNumber, OneActorClosesByNumber};
 ghost use Rattle.gl_session.specs.Judged.{RunsAreLawful};
 ghost use Rattle.gl_session.specs.Many.{AllPlayedCameToMany};
@@ -26,10 +26,12 @@ pub fn first_actor_is_alone()
     ensures seen { FirstActorSeesItself }
 {}
 
-/// What one actor alone prints is One of the answers that the driver's tells have in order; One takes just these, and makes as many
-/// entries as the history has.
+/// What one actor alone prints is One over what the driver did where it was asked: the calls that it made of its own, each answered by the
+/// machine's step, and its answer. Since no place has a map, that is One of the answers that the driver's tells have in order. One takes just
+/// these, and makes as many entries as the history has.
 pub fn prints_one<D: Driver<Core>>()
-    ensures { PrintsOne (driver_kind D.ENTRIES D.is_planned D.OwnEntries D.Follows) }
+    ensures over { PrintsOver (driver_kind D.ENTRIES D.is_planned D.OwnEntries D.Follows) }
+    ensures answers { PrintsOne (driver_kind D.ENTRIES D.is_planned D.OwnEntries D.Follows) }
 {}
 
 /// Over a port of a planned driver that tells, these answers are those that its plan and the statements say: of a new one those of Planned.

@@ -4,8 +4,9 @@ ghost use Rattle.gl_script.specs.Script.{sections_of};
 ghost use Rattle.gl_script.specs.Section.{SaidSection, statements_of};
 ghost use Rattle.gl_script.specs.Sentence.{Sentence};
 ghost use Rattle.gl_check.specs.Drivers.{driver_kind};
+ghost use Rattle.gl_chip.specs.Values.{IsQuietDriver};
 ghost use Rattle.gl_session.specs.Figures.{CameToFigures, CameToLoad, figures, statement_count};
-ghost use Rattle.gl_session.specs.Ports.{AreAllThere};
+ghost use Rattle.gl_session.specs.Ports.{AreAllThere, AreBare, OwnsNothing};
 ghost use Rattle.gl_session.specs.Workers.{told_at};
 
 use crate::ports::run_alone;
@@ -79,7 +80,9 @@ fn carry_bytes<R: Wait, D: Driver<Core>>(
     driver: D,
     ports: &mut [Option<D::Port>],
 ) -> Result<Vec<u8>, Errno>
-    requires none { D.ENTRIES ≡ 0 }
+    requires none { OwnsNothing D.OwnEntries }
+    requires quiet { IsQuietDriver D.OwnEntries }
+    requires bare { AreBare D.ENTRIES D.Port.maps ports.old }
     requires session { (sections : List SaidSection) × Sentence bytes.now sections }
     requires ports { AreAllThere ports.old }
     ensures came { IfOk result (λ out. CameToFigures (driver_kind D.ENTRIES D.is_planned D.OwnEntries D.Follows) bytes.now (told_at D.Port.told ports.old 0) (told_at D.Port.told ports.new 0) out.items) }
@@ -109,7 +112,9 @@ pub fn carry_load<R: Wait, D: Driver<Core>>(
     driver: D,
     ports: &mut [Option<D::Port>],
 ) -> Result<Vec<u8>, Errno>
-    requires none { D.ENTRIES ≡ 0 }
+    requires none { OwnsNothing D.OwnEntries }
+    requires quiet { IsQuietDriver D.OwnEntries }
+    requires bare { AreBare D.ENTRIES D.Port.maps ports.old }
     requires turns { (1 ≤ turns) × (turns ≤ TURNS_MAX) }
     requires ports { AreAllThere ports.old }
     ensures came { IfOk result (λ out. CameToLoad (driver_kind D.ENTRIES D.is_planned D.OwnEntries D.Follows) turns (told_at D.Port.told ports.old 0) (told_at D.Port.told ports.new 0) out.items) }

@@ -10,6 +10,8 @@ ghost use Rattle.gl_talk.specs.Talk.{names_in, quits, says};
 ghost use Rattle.gl_check.specs.Drivers.{driver_kind};
 ghost use Rattle.gl_check.specs.Programs.{actor_of};
 ghost use Rattle.gl_asking.specs.Files.{OpenFile};
+ghost use Rattle.gl_chip.specs.Values.{IsQuietDriver};
+ghost use Rattle.gl_session.specs.Ports.{GoesByNoMap, OwnsNothing};
 ghost use Rattle.gl_check.specs.One.{said_in_kind};
 ghost use Rattle.gl_session.specs.OneActor.{CameWithEntries, HasPlayed, IsSized, StoppedBelow, count_in_kind};
 ghost use Rattle.gl_session.specs.Performed.{PlaysOn, StoppedFull};
@@ -37,7 +39,7 @@ pub fn play_kind<R: Wait, D: Driver<Core>>(
     script: &Script<'_>,
     kind: SectionKind,
 ) -> Result<(), Errno>
-    requires none { D.ENTRIES ≡ 0 }
+    requires none { OwnsNothing D.OwnEntries }
     requires begun { talk.old.begun + count_in_kind kind (sections_of script.now) ≤ 1048576 }
     ensures device { player.new.gate ≡ player.old.gate }
     ensures counted { OnOk result (talk.new.begun ≡ talk.old.begun + count_in_kind kind (sections_of script.now)) }
@@ -67,7 +69,7 @@ pub fn play_to_end<R: Wait, D: Driver<Core>>(
     script: &Script<'_>,
     kind: SectionKind,
 ) -> Result<(), Errno>
-    requires none { D.ENTRIES ≡ 0 }
+    requires none { OwnsNothing D.OwnEntries }
     requires begun { talk.old.begun + count_in_kind kind (sections_of script.now) ≤ 1048576 }
     ensures device { player.new.gate ≡ player.old.gate }
     ensures played { OnOk result (PlaysOn (driver_kind D.ENTRIES D.is_planned D.OwnEntries D.Follows) (says talk.old.begun (said_in_kind kind (sections_of script.now)) quits (names_in talk.old))
@@ -95,7 +97,7 @@ fn play_actor<R: Wait, D: Driver<Core>>(
     player: &mut Player<'_, D>,
     script: &Script<'_>,
 ) -> Result<(), Errno>
-    requires none { D.ENTRIES ≡ 0 }
+    requires none { OwnsNothing D.OwnEntries }
     requires sized { IsSized (sections_of script.now) }
     ensures device { player.new.gate ≡ player.old.gate }
     ensures played { OnOk result ((names : Names) × (files : List OpenFile)
@@ -129,7 +131,7 @@ fn play_parts<R: Wait, D: Driver<Core>>(
     talk: &mut Talk,
     script: &Script<'_>,
 ) -> Result<(), Errno>
-    requires none { D.ENTRIES ≡ 0 }
+    requires none { OwnsNothing D.OwnEntries }
     requires sized { IsSized (sections_of script.now) }
     requires talk { (names_in talk.old ≡ no_names) × (talk.old.begun ≡ 0) }
     requires new { (player.old.carried.files ≡ []) × (player.old.text ≡ []) }
@@ -160,7 +162,7 @@ fn play_session<R: Wait, D: Driver<Core>>(
     player: &mut Player<'_, D>,
     script: &Script<'_>,
 ) -> Result<Vec<u8>, Errno>
-    requires none { D.ENTRIES ≡ 0 }
+    requires none { OwnsNothing D.OwnEntries }
     requires sized { IsSized (sections_of script.now) }
     requires new { (player.old.carried.files ≡ []) × (player.old.text ≡ []) }
     requires first { player.old.view ≡ newcomer 0 (session_cost (sections_of script.now)) [] 1 [] [] }
@@ -192,7 +194,9 @@ pub fn run_one<R: Wait, D: Driver<Core>>(
     port: D::Port,
     script: &Script<'_>,
 ) -> Result<(Vec<u8>, u64, D::Port), Errno>
-    requires none { D.ENTRIES ≡ 0 }
+    requires none { OwnsNothing D.OwnEntries }
+    requires quiet { IsQuietDriver D.OwnEntries }
+    requires bare { GoesByNoMap D.ENTRIES (D.Port.maps port) }
     requires sized { IsSized (sections_of script.now) }
     ensures came { IfOk result (λ ran. CameWithEntries (driver_kind D.ENTRIES D.is_planned D.OwnEntries D.Follows) (sections_of script.now) (D.Port.told port) ran.0.items (D.Port.told ran.2) ran.1) }
     ensures memory_alone { IsOkUnless result Errno.NoMemory }

@@ -5,6 +5,7 @@ ghost use Rattle.gl_client.specs.Program.{done, given};
 ghost use Rattle.gl_talk.specs.Over.{columns_in};
 ghost use Rattle.gl_talk.specs.Talk.{left, names_in, says};
 ghost use Rattle.gl_check.specs.Drivers.{driver_kind};
+ghost use Rattle.gl_session.specs.Ports.{OwnsNothing};
 ghost use Rattle.gl_session.specs.Performed.{PlaysOn, StoppedFull};
 
 use crate::player::Player;
@@ -26,7 +27,7 @@ fn turn<R: Wait, D: Driver<Core>>(
     got: &mut Option<Got>,
     step: &mut Next,
 ) -> Result<bool, Errno>
-    requires none { D.ENTRIES ≡ 0 }
+    requires none { OwnsNothing D.OwnEntries }
     requires begun { talk.old.begun ≤ 1048576 }
     ensures device { player.new.gate ≡ player.old.gate }
     ensures counted { OnOk result (talk.new.begun ≡ talk.old.begun) }
@@ -67,7 +68,7 @@ pub fn play<R: Wait, D: Driver<Core>>(
     player: &mut Player<'_, D>,
     talk: &mut Talk,
 ) -> Result<(), Errno>
-    requires none { D.ENTRIES ≡ 0 }
+    requires none { OwnsNothing D.OwnEntries }
     requires begun { talk.old.begun ≤ 1048576 }
     ensures device { player.new.gate ≡ player.old.gate }
     ensures counted { OnOk result (talk.new.begun ≡ talk.old.begun) }
@@ -96,7 +97,7 @@ pub fn play_all<R: Wait, D: Driver<Core>>(
     talk: &mut Talk,
     statements: &[Statement<'_>],
 ) -> Result<(), Errno>
-    requires none { D.ENTRIES ≡ 0 }
+    requires none { OwnsNothing D.OwnEntries }
     requires begun { talk.old.begun + length statements.now ≤ 1048576 }
     ensures device { player.new.gate ≡ player.old.gate }
     ensures counted { OnOk result (talk.new.begun ≡ talk.old.begun + length statements.now) }

@@ -31,12 +31,13 @@ pub struct Player<'d, D: Driver<Core>> {
 impl<'d, D: Driver<Core>> Model for Player<'d, D> {
     ghost use Rattle.gl_chip.specs.Values.{IsActorOf};
     ghost use Rattle.gl_session.specs.Player.{Playing};
+    ghost use Rattle.gl_session.specs.Ports.{GoesByNoMap};
 
     ghost Value = { Playing };
 
     ghost view = { λ p. record { gate = p.device.now; view = p.actor.pass.view; carried = record { files = p.files; told = D.Port.told p.actor.port }; text = p.text.items } };
 
-    ghost invariant = { λ p. IsActorOf p.device.now p.actor };
+    ghost invariant = { λ p. IsActorOf p.device.now p.actor × GoesByNoMap D.ENTRIES (D.Port.maps p.actor.port) };
 }
 
 /// Whether an operation opens or closes a file, where it isn't refused. No other changes the open files.
@@ -54,26 +55,26 @@ fn opens_or_closes(what: &Do) -> bool
 impl<'d, D: Driver<Core>> Player<'d, D> {
     ghost use Rattle.std.specs.Prelude.{◌≡◌, ◌⊎◌, ◌++◌, ℕ, List, [], IfOk, IfErr, OnOk, IsOkUnless};
     ghost use Rattle.gl_base.specs.declared.errno.Errno.TheVariants.{Full, NoMemory};
-    ghost use Rattle.gl_world.specs.Deeds.{entries_in};
     ghost use Rattle.gl_rule.specs.Turn.{NoStrangers};
     ghost use Rattle.gl_gate.specs.Calls.{HasItsOwn};
-    ghost use Rattle.gl_driver.specs.Told.{PortAfter, with_bits, with_plan};
-    ghost use Rattle.gl_core.specs.Device.{core, tells_in};
+    ghost use Rattle.gl_driver.specs.Told.{with_bits, with_plan};
+    ghost use Rattle.gl_core.specs.Device.{core};
     ghost use Rattle.gl_asking.specs.declared.kinds.Asking.TheVariants.{Calls};
     ghost use Rattle.gl_asking.specs.Asking.{asking, file_for, files_behind};
     ghost use Rattle.gl_asking.specs.Changes.{IsChange, NamesMade, OpensWithin, changed};
     ghost use Rattle.gl_asking.specs.Fitting.{FitsDevice};
     ghost use Rattle.gl_asking.specs.Rows.{IsSomeRow, file_of, kind_of};
-    ghost use Rattle.gl_chip.specs.Called.{HasCalled};
-    ghost use Rattle.gl_chip.specs.Orders.{AnswersOrder, FitsOrder, GivesLines, WroteTo, op_ordered};
+    ghost use Rattle.gl_chip.specs.Orders.{AnswersOrder, FitsOrder, GivesLines, WroteTo};
     ghost use Rattle.gl_chip.specs.Steps.{FoundNoRoom};
     ghost use Rattle.gl_chip.specs.Values.{IsActorOf};
     ghost use Rattle.gl_check.specs.Drivers.{driver_kind};
-    ghost use Rattle.gl_session.specs.Performed.{Performs};
+    ghost use Rattle.gl_session.specs.Performed.{MadeFor, Performs};
+    ghost use Rattle.gl_session.specs.Ports.{GoesByNoMap, OwnsNothing};
 
-    /// An actor of this device that has no file open and has printed nothing.
+    /// An actor of this device that has no file open and has printed nothing. Through its port the driver goes by no map.
     pub fn new(alloc: Global, device: &'d Gpio<D>, actor: Actor<D>) -> Player<'d, D>
         requires actor { IsActorOf device.now actor }
+        requires bare { GoesByNoMap D.ENTRIES (D.Port.maps actor.port) }
         ensures device { result.gate ≡ device.now }
         ensures view { result.view ≡ actor.pass.view }
         ensures files { result.carried.files ≡ [] }
@@ -151,7 +152,7 @@ impl<'d, D: Driver<Core>> Player<'d, D> {
 
     /// Carries an operation out, and gives its result. Being out of memory and a full history are no result, and are the errors here.
     pub fn perform<R: Wait>(&mut self, rt: &R, alloc: Global, what: &Do) -> Result<Got, Errno>
-        requires none { D.ENTRIES ≡ 0 }
+        requires none { OwnsNothing D.OwnEntries }
         ensures device { self.new.gate ≡ self.old.gate }
         ensures text { self.new.text ≡ self.old.text }
         ensures performs { Performs (driver_kind D.ENTRIES D.is_planned D.OwnEntries D.Follows) what.now result self.old.view self.old.carried self.new.view self.new.carried }
@@ -192,7 +193,7 @@ impl<'d, D: Driver<Core>> Player<'d, D> {
         row: &Option<FileRow>,
         order: &Order,
     ) -> Result<Got, Errno>
-        requires none { D.ENTRIES ≡ 0 }
+        requires none { OwnsNothing D.OwnEntries }
         requires row { IsSomeRow row.now }
         requires found { file_for what.now self.old.carried.files ≡ file_of row.now }
         requires fits { FitsDevice order.now.call }
@@ -223,14 +224,14 @@ impl<'d, D: Driver<Core>> Player<'d, D> {
         order: &Order,
         out: &mut [u8],
     ) -> Result<Answered, Errno>
-        requires none { D.ENTRIES ≡ 0 }
+        requires none { OwnsNothing D.OwnEntries }
         requires fits { FitsOrder order.now.call order.now.on out.old }
         ensures device { self.new.gate ≡ self.old.gate }
         ensures text { self.new.text ≡ self.old.text }
         ensures files { self.new.carried.files ≡ self.old.carried.files }
         ensures made { IfOk result (λ r. (bytes : List ℕ) × WroteTo order.now.call bytes out.old out.new
-            × (called : HasCalled 0 self.old.view order.now.call r.reply bytes self.new.view)
-            × PortAfter D.is_planned (op_ordered order.now.call order.now.on) (tells_in (entries_in called.did)) self.old.carried.told self.new.carried.told) }
+            × MadeFor (driver_kind D.ENTRIES D.is_planned D.OwnEntries D.Follows) order.now.call order.now.on self.old.view r.reply bytes self.new.view
+            self.old.carried.told self.new.carried.told) }
         ensures form { IfOk result (λ r. AnswersOrder order.now.call order.now.on r.reply) }
         ensures lines { IfOk result (GivesLines order.now.call order.now.on) }
         ensures could_not { IfErr result (λ e. (e ≡ NoMemory) ⊎ ((e ≡ Full) × FoundNoRoom core self.old.view self.new.view)) }

@@ -3,8 +3,9 @@ ghost use Rattle.std.specs.Prelude.{◌≡◌, ◌≤◌, drop, length, IfOk, On
 ghost use Rattle.gl_script.specs.Script.{sections_of};
 ghost use Rattle.gl_check.specs.Drivers.{driver_kind};
 ghost use Rattle.gl_check.specs.Many.{actor_sections};
+ghost use Rattle.gl_chip.specs.Values.{IsQuietDriver};
 ghost use Rattle.gl_session.specs.OneActor.{CameWithEntries, IsSized};
-ghost use Rattle.gl_session.specs.Ports.{AreAllThere, OthersStay};
+ghost use Rattle.gl_session.specs.Ports.{AreAllThere, AreBare, OthersStay, OwnsNothing};
 ghost use Rattle.gl_session.specs.Run.{CameTo};
 ghost use Rattle.gl_session.specs.Workers.{told_at};
 
@@ -31,7 +32,9 @@ pub fn run_alone<R: Wait, D: Driver<Core>>(
     driver: D,
     ports: &mut [Option<D::Port>],
 ) -> Result<(Vec<u8>, u64), Errno>
-    requires none { D.ENTRIES ≡ 0 }
+    requires none { OwnsNothing D.OwnEntries }
+    requires quiet { IsQuietDriver D.OwnEntries }
+    requires bare { AreBare D.ENTRIES D.Port.maps ports.old }
     requires sized { IsSized (sections_of script.now) }
     requires ports { AreAllThere ports.old }
     ensures came { IfOk result (λ ran. CameWithEntries (driver_kind D.ENTRIES D.is_planned D.OwnEntries D.Follows) (sections_of script.now) (told_at D.Port.told ports.old 0) ran.0.items (told_at D.Port.told ports.new 0) ran.1) }
@@ -62,7 +65,9 @@ pub fn carry_script<R: Threads + Wait + Sync, D: Driver<Core>>(
     driver: D,
     ports: &mut [Option<D::Port>],
 ) -> Result<Vec<u8>, Errno>
-    requires none { D.ENTRIES ≡ 0 }
+    requires none { OwnsNothing D.OwnEntries }
+    requires quiet { IsQuietDriver D.OwnEntries }
+    requires bare { AreBare D.ENTRIES D.Port.maps ports.old }
     requires sized { IsSized (sections_of script.now) }
     requires few { length (actor_sections (sections_of script.now)) ≤ 16 }
     requires ports { AreAllThere ports.old }

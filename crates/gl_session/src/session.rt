@@ -7,8 +7,9 @@ ghost use Rattle.gl_script.specs.Section.{SaidSection};
 ghost use Rattle.gl_script.specs.Sentence.{Sentence, first_fault};
 ghost use Rattle.gl_words.specs.Words.{asks, texts};
 ghost use Rattle.gl_check.specs.Drivers.{driver_kind};
+ghost use Rattle.gl_chip.specs.Values.{IsQuietDriver};
 ghost use Rattle.gl_session.specs.Figures.{CameToLoad, HasWrittenLoad};
-ghost use Rattle.gl_session.specs.Ports.{AreAllThere, OthersStay};
+ghost use Rattle.gl_session.specs.Ports.{AreAllThere, AreBare, OthersStay, OwnsNothing};
 ghost use Rattle.gl_session.specs.Workers.{told_at};
 ghost use Rattle.gl_session.specs.Streams.{ReadsThrough, LosesFront, AppendsFront};
 ghost use Rattle.gl_session.specs.Verdict.{IsJudgment, IsLawful, IsVerdict, verdict_line, verdict_status, yes_line};
@@ -46,8 +47,9 @@ use std::thread::Threads;
 /// All other words write the line `usage`.
 ///
 /// The first cause decides: words that ask for nothing, a fault of reading, bytes that are no session, being out of memory, a fault of
-/// writing. There are 17 ports: that of the number of an actor is the one through which it
-/// asks the driver.
+/// writing. There are 17 ports: that of the number of an actor is the one through which it asks the driver. Through none of them the driver
+/// goes by a map, and where it goes by none it makes no entries of its own; those that it makes elsewhere begin no removal, end none, and
+/// request no lines.
 pub fn run<R: Threads + Wait + Sync, S: Source, K: Sink, D: Driver<Core>>(
     rt: &R,
     alloc: Global,
@@ -57,7 +59,9 @@ pub fn run<R: Threads + Wait + Sync, S: Source, K: Sink, D: Driver<Core>>(
     driver: D,
     ports: &mut [Option<D::Port>],
 ) -> Status
-    requires none { D.ENTRIES ≡ 0 }
+    requires none { OwnsNothing D.OwnEntries }
+    requires quiet { IsQuietDriver D.OwnEntries }
+    requires bare { AreBare D.ENTRIES D.Port.maps ports.old }
     requires ports { AreAllThere ports.old }
 
     // A session that ran is read to its end, and what it came to is written. With fewer than two actors that is One of just the answers that
@@ -172,7 +176,9 @@ fn run_session<R: Threads + Wait + Sync, S: Source, K: Sink, D: Driver<Core>>(
     driver: D,
     ports: &mut [Option<D::Port>],
 ) -> Status
-    requires none { D.ENTRIES ≡ 0 }
+    requires none { OwnsNothing D.OwnEntries }
+    requires quiet { IsQuietDriver D.OwnEntries }
+    requires bare { AreBare D.ENTRIES D.Port.maps ports.old }
     requires ports { AreAllThere ports.old }
     ensures output { result ≡ Status.Ran → IfSome (S.left source.old) (λ input. (sections : List SaidSection) → Sentence input sections →
         IsAtEnd (S.left source.new)
@@ -221,7 +227,9 @@ fn run_load<R: Wait, K: Sink, D: Driver<Core>>(
     driver: D,
     ports: &mut [Option<D::Port>],
 ) -> Status
-    requires none { D.ENTRIES ≡ 0 }
+    requires none { OwnsNothing D.OwnEntries }
+    requires quiet { IsQuietDriver D.OwnEntries }
+    requires bare { AreBare D.ENTRIES D.Port.maps ports.old }
     requires turns { (1 ≤ turns) × (turns ≤ TURNS_MAX) }
     requires ports { AreAllThere ports.old }
     ensures ends { (result ≡ Status.Ran) ⊎ ((result ≡ Status.WriteFault) ⊎ (result ≡ Status.NoMemory)) }
@@ -249,7 +257,9 @@ fn answer<R: Threads + Wait + Sync, K: Sink, D: Driver<Core>>(
     driver: D,
     ports: &mut [Option<D::Port>],
 ) -> Status
-    requires none { D.ENTRIES ≡ 0 }
+    requires none { OwnsNothing D.OwnEntries }
+    requires quiet { IsQuietDriver D.OwnEntries }
+    requires bare { AreBare D.ENTRIES D.Port.maps ports.old }
     requires ports { AreAllThere ports.old }
     ensures ran { result ≡ Status.Ran → (sections : List SaidSection) × Sentence bytes.now sections
         × HasWritten (driver_kind D.ENTRIES D.is_planned D.OwnEntries D.Follows) sections (told_at D.Port.told ports.old) (told_at D.Port.told ports.new) (K.held sink.old) (K.held sink.new) }

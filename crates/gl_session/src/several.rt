@@ -3,7 +3,7 @@
 ghost use Rattle.std.specs.Prelude.{◌≡◌, ◌⊎◌, ℕ, ◌≤◌, ◌<◌, true, [], length, slice_get, IfOk, IfErr, OnOk, IsOkUnless};
 ghost use Rattle.gl_base.specs.declared.errno.Errno.TheVariants.{NoMemory};
 ghost use Rattle.gl_rule.specs.Views.{newcomer};
-ghost use Rattle.gl_chip.specs.Values.{IsActorOf};
+ghost use Rattle.gl_chip.specs.Values.{IsActorOf, IsQuietDriver};
 ghost use Rattle.gl_script.specs.Cost.{session_cost};
 ghost use Rattle.gl_script.specs.Script.{sections_of};
 ghost use Rattle.gl_talk.specs.Open.{no_names};
@@ -13,7 +13,7 @@ ghost use Rattle.gl_check.specs.Drivers.{driver_kind};
 ghost use Rattle.gl_check.specs.Many.{actor_sections, program_of};
 ghost use Rattle.gl_session.specs.OneActor.{IsSized};
 ghost use Rattle.gl_session.specs.Workers.{CannotEnd, HasCarriedOut, HasForked, HasForkedFull, there_at, told_at};
-ghost use Rattle.gl_session.specs.Ports.{AreAllThere};
+ghost use Rattle.gl_session.specs.Ports.{AreAllThere, AreBare, OwnsNothing};
 ghost use Rattle.gl_session.specs.Several.{texts_of};
 
 use crate::fork::{all_printed, give_port, join_all, split_all, take_port, work_all};
@@ -51,7 +51,8 @@ fn fork<R: Threads + Wait + Sync, D: Driver<Core>>(
     ports: &mut [Option<D::Port>],
     script: &Script<'_>,
 ) -> Result<Vec<ByteList>, Errno>
-    requires none { D.ENTRIES ≡ 0 }
+    requires none { OwnsNothing D.OwnEntries }
+    requires bare { AreBare D.ENTRIES D.Port.maps ports.old }
     requires alone { (first.old.view.number ≡ 0) × (first.old.view.made ≡ 1) }
     requires sized { IsSized (sections_of script.now) }
     requires count { (length (actor_sections (sections_of script.now)) < 256) × (length (actor_sections (sections_of script.now)) < length ports.old) }
@@ -78,7 +79,8 @@ fn work_beside<R: Threads + Wait + Sync, D: Driver<Core>>(
     ports: &mut [Option<D::Port>],
     script: &Script<'_>,
 ) -> Result<Vec<ByteList>, Errno>
-    requires none { D.ENTRIES ≡ 0 }
+    requires none { OwnsNothing D.OwnEntries }
+    requires bare { AreBare D.ENTRIES D.Port.maps ports.old }
     requires actor { IsActorOf device.now first.old }
     requires alone { (first.old.pass.view.number ≡ 0) × (first.old.pass.view.made ≡ 1) }
     requires sized { IsSized (sections_of script.now) }
@@ -121,7 +123,8 @@ fn carry_parts<R: Threads + Wait + Sync, D: Driver<Core>>(
     ports: &mut [Option<D::Port>],
     script: &Script<'_>,
 ) -> Result<Printed, Errno>
-    requires none { D.ENTRIES ≡ 0 }
+    requires none { OwnsNothing D.OwnEntries }
+    requires bare { AreBare D.ENTRIES D.Port.maps ports.old }
     requires first { first.old.view ≡ newcomer 0 (session_cost (sections_of script.now)) [] 1 [] [] }
     requires new { (first.old.carried.files ≡ []) × (first.old.text ≡ []) }
     requires sized { IsSized (sections_of script.now) }
@@ -165,7 +168,8 @@ fn carry_out<R: Threads + Wait + Sync, D: Driver<Core>>(
     ports: &mut [Option<D::Port>],
     script: &Script<'_>,
 ) -> Result<Printed, Errno>
-    requires none { D.ENTRIES ≡ 0 }
+    requires none { OwnsNothing D.OwnEntries }
+    requires bare { AreBare D.ENTRIES D.Port.maps ports.old }
     requires first { first.old.view ≡ newcomer 0 (session_cost (sections_of script.now)) [] 1 [] [] }
     requires new { (first.old.carried.files ≡ []) × (first.old.text ≡ []) }
     requires sized { IsSized (sections_of script.now) }
@@ -195,7 +199,9 @@ pub fn run_several<R: Threads + Wait + Sync, D: Driver<Core>>(
     ports: &mut [Option<D::Port>],
     script: &Script<'_>,
 ) -> Result<(Printed, Vec<Entry<Core>>), Errno>
-    requires none { D.ENTRIES ≡ 0 }
+    requires none { OwnsNothing D.OwnEntries }
+    requires quiet { IsQuietDriver D.OwnEntries }
+    requires bare { AreBare D.ENTRIES D.Port.maps ports.old }
     requires sized { IsSized (sections_of script.now) }
     requires count { length (actor_sections (sections_of script.now)) ≤ 16 }
     requires ports { AreAllThere ports.old }

@@ -5,6 +5,7 @@ ghost use Rattle.gl_talk.specs.Open.{no_names};
 ghost use Rattle.gl_talk.specs.Over.{columns_in};
 ghost use Rattle.gl_talk.specs.Talk.{talks};
 ghost use Rattle.gl_check.specs.Drivers.{driver_kind};
+ghost use Rattle.gl_session.specs.Ports.{OwnsNothing};
 ghost use Rattle.gl_session.specs.Performed.{StoppedFull};
 ghost use Rattle.gl_check.specs.Turns.{carried};
 ghost use Rattle.gl_session.specs.Workers.{PlaysWhole};
@@ -27,7 +28,7 @@ pub fn play_section<R: Wait, D: Driver<Core>>(
     player: &mut Player<'_, D>,
     statements: &[Statement<'_>],
 ) -> Result<ByteList, Errno>
-    requires none { D.ENTRIES ≡ 0 }
+    requires none { OwnsNothing D.OwnEntries }
     requires few { length statements.now ≤ 1048576 }
     requires new { (player.old.carried.files ≡ []) × (player.old.text ≡ []) }
     ensures device { player.new.gate ≡ player.old.gate }
@@ -59,7 +60,7 @@ pub fn play_beside<R: Wait, D: Driver<Core>>(
     start: &Rendezvous,
     statements: &[Statement<'_>],
 ) -> Result<ByteList, Errno>
-    requires none { D.ENTRIES ≡ 0 }
+    requires none { OwnsNothing D.OwnEntries }
     requires few { length statements.now ≤ 1048576 }
     requires new { (player.old.carried.files ≡ []) × (player.old.text ≡ []) }
     ensures device { player.new.gate ≡ player.old.gate }

@@ -1,5 +1,6 @@
 use Rattle.std.proofs.Common.{sym, subst, ◌+◌, ◌<◌, get_or, arith, length}
 use Rattle.gl_session.specs.Workers.{IsFresh}
+use Rattle.gl_session.proofs.Bare.{bare_at}
 use Rattle.gl_session.proofs.Threads.{done_all, done_as, fresh_at, fresh_self, fresh_some}
 use Rattle.gl_session.proofs.fork.work_all.Goals as goal
 use Rattle.gl_check.specs.Drivers.{driver_kind}
@@ -8,6 +9,9 @@ pub map_all-requires-clause-fresh : goal.map_all-requires-clause-fresh
 map_all-requires-clause-fresh g c κs within = λ i x l is. let f = c.requires.fresh in let ok = c.args.actors.ok in let small = c.requires.sections in
     let h : IsFresh g.D.Port.Port.told f.0 c.args.device.now f.1 (1 + i) x = subst (λ a. IsFresh g.D.Port.Port.told f.0 c.args.device.now f.1 (1 + i) a) (sym is) (fresh_at g.D.Port.Port.told f.0 c.args.device.now f.1 1 c.args.actors.items f.2 i x (omega arith)) in
     let n = h.number in (fresh_self g.D.Port.Port.told f.0 c.args.device.now f.1 (1 + i) x h, omega arith, omega arith)
+
+pub map_all-requires-clause-bare : goal.map_all-requires-clause-bare
+map_all-requires-clause-bare g c κs within = λ i x l is. let ok = c.args.actors.ok in bare_at g.D.Driver.ENTRIES g.D.Port.Port.maps c.args.actors.items c.requires.bare i x (omega arith) is
 
 pub returns-in-Ok-clause-done : goal.returns-in-Ok-clause-done
 returns-in-Ok-clause-done g c = λ start seen fresh. done_all g.D.Port.Port.told start c.args.device.now (driver_kind g.D.Driver.ENTRIES g.D.Driver.is_planned g.D.Driver.OwnEntries g.D.Driver.Follows) _ seen 1 c.in-Ok.done.items (λ i d l.

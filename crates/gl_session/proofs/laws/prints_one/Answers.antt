@@ -3,4 +3,7 @@ use Rattle.gl_session.proofs.AloneRuns as alone
 use Rattle.gl_session.proofs.laws.prints_one.Goals as goal
 
 pub returns : goal.returns
-returns g c = alone.prints_one (driver_kind g.D.Driver.ENTRIES g.D.Driver.is_planned g.D.Driver.OwnEntries g.D.Driver.Follows)
+returns g c = record {
+  over = alone.prints_over (driver_kind g.D.Driver.ENTRIES g.D.Driver.is_planned g.D.Driver.OwnEntries g.D.Driver.Follows);
+  answers = alone.prints_one (driver_kind g.D.Driver.ENTRIES g.D.Driver.is_planned g.D.Driver.OwnEntries g.D.Driver.Follows);
+}

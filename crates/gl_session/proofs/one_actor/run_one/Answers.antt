@@ -3,9 +3,13 @@ use Rattle.gl_driver.specs.Told.{Told}
 use Rattle.gl_script.specs.Script.{sections_of}
 use Rattle.gl_chip.specs.Values.{OneView}
 use Rattle.gl_session.specs.OneActor.{CameWithEntries, HasPlayed}
+use Rattle.gl_session.proofs.Bare.{still_bare}
 use Rattle.gl_session.proofs.Whole.{came_with_entries}
 use Rattle.gl_session.proofs.one_actor.run_one.Goals as goal
 use Rattle.gl_check.specs.Drivers.{driver_kind}
+
+pub new-player-requires-clause-bare : goal.new-player-requires-clause-bare
+new-player-requires-clause-bare g c κs within = still_bare g.D.Driver.ENTRIES _ _ (ap g.D.Port.Port.maps c.in-Ok.ensures.port) c.requires.bare
 
 pub returns-in-Ok-play_session-clause-came : goal.returns-in-Ok-play_session-clause-came
 returns-in-Ok-play_session-clause-came g c =

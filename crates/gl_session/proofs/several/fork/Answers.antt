@@ -7,10 +7,14 @@ use Rattle.gl_check.specs.Drivers.{driver_kind}
 use Rattle.gl_check.specs.Many.{actor_sections, program_of}
 use Rattle.gl_session.specs.Player.{Playing}
 use Rattle.gl_session.specs.Workers.{HasForked, HasForkedFull, told_at}
+use Rattle.gl_session.proofs.Bare.{still_bare}
 use Rattle.gl_session.proofs.several.fork.Goals as goal
 
 pub work_beside-requires-clause-alone : goal.work_beside-requires-clause-alone
 work_beside-requires-clause-alone g c κs within = (ap (λ (p : Playing). p.view.number) c.first.view_is ∙ c.requires.alone.0, ap (λ (p : Playing). p.view.made) c.first.view_is ∙ c.requires.alone.1)
+
+pub invariant_of-first : goal.invariant_of-first
+invariant_of-first g c = (c.work_beside.ensures.actor, still_bare g.D.Driver.ENTRIES _ _ (ap g.D.Port.Port.maps c.work_beside.ensures.port) c.first.invariant.1)
 
 pub returns-clause-told : goal.returns-clause-told
 returns-clause-told g c = ap g.D.Port.Port.told c.work_beside.ensures.port ∙ ap (λ (p : Playing). p.carried.told) c.first.view_is

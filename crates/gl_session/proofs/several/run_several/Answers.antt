@@ -4,6 +4,7 @@ use Rattle.gl_script.specs.Script.{sections_of}
 use Rattle.gl_chip.specs.Values.{OneView}
 use Rattle.gl_session.specs.Several.{texts_of}
 use Rattle.gl_session.specs.Workers.{CannotEnd, HasCarriedOut}
+use Rattle.gl_session.proofs.Bare.{others_bare, still_bare}
 use Rattle.gl_session.proofs.AllTogether.{all_there, came, first_there, taken_there}
 use Rattle.gl_session.proofs.several.run_several.Goals as goal
 use Rattle.gl_check.specs.Drivers.{driver_kind}
@@ -32,6 +33,12 @@ returns-in-Ok-carry_out-clause-others g c =
     let some : 0 < length c.args.ports.now = (let n = c.requires.ports.count in omega arith) in
     (all_there g.D.Port.Port.told (driver_kind g.D.Driver.ENTRIES g.D.Driver.is_planned g.D.Driver.OwnEntries g.D.Driver.Follows) (sections_of c.args.script.now) c.args.ports.now c.take_port.new.ports c.carry_out.new.ports c.give_port.new.ports c.in-Some.port c.finish-machine.result.2 some
     (c.take_port.ensures.taken ∙ ap Some c.in-Some.is) c.take_port.ensures.left c.give_port.ensures _ _ _ _ _ c.in-Ok-carry_out.ensures.out c.requires.ports).1
+
+pub new-first-requires-clause-bare : goal.new-first-requires-clause-bare
+new-first-requires-clause-bare g c κs within = still_bare g.D.Driver.ENTRIES _ _ (ap g.D.Port.Port.maps c.in-Ok.ensures.port) (c.requires.bare 0 c.in-Some.port (c.take_port.ensures.taken ∙ ap Some c.in-Some.is))
+
+pub carry_out-requires-clause-bare : goal.carry_out-requires-clause-bare
+carry_out-requires-clause-bare g c κs within = others_bare g.D.Driver.ENTRIES g.D.Port.Port.maps c.args.ports.now c.take_port.new.ports 0 c.take_port.ensures.left c.requires.bare
 
 pub carry_out-requires-clause-there : goal.carry_out-requires-clause-there
 carry_out-requires-clause-there g c κs within = taken_there c.args.ports.now c.take_port.new.ports c.requires.ports c.take_port.ensures.left

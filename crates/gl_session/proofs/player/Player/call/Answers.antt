@@ -1,14 +1,11 @@
 use Rattle.std.proofs.Common.{rules, ◌≡◌, ℕ, List, Ok, refl, sym, subst, ap, ◌∙◌, length}
-use Rattle.gl_world.specs.Deeds.{entries_in}
-use Rattle.gl_driver.specs.Told.{PortAfter}
-use Rattle.gl_core.specs.Device.{tells_in}
 use Rattle.gl_asking.specs.Asking.{file_for}
 use Rattle.gl_asking.specs.Files.{OpenFile}
 use Rattle.gl_asking.specs.declared.kinds.FileKind.{FileKind}
-use Rattle.gl_chip.specs.Called.{HasCalled}
-use Rattle.gl_chip.specs.Orders.{AnswersOrder, FitsFile, GivesLines, FitsOut, WroteTo, op_ordered}
+use Rattle.gl_chip.specs.Orders.{AnswersOrder, FitsFile, GivesLines, FitsOut, WroteTo}
 use Rattle.gl_asking.specs.Rows.{kind_of}
 use Rattle.gl_check.specs.Buffers.{buffer_for}
+use Rattle.gl_session.specs.Performed.{MadeFor}
 use Rattle.gl_session.proofs.Performing.{call_performs, could_not_perform, whole_again}
 use Rattle.gl_session.proofs.Suiting.{suits_call}
 use Rattle.gl_session.proofs.player.Player.call.Goals as goal
@@ -31,7 +28,7 @@ pub settle-requires-clause-opens : goal.settle-requires-clause-opens
 settle-requires-clause-opens g c κs within =
     let suits = suits_call c.args.self.now.carried.files c.args.row.now c.args.what.now c.args.order.now.call c.requires.row c.requires.found c.requires.asks in
     let made = c.in-Ok-make.ensures.made in
-    suits.opens c.args.self.now.view c.make.new.self.view c.in-Ok-make.answered.reply made.0 made.2 (subst (λ (on : FileKind). AnswersOrder c.args.order.now.call on c.in-Ok-make.answered.reply) c.requires.on c.in-Ok-make.ensures.form)
+    suits.opens g.D.Driver.ENTRIES c.args.self.now.view c.make.new.self.view c.in-Ok-make.answered.reply made.0 made.2.called (subst (λ (on : FileKind). AnswersOrder c.args.order.now.call on c.in-Ok-make.answered.reply) c.requires.on c.in-Ok-make.ensures.form)
 
 pub settle-requires-clause-named : goal.settle-requires-clause-named
 settle-requires-clause-named g c κs within =
@@ -45,8 +42,8 @@ returns-in_ok-settle-in-Ok-make-clause-performs g c =
     call_performs (driver_kind g.D.Driver.ENTRIES g.D.Driver.is_planned g.D.Driver.OwnEntries g.D.Driver.Follows) c.args.what.now c.args.self.now.view c.settle.new.self.view c.args.self.now.carried c.settle.new.self.carried c.args.order.now.call (kind_of c.args.row.now) c.in-Ok-make.answered.reply
     c.deref_mut.result.now c.make.new.out _ c.got_of.result (Ok c.got_of.result) c.make.new.self.view c.make.new.self.carried c.requires.asks suits handed
     (whole_again c.in-Ok.buffer.len c.make.new.out c.in-Ok.buffer.items (search rules) (ap length (sym c.deref_mut.ensures.value) ∙ c.deref_mut.ensures.len))
-    (subst (λ (on : FileKind). (bytes : List ℕ) × WroteTo c.args.order.now.call bytes c.deref_mut.result.now c.make.new.out × (called : HasCalled 0 c.args.self.now.view c.args.order.now.call c.in-Ok-make.answered.reply bytes c.make.new.self.view)
-    × PortAfter g.D.Driver.is_planned (op_ordered c.args.order.now.call on) (tells_in (entries_in called.did)) c.args.self.now.carried.told c.make.new.self.carried.told) c.requires.on c.in-Ok-make.ensures.made)
+    (subst (λ (on : FileKind). (bytes : List ℕ) × WroteTo c.args.order.now.call bytes c.deref_mut.result.now c.make.new.out
+    × MadeFor (driver_kind g.D.Driver.ENTRIES g.D.Driver.is_planned g.D.Driver.OwnEntries g.D.Driver.Follows) c.args.order.now.call on c.args.self.now.view c.in-Ok-make.answered.reply bytes c.make.new.self.view c.args.self.now.carried.told c.make.new.self.carried.told) c.requires.on c.in-Ok-make.ensures.made)
     c.in-Ok-make.ensures.files c.settle.ensures.view c.settle.ensures.told c.got_of.ensures (refl, c.in_ok-settle-in-Ok-make.ensures.settled) tt
 
 pub returns-in-Err-make-clause-performs : goal.returns-in-Err-make-clause-performs
