@@ -24,17 +24,15 @@ use Rattle.gl_monitor.proofs.MonitorNames.{stops_at as watching_stops_at}
 use Rattle.gl_script.specs.Table.{keyword_of}
 use Rattle.gl_talk.specs.declared.files.TalkFileKind.{TalkFileKind}
 use Rattle.gl_talk.specs.declared.files.TalkFileKind.TheVariants.{Chip, Request}
-use Rattle.gl_talk.specs.declared.actions.Action.{Action}
-use Rattle.gl_talk.specs.declared.actions.Action.TheVariants.{Nothing, Refuse, Ask}
-use Rattle.gl_talk.specs.declared.actions.ResultFormat.{ResultFormat}
-use Rattle.gl_talk.specs.declared.actions.ResultFormat.TheVariants.{Silent, Value, Level as LevelFormat, Bytes, Edges, Infos, Ready, Opened, Closed, Made, OldBytes, OldEdges, OldMade}
+use Rattle.gl_talk.specs.Formats.{Action, Nothing, Refuse, Ask, ResultFormat, Silent, Value, Level as LevelFormat, Bytes, Edges, Infos, Ready, Opened, Closed, Made, OldBytes, OldEdges, OldMade}
 use Rattle.gl_talk.specs.declared.tools.StatementKind.{StatementKind}
 use Rattle.gl_talk.specs.declared.tools.StatementKind.TheVariants.{Plain, ToolAlone, Starting, Stepping, Stopping}
+use Rattle.gl_talk.specs.Old.{made_kind, old_command_word}
 use Rattle.gl_talk.specs.Open.{File, MonitorTool, Names, SetTool, has_tool, held_of_name, is_file, is_monitor, is_set, monitor_slots, set_slots, watched_of_name, without_monitor, without_set}
 use Rattle.gl_talk.specs.Actions.{action_of}
 use Rattle.gl_talk.specs.Talk.{acts, does, does_by, file, keeps_monitor, keeps_set, replied_by, runs, starts, starts_said, starts_tool, steps, stops}
 use Rattle.gl_talk.specs.ToolWords.{kind_of, word_texts}
-use Rattle.gl_talk.specs.Words.{behind_two, name_word, turns_word}
+use Rattle.gl_talk.specs.Words.{behind_three, behind_two, bytes_said, made_name, name_word, turns_word}
 use Rattle.gl_talk.proofs.TalkNames.{ActionFits, file_times, monitor_more, one_more, open_times, action_at, set_more}
 use Rattle.gl_values.specs.Client.{held_program, tool_program}
 use Rattle.gl_values.specs.Set.{Held}
@@ -144,16 +142,16 @@ module _ (slot : ℕ) where
     replied_opens None Silent got = tt
     replied_opens None Value got = tt
     replied_opens None (LevelFormat is_pull) got = tt
-    replied_opens None (Bytes command) got = tt
+    replied_opens None Bytes got = tt
     replied_opens None Edges got = tt
     replied_opens None Infos got = tt
     replied_opens None Ready got = tt
-    replied_opens None (Opened name) got = tt
+    replied_opens None Opened got = tt
     replied_opens None Closed got = tt
-    replied_opens None (Made name) got = tt
-    replied_opens None (OldBytes kind command) got = tt
+    replied_opens None Made got = tt
+    replied_opens None (OldBytes kind) got = tt
     replied_opens None OldEdges got = tt
-    replied_opens None (OldMade kind name) got = tt
+    replied_opens None OldMade got = tt
 
     own_first : is_own slot slot ≡ true
     own_first = ap (λ b. b || nat_eq slot (slot + 1)) (same_number slot)
@@ -171,18 +169,18 @@ module _ (slot : ℕ) where
     acts_open (Ask what Silent) fits = asks what Silent (opens_what (is_own slot) (λ s. open_times s names) what (λ s e. (fits s).0))
     acts_open (Ask what Value) fits = asks what Value (opens_what (is_own slot) (λ s. open_times s names) what (λ s e. (fits s).0))
     acts_open (Ask what (LevelFormat is_pull)) fits = asks what (LevelFormat is_pull) (opens_what (is_own slot) (λ s. open_times s names) what (λ s e. (fits s).0))
-    acts_open (Ask what (Bytes command)) fits = asks what (Bytes command) (opens_what (is_own slot) (λ s. open_times s names) what (λ s e. (fits s).0))
+    acts_open (Ask what Bytes) fits = asks what Bytes (opens_what (is_own slot) (λ s. open_times s names) what (λ s e. (fits s).0))
     acts_open (Ask what Edges) fits = asks what Edges (opens_what (is_own slot) (λ s. open_times s names) what (λ s e. (fits s).0))
     acts_open (Ask what Infos) fits = asks what Infos (opens_what (is_own slot) (λ s. open_times s names) what (λ s e. (fits s).0))
     acts_open (Ask what Ready) fits = asks what Ready (opens_what (is_own slot) (λ s. open_times s names) what (λ s e. (fits s).0))
-    acts_open (Ask what (Opened name)) fits = asks what (Opened name) (subst (λ w. Opens (is_own slot) w) (sym (fits 0).1) own_first)
+    acts_open (Ask what Opened) fits = asks what Opened (subst (λ w. Opens (is_own slot) w) (sym (fits 0).1) own_first)
     acts_open (Ask what Closed) fits = asks what Closed (subst (λ w. Opens (is_own slot) w) (sym (fits 0).1) tt)
-    acts_open (Ask what (Made name)) fits =
-        asks what (Made name) (subst (λ w. Opens (is_own slot) w) (sym (fits 0).4.0) (where_so (nat_eq (fits 0).1 GET_LINE) (is_own slot slot ≡ true) own_first))
-    acts_open (Ask what (OldBytes kind command)) fits = asks what (OldBytes kind command) (opens_what (is_own slot) (λ s. open_times s names) what (λ s e. (fits s).0))
+    acts_open (Ask what Made) fits =
+        asks what Made (subst (λ w. Opens (is_own slot) w) (sym (fits 0).4.0) (where_so (nat_eq (fits 0).1 GET_LINE) (is_own slot slot ≡ true) own_first))
+    acts_open (Ask what (OldBytes kind)) fits = asks what (OldBytes kind) (opens_what (is_own slot) (λ s. open_times s names) what (λ s e. (fits s).0))
     acts_open (Ask what OldEdges) fits = asks what OldEdges (opens_what (is_own slot) (λ s. open_times s names) what (λ s e. (fits s).0))
-    acts_open (Ask what (OldMade kind name)) fits =
-        asks what (OldMade kind name) (subst (λ w. Opens (is_own slot) w) (sym (fits 0).4.0) (where_so (nat_eq (fits 0).1 GET_LINE) (is_own slot slot ≡ true) own_first))
+    acts_open (Ask what OldMade) fits =
+        asks what OldMade (subst (λ w. Opens (is_own slot) w) (sym (fits 0).4.0) (where_so (nat_eq (fits 0).1 GET_LINE) (is_own slot slot ≡ true) own_first))
 
     runs_open : (tool : Option SaidTool) → Own (runs tool names slot words)
     runs_open None = tt
@@ -305,16 +303,16 @@ module _ (slot : ℕ) where
     one_replied None Silent got = still
     one_replied None Value got = still
     one_replied None (LevelFormat is_pull) got = still
-    one_replied None (Bytes command) got = still
+    one_replied None Bytes got = still
     one_replied None Edges got = still
     one_replied None Infos got = still
     one_replied None Ready got = still
-    one_replied None (Opened name) got = one_file name Chip
+    one_replied None Opened got = one_file (text_at 1 words) Chip
     one_replied None Closed got = omega (arith, none, files_fewer slot (text_at 1 words) names.files, files_fewer (slot + 1) (text_at 1 words) names.files)
-    one_replied None (Made name) got = one_file name Request
-    one_replied None (OldBytes kind command) got = still
+    one_replied None Made got = one_file (made_name words) Request
+    one_replied None (OldBytes kind) got = still
     one_replied None OldEdges got = still
-    one_replied None (OldMade kind name) got = one_file name kind
+    one_replied None OldMade got = one_file (made_name words) (made_kind (old_command_word (text_at 2 words)) (bytes_said (behind_three words)))
 
     one_acts : (action : Action) → Gives IsOneMore (acts action names slot words)
     one_acts Nothing = still

@@ -21,18 +21,16 @@ use Rattle.gl_monitor.proofs.MonitorSlots.{stopped_slots as watching_stopped}
 use Rattle.gl_script.specs.Table.{keyword_of}
 use Rattle.gl_talk.specs.declared.files.TalkFileKind.{TalkFileKind}
 use Rattle.gl_talk.specs.declared.files.TalkFileKind.TheVariants.{Chip, Request}
-use Rattle.gl_talk.specs.declared.actions.Action.{Action}
-use Rattle.gl_talk.specs.declared.actions.Action.TheVariants.{Nothing, Refuse, Ask}
-use Rattle.gl_talk.specs.declared.actions.ResultFormat.{ResultFormat}
-use Rattle.gl_talk.specs.declared.actions.ResultFormat.TheVariants.{Silent, Value, Level, Bytes, Edges, Infos, Ready, Opened, Closed, Made, OldBytes, OldEdges, OldMade}
+use Rattle.gl_talk.specs.Formats.{Action, Nothing, Refuse, Ask, ResultFormat, Silent, Value, Level, Bytes, Edges, Infos, Ready, Opened, Closed, Made, OldBytes, OldEdges, OldMade}
 use Rattle.gl_talk.specs.declared.tools.StatementKind.{StatementKind}
 use Rattle.gl_talk.specs.declared.tools.StatementKind.TheVariants.{Plain, ToolAlone, Starting, Stepping, Stopping}
+use Rattle.gl_talk.specs.Old.{made_kind, old_command_word}
 use Rattle.gl_talk.specs.Open.{File, MonitorTool, Names, SetTool, has_tool, held_of_name, is_file, is_monitor, is_set, watched_of_name, without_monitor, without_set}
 use Rattle.gl_talk.specs.Actions.{action_of}
 use Rattle.gl_talk.specs.Slots.{OpenPass, SlotsAreOwn}
 use Rattle.gl_talk.specs.Talk.{acts, does_by, file, keeps_monitor, keeps_set, replied_by, runs, starts, starts_said, starts_tool, steps, stops}
 use Rattle.gl_talk.specs.ToolWords.{kind_of, word_texts}
-use Rattle.gl_talk.specs.Words.{behind_two, name_word, turns_word}
+use Rattle.gl_talk.specs.Words.{behind_three, behind_two, bytes_said, made_name, name_word, turns_word}
 use Rattle.gl_values.specs.Client.{held_program, tool_program}
 use Rattle.gl_values.specs.Set.{Held}
 use Rattle.gl_values.specs.Set.{stops as stops_holding}
@@ -83,16 +81,16 @@ module _ (test : ℕ → Bool) where
     replied_pass None Silent words got = held_open
     replied_pass None Value words got = held_open
     replied_pass None (Level is_pull) words got = held_open
-    replied_pass None (Bytes command) words got = held_open
+    replied_pass None Bytes words got = held_open
     replied_pass None Edges words got = held_open
     replied_pass None Infos words got = held_open
     replied_pass None Ready words got = held_open
-    replied_pass None (Opened name) words got = file_more name Chip
+    replied_pass None Opened words got = file_more (text_at 1 words) Chip
     replied_pass None Closed words got = file_less (text_at 1 words)
-    replied_pass None (Made name) words got = file_more name Request
-    replied_pass None (OldBytes kind command) words got = held_open
+    replied_pass None Made words got = file_more (made_name words) Request
+    replied_pass None (OldBytes kind) words got = held_open
     replied_pass None OldEdges words got = held_open
-    replied_pass None (OldMade kind name) words got = file_more name kind
+    replied_pass None OldMade words got = file_more (made_name words) (made_kind (old_command_word (text_at 2 words)) (bytes_said (behind_three words)))
 
     acts_pass : (action : Action) (words : List Span) → Gives (OpenPass test) (acts action names slot words)
     acts_pass Nothing words = held_open

@@ -32,10 +32,7 @@ use Rattle.gl_v1.specs.Words.{makes as makes_old, makes_file as makes_old_file, 
 use Rattle.gl_talk.specs.declared.files.TalkFileKind.{TalkFileKind}
 use Rattle.gl_talk.specs.declared.files.TalkFileKind.TheVariants.{Chip, Request, Old}
 use Rattle.gl_talk.specs.declared.paths.LineFile.{LineFile}
-use Rattle.gl_talk.specs.declared.actions.Action.{Action}
-use Rattle.gl_talk.specs.declared.actions.Action.TheVariants.{Nothing, Refuse, Ask}
-use Rattle.gl_talk.specs.declared.actions.ResultFormat.{ResultFormat}
-use Rattle.gl_talk.specs.declared.actions.ResultFormat.TheVariants.{Silent, Value, Level, Bytes, Edges, Infos, Ready, Opened, Closed, Made, OldBytes, OldEdges, OldMade}
+use Rattle.gl_talk.specs.Formats.{Action, Nothing, Refuse, Ask, ResultFormat, Silent, Value, Level, Bytes, Edges, Infos, Ready, Opened, Closed, Made, OldBytes, OldEdges, OldMade}
 use Rattle.gl_talk.specs.declared.tools.StatementKind.{StatementKind}
 use Rattle.gl_talk.specs.declared.tools.StatementKind.TheVariants.{Plain, ToolAlone, Starting, Stepping, Stopping}
 use Rattle.gl_talk.specs.Costs.{StatementsKeepWithinCost, TalksKeepWithinCost}
@@ -70,16 +67,16 @@ told_free n (Some errno) reply names slot words got = tt
 told_free n None Silent names slot words got = tt
 told_free n None Value names slot words got = tt
 told_free n None (Level is_pull) names slot words got = tt
-told_free n None (Bytes command) names slot words got = tt
+told_free n None Bytes names slot words got = tt
 told_free n None Edges names slot words got = tt
 told_free n None Infos names slot words got = tt
 told_free n None Ready names slot words got = tt
-told_free n None (Opened name) names slot words got = tt
+told_free n None Opened names slot words got = tt
 told_free n None Closed names slot words got = tt
-told_free n None (Made name) names slot words got = tt
-told_free n None (OldBytes kind command) names slot words got = tt
+told_free n None Made names slot words got = tt
+told_free n None (OldBytes kind) names slot words got = tt
 told_free n None OldEdges names slot words got = tt
-told_free n None (OldMade kind name) names slot words got = tt
+told_free n None OldMade names slot words got = tt
 
 acts_cost : (n : ℕ) (action : Action) (names : Names) (slot : ℕ) (words : List Span) → ActionCosts n action → CostsAtMost n (acts action names slot words)
 acts_cost n Nothing names slot words h = tt
@@ -115,9 +112,9 @@ writes_cost : (file : Option LineFile) (path value : List ℕ) → ActionCosts 2
 writes_cost None path value = tree_cost (live_device path) path value
 writes_cost (Some file) path value = action_if 2 file.is_pull _ _ (pulls_cost file (pull_word value)) tt
 
-opens_cost : (taken : Bool) (slot : ℕ) (name word : List ℕ) → ActionCosts 2 (opens taken slot name word)
-opens_cost true slot name word = tt
-opens_cost false slot name word = omega arith
+opens_cost : (taken : Bool) (slot : ℕ) (word : List ℕ) → ActionCosts 2 (opens taken slot word)
+opens_cost true slot word = tt
+opens_cost false slot word = omega arith
 
 file_cost : (file : Option File) (can_be_read : TalkFileKind → Bool) (len : ℕ) (reply : ResultFormat) → ActionCosts 1 (reads_file file can_be_read len reply)
 file_cost None can_be_read len reply = tt
@@ -231,7 +228,7 @@ action_cost Fault files slot first words = omega arith
 action_cost Accept files slot first words = omega arith
 action_cost Pin files slot first words = pins_cost (place_word (text_at 1 words)) (first ∷ words)
 action_cost Irq files slot first words = irqs_cost (place_word (text_at 1 words)) (first ∷ words)
-action_cost Open files slot first words = opens_cost (is_some (file_of (text_at 0 words) files)) slot (text_at 0 words) (text_at 1 words)
+action_cost Open files slot first words = opens_cost (is_some (file_of (text_at 0 words) files)) slot (text_at 1 words)
 action_cost Ioctl files slot first words = ioctls_cost (file_of (text_at 0 words) files) (takes_name (first ∷ words) files) slot first words
 action_cost Events files slot first words = file_cost (file_of (text_at 0 words) files) is_request _ Edges
 action_cost OldIoctl files slot first words = old_ioctls_cost (file_of (text_at 0 words) files) (takes_old_name (first ∷ words) files) slot first words

@@ -23,13 +23,9 @@ use Rattle.gl_script.specs.declared.table.Keyword.{Keyword}
 use Rattle.gl_script.specs.declared.table.Keyword.TheVariants.{Probe, Unplug, MakeDir, RemoveDir, Write, Read, Clock, Fault, Accept, Pin, Irq, Open, Ioctl, Events, OldIoctl, OldEvents, Changes, Poll, Close}
 use Rattle.gl_v1.specs.declared.commands.KindV1.{KindV1}
 use Rattle.gl_v1.specs.declared.sending.Sent.{Sent}
-use Rattle.gl_talk.specs.declared.files.TalkFileKind.{TalkFileKind}
 use Rattle.gl_talk.specs.declared.files.TalkFileKind.TheVariants.{Chip, Request}
 use Rattle.gl_talk.specs.declared.paths.LineFile.{LineFile}
-use Rattle.gl_talk.specs.declared.actions.Action.{Action}
-use Rattle.gl_talk.specs.declared.actions.Action.TheVariants.{Nothing, Refuse, Ask}
-use Rattle.gl_talk.specs.declared.actions.ResultFormat.{ResultFormat}
-use Rattle.gl_talk.specs.declared.actions.ResultFormat.TheVariants.{Silent, Value, Level, Bytes, Edges, Infos, Ready, Opened, Closed, Made, OldBytes, OldEdges, OldMade}
+use Rattle.gl_talk.specs.Formats.{Action, Nothing, Refuse, Ask, ResultFormat, Silent, Value, Level, Bytes, Edges, Infos, Ready, Opened, Closed, Made, OldBytes, OldEdges, OldMade}
 use Rattle.gl_talk.specs.declared.tools.StatementKind.{StatementKind}
 use Rattle.gl_talk.specs.declared.tools.StatementKind.TheVariants.{Plain, ToolAlone, Starting, Stepping, Stopping}
 use Rattle.gl_talk.specs.Old.{kind_v1, made_kind, old_command_word, old_reply, sent_new, sent_old, takes_old_name}
@@ -136,10 +132,10 @@ module _ (s k : ℕ) where
     Makes what chip command len bytes = (what ≡ DoIoctl chip command len bytes slot) × ((command == GET_LINE) ≡ true) × (one_if (nat_eq s chip) ≤ open_times s names)
 
     abbrev pub AskFits : ResultFormat → Do → Type 0
-    AskFits (Opened name) what = (word : List ℕ) × (what ≡ OpenChip slot word)
+    AskFits Opened what = (word : List ℕ) × (what ≡ OpenChip slot word)
     AskFits Closed what = (chip : ℕ) × (what ≡ DoClose chip) × FileTaken chip
-    AskFits (Made name) what = (chip : ℕ) × (command : ℕ) × (len : ℕ) × (bytes : List ℕ) × Makes what chip command len bytes
-    AskFits (OldMade kind name) what = (chip : ℕ) × (command : ℕ) × (len : ℕ) × (bytes : List ℕ) × Makes what chip command len bytes
+    AskFits Made what = (chip : ℕ) × (command : ℕ) × (len : ℕ) × (bytes : List ℕ) × Makes what chip command len bytes
+    AskFits OldMade what = (chip : ℕ) × (command : ℕ) × (len : ℕ) × (bytes : List ℕ) × Makes what chip command len bytes
     AskFits _ what = LeavesAll what
 
     abbrev pub ActionFits : Action → Type 0
@@ -149,10 +145,10 @@ module _ (s k : ℕ) where
 
     -- a reply that changes no names
     abbrev IsPlainFormat : ResultFormat → Type 0
-    IsPlainFormat (Opened name) = ⊥
+    IsPlainFormat Opened = ⊥
     IsPlainFormat Closed = ⊥
-    IsPlainFormat (Made name) = ⊥
-    IsPlainFormat (OldMade kind name) = ⊥
+    IsPlainFormat Made = ⊥
+    IsPlainFormat OldMade = ⊥
     IsPlainFormat _ = Unit {0}
 
     plain_at : (fault : Option Errno) (reply : ResultFormat) (got : Got) → IsPlainFormat reply → Keeps (open_times s names) (replied_by fault reply names slot words got)
@@ -160,28 +156,29 @@ module _ (s k : ℕ) where
     plain_at None Silent got plain = refl
     plain_at None Value got plain = refl
     plain_at None (Level is_pull) got plain = refl
-    plain_at None (Bytes command) got plain = refl
+    plain_at None Bytes got plain = refl
     plain_at None Edges got plain = refl
     plain_at None Infos got plain = refl
     plain_at None Ready got plain = refl
-    plain_at None (Opened name) got plain = absurd plain
+    plain_at None Opened got plain = absurd plain
     plain_at None Closed got plain = absurd plain
-    plain_at None (Made name) got plain = absurd plain
-    plain_at None (OldBytes kind command) got plain = refl
+    plain_at None Made got plain = absurd plain
+    plain_at None (OldBytes kind) got plain = refl
     plain_at None OldEdges got plain = refl
-    plain_at None (OldMade kind name) got plain = absurd plain
+    plain_at None OldMade got plain = absurd plain
 
-    opened_at : (name : List ℕ) (fault : Option Errno) (got : Got) → Keeps (with_one s k fault slot (open_times s names)) (replied_by fault (Opened name) names slot words got)
-    opened_at name (Some errno) got = refl
-    opened_at name None got = omega (arith, one_more s names.files (file name slot Chip))
+    opened_at : (fault : Option Errno) (got : Got) → Keeps (with_one s k fault slot (open_times s names)) (replied_by fault Opened names slot words got)
+    opened_at (Some errno) got = refl
+    opened_at None got = omega (arith, one_more s names.files (file (text_at 1 words) slot Chip))
 
-    made_at : (name : List ℕ) (fault : Option Errno) (got : Got) → Keeps (with_one s k fault slot (open_times s names)) (replied_by fault (Made name) names slot words got)
-    made_at name (Some errno) got = refl
-    made_at name None got = omega (arith, one_more s names.files (file name slot Request))
+    made_at : (fault : Option Errno) (got : Got) → Keeps (with_one s k fault slot (open_times s names)) (replied_by fault Made names slot words got)
+    made_at (Some errno) got = refl
+    made_at None got = omega (arith, one_more s names.files (file (made_name words) slot Request))
 
-    old_made_at : (kind : TalkFileKind) (name : List ℕ) (fault : Option Errno) (got : Got) → Keeps (with_one s k fault slot (open_times s names)) (replied_by fault (OldMade kind name) names slot words got)
-    old_made_at kind name (Some errno) got = refl
-    old_made_at kind name None got = omega (arith, one_more s names.files (file name slot kind))
+    old_made_at : (fault : Option Errno) (got : Got) → Keeps (with_one s k fault slot (open_times s names)) (replied_by fault OldMade names slot words got)
+    old_made_at (Some errno) got = refl
+    old_made_at None got =
+        omega (arith, one_more s names.files (file (made_name words) slot (made_kind (old_command_word (text_at 2 words)) (bytes_said (behind_three words)))))
 
     closed_at : (chip : ℕ) (fault : Option Errno) (got : Got) → FileTaken chip → fault ≡ None → Keeps (open_times s names - one_if (nat_eq s chip)) (replied_by fault Closed names slot words got)
     closed_at chip (Some errno) got taken kept = cc
@@ -191,14 +188,13 @@ module _ (s k : ℕ) where
     ask_plain what reply plain fits =
         (fits.0, λ got kept. follows_at s k (open_times s) (replied_by (refusal got) reply names slot words got) (open_times s names) (behind s k (open_times s names) what got) (sym (fits.1 got)) (plain_at (refusal got) reply got plain))
 
-    made_if : (name : List ℕ) (b : Bool) (got : Got) → b ≡ true → Keeps (cond b (with_one s k (refusal got) slot (open_times s names)) (open_times s names)) (replied_by (refusal got) (Made name) names slot words got)
-    made_if name true got e = made_at name (refusal got) got
-    made_if name false got e = cc
+    made_if : (b : Bool) (got : Got) → b ≡ true → Keeps (cond b (with_one s k (refusal got) slot (open_times s names)) (open_times s names)) (replied_by (refusal got) Made names slot words got)
+    made_if true got e = made_at (refusal got) got
+    made_if false got e = cc
 
-    old_made_if : (kind : TalkFileKind) (name : List ℕ) (b : Bool) (got : Got) → b ≡ true
-        → Keeps (cond b (with_one s k (refusal got) slot (open_times s names)) (open_times s names)) (replied_by (refusal got) (OldMade kind name) names slot words got)
-    old_made_if kind name true got e = old_made_at kind name (refusal got) got
-    old_made_if kind name false got e = cc
+    old_made_if : (b : Bool) (got : Got) → b ≡ true → Keeps (cond b (with_one s k (refusal got) slot (open_times s names)) (open_times s names)) (replied_by (refusal got) OldMade names slot words got)
+    old_made_if true got e = old_made_at (refusal got) got
+    old_made_if false got e = cc
 
     where_so : (b : Bool) (P : Type 0) → P → Where b P
     where_so true P h = h
@@ -214,26 +210,26 @@ module _ (s k : ℕ) where
       acts_at (Ask what Silent) fits = ask_plain what Silent tt fits
       acts_at (Ask what Value) fits = ask_plain what Value tt fits
       acts_at (Ask what (Level is_pull)) fits = ask_plain what (Level is_pull) tt fits
-      acts_at (Ask what (Bytes command)) fits = ask_plain what (Bytes command) tt fits
+      acts_at (Ask what Bytes) fits = ask_plain what Bytes tt fits
       acts_at (Ask what Edges) fits = ask_plain what Edges tt fits
       acts_at (Ask what Infos) fits = ask_plain what Infos tt fits
       acts_at (Ask what Ready) fits = ask_plain what Ready tt fits
-      acts_at (Ask what (Opened name)) fits =
-          subst (λ w. Keeps (open_times s names) (acts (Ask w (Opened name)) names slot words)) (sym fits.1) (room, λ got kept. opened_at name (refusal got) got)
+      acts_at (Ask what Opened) fits =
+          subst (λ w. Keeps (open_times s names) (acts (Ask w Opened) names slot words)) (sym fits.1) (room, λ got kept. opened_at (refusal got) got)
       acts_at (Ask what Closed) fits =
           subst (λ w. Keeps (open_times s names) (acts (Ask w Closed) names slot words)) (sym fits.1) (taken_le fits.0 fits.2, λ got kept. closed_at fits.0 (refusal got) got fits.2 kept)
-      acts_at (Ask what (Made name)) fits =
+      acts_at (Ask what Made) fits =
           let command = fits.1 in
           let makes = fits.4 in
-          subst (λ w. Keeps (open_times s names) (acts (Ask w (Made name)) names slot words)) (sym makes.0)
-          ((makes.2, where_so (nat_eq command GET_LINE) (open_times s names + one_if (nat_eq s slot) ≤ k) room), λ got kept. made_if name (command == GET_LINE) got makes.1)
-      acts_at (Ask what (OldBytes kind command)) fits = ask_plain what (OldBytes kind command) tt fits
+          subst (λ w. Keeps (open_times s names) (acts (Ask w Made) names slot words)) (sym makes.0)
+          ((makes.2, where_so (nat_eq command GET_LINE) (open_times s names + one_if (nat_eq s slot) ≤ k) room), λ got kept. made_if (command == GET_LINE) got makes.1)
+      acts_at (Ask what (OldBytes kind)) fits = ask_plain what (OldBytes kind) tt fits
       acts_at (Ask what OldEdges) fits = ask_plain what OldEdges tt fits
-      acts_at (Ask what (OldMade kind name)) fits =
+      acts_at (Ask what OldMade) fits =
           let command = fits.1 in
           let makes = fits.4 in
-          subst (λ w. Keeps (open_times s names) (acts (Ask w (OldMade kind name)) names slot words)) (sym makes.0)
-          ((makes.2, where_so (nat_eq command GET_LINE) (open_times s names + one_if (nat_eq s slot) ≤ k) room), λ got kept. old_made_if kind name (command == GET_LINE) got makes.1)
+          subst (λ w. Keeps (open_times s names) (acts (Ask w OldMade) names slot words)) (sym makes.0)
+          ((makes.2, where_so (nat_eq command GET_LINE) (open_times s names + one_if (nat_eq s slot) ≤ k) room), λ got kept. old_made_if (command == GET_LINE) got makes.1)
 
   -- each row
   module _ (names : Names) (slot : ℕ) (words : List Span) where
@@ -273,9 +269,9 @@ module _ (s k : ℕ) where
     writes_at None path value = tree_at (live_device path) path value
     writes_at (Some found) path value = action_if found.is_pull _ _ (pulls_at found (pull_word value)) tt
 
-    opens_at : (taken : Bool) (name word : List ℕ) → ActionsFit (opens taken slot name word)
-    opens_at true name word = tt
-    opens_at false name word = (_, refl)
+    opens_at : (taken : Bool) (word : List ℕ) → ActionsFit (opens taken slot word)
+    opens_at true word = tt
+    opens_at false word = (_, refl)
 
     -- a file of the names is open
     there : (name : List ℕ) (found : File) → file_of name names.files ≡ Some found → one_if (nat_eq s found.slot) ≤ open_times s names
@@ -293,46 +289,43 @@ module _ (s k : ℕ) where
     plain_command chip command len bytes other le =
         ((le, not_where (nat_eq command GET_LINE) (open_times s names + one_if (nat_eq s slot) ≤ k) other), λ got. not_made (nat_eq command GET_LINE) (with_one s k (refusal got) slot (open_times s names)) (open_times s names) other)
 
-    reply_if : (name : List ℕ) (chip command len : ℕ) (bytes : List ℕ) (a b c d e : Bool) → (command == GET_LINE) ≡ a → one_if (nat_eq s chip) ≤ open_times s names
-        → AskFits names slot words (cond a (Made name) (cond b (Bytes command) (cond c (Bytes command) (cond d (Bytes command) (cond e (Bytes command) Silent))))) (DoIoctl chip command len bytes slot)
-    reply_if name chip command len bytes true b c d e same le = (chip, command, len, bytes, (refl, same, le))
-    reply_if name chip command len bytes false true c d e same le = plain_command chip command len bytes same le
-    reply_if name chip command len bytes false false true d e same le = plain_command chip command len bytes same le
-    reply_if name chip command len bytes false false false true e same le = plain_command chip command len bytes same le
-    reply_if name chip command len bytes false false false false true same le = plain_command chip command len bytes same le
-    reply_if name chip command len bytes false false false false false same le = plain_command chip command len bytes same le
+    reply_if : (chip command len : ℕ) (bytes : List ℕ) (a b c d e : Bool) → (command == GET_LINE) ≡ a → one_if (nat_eq s chip) ≤ open_times s names
+        → AskFits names slot words (cond a Made (cond b Bytes (cond c Bytes (cond d Bytes (cond e Bytes Silent))))) (DoIoctl chip command len bytes slot)
+    reply_if chip command len bytes true b c d e same le = (chip, command, len, bytes, (refl, same, le))
+    reply_if chip command len bytes false true c d e same le = plain_command chip command len bytes same le
+    reply_if chip command len bytes false false true d e same le = plain_command chip command len bytes same le
+    reply_if chip command len bytes false false false true e same le = plain_command chip command len bytes same le
+    reply_if chip command len bytes false false false false true same le = plain_command chip command len bytes same le
+    reply_if chip command len bytes false false false false false same le = plain_command chip command len bytes same le
 
-    by_sent : (found : File) (sent : Sent) (name : List ℕ) → one_if (nat_eq s found.slot) ≤ open_times s names → ActionsFit (asks_for found slot sent (command_reply sent.cmd name))
-    by_sent found sent name le =
-        reply_if name found.slot sent.cmd sent.len sent.bytes (sent.cmd == GET_LINE) (sent.cmd == GET_CHIPINFO) (sent.cmd == GET_LINEINFO) (sent.cmd == GET_LINEINFO_WATCH) (sent.cmd == LINE_GET_VALUES) refl le
+    by_sent : (found : File) (sent : Sent) → one_if (nat_eq s found.slot) ≤ open_times s names → ActionsFit (asks_for found slot sent (command_reply sent.cmd))
+    by_sent found sent le =
+        reply_if found.slot sent.cmd sent.len sent.bytes (sent.cmd == GET_LINE) (sent.cmd == GET_CHIPINFO) (sent.cmd == GET_LINEINFO) (sent.cmd == GET_LINEINFO_WATCH) (sent.cmd == LINE_GET_VALUES) refl le
 
     -- what a statement of the first uAPI sends
-    old_reply_if : (kind : KindV1) (made : TalkFileKind) (name : List ℕ) (said chip command len : ℕ) (bytes : List ℕ) (a b c d : Bool) → (command == GET_LINE) ≡ a → one_if (nat_eq s chip) ≤ open_times s names
-        → AskFits names slot words (cond a (OldMade made name) (cond b (OldBytes kind said) (cond c (OldBytes kind said) (cond d (OldBytes kind said) Silent)))) (DoIoctl chip command len bytes slot)
-    old_reply_if kind made name said chip command len bytes true b c d same le = (chip, command, len, bytes, (refl, same, le))
-    old_reply_if kind made name said chip command len bytes false true c d same le = plain_command chip command len bytes same le
-    old_reply_if kind made name said chip command len bytes false false true d same le = plain_command chip command len bytes same le
-    old_reply_if kind made name said chip command len bytes false false false true same le = plain_command chip command len bytes same le
-    old_reply_if kind made name said chip command len bytes false false false false same le = plain_command chip command len bytes same le
+    old_reply_if : (kind : KindV1) (chip command len : ℕ) (bytes : List ℕ) (a b c d : Bool) → (command == GET_LINE) ≡ a → one_if (nat_eq s chip) ≤ open_times s names
+        → AskFits names slot words (cond a OldMade (cond b (OldBytes kind) (cond c (OldBytes kind) (cond d (OldBytes kind) Silent)))) (DoIoctl chip command len bytes slot)
+    old_reply_if kind chip command len bytes true b c d same le = (chip, command, len, bytes, (refl, same, le))
+    old_reply_if kind chip command len bytes false true c d same le = plain_command chip command len bytes same le
+    old_reply_if kind chip command len bytes false false true d same le = plain_command chip command len bytes same le
+    old_reply_if kind chip command len bytes false false false true same le = plain_command chip command len bytes same le
+    old_reply_if kind chip command len bytes false false false false same le = plain_command chip command len bytes same le
 
-    by_old_sent : (found : File) (sent : Sent) (command : ℕ) (bytes name : List ℕ) → one_if (nat_eq s found.slot) ≤ open_times s names
-        → ActionsFit (asks_for found slot sent (old_reply found.kind command bytes name sent.cmd))
-    by_old_sent found sent command bytes name le =
-        old_reply_if (kind_v1 found.kind) (made_kind command bytes) name command found.slot sent.cmd sent.len sent.bytes (sent.cmd == GET_LINE) (sent.cmd == GET_CHIPINFO) (sent.cmd == GET_LINEINFO) (sent.cmd == LINE_GET_VALUES) refl le
+    by_old_sent : (found : File) (sent : Sent) → one_if (nat_eq s found.slot) ≤ open_times s names → ActionsFit (asks_for found slot sent (old_reply found.kind sent.cmd))
+    by_old_sent found sent le =
+        old_reply_if (kind_v1 found.kind) found.slot sent.cmd sent.len sent.bytes (sent.cmd == GET_LINE) (sent.cmd == GET_CHIPINFO) (sent.cmd == GET_LINEINFO) (sent.cmd == LINE_GET_VALUES) refl le
 
     old_ioctls_at : (o : Option File) (taken : Bool) → file_of (text_at 1 words) names.files ≡ o → ActionsFit (old_ioctls o taken slot words)
     old_ioctls_at None taken e = tt
     old_ioctls_at (Some found) taken e =
-        let command = old_command_word (text_at 2 words) in
-        let bytes = bytes_said (behind_three words) in
-        action_if taken _ _ tt (by_old_sent found (sent_old found.kind command bytes) command bytes (name_word (made_name words)) (there (text_at 1 words) found e))
+        action_if taken _ _ tt (by_old_sent found (sent_old found.kind (old_command_word (text_at 2 words)) (bytes_said (behind_three words))) (there (text_at 1 words) found e))
 
-    bytes_at : (found : File) (command : ℕ) (name bytes : List ℕ) → one_if (nat_eq s found.slot) ≤ open_times s names → ActionsFit (ioctls_bytes found slot command name bytes)
-    bytes_at found command name bytes le = by_sent found (sent_new found.kind command bytes) name le
+    bytes_at : (found : File) (command : ℕ) (bytes : List ℕ) → one_if (nat_eq s found.slot) ≤ open_times s names → ActionsFit (ioctls_bytes found slot command bytes)
+    bytes_at found command bytes le = by_sent found (sent_new found.kind command bytes) le
 
     ioctls_at : (o : Option File) (taken : Bool) → file_of (text_at 1 words) names.files ≡ o → ActionsFit (ioctls o taken slot words)
     ioctls_at None taken e = tt
-    ioctls_at (Some found) taken e = action_if taken _ _ tt (bytes_at found (command_word (text_at 2 words)) (name_word (made_name words)) (bytes_said (behind_three words)) (there (text_at 1 words) found e))
+    ioctls_at (Some found) taken e = action_if taken _ _ tt (bytes_at found (command_word (text_at 2 words)) (bytes_said (behind_three words)) (there (text_at 1 words) found e))
 
     events_at : (o : Option File) (len : ℕ) → file_of (text_at 1 words) names.files ≡ o → ActionsFit (reads_file o is_request len Edges)
     events_at None len e = tt
@@ -367,7 +360,7 @@ module _ (s k : ℕ) where
     action_at (Some Accept) = (tt, λ got. refl)
     action_at (Some Pin) = pins_at (place_word (text_at 2 words))
     action_at (Some Irq) = irqs_at (place_word (text_at 2 words))
-    action_at (Some Open) = opens_at (is_some (file_of (text_at 1 words) names.files)) (text_at 1 words) (text_at 2 words)
+    action_at (Some Open) = opens_at (is_some (file_of (text_at 1 words) names.files)) (text_at 2 words)
     action_at (Some Ioctl) = ioctls_at (file_of (text_at 1 words) names.files) (takes_name words names.files) refl
     action_at (Some Events) = events_at (file_of (text_at 1 words) names.files) _ refl
     action_at (Some OldIoctl) = old_ioctls_at (file_of (text_at 1 words) names.files) (takes_old_name words names.files) refl

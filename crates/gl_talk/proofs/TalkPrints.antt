@@ -37,20 +37,17 @@ use Rattle.gl_values.specs.Set.{Held}
 use Rattle.gl_values.specs.Set.{stops as stops_holding}
 use Rattle.gl_values.proofs.ToolPrints.{held_lines, tool_lines}
 use Rattle.gl_values.proofs.ToolPrints.{stops_lines as held_stops_lines}
-use Rattle.gl_talk.specs.declared.actions.Action.{Action}
-use Rattle.gl_talk.specs.declared.actions.Action.TheVariants.{Nothing, Refuse, Ask}
-use Rattle.gl_talk.specs.declared.actions.ResultFormat.{ResultFormat}
-use Rattle.gl_talk.specs.declared.actions.ResultFormat.TheVariants.{Silent, Value, Level, Bytes, Edges, Infos, Ready, Opened, Closed, Made, OldBytes, OldEdges, OldMade}
+use Rattle.gl_talk.specs.Formats.{Action, Nothing, Refuse, Ask, ResultFormat, Silent, Value, Level, Bytes, Edges, Infos, Ready, Opened, Closed, Made, OldBytes, OldEdges, OldMade}
 use Rattle.gl_talk.specs.declared.tools.StatementKind.{StatementKind}
 use Rattle.gl_talk.specs.declared.tools.StatementKind.TheVariants.{Plain, ToolAlone, Starting, Stepping, Stopping}
-use Rattle.gl_talk.specs.Old.{old_edge_line, old_edge_lines, old_edge_word, old_edges_text, old_structure}
+use Rattle.gl_talk.specs.Old.{old_command_word, old_edge_line, old_edge_lines, old_edge_word, old_edges_text, old_structure}
 use Rattle.gl_talk.specs.Open.{Names, has_tool, held_of_name, slots_in_order, watched_of_name, without_monitor, without_set}
 use Rattle.gl_talk.specs.Actions.{action_of}
 use Rattle.gl_talk.specs.Printed.{StatementsPrintLines, TalksPrintLines}
 use Rattle.gl_talk.specs.Replies.{edge_line, edge_lines, edge_word, edges_text, fd_of, info_line, info_lines, infos_text, kind_word, level_text, number_of, ready_text, size_or, structure_text, text_of}
 use Rattle.gl_talk.specs.Talk.{acts, closes_all, does_by, keeps_monitor, keeps_set, quits, refused, replied_by, runs, says, slot_behind, starts, starts_said, starts_tool, steps, stops, does}
 use Rattle.gl_talk.specs.ToolWords.{kind_of, word_texts}
-use Rattle.gl_talk.specs.Words.{behind_three, behind_two, bytes_said, turns_word}
+use Rattle.gl_talk.specs.Words.{behind_three, behind_two, bytes_said, command_word, turns_word}
 
 -- the lines of edges and of changes, and none where the bytes are too many
 edge_ends : (event : Event) → ends_lines (edge_line event) ≡ true
@@ -106,17 +103,18 @@ told_lines (Some errno) reply names slot words got = refused_lines errno names
 told_lines None Silent names slot words got = tt
 told_lines None Value names slot words got = (line_ended (text_of got), tt)
 told_lines None (Level is_pull) names slot words got = (line_ended (level_text is_pull (number_of got)), tt)
-told_lines None (Bytes command) names slot words got = (structure_ends command (bytes_of got), tt)
+told_lines None Bytes names slot words got = (structure_ends (command_word (text_at 2 words)) (bytes_of got), tt)
 told_lines None Edges names slot words got = (edges_text_ends (bytes_of got), tt)
 told_lines None Infos names slot words got = (infos_text_ends (bytes_of got), tt)
 told_lines None Ready names slot words got = (line_ended (ready_text (ready_of got)), tt)
-told_lines None (Opened name) names slot words got = tt
+told_lines None Opened names slot words got = tt
 told_lines None Closed names slot words got = tt
-told_lines None (Made name) names slot words got = (line_ended (codes "fd " ++ decimal (fd_of (bytes_of got))), tt)
-told_lines None (OldBytes kind command) names slot words got =
-    (line_ended (old_structure (command_for kind command) kind command (bytes_said (behind_three words)) (bytes_of got)), tt)
+told_lines None Made names slot words got = (line_ended (codes "fd " ++ decimal (fd_of (bytes_of got))), tt)
+told_lines None (OldBytes kind) names slot words got =
+    let number = old_command_word (text_at 2 words) in
+    (line_ended (old_structure (command_for kind number) kind number (bytes_said (behind_three words)) (bytes_of got)), tt)
 told_lines None OldEdges names slot words got = (old_edges_text_ends (bytes_of got), tt)
-told_lines None (OldMade kind name) names slot words got = (line_ended (codes "fd " ++ decimal (fd_of (bytes_of got))), tt)
+told_lines None OldMade names slot words got = (line_ended (codes "fd " ++ decimal (fd_of (bytes_of got))), tt)
 
 acts_lines : (action : Action) (names : Names) (slot : ℕ) (words : List Span) → PrintsLines (acts action names slot words)
 acts_lines Nothing names slot words = tt

@@ -1,49 +1,60 @@
--- What a statement asks is what it says, with no default in a word's place.
-use Rattle.std.proofs.Common.{◌≡◌, ℕ, ◌*◌, ◌/◌, Bool, true, false, cond, ◌&&◌, List, [], Option, None, Some, refl, sym, ◌∙◌, ap, subst, arith}
+-- What a statement does by its words it does by what it says, with no default in a word's place.
+use Rattle.std.proofs.Common.{◌≡◌, ℕ, ◌*◌, ◌/◌, Bool, true, false, cond, ◌&&◌, List, [], map, Option, None, Some, refl, sym, ◌∙◌, ap, subst, arith}
 use Rattle.std.specs.Prelude.{◌==◌, if◌then◌else◌, is_some, nat_le, nat_lt, codes}
 use Rattle.std.specs.Str.{bytes_eq}
 use Rattle.std.proofs.lemmas.Bool.Decides.{nat_tests}
 use Rattle.gl_base.specs.ChipWord.{chip_number_of}
-use Rattle.gl_base.specs.CommandWord.{command_number_of}
 use Rattle.gl_base.specs.Words.{Span, text_at}
-use Rattle.gl_base.specs.declared.command.TheConstants.{GET_LINE}
-use Rattle.gl_base.specs.declared.errno.Errno.TheVariants.{BadF, Exist}
+use Rattle.gl_base.specs.Operation.{bytes_of, refusal}
+use Rattle.gl_base.specs.declared.command.TheConstants.{GET_CHIPINFO, GET_LINEINFO, GET_LINEINFO_WATCH, GET_LINE, LINE_GET_VALUES}
+use Rattle.gl_base.specs.declared.errno.Errno.{Errno}
+use Rattle.gl_base.specs.declared.errno.Errno.TheVariants.{Exist, Inval, Perm}
 use Rattle.gl_base.specs.declared.irq.IrqDo.{IrqDo}
 use Rattle.gl_base.specs.declared.irq.IrqDo.TheVariants.{Lock, Unlock, Enable, Disable, Never}
 use Rattle.gl_base.specs.declared.limits.TheConstants.{LINES_MAX, PLACES}
-use Rattle.gl_base.specs.declared.operation.Do.TheVariants.{Probe as DoProbe, MakeDir as DoMakeDir, RemoveDir as DoRemoveDir, Write as DoWrite, Read as DoRead, Live as DoLive, Tick as DoTick, Pin as DoPin, Irq as DoIrq, OpenChip as DoOpenChip, Plan as DoPlan, Accept as DoAccept}
+use Rattle.gl_base.specs.declared.operation.Do.{Do}
+use Rattle.gl_base.specs.declared.operation.Do.TheVariants.{Probe as DoProbe, Unplug as DoUnplug, MakeDir as DoMakeDir, RemoveDir as DoRemoveDir, Write as DoWrite, Read as DoRead, Live as DoLive, Tick as DoTick, Pin as DoPin, Irq as DoIrq, Pull as DoPull, Level as DoLevel, OpenChip as DoOpenChip, Ioctl as DoIoctl, ReadFile as DoReadFile, Poll as DoPoll, Close as DoClose, Plan as DoPlan, Accept as DoAccept}
+use Rattle.gl_base.specs.declared.operation.Got.{Got}
 use Rattle.gl_base.specs.declared.pin.PinDo.{PinDo}
 use Rattle.gl_base.specs.declared.pin.PinDo.TheVariants.{Range, Hold, Release}
+use Rattle.gl_client.specs.Program.{ask, done}
 use Rattle.gl_script.specs.Columns.{columns}
 use Rattle.gl_script.specs.Forms.{file_name_of, label_of, number_within, tree_path_of, within}
 use Rattle.gl_script.specs.Pieces.{made_by, named}
 use Rattle.gl_script.specs.Said.{ArePins, AreValues, Spells, chip_of, irq_name, keyword_said, pin_name, small_of}
 use Rattle.gl_script.specs.Table.{keyword_of}
 use Rattle.gl_script.specs.declared.said.Said.{Said}
-use Rattle.gl_script.specs.declared.said.Said.TheVariants.{Probe, Unplug, MakeDir, RemoveDir, Write, Read, Clock, Fault, Accept, Pin, Irq, Open, Ioctl, Events, OldIoctl, OldEvents, Changes, Start, Step, Stop}
+use Rattle.gl_script.specs.declared.said.Said.TheVariants.{Probe, Unplug, MakeDir, RemoveDir, Write, Read, Clock, Fault, Accept, Pin, Irq, Open, Ioctl, Events, OldIoctl, OldEvents, Changes, Poll, Close, Start, Step, Stop}
 use Rattle.gl_script.specs.Cost.{or_zero}
 use Rattle.gl_v1.specs.Commands.{command_for, sent_as}
 use Rattle.gl_v1.specs.To.{sent_if}
 use Rattle.gl_v1.specs.Words.{makes as makes_old, makes_file, old_number_of}
 use Rattle.gl_v1.specs.declared.commands.CommandV1.{CommandV1}
 use Rattle.gl_v1.specs.declared.commands.CommandV1.TheVariants.{ChipInfo, LineInfo, LineHandle, LineEvent, GetValues, SetValues, SetConfig}
+use Rattle.gl_v1.specs.declared.commands.KindV1.{KindV1}
 use Rattle.gl_v1.specs.declared.commands.KindV1.TheVariants.{Chip as OldChip, Handle, Event}
-use Rattle.gl_talk.specs.declared.actions.Action.{Action}
-use Rattle.gl_talk.specs.declared.actions.Action.TheVariants.{Nothing, Refuse, Ask}
-use Rattle.gl_talk.specs.declared.actions.ResultFormat.{ResultFormat}
-use Rattle.gl_talk.specs.declared.actions.ResultFormat.TheVariants.{Silent, Value, Edges, Infos, Made, Opened, OldEdges, OldMade}
+use Rattle.gl_talk.specs.declared.actions.SaidAction.{SaidAction}
+use Rattle.gl_talk.specs.declared.actions.SaidAction.TheVariants.{Refuse as SaidRefuse, Ask as SaidAsk}
+use Rattle.gl_talk.specs.declared.actions.SaidFormat.{SaidFormat}
+use Rattle.gl_talk.specs.declared.actions.SaidFormat.TheVariants.{Silent as SaidSilent, Value as SaidValue, Level as SaidLevel, Bytes as SaidBytes, Edges as SaidEdges, Infos as SaidInfos, Ready as SaidReady, Opened as SaidOpened, Closed as SaidClosed, Made as SaidMade, OldBytes as SaidOldBytes, OldEdges as SaidOldEdges, OldMade as SaidOldMade}
+use Rattle.gl_talk.specs.declared.files.TalkFile.{TalkFile}
 use Rattle.gl_talk.specs.declared.files.TalkFileKind.{TalkFileKind}
 use Rattle.gl_talk.specs.declared.files.TalkFileKind.TheVariants.{Chip, Request, Old}
 use Rattle.gl_talk.specs.declared.paths.LineFile.{LineFile}
 use Rattle.gl_talk.specs.declared.tools.StatementKind.{StatementKind}
 use Rattle.gl_talk.specs.declared.tools.StatementKind.TheVariants.{Plain, Stepping}
-use Rattle.gl_talk.specs.Actions.{action_of, asks_for, bytes_reply, command_reply, ioctls, ioctls_bytes, lives, old_ioctls, old_ioctls_bytes, opens, pin_asked, reads, reads_file, small_word, takes_name, unplugs, writes, writes_tree}
-use Rattle.gl_talk.specs.Old.{made_kind, old_bytes_reply, old_command_word, old_reply, sent_new, sent_old, takes_old_name}
-use Rattle.gl_talk.specs.Open.{File, file_of, is_chip, is_old_event, is_request}
+use Rattle.gl_talk.specs.Actions.{action_of, closes, command_reply, ioctls, ioctls_bytes, lives, old_ioctls, old_ioctls_bytes, opens, pin_said, polls, pulls, reads, reads_file, small_word, takes_name, unplugs, writes, writes_line, writes_tree}
+use Rattle.gl_talk.specs.Doing.{Does, shows}
+use Rattle.gl_talk.specs.Formats.{Action, Nothing, Refuse, Ask, ResultFormat, Silent, Value, Level, Bytes, Edges, Infos, Ready, Opened, Closed, Made, OldBytes, OldEdges, OldMade}
+use Rattle.gl_talk.specs.Old.{kind_v1, made_kind, old_command_word, old_reply, old_structure_text, sent_new, sent_old, takes_old_name}
+use Rattle.gl_talk.specs.Open.{File, Names, file_in, file_of, is_chip, is_old_event, is_request, with_file}
 use Rattle.gl_talk.specs.Paths.{line_file, live_device}
-use Rattle.gl_talk.specs.SaidActions.{StatementsAskWhatTheySay, action_said, ioctls_said, lives_said, old_ioctls_said, old_reply_said, opens_said, reads_said, reply_said, takes, writes_said, writes_tree_said}
+use Rattle.gl_talk.specs.Replies.{fd_text, structure_text}
+use Rattle.gl_talk.specs.SaidActions.{StatementsAskWhatTheySay, action_said, bytes_reply_said, closes_said, ioctls_bytes_said, ioctls_said, lives_said, old_bytes_reply_said, old_ioctls_bytes_said, old_ioctls_said, old_reply_said, opens_said, polls_said, pulls_said, reads_file_said, reads_said, reply_said, takes, writes_line_said, writes_said, writes_tree_said}
+use Rattle.gl_talk.specs.SaidTalk.{acts_said, file_said, replied_said_by, told_said}
+use Rattle.gl_talk.specs.Talk.{acts, replied_by, told}
 use Rattle.gl_talk.specs.ToolWords.{kind_of, name_said, names_tool, turns_said}
-use Rattle.gl_talk.specs.Words.{behind_three, bytes_said, command_word, irq_word, live_word, made_name, name_behind_as, name_word, number_word, or_else, path_word, place_of, place_word, turns_word}
+use Rattle.gl_talk.specs.Words.{behind_three, bytes_said, command_word, irq_word, live_word, made_name, name_behind_as, name_word, number_word, or_else, path_word, place_of, place_word, pull_word, turns_word}
 use Rattle.gl_talk.proofs.StatementCosts.{sent_cmd}
 use Rattle.gl_talk.proofs.WordReadings.{chip_word, file_name_is, file_name_word, label_is, label_word, live_device_is_read, tree_path_is, tree_path_word}
 
@@ -96,37 +107,15 @@ pin_itself (Range offset pin count) words is =
 pin_itself (Hold pin) words is = ap (λ (n : ℕ). Hold n) (small_is (text_at 3 words) pin is)
 pin_itself (Release pin) words is = ap (λ (n : ℕ). Release n) (small_is (text_at 3 words) pin is)
 
-pin_is : (what : PinDo) (words : List Span) → pin_name what ≡ text_at 1 words → ArePins what words → pin_asked words ≡ what
+pin_is : (what : PinDo) (words : List Span) → pin_name what ≡ text_at 1 words → ArePins what words → pin_said words ≡ what
 pin_is what words is each = subst (λ (w : List ℕ). pin_by w words ≡ what) is (pin_itself what words each)
 
--- what is written into the tree, and what is read of it
-lives_are : (device : List ℕ) (up : Option Bool) → name_word device ≡ device → lives device up ≡ lives_said device up
-lives_are device None is = refl
-lives_are device (Some up) is = ap (λ (d : List ℕ). Ask (DoLive d up) Silent) is
-
-tree_are : (o : Option (List ℕ)) (path value : List ℕ) → live_device path ≡ o → path_word path ≡ path → name_word value ≡ value → writes_tree o path value ≡ writes_tree_said o path value
-tree_are None path value e p v = ap (λ (t : List ℕ). Ask (DoWrite t (name_word value)) Silent) p ∙ ap (λ (t : List ℕ). Ask (DoWrite path t) Silent) v
-tree_are (Some device) path value e p v = lives_are device (live_word value) (live_device_is_read path device e)
-
-writes_are : (found : Option LineFile) (path value : List ℕ) → path_word path ≡ path → name_word value ≡ value → writes found path value ≡ writes_said found path value
-writes_are (Some found) path value p v = refl
-writes_are None path value p v = tree_are (live_device path) path value refl p v
-
-reads_are : (found : Option LineFile) (path : List ℕ) → path_word path ≡ path → reads found path ≡ reads_said found path
-reads_are (Some found) path p = refl
-reads_are None path p = ap (λ (t : List ℕ). Ask (DoRead t) Value) p
-
+-- so is a path, and a value
 path_is : (word path : List ℕ) → tree_path_of word ≡ Some path → path_word path ≡ path
 path_is word path e = ap (λ (w : List ℕ). path_word w) (sym (tree_path_is word path e)) ∙ tree_path_word word path e
 
 value_is : (word value : List ℕ) → label_of word ≡ Some value → name_word value ≡ value
 value_is word value e = ap (λ (w : List ℕ). name_word w) (sym (label_is word value e)) ∙ label_word word value e
-
--- a chip's file that is opened
-opens_are : (taken : Bool) (slot : ℕ) (first second name word : List ℕ) → name_word first ≡ name → path_word second ≡ word → opens taken slot first second ≡ opens_said taken slot name word
-opens_are true slot first second name word n p = refl
-opens_are false slot first second name word n p =
-    ap (λ (t : List ℕ). Ask (DoOpenChip slot t) (Opened (name_word first))) p ∙ ap (λ (t : List ℕ). Ask (DoOpenChip slot word) (Opened t)) n
 
 -- the name of the file that a command makes
 abbrev IsMade : Bool → List ℕ → Option (List ℕ) → Type 0
@@ -147,50 +136,6 @@ made_is false rest made e = sym (same_made None made e)
 takes_are : (makes : Bool) (word : List ℕ) (made : Option (List ℕ)) (files : List File) → IsMade makes word made → (makes && is_some (file_of word files)) ≡ takes made files
 takes_are true word made files (name, is, same, read) = ap (λ (w : List ℕ). is_some (file_of w files)) same ∙ sym (ap (λ (o : Option (List ℕ)). takes o files) is)
 takes_are false word made files is = sym (ap (λ (o : Option (List ℕ)). takes o files) is)
-
--- how the result of a command is told
-number_reply : (makes : Bool) (number : ℕ) (word : List ℕ) (made : Option (List ℕ)) → (number == GET_LINE) ≡ makes → IsMade makes word made → command_reply number (name_word word) ≡ reply_said made number
-number_reply true number word made e (name, is, same, read) =
-    ap (λ (w : List ℕ). command_reply number w) read ∙ sym (ap (λ (o : Option (List ℕ)). reply_said o number) is)
-number_reply false number word made e is =
-    ap (λ (b : Bool). if b then Made (name_word word) else bytes_reply number) e ∙ sym (ap (λ (o : Option (List ℕ)). reply_said o number) is)
-
-none_reply : (word : List ℕ) (made : Option (List ℕ)) → command_reply 0 (name_word word) ≡ reply_said made 0
-none_reply word None = refl
-none_reply word (Some name) = refl
-
-reply_is : (kind : TalkFileKind) (command : ℕ) (bytes word : List ℕ) (made : Option (List ℕ)) → IsMade (command == GET_LINE) word made
-    → command_reply (sent_new kind command bytes).cmd (name_word word) ≡ reply_said made (sent_new kind command bytes).cmd
-reply_is Chip command bytes word made is = number_reply (command == GET_LINE) command word made refl is
-reply_is Request command bytes word made is = number_reply (command == GET_LINE) command word made refl is
-reply_is (Old kind) command bytes word made is = none_reply word made
-
--- a command with its number
-abbrev ioctl_with : Option File → Bool → ℕ → ℕ → List ℕ → List ℕ → Action
-ioctl_with None taken slot command name bytes = Refuse BadF
-ioctl_with (Some file) taken slot command name bytes = if taken then Refuse Exist else ioctls_bytes file slot command name bytes
-
-commanded : (file : Option File) (taken : Bool) (slot : ℕ) (words : List Span)
-    → ioctls file taken slot words ≡ ioctl_with file taken slot (command_word (text_at 2 words)) (name_word (made_name words)) (bytes_said (behind_three words))
-commanded None taken slot words = refl
-commanded (Some file) taken slot words = refl
-
-ioctl_is : (o : Option File) (slot command : ℕ) (word : List ℕ) (made : Option (List ℕ)) (files : List File) (bytes : List ℕ) → IsMade (command == GET_LINE) word made
-    → ioctl_with o ((command == GET_LINE) && is_some (file_of word files)) slot command (name_word word) bytes ≡ ioctls_said o slot command made files bytes
-ioctl_is None slot command word made files bytes is = refl
-ioctl_is (Some file) slot command word made files bytes is =
-    ap (λ (taken : Bool). if taken then Refuse Exist else ioctls_bytes file slot command (name_word word) bytes) (takes_are (command == GET_LINE) word made files is)
-    ∙ ap (λ (reply : ResultFormat). if takes made files then Refuse Exist else asks_for file slot (sent_new file.kind command bytes) reply) (reply_is file.kind command bytes word made is)
-
-command_is : (words : List Span) (files : List File) (slot command : ℕ) (made : Option (List ℕ)) → command_number_of (text_at 2 words) ≡ Some command → made_by (command == GET_LINE) (behind_three words) ≡ Some made
-    → ioctls (file_of (text_at 1 words) files) (takes_name words files) slot words ≡ ioctls_said (file_of (text_at 1 words) files) slot command made files (bytes_said (behind_three words))
-command_is words files slot command made is e =
-    let word = made_name words in
-    let file = file_of (text_at 1 words) files in
-    let bytes = bytes_said (behind_three words) in
-    commanded file (takes_name words files) slot words
-    ∙ ap (λ (o : Option ℕ). ioctl_with file ((or_else 0 o == GET_LINE) && is_some (file_of word files)) slot (or_else 0 o) (name_word word) bytes) is
-    ∙ ioctl_is file slot command word made files bytes (made_is (command == GET_LINE) (behind_three words) made e)
 
 -- a command of the first uAPI: what is sent makes a file only where the command does
 never_made : (number : ℕ) → (number == GET_LINE) ≡ false → (number == GET_LINE) ≡ true → ⊥
@@ -229,88 +174,250 @@ sent_makes (Old OldChip) command bytes e = chip_makes (command_for OldChip comma
 sent_makes (Old (Handle lines)) command bytes e = absurd (no_handle (0xC040B408 == command) (0xC040B409 == command) (0xC054B40A == command) lines bytes e)
 sent_makes (Old Event) command bytes e = absurd (no_event (0xC040B408 == command) bytes e)
 
-old_none : (made : Option (List ℕ)) (kind : TalkFileKind) (command : ℕ) (bytes : List ℕ) (number : ℕ) → (number == GET_LINE) ≡ false → old_bytes_reply kind command number ≡ old_reply_said made kind command bytes number
+old_none : (made : Option (List ℕ)) (kind : TalkFileKind) (command : ℕ) (bytes : List ℕ) (number : ℕ) → (number == GET_LINE) ≡ false
+    → old_bytes_reply_said kind command number ≡ old_reply_said made kind command bytes number
 old_none None kind command bytes number e = refl
-old_none (Some name) kind command bytes number e = sym (ap (λ (b : Bool). if b then OldMade (made_kind command bytes) name else old_bytes_reply kind command number) e)
+old_none (Some name) kind command bytes number e = sym (ap (λ (b : Bool). if b then SaidOldMade (made_kind command bytes) name else old_bytes_reply_said kind command number) e)
 
-old_number_reply : (made_so : Bool) (makes : Bool) (kind : TalkFileKind) (command : ℕ) (bytes : List ℕ) (number : ℕ) (word : List ℕ) (made : Option (List ℕ)) → (number == GET_LINE) ≡ made_so
-    → (made_so ≡ true → makes ≡ true) → IsMade makes word made → old_reply kind command bytes (name_word word) number ≡ old_reply_said made kind command bytes number
-old_number_reply true true kind command bytes number word made e so (name, is, same, read) =
-    ap (λ (w : List ℕ). old_reply kind command bytes w number) read ∙ sym (ap (λ (o : Option (List ℕ)). old_reply_said o kind command bytes number) is)
-old_number_reply true false kind command bytes number word made e so is = absurd (not_so (so refl))
-  where
-    not_so : false ≡ true → ⊥
-    not_so e = cc
-old_number_reply false makes kind command bytes number word made e so is =
-    ap (λ (b : Bool). if b then OldMade (made_kind command bytes) (name_word word) else old_bytes_reply kind command number) e ∙ old_none made kind command bytes number e
+not_so : false ≡ true → ⊥
+not_so e = cc
 
-abbrev old_ioctl_with : Option File → Bool → ℕ → ℕ → List ℕ → List ℕ → Action
-old_ioctl_with None taken slot command name bytes = Refuse BadF
-old_ioctl_with (Some file) taken slot command name bytes = if taken then Refuse Exist else old_ioctls_bytes file slot command name bytes
+-- how the result of a command is told that makes no file, by which command it is
+abbrev bytes_by : Bool → Bool → Bool → Bool → ResultFormat
+bytes_by a b c d = if a then Bytes else if b then Bytes else if c then Bytes else if d then Bytes else Silent
 
-old_commanded : (file : Option File) (taken : Bool) (slot : ℕ) (words : List Span)
-    → old_ioctls file taken slot words ≡ old_ioctl_with file taken slot (old_command_word (text_at 2 words)) (name_word (made_name words)) (bytes_said (behind_three words))
-old_commanded None taken slot words = refl
-old_commanded (Some file) taken slot words = refl
+abbrev said_by : ℕ → Bool → Bool → Bool → Bool → SaidFormat
+said_by number a b c d = if a then SaidBytes number else if b then SaidBytes number else if c then SaidBytes number else if d then SaidBytes number else SaidSilent
 
-old_ioctl_is : (o : Option File) (slot command : ℕ) (word : List ℕ) (made : Option (List ℕ)) (files : List File) (bytes : List ℕ) → IsMade (makes_file (Some command)) word made
-    → old_ioctl_with o (makes_file (Some command) && is_some (file_of word files)) slot command (name_word word) bytes ≡ old_ioctls_said o slot command made files bytes
-old_ioctl_is None slot command word made files bytes is = refl
-old_ioctl_is (Some file) slot command word made files bytes is =
-    let sent = sent_old file.kind command bytes in
-    ap (λ (taken : Bool). if taken then Refuse Exist else old_ioctls_bytes file slot command (name_word word) bytes) (takes_are (makes_file (Some command)) word made files is)
-    ∙ ap (λ (reply : ResultFormat). if takes made files then Refuse Exist else asks_for file slot sent reply)
-    (old_number_reply (sent.cmd == GET_LINE) (makes_file (Some command)) file.kind command bytes sent.cmd word made refl (sent_makes file.kind command bytes) is)
+abbrev old_by : KindV1 → Bool → Bool → Bool → ResultFormat
+old_by kind a b c = if a then OldBytes kind else if b then OldBytes kind else if c then OldBytes kind else Silent
 
-old_command_is : (words : List Span) (files : List File) (slot command : ℕ) (made : Option (List ℕ)) → old_number_of (text_at 2 words) ≡ Some command → made_by (makes_file (Some command)) (behind_three words) ≡ Some made
-    → old_ioctls (file_of (text_at 1 words) files) (takes_old_name words files) slot words ≡ old_ioctls_said (file_of (text_at 1 words) files) slot command made files (bytes_said (behind_three words))
-old_command_is words files slot command made is e =
-    let word = made_name words in
-    let file = file_of (text_at 1 words) files in
-    let bytes = bytes_said (behind_three words) in
-    old_commanded file (takes_old_name words files) slot words
-    ∙ ap (λ (o : Option ℕ). old_ioctl_with file (makes_file o && is_some (file_of word files)) slot (or_else 0 o) (name_word word) bytes) is
-    ∙ old_ioctl_is file slot command word made files bytes (made_is (makes_file (Some command)) (behind_three words) made e)
+abbrev old_said_by : KindV1 → ℕ → Bool → Bool → Bool → SaidFormat
+old_said_by kind command a b c = if a then SaidOldBytes kind command else if b then SaidOldBytes kind command else if c then SaidOldBytes kind command else SaidSilent
 
--- each statement, one after the other
-row_is : (said : Said) (words : List Span) (files : List File) (slot : ℕ) → AreValues said words → action_of (Some (keyword_said said)) files slot words ≡ action_said said files slot words
-row_is (Probe label lines) words files slot is =
-    ap (λ (n : ℕ). Ask (DoProbe (name_word (text_at 1 words)) n) Silent) (number_is 1 LINES_MAX (text_at 2 words) lines is.1)
-    ∙ ap (λ (name : List ℕ). Ask (DoProbe name lines) Silent) (label_word (text_at 1 words) label is.0)
-row_is (Unplug chip) words files slot is = ap (λ (n : ℕ). unplugs n) (place_is (text_at 1 words) chip is)
-row_is (MakeDir path) words files slot is = ap (λ (p : List ℕ). Ask (DoMakeDir p) Silent) (tree_path_word (text_at 1 words) path is)
-row_is (RemoveDir path) words files slot is = ap (λ (p : List ℕ). Ask (DoRemoveDir p) Silent) (tree_path_word (text_at 1 words) path is)
-row_is (Write path value) words files slot is =
-    ap (λ (w : List ℕ). writes (line_file w) w (text_at 2 words)) (tree_path_is (text_at 1 words) path is.0)
-    ∙ ap (λ (w : List ℕ). writes (line_file path) path w) (label_is (text_at 2 words) value is.1)
-    ∙ writes_are (line_file path) path value (path_is (text_at 1 words) path is.0) (value_is (text_at 2 words) value is.1)
-row_is (Read path) words files slot is =
-    ap (λ (w : List ℕ). reads (line_file w) w) (tree_path_is (text_at 1 words) path is) ∙ reads_are (line_file path) path (path_is (text_at 1 words) path is)
-row_is (Clock mono real) words files slot is =
-    ap (λ (n : ℕ). Ask (DoTick n (number_word 0 0xFFFFFFFFFFFFFFFF (text_at 2 words))) Silent) (number_is 0 0xFFFFFFFFFFFFFFFF (text_at 1 words) mono is.0)
-    ∙ ap (λ (n : ℕ). Ask (DoTick mono n) Silent) (number_is 0 0xFFFFFFFFFFFFFFFF (text_at 2 words) real is.1)
-row_is (Fault nth) words files slot is = ap (λ (n : ℕ). Ask (DoPlan n) Silent) (number_is 1 1000000 (text_at 1 words) nth is)
-row_is (Accept bits) words files slot is = ap (λ (n : ℕ). Ask (DoAccept n) Silent) (number_is 0 0xFFFFFFFFFFFFFFFF (text_at 1 words) bits is)
-row_is (Pin chip what) words files slot is =
-    ap (λ (n : ℕ). Ask (DoPin n (pin_asked words)) Silent) (place_is (text_at 2 words) chip is.1)
-    ∙ ap (λ (w : PinDo). Ask (DoPin chip w) Silent) (pin_is what words is.0 is.2)
-row_is (Irq what chip offset) words files slot is =
-    ap (λ (n : ℕ). Ask (DoIrq n (small_word (text_at 3 words)) (irq_word (text_at 1 words))) Silent) (place_is (text_at 2 words) chip is.1)
-    ∙ ap (λ (n : ℕ). Ask (DoIrq chip n (irq_word (text_at 1 words))) Silent) (small_is (text_at 3 words) offset is.2)
-    ∙ ap (λ (w : IrqDo). Ask (DoIrq chip offset w) Silent) (irq_is (text_at 1 words) what is.0)
-row_is (Open name word) words files slot is =
-    ap (λ (w : List ℕ). opens (is_some (file_of w files)) slot (text_at 1 words) (text_at 2 words)) (file_name_is (text_at 1 words) name is.0)
-    ∙ opens_are (is_some (file_of name files)) slot (text_at 1 words) (text_at 2 words) name word (file_name_word (text_at 1 words) name is.0) (chip_word (text_at 2 words) word is.1)
-row_is (Ioctl command made) words files slot is = command_is words files slot command made is.0 is.1
-row_is (Events len) words files slot is = ap (λ (n : ℕ). reads_file (file_of (text_at 1 words) files) is_request n Edges) (number_is 0 49152 (text_at 2 words) len is)
-row_is (OldIoctl command made) words files slot is = old_command_is words files slot command made is.0 is.1
-row_is (OldEvents len) words files slot is = ap (λ (n : ℕ). reads_file (file_of (text_at 1 words) files) is_old_event (48 * (n / 16)) OldEdges) (number_is 0 16384 (text_at 2 words) len is)
-row_is (Changes len) words files slot is = ap (λ (n : ℕ). reads_file (file_of (text_at 1 words) files) is_chip n Infos) (number_is 0 9216 (text_at 2 words) len is)
-row_is said words files slot is = refl
+module _ (names : Names) (slot : ℕ) (words : List Span) where
+  abbrev doing : Action → Does
+  doing action = acts action names slot words
+
+  -- the same is done by an action of the words and by one of what they say
+  abbrev Same : Action → SaidAction → Type 0
+  Same action said = acts action names slot words ≡ acts_said said names slot words
+
+  -- the same is told of each result
+  abbrev Tells : ResultFormat → SaidFormat → Type 0
+  Tells reply said = (got : Got) → told reply names slot words got ≡ told_said said names slot words got
+
+  by_fault : (fault : Option Errno) (reply : ResultFormat) (said : SaidFormat) (got : Got) → told reply names slot words got ≡ told_said said names slot words got
+      → replied_by fault reply names slot words got ≡ replied_said_by fault said names slot words got
+  by_fault (Some errno) reply said got same = refl
+  by_fault None reply said got same = same
+
+  asks : (what : Do) (reply : ResultFormat) (said : SaidFormat) → Tells reply said → Same (Ask what reply) (SaidAsk what said)
+  asks what reply said same = λ i. ask what (λ got. by_fault (refusal got) reply said got (same got) i)
+
+  silent : (what : Do) → Same (Ask what Silent) (SaidAsk what SaidSilent)
+  silent what = asks what Silent SaidSilent (λ got. refl)
+
+  same_if : (test : Bool) (a b : Action) (c d : SaidAction) → Same a c → Same b d → Same (if test then a else b) (if test then c else d)
+  same_if true a b c d p q = p
+  same_if false a b c d p q = q
+
+  -- what is written into the tree, and what is read of it
+  pulls_are : (found : LineFile) (up : Option Bool) → Same (pulls found up) (pulls_said found up)
+  pulls_are found None = refl
+  pulls_are found (Some up) = silent (DoPull found.chip found.offset up)
+
+  line_are : (found : LineFile) (value : List ℕ) → Same (writes_line found value) (writes_line_said found value)
+  line_are found value =
+      same_if found.is_pull (pulls found (pull_word value)) (Refuse Perm) (pulls_said found (pull_word value)) (SaidRefuse Perm) (pulls_are found (pull_word value)) refl
+
+  lives_are : (device : List ℕ) (up : Option Bool) → name_word device ≡ device → Same (lives device up) (lives_said device up)
+  lives_are device None is = refl
+  lives_are device (Some up) is = ap (λ (d : List ℕ). doing (Ask (DoLive d up) Silent)) is ∙ silent (DoLive device up)
+
+  tree_are : (o : Option (List ℕ)) (path value : List ℕ) → live_device path ≡ o → path_word path ≡ path → name_word value ≡ value → Same (writes_tree o path value) (writes_tree_said o path value)
+  tree_are None path value e p v =
+      ap (λ (t : List ℕ). doing (Ask (DoWrite t (name_word value)) Silent)) p ∙ ap (λ (t : List ℕ). doing (Ask (DoWrite path t) Silent)) v ∙ silent (DoWrite path value)
+  tree_are (Some device) path value e p v = lives_are device (live_word value) (live_device_is_read path device e)
+
+  writes_are : (found : Option LineFile) (path value : List ℕ) → path_word path ≡ path → name_word value ≡ value → Same (writes found path value) (writes_said found path value)
+  writes_are (Some found) path value p v = line_are found value
+  writes_are None path value p v = tree_are (live_device path) path value refl p v
+
+  reads_are : (found : Option LineFile) (path : List ℕ) → path_word path ≡ path → Same (reads found path) (reads_said found path)
+  reads_are (Some found) path p = asks (DoLevel found.chip found.offset found.is_pull) (Level found.is_pull) (SaidLevel found.is_pull) (λ got. refl)
+  reads_are None path p = ap (λ (t : List ℕ). doing (Ask (DoRead t) Value)) p ∙ asks (DoRead path) Value SaidValue (λ got. refl)
+
+  -- a chip's file that is opened
+  opens_are : (taken : Bool) (name word : List ℕ) → name_word (text_at 1 words) ≡ name → path_word (text_at 2 words) ≡ word → Same (opens taken slot (text_at 2 words)) (opens_said taken slot name word)
+  opens_are true name word n p = refl
+  opens_are false name word n p =
+      ap (λ (t : List ℕ). doing (Ask (DoOpenChip slot t) Opened)) p
+      ∙ asks (DoOpenChip slot word) Opened (SaidOpened name) (λ got. ap (λ (t : List ℕ). done (with_file (file_said t slot Chip) names)) n)
+
+  -- what is read of a file, what is ready of it, and its end
+  file_are : (o : Option File) (can_be_read : TalkFileKind → Bool) (len : ℕ) (reply : ResultFormat) (said : SaidFormat) → Tells reply said
+      → Same (reads_file o can_be_read len reply) (reads_file_said o can_be_read len said)
+  file_are None can_be_read len reply said same = refl
+  file_are (Some found) can_be_read len reply said same =
+      same_if (can_be_read found.kind) (Ask (DoReadFile found.slot len) reply) (Refuse Inval) (SaidAsk (DoReadFile found.slot len) said) (SaidRefuse Inval)
+      (asks (DoReadFile found.slot len) reply said same) refl
+
+  polls_are : (o : Option File) → Same (polls o) (polls_said o)
+  polls_are None = refl
+  polls_are (Some found) = asks (DoPoll found.slot) Ready SaidReady (λ got. refl)
+
+  closes_are : (o : Option File) → Same (closes o) (closes_said o)
+  closes_are None = refl
+  closes_are (Some found) = asks (DoClose found.slot) Closed SaidClosed (λ got. refl)
+
+  -- how the result of a command is told
+  bytes_told : (number : ℕ) (a b c d : Bool) (got : Got) → command_word (text_at 2 words) ≡ number → told (bytes_by a b c d) names slot words got ≡ told_said (said_by number a b c d) names slot words got
+  bytes_told number true b c d got is = ap (λ (n : ℕ). shows (structure_text n (bytes_of got)) names) is
+  bytes_told number false true c d got is = ap (λ (n : ℕ). shows (structure_text n (bytes_of got)) names) is
+  bytes_told number false false true d got is = ap (λ (n : ℕ). shows (structure_text n (bytes_of got)) names) is
+  bytes_told number false false false true got is = ap (λ (n : ℕ). shows (structure_text n (bytes_of got)) names) is
+  bytes_told number false false false false got is = refl
+
+  number_told : (makes : Bool) (number : ℕ) (made : Option (List ℕ)) (got : Got) → (number == GET_LINE) ≡ makes → command_word (text_at 2 words) ≡ number → IsMade makes (made_name words) made
+      → told (command_reply number) names slot words got ≡ told_said (reply_said made number) names slot words got
+  number_told true number made got e is (name, so, same, read) =
+      ap (λ (b : Bool). told (if b then Made else bytes_by (number == GET_CHIPINFO) (number == GET_LINEINFO) (number == GET_LINEINFO_WATCH) (number == LINE_GET_VALUES)) names slot words got) e
+      ∙ ap (λ (t : List ℕ). shows (fd_text (bytes_of got)) (with_file (file_said t slot Request) names)) read
+      ∙ sym (ap (λ (b : Bool). told_said (if b then SaidMade name else bytes_reply_said number) names slot words got) e)
+      ∙ sym (ap (λ (o : Option (List ℕ)). told_said (reply_said o number) names slot words got) so)
+  number_told false number made got e is so =
+      ap (λ (b : Bool). told (if b then Made else bytes_by (number == GET_CHIPINFO) (number == GET_LINEINFO) (number == GET_LINEINFO_WATCH) (number == LINE_GET_VALUES)) names slot words got) e
+      ∙ bytes_told number (number == GET_CHIPINFO) (number == GET_LINEINFO) (number == GET_LINEINFO_WATCH) (number == LINE_GET_VALUES) got is
+      ∙ sym (ap (λ (o : Option (List ℕ)). told_said (reply_said o number) names slot words got) so)
+
+  new_told : (kind : TalkFileKind) (command : ℕ) (bytes : List ℕ) (made : Option (List ℕ)) → command_word (text_at 2 words) ≡ command → IsMade (command == GET_LINE) (made_name words) made
+      → Tells (command_reply (sent_new kind command bytes).cmd) (reply_said made (sent_new kind command bytes).cmd)
+  new_told Chip command bytes made is so = λ got. number_told (command == GET_LINE) command made got refl is so
+  new_told Request command bytes made is so = λ got. number_told (command == GET_LINE) command made got refl is so
+  new_told (Old kind) command bytes None is so = λ got. refl
+  new_told (Old kind) command bytes (Some name) is so = λ got. refl
+
+  bytes_are : (found : File) (command : ℕ) (bytes : List ℕ) (made : Option (List ℕ)) → command_word (text_at 2 words) ≡ command → IsMade (command == GET_LINE) (made_name words) made
+      → Same (ioctls_bytes found slot command bytes) (ioctls_bytes_said found slot command made bytes)
+  bytes_are found command bytes made is so =
+      let sent = sent_new found.kind command bytes in
+      asks (DoIoctl found.slot sent.cmd sent.len sent.bytes slot) (command_reply sent.cmd) (reply_said made sent.cmd) (new_told found.kind command bytes made is so)
+
+  command_are : (o : Option File) (files : List File) (command : ℕ) (made : Option (List ℕ)) → command_word (text_at 2 words) ≡ command → IsMade (command == GET_LINE) (made_name words) made
+      → Same (ioctls o (takes_name words files) slot words) (ioctls_said o slot command made files (bytes_said (behind_three words)))
+  command_are None files command made is so = refl
+  command_are (Some found) files command made is so =
+      let bytes = bytes_said (behind_three words) in
+      ap (λ (n : ℕ). doing (if (n == GET_LINE) && is_some (file_of (made_name words) files) then Refuse Exist else ioctls_bytes found slot n bytes)) is
+      ∙ ap (λ (taken : Bool). doing (if taken then Refuse Exist else ioctls_bytes found slot command bytes)) (takes_are (command == GET_LINE) (made_name words) made files so)
+      ∙ same_if (takes made files) (Refuse Exist) (ioctls_bytes found slot command bytes) (SaidRefuse Exist) (ioctls_bytes_said found slot command made bytes) refl (bytes_are found command bytes made is so)
+
+  -- and of one of the first uAPI
+  old_bytes_told : (kind : KindV1) (command : ℕ) (a b c : Bool) (got : Got) → old_command_word (text_at 2 words) ≡ command
+      → told (old_by kind a b c) names slot words got ≡ told_said (old_said_by kind command a b c) names slot words got
+  old_bytes_told kind command true b c got is = ap (λ (n : ℕ). shows (old_structure_text kind n (bytes_said (behind_three words)) (bytes_of got)) names) is
+  old_bytes_told kind command false true c got is = ap (λ (n : ℕ). shows (old_structure_text kind n (bytes_said (behind_three words)) (bytes_of got)) names) is
+  old_bytes_told kind command false false true got is = ap (λ (n : ℕ). shows (old_structure_text kind n (bytes_said (behind_three words)) (bytes_of got)) names) is
+  old_bytes_told kind command false false false got is = refl
+
+  old_number_told : (gets makes : Bool) (kind : TalkFileKind) (command number : ℕ) (made : Option (List ℕ)) (got : Got) → (number == GET_LINE) ≡ gets → (gets ≡ true → makes ≡ true)
+      → old_command_word (text_at 2 words) ≡ command → IsMade makes (made_name words) made
+      → told (old_reply kind number) names slot words got ≡ told_said (old_reply_said made kind command (bytes_said (behind_three words)) number) names slot words got
+  old_number_told true true kind command number made got e fits is (name, so, same, read) =
+      let bytes = bytes_said (behind_three words) in
+      ap (λ (b : Bool). told (if b then OldMade else old_by (kind_v1 kind) (number == GET_CHIPINFO) (number == GET_LINEINFO) (number == LINE_GET_VALUES)) names slot words got) e
+      ∙ ap (λ (t : List ℕ). shows (fd_text (bytes_of got)) (with_file (file_said t slot (made_kind (old_command_word (text_at 2 words)) bytes)) names)) read
+      ∙ ap (λ (n : ℕ). shows (fd_text (bytes_of got)) (with_file (file_said name slot (made_kind n bytes)) names)) is
+      ∙ sym (ap (λ (b : Bool). told_said (if b then SaidOldMade (made_kind command bytes) name else old_bytes_reply_said kind command number) names slot words got) e)
+      ∙ sym (ap (λ (o : Option (List ℕ)). told_said (old_reply_said o kind command bytes number) names slot words got) so)
+  old_number_told true false kind command number made got e fits is so = absurd (not_so (fits refl))
+  old_number_told false makes kind command number made got e fits is so =
+      ap (λ (b : Bool). told (if b then OldMade else old_by (kind_v1 kind) (number == GET_CHIPINFO) (number == GET_LINEINFO) (number == LINE_GET_VALUES)) names slot words got) e
+      ∙ old_bytes_told (kind_v1 kind) command (number == GET_CHIPINFO) (number == GET_LINEINFO) (number == LINE_GET_VALUES) got is
+      ∙ ap (λ (reply : SaidFormat). told_said reply names slot words got) (old_none made kind command (bytes_said (behind_three words)) number e)
+
+  old_bytes_are : (found : File) (command : ℕ) (made : Option (List ℕ)) → old_command_word (text_at 2 words) ≡ command → IsMade (makes_file (Some command)) (made_name words) made
+      → Same (old_ioctls_bytes found slot command (bytes_said (behind_three words))) (old_ioctls_bytes_said found slot command made (bytes_said (behind_three words)))
+  old_bytes_are found command made is so =
+      let bytes = bytes_said (behind_three words) in
+      let sent = sent_old found.kind command bytes in
+      asks (DoIoctl found.slot sent.cmd sent.len sent.bytes slot) (old_reply found.kind sent.cmd) (old_reply_said made found.kind command bytes sent.cmd)
+      (λ got. old_number_told (sent.cmd == GET_LINE) (makes_file (Some command)) found.kind command sent.cmd made got refl (sent_makes found.kind command bytes) is so)
+
+  old_command_are : (o : Option File) (files : List File) (command : ℕ) (made : Option (List ℕ)) → old_number_of (text_at 2 words) ≡ Some command → IsMade (makes_file (Some command)) (made_name words) made
+      → Same (old_ioctls o (takes_old_name words files) slot words) (old_ioctls_said o slot command made files (bytes_said (behind_three words)))
+  old_command_are None files command made is so = refl
+  old_command_are (Some found) files command made is so =
+      let bytes = bytes_said (behind_three words) in
+      ap (λ (o : Option ℕ). doing (if makes_file o && is_some (file_of (made_name words) files) then Refuse Exist else old_ioctls_bytes found slot (or_else 0 o) bytes)) is
+      ∙ ap (λ (taken : Bool). doing (if taken then Refuse Exist else old_ioctls_bytes found slot command bytes)) (takes_are (makes_file (Some command)) (made_name words) made files so)
+      ∙ same_if (takes made files) (Refuse Exist) (old_ioctls_bytes found slot command bytes) (SaidRefuse Exist) (old_ioctls_bytes_said found slot command made bytes) refl
+      (old_bytes_are found command made (ap (λ (o : Option ℕ). or_else 0 o) is) so)
+
+  -- each statement, one after the other
+  row_is : (said : Said) (files : List File) → AreValues said words → Same (action_of (Some (keyword_said said)) files slot words) (action_said said files slot words)
+  row_is (Probe label lines) files is =
+      ap (λ (n : ℕ). doing (Ask (DoProbe (name_word (text_at 1 words)) n) Silent)) (number_is 1 LINES_MAX (text_at 2 words) lines is.1)
+      ∙ ap (λ (name : List ℕ). doing (Ask (DoProbe name lines) Silent)) (label_word (text_at 1 words) label is.0)
+      ∙ silent (DoProbe label lines)
+  row_is (Unplug chip) files is = ap (λ (n : ℕ). doing (unplugs n)) (place_is (text_at 1 words) chip is) ∙ silent (DoUnplug chip)
+  row_is (MakeDir path) files is = ap (λ (p : List ℕ). doing (Ask (DoMakeDir p) Silent)) (tree_path_word (text_at 1 words) path is) ∙ silent (DoMakeDir path)
+  row_is (RemoveDir path) files is = ap (λ (p : List ℕ). doing (Ask (DoRemoveDir p) Silent)) (tree_path_word (text_at 1 words) path is) ∙ silent (DoRemoveDir path)
+  row_is (Write path value) files is =
+      ap (λ (w : List ℕ). doing (writes (line_file w) w (text_at 2 words))) (tree_path_is (text_at 1 words) path is.0)
+      ∙ ap (λ (w : List ℕ). doing (writes (line_file path) path w)) (label_is (text_at 2 words) value is.1)
+      ∙ writes_are (line_file path) path value (path_is (text_at 1 words) path is.0) (value_is (text_at 2 words) value is.1)
+  row_is (Read path) files is =
+      ap (λ (w : List ℕ). doing (reads (line_file w) w)) (tree_path_is (text_at 1 words) path is) ∙ reads_are (line_file path) path (path_is (text_at 1 words) path is)
+  row_is (Clock mono real) files is =
+      ap (λ (n : ℕ). doing (Ask (DoTick n (number_word 0 0xFFFFFFFFFFFFFFFF (text_at 2 words))) Silent)) (number_is 0 0xFFFFFFFFFFFFFFFF (text_at 1 words) mono is.0)
+      ∙ ap (λ (n : ℕ). doing (Ask (DoTick mono n) Silent)) (number_is 0 0xFFFFFFFFFFFFFFFF (text_at 2 words) real is.1)
+      ∙ silent (DoTick mono real)
+  row_is (Fault nth) files is = ap (λ (n : ℕ). doing (Ask (DoPlan n) Silent)) (number_is 1 1000000 (text_at 1 words) nth is) ∙ silent (DoPlan nth)
+  row_is (Accept bits) files is = ap (λ (n : ℕ). doing (Ask (DoAccept n) Silent)) (number_is 0 0xFFFFFFFFFFFFFFFF (text_at 1 words) bits is) ∙ silent (DoAccept bits)
+  row_is (Pin chip what) files is =
+      ap (λ (n : ℕ). doing (Ask (DoPin n (pin_said words)) Silent)) (place_is (text_at 2 words) chip is.1)
+      ∙ ap (λ (w : PinDo). doing (Ask (DoPin chip w) Silent)) (pin_is what words is.0 is.2)
+      ∙ silent (DoPin chip what)
+  row_is (Irq what chip offset) files is =
+      ap (λ (n : ℕ). doing (Ask (DoIrq n (small_word (text_at 3 words)) (irq_word (text_at 1 words))) Silent)) (place_is (text_at 2 words) chip is.1)
+      ∙ ap (λ (n : ℕ). doing (Ask (DoIrq chip n (irq_word (text_at 1 words))) Silent)) (small_is (text_at 3 words) offset is.2)
+      ∙ ap (λ (w : IrqDo). doing (Ask (DoIrq chip offset w) Silent)) (irq_is (text_at 1 words) what is.0)
+      ∙ silent (DoIrq chip offset what)
+  row_is (Open name word) files is =
+      ap (λ (w : List ℕ). doing (opens (is_some (file_of w files)) slot (text_at 2 words))) (file_name_is (text_at 1 words) name is.0)
+      ∙ opens_are (is_some (file_of name files)) name word (file_name_word (text_at 1 words) name is.0) (chip_word (text_at 2 words) word is.1)
+  row_is (Ioctl command made) files is =
+      command_are (file_of (text_at 1 words) files) files command made (ap (λ (o : Option ℕ). or_else 0 o) is.0) (made_is (command == GET_LINE) (behind_three words) made is.1)
+  row_is (Events len) files is =
+      let file = file_of (text_at 1 words) files in
+      ap (λ (n : ℕ). doing (reads_file file is_request n Edges)) (number_is 0 49152 (text_at 2 words) len is) ∙ file_are file is_request len Edges SaidEdges (λ got. refl)
+  row_is (OldIoctl command made) files is =
+      old_command_are (file_of (text_at 1 words) files) files command made is.0 (made_is (makes_file (Some command)) (behind_three words) made is.1)
+  row_is (OldEvents len) files is =
+      let file = file_of (text_at 1 words) files in
+      ap (λ (n : ℕ). doing (reads_file file is_old_event (48 * (n / 16)) OldEdges)) (number_is 0 16384 (text_at 2 words) len is)
+      ∙ file_are file is_old_event (48 * (len / 16)) OldEdges SaidOldEdges (λ got. refl)
+  row_is (Changes len) files is =
+      let file = file_of (text_at 1 words) files in
+      ap (λ (n : ℕ). doing (reads_file file is_chip n Infos)) (number_is 0 9216 (text_at 2 words) len is) ∙ file_are file is_chip len Infos SaidInfos (λ got. refl)
+  row_is Poll files is = polls_are (file_of (text_at 1 words) files)
+  row_is Close files is = closes_are (file_of (text_at 1 words) files)
+  row_is said files is = refl
 
 pub statements_ask_what_they_say : StatementsAskWhatTheySay
-statements_ask_what_they_say said words files slot spelled =
-    ap (λ o. action_of o files slot words) spelled.keyword ∙ row_is said words files slot spelled.each
+statements_ask_what_they_say said words files names slot spelled =
+    ap (λ o. acts (action_of o files slot words) names slot words) spelled.keyword ∙ row_is names slot words said files spelled.each
+
+-- what a statement does by its words is what an action does that it says
+pub as_said : (files items : List TalkFile) (action arm : SaidAction) (names : Names) (slot : ℕ) (words : List Span) → files ≡ items
+    → acts (action_of (keyword_of (text_at 0 words)) (map file_in files) slot words) names slot words ≡ acts_said action names slot words → action ≡ arm
+    → acts (action_of (keyword_of (text_at 0 words)) (map file_in items) slot words) names slot words ≡ acts_said arm names slot words
+as_said files items action arm names slot words same says is =
+    ap (λ (rows : List TalkFile). acts (action_of (keyword_of (text_at 0 words)) (map file_in rows) slot words) names slot words) (sym same)
+    ∙ says
+    ∙ ap (λ (a : SaidAction). acts_said a names slot words) is
 
 -- no statement asks nothing
 pub nothing_asked : (line : List ℕ) (files : List File) (slot : ℕ) → line ≡ [] → action_of (keyword_of (text_at 0 (columns line))) files slot (columns line) ≡ Nothing

@@ -12,12 +12,9 @@ use Rattle.gl_base.specs.declared.pin.PinDo.TheVariants.{Range, Hold, Release}
 use Rattle.gl_script.specs.declared.table.Keyword.{Keyword}
 use Rattle.gl_script.specs.declared.table.Keyword.TheVariants.{Probe, Unplug, MakeDir, RemoveDir, Write, Read, Clock, Fault, Accept, Pin, Irq, Open, Ioctl, Events, OldIoctl, OldEvents, Changes, Poll, Close, Detect, Info, Get, Set, Start, Step, Stop}
 use Rattle.gl_talk.specs.declared.paths.LineFile.{LineFile}
-use Rattle.gl_talk.specs.declared.actions.Action.{Action}
-use Rattle.gl_talk.specs.declared.actions.Action.TheVariants.{Nothing, Refuse, Ask}
-use Rattle.gl_talk.specs.declared.actions.ResultFormat.{ResultFormat}
-use Rattle.gl_talk.specs.declared.actions.ResultFormat.TheVariants.{Silent, Value, Level, Bytes, Edges, Infos, Ready, Opened, Closed, Made, OldEdges}
 use Rattle.gl_v1.specs.declared.sending.Sent.{Sent}
 use Rattle.gl_talk.specs.declared.files.TalkFileKind.{TalkFileKind}
+use Rattle.gl_talk.specs.Formats.{Action, Nothing, Refuse, Ask, ResultFormat, Silent, Value, Level, Bytes, Edges, Infos, Ready, Opened, Closed, Made, OldEdges}
 use Rattle.gl_talk.specs.Old.{old_command_word, old_reply, sent_new, sent_old, takes_old_name}
 use Rattle.gl_talk.specs.Open.{File, file_of, is_chip, is_old_event, is_request}
 use Rattle.gl_talk.specs.Paths.{line_file, live_device}
@@ -48,14 +45,14 @@ abbrev pub unplugs : ℕ → Action
 unplugs place = Ask (DoUnplug place) Silent
 
 -- `pin range CHIP N N N`, `pin hold CHIP N`, `pin drop CHIP N`
-abbrev pub pin_asked : List Span → PinDo
-pin_asked words =
+abbrev pub pin_said : List Span → PinDo
+pin_said words =
     if bytes_eq (text_at 1 words) (codes "range") then Range (small_word (text_at 3 words)) (small_word (text_at 4 words)) (small_word (text_at 5 words))
     else if bytes_eq (text_at 1 words) (codes "hold") then Hold (small_word (text_at 3 words))
     else Release (small_word (text_at 3 words))
 
 abbrev pub pins : ℕ → List Span → Action
-pins place words = Ask (DoPin place (pin_asked words)) Silent
+pins place words = Ask (DoPin place (pin_said words)) Silent
 
 -- `irq lock CHIP N`
 abbrev pub irqs : ℕ → List Span → Action
@@ -87,21 +84,19 @@ writes (Some file) path value = writes_line file value
 writes None path value = writes_tree (live_device path) path value
 
 -- `open NAME WORD`
-abbrev pub opens : Bool → ℕ → List ℕ → List ℕ → Action
-opens true slot name word = Refuse Exist
-opens false slot name word = Ask (DoOpenChip slot (path_word word)) (Opened (name_word name))
+abbrev pub opens : Bool → ℕ → List ℕ → Action
+opens true slot word = Refuse Exist
+opens false slot word = Ask (DoOpenChip slot (path_word word)) Opened
 
--- how the result of a command is told that makes no file, and of one that may make a file, which has this name
-abbrev pub bytes_reply : ℕ → ResultFormat
-bytes_reply number =
-    if number == GET_CHIPINFO then Bytes number
-    else if number == GET_LINEINFO then Bytes number
-    else if number == GET_LINEINFO_WATCH then Bytes number
-    else if number == LINE_GET_VALUES then Bytes number
+-- how the result of a command is told
+abbrev pub command_reply : ℕ → ResultFormat
+command_reply number =
+    if number == GET_LINE then Made
+    else if number == GET_CHIPINFO then Bytes
+    else if number == GET_LINEINFO then Bytes
+    else if number == GET_LINEINFO_WATCH then Bytes
+    else if number == LINE_GET_VALUES then Bytes
     else Silent
-
-abbrev pub command_reply : ℕ → List ℕ → ResultFormat
-command_reply number name = if number == GET_LINE then Made name else bytes_reply number
 
 -- the name after `as` is one that the actor has
 abbrev pub takes_name : List Span → List File → Bool
@@ -112,24 +107,24 @@ abbrev pub asks_for : File → ℕ → Sent → ResultFormat → Action
 asks_for file slot sent reply = Ask (DoIoctl file.slot sent.cmd sent.len sent.bytes slot) reply
 
 -- `ioctl NAME COMMAND PIECES.. [as NAME]`
-abbrev pub ioctls_bytes : File → ℕ → ℕ → List ℕ → List ℕ → Action
-ioctls_bytes file slot command name bytes =
-    asks_for file slot (sent_new file.kind command bytes) (command_reply (sent_new file.kind command bytes).cmd name)
+abbrev pub ioctls_bytes : File → ℕ → ℕ → List ℕ → Action
+ioctls_bytes file slot command bytes =
+    asks_for file slot (sent_new file.kind command bytes) (command_reply (sent_new file.kind command bytes).cmd)
 
 abbrev pub ioctls : Option File → Bool → ℕ → List Span → Action
 ioctls None taken slot words = Refuse BadF
 ioctls (Some file) taken slot words =
-    if taken then Refuse Exist else ioctls_bytes file slot (command_word (text_at 2 words)) (name_word (made_name words)) (bytes_said (behind_three words))
+    if taken then Refuse Exist else ioctls_bytes file slot (command_word (text_at 2 words)) (bytes_said (behind_three words))
 
 -- `ioctl1 NAME COMMAND PIECES.. [as NAME]`
-abbrev pub old_ioctls_bytes : File → ℕ → ℕ → List ℕ → List ℕ → Action
-old_ioctls_bytes file slot command name bytes =
-    asks_for file slot (sent_old file.kind command bytes) (old_reply file.kind command bytes name (sent_old file.kind command bytes).cmd)
+abbrev pub old_ioctls_bytes : File → ℕ → ℕ → List ℕ → Action
+old_ioctls_bytes file slot command bytes =
+    asks_for file slot (sent_old file.kind command bytes) (old_reply file.kind (sent_old file.kind command bytes).cmd)
 
 abbrev pub old_ioctls : Option File → Bool → ℕ → List Span → Action
 old_ioctls None taken slot words = Refuse BadF
 old_ioctls (Some file) taken slot words =
-    if taken then Refuse Exist else old_ioctls_bytes file slot (old_command_word (text_at 2 words)) (name_word (made_name words)) (bytes_said (behind_three words))
+    if taken then Refuse Exist else old_ioctls_bytes file slot (old_command_word (text_at 2 words)) (bytes_said (behind_three words))
 
 -- `events NAME N` of a request, `events1 NAME N` of a request for edges of the first uAPI, and `changes NAME N` of a chip's file
 abbrev pub read_if : Bool → ℕ → ℕ → ResultFormat → Action
@@ -163,7 +158,7 @@ action_of (Some Fault) files slot words = faults (text_at 1 words)
 action_of (Some Accept) files slot words = accepts (text_at 1 words)
 action_of (Some Pin) files slot words = pins (place_word (text_at 2 words)) words
 action_of (Some Irq) files slot words = irqs (place_word (text_at 2 words)) words
-action_of (Some Open) files slot words = opens (is_some (file_of (text_at 1 words) files)) slot (text_at 1 words) (text_at 2 words)
+action_of (Some Open) files slot words = opens (is_some (file_of (text_at 1 words) files)) slot (text_at 2 words)
 action_of (Some Ioctl) files slot words = ioctls (file_of (text_at 1 words) files) (takes_name words files) slot words
 action_of (Some Events) files slot words = reads_file (file_of (text_at 1 words) files) is_request (number_word 0 49152 (text_at 2 words)) Edges
 action_of (Some OldIoctl) files slot words = old_ioctls (file_of (text_at 1 words) files) (takes_old_name words files) slot words

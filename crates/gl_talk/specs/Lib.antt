@@ -1,6 +1,8 @@
 pub mod Copied
 pub mod Costs
+pub mod Doing
 pub mod Files
+pub mod Formats
 pub mod InParts
 pub mod Numbers
 pub mod Old
@@ -12,6 +14,7 @@ pub mod Printed
 pub mod Readings
 pub mod Replies
 pub mod SaidActions
+pub mod SaidTalk
 pub mod Slots
 pub mod Talk
 pub mod ToolWords

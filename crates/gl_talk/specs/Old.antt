@@ -19,8 +19,7 @@ use Rattle.gl_v1.specs.To.{to, without_bytes}
 use Rattle.gl_v1.specs.Words.{makes_file, old_number_of}
 use Rattle.gl_talk.specs.declared.files.TalkFileKind.{TalkFileKind}
 use Rattle.gl_talk.specs.declared.files.TalkFileKind.TheVariants.{Chip, Request, Old}
-use Rattle.gl_talk.specs.declared.actions.ResultFormat.{ResultFormat}
-use Rattle.gl_talk.specs.declared.actions.ResultFormat.TheVariants.{Silent, OldBytes, OldMade}
+use Rattle.gl_talk.specs.Formats.{ResultFormat, Silent, OldBytes, OldMade}
 use Rattle.gl_talk.specs.Open.{File, file_of}
 use Rattle.gl_talk.specs.Words.{made_name, or_else}
 
@@ -49,6 +48,15 @@ abbrev pub kind_v1 : TalkFileKind → KindV1
 kind_v1 (Old kind) = kind
 kind_v1 _ = OldChip
 
+-- how the result is told goes by what was sent
+abbrev pub old_reply : TalkFileKind → ℕ → ResultFormat
+old_reply kind number =
+    if number == GET_LINE then OldMade
+    else if number == GET_CHIPINFO then OldBytes (kind_v1 kind)
+    else if number == GET_LINEINFO then OldBytes (kind_v1 kind)
+    else if number == LINE_GET_VALUES then OldBytes (kind_v1 kind)
+    else Silent
+
 -- the name after `as` is one that the actor has
 abbrev pub takes_old_name : List Span → List File → Bool
 takes_old_name words files = makes_file (old_number_of (text_at 2 words)) && is_some (file_of (made_name words) files)
@@ -56,17 +64,6 @@ takes_old_name words files = makes_file (old_number_of (text_at 2 words)) && is_
 -- the kind of the file that is made: a handle has the lines that its request says
 abbrev pub made_kind : ℕ → List ℕ → TalkFileKind
 made_kind command said = if command == LINE_EVENT then Old Event else Old (Handle (number_at 4 V1_HANDLE_LINES (first_bytes said)))
-
--- how the result of the command is told whose statement says these bytes: it goes by what was sent; a file that is made has this name
-abbrev pub old_bytes_reply : TalkFileKind → ℕ → ℕ → ResultFormat
-old_bytes_reply kind command number =
-    if number == GET_CHIPINFO then OldBytes (kind_v1 kind) command
-    else if number == GET_LINEINFO then OldBytes (kind_v1 kind) command
-    else if number == LINE_GET_VALUES then OldBytes (kind_v1 kind) command
-    else Silent
-
-abbrev pub old_reply : TalkFileKind → ℕ → List ℕ → List ℕ → ℕ → ResultFormat
-old_reply kind command said name number = if number == GET_LINE then OldMade (made_kind command said) name else old_bytes_reply kind command number
 
 -- the bytes of a structure, where those that went over are these and those that came back in v2 are those
 abbrev pub old_structure : Option CommandV1 → KindV1 → ℕ → List ℕ → List ℕ → List ℕ

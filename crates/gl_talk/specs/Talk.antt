@@ -1,7 +1,6 @@
 -- What each statement does: which operations it asks for, by their results so far, and what it prints; and what a whole talk
 -- does, a statement at a time. A statement is a program that gives the names after it. This project's choice.
 use Rattle.std.specs.Prelude.{◌≡◌, ℕ, ◌+◌, ◌*◌, Bool, true, false, List, [], ◌∷◌, ◌++◌, map, Option, Some, None}
-use Rattle.gl_base.specs.Errno.{errno_name}
 use Rattle.gl_base.specs.Operation.{refusal, bytes_of, ready_of}
 use Rattle.gl_base.specs.Words.{Span, text_at}
 use Rattle.gl_base.specs.declared.errno.Errno.{Errno}
@@ -21,10 +20,6 @@ use Rattle.gl_script.specs.Table.{keyword_of}
 use Rattle.gl_values.specs.Client.{tool_program, held_program, client_left}
 use Rattle.gl_values.specs.Set.{Held}
 use Rattle.gl_values.specs.Set.{stops as stops_holding}
-use Rattle.gl_talk.specs.declared.actions.Action.{Action}
-use Rattle.gl_talk.specs.declared.actions.Action.TheVariants.{Nothing, Refuse, Ask}
-use Rattle.gl_talk.specs.declared.actions.ResultFormat.{ResultFormat}
-use Rattle.gl_talk.specs.declared.actions.ResultFormat.TheVariants.{Silent, Value, Level, Bytes, Edges, Infos, Ready, Opened, Closed, Made, OldBytes, OldEdges, OldMade}
 use Rattle.gl_talk.specs.declared.talk.Stage.{Stage}
 use Rattle.gl_talk.specs.declared.talk.Stage.TheVariants.{Idle, Begun, Waiting, Running, Holding, Watching, Quitting, Closing}
 use Rattle.gl_talk.specs.declared.talk.Talk.{Talk}
@@ -32,45 +27,37 @@ use Rattle.gl_talk.specs.declared.tools.StatementKind.{StatementKind}
 use Rattle.gl_talk.specs.declared.tools.StatementKind.TheVariants.{Plain, ToolAlone, Starting, Stepping, Stopping}
 use Rattle.gl_talk.specs.declared.files.TalkFileKind.{TalkFileKind}
 use Rattle.gl_talk.specs.declared.files.TalkFileKind.TheVariants.{Chip, Request}
-use Rattle.gl_talk.specs.Old.{old_edges_text, old_structure_text}
+pub use Rattle.gl_talk.specs.Doing.{Does, refused, shows}
+use Rattle.gl_talk.specs.Formats.{Action, Nothing, Refuse, Ask, ResultFormat, Silent, Value, Level, Bytes, Edges, Infos, Ready, Opened, Closed, Made, OldBytes, OldEdges, OldMade}
+use Rattle.gl_talk.specs.Old.{made_kind, old_command_word, old_edges_text, old_structure_text}
 use Rattle.gl_talk.specs.Open.{File, Names, no_names, file_in, set_in, monitor_in, has_tool, held_of_name, watched_of_name, with_file, without_file, with_set, with_monitor, without_set, without_monitor, slots_in_order}
 use Rattle.gl_talk.specs.Actions.{action_of}
 use Rattle.gl_talk.specs.Replies.{number_of, text_of, level_text, ready_text, structure_text, fd_text, edges_text, infos_text}
+use Rattle.gl_talk.specs.SaidTalk.{replied_said}
 use Rattle.gl_talk.specs.ToolWords.{kind_of, usage_text, word_texts}
-use Rattle.gl_talk.specs.Words.{behind_three, behind_two, bytes_said, turns_word}
-
--- a statement gives the names after it
-abbrev pub Does : Type 0
-Does = Program Names
-
--- a refused statement prints the error's name
-abbrev pub refused : Errno → Names → Does
-refused errno names = print (line (errno_name errno)) (done names)
-
--- a text is printed, and the statement is done
-abbrev pub shows : List ℕ → Names → Does
-shows text names = print text (done names)
+use Rattle.gl_talk.specs.Words.{behind_three, behind_two, bytes_said, command_word, made_name, name_word, turns_word}
 
 -- an open file of this name
 abbrev pub file : List ℕ → ℕ → TalkFileKind → File
-file name slot kind = record { name = name; slot = slot; kind = kind }
+file name slot kind = record { name = name_word name; slot = slot; kind = kind }
 
 -- how a result that is no refusal is told
 abbrev pub told : ResultFormat → Names → ℕ → List Span → Got → Does
 told Silent names slot words got = done names
 told Value names slot words got = shows (line (text_of got)) names
 told (Level is_pull) names slot words got = shows (line (level_text is_pull (number_of got))) names
-told (Bytes command) names slot words got = shows (structure_text command (bytes_of got)) names
+told Bytes names slot words got = shows (structure_text (command_word (text_at 2 words)) (bytes_of got)) names
 told Edges names slot words got = shows (edges_text (bytes_of got)) names
 told Infos names slot words got = shows (infos_text (bytes_of got)) names
 told Ready names slot words got = shows (line (ready_text (ready_of got))) names
-told (Opened name) names slot words got = done (with_file (file name slot Chip) names)
+told Opened names slot words got = done (with_file (file (text_at 1 words) slot Chip) names)
 told Closed names slot words got = done (without_file (text_at 1 words) names)
-told (Made name) names slot words got = shows (fd_text (bytes_of got)) (with_file (file name slot Request) names)
-told (OldBytes kind command) names slot words got =
-    shows (old_structure_text kind command (bytes_said (behind_three words)) (bytes_of got)) names
+told Made names slot words got = shows (fd_text (bytes_of got)) (with_file (file (made_name words) slot Request) names)
+told (OldBytes kind) names slot words got =
+    shows (old_structure_text kind (old_command_word (text_at 2 words)) (bytes_said (behind_three words)) (bytes_of got)) names
 told OldEdges names slot words got = shows (old_edges_text (bytes_of got)) names
-told (OldMade kind name) names slot words got = shows (fd_text (bytes_of got)) (with_file (file name slot kind) names)
+told OldMade names slot words got =
+    shows (fd_text (bytes_of got)) (with_file (file (made_name words) slot (made_kind (old_command_word (text_at 2 words)) (bytes_said (behind_three words)))) names)
 
 abbrev pub replied_by : Option Errno → ResultFormat → Names → ℕ → List Span → Got → Does
 replied_by (Some errno) reply names slot words got = refused errno names
@@ -200,7 +187,7 @@ some_watched (Some monitor) = watched_by monitor
 abbrev pub left_at : Talk → Names → ℕ → List Span → Stage → Left Names
 left_at t names slot words Idle = goes_on (done names)
 left_at t names slot words Begun = goes_on (does names slot words)
-left_at t names slot words (Waiting reply) = waits (λ got. replied reply names slot words got)
+left_at t names slot words (Waiting reply) = waits (λ got. replied_said reply names slot words got)
 left_at t names slot words Running = then_left (client_left t.client) (λ _. done names)
 left_at t names slot words (Holding name) = then_left (client_left t.client) (keeps_set name names)
 left_at t names slot words (Watching name) = then_left (some_left t.monitor) (keeps_monitor name names)

@@ -8,7 +8,7 @@ use Rattle.gl_base.specs.ChipWord.{chip_number_of}
 use Rattle.gl_base.specs.CommandWord.{command_number_of}
 use Rattle.gl_base.specs.Name.{is_name}
 use Rattle.gl_base.specs.Path.{is_path}
-use Rattle.gl_base.specs.Words.{Span, text_at}
+use Rattle.gl_base.specs.Words.{Span}
 use Rattle.gl_base.specs.declared.irq.IrqDo.{IrqDo}
 use Rattle.gl_base.specs.declared.irq.IrqDo.TheVariants.{Lock, Unlock, Enable, Disable, Never}
 use Rattle.gl_base.specs.declared.limits.TheConstants.{PLACES}

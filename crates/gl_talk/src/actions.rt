@@ -7,10 +7,12 @@ ghost use Rattle.std.specs.Prelude.{◌≡◌, ◌*◌, ◌/◌, ◌<◌, ◌≤
 ghost use Rattle.gl_base.specs.Words.{text_at};
 ghost use Rattle.gl_script.specs.Columns.{columns};
 ghost use Rattle.gl_script.specs.Table.{keyword_of};
-ghost use Rattle.gl_talk.specs.Open.{file_in, file_of, is_chip, is_old_event, is_request};
+ghost use Rattle.gl_talk.specs.Open.{Names, file_in, file_of, is_chip, is_old_event, is_request};
 ghost use Rattle.gl_talk.specs.Paths.{line_file, live_device};
-ghost use Rattle.gl_talk.specs.Actions.{asks_for, bytes_reply, closes, command_reply, action_of, polls, pulls, read_if, reads_file, unplugs, writes_line};
-ghost use Rattle.gl_talk.specs.SaidActions.{action_said, ioctls_bytes_said, ioctls_said, is_command, lives_said, old_ioctls_bytes_said, old_ioctls_said, old_reply_said, opens_said, reads_said, reply_said, takes, writes_said, writes_tree_said};
+ghost use Rattle.gl_talk.specs.Actions.{action_of};
+ghost use Rattle.gl_talk.specs.SaidActions.{action_said, asks_for_said, bytes_reply_said, closes_said, command_reply_said, ioctls_bytes_said, ioctls_said, is_command, lives_said, old_ioctls_bytes_said, old_ioctls_said, old_reply_said, opens_said, polls_said, read_if_said, reads_file_said, reads_said, reply_said, takes, writes_line_said, writes_said, writes_tree_said};
+ghost use Rattle.gl_talk.specs.SaidTalk.{acts_said};
+ghost use Rattle.gl_talk.specs.Talk.{acts};
 ghost use Rattle.gl_talk.specs.Words.{behind_three, bytes_said};
 
 use crate::copied::CopiedStatement;
@@ -26,7 +28,7 @@ use std::alloc::Global;
 
 /// How the result of an operation is told. A refusal is told by the error's name.
 #[derive(Clone, Copy, PartialEq, Eq, Debug)]
-pub enum ResultFormat {
+pub enum SaidFormat {
     /// Nothing is printed.
     Silent,
     /// A value of the tree.
@@ -62,28 +64,30 @@ pub enum ResultFormat {
 
 /// What a statement does first.
 #[derive(Clone, Copy, Debug)]
-pub enum Action {
+pub enum SaidAction {
     /// Nothing.
     Nothing,
     /// It is refused without a call.
     Refuse(Errno),
     /// It asks for one operation, and tells the result.
-    Ask(Do, ResultFormat),
+    Ask(Do, SaidFormat),
 }
 
-/// What a statement does first. `slot` is a slot of its own.
+/// What a statement does first: with it the statement does what its words say. `slot` is a slot of its own.
 pub fn action_of(
     alloc: Global,
     files: &[TalkFile],
     slot: u32,
     line: &CopiedStatement,
-) -> Result<Action, Errno>
-    ensures ok { IfOk result (λ what. what ≡ action_of (keyword_of (text_at 0 (columns line.now))) (map file_in files.now) slot (columns line.now)) }
+) -> Result<SaidAction, Errno>
+    ensures ok { (names : Names) → IfOk result (λ what.
+        acts (action_of (keyword_of (text_at 0 (columns line.now))) (map file_in files.now) slot (columns line.now)) names slot (columns line.now)
+        ≡ acts_said what names slot (columns line.now)) }
     ensures memory_alone { IsOkUnless result Errno.NoMemory }
 {
     match line.said() {
         Some(said) => action_said(alloc, &said, files, slot, line),
-        None => Ok(Action::Nothing),
+        None => Ok(SaidAction::Nothing),
     }
 }
 
@@ -94,7 +98,7 @@ fn action_said(
     files: &[TalkFile],
     slot: u32,
     line: &CopiedStatement,
-) -> Result<Action, Errno>
+) -> Result<SaidAction, Errno>
     ensures ok { IfOk result (λ what. what ≡ action_said said.now (map file_in files.now) slot (columns line.now)) }
     ensures memory_alone { IsOkUnless result Errno.NoMemory }
 {
@@ -106,7 +110,7 @@ fn action_said(
 }
 
 /// What a statement that is no command does first: one row a statement.
-fn row_said(said: &Said, files: &[TalkFile], slot: u32, line: &CopiedStatement) -> Action
+fn row_said(said: &Said, files: &[TalkFile], slot: u32, line: &CopiedStatement) -> SaidAction
     requires { is_command said.now ≡ false }
     ensures { result ≡ action_said said.now (map file_in files.now) slot (columns line.now) }
 {
@@ -134,108 +138,108 @@ fn row_said(said: &Said, files: &[TalkFile], slot: u32, line: &CopiedStatement) 
         | Said::Set
         | Said::Start { .. }
         | Said::Step { .. }
-        | Said::Stop { .. } => Action::Nothing,
+        | Said::Stop { .. } => SaidAction::Nothing,
         Said::Ioctl { .. } | Said::OldIoctl { .. } => unreachable!(),
     }
 }
 
-fn unplugs(chip: u8) -> Action
-    ensures { result ≡ unplugs chip }
+fn unplugs(chip: u8) -> SaidAction
+    ensures { result ≡ SaidAction.Ask (Do.Unplug chip) SaidFormat.Silent }
 {
-    Action::Ask(Do::Unplug { place: chip }, ResultFormat::Silent)
+    SaidAction::Ask(Do::Unplug { place: chip }, SaidFormat::Silent)
 }
 
-fn makes_dir(path: &Path) -> Action
-    ensures { result ≡ Action.Ask (Do.MakeDir path.now) ResultFormat.Silent }
+fn makes_dir(path: &Path) -> SaidAction
+    ensures { result ≡ SaidAction.Ask (Do.MakeDir path.now) SaidFormat.Silent }
 {
-    Action::Ask(Do::MakeDir(*path), ResultFormat::Silent)
+    SaidAction::Ask(Do::MakeDir(*path), SaidFormat::Silent)
 }
 
-fn removes_dir(path: &Path) -> Action
-    ensures { result ≡ Action.Ask (Do.RemoveDir path.now) ResultFormat.Silent }
+fn removes_dir(path: &Path) -> SaidAction
+    ensures { result ≡ SaidAction.Ask (Do.RemoveDir path.now) SaidFormat.Silent }
 {
-    Action::Ask(Do::RemoveDir(*path), ResultFormat::Silent)
+    SaidAction::Ask(Do::RemoveDir(*path), SaidFormat::Silent)
 }
 
-fn ticks(mono: u64, real: u64) -> Action
-    ensures { result ≡ Action.Ask (Do.Tick mono real) ResultFormat.Silent }
+fn ticks(mono: u64, real: u64) -> SaidAction
+    ensures { result ≡ SaidAction.Ask (Do.Tick mono real) SaidFormat.Silent }
 {
-    Action::Ask(Do::Tick { mono, real }, ResultFormat::Silent)
+    SaidAction::Ask(Do::Tick { mono, real }, SaidFormat::Silent)
 }
 
-fn plans(nth: u32) -> Action
-    ensures { result ≡ Action.Ask (Do.Plan nth) ResultFormat.Silent }
+fn plans(nth: u32) -> SaidAction
+    ensures { result ≡ SaidAction.Ask (Do.Plan nth) SaidFormat.Silent }
 {
-    Action::Ask(Do::Plan { nth }, ResultFormat::Silent)
+    SaidAction::Ask(Do::Plan { nth }, SaidFormat::Silent)
 }
 
-fn accepts(bits: u64) -> Action
-    ensures { result ≡ Action.Ask (Do.Accept bits) ResultFormat.Silent }
+fn accepts(bits: u64) -> SaidAction
+    ensures { result ≡ SaidAction.Ask (Do.Accept bits) SaidFormat.Silent }
 {
-    Action::Ask(Do::Accept { bits }, ResultFormat::Silent)
+    SaidAction::Ask(Do::Accept { bits }, SaidFormat::Silent)
 }
 
-fn pins(place: u8, what: PinDo) -> Action
-    ensures { result ≡ Action.Ask (Do.Pin place what) ResultFormat.Silent }
+fn pins(place: u8, what: PinDo) -> SaidAction
+    ensures { result ≡ SaidAction.Ask (Do.Pin place what) SaidFormat.Silent }
 {
-    Action::Ask(Do::Pin { place, what }, ResultFormat::Silent)
+    SaidAction::Ask(Do::Pin { place, what }, SaidFormat::Silent)
 }
 
-fn irqs(what: IrqDo, place: u8, offset: u32) -> Action
-    ensures { result ≡ Action.Ask (Do.Irq place offset what) ResultFormat.Silent }
+fn irqs(what: IrqDo, place: u8, offset: u32) -> SaidAction
+    ensures { result ≡ SaidAction.Ask (Do.Irq place offset what) SaidFormat.Silent }
 {
-    Action::Ask(
+    SaidAction::Ask(
         Do::Irq {
             place,
             offset,
             what,
         },
-        ResultFormat::Silent,
+        SaidFormat::Silent,
     )
 }
 
 /// It is refused without a call.
-fn refuses(errno: Errno) -> Action
-    ensures { result ≡ Action.Refuse errno }
+fn refuses(errno: Errno) -> SaidAction
+    ensures { result ≡ SaidAction.Refuse errno }
 {
-    Action::Refuse(errno)
+    SaidAction::Refuse(errno)
 }
 
-fn probes(label: &Name, lines: u32) -> Action
-    ensures { result ≡ Action.Ask (Do.Probe label.now lines) ResultFormat.Silent }
+fn probes(label: &Name, lines: u32) -> SaidAction
+    ensures { result ≡ SaidAction.Ask (Do.Probe label.now lines) SaidFormat.Silent }
 {
-    Action::Ask(
+    SaidAction::Ask(
         Do::Probe {
             label: *label,
             lines,
         },
-        ResultFormat::Silent,
+        SaidFormat::Silent,
     )
 }
 
-fn reads(path: &Path) -> Action
+fn reads(path: &Path) -> SaidAction
     ensures { result ≡ reads_said (line_file path.now) path.now }
 {
     match line_file(path.as_bytes()) {
         Some(file) => reads_line(&file),
-        None => Action::Ask(Do::Read(*path), ResultFormat::Value),
+        None => SaidAction::Ask(Do::Read(*path), SaidFormat::Value),
     }
 }
 
-fn reads_line(file: &LineFile) -> Action
-    ensures { result ≡ Action.Ask (Do.Level file.now.chip file.now.offset file.now.is_pull) (ResultFormat.Level file.now.is_pull) }
+fn reads_line(file: &LineFile) -> SaidAction
+    ensures { result ≡ SaidAction.Ask (Do.Level file.now.chip file.now.offset file.now.is_pull) (SaidFormat.Level file.now.is_pull) }
 {
-    Action::Ask(
+    SaidAction::Ask(
         Do::Level {
             place: file.chip,
             offset: file.offset,
             pull: file.is_pull,
         },
-        ResultFormat::Level(file.is_pull),
+        SaidFormat::Level(file.is_pull),
     )
 }
 
-fn writes(path: &Path, value: &Name) -> Action
+fn writes(path: &Path, value: &Name) -> SaidAction
     ensures { result ≡ writes_said (line_file path.now) path.now value.now }
 {
     match line_file(path.as_bytes()) {
@@ -244,26 +248,26 @@ fn writes(path: &Path, value: &Name) -> Action
     }
 }
 
-fn writes_line(file: &LineFile, value: &[u8]) -> Action
-    ensures { result ≡ writes_line file.now value.now }
+fn writes_line(file: &LineFile, value: &[u8]) -> SaidAction
+    ensures { result ≡ writes_line_said file.now value.now }
 {
     if !file.is_pull {
         return refuses(Errno::Perm);
     }
     match pull_word(value) {
-        Some(up) => Action::Ask(
+        Some(up) => SaidAction::Ask(
             Do::Pull {
                 place: file.chip,
                 offset: file.offset,
                 up,
             },
-            ResultFormat::Silent,
+            SaidFormat::Silent,
         ),
         None => refuses(Errno::Inval),
     }
 }
 
-fn writes_tree(path: &Path, value: &Name) -> Action
+fn writes_tree(path: &Path, value: &Name) -> SaidAction
     ensures { result ≡ writes_tree_said (live_device path.now) path.now value.now }
 {
     match live_device(path.as_bytes()) {
@@ -272,42 +276,42 @@ fn writes_tree(path: &Path, value: &Name) -> Action
     }
 }
 
-fn writes_value(path: &Path, value: &Name) -> Action
-    ensures { result ≡ Action.Ask (Do.Write path.now value.now) ResultFormat.Silent }
+fn writes_value(path: &Path, value: &Name) -> SaidAction
+    ensures { result ≡ SaidAction.Ask (Do.Write path.now value.now) SaidFormat.Silent }
 {
-    Action::Ask(
+    SaidAction::Ask(
         Do::Write {
             path: *path,
             value: *value,
         },
-        ResultFormat::Silent,
+        SaidFormat::Silent,
     )
 }
 
-fn lives(device: &Name, up: Option<bool>) -> Action
+fn lives(device: &Name, up: Option<bool>) -> SaidAction
     ensures { result ≡ lives_said device.now up }
 {
     match up {
-        Some(up) => Action::Ask(
+        Some(up) => SaidAction::Ask(
             Do::Live {
                 device: *device,
                 up,
             },
-            ResultFormat::Silent,
+            SaidFormat::Silent,
         ),
         None => refuses(Errno::Inval),
     }
 }
 
-fn opens(is_taken: bool, slot: u32, name: &Name, word: &Path) -> Action
+fn opens(is_taken: bool, slot: u32, name: &Name, word: &Path) -> SaidAction
     ensures { result ≡ opens_said is_taken slot name.now word.now }
 {
     if is_taken {
         return refuses(Errno::Exist);
     }
-    Action::Ask(
+    SaidAction::Ask(
         Do::OpenChip { slot, word: *word },
-        ResultFormat::Opened(*name),
+        SaidFormat::Opened(*name),
     )
 }
 
@@ -322,7 +326,7 @@ fn takes(made: &Option<Name>, files: &[TalkFile]) -> bool
 }
 
 /// How the result of a command is told: only one with a name behind `as` makes a file.
-fn reply_said(made: &Option<Name>, number: u32) -> ResultFormat
+fn reply_said(made: &Option<Name>, number: u32) -> SaidFormat
     ensures { result ≡ reply_said made.now number }
 {
     match made {
@@ -332,31 +336,31 @@ fn reply_said(made: &Option<Name>, number: u32) -> ResultFormat
 }
 
 /// How the result of a command is told that may make a file, which has this name.
-fn command_reply(number: u32, name: &Name) -> ResultFormat
-    ensures { result ≡ command_reply number name.now }
+fn command_reply(number: u32, name: &Name) -> SaidFormat
+    ensures { result ≡ command_reply_said number name.now }
 {
     if number == GET_LINE {
-        return ResultFormat::Made(*name);
+        return SaidFormat::Made(*name);
     }
     bytes_reply(number)
 }
 
 /// How the result of a command is told that makes no file.
-fn bytes_reply(number: u32) -> ResultFormat
-    ensures { result ≡ bytes_reply number }
+fn bytes_reply(number: u32) -> SaidFormat
+    ensures { result ≡ bytes_reply_said number }
 {
     match number {
         GET_CHIPINFO | GET_LINEINFO | GET_LINEINFO_WATCH | LINE_GET_VALUES => {
-            ResultFormat::Bytes(number)
+            SaidFormat::Bytes(number)
         }
-        _ => ResultFormat::Silent,
+        _ => SaidFormat::Silent,
     }
 }
 
-fn refuses_command(errno: Errno) -> Result<Action, Errno>
-    ensures { result ≡ Ok (Action.Refuse errno) }
+fn refuses_command(errno: Errno) -> Result<SaidAction, Errno>
+    ensures { result ≡ Ok (SaidAction.Refuse errno) }
 {
-    Ok(Action::Refuse(errno))
+    Ok(SaidAction::Refuse(errno))
 }
 
 fn commands(
@@ -366,7 +370,7 @@ fn commands(
     command: u32,
     made: &Option<Name>,
     line: &CopiedStatement,
-) -> Result<Action, Errno>
+) -> Result<SaidAction, Errno>
     ensures ok { IfOk result (λ what. what ≡ ioctls_said (file_of (text_at 1 (columns line.now)) (map file_in files.now)) slot command made.now (map file_in files.now) (bytes_said (behind_three (columns line.now)))) }
     ensures memory_alone { IsOkUnless result Errno.NoMemory }
 {
@@ -386,7 +390,7 @@ fn ioctls_bytes(
     command: u32,
     made: &Option<Name>,
     bytes: &[u8],
-) -> Action
+) -> SaidAction
     ensures { result ≡ ioctls_bytes_said (file_in file.now) slot command made.now bytes.now }
 {
     let sent = sent_new(file.kind, command, bytes);
@@ -395,10 +399,10 @@ fn ioctls_bytes(
 }
 
 /// A call of v2 on a file.
-fn asks_for(file: &TalkFile, slot: u32, sent: &Sent, reply: &ResultFormat) -> Action
-    ensures { result ≡ asks_for (file_in file.now) slot sent.now reply.now }
+fn asks_for(file: &TalkFile, slot: u32, sent: &Sent, reply: &SaidFormat) -> SaidAction
+    ensures { result ≡ asks_for_said (file_in file.now) slot sent.now reply.now }
 {
-    Action::Ask(
+    SaidAction::Ask(
         Do::Ioctl {
             slot: file.slot,
             cmd: sent.cmd,
@@ -417,7 +421,7 @@ fn old_commands(
     command: u32,
     made: &Option<Name>,
     line: &CopiedStatement,
-) -> Result<Action, Errno>
+) -> Result<SaidAction, Errno>
     ensures ok { IfOk result (λ what. what ≡ old_ioctls_said (file_of (text_at 1 (columns line.now)) (map file_in files.now)) slot command made.now (map file_in files.now) (bytes_said (behind_three (columns line.now)))) }
     ensures memory_alone { IsOkUnless result Errno.NoMemory }
 {
@@ -437,7 +441,7 @@ fn old_ioctls_bytes(
     command: u32,
     made: &Option<Name>,
     bytes: &[u8],
-) -> Action
+) -> SaidAction
     ensures { result ≡ old_ioctls_bytes_said (file_in file.now) slot command made.now bytes.now }
 {
     let sent = sent_old(file.kind, command, bytes);
@@ -452,7 +456,7 @@ fn old_reply_said(
     command: u32,
     bytes: &[u8],
     number: u32,
-) -> ResultFormat
+) -> SaidFormat
     ensures { result ≡ old_reply_said made.now kind command bytes.now number }
 {
     match made {
@@ -461,72 +465,72 @@ fn old_reply_said(
     }
 }
 
-fn events(file: Option<TalkFile>, len: u16) -> Action
-    ensures { result ≡ reads_file (option_map file_in file) is_request len ResultFormat.Edges }
+fn events(file: Option<TalkFile>, len: u16) -> SaidAction
+    ensures { result ≡ reads_file_said (option_map file_in file) is_request len SaidFormat.Edges }
 {
     match file {
         Some(file) => read_if(
             is_request(file.kind),
             file.slot,
             u32::from(len),
-            ResultFormat::Edges,
+            SaidFormat::Edges,
         ),
         None => refuses(Errno::BadF),
     }
 }
 
-fn old_events(file: Option<TalkFile>, len: u16) -> Action
-    ensures { result ≡ reads_file (option_map file_in file) is_old_event (48 * (len / 16)) ResultFormat.OldEdges }
+fn old_events(file: Option<TalkFile>, len: u16) -> SaidAction
+    ensures { result ≡ reads_file_said (option_map file_in file) is_old_event (48 * (len / 16)) SaidFormat.OldEdges }
 {
     match file {
         Some(file) => read_if(
             is_old_event(file.kind),
             file.slot,
             48 * (u32::from(len) / 16),
-            ResultFormat::OldEdges,
+            SaidFormat::OldEdges,
         ),
         None => refuses(Errno::BadF),
     }
 }
 
-fn changes(file: Option<TalkFile>, len: u16) -> Action
-    ensures { result ≡ reads_file (option_map file_in file) is_chip len ResultFormat.Infos }
+fn changes(file: Option<TalkFile>, len: u16) -> SaidAction
+    ensures { result ≡ reads_file_said (option_map file_in file) is_chip len SaidFormat.Infos }
 {
     match file {
         Some(file) => read_if(
             is_chip(file.kind),
             file.slot,
             u32::from(len),
-            ResultFormat::Infos,
+            SaidFormat::Infos,
         ),
         None => refuses(Errno::BadF),
     }
 }
 
-fn read_if(can_be_read: bool, slot: u32, len: u32, reply: ResultFormat) -> Action
-    ensures { result ≡ read_if can_be_read slot len reply }
+fn read_if(can_be_read: bool, slot: u32, len: u32, reply: SaidFormat) -> SaidAction
+    ensures { result ≡ read_if_said can_be_read slot len reply }
 {
     if can_be_read {
-        Action::Ask(Do::ReadFile { slot, len }, reply)
+        SaidAction::Ask(Do::ReadFile { slot, len }, reply)
     } else {
         refuses(Errno::Inval)
     }
 }
 
-fn polls(file: Option<TalkFile>) -> Action
-    ensures { result ≡ polls (option_map file_in file) }
+fn polls(file: Option<TalkFile>) -> SaidAction
+    ensures { result ≡ polls_said (option_map file_in file) }
 {
     match file {
-        Some(file) => Action::Ask(Do::Poll { slot: file.slot }, ResultFormat::Ready),
+        Some(file) => SaidAction::Ask(Do::Poll { slot: file.slot }, SaidFormat::Ready),
         None => refuses(Errno::BadF),
     }
 }
 
-fn closes(file: Option<TalkFile>) -> Action
-    ensures { result ≡ closes (option_map file_in file) }
+fn closes(file: Option<TalkFile>) -> SaidAction
+    ensures { result ≡ closes_said (option_map file_in file) }
 {
     match file {
-        Some(file) => Action::Ask(Do::Close { slot: file.slot }, ResultFormat::Closed),
+        Some(file) => SaidAction::Ask(Do::Close { slot: file.slot }, SaidFormat::Closed),
         None => refuses(Errno::BadF),
     }
 }

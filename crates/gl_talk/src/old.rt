@@ -6,10 +6,11 @@ ghost use Rattle.gl_uapi.specs.Fields.{stretch, zeros};
 ghost use Rattle.gl_v1.specs.Back.{back, events_back};
 ghost use Rattle.gl_v1.specs.Commands.{command_for, size_of};
 ghost use Rattle.gl_v1.specs.To.{without_bytes};
-ghost use Rattle.gl_talk.specs.Old.{first_bytes, kind_v1, made_kind, old_edge_line, old_edge_lines, old_edge_word, old_bytes_reply, old_edges_text, old_reply, old_structure, old_structure_text, sent_new, sent_old};
+ghost use Rattle.gl_talk.specs.Old.{first_bytes, kind_v1, made_kind, old_edge_line, old_edge_lines, old_edge_word, old_edges_text, old_structure, old_structure_text, sent_new, sent_old};
+ghost use Rattle.gl_talk.specs.SaidActions.{old_bytes_reply_said, old_command_reply_said};
 ghost use Rattle.gl_talk.specs.Words.{behind_three, bytes_said};
 
-use crate::actions::ResultFormat;
+use crate::actions::SaidFormat;
 use crate::copied::CopiedStatement;
 use crate::files::TalkFileKind;
 use crate::replies::line_of;
@@ -80,25 +81,25 @@ pub fn old_reply(
     said: &[u8],
     name: &Name,
     number: u32,
-) -> ResultFormat
-    ensures { result ≡ old_reply kind command said.now name.now number }
+) -> SaidFormat
+    ensures { result ≡ old_command_reply_said kind command said.now name.now number }
 {
     if number == GET_LINE {
-        return ResultFormat::OldMade(made_kind(command, said), *name);
+        return SaidFormat::OldMade(made_kind(command, said), *name);
     }
     old_bytes_reply(kind, command, number)
 }
 
 /// How it is told where no file is made.
-pub fn old_bytes_reply(kind: TalkFileKind, command: u32, number: u32) -> ResultFormat
-    ensures { result ≡ old_bytes_reply kind command number }
+pub fn old_bytes_reply(kind: TalkFileKind, command: u32, number: u32) -> SaidFormat
+    ensures { result ≡ old_bytes_reply_said kind command number }
 {
     match number {
-        GET_CHIPINFO | GET_LINEINFO | LINE_GET_VALUES => ResultFormat::OldBytes {
+        GET_CHIPINFO | GET_LINEINFO | LINE_GET_VALUES => SaidFormat::OldBytes {
             kind: kind_v1(kind),
             command,
         },
-        _ => ResultFormat::Silent,
+        _ => SaidFormat::Silent,
     }
 }
 

@@ -9,10 +9,11 @@ ghost use Rattle.gl_values.specs.Client.{client_left};
 ghost use Rattle.gl_talk.specs.Open.{with_file};
 ghost use Rattle.gl_talk.specs.Actions.{action_of};
 ghost use Rattle.gl_talk.specs.Replies.{fd_text};
-ghost use Rattle.gl_talk.specs.Talk.{StaysBegun, StaysLeft, acts, closes_all, does, file, left, names_in, quits, refused, replied, runs, shows, slot_in, told, words_in};
+ghost use Rattle.gl_talk.specs.SaidTalk.{file_said, replied_said, told_said};
+ghost use Rattle.gl_talk.specs.Talk.{StaysBegun, StaysLeft, acts, closes_all, does, left, names_in, quits, refused, runs, shows, slot_in, words_in};
 ghost use Rattle.gl_talk.specs.ToolWords.{word_texts};
 
-use crate::actions::{Action, ResultFormat, action_of};
+use crate::actions::{SaidAction, SaidFormat, action_of};
 use crate::closing::slots_in_order;
 use crate::files::{TalkFile, TalkFileKind, remove_file};
 use crate::old::{old_edges_text, old_structure_line};
@@ -114,15 +115,15 @@ impl Talk {
     {
         let action = action_of(alloc, &self.files, 2 * self.begun, &self.line)?;
         match &action {
-            Action::Nothing => {
+            SaidAction::Nothing => {
                 self.end(step);
                 Ok(())
             }
-            Action::Refuse(errno) => {
+            SaidAction::Refuse(errno) => {
                 self.refuse(alloc, *errno, step)?;
                 Ok(())
             }
-            Action::Ask(what, reply) => {
+            SaidAction::Ask(what, reply) => {
                 self.stage = Stage::Waiting(*reply);
                 *step = Next::Call(*what);
                 Ok(())
@@ -187,12 +188,12 @@ impl Talk {
     pub(crate) fn reply(
         &mut self,
         alloc: Global,
-        reply: &ResultFormat,
+        reply: &SaidFormat,
         got: Option<&Got>,
         step: &mut Next,
     ) -> Result<(), Errno>
         requires { self.old.begun ≤ 2147483647 }
-        ensures goes { OnOk result (Goes (given (waits (λ got. replied reply.now (names_in self.old) (slot_in self.old) (words_in self.old) got)) (option_copied got.entry)) step.new (left self.new)) }
+        ensures goes { OnOk result (Goes (given (waits (λ got. replied_said reply.now (names_in self.old) (slot_in self.old) (words_in self.old) got)) (option_copied got.entry)) step.new (left self.new)) }
         ensures rests { OnOk result (MatchNext step.new (Unit {0}) (left self.new ≡ goes_on (done (names_in self.new)))) }
         ensures counted { OnOk result (self.new.begun ≡ self.old.begun) }
         ensures kept { OnErr result (StaysLeft self.old self.new) }
@@ -213,48 +214,48 @@ impl Talk {
     fn tell(
         &mut self,
         alloc: Global,
-        reply: &ResultFormat,
+        reply: &SaidFormat,
         got: &Got,
         step: &mut Next,
     ) -> Result<(), Errno>
         requires { self.old.begun ≤ 2147483647 }
-        ensures goes { OnOk result (Goes (told reply.now (names_in self.old) (slot_in self.old) (words_in self.old) got.now) step.new (left self.new)) }
+        ensures goes { OnOk result (Goes (told_said reply.now (names_in self.old) (slot_in self.old) (words_in self.old) got.now) step.new (left self.new)) }
         ensures rests { OnOk result (MatchNext step.new (Unit {0}) (left self.new ≡ goes_on (done (names_in self.new)))) }
         ensures counted { OnOk result (self.new.begun ≡ self.old.begun) }
         ensures kept { OnErr result (StaysLeft self.old self.new) }
         ensures memory_alone { IsOkUnless result Errno.NoMemory }
     {
         let text = match reply {
-            ResultFormat::Silent => {
+            SaidFormat::Silent => {
                 self.end(step);
                 return Ok(());
             }
-            ResultFormat::Opened(name) => return self.opened(name, step),
-            ResultFormat::Closed => {
+            SaidFormat::Opened(name) => return self.opened(name, step),
+            SaidFormat::Closed => {
                 remove_file(&mut self.files, word(1, &self.line));
                 self.end(step);
                 return Ok(());
             }
-            ResultFormat::Made(name) => {
+            SaidFormat::Made(name) => {
                 return self.made(alloc, name, TalkFileKind::Request, got.bytes(), step);
             }
-            ResultFormat::OldMade(kind, name) => {
+            SaidFormat::OldMade(kind, name) => {
                 return self.made(alloc, name, *kind, got.bytes(), step);
             }
-            ResultFormat::OldBytes { kind, command } => old_structure_line(
+            SaidFormat::OldBytes { kind, command } => old_structure_line(
                 alloc,
                 *kind,
                 *command,
                 &self.line,
                 got.bytes(),
             )?,
-            ResultFormat::OldEdges => old_edges_text(alloc, got.bytes())?,
-            ResultFormat::Value => value_line(alloc, got)?,
-            ResultFormat::Level(is_pull) => line_of(alloc, level_text(*is_pull, number_of(got)))?,
-            ResultFormat::Bytes(command) => structure_text(alloc, *command, got.bytes())?,
-            ResultFormat::Edges => edges_text(alloc, got.bytes())?,
-            ResultFormat::Infos => infos_text(alloc, got.bytes())?,
-            ResultFormat::Ready => line_of(alloc, ready_text(got.ready()))?,
+            SaidFormat::OldEdges => old_edges_text(alloc, got.bytes())?,
+            SaidFormat::Value => value_line(alloc, got)?,
+            SaidFormat::Level(is_pull) => line_of(alloc, level_text(*is_pull, number_of(got)))?,
+            SaidFormat::Bytes(command) => structure_text(alloc, *command, got.bytes())?,
+            SaidFormat::Edges => edges_text(alloc, got.bytes())?,
+            SaidFormat::Infos => infos_text(alloc, got.bytes())?,
+            SaidFormat::Ready => line_of(alloc, ready_text(got.ready()))?,
         };
         self.show(text, step);
         Ok(())
@@ -263,7 +264,7 @@ impl Talk {
     /// A chip's file of this name was opened.
     fn opened(&mut self, name: &Name, step: &mut Next) -> Result<(), Errno>
         requires { self.old.begun ≤ 2147483647 }
-        ensures goes { OnOk result (Goes (done (with_file (file name.now (slot_in self.old) TalkFileKind.Chip) (names_in self.old))) step.new (left self.new)) }
+        ensures goes { OnOk result (Goes (done (with_file (file_said name.now (slot_in self.old) TalkFileKind.Chip) (names_in self.old))) step.new (left self.new)) }
         ensures rests { OnOk result (MatchNext step.new (Unit {0}) (left self.new ≡ goes_on (done (names_in self.new)))) }
         ensures counted { OnOk result (self.new.begun ≡ self.old.begun) }
         ensures kept { OnErr result (StaysLeft self.old self.new) }
@@ -288,7 +289,7 @@ impl Talk {
         step: &mut Next,
     ) -> Result<(), Errno>
         requires { self.old.begun ≤ 2147483647 }
-        ensures goes { OnOk result (Goes (shows (fd_text bytes.now) (with_file (file name.now (slot_in self.old) kind) (names_in self.old))) step.new (left self.new)) }
+        ensures goes { OnOk result (Goes (shows (fd_text bytes.now) (with_file (file_said name.now (slot_in self.old) kind) (names_in self.old))) step.new (left self.new)) }
         ensures rests { OnOk result (MatchNext step.new (Unit {0}) (left self.new ≡ goes_on (done (names_in self.new)))) }
         ensures counted { OnOk result (self.new.begun ≡ self.old.begun) }
         ensures kept { OnErr result (StaysLeft self.old self.new) }

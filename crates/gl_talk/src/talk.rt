@@ -6,7 +6,7 @@ ghost use Rattle.gl_talk.specs.Open.{Names, file_of, is_chip_file, no_names};
 ghost use Rattle.gl_talk.specs.Over.{columns_in};
 ghost use Rattle.gl_talk.specs.Talk.{Does, does, left, names_in, quits, slot_behind, talk_left, talks};
 
-use crate::actions::ResultFormat;
+use crate::actions::SaidFormat;
 use crate::copied::CopiedStatement;
 use crate::files::{TalkFile, file_of, is_chip};
 use crate::held::{MonitorRow, SetRow};
@@ -25,7 +25,7 @@ pub enum Stage {
     /// A statement was begun.
     Begun,
     /// The result of its operation is awaited, which is then told in this way.
-    Waiting(ResultFormat),
+    Waiting(SaidFormat),
     /// A tool runs as a statement of its own.
     Running,
     /// The gpioset of this name is started or stopped.
