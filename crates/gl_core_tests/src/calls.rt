@@ -1,134 +1,114 @@
 //! Calls as lines. A word that is no number is read as 0.
 
+use crate::verbs::{Verb, verb_of};
 use crate::words::Words;
 use gl_base::{Errno, IrqDo, Kind, PinDo};
 use gl_core::{Call, Part};
 use std::alloc::Global;
 
-/// The call that the words of a line say, if they say one.
-pub fn read_call(words: &mut Words<'_>, alloc: Global) -> Result<Option<Call>, Errno> {
-    let word = words.word();
-    if word == b"ioctl".as_slice() {
-        return match read_ioctl(words, alloc) {
-            Ok(call) => Ok(Some(call)),
-            Err(errno) => Err(errno),
-        };
-    }
-    Ok(read_other_call(word, words))
+/// The bytes of a command; they are 0 behind those that the line has.
+pub fn read_bytes(words: Words<'_>, alloc: Global) -> Result<[u8; 592], Errno> {
+    let mut given = Vec::new(alloc);
+    let first = if words.is(6, b"told") { 8 } else { 7 };
+    words.put_bytes(first, &mut given)?;
+    Ok(padded(&given))
 }
 
-/// A call that is no command.
-fn read_other_call(word: &[u8], words: &mut Words<'_>) -> Option<Call> {
-    match read_tree_call(word, words) {
-        Some(call) => Some(call),
-        None => match read_line_call(word, words) {
-            Some(call) => Some(call),
-            None => read_file_call(word, words),
+/// Bytes, and zeros behind them.
+fn padded(given: &[u8]) -> [u8; 592] {
+    let mut bytes = [0; 592];
+    let count = given.len().min(592);
+    bytes[..count].copy_from_slice(&given[..count]);
+    bytes
+}
+
+/// The call that the words of a line say, if they say one. These are its bytes if it is a command.
+pub fn read_call(words: Words<'_>, bytes: &[u8; 592]) -> Option<Call> {
+    match verb_of(words.word(1)) {
+        Some(verb) => Some(call_of(verb, words, bytes)),
+        None => None,
+    }
+}
+
+/// The call of a verb.
+fn call_of(verb: Verb, words: Words<'_>, bytes: &[u8; 592]) -> Call {
+    let (place, path, name) = (words.byte(2), words.path(2), words.name(2));
+    let (fd, offset, len) = (words.word32(3), words.word32(3), words.word32(4));
+    match verb {
+        Verb::Probe => Call::Probe {
+            label: name,
+            lines: words.word32(3),
+            kind: kind_of(words.is(4, b"sim")),
         },
-    }
-}
-
-/// A call that makes or removes chips or directories.
-fn read_tree_call(word: &[u8], words: &mut Words<'_>) -> Option<Call> {
-    match word {
-        b"probe" => Some(Call::Probe {
-            label: words.name(),
-            lines: words.word32(),
-            kind: kind_of(words.is(b"sim")),
-        }),
-        b"unplug" => Some(Call::Unplug {
-            place: words.byte(),
-            last: words.is(b"finish"),
-        }),
-        b"mkdir" => Some(Call::MakeDir { path: words.path() }),
-        b"rmdir" => Some(Call::RemoveDir { path: words.path() }),
-        b"write" => Some(Call::Write {
-            path: words.path(),
-            value: words.name(),
-        }),
-        b"read" => Some(Call::Read { path: words.path() }),
-        b"live" => Some(Call::Live {
-            device: words.name(),
-        }),
-        b"remove" => Some(Call::Remove {
-            device: words.name(),
-            last: words.is(b"finish"),
-        }),
-        _ => None,
-    }
-}
-
-/// A call on the clock, or on a line of a place.
-fn read_line_call(word: &[u8], words: &mut Words<'_>) -> Option<Call> {
-    match word {
-        b"tick" => Some(Call::Tick {
-            mono: words.number(),
-            real: words.number(),
-        }),
-        b"pin" => Some(Call::Pin {
-            place: words.byte(),
+        Verb::Unplug => Call::Unplug {
+            place,
+            last: words.is(3, b"finish"),
+        },
+        Verb::MakeDir => Call::MakeDir { path },
+        Verb::RemoveDir => Call::RemoveDir { path },
+        Verb::Write => Call::Write {
+            path,
+            value: words.name(3),
+        },
+        Verb::Read => Call::Read { path },
+        Verb::Live => Call::Live { device: name },
+        Verb::Remove => Call::Remove {
+            device: name,
+            last: words.is(3, b"finish"),
+        },
+        Verb::Tick => Call::Tick {
+            mono: words.number(2),
+            real: words.number(3),
+        },
+        Verb::Pin => Call::Pin {
+            place,
             what: read_pin(words),
-        }),
-        b"irq" => Some(Call::Irq {
-            place: words.byte(),
-            offset: words.word32(),
+        },
+        Verb::Irq => Call::Irq {
+            place,
+            offset,
             what: read_irq(words),
-        }),
-        b"pull" => Some(Call::Pull {
-            place: words.byte(),
-            offset: words.word32(),
-            up: words.is(b"up"),
-        }),
-        b"level" => Some(Call::Level {
-            place: words.byte(),
-            offset: words.word32(),
-            pull: words.is(b"pull"),
-        }),
-        b"interrupt" => Some(Call::Interrupt {
-            place: words.byte(),
-            offset: words.word32(),
-            up: words.is(b"up"),
-        }),
-        _ => None,
-    }
-}
-
-/// A call that opens or closes a file, on an open one, or that was refused at a guard.
-fn read_file_call(word: &[u8], words: &mut Words<'_>) -> Option<Call> {
-    match word {
-        b"open" => Some(Call::OpenChip { word: words.path() }),
-        b"find" => Some(Call::Find {
-            place: None,
-            name: words.name(),
-        }),
-        b"findat" => Some(Call::Find {
-            place: Some(words.byte()),
-            name: words.name(),
-        }),
-        b"edges" => Some(Call::ReadEdges {
-            place: words.byte(),
-            fd: words.word32(),
-            len: words.word32(),
-        }),
-        b"changes" => Some(Call::ReadInfo {
-            place: words.byte(),
-            fd: words.word32(),
-            len: words.word32(),
-        }),
-        b"polledges" => Some(Call::PollLine {
-            place: words.byte(),
-            fd: words.word32(),
-        }),
-        b"pollchanges" => Some(Call::PollChip {
-            place: words.byte(),
-            fd: words.word32(),
-        }),
-        b"close" => Some(Call::Close { fd: words.word32() }),
-        b"refused" => Some(Call::Refused {
-            place: words.byte(),
-            poll: words.is(b"poll"),
-        }),
-        _ => None,
+        },
+        Verb::Pull => Call::Pull {
+            place,
+            offset,
+            up: words.is(4, b"up"),
+        },
+        Verb::Level => Call::Level {
+            place,
+            offset,
+            pull: words.is(4, b"pull"),
+        },
+        Verb::Interrupt => Call::Interrupt {
+            place,
+            offset,
+            up: words.is(4, b"up"),
+        },
+        Verb::OpenChip => Call::OpenChip { word: path },
+        Verb::Find => Call::Find { place: None, name },
+        Verb::FindAt => Call::Find {
+            place: Some(place),
+            name: words.name(3),
+        },
+        Verb::Ioctl => Call::Ioctl {
+            place,
+            fd,
+            cmd: words.word32(4),
+            len: words.word32(5),
+            bytes: *bytes,
+            part: read_part(words),
+        },
+        Verb::ReadEdges => Call::ReadEdges { place, fd, len },
+        Verb::ReadInfo => Call::ReadInfo { place, fd, len },
+        Verb::PollLine => Call::PollLine { place, fd },
+        Verb::PollChip => Call::PollChip { place, fd },
+        Verb::Close => Call::Close {
+            fd: words.word32(2),
+        },
+        Verb::Refused => Call::Refused {
+            place,
+            poll: words.is(3, b"poll"),
+        },
     }
 }
 
@@ -141,60 +121,45 @@ fn kind_of(is_simulated: bool) -> Kind {
 }
 
 /// `range`, `hold`, or else `drop`.
-fn read_pin(words: &mut Words<'_>) -> PinDo {
-    match words.word() {
-        b"range" => PinDo::Range {
-            offset: words.word32(),
-            pin: words.word32(),
-            count: words.word32(),
-        },
-        b"hold" => PinDo::Hold(words.word32()),
-        _ => PinDo::Release(words.word32()),
+fn read_pin(words: Words<'_>) -> PinDo {
+    let number = words.word32(4);
+    if words.is(3, b"range") {
+        PinDo::Range {
+            offset: number,
+            pin: words.word32(5),
+            count: words.word32(6),
+        }
+    } else if words.is(3, b"hold") {
+        PinDo::Hold(number)
+    } else {
+        PinDo::Release(number)
     }
 }
 
 /// `lock`, `unlock`, `enable`, `disable`, or else `never`.
-fn read_irq(words: &mut Words<'_>) -> IrqDo {
-    match words.word() {
-        b"lock" => IrqDo::Lock,
-        b"unlock" => IrqDo::Unlock,
-        b"enable" => IrqDo::Enable,
-        b"disable" => IrqDo::Disable,
-        _ => IrqDo::Never,
+fn read_irq(words: Words<'_>) -> IrqDo {
+    if words.is(4, b"lock") {
+        IrqDo::Lock
+    } else if words.is(4, b"unlock") {
+        IrqDo::Unlock
+    } else if words.is(4, b"enable") {
+        IrqDo::Enable
+    } else if words.is(4, b"disable") {
+        IrqDo::Disable
+    } else {
+        IrqDo::Never
     }
 }
 
 /// `whole`, `ask`, `told`, or else `failed`.
-fn read_part(words: &mut Words<'_>) -> Part {
-    match words.word() {
-        b"whole" => Part::Whole,
-        b"ask" => Part::Ask,
-        b"told" => Part::Tell(Some(words.number())),
-        _ => Part::Tell(None),
+fn read_part(words: Words<'_>) -> Part {
+    if words.is(6, b"whole") {
+        Part::Whole
+    } else if words.is(6, b"ask") {
+        Part::Ask
+    } else if words.is(6, b"told") {
+        Part::Tell(Some(words.number(7)))
+    } else {
+        Part::Tell(None)
     }
-}
-
-/// A command; its bytes are 0 behind those that the line has.
-fn read_ioctl(words: &mut Words<'_>, alloc: Global) -> Result<Call, Errno> {
-    let mut given = Vec::new(alloc);
-    let (place, fd, cmd, len) = (words.byte(), words.word32(), words.word32(), words.word32());
-    let part = read_part(words);
-    words.put_bytes(&mut given)?;
-    Ok(Call::Ioctl {
-        place,
-        fd,
-        cmd,
-        len,
-        bytes: padded(&given),
-        part,
-    })
-}
-
-/// Bytes, and zeros behind them.
-fn padded(given: &[u8]) -> [u8; 592] {
-    let mut bytes = [0; 592];
-    for (place, byte) in bytes.iter_mut().zip(given.iter()) {
-        *place = *byte;
-    }
-    bytes
 }

@@ -1,14 +1,16 @@
 //! A run of calls on one core.
 
-ghost use Rattle.gl_model.specs.Fits.{FitsCall};
+ghost use Rattle.std.specs.Prelude.{◌≡◌, length};
+ghost use Rattle.gl_model.specs.Fits.{FitsCall, FitsGift};
+ghost use Rattle.gl_core.specs.Legal.{buffer_size};
 
 use crate::answers::put_reply;
-use crate::calls::read_call;
+use crate::calls::{read_bytes, read_call};
 use crate::words::Words;
 use gl_base::{Errno, put_bytes, put_decimal};
 use gl_core::fits::{buffer_size, fill, fits_call, gift_for};
 use gl_core::laws::first_bad;
-use gl_core::{Call, Core, Reply};
+use gl_core::{Call, Core, Gift};
 use gl_world::{Entry, Machine};
 use std::alloc::Global;
 
@@ -35,15 +37,14 @@ impl Game {
         alloc: Global,
         out: &mut Vec<u8>,
     ) -> Result<(), Errno> {
-        let mut words = words;
-        let actor = words.byte();
-        match read_call(&mut words, alloc)? {
-            Some(call) if fits_call(&call) => self.put_made(actor, &call, alloc, out),
+        let bytes = read_bytes(words, alloc)?;
+        match read_call(words, &bytes) {
+            Some(call) if fits_call(&call) => self.put_made(words.byte(0), &call, alloc, out),
             _ => no_call(out),
         }
     }
 
-    /// Makes a call, and appends what is answered and the buffer behind it.
+    /// Makes a call with what it brings, and appends what is answered and the buffer behind it.
     fn put_made(
         &mut self,
         actor: u8,
@@ -53,39 +54,52 @@ impl Game {
     ) -> Result<(), Errno>
         requires { FitsCall call.now }
     {
-        let mut gift = gift_for(call, alloc)?;
-        let mut buffer = Vec::new(alloc);
+        match gift_for(call, alloc) {
+            Ok(mut gift) => self.put_brought(actor, call, &mut gift, out),
+            Err(errno) => Err(errno),
+        }
+    }
+
+    /// The same with what the call brings.
+    fn put_brought(
+        &mut self,
+        actor: u8,
+        call: &Call,
+        gift: &mut Gift,
+        out: &mut Vec<u8>,
+    ) -> Result<(), Errno>
+        requires call { FitsCall call.now }
+        requires gift { FitsGift call.now gift.old }
+    {
+        let mut buffer = Vec::new(*out.allocator());
         match buffer.resize(buffer_size(call) as usize, 0) {
-            Ok(()) => {
-                fill(&mut buffer, call);
-                let reply = self.core.step(actor, call, &mut gift, &mut buffer);
-                self.put_kept(actor, call, reply, &buffer, out)
-            }
+            Ok(()) => self.put_buffered(actor, call, gift, &mut buffer, out),
             Err(_) => Err(Errno::NoMemory),
         }
     }
 
-    /// Keeps a call's entry, and appends what was answered and the buffer.
-    fn put_kept(
+    /// The same with a buffer of the call's size.
+    fn put_buffered(
         &mut self,
         actor: u8,
         call: &Call,
-        reply: Reply,
-        buffer: &[u8],
+        gift: &mut Gift,
+        buffer: &mut [u8],
         out: &mut Vec<u8>,
-    ) -> Result<(), Errno> {
-        let entry = Entry {
+    ) -> Result<(), Errno>
+        requires call { FitsCall call.now }
+        requires gift { FitsGift call.now gift.old }
+        requires buffer { length buffer.old ≡ buffer_size call.now }
+    {
+        fill(buffer, call);
+        let reply = self.core.step(actor, call, gift, buffer);
+        self.entries.push(Entry {
             actor,
             call: *call,
             reply,
-        };
-        self.entries.push(entry)?;
+        })?;
         put_reply(&reply, out)?;
-        if !buffer.is_empty() {
-            out.extend_from_slice(b" : ")?;
-            put_bytes(buffer, out)?;
-        }
-        Ok(())
+        put_buffer(buffer, out)
     }
 
     /// Appends whether the entries are legal, or which of them is the first bad one.
@@ -104,6 +118,15 @@ impl Game {
             }
         }
     }
+}
+
+/// Appends a buffer that isn't empty.
+fn put_buffer(buffer: &[u8], out: &mut Vec<u8>) -> Result<(), Errno> {
+    if buffer.is_empty() {
+        return Ok(());
+    }
+    out.extend_from_slice(b" : ")?;
+    put_bytes(buffer, out)
 }
 
 /// Says that a line has no call.

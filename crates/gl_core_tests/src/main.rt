@@ -7,6 +7,7 @@
 mod answers;
 mod calls;
 mod game;
+mod verbs;
 mod words;
 
 use game::Game;
@@ -57,20 +58,21 @@ fn told(
     alloc: Global,
     out: &mut Vec<u8>,
 ) -> Result<(), Errno> {
-    let mut words = Words::of(line);
-    match words.word() {
-        b"run" => {
-            *game = Some(Game::new(alloc)?);
-            out.extend_from_slice(line)?;
-            Ok(())
-        }
-        b"end" => match game {
-            Some(game) => game.put_end(alloc, out),
-            None => Ok(()),
-        },
-        _ => match game {
-            Some(game) => game.put_answer(Words::of(line), alloc, out),
-            None => Ok(()),
-        },
+    let words = Words::of(line);
+    if words.is(0, b"run") {
+        begin(game, alloc)?;
+        out.extend_from_slice(line)?;
+        return Ok(());
     }
+    match game {
+        Some(game) if words.is(0, b"end") => game.put_end(alloc, out),
+        Some(game) => game.put_answer(words, alloc, out),
+        None => Ok(()),
+    }
+}
+
+/// Begins a run on a new core.
+fn begin(game: &mut Option<Game>, alloc: Global) -> Result<(), Errno> {
+    *game = Some(Game::new(alloc)?);
+    Ok(())
 }

@@ -1,72 +1,64 @@
 //! The words of a line.
 
-use gl_base::{Errno, Name, Path, put_piece, read_decimal, split_first};
+use gl_base::{Errno, Name, Path, put_piece, read_decimal};
 
-/// The words that are left of a line, with one blank between two of them.
-#[derive(Drop)]
+/// A line of words, with one blank between two of them. A word is told by its number, counted from 0, and is the empty one behind the last.
+#[derive(Clone, Copy)]
 pub struct Words<'a> {
-    rest: &'a [u8],
+    line: &'a [u8],
 }
 
 impl<'a> Words<'a> {
     /// The words of a line.
     pub fn of(line: &'a [u8]) -> Words<'a> {
-        Words { rest: line }
+        Words { line }
     }
 
-    /// The next word: the empty one behind the last.
-    pub fn word(&mut self) -> &'a [u8] {
-        let (word, rest) = split_first(self.rest, b' ');
-        self.rest = match rest {
-            Some(rest) => rest,
+    /// A word.
+    pub fn word(self, at: usize) -> &'a [u8] {
+        match self.line.split(|byte| *byte == b' ').nth(at) {
+            Some(word) => word,
             None => b"",
-        };
-        word
-    }
-
-    /// The next word as a number: 0 where it is none.
-    pub fn number(&mut self) -> u64 {
-        read_decimal(self.word()).unwrap_or(0)
-    }
-
-    /// The next word as a number of 32 bits.
-    pub fn word32(&mut self) -> u32 {
-        u32::try_from(self.number()).unwrap_or(0)
-    }
-
-    /// The next word as a number of 8 bits.
-    pub fn byte(&mut self) -> u8 {
-        u8::try_from(self.number()).unwrap_or(0)
-    }
-
-    /// The next word as a name: the empty one where it is none.
-    pub fn name(&mut self) -> Name {
-        match Name::of(self.word()) {
-            Some(name) => name,
-            None => Name::empty(),
         }
     }
 
-    /// The next word as a path: the empty one where it is none.
-    pub fn path(&mut self) -> Path {
-        match Path::of(self.word()) {
+    /// A word as a number: 0 where it is none.
+    pub fn number(self, at: usize) -> u64 {
+        read_decimal(self.word(at)).unwrap_or(0)
+    }
+
+    /// A word as a number of 32 bits.
+    pub fn word32(self, at: usize) -> u32 {
+        u32::try_from(self.number(at)).unwrap_or(0)
+    }
+
+    /// A word as a number of 8 bits.
+    pub fn byte(self, at: usize) -> u8 {
+        u8::try_from(self.number(at)).unwrap_or(0)
+    }
+
+    /// A word as a name: the empty one where it is none.
+    pub fn name(self, at: usize) -> Name {
+        Name::of(self.word(at)).unwrap_or(Name::empty())
+    }
+
+    /// A word as a path: the empty one where it is none.
+    pub fn path(self, at: usize) -> Path {
+        match Path::of(self.word(at)) {
             Some(path) => path,
             None => Path::of(b"").unwrap(),
         }
     }
 
-    /// Whether the next word is this one.
-    pub fn is(&mut self, word: &[u8]) -> bool {
-        self.word() == word
+    /// Whether a word is this one.
+    pub fn is(self, at: usize, word: &[u8]) -> bool {
+        self.word(at) == word
     }
 
-    /// The bytes of all words that are left.
-    pub fn put_bytes(&mut self, out: &mut Vec<u8>) -> Result<(), Errno> {
-        for _ in 0..1024u32 {
-            if self.rest.is_empty() {
-                return Ok(());
-            }
-            put_piece(self.word(), out)?;
+    /// Appends the bytes of the words from one on.
+    pub fn put_bytes(self, at: usize, out: &mut Vec<u8>) -> Result<(), Errno> {
+        for word in self.line.split(|byte| *byte == b' ').skip(at) {
+            put_piece(word, out)?;
         }
         Ok(())
     }
