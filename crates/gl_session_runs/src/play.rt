@@ -8,7 +8,7 @@ use crate::run_parameters::RunParameters;
 use gl_base::{Errno, put_decimal};
 use gl_driver::{SimDriver, SimPort};
 use gl_io::{MemSink, MemSource};
-use gl_served::{Served, serve};
+use gl_served::{Ended, Served, serve};
 use gl_session::run;
 use std::alloc::Global;
 use std::sync::Wait;
@@ -138,8 +138,7 @@ impl Session {
             parameters.piece,
             only(parameters.write, alloc)?,
         )?;
-        let mut served = Served::new(alloc)?;
-        let ended = serve(alloc, &mut served, &mut source, &mut sink);
+        let ended = serve_new(alloc, &mut source, &mut sink)?;
         let mut frames = Vec::new(alloc);
         frames.extend_from_slice(sink.as_slice())?;
         Ok((ended.number(), frames))
@@ -167,6 +166,12 @@ impl Session {
         }
         Ok(())
     }
+}
+
+/// Serves a new session from a source to a sink.
+fn serve_new(alloc: Global, source: &mut MemSource, sink: &mut MemSink) -> Result<Ended, Errno> {
+    let mut served = Served::new(alloc)?;
+    Ok(serve(alloc, &mut served, source, sink))
 }
 
 /// A word as text.

@@ -65,18 +65,18 @@ pub fn carry_out<S: Source, K: Sink>(
 
 /// Answers the lines of a source to a sink, by a new session.
 fn serve_all<S: Source, K: Sink>(alloc: Global, source: &mut S, sink: &mut K) -> Status {
-    match Served::new(alloc) {
-        Ok(served) => {
-            let mut served = served;
-            match serve(alloc, &mut served, source, sink) {
-                Ended::AtEnd => Status::Ran,
-                Ended::ReadFault => Status::ReadFault,
-                Ended::WriteFault => Status::WriteFault,
-                Ended::NoMemory => Status::NoMemory,
-            }
-        }
-        Err(_) => Status::NoMemory,
+    match serve_new(alloc, source, sink) {
+        Some(Ended::AtEnd) => Status::Ran,
+        Some(Ended::ReadFault) => Status::ReadFault,
+        Some(Ended::WriteFault) => Status::WriteFault,
+        Some(Ended::NoMemory) | None => Status::NoMemory,
     }
+}
+
+/// The same, with what ended it, where there is memory for a session.
+fn serve_new<S: Source, K: Sink>(alloc: Global, source: &mut S, sink: &mut K) -> Option<Ended> {
+    let mut served = Served::new(alloc).ok()?;
+    Some(serve(alloc, &mut served, source, sink))
 }
 
 /// Writes a text, with what it ends the program with.
