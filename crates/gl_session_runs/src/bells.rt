@@ -15,8 +15,8 @@ use std::sync::atomic::{AtomicBool, Ordering};
 /// How often a call that waits for a bell looks whether it has rung. Then it goes on all the same.
 const TURNS: u32 = 100_000_000;
 
-/// How many empty turns a call makes that rests.
-const EMPTY_TURNS: u32 = 200_000;
+/// How often a call that rests looks at a bell: some milliseconds, so that a thread that waits for a processor gets one meanwhile.
+const RESTING_TURNS: u32 = 4_000_000;
 
 /// Eight bells, which stay rung.
 #[derive(Drop)]
@@ -53,6 +53,14 @@ impl Bells {
         }
     }
 
+    /// Looks at a bell for a while, whether it rings or not.
+    fn rest(&self) {
+        for _ in 0..RESTING_TURNS {
+            let _ = self.bell(0).load(Ordering::SeqCst);
+            spin_loop();
+        }
+    }
+
     /// What a configuration of lines does, of which this is the first.
     fn on_apply(&self, place: u8, line: u32) {
         if place == 1 {
@@ -64,7 +72,7 @@ impl Bells {
     /// What a setting of values does, of whose lines this is the first.
     fn on_set(&self, place: u8, line: u32) {
         match place {
-            0 => rest(),
+            0 => self.rest(),
             2 => self.wait_for(line),
             3 => self.ring(line),
             _ => {}
@@ -78,13 +86,6 @@ impl Bells {
             Op::Set { lines, .. } => self.on_set(place, lines.offsets[0]),
             Op::Apply { lines, .. } => self.on_apply(place, lines.offsets[0]),
         }
-    }
-}
-
-/// Makes some empty turns.
-fn rest() {
-    for _ in 0..EMPTY_TURNS {
-        spin_loop();
     }
 }
 
