@@ -13,7 +13,7 @@ use std::sync::Wait;
 use std::sync::atomic::{AtomicBool, Ordering};
 
 /// How often a call that waits for a bell looks whether it has rung. Then it goes on all the same.
-const TURNS: u32 = 100_000_000;
+const TURNS: u32 = 1_000_000_000;
 
 /// How often a call that rests looks at a bell: some milliseconds, so that a thread that waits for a processor gets one meanwhile.
 const RESTING_TURNS: u32 = 4_000_000;
