@@ -363,13 +363,14 @@ WAYS = [
 
 
 def sessions() -> List[Path]:
-    """The sessions of several actors whose output is judged."""
+    """The sessions of several actors whose output is judged: those without `aggregate`."""
     found = []
     for folder in ("examples", "checks/rows"):
         for path in sorted((TOP / folder).glob("*.session")):
             lines = path.read_bytes().splitlines()
             plain = not path.with_suffix(".words").is_file() and not path.with_suffix(".status").is_file()
-            if plain and len([line for line in lines if line.split()[:1] == [b"actor"]]) > 1:
+            aggregates = any(line.split()[:1] == [b"aggregate"] for line in lines)
+            if plain and not aggregates and len([line for line in lines if line.split()[:1] == [b"actor"]]) > 1:
                 found.append(path)
     return found
 

@@ -103,9 +103,9 @@ class Lines(unittest.TestCase):
             self.assertEqual(answers[3], (b"=", b""))
 
     def test_refused_lines_count_as_not_given(self) -> None:
-        lines = [b"setup", b"session 1", b"gpiodetect", b"setup", b"actor a", b"after", b"probe x 0", b"aggregate x 0.1", b"nonsense", b"gpiodetect"]
+        lines = [b"setup", b"session 1", b"gpiodetect", b"setup", b"actor a", b"after", b"probe x 0", b"aggregate x 0/1", b"nonsense", b"gpiodetect"]
         refused = [b"refused 1 1 header\n", b"", b"refused 3 1 section\n", b"", b"refused 5 1 section\n", b"refused 6 1 section\n",
-                   b"refused 7 9 word\n", b"refused 8 1 statement\n", b"refused 9 1 statement\n", b""]
+                   b"refused 7 9 word\n", b"refused 8 13 word\n", b"refused 9 1 statement\n", b""]
         self.assertEqual([text for _, text in answered(lines)[0]], refused)
 
     def test_questions(self) -> None:

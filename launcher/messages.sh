@@ -13,6 +13,7 @@ write|write PATH VALUE: VALUE has 1 to 31 letters, digits, _, - or ., and no bla
 clock|clock MONOTONIC REAL: two decimal numbers of nanoseconds
 fault|fault N: a decimal number from 1 to 1000000
 accept|accept N: a decimal number below 2^64
+aggregate|aggregate LABEL NAME, and up to three further names, of requests
 pin|pin range CHIP OFFSET PIN COUNT, pin hold CHIP PIN or pin drop CHIP PIN
 irq|irq lock CHIP OFFSET, and so unlock, enable, disable and none
 open|open NAME CHIP: NAME has 1 to 15 letters, digits, _, - or .

@@ -35,6 +35,7 @@ fn run_one(device: &Device, sections: &[Section]) -> Vec<u8> {
             own.end(&actor);
             out.append(&mut own.out);
         } else {
+            shared.in_setup = section.head == Head::Setup;
             say(&mut shared, &mut actor, section);
             out.append(&mut shared.out);
         }
@@ -47,6 +48,7 @@ fn run_one(device: &Device, sections: &[Section]) -> Vec<u8> {
 fn run_many(device: &Device, sections: &[Section]) -> Vec<u8> {
     let mut first = Actor { device, number: 0, port: Port::default() };
     let mut shared = Talk::default();
+    shared.in_setup = true;
     let of = |head: Head| sections.iter().find(move |section| section.head == head);
     let mut out = b"== setup\n".to_vec();
     of(Head::Setup).into_iter().for_each(|section| say(&mut shared, &mut first, section));
@@ -69,6 +71,7 @@ fn run_many(device: &Device, sections: &[Section]) -> Vec<u8> {
         }
         out.extend_from_slice(&text);
     }
+    shared.in_setup = false;
     of(Head::After).into_iter().for_each(|section| say(&mut shared, &mut first, section));
     out.extend_from_slice(b"== after\n");
     out.append(&mut shared.out);

@@ -157,8 +157,16 @@ fn fit_ioctl(words: &[Placed]) -> Result<(), Fault> {
     }
 }
 
+/// A label, and the names of one to four files.
+fn fit_aggregate(words: &[Placed]) -> Result<(), Fault> {
+    fit(words, 1, &[VALUE, NAME], true)?;
+    fit(&words[..words.len().min(6)], 1, &[VALUE, NAME, NAME, NAME, NAME][..words.len().min(6) - 1], false)?;
+    words.get(6).map_or(Ok(()), |(column, _)| Err((*column, "words")))
+}
+
 fn fit_statement(words: &[Placed]) -> Result<(), Fault> {
     match words[0].1 {
+        "aggregate" => fit_aggregate(words),
         "ioctl" | "ioctl1" => fit_ioctl(words),
         "start" => fit(words, 1, &[NAME, Form::OneOf(&["gpioset", "gpiomon", "gpionotify"])], true),
         tool if TOOLS.contains(&tool) => Ok(()),
@@ -170,7 +178,7 @@ fn fit_statement(words: &[Placed]) -> Result<(), Fault> {
 }
 
 fn begins_statement(word: &str) -> bool {
-    ["ioctl", "ioctl1", "start"].contains(&word) || TOOLS.contains(&word) || forms(word, None).is_some()
+    ["aggregate", "ioctl", "ioctl1", "start"].contains(&word) || TOOLS.contains(&word) || forms(word, None).is_some()
 }
 
 /// The words of a line, or the fault of a byte or of a limit.
@@ -268,10 +276,17 @@ pub fn parse(bytes: &[u8]) -> Result<Vec<Section<'_>>, Refusal> {
     if header.is_none() {
         return Err(Refusal { line: 1, column: 1, kind: "header" });
     }
-    if sections.iter().flat_map(|s| &s.statements).map(|s| cost(s)).sum::<u64>() > 300_000 {
+    if whole_cost(&sections) > 300_000 {
         return Err(Refusal { line: 0, column: 0, kind: "cost" });
     }
     Ok(sections)
+}
+
+/// The cost of a session: five times that of its statements where one of them is an `aggregate`.
+fn whole_cost(sections: &[Section]) -> u64 {
+    let statements = || sections.iter().flat_map(|s| &s.statements);
+    let sum: u64 = statements().map(|s| cost(s)).sum();
+    if statements().any(|s| s[0] == "aggregate") { 5 * sum } else { sum }
 }
 
 /// How many entries a statement makes at most, the closing of what it opens among them.

@@ -31,6 +31,8 @@ struct File {
 pub struct Talk {
     files: BTreeMap<String, File>,
     tools: BTreeMap<String, Running>,
+    /// Whether its statements are those of `setup`.
+    pub in_setup: bool,
     pub out: Vec<u8>,
 }
 
@@ -74,6 +76,7 @@ impl Talk {
             "poll" => self.poll(actor, words[1]),
             "close" => self.close(actor, words[1]),
             "read" => self.read(actor, words[1]),
+            "aggregate" => self.aggregate(&words[2..]),
             _ => plain(actor, words),
         };
         if let Err(errno) = said {
@@ -159,6 +162,18 @@ impl Talk {
         let handle = actor.open(words[2])?;
         self.files.insert(words[1].into(), File { handle, kind: Kind::Chip });
         Ok(())
+    }
+
+    /// A chip over requests, of which no actor's port here would keep a map.
+    fn aggregate(&self, names: &[&str]) -> Said {
+        if !self.in_setup {
+            return Err(Errno::Inval);
+        }
+        let files = names.iter().map(|name| self.file(name)).collect::<Result<Vec<File>, Errno>>()?;
+        if files.iter().any(|file| file.kind == Kind::Chip) {
+            return Err(Errno::Inval);
+        }
+        Err(Errno::NoSpc)
     }
 
     fn poll(&mut self, actor: &Actor, name: &str) -> Said {

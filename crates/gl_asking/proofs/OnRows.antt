@@ -4,7 +4,7 @@ use Rattle.std.specs.Prelude.{nat_lt, if◌then◌else◌}
 use Rattle.gl_base.specs.declared.errno.Errno.{Errno}
 use Rattle.gl_base.specs.declared.limits.TheConstants.{PLACES}
 use Rattle.gl_base.specs.declared.operation.Do.{Do}
-use Rattle.gl_base.specs.declared.operation.Do.TheVariants.{Probe as DoProbe, Unplug as DoUnplug, MakeDir as DoMakeDir, RemoveDir as DoRemoveDir, Write as DoWrite, Read as DoRead, Live as DoLive, Tick as DoTick, Pin as DoPin, Irq as DoIrq, Pull as DoPull, Level as DoLevel, OpenChip as DoOpenChip, Find as DoFind, Ioctl as DoIoctl, ReadFile, Poll, Close as DoClose, Plan, Accept}
+use Rattle.gl_base.specs.declared.operation.Do.TheVariants.{Probe as DoProbe, Unplug as DoUnplug, MakeDir as DoMakeDir, RemoveDir as DoRemoveDir, Write as DoWrite, Read as DoRead, Live as DoLive, Tick as DoTick, Pin as DoPin, Irq as DoIrq, Pull as DoPull, Level as DoLevel, OpenChip as DoOpenChip, Find as DoFind, Ioctl as DoIoctl, ReadFile, Poll, Close as DoClose, Plan, Accept, Aggregate}
 use Rattle.gl_model.specs.declared.call.Call.{Call}
 use Rattle.gl_model.specs.declared.device_call.DeviceCall.{DeviceCall}
 use Rattle.gl_model.specs.declared.device_call.DeviceCall.TheVariants.{Commanding}
@@ -55,6 +55,7 @@ module _ (files : List OpenFile) (row : Option FileRow) where
   asks_on (DoClose slot) at = once_on row (file_in slot files) _
   asks_on (Plan nth) at = tt
   asks_on (Accept bits) at = tt
+  asks_on (Aggregate label slots count) at = tt
 
   pub is_on : (what : Do) (asks : Asking) → asks ≡ asking files what → file_for what files ≡ file_of row → AsksOn row asks
   is_on what asks is at = subst (λ (a : Asking). AsksOn row a) (sym is) (asks_on what at)

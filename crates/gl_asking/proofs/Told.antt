@@ -4,7 +4,7 @@ use Rattle.std.specs.Prelude.{nat_lt, if◌then◌else◌}
 use Rattle.gl_base.specs.declared.errno.Errno.{Errno}
 use Rattle.gl_base.specs.declared.limits.TheConstants.{PLACES}
 use Rattle.gl_base.specs.declared.operation.Do.{Do}
-use Rattle.gl_base.specs.declared.operation.Do.TheVariants.{Probe as DoProbe, Unplug as DoUnplug, MakeDir as DoMakeDir, RemoveDir as DoRemoveDir, Write as DoWrite, Read as DoRead, Live as DoLive, Tick as DoTick, Pin as DoPin, Irq as DoIrq, Pull as DoPull, Level as DoLevel, OpenChip as DoOpenChip, Find as DoFind, Ioctl as DoIoctl, ReadFile, Poll, Close as DoClose, Plan, Accept}
+use Rattle.gl_base.specs.declared.operation.Do.TheVariants.{Probe as DoProbe, Unplug as DoUnplug, MakeDir as DoMakeDir, RemoveDir as DoRemoveDir, Write as DoWrite, Read as DoRead, Live as DoLive, Tick as DoTick, Pin as DoPin, Irq as DoIrq, Pull as DoPull, Level as DoLevel, OpenChip as DoOpenChip, Find as DoFind, Ioctl as DoIoctl, ReadFile, Poll, Close as DoClose, Plan, Accept, Aggregate}
 use Rattle.gl_base.specs.declared.operation.Got.TheVariants.{Done as GotDone, Refused as GotRefused}
 use Rattle.gl_model.specs.declared.device_call.DeviceCall.{DeviceCall}
 use Rattle.gl_model.specs.declared.reply.Reply.TheVariants.{Done, Refused}
@@ -34,6 +34,7 @@ refused_got (Poll slot) errno = refl
 refused_got (DoClose slot) errno = refl
 refused_got (Plan nth) errno = refl
 refused_got (Accept bits) errno = refl
+refused_got (Aggregate label slots count) errno = refl
 
 abbrev ForPort : Type 0 → Asking → Type 0
 ForPort P (Calls call) = Unit {0}
@@ -72,6 +73,7 @@ port_got files (Poll slot) = no_port_on _ (file_in slot files) _
 port_got files (DoClose slot) = no_port_on _ (file_in slot files) _
 port_got files (Plan nth) = refl
 port_got files (Accept bits) = refl
+port_got files (Aggregate label slots count) = tt
 
 pub planned_got : (files : List OpenFile) (what : Do) (nth : ℕ) → Plans nth ≡ asking files what → GotDone ≡ got_of what Done []
 planned_got files what nth is = subst (λ (a : Asking). ForPort (GotDone ≡ got_of what Done []) a) (sym is) (port_got files what)

@@ -1,15 +1,16 @@
 -- What each operation of a client is on the device, and what it is answered. That an operation on a slot without a file is EBADF,
--- and one at a place or with a number of lines that no chip has is refused, all without a call, is this project's choice.
+-- and one at a place or with a number of lines that no chip has is refused, all without a call, is this project's choice. So is that whoever
+-- keeps no maps of lines refuses a chip over requests with ENOSPC.
 use Rattle.std.specs.Prelude.{ℕ, Bool, true, false, ◌&&◌, nat_eq, nat_le, nat_lt, if◌then◌else◌, List, take, length, drop, replicate, ◌++◌, Option, Some, None, Result, Ok, Err}
 use Rattle.gl_base.specs.Padded.{padded}
 use Rattle.gl_base.specs.declared.command.TheConstants.{GET_LINE}
 use Rattle.gl_base.specs.declared.errno.Errno.{Errno}
-use Rattle.gl_base.specs.declared.errno.Errno.TheVariants.{BadF, Inval, NoEnt}
+use Rattle.gl_base.specs.declared.errno.Errno.TheVariants.{BadF, Inval, NoEnt, NoSpc}
 use Rattle.gl_base.specs.declared.kind.Kind.TheVariants.{Simulated}
 use Rattle.gl_base.specs.declared.lines.Lines.{Lines}
 use Rattle.gl_base.specs.declared.limits.TheConstants.{LINES_MAX, PLACES}
 use Rattle.gl_base.specs.declared.operation.Do.{Do}
-use Rattle.gl_base.specs.declared.operation.Do.TheVariants.{Probe as DoProbe, Unplug as DoUnplug, MakeDir as DoMakeDir, RemoveDir as DoRemoveDir, Write as DoWrite, Read as DoRead, Live as DoLive, Tick as DoTick, Pin as DoPin, Irq as DoIrq, Pull as DoPull, Level as DoLevel, OpenChip as DoOpenChip, Find as DoFind, Ioctl as DoIoctl, ReadFile, Poll, Close as DoClose, Plan, Accept}
+use Rattle.gl_base.specs.declared.operation.Do.TheVariants.{Probe as DoProbe, Unplug as DoUnplug, MakeDir as DoMakeDir, RemoveDir as DoRemoveDir, Write as DoWrite, Read as DoRead, Live as DoLive, Tick as DoTick, Pin as DoPin, Irq as DoIrq, Pull as DoPull, Level as DoLevel, OpenChip as DoOpenChip, Find as DoFind, Ioctl as DoIoctl, ReadFile, Poll, Close as DoClose, Plan, Accept, Aggregate}
 use Rattle.gl_base.specs.declared.operation.Got.{Got}
 use Rattle.gl_base.specs.declared.operation.Got.TheVariants.{Done as GotDone, Number as GotNumber, Found as GotFound, Text as GotText, Bytes, Ready as GotReady, Refused as GotRefused}
 use Rattle.gl_uapi.specs.declared.layout.TheConstants.{LINE_REQUEST_SIZE}
@@ -90,6 +91,7 @@ asking files (Poll slot) = on_file (file_in slot files) (λ file. once (polls fi
 asking files (DoClose slot) = on_file (file_in slot files) (λ file. once (Close file.fd))
 asking files (Plan nth) = Plans nth
 asking files (Accept bits) = Accepts bits
+asking files (Aggregate label slots count) = Refuses NoSpc
 
 -- the lines that the structure in a buffer names
 abbrev pub lines_named : List ℕ → Lines

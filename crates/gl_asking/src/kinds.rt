@@ -39,6 +39,13 @@ impl FileRow {
         self.slot
     }
 
+    /// The place of its chip.
+    pub fn place(&self) -> u8
+        ensures { result ≡ self.now.place }
+    {
+        self.place
+    }
+
     /// Its number.
     pub fn number(&self) -> u32
         ensures { result ≡ self.now.fd }

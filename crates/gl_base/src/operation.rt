@@ -142,6 +142,15 @@ pub enum Do {
         /// The bits.
         bits: u64,
     },
+    /// Makes a chip of this label whose lines are those of the requests in these slots, joined in order.
+    Aggregate {
+        /// The chip's label.
+        label: Name,
+        /// The slots of the requests; those past the count mean nothing. A request may be named more than once.
+        slots: [u32; 4],
+        /// How many requests there are, 1 to 4.
+        count: u32,
+    },
 }
 
 /// What an operation is answered.

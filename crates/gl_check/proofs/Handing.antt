@@ -6,7 +6,7 @@ use Rattle.std.proofs.lemmas.List.{length-replicate}
 use Rattle.gl_base.specs.declared.errno.Errno.{Errno}
 use Rattle.gl_base.specs.declared.limits.TheConstants.{PLACES}
 use Rattle.gl_base.specs.declared.operation.Do.{Do}
-use Rattle.gl_base.specs.declared.operation.Do.TheVariants.{Probe as DoProbe, Unplug as DoUnplug, MakeDir as DoMakeDir, RemoveDir as DoRemoveDir, Write as DoWrite, Read as DoRead, Live as DoLive, Tick as DoTick, Pin as DoPin, Irq as DoIrq, Pull as DoPull, Level as DoLevel, OpenChip as DoOpenChip, Find as DoFind, Ioctl as DoIoctl, ReadFile, Poll, Close as DoClose, Plan, Accept}
+use Rattle.gl_base.specs.declared.operation.Do.TheVariants.{Probe as DoProbe, Unplug as DoUnplug, MakeDir as DoMakeDir, RemoveDir as DoRemoveDir, Write as DoWrite, Read as DoRead, Live as DoLive, Tick as DoTick, Pin as DoPin, Irq as DoIrq, Pull as DoPull, Level as DoLevel, OpenChip as DoOpenChip, Find as DoFind, Ioctl as DoIoctl, ReadFile, Poll, Close as DoClose, Plan, Accept, Aggregate}
 use Rattle.gl_uapi.specs.Command.{command_of}
 use Rattle.gl_uapi.specs.declared.layout.TheConstants.{LINE_REQUEST_SIZE}
 use Rattle.gl_model.specs.Bounds.{HasBounds}
@@ -122,6 +122,7 @@ handed files (Poll slot) = poll_on slot (file_in slot files)
 handed files (DoClose slot) = close_on slot (file_in slot files)
 handed files (Plan nth) = tt
 handed files (Accept bits) = tt
+handed files (Aggregate label slots count) = tt
 
 first_fits : (what : Do) (first : Call) → IsAsked what first → FitsBuffer first (buffer_for what)
 first_fits what first asked =
@@ -190,6 +191,7 @@ filled (Poll slot) wrote = tt
 filled (DoClose slot) wrote = tt
 filled (Plan nth) wrote = tt
 filled (Accept bits) wrote = tt
+filled (Aggregate label slots count) wrote = tt
 
 pub filled_at : (stand : Stand) (wrote buffer old : List ℕ) → old ≡ buffer_at stand → buffer ≡ wrote ++ drop (length wrote) old → IsFilledAt stand wrote buffer
 filled_at Ended wrote buffer old was is = tt
@@ -220,6 +222,7 @@ opens_nothing (Poll slot) reply small none = tt
 opens_nothing (DoClose slot) reply small none = tt
 opens_nothing (Plan nth) reply small none = tt
 opens_nothing (Accept bits) reply small none = tt
+opens_nothing (Aggregate label slots count) reply small none = tt
 
 guard_small : (poll : Bool) → number_answered (guard_reply poll) < 2 ^ 32
 guard_small true = omega arith
@@ -328,6 +331,7 @@ module _ (w : World) (bounds : HasBounds w) (e : OneEntry) (replied : e.reply �
   first_opens (DoClose slot) first asked is = by_begins (begins e.call e.reply) (DoClose slot) first (λ _. tt) tt
   first_opens (Plan nth) first asked is = by_begins (begins e.call e.reply) (Plan nth) first (λ _. tt) tt
   first_opens (Accept bits) first asked is = by_begins (begins e.call e.reply) (Accept bits) first (λ _. tt) tt
+  first_opens (Aggregate label slots count) first asked is = by_begins (begins e.call e.reply) (Aggregate label slots count) first (λ _. tt) tt
 
   before_opens : (b : Bool) (what : Do) (first : Call) → IsAsked what first → SuitsFirst b first e → OpensBefore (begins e.call e.reply) what first e
   before_opens true what first asked suits = refused_opens (guarded_place first) (is_poll (Once first)) what first e suits
@@ -357,6 +361,7 @@ module _ (w : World) (bounds : HasBounds w) (e : OneEntry) (replied : e.reply �
   between_opens (DoClose slot) first port asked names is = tt
   between_opens (Plan nth) first port asked names is = tt
   between_opens (Accept bits) first port asked names is = tt
+  between_opens (Aggregate label slots count) first port asked names is = tt
 
   -- an entry that suits an actor and that the machine answered so opens files as replies do
   pub opens_at : (stand : Stand) (port : PlannedPort) → IsAskedAt stand → SuitsStand stand port e → OpensAt stand e

@@ -14,9 +14,10 @@ use Rattle.gl_model.specs.World.{World, opening}
 use Rattle.gl_script.specs.Section.{SaidSection}
 use Rattle.gl_script.specs.declared.section.SectionKind.TheVariants.{Setup, After}
 use Rattle.gl_script.specs.declared.section.Statement.{Statement}
-use Rattle.gl_talk.specs.Open.{Names, no_names}
+use Rattle.gl_talk.specs.Open.{Names, left_setup, no_names, setup_names}
 use Rattle.gl_talk.specs.Over.{columns_in}
-use Rattle.gl_talk.specs.Talk.{names_in, quits, says}
+use Rattle.gl_talk.specs.Talk.{left, names_in, quits, says}
+use Rattle.gl_talk.specs.declared.talk.Talk.{Talk}
 use Rattle.gl_core.specs.Device.{OneDeed, OneEntry, core}
 use Rattle.gl_core.specs.Kept.{StandsFor}
 use Rattle.gl_core.specs.Legal.{GoesOn}
@@ -50,9 +51,10 @@ not_all i n f less never = by (all_ended n f) refl
 
 module _ (sections : List SaidSection) where
   -- `after`, as it begins
-  pub after_begins : (s : Seat) (printed : List ℕ) (c : Moment) → IsFirst sections false s printed c → is_ended s.stand ≡ true
-      → settles (given (left_by true (all_words sections) s.talk s.closes) None) (bearing_by s.rows.items s.port) [] ≡ last_of sections c
-  after_begins s printed c first ended =
+  pub after_begins : (s : Seat) (talk : Talk) (printed : List ℕ) (c : Moment) → IsFirst sections false s printed c → is_ended s.stand ≡ true
+      → left talk ≡ goes_on (done (left_setup (names_in s.talk))) → talk.begun ≡ s.talk.begun
+      → settles (given (left_by true (all_words sections) talk s.closes) None) (bearing_by s.rows.items s.port) [] ≡ last_of sections c
+  after_begins s talk printed c first ended rests same =
       ap (λ (p : Program Names). settles p (bearing_by s.rows.items s.port) []) program ∙ sym last
     where
       has : HasEnded false (setup_words sections) s
@@ -67,10 +69,10 @@ module _ (sections : List SaidSection) where
       begun : s.talk.begun ≡ length (setup_words sections)
       begun = has.all unclosed
 
-      program : given (left_by true (all_words sections) s.talk s.closes) None ≡ after_of sections names
-      program = ap (λ (l : Left Names). given l None) (rests_left true (all_words sections) s.talk s.closes names has.rests)
-          ∙ ap (λ (x : Bool × ℕ). comes_behind x.0 true x.1 (drop x.1 (all_words sections)) names) (λ i. (unclosed i, begun i))
-          ∙ ap (λ (l : List (List Span)). says (length (setup_words sections)) l quits names) (drop-append_seam (setup_words sections) (said_in_kind After sections))
+      program : given (left_by true (all_words sections) talk s.closes) None ≡ after_of sections names
+      program = ap (λ (l : Left Names). given l None) (rests_left true (all_words sections) talk s.closes (left_setup names) rests)
+          ∙ ap (λ (x : Bool × ℕ). comes_behind x.0 true x.1 (drop x.1 (all_words sections)) (left_setup names)) (λ i. (unclosed i, (same ∙ begun) i))
+          ∙ ap (λ (l : List (List Span)). says (length (setup_words sections)) l quits (left_setup names)) (drop-append_seam (setup_words sections) (said_in_kind After sections))
 
       value : value_left (left_by false (setup_words sections) s.talk s.closes) ≡ names
       value = ap (λ (l : Left Names). value_left l) (rests_left false (setup_words sections) s.talk s.closes names has.rests)
@@ -314,12 +316,12 @@ module _ (sections : List SaidSection) where
 
   -- actor 0 at the beginning
   pub first_begins : (first new : Seat) (after : Bool) (printed told : List ℕ) (setup : List (List Span)) → setup ≡ setup_words sections
-      → seat_in false setup first ≡ settles (comes_behind false false 0 setup no_names) new_bearing [] → IsKept false setup first → after ≡ is_ended first.stand
+      → seat_in false setup first ≡ settles (comes_behind false false 0 setup setup_names) new_bearing [] → IsKept false setup first → after ≡ is_ended first.stand
       → ((m : Moment) → IsFirst sections false first printed m → IsFirst sections after new told m)
       → IsFirst sections after new told (beginning sections) × (after ≡ is_ended (beginning sections).setup.stand)
   first_begins first new after printed told setup same begins kept ends goes =
       let seated : seat_in false (setup_words sections) first ≡ (beginning sections).setup
-      = ap (λ (w : List (List Span)). seat_in false w first) (sym same) ∙ begins ∙ ap (λ (w : List (List Span)). settles (comes_behind false false 0 w no_names) new_bearing []) same in (
+      = ap (λ (w : List (List Span)). seat_in false w first) (sym same) ∙ begins ∙ ap (λ (w : List (List Span)). settles (comes_behind false false 0 w setup_names) new_bearing []) same in (
         goes (beginning sections) (seated, subst (λ (w : List (List Span)). IsKept false w first) same kept, refl),
         ends ∙ ap (λ (s : SeatOf). is_ended s.stand) seated,
       )

@@ -10,7 +10,7 @@ use Rattle.gl_base.specs.declared.lines.Lines.{Lines}
 use Rattle.gl_base.specs.declared.op.Op.{Op}
 use Rattle.gl_base.specs.declared.op.Op.TheVariants.{Apply}
 use Rattle.gl_base.specs.declared.operation.Do.{Do}
-use Rattle.gl_base.specs.declared.operation.Do.TheVariants.{Probe as DoProbe, Unplug as DoUnplug, MakeDir as DoMakeDir, RemoveDir as DoRemoveDir, Write as DoWrite, Read as DoRead, Live as DoLive, Tick as DoTick, Pin as DoPin, Irq as DoIrq, Pull as DoPull, Level as DoLevel, OpenChip as DoOpenChip, Find as DoFind, Ioctl as DoIoctl, ReadFile, Poll, Close as DoClose, Plan, Accept}
+use Rattle.gl_base.specs.declared.operation.Do.TheVariants.{Probe as DoProbe, Unplug as DoUnplug, MakeDir as DoMakeDir, RemoveDir as DoRemoveDir, Write as DoWrite, Read as DoRead, Live as DoLive, Tick as DoTick, Pin as DoPin, Irq as DoIrq, Pull as DoPull, Level as DoLevel, OpenChip as DoOpenChip, Find as DoFind, Ioctl as DoIoctl, ReadFile, Poll, Close as DoClose, Plan, Accept, Aggregate}
 use Rattle.gl_uapi.specs.Command.{command_of, size_of}
 use Rattle.gl_uapi.specs.declared.commands.Command.{Command}
 use Rattle.gl_uapi.specs.declared.commands.Command.TheVariants.{ChipInfo, LineInfo, Watch, Unwatch, GetLine, SetConfig, GetValues, SetValues}
@@ -160,6 +160,7 @@ all_ask n files (Poll slot) = poll_on n None (file_in slot files)
 all_ask n files (DoClose slot) = close_on n None (file_in slot files)
 all_ask n files (Plan nth) = tt
 all_ask n files (Accept bits) = tt
+all_ask n files (Aggregate label slots count) = tt
 
 asked_call : (n : ℕ) (files : List OpenFile) (what : Do) (call : DeviceCall) → asking files what ≡ Calls call → AsksAsSaid n (op_asked files what) call
 asked_call n files what call is = subst (λ (x : Asking). ForCall (AsksAsSaid n (op_asked files what)) x) is (all_ask n files what)

@@ -10,13 +10,13 @@ use Rattle.gl_model.specs.Entries.{begins}
 use Rattle.gl_model.specs.declared.call.Call.{Call as CallOf}
 use Rattle.gl_script.specs.Columns.{columns}
 use Rattle.gl_script.specs.declared.section.Statement.{Statement}
-use Rattle.gl_talk.specs.Open.{Names, no_names}
+use Rattle.gl_talk.specs.Open.{Names}
 use Rattle.gl_talk.specs.Over.{columns_in}
 use Rattle.gl_talk.specs.Talk.{does, left, quits, slot_behind}
 use Rattle.gl_talk.specs.declared.talk.Talk.{Talk}
 use Rattle.gl_core.specs.Device.{OneDeed}
 use Rattle.gl_asking.specs.Asking.{asking}
-use Rattle.gl_check.specs.Seating.{comes_behind, left_by}
+use Rattle.gl_check.specs.Seating.{comes_behind, first_names, left_by}
 use Rattle.gl_check.specs.Seats.{Bearing, Seat, answers, called, goes_by, moved, moved_by, seat, settles}
 use Rattle.gl_check.specs.declared.stand.Stand.{Stand}
 use Rattle.gl_check.specs.declared.stand.Stand.TheVariants.{Ended, Before, Between}
@@ -76,7 +76,8 @@ pub closed_left : (quit closes : Bool) (begun : ℕ) (statements : List (List Sp
 closed_left quit closes begun statements names closing = ap (λ (c : Bool). comes_behind c quit begun statements names) closing
 
 -- an actor at its beginning
-pub started : (quit : Bool) (statements : List (List Span)) (talk : Talk) → left talk ≡ goes_on (done no_names) → talk.begun ≡ 0 → given (left_by quit statements talk false) None ≡ comes_behind false quit 0 statements no_names
+pub started : (quit : Bool) (statements : List (List Span)) (talk : Talk) → left talk ≡ goes_on (done (first_names quit)) → talk.begun ≡ 0
+    → given (left_by quit statements talk false) None ≡ comes_behind false quit 0 statements (first_names quit)
 started quit statements talk rests new =
     ap (λ (x : Left Names × ℕ). given (then_left x.0 (comes_behind false quit x.1 (drop x.1 statements))) None) (λ i. (rests i, new i))
 

@@ -29,7 +29,7 @@ use Rattle.gl_model.specs.declared.call.Call.{Call}
 use Rattle.gl_model.specs.declared.call.Call.TheVariants.{Refused as RefusedCall}
 use Rattle.gl_model.specs.declared.reply.Reply.{Reply}
 use Rattle.gl_model.specs.declared.reply.Reply.TheVariants.{Done as DoneReply, Refused as RefusedReply}
-use Rattle.gl_talk.specs.Open.{Names, no_names}
+use Rattle.gl_talk.specs.Open.{Names, left_setup, no_names, setup_names}
 use Rattle.gl_talk.specs.Talk.{quits, says, talks}
 use Rattle.gl_asking.specs.declared.kinds.Asking.{Asking}
 use Rattle.gl_asking.specs.declared.kinds.Asking.TheVariants.{Calls, Plans, Accepts, Refuses}
@@ -250,13 +250,13 @@ module _ {X : Type 0} (answers : Answers X) where
   -- `setup`, then the actor, then `after`. The first and the last are one talk, which waits in between with its files and names;
   -- the actor's section is a talk of its own.
   abbrev pub run_setup : List SaidSection → X → Ran X Names
-  run_setup sections source = run answers (says 0 (said_in_kind Setup sections) done no_names) (record { world = opening; files = []; source = source; took = []; entries = 0 })
+  run_setup sections source = run answers (says 0 (said_in_kind Setup sections) done setup_names) (record { world = opening; files = []; source = source; took = []; entries = 0 })
 
   abbrev pub run_actor : List SaidSection → Standing X → Ran X Names
   run_actor sections s = run answers (talks 0 (said_in_kind Actor sections) no_names) (record s { files = [] })
 
   abbrev pub run_after : List SaidSection → Ran X Names → Standing X → Ran X Names
-  run_after sections setup s = run answers (says (length (said_in_kind Setup sections)) (said_in_kind After sections) quits setup.value) (record s { files = setup.behind.files })
+  run_after sections setup s = run answers (says (length (said_in_kind Setup sections)) (said_in_kind After sections) quits (left_setup setup.value)) (record s { files = setup.behind.files })
 
   abbrev pub behind_setup : List SaidSection → Ran X Names → Ran X Names
   behind_setup sections setup =

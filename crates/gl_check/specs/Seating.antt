@@ -11,7 +11,7 @@ use Rattle.gl_client.specs.Program.{Left, done, given, goes_on, then_left}
 use Rattle.gl_model.specs.Entries.{begins}
 use Rattle.gl_model.specs.declared.call.Call.{Call}
 use Rattle.gl_model.specs.declared.device_call.DeviceCall.{DeviceCall}
-use Rattle.gl_talk.specs.Open.{Names}
+use Rattle.gl_talk.specs.Open.{Names, no_names, setup_names}
 use Rattle.gl_talk.specs.Talk.{Does, left, names_in, quits, says}
 use Rattle.gl_talk.specs.declared.talk.Talk.{Talk}
 use Rattle.gl_core.specs.Device.{OneEntry}
@@ -48,6 +48,11 @@ comes_behind false false begun statements = says begun statements done
 -- what is left of an actor's program, by all its statements
 abbrev pub left_by : Bool → List (List Span) → Talk → Bool → Left Names
 left_by quit statements talk closes = then_left (left talk) (comes_behind closes quit talk.begun (drop talk.begun statements))
+
+-- the names as an actor begins: only one in `setup` doesn't quit at its end
+abbrev pub first_names : Bool → Names
+first_names true = no_names
+first_names false = setup_names
 
 module _ (quit : Bool) (statements : List (List Span)) where
   -- the seat that a seat of the code stands for

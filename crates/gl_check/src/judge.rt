@@ -93,6 +93,7 @@ fn begin_after(
         return Ok(false);
     }
     *printed = mem::replace(&mut first.text, Vec::new(alloc));
+    first.talk.leave_setup();
     match first.settle(alloc, all, true, None) {
         Ok(()) => Ok(true),
         Err(errno) => Err(errno),

@@ -7,16 +7,15 @@ ghost use Rattle.gl_asking.specs.Asking.{files_behind, got_of};
 ghost use Rattle.gl_asking.specs.Changes.{IsFilled, OpensWithin};
 ghost use Rattle.gl_asking.specs.Files.{OpenFile};
 ghost use Rattle.gl_asking.specs.Rows.{row_file};
-ghost use Rattle.gl_talk.specs.Open.{no_names};
 ghost use Rattle.gl_talk.specs.Over.{columns_in};
 ghost use Rattle.gl_check.specs.Buffers.{buffer_at};
-ghost use Rattle.gl_check.specs.Seating.{IsFilledAt, IsGoing, IsKept, OpensAt, comes_behind, left_by, port_in, seat_in, settled_from};
+ghost use Rattle.gl_check.specs.Seating.{IsFilledAt, IsGoing, IsKept, OpensAt, comes_behind, first_names, left_by, port_in, seat_in, settled_from};
 ghost use Rattle.gl_check.specs.Seats.{SuitsStand, called, deed, is_ended, moved, new_bearing, settles};
 
 use crate::buffers::buffer_at;
 use crate::port::Planned;
 use crate::rows::{keep, row_for};
-use crate::speech::go_on;
+use crate::speech::{first_talk, go_on};
 use crate::stand::Stand;
 use crate::started::{Started, ask};
 use crate::suiting::suits;
@@ -56,11 +55,11 @@ impl Seat {
     /// `NoMemory` alone is refused.
     pub fn start(alloc: Global, statements: &[Statement<'_>], quit: bool) -> Result<Seat, Errno>
         ensures seat { IfOk result (λ s. seat_in quit (map columns_in statements.now) s
-            ≡ settles (comes_behind false quit 0 (map columns_in statements.now) no_names) new_bearing []) }
+            ≡ settles (comes_behind false quit 0 (map columns_in statements.now) (first_names quit)) new_bearing []) }
         ensures kept { IfOk result (IsKept quit (map columns_in statements.now)) }
         ensures memory_alone { IsOkUnless result Errno.NoMemory }
     {
-        let talk = Talk::new(alloc)?;
+        let talk = first_talk(alloc, quit)?;
         let mut seat = Seat {
             talk,
             closes: false,

@@ -4,12 +4,24 @@ ghost use Rattle.std.specs.Prelude.{◌≡◌, ◌<◌, ◌≤◌, false, true, 
 ghost use Rattle.gl_client.specs.Program.{done, goes_on};
 ghost use Rattle.gl_talk.specs.Over.{columns_in};
 ghost use Rattle.gl_talk.specs.Talk.{left, names_in, quits};
-ghost use Rattle.gl_check.specs.Seating.{comes_behind, left_by};
+ghost use Rattle.gl_check.specs.Seating.{comes_behind, first_names, left_by};
 
 use gl_base::Errno;
 use gl_script::Statement;
 use gl_talk::Talk;
 use std::alloc::Global;
+
+/// The talk of an actor that quits at its end; else that of `setup`. `NoMemory` alone is refused.
+pub fn first_talk(alloc: Global, quit: bool) -> Result<Talk, Errno>
+    ensures ok { IfOk result (λ talk. (names_in talk ≡ first_names quit) × (talk.begun ≡ 0) × (left talk ≡ goes_on (done (first_names quit)))) }
+    ensures memory_alone { IsOkUnless result Errno.NoMemory }
+{
+    if quit {
+        Talk::new(alloc)
+    } else {
+        Talk::for_setup(alloc)
+    }
+}
 
 /// Goes on after a statement that is done: to the next one, or to the closing of what is open, where the actor quits at its end. False
 /// where nothing comes after it. `NoMemory` alone is refused.

@@ -6,7 +6,7 @@ use Rattle.gl_base.specs.Rows.{without_first}
 use Rattle.gl_base.specs.declared.command.TheConstants.{GET_LINE, LINE_SET_CONFIG, LINE_GET_VALUES, LINE_SET_VALUES}
 use Rattle.gl_base.specs.declared.errno.Errno.{Errno}
 use Rattle.gl_base.specs.declared.operation.Do.{Do}
-use Rattle.gl_base.specs.declared.operation.Do.TheVariants.{Probe, Unplug, MakeDir, RemoveDir, Write, Read, Live, Tick, Pin, Irq, Pull, Level, OpenChip, Find, Ioctl, ReadFile, Poll, Close, Plan, Accept}
+use Rattle.gl_base.specs.declared.operation.Do.TheVariants.{Probe, Unplug, MakeDir, RemoveDir, Write, Read, Live, Tick, Pin, Irq, Pull, Level, OpenChip, Find, Ioctl, ReadFile, Poll, Close, Plan, Accept, Aggregate}
 use Rattle.gl_base.specs.declared.operation.Got.{Got}
 use Rattle.gl_base.specs.declared.operation.Got.TheVariants.{Done}
 use Rattle.gl_client.specs.Costs.{CostsAtMost, entries_of}
@@ -61,6 +61,7 @@ op_fits (Poll slot) got = omega arith
 op_fits (Close slot) got = omega arith
 op_fits (Plan nth) got = omega arith
 op_fits (Accept bits) got = omega arith
+op_fits (Aggregate label joined count) got = omega arith
 
 -- what is closed is open, and so many slots are open after an operation
 not_empty : (x : ℕ) (slots : List ℕ) → is_open x slots ≡ true → 1 ≤ length slots
@@ -88,6 +89,7 @@ closing_there slots (Poll slot) h = omega arith
 closing_there slots (Close slot) h = not_empty slot slots h
 closing_there slots (Plan nth) h = omega arith
 closing_there slots (Accept bits) h = omega arith
+closing_there slots (Aggregate label joined count) h = omega arith
 
 less_if : (b rest : Bool) (y : ℕ) (ys without : List ℕ) → (b || rest) ≡ true → (rest ≡ true → length without + 1 ≡ length ys) → length (cond b ys (y ∷ without)) + 1 ≡ suc (length ys)
 less_if true rest y ys without e h = omega arith
@@ -126,6 +128,7 @@ behind_length slots (Poll slot) got h = omega arith
 behind_length slots (Close slot) got h = omega (arith, one_less slot slots h)
 behind_length slots (Plan nth) got h = omega arith
 behind_length slots (Accept bits) got h = omega arith
+behind_length slots (Aggregate label joined count) got h = omega arith
 
 -- a greater number leaves more
 leave_more : {A : Type 0} (wants : A → ℕ) (p : Program A) (n m : ℕ) → n ≤ m → EntriesLeave wants n p → EntriesLeave wants m p

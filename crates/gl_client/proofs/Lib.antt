@@ -1,3 +1,4 @@
+pub mod Chips
 pub mod Costs
 pub mod Entries
 pub mod OpenSlots

@@ -1,14 +1,14 @@
 -- Which slots a program has open, followed for one slot at a time: how often it is open is a number, which operations raise and
 -- lower.
 use Rattle.std.proofs.Common.{◌≡◌, ◌≤◌, ◌+◌, ◌-◌, ◌||◌, ℕ, Bool, true, false, cond, List, [], ◌∷◌, ◌++◌, Option, None, Some, refl, sym, ◌∙◌, ap, subst, arith}
-use Rattle.std.specs.Prelude.{nat_eq}
+use Rattle.std.specs.Prelude.{nat_eq, take}
 use Rattle.std.proofs.lemmas.Bool.Decides.{nat_tests}
 use Rattle.gl_base.specs.Operation.{refusal}
-use Rattle.gl_base.specs.Rows.{without_first}
+use Rattle.gl_base.specs.Rows.{Each, without_first}
 use Rattle.gl_base.specs.declared.command.TheConstants.{GET_LINE}
 use Rattle.gl_base.specs.declared.errno.Errno.{Errno}
 use Rattle.gl_base.specs.declared.operation.Do.{Do}
-use Rattle.gl_base.specs.declared.operation.Do.TheVariants.{Probe, Unplug, MakeDir, RemoveDir, Write, Read, Live, Tick, Pin, Irq, Pull, Level, OpenChip, Find, Ioctl, ReadFile, Poll, Close, Plan, Accept}
+use Rattle.gl_base.specs.declared.operation.Do.TheVariants.{Probe, Unplug, MakeDir, RemoveDir, Write, Read, Live, Tick, Pin, Irq, Pull, Level, OpenChip, Find, Ioctl, ReadFile, Poll, Close, Plan, Accept, Aggregate}
 use Rattle.gl_base.specs.declared.operation.Got.{Got}
 use Rattle.gl_client.specs.Entries.{IsKept}
 use Rattle.gl_client.specs.OpenSlots.{MayAsk, NamesOpenSlots, Where, is_open, one_if, slots_behind, times, with_opened, with_slot}
@@ -33,6 +33,7 @@ module _ (s k : ℕ) where
   Fits n (ReadFile slot len) = one_if (nat_eq s slot) ≤ n
   Fits n (Poll slot) = one_if (nat_eq s slot) ≤ n
   Fits n (Close slot) = one_if (nat_eq s slot) ≤ n
+  Fits n (Aggregate label joined count) = one_if (is_open s (take count joined)) ≤ n
   Fits n _ = Unit {0}
 
   abbrev pub with_one : Option Errno → ℕ → ℕ → ℕ
@@ -120,6 +121,20 @@ free_by x k slots le h = is_free x slots (omega (arith, le, h, one_of_its_own x)
 there_by : (x : ℕ) (slots : List ℕ) → one_if (nat_eq x x) ≤ times x slots → is_open x slots ≡ true
 there_by x slots h = is_there x slots (omega (arith, h, one_of_its_own x))
 
+or_left : (b c : Bool) (n : ℕ) → one_if (b || c) ≤ n → one_if b ≤ n
+or_left true c n h = h
+or_left false c n h = omega arith
+
+or_right : (b c : Bool) (n : ℕ) → one_if (b || c) ≤ n → one_if c ≤ n
+or_right true true n h = h
+or_right true false n h = omega arith
+or_right false c n h = h
+
+all_there : (named slots : List ℕ) → ((s : ℕ) → one_if (is_open s named) ≤ times s slots) → Each (λ slot. is_open slot slots ≡ true) named
+all_there [] slots h = tt
+all_there (x ∷ named) slots h =
+    (there_by x slots (or_left (nat_eq x x) (is_open x named) (times x slots) (h x)), all_there named slots (λ s. or_right (nat_eq s x) (is_open s named) (times s slots) (h s)))
+
 made_by : (b : Bool) (x k : ℕ) (slots : List ℕ) → k ≤ 1 → Where b (times x slots + one_if (nat_eq x x) ≤ k) → Where b (is_open x slots ≡ false)
 made_by true x k slots le h = free_by x k slots le h
 made_by false x k slots le h = tt
@@ -146,6 +161,7 @@ may_ask k slots le (Poll slot) h = there_by slot slots (h slot)
 may_ask k slots le (Close slot) h = there_by slot slots (h slot)
 may_ask k slots le (Plan nth) h = tt
 may_ask k slots le (Accept bits) h = tt
+may_ask k slots le (Aggregate label joined count) h = all_there (take count joined) slots h
 
 -- how often a slot is open after an operation
 opened_times : (s : ℕ) (fault : Option Errno) (slot : ℕ) (slots : List ℕ) → times s (with_opened fault slot slots) ≡ with_one s 0 fault slot (times s slots)
@@ -177,6 +193,7 @@ behind_times s k slots (Poll slot) got = refl
 behind_times s k slots (Close slot) got = times_without s slot slots
 behind_times s k slots (Plan nth) got = refl
 behind_times s k slots (Accept bits) got = refl
+behind_times s k slots (Aggregate label joined count) got = refl
 
 -- it is open at most k times
 one_bound : (s k n : ℕ) (fault : Option Errno) (slot : ℕ) → n ≤ k → n + one_if (nat_eq s slot) ≤ k → with_one s k fault slot n ≤ k
@@ -208,6 +225,7 @@ behind_bound s k n (Poll slot) got le h = le
 behind_bound s k n (Close slot) got le h = omega (arith, le)
 behind_bound s k n (Plan nth) got le h = le
 behind_bound s k n (Accept bits) got le h = le
+behind_bound s k n (Aggregate label joined count) got le h = le
 
 -- a program that each slot follows names open slots alone
 pub names_open : {A : Type 0} (k : ℕ → ℕ) (count : ℕ → A → ℕ) (P : A → List ℕ → Type 0) (p : Program A) (slots : List ℕ) → ((s : ℕ) → k s ≤ 1) → ((s : ℕ) → times s slots ≤ k s)

@@ -1,13 +1,13 @@
 -- The slots in which a program has files open: which of them it may name, and which are open after each of its operations.
 -- This project's choice.
 use Rattle.std.specs.List.{list_any}
-use Rattle.std.specs.Prelude.{◌≡◌, ℕ, ◌+◌, ◌≤◌, Bool, true, false, nat_eq, if◌then◌else◌, List, [], ◌∷◌, ◌++◌, Option, None, Some}
+use Rattle.std.specs.Prelude.{◌≡◌, ℕ, ◌+◌, ◌≤◌, Bool, true, false, nat_eq, if◌then◌else◌, List, [], ◌∷◌, ◌++◌, take, Option, None, Some}
 use Rattle.gl_base.specs.Operation.{refusal}
-use Rattle.gl_base.specs.Rows.{without_first}
+use Rattle.gl_base.specs.Rows.{Each, without_first}
 use Rattle.gl_base.specs.declared.command.TheConstants.{GET_LINE}
 use Rattle.gl_base.specs.declared.errno.Errno.{Errno}
 use Rattle.gl_base.specs.declared.operation.Do.{Do}
-use Rattle.gl_base.specs.declared.operation.Do.TheVariants.{OpenChip, Find, Ioctl, ReadFile, Poll, Close}
+use Rattle.gl_base.specs.declared.operation.Do.TheVariants.{OpenChip, Find, Ioctl, ReadFile, Poll, Close, Aggregate}
 use Rattle.gl_base.specs.declared.operation.Got.{Got}
 use Rattle.gl_client.specs.Entries.{IsKept}
 use Rattle.gl_client.specs.Program.{Program, done, print, ask}
@@ -31,6 +31,7 @@ MayAsk slots (Ioctl slot command len bytes made) = (is_open slot slots ≡ true)
 MayAsk slots (ReadFile slot len) = is_open slot slots ≡ true
 MayAsk slots (Poll slot) = is_open slot slots ≡ true
 MayAsk slots (Close slot) = is_open slot slots ≡ true
+MayAsk slots (Aggregate label joined count) = Each (λ slot. is_open slot slots ≡ true) (take count joined)
 MayAsk slots _ = Unit {0}
 
 -- the slots that are open after an operation: what succeeds in opening adds a slot, and a closing takes one away

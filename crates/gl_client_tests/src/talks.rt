@@ -63,7 +63,7 @@ fn talk_through(
     form: Form,
     out: &mut Vec<u8>,
 ) -> Result<(), Errno> {
-    let mut talk = Talk::new(alloc)?;
+    let mut talk = Talk::for_setup(alloc)?;
     let mut left = results;
     finish_all(alloc, &mut talk, statements, &mut left, form, out)?;
     all_taken(left)

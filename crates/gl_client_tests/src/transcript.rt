@@ -41,6 +41,15 @@ pub fn put_call(what: &Do, out: &mut Vec<u8>) -> Result<(), Errno> {
     Ok(())
 }
 
+/// Appends the slots of requests that a chip is made of.
+fn put_slots(slots: &[u32; 4], count: u32, out: &mut Vec<u8>) -> Result<(), Errno> {
+    for slot in &slots[..(count as usize).min(4)] {
+        out.push(b' ')?;
+        put_decimal(u64::from(*slot), out)?;
+    }
+    Ok(())
+}
+
 /// Appends an operation on the board: its chips, its tree, its clock and its driver.
 fn put_board_call(what: &Do, out: &mut Vec<u8>) -> Result<(), Errno> {
     match what {
@@ -72,6 +81,15 @@ fn put_board_call(what: &Do, out: &mut Vec<u8>) -> Result<(), Errno> {
         Do::Accept { bits } => {
             out.extend_from_slice(b"accept ")?;
             put_decimal(*bits, out)?;
+        }
+        Do::Aggregate {
+            label,
+            slots,
+            count,
+        } => {
+            out.extend_from_slice(b"aggregate ")?;
+            out.extend_from_slice(label.as_bytes())?;
+            put_slots(slots, *count, out)?;
         }
         _ => put_chip_call(what, out)?,
     }
@@ -227,6 +245,7 @@ fn call_of(what: &Do) -> (&'static str, u32) {
         Do::Close { slot } => ("close", *slot),
         Do::Plan { nth } => ("plan", *nth),
         Do::Accept { .. } => ("accept", 0),
+        Do::Aggregate { count, .. } => ("aggregate", *count),
     }
 }
 

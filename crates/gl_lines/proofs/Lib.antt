@@ -1,4 +1,5 @@
 pub mod Buffers
+pub mod FindingChips
 pub mod FindingCosts
 pub mod FindingPrints
 pub mod FindingSlots

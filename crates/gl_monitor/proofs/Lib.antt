@@ -1,3 +1,4 @@
+pub mod MonitorChips
 pub mod MonitorCosts
 pub mod MonitorNames
 pub mod MonitorPrints

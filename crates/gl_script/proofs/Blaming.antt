@@ -1,6 +1,6 @@
 -- The faults of a text are of the text: none of them is want of memory.
-use Rattle.std.proofs.Common.{◌≡◌, ◌≢◌, ℕ, ◌+◌, Bool, true, false, not, ◌&&◌, ◌||◌, nat_le, nat_lt, List, [], ◌∷◌, length, Option, None, Some, refl, subst}
-use Rattle.std.specs.Prelude.{IsTrue, if◌then◌else◌, codes, is_some}
+use Rattle.std.proofs.Common.{◌≡◌, ◌≢◌, ℕ, ◌+◌, ◌-◌, Bool, true, false, not, ◌&&◌, ◌||◌, nat_le, nat_lt, List, [], ◌∷◌, length, Option, None, Some, refl, subst}
+use Rattle.std.specs.Prelude.{IsTrue, if◌then◌else◌, codes, is_some, nat_eq}
 use Rattle.std.specs.Option.{option_or}
 use Rattle.std.specs.Str.{bytes_eq}
 use Rattle.gl_base.specs.declared.limits.TheConstants.{COST_MAX}
@@ -20,11 +20,11 @@ use Rattle.gl_script.specs.declared.version.Version.{Version}
 use Rattle.gl_script.specs.Blame.{FaultsAreOfTheText}
 use Rattle.gl_script.specs.Columns.{columns}
 use Rattle.gl_script.specs.Cost.{session_cost}
-use Rattle.gl_script.specs.Faults.{spot, is_printable, byte_fault, size_fault, more_fault, forms_fault, name_fault, as_fault, size_of, piece_fault, pieces_fault, bytes_fault, tail_fault, makes_file, statement_fault}
+use Rattle.gl_script.specs.Faults.{spot, is_printable, byte_fault, size_fault, more_fault, forms_fault, name_fault, names_fault, as_fault, size_of, piece_fault, pieces_fault, bytes_fault, tail_fault, makes_file, statement_fault}
 use Rattle.gl_script.specs.Forms.{meets}
 use Rattle.gl_script.specs.Section.{SaidSection}
 use Rattle.gl_script.specs.Sentence.{Before, nothing, is_counted, kind_of, is_actor, is_out_of_order, is_used, actor_count, actor_fault, head_fault, in_section_fault, section_fault, header_fault, version_of, versioned_fault, counted_fault, line_fault, behind, refusal_at, fault_from, sections_said, cost_fault, first_fault}
-use Rattle.gl_script.specs.Table.{Tail, keyword_in, wanted, NoMore, Anything, Pieces}
+use Rattle.gl_script.specs.Table.{Tail, keyword_in, wanted, NoMore, Anything, FileNames, Pieces}
 
 abbrev is_of_text : RefusalKind → Bool
 is_of_text NoMemory = false
@@ -72,6 +72,13 @@ fine_forms (form ∷ forms) tail p end (word ∷ words) =
 fine_name : (end : ℕ) (words : List Span) → Fine (name_fault end words)
 fine_name end words = fine_forms (FileName ∷ []) (λ _. more_fault) (λ _. fine_more) end words
 
+fine_names : (most : ℕ) (words : List Span) → Fine (names_fault most words)
+fine_names most [] = tt
+fine_names most (word ∷ words) =
+    let more = if meets FileName word.text then names_fault (most - 1) words else Some (spot word.at Word) in
+    fine_if (nat_eq most 0) (Some (spot word.at Words)) more refl
+    (fine_if (meets FileName word.text) (names_fault (most - 1) words) (Some (spot word.at Word)) (fine_names (most - 1) words) refl)
+
 fine_as : (end : ℕ) (words : List Span) → Fine (as_fault end words)
 fine_as end [] = refl
 fine_as end (word ∷ words) = fine_if (bytes_eq word.text (codes "as")) (name_fault (end_of word) words) (Some (spot word.at Word)) (fine_name (end_of word) words) refl
@@ -99,6 +106,7 @@ fine_bytes makes end (word ∷ words) =
 fine_tail : (tail : Tail) (end : ℕ) (words : List Span) → Fine (tail_fault tail end words)
 fine_tail NoMore end words = fine_more words
 fine_tail Anything end words = tt
+fine_tail (FileNames most) end words = fine_names most words
 fine_tail (Pieces makes) end words = fine_bytes makes end words
 
 fine_statement : (keyword : Option Keyword) (first : Span) (words : List Span) → Fine (statement_fault keyword first words)

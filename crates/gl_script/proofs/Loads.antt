@@ -1,7 +1,7 @@
 -- The text of a load, line by line, and that it is a session.
-use Rattle.std.proofs.Common.{◌≡◌, ℕ, zero, suc, ◌+◌, ◌*◌, ◌%◌, ◌^◌, ◌<◌, ◌≤◌, Bool, true, false, cond, not, eqb, leb, ltb, List, [], ◌∷◌, ◌++◌, length, filter, sum_by, None, Some, refl, sym, ◌∙◌, ap, subst, append_assoc, arith, length-append}
+use Rattle.std.proofs.Common.{◌≡◌, ℕ, zero, suc, ◌+◌, ◌*◌, ◌%◌, ◌^◌, ◌<◌, ◌≤◌, Bool, true, false, cond, not, ◌||◌, eqb, leb, ltb, List, [], ◌∷◌, ◌++◌, length, filter, sum_by, None, Some, refl, sym, ◌∙◌, ap, subst, append_assoc, arith, length-append}
 use Rattle.std.specs.Prelude.{codes}
-use Rattle.std.specs.List.{list_all}
+use Rattle.std.specs.List.{list_all, list_any}
 use Rattle.std.specs.Char.{is_ascii_digit}
 use Rattle.std.specs.Str.{all_ascii_digits}
 use Rattle.std.proofs.lemmas.Bool.{and_from, and_parts, le-leb, le-ltb, leb-true, ne_eqb}
@@ -18,7 +18,7 @@ use Rattle.gl_base.proofs.Decimals.{digits-decimal, number_of_text-decimal}
 use Rattle.gl_base.proofs.FirstRows.{Each-append}
 use Rattle.gl_script.specs.declared.limits.TheConstants.{TURNS_MAX}
 use Rattle.gl_script.specs.Columns.{columns}
-use Rattle.gl_script.specs.Cost.{statement_cost, words_cost, session_cost, section_cost}
+use Rattle.gl_script.specs.Cost.{aggregates, do_aggregate, has_aggregate, section_cost, session_cost, statement_cost, statements_cost, with_own, words_cost}
 use Rattle.gl_script.specs.Faults.{byte_fault, is_printable, size_fault, spot, statement_fault}
 use Rattle.gl_script.specs.Forms.{is_path_byte, is_there, meets, within}
 use Rattle.gl_script.specs.Gen.{IsSession, clock_line, events_at, events_line, get_line, load_lines, load_text, next_number, is_up, line_pulled, pull_end, pull_line, request_line, text_of, turn, turns}
@@ -168,6 +168,7 @@ pub record IsGood (text : List ℕ) : Type 0 where
   pub fits : size_fault 0 (columns text) ≡ None
   pub counts : is_counted (columns text) ≡ true
   pub statement : AreStatement One (columns text)
+  pub plain : do_aggregate (columns text) ≡ false
 
 line_cost : List ℕ → ℕ
 line_cost text = words_cost (columns text)
@@ -230,6 +231,7 @@ clock_good b bs is number =
       fits = ap (size_fault 0) cols ∙ ap (λ t. cond t (Some (spot 7 Limit)) None) short;
       counts = ap is_counted cols;
       statement = subst (AreStatement One) (sym cols) (refl, ap (λ t. cond t None (Some (spot 7 Word))) number);
+      plain = ap do_aggregate cols;
     }
 
 clock_cost : (b : ℕ) (bs : List ℕ) → IsDigits (b ∷ bs) → words_cost (columns (codes "clock " ++ ((b ∷ bs) ++ codes " 0"))) ≡ 1
@@ -269,6 +271,7 @@ pull_good ds up is =
       fits = ap (size_fault 0) cols ∙ fits up path short;
       counts = ap is_counted cols;
       statement = subst (AreStatement One) (sym cols) (refl, statement up path (path_meets ds is.digits is.few));
+      plain = ap do_aggregate cols;
     }
   where
     end_printable : (up : Bool) → list_all is_printable (pull_end up) ≡ true
@@ -305,6 +308,7 @@ get_good b bs is =
       fits = ap (size_fault 0) cols ∙ ap (λ t. cond t (Some (spot 14 Limit)) None) short;
       counts = ap is_counted cols;
       statement = subst (AreStatement One) (sym cols) (refl, refl);
+      plain = ap do_aggregate cols;
     }
 
 get_cost : (b : ℕ) (bs : List ℕ) → IsDigits (b ∷ bs) → words_cost (columns (codes "gpioget -c 0 " ++ (b ∷ bs))) ≡ 10
@@ -313,19 +317,19 @@ get_cost b bs is = ap words_cost (get_columns b bs is)
 -- the other lines, which are always the same
 events_good : AreGood (events_line ∷ []) 1 14
 unfolding line_cost
-events_good = one_line events_line 1 14 (record { printable = refl; fits = refl; counts = refl; statement = (refl, refl) }) (omega arith) (omega arith)
+events_good = one_line events_line 1 14 (record { printable = refl; fits = refl; counts = refl; statement = (refl, refl); plain = refl }) (omega arith) (omega arith)
 
 probe_good : AreGood (codes "probe gen 64" ∷ []) 1 13
 unfolding line_cost
-probe_good = one_line (codes "probe gen 64") 1 13 (record { printable = refl; fits = refl; counts = refl; statement = (refl, refl) }) (omega arith) (omega arith)
+probe_good = one_line (codes "probe gen 64") 1 13 (record { printable = refl; fits = refl; counts = refl; statement = (refl, refl); plain = refl }) (omega arith) (omega arith)
 
 open_good : AreGood (codes "open A 0" ∷ []) 2 9
 unfolding line_cost
-open_good = one_line (codes "open A 0") 2 9 (record { printable = refl; fits = refl; counts = refl; statement = (refl, refl) }) (omega arith) (omega arith)
+open_good = one_line (codes "open A 0") 2 9 (record { printable = refl; fits = refl; counts = refl; statement = (refl, refl); plain = refl }) (omega arith) (omega arith)
 
 request_good : AreGood (request_line ∷ []) 3 200
 unfolding line_cost
-request_good = one_line request_line 3 200 (record { printable = refl; fits = refl; counts = refl; statement = (refl, refl {a = None}) }) (omega arith) (omega arith)
+request_good = one_line request_line 3 200 (record { printable = refl; fits = refl; counts = refl; statement = (refl, refl {a = None}); plain = refl }) (omega arith) (omega arith)
 
 -- the lines of a turn
 clock_part : (k : ℕ) → k ≤ TURNS_MAX → AreGood (clock_line k ∷ []) 1 29
@@ -429,9 +433,17 @@ cost_placed at [] = refl
 cost_placed at (line ∷ lines) =
     omega (arith, sum_by-cons statement_cost (span at line) (placed (at + length line + 1) lines), sum_by-cons line_cost line lines, cost_placed (at + length line + 1) lines)
 
+none_aggregates : (at : ℕ) (lines : List (List ℕ)) → Each IsGood lines → list_any aggregates (placed at lines) ≡ false
+none_aggregates at [] each = refl
+none_aggregates at (line ∷ lines) each =
+    ap (λ b. b || list_any aggregates (placed (at + length line + 1) lines)) each.0.plain ∙ none_aggregates (at + length line + 1) lines each.1
+
 -- the load's one section
 abbrev load_section : ℕ → SaidSection
 load_section n = record { kind = Setup; name = []; statements = placed 16 (statement_lines n) }
+
+load_is_plain : (n : ℕ) → n ≤ TURNS_MAX → has_aggregate (load_section n ∷ []) ≡ false
+load_is_plain n few = ap (λ b. b || false) (none_aggregates 16 (statement_lines n) (statements_part n few).each)
 
 load_spelled : (n : ℕ) → n ≤ TURNS_MAX → Spelled (load_text n) (load_section n ∷ [])
 load_spelled n few =
@@ -440,6 +452,7 @@ load_spelled n few =
     let are : lines_of (load_text n) ≡ placed 0 (load_lines n ++ [] ∷ []) = ap (placed 0) (pieces_text (load_lines n) printable) in
     let heads : length (load_text n) ≡ 16 + length (text_of (statement_lines n)) = omega arith in
     let costs : sum_by statement_cost (placed 16 (statement_lines n)) ≡ sum_by line_cost (statement_lines n) = cost_placed 16 (statement_lines n) in
+    let plain : has_aggregate (load_section n ∷ []) ≡ false = load_is_plain n few in
     let Lines : List Span → Type 0 = λ lines. Each IsLine lines in
     let Heads : List Span → Type 0 = λ lines. IsHeaded lines (load_section n ∷ []) in
     let counted_so : counted (lines_of (load_text n)) ≡ placed 0 (load_lines n) =
@@ -449,7 +462,7 @@ load_spelled n few =
       lines = subst Lines (sym are) (record { printable = refl; fits = refl }, (record { printable = refl; fits = refl }, lines_are 16 (statement_lines n) part.each));
       headed = subst Heads (sym counted_so)
           (One, refl, ((refl, refl, refl), [], sym (append-nil (placed 16 (statement_lines n))), are_statements 16 (statement_lines n) part.each, refl));
-      cost = omega (arith, part.cost, sum_by-cons section_cost (load_section n) []);
+      cost = subst (λ b. with_own b (statements_cost (load_section n ∷ [])) ≤ COST_MAX) (sym plain) (omega (arith, part.cost, sum_by-cons section_cost (load_section n) []));
     }
 
 pub load_is_session : (n : ℕ) → 1 ≤ n → n ≤ TURNS_MAX → IsSession (load_text n)
@@ -457,3 +470,7 @@ load_is_session n some few =
     let spelled : Spelled (load_text n) (load_section n ∷ []) = load_spelled n few in
     let is : Sentence (load_text n) (load_section n ∷ []) = sentence (load_text n) (load_section n ∷ []) spelled in
     (record { faultless = is.faultless; says = refl }, subst (λ (all : List SaidSection). session_cost all ≤ COST_MAX) is.says spelled.cost)
+
+pub load_has_no_aggregate : (n : ℕ) (sections : List SaidSection) → n ≤ TURNS_MAX → Sentence (load_text n) sections → has_aggregate sections ≡ false
+load_has_no_aggregate n sections few is =
+    ap has_aggregate (is.says ∙ sym (sentence (load_text n) (load_section n ∷ []) (load_spelled n few)).says) ∙ load_is_plain n few

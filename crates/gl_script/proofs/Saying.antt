@@ -14,17 +14,17 @@ use Rattle.gl_base.specs.declared.pin.PinDo.TheVariants.{Range, Hold, Release}
 use Rattle.gl_v1.specs.Words.{makes_file as makes_old_file, old_number_of}
 use Rattle.gl_script.specs.declared.refusal.Spot.{Spot}
 use Rattle.gl_script.specs.declared.said.Said.{Said}
-use Rattle.gl_script.specs.declared.said.Said.TheVariants.{Probe as SaidProbe, Unplug as SaidUnplug, MakeDir as SaidMakeDir, RemoveDir as SaidRemoveDir, Write as SaidWrite, Read as SaidRead, Clock as SaidClock, Fault as SaidFault, Accept as SaidAccept, Pin as SaidPin, Irq as SaidIrq, Open as SaidOpen, Ioctl as SaidIoctl, Events as SaidEvents, OldIoctl as SaidOldIoctl, OldEvents as SaidOldEvents, Changes as SaidChanges, Poll as SaidPoll, Close as SaidClose, Detect as SaidDetect, Info as SaidInfo, Get as SaidGet, Set as SaidSet, Start as SaidStart, Step as SaidStep, Stop as SaidStop}
+use Rattle.gl_script.specs.declared.said.Said.TheVariants.{Probe as SaidProbe, Unplug as SaidUnplug, MakeDir as SaidMakeDir, RemoveDir as SaidRemoveDir, Write as SaidWrite, Read as SaidRead, Clock as SaidClock, Fault as SaidFault, Accept as SaidAccept, Aggregate as SaidAggregate, Pin as SaidPin, Irq as SaidIrq, Open as SaidOpen, Ioctl as SaidIoctl, Events as SaidEvents, OldIoctl as SaidOldIoctl, OldEvents as SaidOldEvents, Changes as SaidChanges, Poll as SaidPoll, Close as SaidClose, Detect as SaidDetect, Info as SaidInfo, Get as SaidGet, Set as SaidSet, Start as SaidStart, Step as SaidStep, Stop as SaidStop}
 use Rattle.gl_script.specs.declared.table.Form.{Form}
 use Rattle.gl_script.specs.declared.table.Form.TheVariants.{FileName, HeldTool, Label, Path, Word, Number, Chip, Command, OldCommand, PinWord, IrqWord}
 use Rattle.gl_script.specs.declared.table.Keyword.{Keyword}
-use Rattle.gl_script.specs.declared.table.Keyword.TheVariants.{Probe, Unplug, MakeDir, RemoveDir, Write, Read, Clock, Fault, Accept, Pin, Irq, Open, Ioctl, Events, OldIoctl, OldEvents, Changes, Poll, Close, Detect, Info, Get, Set, Start, Step, Stop}
+use Rattle.gl_script.specs.declared.table.Keyword.TheVariants.{Probe, Unplug, MakeDir, RemoveDir, Write, Read, Clock, Fault, Accept, Aggregate, Pin, Irq, Open, Ioctl, Events, OldIoctl, OldEvents, Changes, Poll, Close, Detect, Info, Get, Set, Start, Step, Stop}
 use Rattle.gl_script.specs.declared.version.Version.{Version}
 use Rattle.gl_script.specs.Faults.{forms_fault, is_get_line, makes_file, statement_fault, tail_fault, wanted_fault}
 use Rattle.gl_script.specs.Forms.{file_name_of, is_path_byte, is_there, label_of, meets, number_within, tree_path_of}
 use Rattle.gl_script.specs.Pieces.{behind_three, behind_two, made_by}
 use Rattle.gl_script.specs.Said.{ArePins, AreValues, Spells, StatementsAreSaid, VersionsAreSaid, chip_of, hold_of, irq_name, irq_of, irq_said, keyword_said, one, pin_said, range_of, release_of, said_by, said_of, small_of, two, unless_fault, values, wide_of}
-use Rattle.gl_script.specs.Table.{is_in, keyword_in, keyword_of, only, only_in, Anything, NoMore, Pieces}
+use Rattle.gl_script.specs.Table.{is_in, keyword_in, keyword_of, only, only_in, Anything, FileNames, NoMore, Pieces}
 use Rattle.gl_script.proofs.TypedWords.{behind_first, made_there, path_there, text_there}
 
 -- a word that meets its form
@@ -163,6 +163,8 @@ values_there Fault first words n =
     one_there (λ x. SaidFault x) (number_within 1 1000000 (text_at 0 words)) (number_there (number_within 1 1000000 (text_at 0 words)) (met1 (tail_fault NoMore) (Number 1 1000000) [] (end_of first) words n))
 values_there Accept first words n =
     one_there (λ x. SaidAccept x) (wide_of (text_at 0 words)) (number_there (wide_of (text_at 0 words)) (met1 (tail_fault NoMore) (Number 0 0xFFFFFFFFFFFFFFFF) [] (end_of first) words n))
+values_there Aggregate first words n =
+    one_there (λ label. SaidAggregate label) (label_of (text_at 0 words)) (text_there is_label_byte 31 (text_at 0 words) (met1 (tail_fault (FileNames 3)) Label (FileName ∷ []) (end_of first) words n))
 values_there Pin first words n =
     let word = text_at 0 words in
     pin_there (bytes_eq word (codes "range")) (bytes_eq word (codes "hold")) (bytes_eq word (codes "drop")) (end_of first) words
@@ -362,6 +364,7 @@ spelled_at Clock first words said e =
     (λ mono real h g. let each : AreValues (SaidClock mono real) (first ∷ words) = (h, g) in (refl, each)) e
 spelled_at Fault first words said e = valued Fault (first ∷ words) (λ n. SaidFault n) (number_within 1 1000000 (text_at 0 words)) said (λ n h. (refl, h)) e
 spelled_at Accept first words said e = valued Accept (first ∷ words) (λ n. SaidAccept n) (wide_of (text_at 0 words)) said (λ n h. (refl, h)) e
+spelled_at Aggregate first words said e = valued Aggregate (first ∷ words) (λ label. SaidAggregate label) (label_of (text_at 0 words)) said (λ label h. (refl, h)) e
 spelled_at Pin first words said e =
     let word = text_at 0 words in
     pinned first words (bytes_eq word (codes "range")) (bytes_eq word (codes "hold")) (bytes_eq word (codes "drop")) said

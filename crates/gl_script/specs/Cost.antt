@@ -1,5 +1,5 @@
--- The cost of a session: how many entries of a history it may make at most, summed over its statements. The closing of
--- a file is counted where the file is opened. This project's choice.
+-- The cost of a session: how many entries of a history it may make at most, summed over its statements, five times that where it has an
+-- `aggregate`. The closing of a file is counted where the file is opened. This project's choice.
 use Rattle.std.specs.Prelude.{ℕ, ◌+◌, ◌-◌, ◌*◌, Bool, true, false, ◌||◌, nat_eq, if◌then◌else◌, List, [], ◌∷◌, length, sum_by, codes, Option, Some, None}
 use Rattle.std.specs.List.{list_any, starts_with}
 use Rattle.std.specs.Str.{bytes_eq}
@@ -11,7 +11,7 @@ use Rattle.gl_script.specs.Forms.{number_within}
 use Rattle.gl_script.specs.Section.{SaidSection}
 use Rattle.gl_script.specs.Table.{keyword_of}
 use Rattle.gl_script.specs.declared.table.Keyword.{Keyword}
-use Rattle.gl_script.specs.declared.table.Keyword.TheVariants.{Probe, Unplug, MakeDir, RemoveDir, Write, Read, Clock, Fault, Accept, Pin, Irq, Open, Ioctl, Events, OldIoctl, OldEvents, Changes, Poll, Close, Detect, Info, Get, Set, Start, Step, Stop}
+use Rattle.gl_script.specs.declared.table.Keyword.TheVariants.{Probe, Unplug, MakeDir, RemoveDir, Write, Read, Clock, Fault, Accept, Aggregate, Pin, Irq, Open, Ioctl, Events, OldIoctl, OldEvents, Changes, Poll, Close, Detect, Info, Get, Set, Start, Step, Stop}
 
 -- a number; 0 where there is none
 abbrev pub or_zero : Option ℕ → ℕ
@@ -46,6 +46,7 @@ cost Read words = 1
 cost Clock words = 1
 cost Fault words = 0
 cost Accept words = 0
+cost Aggregate words = 1
 cost Pin words = 1
 cost Irq words = 1
 cost Open words = 2
@@ -81,6 +82,34 @@ statement_cost line = words_cost (columns line.text)
 abbrev pub section_cost : SaidSection → ℕ
 section_cost section = sum_by statement_cost section.statements
 
+-- the cost of all statements
+abbrev pub statements_cost : List SaidSection → ℕ
+statements_cost sections = sum_by section_cost sections
+
+-- a statement makes a chip over requests, by its keyword, by its words, and by its line
+abbrev pub is_aggregate : Option Keyword → Bool
+is_aggregate (Some Aggregate) = true
+is_aggregate _ = false
+
+abbrev pub do_aggregate : List Span → Bool
+do_aggregate words = is_aggregate (keyword_of (text_at 0 words))
+
+abbrev pub aggregates : Span → Bool
+aggregates line = do_aggregate (columns line.text)
+
+-- a section, and a session, has such a statement
+abbrev pub section_aggregates : SaidSection → Bool
+section_aggregates section = list_any aggregates section.statements
+
+abbrev pub has_aggregate : List SaidSection → Bool
+has_aggregate sections = list_any section_aggregates sections
+
+-- Each call of the driver stands between two entries that are counted, and where lines of a chip are those of requests it adds at most eight
+-- of its own.
+abbrev pub with_own : Bool → ℕ → ℕ
+with_own true cost = 5 * cost
+with_own false cost = cost
+
 -- the cost of a session
 abbrev pub session_cost : List SaidSection → ℕ
-session_cost sections = sum_by section_cost sections
+session_cost sections = with_own (has_aggregate sections) (statements_cost sections)

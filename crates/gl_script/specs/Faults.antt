@@ -1,5 +1,5 @@
 -- The first fault of a line, by the stated order of faults. This project's choice.
-use Rattle.std.specs.Prelude.{ℕ, ◌+◌, Bool, false, ◌&&◌, ◌||◌, ◌==◌, nat_le, nat_lt, if◌then◌else◌, List, [], ◌∷◌, length, Option, None, Some, codes, Result, Ok, Err}
+use Rattle.std.specs.Prelude.{ℕ, ◌+◌, ◌-◌, Bool, false, ◌&&◌, ◌||◌, ◌==◌, nat_eq, nat_le, nat_lt, if◌then◌else◌, List, [], ◌∷◌, length, Option, None, Some, codes, Result, Ok, Err}
 use Rattle.std.specs.Option.{option_or}
 use Rattle.std.specs.Str.{bytes_eq}
 use Rattle.gl_base.specs.BytesText.{piece_size}
@@ -15,7 +15,7 @@ use Rattle.gl_script.specs.declared.table.Keyword.{Keyword}
 use Rattle.gl_script.specs.declared.table.Keyword.TheVariants.{OldIoctl}
 use Rattle.gl_v1.specs.Words.{makes_file as makes_old_file, old_number_of}
 use Rattle.gl_base.specs.Words.{Span, end_of, text_at}
-use Rattle.gl_script.specs.Table.{Tail, Wanted, wanted, NoMore, Anything, Pieces}
+use Rattle.gl_script.specs.Table.{Tail, Wanted, wanted, NoMore, Anything, FileNames, Pieces}
 use Rattle.gl_script.specs.Forms.{meets}
 
 -- a fault at a column
@@ -57,6 +57,13 @@ forms_fault (form ∷ forms) tail end (word ∷ words) =
 abbrev pub name_fault : ℕ → List Span → Option Spot
 name_fault end words = forms_fault (FileName ∷ []) (λ _. more_fault) end words
 
+-- at most so many names of files
+abbrev pub names_fault : ℕ → List Span → Option Spot
+names_fault most [] = None
+names_fault most (word ∷ words) =
+    if nat_eq most 0 then Some (spot word.at Words)
+    else if meets FileName word.text then names_fault (most - 1) words else Some (spot word.at Word)
+
 -- `as NAME`, and no more
 abbrev pub as_fault : ℕ → List Span → Option Spot
 as_fault end [] = Some (spot end Words)
@@ -88,6 +95,7 @@ bytes_fault makes end (word ∷ words) =
 abbrev pub tail_fault : Tail → ℕ → List Span → Option Spot
 tail_fault NoMore end words = more_fault words
 tail_fault Anything end words = None
+tail_fault (FileNames most) end words = names_fault most words
 tail_fault (Pieces makes) end words = bytes_fault makes end words
 
 -- GET_LINE alone makes a file of v2

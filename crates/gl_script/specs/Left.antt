@@ -10,7 +10,7 @@ use Rattle.gl_script.specs.declared.refusal.Spot.{Spot}
 use Rattle.gl_script.specs.declared.said.Said.{Said}
 use Rattle.gl_script.specs.declared.table.Form.{Form}
 use Rattle.gl_script.specs.declared.table.Keyword.{Keyword}
-use Rattle.gl_script.specs.Faults.{bytes_fault, makes_file, more_fault, spot, statement_fault, wanted_fault}
+use Rattle.gl_script.specs.Faults.{bytes_fault, makes_file, more_fault, names_fault, spot, statement_fault, wanted_fault}
 use Rattle.gl_script.specs.Forms.{meets}
 use Rattle.gl_script.specs.Pieces.{made_by}
 use Rattle.gl_script.specs.Said.{said_by, values}
@@ -55,6 +55,10 @@ IsEnd left (Err fault) = more_fault left.words ≡ Some fault
 abbrev pub Finds : {A : Type 0} → Option Spot → Option A → Result A Spot → Type 0
 Finds fault says (Ok value) = (fault ≡ None) × (says ≡ Some value)
 Finds fault says (Err found) = fault ≡ Some found
+
+-- at most so many names of files
+abbrev pub AreNames : ℕ → Left → Result (Unit {0}) Spot → Type 0
+AreNames most left result = Finds (names_fault most left.words) (Some tt) result
 
 -- pieces of bytes, and the name of the file that is made
 abbrev pub ArePieces : Bool → Left → Result (Option (List ℕ)) Spot → Type 0

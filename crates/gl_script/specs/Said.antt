@@ -15,9 +15,9 @@ use Rattle.gl_base.specs.declared.pin.PinDo.TheVariants.{Range, Hold, Release}
 use Rattle.gl_v1.specs.Words.{makes_file as makes_old_file, old_number_of}
 use Rattle.gl_script.specs.declared.refusal.Spot.{Spot}
 use Rattle.gl_script.specs.declared.said.Said.{Said}
-use Rattle.gl_script.specs.declared.said.Said.TheVariants.{Probe as SaidProbe, Unplug as SaidUnplug, MakeDir as SaidMakeDir, RemoveDir as SaidRemoveDir, Write as SaidWrite, Read as SaidRead, Clock as SaidClock, Fault as SaidFault, Accept as SaidAccept, Pin as SaidPin, Irq as SaidIrq, Open as SaidOpen, Ioctl as SaidIoctl, Events as SaidEvents, OldIoctl as SaidOldIoctl, OldEvents as SaidOldEvents, Changes as SaidChanges, Poll as SaidPoll, Close as SaidClose, Detect as SaidDetect, Info as SaidInfo, Get as SaidGet, Set as SaidSet, Start as SaidStart, Step as SaidStep, Stop as SaidStop}
+use Rattle.gl_script.specs.declared.said.Said.TheVariants.{Probe as SaidProbe, Unplug as SaidUnplug, MakeDir as SaidMakeDir, RemoveDir as SaidRemoveDir, Write as SaidWrite, Read as SaidRead, Clock as SaidClock, Fault as SaidFault, Accept as SaidAccept, Aggregate as SaidAggregate, Pin as SaidPin, Irq as SaidIrq, Open as SaidOpen, Ioctl as SaidIoctl, Events as SaidEvents, OldIoctl as SaidOldIoctl, OldEvents as SaidOldEvents, Changes as SaidChanges, Poll as SaidPoll, Close as SaidClose, Detect as SaidDetect, Info as SaidInfo, Get as SaidGet, Set as SaidSet, Start as SaidStart, Step as SaidStep, Stop as SaidStop}
 use Rattle.gl_script.specs.declared.table.Keyword.{Keyword}
-use Rattle.gl_script.specs.declared.table.Keyword.TheVariants.{Probe, Unplug, MakeDir, RemoveDir, Write, Read, Clock, Fault, Accept, Pin, Irq, Open, Ioctl, Events, OldIoctl, OldEvents, Changes, Poll, Close, Detect, Info, Get, Set, Start, Step, Stop}
+use Rattle.gl_script.specs.declared.table.Keyword.TheVariants.{Probe, Unplug, MakeDir, RemoveDir, Write, Read, Clock, Fault, Accept, Aggregate, Pin, Irq, Open, Ioctl, Events, OldIoctl, OldEvents, Changes, Poll, Close, Detect, Info, Get, Set, Start, Step, Stop}
 use Rattle.gl_script.specs.declared.version.Version.{Version}
 use Rattle.gl_script.specs.Faults.{makes_file, statement_fault}
 use Rattle.gl_script.specs.Forms.{file_name_of, label_of, number_within, tree_path_of, within}
@@ -111,6 +111,7 @@ values Read words = one (λ path. SaidRead path) (tree_path_of (text_at 0 words)
 values Clock words = two (λ mono real. SaidClock mono real) (wide_of (text_at 0 words)) (wide_of (text_at 1 words))
 values Fault words = one (λ n. SaidFault n) (number_within 1 1000000 (text_at 0 words))
 values Accept words = one (λ n. SaidAccept n) (wide_of (text_at 0 words))
+values Aggregate words = one (λ label. SaidAggregate label) (label_of (text_at 0 words))
 values Pin words = pin_said (chip_of (text_at 1 words)) (pin_of words)
 values Irq words = irq_said (irq_of (text_at 0 words)) (chip_of (text_at 1 words)) (small_of (text_at 2 words))
 values Open words = two (λ name word. SaidOpen name word) (file_name_of (text_at 0 words)) (path_of (text_at 1 words))
@@ -160,6 +161,7 @@ keyword_said (SaidRead path) = Read
 keyword_said (SaidClock mono real) = Clock
 keyword_said (SaidFault nth) = Fault
 keyword_said (SaidAccept bits) = Accept
+keyword_said (SaidAggregate label) = Aggregate
 keyword_said (SaidPin chip what) = Pin
 keyword_said (SaidIrq what chip offset) = Irq
 keyword_said (SaidOpen name word) = Open
@@ -195,6 +197,7 @@ AreValues (SaidRead path) words = tree_path_of (text_at 1 words) ≡ Some path
 AreValues (SaidClock mono real) words = (wide_of (text_at 1 words) ≡ Some mono) × (wide_of (text_at 2 words) ≡ Some real)
 AreValues (SaidFault nth) words = number_within 1 1000000 (text_at 1 words) ≡ Some nth
 AreValues (SaidAccept bits) words = wide_of (text_at 1 words) ≡ Some bits
+AreValues (SaidAggregate label) words = label_of (text_at 1 words) ≡ Some label
 AreValues (SaidPin chip what) words = (pin_name what ≡ text_at 1 words) × (chip_of (text_at 2 words) ≡ Some chip) × ArePins what words
 AreValues (SaidIrq what chip offset) words = (irq_name what ≡ text_at 1 words) × (chip_of (text_at 2 words) ≡ Some chip) × (small_of (text_at 3 words) ≡ Some offset)
 AreValues (SaidOpen name word) words = (file_name_of (text_at 1 words) ≡ Some name) × (path_of (text_at 2 words) ≡ Some word)

@@ -4,7 +4,7 @@ use Rattle.std.specs.Str.{bytes_eq}
 use Rattle.gl_script.specs.declared.table.Form.{Form}
 use Rattle.gl_script.specs.declared.table.Form.TheVariants.{FileName, Label, Path, Number, Chip, Word, Command, OldCommand, PinWord, IrqWord, HeldTool}
 use Rattle.gl_script.specs.declared.table.Keyword.{Keyword}
-use Rattle.gl_script.specs.declared.table.Keyword.TheVariants.{Probe, Unplug, MakeDir, RemoveDir, Write, Read, Clock, Fault, Accept, Pin, Irq, Open, Ioctl, Events, OldIoctl, OldEvents, Changes, Poll, Close, Detect, Info, Get, Set, Start, Step, Stop}
+use Rattle.gl_script.specs.declared.table.Keyword.TheVariants.{Probe, Unplug, MakeDir, RemoveDir, Write, Read, Clock, Fault, Accept, Aggregate, Pin, Irq, Open, Ioctl, Events, OldIoctl, OldEvents, Changes, Poll, Close, Detect, Info, Get, Set, Start, Step, Stop}
 use Rattle.gl_script.specs.declared.table.TheConstants.{KEYWORDS}
 use Rattle.gl_script.specs.declared.version.Version.{Version}
 use Rattle.gl_script.specs.declared.version.Version.TheVariants.{One, Two}
@@ -21,6 +21,7 @@ keyword_name Read = codes "read"
 keyword_name Clock = codes "clock"
 keyword_name Fault = codes "fault"
 keyword_name Accept = codes "accept"
+keyword_name Aggregate = codes "aggregate"
 keyword_name Pin = codes "pin"
 keyword_name Irq = codes "irq"
 keyword_name Open = codes "open"
@@ -68,10 +69,12 @@ keyword_in version word = only_in version (keyword_of word)
 abbrev pub StatementsHaveTheirWords : Type 0
 StatementsHaveTheirWords = (keyword : Keyword) → keyword_of (keyword_name keyword) ≡ Some keyword
 
--- what may stand behind the words that have forms: nothing, any words, or pieces of bytes and then `as NAME` exactly where the command makes a file
+-- what may stand behind the words that have forms: nothing, any words, at most so many further names of files, or pieces of bytes and then `as NAME`
+-- exactly where the command makes a file
 pub data Tail : Type 0 where
   NoMore : Tail
   Anything : Tail
+  FileNames : (most : ℕ) → Tail
   Pieces : (makes : Bool) → Tail
 
 -- the forms of the further words, and what may stand behind them
@@ -96,6 +99,7 @@ wanted Read second makes = only (Path ∷ [])
 wanted Clock second makes = only (Number 0 0xFFFFFFFFFFFFFFFF ∷ Number 0 0xFFFFFFFFFFFFFFFF ∷ [])
 wanted Fault second makes = only (Number 1 1000000 ∷ [])
 wanted Accept second makes = only (Number 0 0xFFFFFFFFFFFFFFFF ∷ [])
+wanted Aggregate second makes = followed (Label ∷ FileName ∷ []) (FileNames 3)
 wanted Pin second makes =
     if bytes_eq second (codes "range") then only (PinWord ∷ Chip ∷ Number 0 0xFFFFFFFF ∷ Number 0 0xFFFFFFFF ∷ Number 0 0xFFFFFFFF ∷ [])
     else only (PinWord ∷ Chip ∷ Number 0 0xFFFFFFFF ∷ [])

@@ -1,9 +1,10 @@
 //! The cost of a session.
-ghost use Rattle.std.specs.Prelude.{◌≡◌, ◌+◌, ◌*◌, ◌≤◌, ◌<◌, ◌^◌, ◌||◌, nat_eq, if◌then◌else◌, min, length, map, sum_by, codes, MatchOption};
+ghost use Rattle.std.specs.Prelude.{◌≡◌, ◌+◌, ◌*◌, ◌≤◌, ◌<◌, ◌^◌, ◌||◌, nat_eq, if◌then◌else◌, min, length, map, sum_by, codes, MatchOption, Some};
 ghost use Rattle.std.specs.List.{list_any, starts_with};
 ghost use Rattle.std.specs.Str.{bytes_eq};
 ghost use Rattle.gl_base.specs.Words.{words_at, text_at};
-ghost use Rattle.gl_script.specs.Cost.{are_none, is_bare, is_chip_option, start_cost, section_cost, session_cost, statement_cost};
+ghost use Rattle.gl_script.specs.Cost.{aggregates, are_none, has_aggregate, is_aggregate, is_bare, is_chip_option, section_aggregates, section_cost, session_cost, start_cost, statement_cost, statements_cost};
+ghost use Rattle.gl_script.specs.Said.{keyword_said};
 ghost use Rattle.gl_script.specs.SaidCost.{cost_said};
 ghost use Rattle.gl_script.specs.Meaning.{line_in, said_in};
 
@@ -37,15 +38,72 @@ pub fn cost_within_limit(sections: &[Section<'_>]) -> Option<u64>
 }
 
 /// The cost of sections, or one more than `COST_MAX` where it is more than that.
-#[tactic(auto, using(crate::proofs::Sums::capped))]
+#[tactic(auto, using(crate::proofs::Sums::five_capped))]
 fn session_cost(sections: &[Section<'_>]) -> u64
     ensures { result ≡ min (session_cost (map said_in sections.now)) OVER }
+{
+    let total = sections_cost(sections);
+    if has_aggregate(sections) {
+        return (5 * total).min(OVER);
+    }
+    total
+}
+
+/// The cost of all statements, or one more than `COST_MAX` where it is more than that.
+#[tactic(auto, using(crate::proofs::Sums::capped))]
+fn sections_cost(sections: &[Section<'_>]) -> u64
+    ensures cost { result ≡ min (statements_cost (map said_in sections.now)) OVER }
 {
     let mut total = 0;
     for section in sections {
         total = (total + section_cost(section)).min(OVER);
     }
     total
+}
+
+/// Whether one of the sections has an `aggregate`.
+pub fn has_aggregate(sections: &[Section<'_>]) -> bool
+    ensures { result ≡ has_aggregate (map said_in sections.now) }
+{
+    for section in sections {
+        if section_aggregates(section) {
+            return true;
+        }
+    }
+    false
+}
+
+/// Whether a section has one.
+fn section_aggregates(section: &Section<'_>) -> bool
+    ensures { result ≡ section_aggregates (said_in section.now) }
+{
+    one_aggregates(&section.statements)
+}
+
+fn one_aggregates(statements: &[Statement<'_>]) -> bool
+    ensures { result ≡ list_any aggregates (map line_in statements.now) }
+{
+    for statement in statements {
+        if aggregates(statement) {
+            return true;
+        }
+    }
+    false
+}
+
+/// Whether a statement is one.
+fn aggregates(statement: &Statement<'_>) -> bool
+    ensures { result ≡ aggregates (line_in statement.now) }
+{
+    let said = statement.said();
+    is_aggregate(&said)
+}
+
+/// Whether what is said is that of one.
+fn is_aggregate(said: &Said) -> bool
+    ensures { result ≡ is_aggregate (Some (keyword_said said.now)) }
+{
+    matches!(said, Said::Aggregate { .. })
 }
 
 /// The cost of a section, or one more than `COST_MAX` where it is more than that.
@@ -90,6 +148,7 @@ fn said_cost(said: &Said, at: usize, line: &[u8]) -> u64
         Said::Probe { .. }
         | Said::MakeDir { .. }
         | Said::RemoveDir { .. }
+        | Said::Aggregate { .. }
         | Said::Read { .. }
         | Said::Clock { .. }
         | Said::Pin { .. }

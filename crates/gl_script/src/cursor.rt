@@ -6,10 +6,10 @@ ghost use Rattle.gl_base.specs.Words.{span, words_at};
 ghost use Rattle.gl_v1.specs.Words.{old_number_of};
 ghost use Rattle.gl_script.specs.Faults.{spot};
 ghost use Rattle.gl_script.specs.Forms.{file_name_of, label_of, number_within, tree_path_of};
-ghost use Rattle.gl_script.specs.Left.{ArePieces, IsEnd, IsShort, Reads, left_in, pin_word_of};
+ghost use Rattle.gl_script.specs.Left.{AreNames, ArePieces, IsEnd, IsShort, Reads, left_in, pin_word_of};
 ghost use Rattle.gl_script.specs.Said.{chip_of, irq_of};
 
-use crate::faults::{bytes_read, spot};
+use crate::faults::{bytes_read, names_fault, spot};
 use crate::forms::{
     PinWord, chip_of, chip_word, file_name, irq_of, label, meets, number_within, pin_word_of,
     tree_path,
@@ -232,6 +232,17 @@ impl<'a> Cursor<'a> {
     {
         match next_word(self.at, self.rest) {
             Some(found) => Err(spot(found.at, RefusalKind::Words)),
+            None => Ok(()),
+        }
+    }
+
+    /// At most so many further names of files, and no more.
+    pub fn file_names(&self, most: u32) -> Result<(), Spot>
+        requires { IsShort self.now }
+        ensures { AreNames most (left_in self.now) result }
+    {
+        match names_fault(most, self.at, self.rest) {
+            Some(fault) => Err(fault),
             None => Ok(()),
         }
     }

@@ -2,7 +2,7 @@
 ghost use Rattle.std.specs.Prelude.{◌≡◌, ◌+◌, ◌<◌, ◌≤◌, ◌^◌, ◌&&◌, true, if◌then◌else◌, length, codes, IfOk};
 ghost use Rattle.gl_base.specs.BytesText.{piece_size};
 ghost use Rattle.gl_base.specs.Words.{text_at, words_at};
-ghost use Rattle.gl_script.specs.Faults.{err_of, spot, is_printable, byte_fault, size_fault, more_fault, name_fault, as_fault, piece_fault, size_of, pieces_fault, bytes_fault};
+ghost use Rattle.gl_script.specs.Faults.{err_of, spot, is_printable, byte_fault, size_fault, more_fault, name_fault, names_fault, as_fault, piece_fault, size_of, pieces_fault, bytes_fault};
 ghost use Rattle.gl_script.specs.Forms.{file_name_of};
 ghost use Rattle.gl_script.specs.Left.{Finds};
 ghost use Rattle.gl_script.specs.Pieces.{made_by};
@@ -93,6 +93,28 @@ fn name_read(end: usize, at: usize, line: &[u8]) -> Result<Name, Spot>
         }
         None => Err(spot(end, RefusalKind::Words)),
     }
+}
+
+/// At most so many names of files.
+pub fn names_fault(most: u32, at: usize, line: &[u8]) -> Option<Spot>
+    requires { at + length line.now + 1 < 2 ^ 32 }
+    ensures { result ≡ names_fault most (words_at at line.now) }
+{
+    let mut most = most;
+    let mut at = at;
+    let mut rest = line;
+    while let Some(found) = next_word(at, rest) {
+        if most == 0 {
+            return Some(spot(found.at, RefusalKind::Words));
+        }
+        if !meets(Form::FileName, found.word) {
+            return Some(spot(found.at, RefusalKind::Word));
+        }
+        most -= 1;
+        at = found.rest_at;
+        rest = found.rest;
+    }
+    None
 }
 
 /// `as NAME`, and no more: the name.

@@ -10,7 +10,7 @@ pub(crate) fn beginning_with(first: u8) -> &'static [Keyword]
     ensures { result.now ≡ filter (begins_with first) KEYWORDS }
 {
     match first {
-        b'a' => &[Keyword::Accept],
+        b'a' => &[Keyword::Accept, Keyword::Aggregate],
         b'c' => &[Keyword::Clock, Keyword::Changes, Keyword::Close],
         b'e' => &[Keyword::Events, Keyword::OldEvents],
         b'f' => &[Keyword::Fault],

@@ -1,6 +1,7 @@
 //! What makes the definitions of a session trustworthy.
-ghost use Rattle.std.specs.Prelude.{◌≡◌, ◌≤◌, ℕ, List};
+ghost use Rattle.std.specs.Prelude.{◌≡◌, ◌≤◌, ℕ, false, List};
 ghost use Rattle.gl_script.specs.Blame.{FaultsAreOfTheText};
+ghost use Rattle.gl_script.specs.Cost.{has_aggregate};
 ghost use Rattle.gl_script.specs.Gen.{IsSession, load_text};
 ghost use Rattle.gl_script.specs.Said.{SaidIsSpelled, StatementsAreSaid, VersionsAreSaid};
 ghost use Rattle.gl_script.specs.Section.{SaidSection};
@@ -34,6 +35,11 @@ pub fn faults_are_of_the_text()
 /// Each load from 1 to 5000 is a session, and what it costs is within the limit.
 pub fn loads_are_sessions()
     ensures { (n : ℕ) → 1 ≤ n → n ≤ TURNS_MAX → IsSession (load_text n) }
+{}
+
+/// No load has an `aggregate`.
+pub fn loads_have_no_aggregate()
+    ensures { (n : ℕ) (sections : List SaidSection) → n ≤ TURNS_MAX → Sentence (load_text n) sections → has_aggregate sections ≡ false }
 {}
 
 /// Each statement is the one that its word begins: the table of statements has a row for each.

@@ -25,9 +25,9 @@ pub use faults::text_at;
 pub use feed::Feed;
 pub use forms::number_within;
 pub use laws::{
-    faults_are_of_the_text, limits_by_value, loads_are_sessions, sentence_is_single,
-    sentences_are_spelled, served_lines_are_sessions, spelled_are_sentences, statements_are_said,
-    statements_have_their_words,
+    faults_are_of_the_text, limits_by_value, loads_are_sessions, loads_have_no_aggregate,
+    sentence_is_single, sentences_are_spelled, served_lines_are_sessions, spelled_are_sentences,
+    statements_are_said, statements_have_their_words,
 };
 pub use limits::{SESSION_MAX, TURNS_MAX};
 pub use load::generate;

@@ -43,6 +43,7 @@ fn words_said(keyword: Keyword, words: &mut Cursor<'_>) -> Result<Said, Spot>
         Keyword::Clock => clock_said(words),
         Keyword::Fault => fault_said(words),
         Keyword::Accept => accept_said(words),
+        Keyword::Aggregate => aggregate_said(words),
         Keyword::Pin => pin_said(words),
         Keyword::Irq => irq_said(words),
         Keyword::Open => open_said(words),
@@ -164,6 +165,17 @@ fn accept_said(words: &mut Cursor<'_>) -> Result<Said, Spot>
     let bits = words.number(0, 0xFFFF_FFFF_FFFF_FFFF)?;
     words.no_more()?;
     Ok(Said::Accept { bits })
+}
+
+/// `aggregate LABEL NAME [NAME [NAME [NAME]]]`.
+fn aggregate_said(words: &mut Cursor<'_>) -> Result<Said, Spot>
+    requires { IsShort words.old }
+    ensures { IsRead Keyword.Aggregate (left_in words.old) result }
+{
+    let label = words.label()?;
+    words.text(Form::FileName)?;
+    words.file_names(3)?;
+    Ok(Said::Aggregate { label })
 }
 
 /// `pin range CHIP N N N`, `pin hold CHIP N` or `pin drop CHIP N`.

@@ -58,6 +58,11 @@ pub enum Said {
         /// The bits that the driver accepts.
         bits: u64,
     },
+    /// `aggregate LABEL NAME [NAME [NAME [NAME]]]`.
+    Aggregate {
+        /// The label of the chip.
+        label: Name,
+    },
     /// `pin range CHIP N N N`, `pin hold CHIP N` or `pin drop CHIP N`.
     Pin {
         /// The chip's number, 0 to 63.

@@ -3,7 +3,7 @@ ghost use Rattle.std.specs.Prelude.{◌≡◌, ◌<◌, ◌^◌, length, map};
 ghost use Rattle.gl_script.specs.Cost.{session_cost};
 ghost use Rattle.gl_script.specs.Meaning.{said_in};
 
-use crate::cost::cost_within_limit;
+use crate::cost::{cost_within_limit, has_aggregate};
 use crate::heads::{head_of, refusal, whole_refusal};
 use crate::limits::SESSION_MAX;
 use crate::reading::{Reading, Stop};
@@ -24,6 +24,7 @@ pub struct Script<'a> {
 impl<'a> Script<'a> {
     ghost use Rattle.std.specs.Prelude.{◌≢◌, ◌⊎◌, ◌+◌, ◌≤◌, None, Some, option_map, slice_get, IfSome, IfOk, IfErr, MatchOption};
     ghost use Rattle.gl_script.specs.Columns.{columns};
+    ghost use Rattle.gl_script.specs.Cost.{has_aggregate};
     ghost use Rattle.gl_script.specs.Meaning.{line_in, head_in};
     ghost use Rattle.gl_script.specs.Said.{said_of};
     ghost use Rattle.gl_script.specs.Script.{sections_of};
@@ -101,6 +102,13 @@ impl<'a> Script<'a> {
             Some(section) => Some(&section.statements),
             None => None,
         }
+    }
+
+    /// Whether one of its sections has an `aggregate`.
+    pub fn has_aggregate(&self) -> bool
+        ensures { result ≡ has_aggregate (sections_of self.now) }
+    {
+        has_aggregate(&self.sections)
     }
 
     /// What the session costs: how many entries of a history it may make at most.

@@ -54,6 +54,8 @@ pub enum Keyword {
     Fault,
     /// `accept`, of `session 2` alone.
     Accept,
+    /// `aggregate`.
+    Aggregate,
     /// `pin`.
     Pin,
     /// `irq`.
@@ -91,7 +93,7 @@ pub enum Keyword {
 }
 
 /// All statements.
-pub const KEYWORDS: [Keyword; 26] = [
+pub const KEYWORDS: [Keyword; 27] = [
     Keyword::Probe,
     Keyword::Unplug,
     Keyword::MakeDir,
@@ -101,6 +103,7 @@ pub const KEYWORDS: [Keyword; 26] = [
     Keyword::Clock,
     Keyword::Fault,
     Keyword::Accept,
+    Keyword::Aggregate,
     Keyword::Pin,
     Keyword::Irq,
     Keyword::Open,
@@ -135,6 +138,7 @@ impl Keyword {
             Keyword::Clock => "clock",
             Keyword::Fault => "fault",
             Keyword::Accept => "accept",
+            Keyword::Aggregate => "aggregate",
             Keyword::Pin => "pin",
             Keyword::Irq => "irq",
             Keyword::Open => "open",

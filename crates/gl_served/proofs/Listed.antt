@@ -19,7 +19,7 @@ use Rattle.gl_model.specs.declared.device_call.DeviceCall.{DeviceCall}
 use Rattle.gl_model.specs.declared.device_call.DeviceCall.TheVariants.{Once, Removing, Commanding}
 use Rattle.gl_script.specs.Section.{SaidSection}
 use Rattle.gl_script.specs.declared.section.SectionKind.TheVariants.{Setup, Actor, After}
-use Rattle.gl_talk.specs.Open.{Names, no_names}
+use Rattle.gl_talk.specs.Open.{Names, left_setup, no_names, setup_names}
 use Rattle.gl_talk.specs.Talk.{quits, says, talks}
 use Rattle.gl_uapi.specs.Command.{command_of}
 use Rattle.gl_check.specs.One.{Answering, PlannedPort, Ran, Standing, answer_in, at_once, behind_setup, behind_text, came_to, comes_by, entry_count, first_of_list, from_list, from_plan, goes_on, is_asked, is_gone, one, performs, performs_as, run, run_actor, run_after, run_session, run_setup, said_in_kind, with_answer, with_entries, world_behind}
@@ -130,24 +130,24 @@ planned_is_one sections source =
     let first : Ran PlannedPort Names = run_setup from_plan sections source in
     let actor : Ran PlannedPort Names = run_actor from_plan sections first.behind in
     let last : Ran PlannedPort Names = run_after from_plan sections first actor.behind in
-    let by_setup = takes_in (says 0 (said_in_kind Setup sections) done no_names) (record { world = opening; files = []; source = source; took = []; entries = 0 }) in
+    let by_setup = takes_in (says 0 (said_in_kind Setup sections) done setup_names) (record { world = opening; files = []; source = source; took = []; entries = 0 }) in
     let by_actor = takes_in (talks 0 (said_in_kind Actor sections) no_names) (record first.behind { files = [] }) in
-    let by_after = takes_in (says (length (said_in_kind Setup sections)) (said_in_kind After sections) quits first.value) (record actor.behind { files = first.behind.files }) in
+    let by_after = takes_in (says (length (said_in_kind Setup sections)) (said_in_kind After sections) quits (left_setup first.value)) (record actor.behind { files = first.behind.files }) in
     let given : List Answering = map at_once by_setup ++ (map at_once by_actor ++ (map at_once by_after ++ [])) in
     let listed_first : run_setup from_list sections given ≡ listed_ran first (map at_once by_actor ++ (map at_once by_after ++ [])) =
-    lists (says 0 (said_in_kind Setup sections) done no_names) (record { world = opening; files = []; source = source; took = []; entries = 0 }) (map at_once by_actor ++ (map at_once by_after ++ [])) in
+    lists (says 0 (said_in_kind Setup sections) done setup_names) (record { world = opening; files = []; source = source; took = []; entries = 0 }) (map at_once by_actor ++ (map at_once by_after ++ [])) in
     let listed_actor : run_actor from_list sections (listed first.behind (map at_once by_actor ++ (map at_once by_after ++ []))) ≡ listed_ran actor (map at_once by_after ++ []) =
     lists (talks 0 (said_in_kind Actor sections) no_names) (record first.behind { files = [] }) (map at_once by_after ++ []) in
     let listed_last : run_after from_list sections (listed_ran first (map at_once by_actor ++ (map at_once by_after ++ []))) (listed actor.behind (map at_once by_after ++ [])) ≡ listed_ran last [] =
-    lists (says (length (said_in_kind Setup sections)) (said_in_kind After sections) quits first.value) (record actor.behind { files = first.behind.files }) [] in
+    lists (says (length (said_in_kind Setup sections)) (said_in_kind After sections) quits (left_setup first.value)) (record actor.behind { files = first.behind.files }) [] in
     let whole : (run_session from_list sections given).text ≡ (first.text ++ actor.text) ++ last.text =
     ap (λ (setup : Ran (List Answering) Names). (behind_setup from_list sections setup).text) listed_first
     ∙ ap (λ (a : Ran (List Answering) Names). (first.text ++ a.text) ++ (run_after from_list sections (listed_ran first (map at_once by_actor ++ (map at_once by_after ++ []))) a.behind).text) listed_actor
     ∙ ap (λ (l : Ran (List Answering) Names). (first.text ++ actor.text) ++ l.text) listed_last in
     let took : (run_session from_plan sections source).behind.took ≡ map at_once (by_setup ++ (by_actor ++ by_after)) =
-    took_in (says (length (said_in_kind Setup sections)) (said_in_kind After sections) quits first.value) (record actor.behind { files = first.behind.files })
+    took_in (says (length (said_in_kind Setup sections)) (said_in_kind After sections) quits (left_setup first.value)) (record actor.behind { files = first.behind.files })
     ∙ ap (λ (l : List Answering). l ++ map at_once by_after) (took_in (talks 0 (said_in_kind Actor sections) no_names) (record first.behind { files = [] }))
-    ∙ ap (λ (l : List Answering). (l ++ map at_once by_actor) ++ map at_once by_after) (took_in (says 0 (said_in_kind Setup sections) done no_names) (record { world = opening; files = []; source = source; took = []; entries = 0 }))
+    ∙ ap (λ (l : List Answering). (l ++ map at_once by_actor) ++ map at_once by_after) (took_in (says 0 (said_in_kind Setup sections) done setup_names) (record { world = opening; files = []; source = source; took = []; entries = 0 }))
     ∙ append_assoc (map at_once by_setup) (map at_once by_actor) (map at_once by_after)
     ∙ sym (three_mapped by_setup by_actor by_after) in
     let answers : map answer_in (run_session from_plan sections source).behind.took ≡ by_setup ++ (by_actor ++ by_after) = ap (λ (l : List Answering). map answer_in l) took ∙ answers_of (by_setup ++ (by_actor ++ by_after)) in

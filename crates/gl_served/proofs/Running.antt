@@ -14,7 +14,7 @@ use Rattle.gl_core.specs.Kept.{StandsFor}
 use Rattle.gl_script.specs.Columns.{columns}
 use Rattle.gl_script.specs.Served.{Statement}
 use Rattle.gl_script.specs.declared.served.Stage.{Stage}
-use Rattle.gl_talk.specs.Open.{Names, no_names}
+use Rattle.gl_talk.specs.Open.{Names, setup_names}
 use Rattle.gl_talk.specs.declared.talk.Talk.{Talk}
 use Rattle.gl_talk.specs.Talk.{does, left, names_in, says, slot_behind}
 use Rattle.gl_check.specs.One.{PlannedPort, Ran, Standing, behind_text, from_plan, performs, run}
@@ -51,7 +51,7 @@ carried_more (first ∷ lines) line count ran =
 pub one_more : (lines : List (List ℕ)) (line : List ℕ) → carried_out (lines ++ line ∷ []) ≡ stated (length lines) (carried_out lines) line
 one_more lines line =
     let all : 0 + length lines ≡ length lines = omega arith in
-    carried_more lines line 0 (record { text = []; value = no_names; behind = start }) ∙ ap (λ (n : ℕ). stated n (carried_out lines) line) all
+    carried_more lines line 0 (record { text = []; value = setup_names; behind = start }) ∙ ap (λ (n : ℕ). stated n (carried_out lines) line) all
 
 -- statements that have slots of their own are those of a talk
 pub carried_says : (lines : List (List ℕ)) (count : ℕ) (ran : Ran PlannedPort Names) → count + length lines ≤ PAIRS

@@ -11,7 +11,7 @@ use Rattle.gl_base.specs.declared.operation.Got.{Got}
 use Rattle.gl_base.specs.declared.operation.Got.TheVariants.{Done as GotDone, Refused as GotRefused}
 use Rattle.gl_base.specs.declared.limits.TheConstants.{PLACES}
 use Rattle.gl_base.specs.declared.operation.Do.{Do}
-use Rattle.gl_base.specs.declared.operation.Do.TheVariants.{Probe as DoProbe, Unplug as DoUnplug, MakeDir as DoMakeDir, RemoveDir as DoRemoveDir, Write as DoWrite, Read as DoRead, Live as DoLive, Tick as DoTick, Pin as DoPin, Irq as DoIrq, Pull as DoPull, Level as DoLevel, OpenChip as DoOpenChip, Find as DoFind, Ioctl as DoIoctl, ReadFile, Poll, Close as DoClose, Plan, Accept}
+use Rattle.gl_base.specs.declared.operation.Do.TheVariants.{Probe as DoProbe, Unplug as DoUnplug, MakeDir as DoMakeDir, RemoveDir as DoRemoveDir, Write as DoWrite, Read as DoRead, Live as DoLive, Tick as DoTick, Pin as DoPin, Irq as DoIrq, Pull as DoPull, Level as DoLevel, OpenChip as DoOpenChip, Find as DoFind, Ioctl as DoIoctl, ReadFile, Poll, Close as DoClose, Plan, Accept, Aggregate}
 use Rattle.gl_uapi.specs.Command.{command_of, size_of}
 use Rattle.gl_uapi.specs.declared.commands.Command.{Command}
 use Rattle.gl_uapi.specs.declared.commands.Command.TheVariants.{ChipInfo, LineInfo, Watch as WatchInfo, Unwatch as UnwatchInfo, GetLine, SetConfig, GetValues, SetValues}
@@ -131,6 +131,7 @@ suits files (Poll slot) = poll_on slot (file_in slot files)
 suits files (DoClose slot) = close_on slot (file_in slot files)
 suits files (Plan nth) = tt
 suits files (Accept bits) = tt
+suits files (Aggregate label slots count) = tt
 
 -- of the call that an operation is
 pub suits_call : (files : List OpenFile) (what : Do) (call : DeviceCall) → Calls call ≡ asking files what → Suits what call
@@ -162,6 +163,7 @@ opens_nothing (Poll slot) reply small other = tt
 opens_nothing (DoClose slot) reply small other = tt
 opens_nothing (Plan nth) reply small other = tt
 opens_nothing (Accept bits) reply small other = tt
+opens_nothing (Aggregate label slots count) reply small other = tt
 
 -- and makes no request
 pub names_nothing : (what : Do) (row : Option FileRow) (answered : CallAnswered) → has_number answered.reply ≡ false → NamesMade what row answered
@@ -244,6 +246,7 @@ answered files (Poll slot) = answered_on None _ (file_in slot files) (λ file w 
 answered files (DoClose slot) = answered_on None _ (file_in slot files) (λ file w port. refl)
 answered files (Plan nth) = tt
 answered files (Accept bits) = tt
+answered files (Aggregate label slots count) = tt
 
 -- the world, the files and the port after an operation that is a call
 answer_source : (b : Bool) (op : Option Op) (s : Standing PlannedPort) → (with_answer from_plan op b s).source ≡ after_asking b s.source

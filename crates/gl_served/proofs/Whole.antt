@@ -5,7 +5,7 @@ use Rattle.gl_base.specs.Words.{Span, span}
 use Rattle.gl_client.specs.Program.{done}
 use Rattle.gl_script.specs.Columns.{columns}
 use Rattle.gl_script.specs.declared.section.SectionKind.TheVariants.{Setup}
-use Rattle.gl_talk.specs.Open.{Names, no_names, slots_in_order}
+use Rattle.gl_talk.specs.Open.{Names, setup_names, slots_in_order}
 use Rattle.gl_talk.specs.Talk.{closes_all, says}
 use Rattle.gl_base.specs.declared.operation.Do.TheVariants.{Close}
 use Rattle.gl_check.specs.One.{PlannedPort, Ran, Standing, behind_setup, from_plan, performs, run, run_actor, said_in_kind}
@@ -37,8 +37,8 @@ ends_silently said setup =
 pub text_is_one : TextIsOne
 text_is_one said few =
     let within : 0 + length said.statements ≤ PAIRS = omega (arith, few) in
-    ap (λ (ran : Ran PlannedPort Names). ran.text) (carried_says said.statements 0 (record { text = []; value = no_names; behind = start }) within)
+    ap (λ (ran : Ran PlannedPort Names). ran.text) (carried_says said.statements 0 (record { text = []; value = setup_names; behind = start }) within)
     ∙ sym (
-    ends_silently said (run from_plan (says 0 (said_in_kind Setup (session_of said)) done no_names) start)
-    ∙ ap (λ (words : List (List Span)). (run from_plan (says 0 words done no_names) start).text) (statements_same said))
+    ends_silently said (run from_plan (says 0 (said_in_kind Setup (session_of said)) done setup_names) start)
+    ∙ ap (λ (words : List (List Span)). (run from_plan (says 0 words done setup_names) start).text) (statements_same said))
     ∙ planned_is_one (session_of said) unplanned

@@ -8,7 +8,7 @@ use Rattle.gl_script.specs.declared.refusal.RefusalKind.TheVariants.{Limit}
 use Rattle.gl_script.specs.declared.refusal.Spot.{Spot}
 use Rattle.gl_script.specs.declared.served.Stage.{Stage}
 use Rattle.gl_script.specs.declared.served.Stage.TheVariants.{Opening, Headed}
-use Rattle.gl_talk.specs.Open.{Names, no_names}
+use Rattle.gl_talk.specs.Open.{Names, setup_names}
 use Rattle.gl_talk.specs.Talk.{does, names_in}
 use Rattle.gl_talk.specs.declared.talk.Talk.{Talk}
 use Rattle.gl_check.specs.One.{PlannedPort, Ran, Standing, behind_text, from_plan, run}
@@ -36,7 +36,7 @@ carried_from count ran (line ∷ lines) = carried_from (count + 1) (stated count
 
 -- what statements in a row come to
 abbrev pub carried_out : List (List ℕ) → Ran PlannedPort Names
-carried_out statements = carried_from 0 (record { text = []; value = no_names; behind = start }) statements
+carried_out statements = carried_from 0 (record { text = []; value = setup_names; behind = start }) statements
 
 -- what was accepted so far: how far the session has come, and the lines of its statements
 pub record Accepted : Type 0 where

@@ -98,7 +98,7 @@ impl Served {
         ensures memory_alone { IsOkUnless result Errno.NoMemory }
     {
         let alone = Alone::new(alloc)?;
-        let talk = Talk::new(alloc)?;
+        let talk = Talk::for_setup(alloc)?;
         Ok(Served {
             stage: Stage::Opening,
             talk,

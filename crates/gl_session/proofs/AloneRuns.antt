@@ -31,7 +31,7 @@ use Rattle.gl_model.specs.World.{World, opening}
 use Rattle.gl_model.proofs.MachineLaws.{machine_laws}
 use Rattle.gl_script.specs.Section.{SaidSection}
 use Rattle.gl_script.specs.declared.section.SectionKind.TheVariants.{Setup, Actor, After}
-use Rattle.gl_talk.specs.Open.{Names, no_names}
+use Rattle.gl_talk.specs.Open.{Names, left_setup, no_names, setup_names}
 use Rattle.gl_talk.specs.Talk.{quits, says, talks}
 use Rattle.gl_core.specs.Device.{OneDeed, OneEntry, call_tells, core, tells_in}
 use Rattle.gl_session.specs.Alone.{AnswersAsPlanned, IsAlone, Part, PlayedSession, PortTells, PrintsOne, PrintsOver, answering_in, begins_asked, calls_in, given_by, given_in, given_of, is_command}
@@ -331,7 +331,7 @@ module _ {X : Type 0} (answers : Answers X) (driver : DriverKind) (Fits : X → 
         let by_setup : List Answering = given_by p.setup.played.turns in let by_actor : List Answering = given_by p.actor.played.turns in let by_after : List Answering = given_by p.last.played.turns in
         let did_is : did ≡ first ++ (middle ++ (last ++ [])) = p.did_is ∙ ap (λ l. first ++ (middle ++ l)) (sym (append-nil last)) in
         let start : Standing X = record { world = opening; files = []; source = source; took = []; entries = 0 } in
-        let setup = part_runs (says 0 (said_in_kind Setup sections) done no_names) [] before p.setup start (middle ++ (last ++ [])) (by_actor ++ (by_after ++ [])) (record {
+        let setup = part_runs (says 0 (said_in_kind Setup sections) done setup_names) [] before p.setup start (middle ++ (last ++ [])) (by_actor ++ (by_after ++ [])) (record {
           files = refl;
           left = subst (λ (l : List OneDeed). Rest core opening l) did_is whole;
           steady = steady;
@@ -345,14 +345,14 @@ module _ {X : Type 0} (answers : Answers X) (driver : DriverKind) (Fits : X → 
           fits = setup.at.fits;
         }) in
         let after_actor : Ran X Names = run_actor answers sections after_setup.behind in
-        let end = part_runs (says (length (said_in_kind Setup sections)) (said_in_kind After sections) quits p.setup.names) p.setup.behind.files p.actor.behind.told p.last (record after_actor.behind { files = after_setup.behind.files }) [] [] (record {
+        let end = part_runs (says (length (said_in_kind Setup sections)) (said_in_kind After sections) quits (left_setup p.setup.names)) p.setup.behind.files p.actor.behind.told p.last (record after_actor.behind { files = after_setup.behind.files }) [] [] (record {
           files = setup.at.files;
           left = actor.at.left;
           steady = actor.at.steady;
           fits = actor.at.fits;
         }) in
         let ends = subst (λ (names : Names). RunsAs p.last.text p.last.played.turns p.last.names p.last.behind (record after_actor.behind { files = after_setup.behind.files }) [] []
-        (run answers (says (length (said_in_kind Setup sections)) (said_in_kind After sections) quits names) (record after_actor.behind { files = after_setup.behind.files }))) (sym setup.value_is) end in (
+        (run answers (says (length (said_in_kind Setup sections)) (said_in_kind After sections) quits (left_setup names)) (record after_actor.behind { files = after_setup.behind.files }))) (sym setup.value_is) end in (
           (λ i. (setup.text_is i ++ actor.text_is i) ++ ends.text_is i) ∙ sym p.text_is,
           ends.took_is ∙ ap (λ (l : List Answering). l ++ by_after) (actor.took_is ∙ ap (λ (l : List Answering). l ++ by_actor) setup.took_is) ∙ append_assoc by_setup by_actor by_after,
           (let one = setup.entries_are in let two = actor.entries_are in let three = ends.entries_are in let all : length did ≡ length (first ++ (middle ++ last)) = ap (λ (l : List OneDeed). length l) p.did_is in

@@ -1,5 +1,5 @@
 -- The end of an actor's section closes its files in the order of their numbers.
-use Rattle.std.proofs.Common.{◌≡◌, ◌≤◌, ◌<◌, ◌+◌, ◌-◌, inl, inr, ℕ, Bool, true, false, cond, List, [], ◌∷◌, ◌++◌, length, map, get_or, Option, None, Some, refl, sym, ◌∙◌, ap, subst, arith, eq-eqb}
+use Rattle.std.proofs.Common.{◌≡◌, ◌≤◌, ◌<◌, ◌-◌, inl, inr, ℕ, Bool, true, false, cond, List, [], ◌∷◌, ◌++◌, length, map, get_or, Option, None, Some, refl, sym, ◌∙◌, ap, subst, arith, eq-eqb}
 use Rattle.std.specs.Prelude.{◌==◌, nat_eq, nat_lt}
 use Rattle.std.specs.List.{filter}
 use Rattle.std.proofs.lemmas.Bool.{true≢false}
@@ -13,7 +13,7 @@ use Rattle.gl_base.specs.declared.command.TheConstants.{GET_LINE}
 use Rattle.gl_base.specs.declared.errno.Errno.TheVariants.{BadF}
 use Rattle.gl_base.specs.declared.lines.Lines.{Lines}
 use Rattle.gl_base.specs.declared.operation.Do.{Do}
-use Rattle.gl_base.specs.declared.operation.Do.TheVariants.{Probe as DoProbe, Unplug as DoUnplug, MakeDir as DoMakeDir, RemoveDir as DoRemoveDir, Write as DoWrite, Read as DoRead, Live as DoLive, Tick as DoTick, Pin as DoPin, Irq as DoIrq, Pull as DoPull, Level as DoLevel, OpenChip as DoOpenChip, Find as DoFind, Ioctl as DoIoctl, ReadFile, Poll, Close as DoClose, Plan, Accept}
+use Rattle.gl_base.specs.declared.operation.Do.TheVariants.{Probe as DoProbe, Unplug as DoUnplug, MakeDir as DoMakeDir, RemoveDir as DoRemoveDir, Write as DoWrite, Read as DoRead, Live as DoLive, Tick as DoTick, Pin as DoPin, Irq as DoIrq, Pull as DoPull, Level as DoLevel, OpenChip as DoOpenChip, Find as DoFind, Ioctl as DoIoctl, ReadFile, Poll, Close as DoClose, Plan, Accept, Aggregate}
 use Rattle.gl_base.specs.declared.operation.Got.{Got}
 use Rattle.gl_uapi.specs.Command.{command_of}
 use Rattle.gl_world.specs.Deeds.{deed_in, deeds_from, deeds_of, entries_in}
@@ -41,10 +41,10 @@ use Rattle.gl_core.specs.Device.{OneDeed, OneEntry, core}
 use Rattle.gl_script.specs.Section.{SaidSection}
 use Rattle.gl_script.specs.declared.section.SectionKind.TheVariants.{Setup, Actor, After}
 use Rattle.gl_talk.specs.Numbers.{CloseByNumber, Numbered, NumbersFiles, has_less, has_slot, numbered_behind, with_number}
-use Rattle.gl_talk.specs.Open.{Names, no_names, slots_in_order}
+use Rattle.gl_talk.specs.Open.{Names, left_setup, no_names, setup_names, slots_in_order}
 use Rattle.gl_talk.specs.Talk.{closes_all, quits, says}
-use Rattle.gl_talk.proofs.FileNumbers.{files_close_by_number}
-use Rattle.gl_talk.proofs.InARow.{are_statements_and_the_end, come_in_parts}
+use Rattle.gl_talk.proofs.FileNumbers.{files_close_by_number, setup_closes_by_number}
+use Rattle.gl_talk.proofs.InARow.{are_statements_and_the_end}
 use Rattle.gl_asking.specs.declared.kinds.Asking.{Asking}
 use Rattle.gl_asking.specs.declared.kinds.Asking.TheVariants.{Calls, Plans, Accepts, Refuses}
 use Rattle.gl_asking.specs.Asking.{asking, buffer_of, files_behind, got_of, lines_named, made_by as made_of_kind, made_on, on_file, once, with_request}
@@ -345,6 +345,7 @@ module _ (driver : DriverKind) (actor : ℕ) (w : World) (es : List OneEntry) (f
           (each_left (λ (g : OpenFile). g.fd < last_number) slot files (below_more w.next last_number files no_fewer under)) (rises_left slot files rising)
       made_fresh (Plan nth) is = unchanged (Plan nth) e.reply e.wrote refl refl
       made_fresh (Accept bits) is = unchanged (Accept bits) e.reply e.wrote refl refl
+      made_fresh (Aggregate label slots count) is = unchanged (Aggregate label slots count) e.reply e.wrote refl refl
 
 -- an actor's entries stay those of whole calls
 made_more : (calls : List (Called Kept)) (called : Called Kept) → made_by (calls ++ called ∷ []) ≡ made_by calls ++ called.made
@@ -563,21 +564,17 @@ module _ (sections : List SaidSection) where
   in_setup = said_in_kind Setup sections
 
   abbrev behind_setup : Names → Program Names
-  behind_setup = says (length in_setup) (said_in_kind After sections) done
+  behind_setup names = says (length in_setup) (said_in_kind After sections) done (left_setup names)
 
   abbrev both : Program Names
-  both = then_by (says 0 in_setup done no_names) behind_setup
-
-  none_before : 0 + length in_setup ≡ length in_setup
-  none_before = omega arith
+  both = then_by (says 0 in_setup done setup_names) behind_setup
 
   number_both : NumbersFiles CloseByNumber [] both
-  number_both = subst (λ (p : Program Names). NumbersFiles CloseByNumber [] p)
-      (come_in_parts 0 in_setup (said_in_kind After sections) done no_names ∙ (λ i. says 0 in_setup (says (none_before i) (said_in_kind After sections) done) no_names) ∙ says_then 0 in_setup behind_setup no_names)
-      (files_close_by_number (in_setup ++ said_in_kind After sections))
+  number_both = subst (λ (p : Program Names). NumbersFiles CloseByNumber [] p) (says_then 0 in_setup behind_setup setup_names)
+      (setup_closes_by_number in_setup (said_in_kind After sections))
 
   to_the_end : (names : Names) → after_of sections names ≡ then_by (behind_setup names) quits
-  to_the_end names = says_then (length in_setup) (said_in_kind After sections) quits names
+  to_the_end names = says_then (length in_setup) (said_in_kind After sections) quits (left_setup names)
 
 no_deeds : (did : List OneDeed) → entries_in did ≡ [] → did ≡ []
 no_deeds [] none = refl

@@ -26,7 +26,7 @@ use Rattle.gl_check.specs.One.{is_kind, said_in_kind}
 use Rattle.gl_check.specs.Turns.{Carried, Played, carried, did_by}
 use Rattle.gl_session.specs.Within.{cost_in_kind}
 use Rattle.gl_session.proofs.Silence.{actor_at}
-use Rattle.gl_session.proofs.Within.{entries_within_cost, sessions_cost_their_parts}
+use Rattle.gl_session.proofs.Within.{costs_no_more, entries_within_cost, sessions_cost_their_parts}
 
 -- how many entries so many actors have, from this number on
 abbrev pub count : ℕ → ℕ → List OneEntry → ℕ
@@ -102,7 +102,7 @@ played_within driver n limit program s r text did names es costs h entries =
 
 pub within_cost : (driver : DriverKind) (before left : ℕ → Option Told) (sections : List SaidSection) (history : List OneEntry) (texts : Texts) → AllPlayed driver before left sections history texts → length history ≤ session_cost sections
 within_cost driver before left sections history texts h =
-    let costs = sessions_cost_their_parts sections in let whole = costs.whole in
+    let costs = sessions_cost_their_parts sections in let whole = costs.whole in let most = costs_no_more sections in
     let actors : ℕ = length (actor_sections sections) in let many = h.as_many in
     let first = played_within driver 0 (cost_in_kind Setup sections) (setup_of sections) (carried [] (before 0)) h.waiting texts.setup (deeds_of core 0 h.first) h.names (entries_of 0 h.first) costs.setup h.setup
     (deeds_entries core core.opening 0 h.first) in

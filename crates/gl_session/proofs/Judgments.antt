@@ -2,6 +2,7 @@
 use Rattle.std.proofs.Common.{◌≡◌, ◌≤◌, ◌<◌, ◌⊎◌, inl, inr, ℕ, Bool, true, false, List, [], ◌++◌, length, Option, None, Some, IfSome, nat_lt, nat_le, not, is_some, ◌&&◌, refl, sym, ◌∙◌, ap, subst, arith, length-append}
 use Rattle.std.proofs.lemmas.Bool.Decides.{nat_tests}
 use Rattle.std.proofs.lemmas.List.{append-nil}
+use Rattle.gl_script.specs.Cost.{has_aggregate}
 use Rattle.gl_script.specs.Section.{SaidSection}
 use Rattle.gl_script.specs.Sentence.{Sentence, first_fault, sections_said}
 use Rattle.gl_script.specs.declared.refusal.Refusal.{Refusal}
@@ -41,14 +42,15 @@ no_header input h e = parts_verdict input Header h (subst (λ (o : Option Parts)
 pub session_verdict : (input : List ℕ) (parts : Parts) (verdict : Verdict) → length input ≤ CHECK_MAX → header_of input ≡ Some parts → IsSessionVerdict (is_judged parts.session) parts verdict → IsVerdict input verdict
 session_verdict input parts verdict h e s = parts_verdict input verdict h (subst (λ (o : Option Parts). IsPartsVerdict o verdict) (sym e) s)
 
--- a session with a fault, and one of few actors, can't be judged
+-- a session with a fault, one of few actors, and one with an `aggregate` can't be judged
 is_fault : (fault : Option Refusal) (refusal : Refusal) (more : Bool) → fault ≡ Some refusal → (not (is_some fault) && more) ≡ false
 is_fault None refusal more e = cc
 is_fault (Some fault) refusal more e = refl
 
 pub faulty_session : (parts : Parts) (refusal : Refusal) → first_fault parts.session ≡ Some refusal → IsSessionVerdict (is_judged parts.session) parts NoSession
 faulty_session parts refusal e =
-    let test : is_judged parts.session ≡ false = is_fault (first_fault parts.session) refusal (nat_le 2 (length (actor_sections (sections_said parts.session)))) e in
+    let test : is_judged parts.session ≡ false =
+    is_fault (first_fault parts.session) refusal (nat_le 2 (length (actor_sections (sections_said parts.session))) && not (has_aggregate (sections_said parts.session))) e in
     subst (λ (b : Bool). IsSessionVerdict b parts NoSession) (sym test) refl
 
 second_fails : (a b : Bool) → b ≡ false → (a && b) ≡ false
@@ -59,13 +61,21 @@ pub lone_session : (parts : Parts) (sections : List SaidSection) → Sentence pa
 lone_session parts sections s few =
     let fewer : length (actor_sections (sections_said parts.session)) < 2 = subst (λ (l : List SaidSection). length (actor_sections l) < 2) s.says few in
     let test : nat_le 2 (length (actor_sections (sections_said parts.session))) ≡ false = grind (arith, nat_tests, fewer) in
-    let judged : is_judged parts.session ≡ false = second_fails (not (is_some (first_fault parts.session))) (nat_le 2 (length (actor_sections (sections_said parts.session)))) test in
+    let judged : is_judged parts.session ≡ false = second_fails (not (is_some (first_fault parts.session))) (nat_le 2 (length (actor_sections (sections_said parts.session))) && not (has_aggregate (sections_said parts.session)))
+    (ap (λ b. b && not (has_aggregate (sections_said parts.session))) test) in
     subst (λ (b : Bool). IsSessionVerdict b parts NoSession) (sym judged) refl
 
-pub output_verdict : (parts : Parts) (sections : List SaidSection) (verdict : Verdict) → Sentence parts.session sections → 2 ≤ length (actor_sections sections) → IsOutputVerdict sections (history_in parts.output) verdict
-    → IsSessionVerdict (is_judged parts.session) parts verdict
-output_verdict parts sections verdict s many h =
-    let judged : is_judged parts.session ≡ true = says_judged parts.session sections s many in
+pub aggregating_session : (parts : Parts) (sections : List SaidSection) → Sentence parts.session sections → has_aggregate sections ≡ true → IsSessionVerdict (is_judged parts.session) parts NoSession
+aggregating_session parts sections s has =
+    let test : has_aggregate (sections_said parts.session) ≡ true = subst (λ (l : List SaidSection). has_aggregate l ≡ true) s.says has in
+    let judged : is_judged parts.session ≡ false = second_fails (not (is_some (first_fault parts.session))) (nat_le 2 (length (actor_sections (sections_said parts.session))) && not (has_aggregate (sections_said parts.session)))
+    (second_fails (nat_le 2 (length (actor_sections (sections_said parts.session)))) (not (has_aggregate (sections_said parts.session))) (ap not test)) in
+    subst (λ (b : Bool). IsSessionVerdict b parts NoSession) (sym judged) refl
+
+pub output_verdict : (parts : Parts) (sections : List SaidSection) (verdict : Verdict) → Sentence parts.session sections → 2 ≤ length (actor_sections sections) → has_aggregate sections ≡ false
+    → IsOutputVerdict sections (history_in parts.output) verdict → IsSessionVerdict (is_judged parts.session) parts verdict
+output_verdict parts sections verdict s many without h =
+    let judged : is_judged parts.session ≡ true = says_judged parts.session sections s many without in
     subst (λ (b : Bool). IsSessionVerdict b parts verdict) (sym judged) (subst (λ (l : List SaidSection). IsOutputVerdict l (history_in parts.output) verdict) s.says h)
 
 -- an output without a history, and one with it

@@ -5,6 +5,7 @@ use Rattle.std.specs.Str.{bytes_eq}
 use Rattle.std.proofs.lemmas.Bool.Decides.{nat_tests}
 use Rattle.std.proofs.lemmas.Slice.Eq.{bytes_eq-Decides}
 use Rattle.gl_base.specs.declared.limits.TheConstants.{COST_MAX}
+use Rattle.gl_script.specs.Cost.{has_aggregate}
 use Rattle.gl_script.specs.Section.{SaidSection}
 use Rattle.gl_script.specs.Sentence.{Sentence, first_fault, sections_said}
 use Rattle.gl_script.specs.declared.refusal.Refusal.{Refusal}
@@ -33,18 +34,25 @@ no_fault : (fault : Option Refusal) → not (is_some fault) ≡ true → fault �
 no_fault None e = refl
 no_fault (Some fault) e = cc
 
--- a session that can be judged is a sentence of several actors
-judged_says : (session : List ℕ) → is_judged session ≡ true → Sentence session (sections_said session) × (2 ≤ length (actor_sections (sections_said session)))
-judged_says session e =
-    let p = both_true (not (is_some (first_fault session))) (nat_le 2 (length (actor_sections (sections_said session)))) e in
-    let many = p.1 in
-    (record { faultless = no_fault (first_fault session) p.0; says = refl }, grind (arith, nat_tests, many))
+is_without : (b : Bool) → not b ≡ true → b ≡ false
+is_without true e = cc
+is_without false e = refl
 
-pub says_judged : (session : List ℕ) (sections : List SaidSection) → Sentence session sections → 2 ≤ length (actor_sections sections) → is_judged session ≡ true
-says_judged session sections s many =
+-- a session that can be judged is a sentence of several actors without `aggregate`
+judged_says : (session : List ℕ) → is_judged session ≡ true
+    → Sentence session (sections_said session) × (2 ≤ length (actor_sections (sections_said session))) × (has_aggregate (sections_said session) ≡ false)
+judged_says session e =
+    let p = both_true (not (is_some (first_fault session))) (nat_le 2 (length (actor_sections (sections_said session))) && not (has_aggregate (sections_said session))) e in
+    let q = both_true (nat_le 2 (length (actor_sections (sections_said session)))) (not (has_aggregate (sections_said session))) p.1 in
+    let many = q.0 in
+    (record { faultless = no_fault (first_fault session) p.0; says = refl }, grind (arith, nat_tests, many), is_without (has_aggregate (sections_said session)) q.1)
+
+pub says_judged : (session : List ℕ) (sections : List SaidSection) → Sentence session sections → 2 ≤ length (actor_sections sections) → has_aggregate sections ≡ false → is_judged session ≡ true
+says_judged session sections s many without =
     let some : 2 ≤ length (actor_sections (sections_said session)) = subst (λ (l : List SaidSection). 2 ≤ length (actor_sections l)) s.says many in
     let test : nat_le 2 (length (actor_sections (sections_said session))) ≡ true = grind (arith, nat_tests, some) in
-    (λ i. not (is_some (s.faultless i)) && test i)
+    let none : has_aggregate (sections_said session) ≡ false = subst (λ (l : List SaidSection). has_aggregate l ≡ false) s.says without in
+    (λ i. not (is_some (s.faultless i)) && (test i && not (none i)))
 
 -- entries and texts of a verdict `yes`
 same_if : (b : Bool) → Yes ≡ (if b then Yes else NoText) → b ≡ true
@@ -101,6 +109,7 @@ module _ (judges : MisfitIsNoneForMany) (back : HistoriesAreReadBack) (alone : H
         is = is ∙ ap (check_text parts.session) o.is;
         sentence = said.0;
         several = said.1;
+        without = said.2;
         many = sound.0;
         planned = sound.1;
         told = o.told;
@@ -146,13 +155,13 @@ module _ (judges : MisfitIsNoneForMany) (back : HistoriesAreReadBack) (alone : H
       let long : IsLongVerdict false input verdict = subst (λ (b : Bool). IsLongVerdict b input verdict) (within_test CHECK_MAX (length input) l.within) h in
       let header : header_of input ≡ Some parts = ap header_of l.is ∙ header_back l.session printed (short l.session l.sections l.sentence) in
       let begun : IsPartsVerdict (Some parts) verdict = subst (λ (o : Option Parts). IsPartsVerdict o verdict) header long in
-      let judged : IsSessionVerdict true parts verdict = subst (λ (b : Bool). IsSessionVerdict b parts verdict) (says_judged l.session l.sections l.sentence l.several) begun in
+      let judged : IsSessionVerdict true parts verdict = subst (λ (b : Bool). IsSessionVerdict b parts verdict) (says_judged l.session l.sections l.sentence l.several l.without) begun in
       let said : IsOutputVerdict l.sections (history_in printed) verdict = subst (λ (s : List SaidSection). IsOutputVerdict s (history_in printed) verdict) (sym l.sentence.says) judged in
       lawful_output input l verdict (subst (λ (f : History). IsOutputVerdict l.sections f verdict) (history_read input l) said)
 
 -- what a run of several actors printed is a lawful run
 pub runs_are_lawful : (driver : DriverKind) → RunsAreLawful driver
-runs_are_lawful driver is session sections before left text sentence several run new within =
+runs_are_lawful driver is session sections before left text sentence several without run new within =
     let played = played_plainly driver before left sections run.history run.texts run.came.ports in record {
       session = session;
       sections = sections;
@@ -162,6 +171,7 @@ runs_are_lawful driver is session sections before left text sentence several run
       is = ap (check_text session) run.prints;
       sentence = sentence;
       several = several;
+      without = without;
       many = many_played (as_plain driver) before left sections run.history run.texts played;
       planned = planned_played (as_plain driver) before left sections run.history run.texts is new played;
       told = run.told;

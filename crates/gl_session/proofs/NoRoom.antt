@@ -32,7 +32,7 @@ use Rattle.gl_session.proofs.Counting.{actors_cost, count, count_all, count_cost
 use Rattle.gl_session.proofs.OneHistories.{length_entries}
 use Rattle.gl_session.proofs.Together.{costs, count_below, made, section_at}
 use Rattle.gl_session.proofs.Whole.{call_of, stops_in_setup}
-use Rattle.gl_session.proofs.Within.{calls_come_below_cost, entries_within_cost, sessions_cost_their_parts}
+use Rattle.gl_session.proofs.Within.{calls_come_below_cost, costs_no_more, entries_within_cost, sessions_cost_their_parts}
 
 no_longer : (whole seen : List OneEntry) → StartsWith whole seen → length seen ≤ length whole
 no_longer whole seen h = let l = length-append seen h.0 in let e : length whole ≡ length (seen ++ h.0) = ap (λ (es : List OneEntry). length es) h.1 in omega arith
@@ -124,7 +124,7 @@ module _ (driver : DriverKind) (sections : List SaidSection) (v0 : OneView) (tol
               ap (λ (l : List OneEntry). length l) (mine ∙ f.joined.mine ∙ f.split.mine ∙ own_are) ∙ length_entries (did_by setup.turns) in
               let fewer = others_below driver sections start f.left v1 w history all f.texts f.kept f.as_many f.errno f.stopped in
               let total = count_all (suc (length (actor_sections sections))) history (λ n far. others n (omega arith)) in
-              let whole = (sessions_cost_their_parts sections).whole in let own = few_own in
+              let whole = (sessions_cost_their_parts sections).whole in let most = costs_no_more sections in let own = few_own in
               let k = kept_nth driver sections start f.left v1 w history all 1 f.texts f.kept f.stopped.0 (1 + f.stopped.0) (Err f.errno) f.stopped.1 refl in
               let stood : IsKept driver (program_of sections) start f.left v1 w (1 + f.stopped.0) (Err f.errno) = subst (λ t. IsKept driver (program_of sections) start f.left v1 w (1 + f.stopped.0) t) f.stopped.2 k in
               let full : session_cost sections ≤ length stood.saw = subst (λ r. r ≤ length stood.saw) room_is stood.came.full in
@@ -153,7 +153,7 @@ module _ (driver : DriverKind) (sections : List SaidSection) (v0 : OneView) (tol
               let as_many : length (map Ok texts) ≡ length (actor_sections sections) = length-map texts Ok ∙ f.as_many in
               let others_few = others_within driver sections (told_at tells ports) (told_at tells ports_then) v1 w history (subst (λ l. HasAllOf l history) grew.joined all) (map Ok texts) f.kept as_many in
               let total = count_all (suc (length (actor_sections sections))) history (λ n far. others n (omega arith)) in
-              let whole = (sessions_cost_their_parts sections).whole in let own = few_own in
+              let whole = (sessions_cost_their_parts sections).whole in let most = costs_no_more sections in let own = few_own in
               let call = call_of (asking s.then.files s.what) s.full.0 in
               let fewer = calls_come_below_cost driver w.number (cost_in_kind After sections) (after_of sections names) (carried waiting.files between) s.turns s.what s.rest s.then call.0 ((sessions_cost_their_parts sections).last names) s.follows call.1 in
               let full : session_cost sections ≤ length x.seen = subst (λ r. r ≤ length x.seen) (s.grew.room ∙ f.joined.room ∙ f.split.room ∙ room_is) s.full.1.full in

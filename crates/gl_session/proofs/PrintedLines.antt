@@ -8,7 +8,7 @@ use Rattle.gl_client.specs.Program.{Program, done}
 use Rattle.gl_driver.specs.Told.{Told}
 use Rattle.gl_script.specs.Section.{SaidSection}
 use Rattle.gl_script.specs.declared.section.SectionKind.TheVariants.{Setup, After}
-use Rattle.gl_talk.specs.Open.{Names, no_names}
+use Rattle.gl_talk.specs.Open.{Names, left_setup, no_names, setup_names}
 use Rattle.gl_talk.specs.Talk.{quits}
 use Rattle.gl_talk.proofs.TalkPrints.{end_lines, says_lines}
 use Rattle.gl_core.specs.Device.{OneDeed, OneEntry}
@@ -37,10 +37,10 @@ played_lines driver actor p s text did value r lines h = ap ends_lines h.text_is
 
 -- what each part of a session carries out prints whole lines
 setup_lines : (sections : List SaidSection) → PrintsLines (setup_of sections)
-setup_lines sections = says_lines 0 (said_in_kind Setup sections) done (λ names. tt) no_names
+setup_lines sections = says_lines 0 (said_in_kind Setup sections) done (λ names. tt) setup_names
 
 after_lines : (sections : List SaidSection) (names : Names) → PrintsLines (after_of sections names)
-after_lines sections names = says_lines (length (said_in_kind Setup sections)) (said_in_kind After sections) quits end_lines names
+after_lines sections names = says_lines (length (said_in_kind Setup sections)) (said_in_kind After sections) quits end_lines (left_setup names)
 
 actor_lines : (sections : List SaidSection) (n : ℕ) → PrintsLines (program_of sections n)
 actor_lines sections n = says_lines 0 (words_of (get_or (actor_sections sections) (n - 1) no_section)) quits end_lines no_names

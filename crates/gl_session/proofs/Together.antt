@@ -22,7 +22,7 @@ use Rattle.gl_check.specs.Turns.{Turn, carried, did_by}
 use Rattle.gl_session.specs.Together.{ActorsAtWorkHaveRoom, AtWork, BeforeCall, SoFar}
 use Rattle.gl_session.specs.Within.{cost_in_kind}
 use Rattle.gl_session.proofs.Counting.{actors_cost, count, count_all, count_costs, entries_length, played_within, section_costs}
-use Rattle.gl_session.proofs.Within.{calls_come_below_cost, entries_within_cost, sessions_cost_their_parts}
+use Rattle.gl_session.proofs.Within.{calls_come_below_cost, costs_no_more, entries_within_cost, sessions_cost_their_parts}
 
 abbrev pub section_at : List SaidSection → ℕ → SaidSection
 section_at sections i = get_or (actor_sections sections) i no_section
@@ -72,7 +72,7 @@ module _ (driver : DriverKind) (before : ℕ → Option Told) (sections : List S
 pub actors_at_work_have_room : (driver : DriverKind) → ActorsAtWorkHaveRoom driver
 actors_at_work_have_room driver before sections history w zero positive low b = absurd (omega arith)
 actors_at_work_have_room driver before sections history w (suc m) positive low b =
-    let parts = sessions_cost_their_parts sections in let whole = parts.whole in
+    let parts = sessions_cost_their_parts sections in let whole = parts.whole in let most = costs_no_more sections in
     let first = played_within driver 0 (cost_in_kind Setup sections) (setup_of sections) (carried [] (before 0)) w.setup.behind w.setup.text w.setup.did w.setup.names (entries_of 0 history) parts.setup w.setup.played
     (ap (λ (l : List OneDeed). entries_in l) (sym w.first) ∙ deeds_entries core core.opening 0 history) in
     let middle = count_below section_costs history 1 (actor_sections sections) (λ i less. one_within driver before sections history w i less) m (omega arith) (one_below driver before sections history w m b) in

@@ -11,7 +11,7 @@ use Rattle.gl_base.specs.declared.errno.Errno.{Errno}
 use Rattle.gl_base.specs.declared.errno.Errno.TheVariants.{NoEnt, Inval}
 use Rattle.gl_base.specs.declared.limits.TheConstants.{PLACES}
 use Rattle.gl_base.specs.declared.operation.Do.{Do}
-use Rattle.gl_base.specs.declared.operation.Do.TheVariants.{Probe as DoProbe, Unplug as DoUnplug, MakeDir as DoMakeDir, RemoveDir as DoRemoveDir, Write as DoWrite, Read as DoRead, Live as DoLive, Tick as DoTick, Pin as DoPin, Irq as DoIrq, Pull as DoPull, Level as DoLevel, OpenChip as DoOpenChip, Find as DoFind, Ioctl as DoIoctl, ReadFile, Poll, Close as DoClose, Plan, Accept}
+use Rattle.gl_base.specs.declared.operation.Do.TheVariants.{Probe as DoProbe, Unplug as DoUnplug, MakeDir as DoMakeDir, RemoveDir as DoRemoveDir, Write as DoWrite, Read as DoRead, Live as DoLive, Tick as DoTick, Pin as DoPin, Irq as DoIrq, Pull as DoPull, Level as DoLevel, OpenChip as DoOpenChip, Find as DoFind, Ioctl as DoIoctl, ReadFile, Poll, Close as DoClose, Plan, Accept, Aggregate}
 use Rattle.gl_base.specs.declared.operation.Got.{Got}
 use Rattle.gl_uapi.specs.Command.{command_of, commands, number_of}
 use Rattle.gl_uapi.specs.declared.commands.Command.{Command}
@@ -34,11 +34,11 @@ use Rattle.gl_model.specs.declared.device_call.DeviceCall.{DeviceCall}
 use Rattle.gl_model.specs.declared.device_call.DeviceCall.TheVariants.{Once, Removing, Commanding}
 use Rattle.gl_model.specs.Parts.{MakesAt, MakesCommand, MakesInside, MakesOne, MakesRest, MakesTwo, guard_of, is_driver_asked}
 use Rattle.gl_script.specs.Columns.{columns}
-use Rattle.gl_script.specs.Cost.{section_cost, session_cost, statement_cost, words_cost}
+use Rattle.gl_script.specs.Cost.{has_aggregate, section_cost, session_cost, statement_cost, statements_cost, with_own, words_cost}
 use Rattle.gl_script.specs.Section.{SaidSection}
 use Rattle.gl_script.specs.declared.section.SectionKind.{SectionKind}
 use Rattle.gl_script.specs.declared.section.SectionKind.TheVariants.{Setup, Actor, After}
-use Rattle.gl_talk.specs.Open.{Names, no_names}
+use Rattle.gl_talk.specs.Open.{Names, left_setup, no_names, setup_names}
 use Rattle.gl_talk.specs.Talk.{quits}
 use Rattle.gl_talk.proofs.StatementCosts.{end_cost, says_cost}
 use Rattle.gl_asking.specs.Opened.{ChipFile, opened_of}
@@ -192,6 +192,7 @@ op_most files (Poll slot) = on_file_most (file_in slot files) _ 1 (λ f. omega a
 op_most files (DoClose slot) = on_file_most (file_in slot files) _ 1 (λ f. omega arith)
 op_most files (Plan nth) = tt
 op_most files (Accept bits) = tt
+op_most files (Aggregate label slots count) = tt
 
 -- The open files after an operation
 
@@ -271,6 +272,7 @@ module _ (driver : DriverKind) (actor : ℕ) where
           closes (Some file) found is = let fewer = closes_one (is_in slot) files file found in omega arith
       by (Plan nth) most is = omega arith
       by (Accept bits) most is = omega arith
+      by (Aggregate label slots count) most is = omega arith
 
   -- turns one after another
   within : (turns : List Turn) (n : ℕ) (program : Program Names) (s : Carried) (rest : Program Names) (r : Carried) → CostsAtMost n program → Follows driver actor program s turns rest r
@@ -334,6 +336,7 @@ call_costs files (DoClose slot) call is = by (file_in slot files) refl
     by (Some file) found = let fewer = closes_one (is_in slot) files file found in omega arith
 call_costs files (Plan nth) call is = absurd (true≢false (sym (ap is_call is)))
 call_costs files (Accept bits) call is = absurd (true≢false (sym (ap is_call is)))
+call_costs files (Aggregate label slots count) call is = absurd (true≢false (sym (ap is_call is)))
 
 pub calls_come_below_cost : (driver : DriverKind) → CallsComeBelowCost driver
 calls_come_below_cost driver actor n program s turns what later r call costs follows is =
@@ -348,7 +351,7 @@ lines_cost (line ∷ lines) = sum_by-cons words_cost (columns line.text) (map (�
 abbrev told_in : SaidSection → List SaidSection → SectionKind → SectionKind → List (List Span)
 told_in section sections kind k = if is_kind kind k then map (λ line. columns line.text) section.statements ++ said_in_kind kind sections else said_in_kind kind sections
 
-kinds_cost : (sections : List SaidSection) → cost_in_kind Setup sections + cost_in_kind Actor sections + cost_in_kind After sections ≡ session_cost sections
+kinds_cost : (sections : List SaidSection) → cost_in_kind Setup sections + cost_in_kind Actor sections + cost_in_kind After sections ≡ statements_cost sections
 kinds_cost [] = refl
 kinds_cost (section ∷ sections) = by section.kind (kinds_cost sections) ∙ sym (sum_by-cons section_cost section sections)
   where
@@ -361,16 +364,24 @@ kinds_cost (section ∷ sections) = by section.kind (kinds_cost sections) ∙ sy
     more : (kind : SectionKind) → sum_by words_cost (map (λ line. columns line.text) section.statements ++ said_in_kind kind sections) ≡ section_cost section + cost_in_kind kind sections
     more kind = sum_by-append words_cost said (said_in_kind kind sections) ∙ ap (λ n. n + cost_in_kind kind sections) here
 
-    by : (k : SectionKind) → cost_in_kind Setup sections + cost_in_kind Actor sections + cost_in_kind After sections ≡ session_cost sections → sum_by words_cost (told_in section sections Setup k) + sum_by words_cost (told_in section sections Actor k) + sum_by words_cost (told_in section sections After k) ≡ section_cost section + session_cost sections
+    by : (k : SectionKind) → cost_in_kind Setup sections + cost_in_kind Actor sections + cost_in_kind After sections ≡ statements_cost sections → sum_by words_cost (told_in section sections Setup k) + sum_by words_cost (told_in section sections Actor k) + sum_by words_cost (told_in section sections After k) ≡ section_cost section + statements_cost sections
     by Setup rest = let m = more Setup in omega arith
     by Actor rest = let m = more Actor in omega arith
     by After rest = let m = more After in omega arith
 
+-- statements cost no more than their session
+pub costs_no_more : (sections : List SaidSection) → statements_cost sections ≤ session_cost sections
+costs_no_more sections = by (has_aggregate sections)
+  where
+    by : (b : Bool) → statements_cost sections ≤ with_own b (statements_cost sections)
+    by true = omega arith
+    by false = omega arith
+
 pub sessions_cost_their_parts : SessionsCostTheirParts
 sessions_cost_their_parts sections = record {
-  setup = says_cost 0 (said_in_kind Setup sections) done (λ names. tt) no_names;
+  setup = says_cost 0 (said_in_kind Setup sections) done (λ names. tt) setup_names;
   actor = says_cost 0 (said_in_kind Actor sections) quits end_cost no_names;
-  last = λ names. says_cost (length (said_in_kind Setup sections)) (said_in_kind After sections) quits end_cost names;
+  last = λ names. says_cost (length (said_in_kind Setup sections)) (said_in_kind After sections) quits end_cost (left_setup names);
   whole = kinds_cost sections;
 }
 
@@ -380,7 +391,7 @@ sessions_keep_within_cost driver sections before left text did p = let costs = s
     let middle = part_within driver 0 _ [] p.setup.behind.told p.actor (cost_in_kind Actor sections) refl costs.actor in
     let end = part_within driver 0 _ p.setup.behind.files p.actor.behind.told p.last (cost_in_kind After sections) refl (costs.last p.setup.names) in
     let all : length did ≡ length (p.setup.did ++ (p.actor.did ++ p.last.did)) = ap (λ (l : List OneDeed). length l) p.did_is in
-    let outer = length-append p.setup.did (p.actor.did ++ p.last.did) in let inner = length-append p.actor.did p.last.did in let whole = costs.whole in omega arith
+    let outer = length-append p.setup.did (p.actor.did ++ p.last.did) in let inner = length-append p.actor.did p.last.did in let whole = costs.whole in let most = costs_no_more sections in omega arith
 
 stop_below : (driver : DriverKind) (program : Program Names) (files : List OpenFile) (told : Option Told) (stop : Stop driver program files told) (n : ℕ) → CostsAtMost n program
     → length (did_by stop.turns) < n + length files
@@ -388,13 +399,13 @@ stop_below driver program files told stop n costs = calls_come_below_cost driver
 
 pub calls_have_room : (driver : DriverKind) → CallsHaveRoom driver
 calls_have_room driver = record {
-  in_setup = λ sections before stop. let costs = sessions_cost_their_parts sections in let whole = costs.whole in
+  in_setup = λ sections before stop. let costs = sessions_cost_their_parts sections in let whole = costs.whole in let most = costs_no_more sections in
       let below = stop_below driver (setup_of sections) [] before stop (cost_in_kind Setup sections) costs.setup in omega arith;
-  in_actor = λ sections before setup stop. let costs = sessions_cost_their_parts sections in let whole = costs.whole in
+  in_actor = λ sections before setup stop. let costs = sessions_cost_their_parts sections in let whole = costs.whole in let most = costs_no_more sections in
       let first = part_within driver 0 (setup_of sections) [] before setup (cost_in_kind Setup sections) refl costs.setup in
       let below = stop_below driver (actor_of sections) [] setup.behind.told stop (cost_in_kind Actor sections) costs.actor in
       let all = length-append setup.did (did_by stop.turns) in omega arith;
-  in_after = λ sections before setup actor stop. let costs = sessions_cost_their_parts sections in let whole = costs.whole in
+  in_after = λ sections before setup actor stop. let costs = sessions_cost_their_parts sections in let whole = costs.whole in let most = costs_no_more sections in
       let first = part_within driver 0 (setup_of sections) [] before setup (cost_in_kind Setup sections) refl costs.setup in
       let middle = part_within driver 0 (actor_of sections) [] setup.behind.told actor (cost_in_kind Actor sections) refl costs.actor in
       let below = stop_below driver (after_of sections setup.names) setup.behind.files actor.behind.told stop (cost_in_kind After sections) (costs.last setup.names) in

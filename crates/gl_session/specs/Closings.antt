@@ -9,7 +9,7 @@ use Rattle.gl_client.specs.Program.{Program, done}
 use Rattle.gl_driver.specs.Told.{Told}
 use Rattle.gl_script.specs.Section.{SaidSection}
 use Rattle.gl_script.specs.declared.section.SectionKind.TheVariants.{Setup, Actor, After}
-use Rattle.gl_talk.specs.Open.{Names, no_names}
+use Rattle.gl_talk.specs.Open.{Names, left_setup, no_names}
 use Rattle.gl_talk.specs.Talk.{quits, says}
 use Rattle.gl_core.specs.Device.{OneDeed, OneEntry, core}
 use Rattle.gl_session.specs.Alone.{IsAlone, PlayedSession}
@@ -64,7 +64,7 @@ abbrev pub section_statements : List SaidSection → ℕ → Program Names
 section_statements sections n = says 0 (words_of (get_or (actor_sections sections) (n - 1) no_section)) done no_names
 
 abbrev pub after_statements : List SaidSection → Names → Program Names
-after_statements sections names = says (length (said_in_kind Setup sections)) (said_in_kind After sections) done names
+after_statements sections names = says (length (said_in_kind Setup sections)) (said_in_kind After sections) done (left_setup names)
 
 -- So each actor's section ends in a legal history of several actors, and so does the talk of `setup` and `after`: of these the end
 -- closes what either left open, and it stands after `after`.

@@ -3,6 +3,7 @@
 use Rattle.std.specs.Prelude.{◌≡◌, ◌⊎◌, ℕ, ◌+◌, ◌≤◌, Bool, true, false, ◌&&◌, is_some, not, nat_le, nat_lt, if◌then◌else◌, List, ◌∷◌, ◌++◌, length, take, drop, Option, None, Some, codes}
 use Rattle.std.specs.Str.{bytes_eq}
 use Rattle.gl_base.specs.Words.{pieces}
+use Rattle.gl_script.specs.Cost.{has_aggregate}
 use Rattle.gl_script.specs.Section.{SaidSection}
 use Rattle.gl_script.specs.Sentence.{Sentence, first_fault, sections_said}
 use Rattle.gl_script.specs.declared.limits.TheConstants.{SESSION_MAX}
@@ -75,9 +76,9 @@ header_by _ = None
 abbrev pub header_of : List ℕ → Option Parts
 header_of input = header_by (pieces 10 input)
 
--- a session that can be judged: it has no fault, and two or more actors
+-- a session that can be judged: it has no fault, two or more actors, and no `aggregate`
 abbrev pub is_judged : List ℕ → Bool
-is_judged session = not (is_some (first_fault session)) && nat_le 2 (length (actor_sections (sections_said session)))
+is_judged session = not (is_some (first_fault session)) && (nat_le 2 (length (actor_sections (sections_said session))) && not (has_aggregate (sections_said session)))
 
 -- where no entry is at fault the texts decide, which are those of the history
 abbrev pub texts_verdict : List SaidSection → List ℕ → List OneEntry → Verdict
@@ -117,8 +118,8 @@ IsVerdict input verdict = IsLongVerdict (nat_lt CHECK_MAX (length input)) input 
 abbrev pub check_text : List ℕ → List ℕ → List ℕ
 check_text session printed = numbered_line (codes "check") (length session) ++ (session ++ printed)
 
--- An input is a lawful run: it is within its length, and is a header, a session of several actors, and the Output of some texts and some
--- history with Many and PlannedTells. Its entries' numbers and texts are of their types.
+-- An input is a lawful run: it is within its length, and is a header, a session of several actors without `aggregate`, and the Output of
+-- some texts and some history with Many and PlannedTells. Its entries' numbers and texts are of their types.
 pub record IsLawful (input : List ℕ) : Type 0 where
   pub session : List ℕ
   pub sections : List SaidSection
@@ -128,6 +129,7 @@ pub record IsLawful (input : List ℕ) : Type 0 where
   pub is : input ≡ check_text session (output sections texts history)
   pub sentence : Sentence session sections
   pub several : 2 ≤ length (actor_sections sections)
+  pub without : has_aggregate sections ≡ false
   pub many : Many plain sections history texts
   pub planned : PlannedTells plain sections history texts
   pub told : AreTold 0 history

@@ -6,7 +6,7 @@ use Rattle.gl_client.specs.Costs.{CostsAtMost}
 use Rattle.gl_client.specs.Program.{Program, ask}
 use Rattle.gl_driver.specs.Told.{Told}
 use Rattle.gl_model.specs.declared.device_call.DeviceCall.{DeviceCall}
-use Rattle.gl_script.specs.Cost.{session_cost, words_cost}
+use Rattle.gl_script.specs.Cost.{session_cost, statements_cost, words_cost}
 use Rattle.gl_script.specs.Section.{SaidSection}
 use Rattle.gl_script.specs.declared.section.SectionKind.{SectionKind}
 use Rattle.gl_script.specs.declared.section.SectionKind.TheVariants.{Setup, Actor, After}
@@ -36,12 +36,12 @@ CallsComeBelowCost driver = (actor n : ℕ) (program : Program Names) (s : Carri
 abbrev pub cost_in_kind : SectionKind → List SaidSection → ℕ
 cost_in_kind kind sections = sum_by words_cost (said_in_kind kind sections)
 
--- the three parts of a session cost what it costs
+-- the three parts of a session cost what its statements cost
 pub record PartsCost (sections : List SaidSection) : Type 0 where
   pub setup : CostsAtMost (cost_in_kind Setup sections) (setup_of sections)
   pub actor : CostsAtMost (cost_in_kind Actor sections) (actor_of sections)
   pub last : (names : Names) → CostsAtMost (cost_in_kind After sections) (after_of sections names)
-  pub whole : cost_in_kind Setup sections + cost_in_kind Actor sections + cost_in_kind After sections ≡ session_cost sections
+  pub whole : cost_in_kind Setup sections + cost_in_kind Actor sections + cost_in_kind After sections ≡ statements_cost sections
 
 abbrev pub SessionsCostTheirParts : Type 0
 SessionsCostTheirParts = (sections : List SaidSection) → PartsCost sections

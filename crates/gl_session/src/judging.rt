@@ -114,6 +114,9 @@ fn judge_script(
     if count_actors(script) < 2 {
         return Ok(Verdict::NoSession);
     }
+    if script.has_aggregate() {
+        return Ok(Verdict::NoSession);
+    }
     judge_output(alloc, script, output)
 }
 

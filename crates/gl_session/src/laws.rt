@@ -53,7 +53,7 @@ pub fn programs_keep_within_cost<D: Driver<Core>>()
     ensures before_a_call { CallsComeBelowCost (driver_kind D.ENTRIES D.is_planned D.OwnEntries D.Follows) }
 {}
 
-/// The three parts of a session cost together what it costs, and a session of one actor makes no more entries than that. So a
+/// The three parts of a session cost together what its statements cost, and a session of one actor makes no more entries than it costs. So a
 /// history with room for them is not full before any of its calls.
 pub fn sessions_keep_within_cost<D: Driver<Core>>()
     ensures parts { SessionsCostTheirParts }
@@ -88,8 +88,8 @@ pub fn actors_close_by_number<D: Driver<Core>>()
     ensures one_actor { OneActorClosesByNumber (driver_kind D.ENTRIES D.is_planned D.OwnEntries D.Follows) }
 {}
 
-/// A run that was printed is judged to be lawful exactly where it is: an input within its length whose session has two or more actors, and
-/// whose output is that of some texts and some history with Many and PlannedTells.
+/// A run that was printed is judged to be lawful exactly where it is: an input within its length whose session has two or more actors and no
+/// `aggregate`, and whose output is that of some texts and some history with Many and PlannedTells.
 pub fn lawful_runs_are_judged_so()
     ensures yes { YesIsLawful }
     ensures lawful { LawfulIsYes }
@@ -98,7 +98,8 @@ pub fn lawful_runs_are_judged_so()
     histories_are_read_back();
 }
 
-/// Each output that a session of several actors came to over new ports of a planned driver is a lawful run, where it isn't too long.
+/// Each output that a session of several actors without `aggregate` came to over new ports of a planned driver is a lawful run, where it
+/// isn't too long.
 pub fn runs_are_lawful<D: Driver<Core>>()
     ensures { RunsAreLawful (driver_kind D.ENTRIES D.is_planned D.OwnEntries D.Follows) }
 {}

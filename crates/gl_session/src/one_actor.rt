@@ -5,7 +5,7 @@ ghost use Rattle.gl_client.specs.Program.{done};
 ghost use Rattle.gl_rule.specs.Views.{newcomer};
 ghost use Rattle.gl_script.specs.Cost.{session_cost};
 ghost use Rattle.gl_script.specs.Script.{sections_of};
-ghost use Rattle.gl_talk.specs.Open.{Names, no_names};
+ghost use Rattle.gl_talk.specs.Open.{Names, setup_names};
 ghost use Rattle.gl_talk.specs.Talk.{names_in, quits, says};
 ghost use Rattle.gl_check.specs.Drivers.{driver_kind};
 ghost use Rattle.gl_check.specs.Programs.{actor_of};
@@ -133,7 +133,7 @@ fn play_parts<R: Wait, D: Driver<Core>>(
 ) -> Result<(), Errno>
     requires none { OwnsNothing D.OwnEntries }
     requires sized { IsSized (sections_of script.now) }
-    requires talk { (names_in talk.old ≡ no_names) × (talk.old.begun ≡ 0) }
+    requires talk { (names_in talk.old ≡ setup_names) × (talk.old.begun ≡ 0) }
     requires new { (player.old.carried.files ≡ []) × (player.old.text ≡ []) }
     requires first { player.old.view.number ≡ 0 }
     ensures device { player.new.gate ≡ player.old.gate }
@@ -149,6 +149,7 @@ fn play_parts<R: Wait, D: Driver<Core>>(
         Ok(()) => {}
         Err(errno) => return Err(errno),
     }
+    talk.leave_setup();
     match play_to_end(rt, alloc, player, talk, script, SectionKind::After) {
         Ok(()) => Ok(()),
         Err(errno) => Err(errno),
@@ -171,7 +172,7 @@ fn play_session<R: Wait, D: Driver<Core>>(
         player.old.view player.new.view) }
     ensures memory_alone { IsOkUnless result Errno.NoMemory }
 {
-    match Talk::new(alloc) {
+    match Talk::for_setup(alloc) {
         Ok(mut talk) => match play_parts(rt, alloc, player, &mut talk, script) {
             Ok(()) => Ok(player.take_text(alloc)),
             Err(errno) => {

@@ -6,7 +6,7 @@ ghost use Rattle.gl_rule.specs.Views.{newcomer};
 ghost use Rattle.gl_chip.specs.Values.{IsActorOf, IsQuietDriver};
 ghost use Rattle.gl_script.specs.Cost.{session_cost};
 ghost use Rattle.gl_script.specs.Script.{sections_of};
-ghost use Rattle.gl_talk.specs.Open.{no_names};
+ghost use Rattle.gl_talk.specs.Open.{setup_names};
 ghost use Rattle.gl_talk.specs.Talk.{names_in};
 ghost use Rattle.gl_session.specs.Many.{CameToMany};
 ghost use Rattle.gl_check.specs.Drivers.{driver_kind};
@@ -128,7 +128,7 @@ fn carry_parts<R: Threads + Wait + Sync, D: Driver<Core>>(
     requires first { first.old.view ≡ newcomer 0 (session_cost (sections_of script.now)) [] 1 [] [] }
     requires new { (first.old.carried.files ≡ []) × (first.old.text ≡ []) }
     requires sized { IsSized (sections_of script.now) }
-    requires talk { (names_in talk.old ≡ no_names) × (talk.old.begun ≡ 0) }
+    requires talk { (names_in talk.old ≡ setup_names) × (talk.old.begun ≡ 0) }
     requires count { (length (actor_sections (sections_of script.now)) < 256) × (length (actor_sections (sections_of script.now)) < length ports.old) }
     requires there { (n : ℕ) → 1 ≤ n → n < length ports.old → there_at ports.old n ≡ true }
     ensures device { first.new.gate ≡ first.old.gate }
@@ -147,6 +147,7 @@ fn carry_parts<R: Threads + Wait + Sync, D: Driver<Core>>(
         Err(errno) => return Err(errno),
     };
     let _number = first.number();
+    talk.leave_setup();
     match play_to_end(rt, alloc, first, talk, script, SectionKind::After) {
         Ok(()) => {
             let last = first.take_text(alloc);
@@ -181,7 +182,7 @@ fn carry_out<R: Threads + Wait + Sync, D: Driver<Core>>(
     ensures stopped { IfErr result (λ e. (e ≡ NoMemory) ⊎ CannotEnd first.new.view) }
     ensures ports_len { length ports.new ≡ length ports.old }
 {
-    match Talk::new(alloc) {
+    match Talk::for_setup(alloc) {
         Ok(mut talk) => carry_parts(rt, alloc, first, &mut talk, ports, script),
         Err(errno) => Err(errno),
     }

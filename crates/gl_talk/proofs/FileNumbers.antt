@@ -1,5 +1,5 @@
 -- Behind the statements of a talk the files have numbers in the order of their slots.
-use Rattle.std.proofs.Common.{◌≡◌, ◌≤◌, ◌<◌, ◌+◌, ◌||◌, ℕ, zero, suc, Bool, true, false, cond, List, [], ◌∷◌, ◌++◌, map, Option, None, Some, refl, sym, ◌∙◌, ap, subst, arith}
+use Rattle.std.proofs.Common.{◌≡◌, ◌≤◌, ◌<◌, ◌+◌, ◌||◌, ℕ, zero, suc, Bool, true, false, cond, List, [], ◌∷◌, ◌++◌, length, map, Option, None, Some, refl, sym, ◌∙◌, ap, subst, arith}
 use Rattle.std.specs.Prelude.{nat_eq, nat_lt}
 use Rattle.std.proofs.lemmas.Bool.Decides.{nat_tests}
 use Rattle.gl_base.specs.Operation.{refusal}
@@ -9,18 +9,18 @@ use Rattle.gl_base.specs.Words.{Span}
 use Rattle.gl_base.specs.declared.command.TheConstants.{GET_LINE}
 use Rattle.gl_base.specs.declared.errno.Errno.{Errno}
 use Rattle.gl_base.specs.declared.operation.Do.{Do}
-use Rattle.gl_base.specs.declared.operation.Do.TheVariants.{Probe, Unplug, MakeDir, RemoveDir, Write, Read, Live, Tick, Pin, Irq, Pull, Level, OpenChip, Find, Ioctl, ReadFile, Poll, Close, Plan, Accept}
+use Rattle.gl_base.specs.declared.operation.Do.TheVariants.{Probe, Unplug, MakeDir, RemoveDir, Write, Read, Live, Tick, Pin, Irq, Pull, Level, OpenChip, Find, Ioctl, ReadFile, Poll, Close, Plan, Accept, Aggregate}
 use Rattle.gl_base.specs.declared.operation.Got.{Got}
 use Rattle.gl_client.specs.Gives.{Gives}
 use Rattle.gl_client.specs.OpenSlots.{NamesOpenSlots, SameSlots, Where, one_if, slots_behind, times, with_opened}
 use Rattle.gl_client.specs.Program.{Program, done, print, ask, then_by}
 use Rattle.gl_client.proofs.OpenSlots.{is_there, same_number, times_without}
 use Rattle.gl_talk.specs.Files.{AreOpen}
-use Rattle.gl_talk.specs.Numbers.{CloseByNumber, FilesCloseByNumber, Numbered, NumbersFiles, has_less, has_slot, numbered_behind, with_number}
-use Rattle.gl_talk.specs.Open.{Names, no_names, open_slots}
+use Rattle.gl_talk.specs.Numbers.{CloseByNumber, FilesCloseByNumber, Numbered, NumbersFiles, SetupClosesByNumber, has_less, has_slot, numbered_behind, with_number}
+use Rattle.gl_talk.specs.Open.{Names, left_setup, no_names, open_slots, setup_names}
 use Rattle.gl_talk.specs.Talk.{does, says, slot_behind}
 use Rattle.gl_talk.proofs.OpenedSlots.{IsOneMore, Opens, OpensOnly, is_own, one_file_more, own_open, statement_opens}
-use Rattle.gl_talk.proofs.TalkFiles.{none_is_open_before, statement_names}
+use Rattle.gl_talk.proofs.TalkFiles.{none_is_open_before, none_is_open_before_setup, statement_names}
 use Rattle.gl_talk.proofs.TalkNames.{open_times, times_are}
 
 are_one : (x y : ℕ) → nat_eq x y ≡ true → x ≡ y
@@ -71,6 +71,7 @@ slots_same files (Poll slot) got number = refl
 slots_same files (Close slot) got number = slots_less slot files
 slots_same files (Plan nth) got number = refl
 slots_same files (Accept bits) got number = refl
+slots_same files (Aggregate label joined count) got number = refl
 
 -- A file is opened later than another: it has a greater number, and after one of before the statement a greater slot; after one
 -- of the statement's own there are such alone.
@@ -149,6 +150,7 @@ turn_behind base files (Poll slot) got number h own newest = h
 turn_behind base files (Close slot) got number h own newest = turn_less base slot files h
 turn_behind base files (Plan nth) got number h own newest = h
 turn_behind base files (Accept bits) got number h own newest = h
+turn_behind base files (Aggregate label joined count) got number h own newest = h
 
 -- a program's files are in turn
 module _ {A : Type 0} (base : ℕ) (P : A → List ℕ → Type 0) (Q : A → Type 0) where
@@ -337,11 +339,26 @@ module _ (begun : ℕ) (names : Names) (files : List Numbered) (b : Between begu
       (in_turn base (AreOpen (begun + 1)) (IsOneMore base) (does names base words) (slots_of files) files refl (all_in_turn base files all_before b.rise)
       (statement_names begun names (slots_of files) b.slots words) (statement_opens base names words) (one_file_more base names words none_before))
 
-says_keep : (begun : ℕ) (statements : List (List Span)) (names : Names) (files : List Numbered) → Between begun names files → NumbersFiles CloseByNumber files (says begun statements done names)
-says_keep begun [] names files b = between_closes begun names files b
-says_keep begun (words ∷ statements) names files b =
-    numbers_then (Between (begun + 1)) CloseByNumber (does names (slot_behind begun) words) (says (begun + 1) statements done) files (statement_keeps begun names files b words)
-    (λ value now still. says_keep (begun + 1) statements value now still)
+-- over statements, and what comes after them
+says_keep : (P : Names → List Numbered → Type 0) (behind : Names → Program Names) (begun after : ℕ) (statements : List (List Span)) (names : Names) (files : List Numbered) → begun + length statements ≡ after
+    → ((value : Names) (now : List Numbered) → Between after value now → NumbersFiles P now (behind value)) → Between begun names files → NumbersFiles P files (says begun statements behind names)
+says_keep P behind begun after [] names files e last b = last names files (subst (λ n. Between n names files) (omega (arith, e)) b)
+says_keep P behind begun after (words ∷ statements) names files e last b =
+    numbers_then (Between (begun + 1)) P (does names (slot_behind begun) words) (says (begun + 1) statements behind) files (statement_keeps begun names files b words)
+    (λ value now still. says_keep P behind (begun + 1) after statements value now (omega (arith, e)) last still)
 
 pub files_close_by_number : FilesCloseByNumber
-files_close_by_number statements = says_keep 0 statements no_names [] (record { slots = none_is_open_before; rise = tt })
+files_close_by_number statements =
+    says_keep CloseByNumber done 0 (length statements) statements no_names [] (omega arith) (λ value now b. between_closes (length statements) value now b)
+    (record { slots = none_is_open_before; rise = tt })
+
+-- the same names stand open in another section
+left_open : (begun : ℕ) (names : Names) (files : List Numbered) → Between begun names files → Between begun (left_setup names) files
+left_open begun names files b = record { slots = record { same = b.slots.same; apart = b.slots.apart; below = b.slots.below }; rise = b.rise }
+
+pub setup_closes_by_number : SetupClosesByNumber
+setup_closes_by_number setup later =
+    says_keep CloseByNumber (λ names. says (length setup) later done (left_setup names)) 0 (length setup) setup setup_names [] (omega arith)
+    (λ names now b. says_keep CloseByNumber done (length setup) (length setup + length later) later (left_setup names) now refl
+    (λ value after still. between_closes (length setup + length later) value after still) (left_open (length setup) names now b))
+    (record { slots = none_is_open_before_setup; rise = tt })

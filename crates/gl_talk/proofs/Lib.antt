@@ -10,6 +10,7 @@ pub mod Parts
 pub mod SlotOrder
 pub mod StatementCosts
 pub mod Staying
+pub mod TalkChips
 pub mod TalkFiles
 pub mod TalkNames
 pub mod TalkPrints

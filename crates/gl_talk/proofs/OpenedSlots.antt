@@ -8,7 +8,7 @@ use Rattle.gl_base.specs.Words.{Span, text_at}
 use Rattle.gl_base.specs.declared.command.TheConstants.{GET_LINE}
 use Rattle.gl_base.specs.declared.errno.Errno.{Errno}
 use Rattle.gl_base.specs.declared.operation.Do.{Do}
-use Rattle.gl_base.specs.declared.operation.Do.TheVariants.{Probe, Unplug, MakeDir, RemoveDir, Write, Read, Live, Tick, Pin, Irq, Pull, Level, OpenChip, Find, Ioctl, ReadFile, Poll, Close, Plan as PlanPort, Accept as AcceptPort}
+use Rattle.gl_base.specs.declared.operation.Do.TheVariants.{Probe, Unplug, MakeDir, RemoveDir, Write, Read, Live, Tick, Pin, Irq, Pull, Level, OpenChip, Find, Ioctl, ReadFile, Poll, Close, Plan as PlanPort, Accept as AcceptPort, Aggregate}
 use Rattle.gl_base.specs.declared.operation.Got.{Got}
 use Rattle.gl_client.specs.Entries.{IsKept}
 use Rattle.gl_client.specs.Gives.{Gives}
@@ -29,11 +29,11 @@ use Rattle.gl_talk.specs.declared.tools.StatementKind.{StatementKind}
 use Rattle.gl_talk.specs.declared.tools.StatementKind.TheVariants.{Plain, ToolAlone, Starting, Stepping, Stopping}
 use Rattle.gl_talk.specs.Old.{made_kind, old_command_word}
 use Rattle.gl_talk.specs.Open.{File, MonitorTool, Names, SetTool, has_tool, held_of_name, is_file, is_monitor, is_set, monitor_slots, set_slots, watched_of_name, without_monitor, without_set}
-use Rattle.gl_talk.specs.Actions.{action_of}
+use Rattle.gl_talk.specs.Actions.{action_here}
 use Rattle.gl_talk.specs.Talk.{acts, does, does_by, file, keeps_monitor, keeps_set, replied_by, runs, starts, starts_said, starts_tool, steps, stops}
 use Rattle.gl_talk.specs.ToolWords.{kind_of, word_texts}
 use Rattle.gl_talk.specs.Words.{behind_three, behind_two, bytes_said, made_name, name_word, turns_word}
-use Rattle.gl_talk.proofs.TalkNames.{ActionFits, file_times, monitor_more, one_more, open_times, action_at, set_more}
+use Rattle.gl_talk.proofs.TalkNames.{ActionFits, file_times, monitor_more, one_more, open_times, here_at, set_more}
 use Rattle.gl_values.specs.Client.{held_program, tool_program}
 use Rattle.gl_values.specs.Set.{Held}
 use Rattle.gl_values.specs.Set.{stops as stops_holding}
@@ -89,6 +89,7 @@ opens_what test n (Poll slot) h = tt
 opens_what test n (Close slot) h = tt
 opens_what test n (PlanPort nth) h = tt
 opens_what test n (AcceptPort bits) h = tt
+opens_what test n (Aggregate label joined count) h = tt
 
 pub opens_by : {A : Type 0} (test : ℕ → Bool) (count : ℕ → A → ℕ) (p : Program A) (n : ℕ → ℕ) → ((s : ℕ) → test s ≡ false → Follows s 0 (count s) (n s) p) → OpensOnly test p
 opens_by test count (done value) n h = tt
@@ -218,7 +219,7 @@ module _ (slot : ℕ) where
         (keeps_monitor_opens (text_at 1 words) (without_monitor (text_at 1 words) names))
 
     kind_opens : (kind : StatementKind) → Own (does_by kind names slot words)
-    kind_opens Plain = acts_open (action_of (keyword_of (text_at 0 words)) names.files slot words) (λ s. action_at s 0 names slot words (keyword_of (text_at 0 words)))
+    kind_opens Plain = acts_open (action_here names slot words) (λ s. here_at s 0 names slot words)
     kind_opens ToolAlone = runs_open (tool_said (word_texts words))
     kind_opens Starting = starts_open (has_tool (text_at 1 words) names)
     kind_opens Stepping = steps_open_in (watched_of_name (text_at 1 words) names.monitors) (held_of_name (text_at 1 words) names.sets)
@@ -361,7 +362,7 @@ module _ (slot : ℕ) where
         (λ after. one_monitor (text_at 1 words) (without_monitor (text_at 1 words) names) after monitor_gone)
 
     one_kind : (kind : StatementKind) → Gives IsOneMore (does_by kind names slot words)
-    one_kind Plain = one_acts (action_of (keyword_of (text_at 0 words)) names.files slot words)
+    one_kind Plain = one_acts (action_here names slot words)
     one_kind ToolAlone = one_runs (tool_said (word_texts words))
     one_kind Starting = one_starts (has_tool (text_at 1 words) names)
     one_kind Stepping = one_steps (watched_of_name (text_at 1 words) names.monitors) (held_of_name (text_at 1 words) names.sets)

@@ -26,7 +26,7 @@ use Rattle.gl_talk.specs.declared.tools.StatementKind.{StatementKind}
 use Rattle.gl_talk.specs.declared.tools.StatementKind.TheVariants.{Plain, ToolAlone, Starting, Stepping, Stopping}
 use Rattle.gl_talk.specs.Old.{made_kind, old_command_word}
 use Rattle.gl_talk.specs.Open.{File, MonitorTool, Names, SetTool, has_tool, held_of_name, is_file, is_monitor, is_set, watched_of_name, without_monitor, without_set}
-use Rattle.gl_talk.specs.Actions.{action_of}
+use Rattle.gl_talk.specs.Actions.{action_here}
 use Rattle.gl_talk.specs.Slots.{OpenPass, SlotsAreOwn}
 use Rattle.gl_talk.specs.Talk.{acts, does_by, file, keeps_monitor, keeps_set, replied_by, runs, starts, starts_said, starts_tool, steps, stops}
 use Rattle.gl_talk.specs.ToolWords.{kind_of, word_texts}
@@ -151,7 +151,7 @@ module _ (test : ℕ → Bool) where
         (λ after h. keeps_monitor_pass (without_monitor name names) name after (without_monitor_pass names name held_open) h)
 
     kind_pass : (kind : StatementKind) (words : List Span) → Gives (OpenPass test) (does_by kind names slot words)
-    kind_pass Plain words = acts_pass (action_of (keyword_of (text_at 0 words)) names.files slot words) words
+    kind_pass Plain words = acts_pass (action_here names slot words) words
     kind_pass ToolAlone words = runs_pass (tool_said (word_texts words)) words
     kind_pass Starting words = starts_pass (has_tool (text_at 1 words) names) words
     kind_pass Stepping words = steps_pass (watched_of_name (text_at 1 words) names.monitors) (held_of_name (text_at 1 words) names.sets) words refl

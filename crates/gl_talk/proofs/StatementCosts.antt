@@ -1,6 +1,7 @@
 -- What a statement asks costs no more than the statement, and a talk no more than its statements.
 use Rattle.std.proofs.Common.{◌≡◌, ◌≤◌, ◌+◌, ◌-◌, ℕ, suc, Bool, true, false, cond, List, [], ◌∷◌, length, Option, None, Some, refl, sym, subst, arith}
-use Rattle.std.specs.Prelude.{if◌then◌else◌, ◌==◌, nat_lt, is_some, sum_by}
+use Rattle.std.specs.List.{list_any}
+use Rattle.std.specs.Prelude.{if◌then◌else◌, ◌==◌, ◌&&◌, nat_lt, is_some, not, sum_by}
 use Rattle.std.proofs.lemmas.List.Sums.{sum_by-cons}
 use Rattle.gl_base.specs.CommandWord.{command_number_of}
 use Rattle.gl_base.specs.Operation.{refusal}
@@ -17,11 +18,11 @@ use Rattle.gl_monitor.specs.Monitor.{Watched, monitor_program, steps_held}
 use Rattle.gl_monitor.specs.Monitor.{stops as stops_watching}
 use Rattle.gl_monitor.proofs.MonitorCosts.{monitor_within}
 use Rattle.gl_monitor.proofs.MonitorCosts.{held_within as steps_within, stops_within as watched_stops_within}
-use Rattle.gl_script.specs.Cost.{cost, cost_by, start_cost, words_cost}
+use Rattle.gl_script.specs.Cost.{cost, cost_by, is_aggregate, start_cost, words_cost}
 use Rattle.gl_script.specs.Faults.{is_get_line}
 use Rattle.gl_script.specs.Table.{keyword_of}
 use Rattle.gl_script.specs.declared.table.Keyword.{Keyword}
-use Rattle.gl_script.specs.declared.table.Keyword.TheVariants.{Probe, Unplug, MakeDir, RemoveDir, Write, Read, Clock, Fault, Accept, Pin, Irq, Open, Ioctl, Events, OldIoctl, OldEvents, Changes, Poll, Close, Start, Step, Stop}
+use Rattle.gl_script.specs.declared.table.Keyword.TheVariants.{Probe, Unplug, MakeDir, RemoveDir, Write, Read, Clock, Fault, Accept, Aggregate, Pin, Irq, Open, Ioctl, Events, OldIoctl, OldEvents, Changes, Poll, Close, Start, Step, Stop}
 use Rattle.gl_v1.specs.declared.commands.CommandV1.{CommandV1}
 use Rattle.gl_v1.specs.declared.commands.CommandV1.TheVariants.{ChipInfo, LineInfo, LineHandle, LineEvent, GetValues, SetValues, SetConfig}
 use Rattle.gl_v1.specs.declared.commands.KindV1.TheVariants.{Chip as OldChip, Handle, Event}
@@ -37,12 +38,12 @@ use Rattle.gl_talk.specs.declared.tools.StatementKind.{StatementKind}
 use Rattle.gl_talk.specs.declared.tools.StatementKind.TheVariants.{Plain, ToolAlone, Starting, Stepping, Stopping}
 use Rattle.gl_talk.specs.Costs.{StatementsKeepWithinCost, TalksKeepWithinCost}
 use Rattle.gl_talk.specs.Old.{sent_new, sent_old, takes_old_name}
-use Rattle.gl_talk.specs.Open.{File, Names, file_of, has_tool, held_of_name, is_chip, is_old_event, is_request, watched_of_name, slots_in_order, without_monitor, without_set}
+use Rattle.gl_talk.specs.Open.{File, Names, file_of, has_tool, held_of_name, is_chip, is_chip_file, is_old_event, is_request, watched_of_name, slots_in_order, without_monitor, without_set}
 use Rattle.gl_talk.specs.Paths.{line_file, live_device}
-use Rattle.gl_talk.specs.Actions.{closes, ioctls, irqs, lives, old_ioctls, opens, pins, action_of, polls, pulls, reads, reads_file, takes_name, unplugs, writes, writes_tree}
+use Rattle.gl_talk.specs.Actions.{aggregates, closes, files_named, ioctls, irqs, lives, old_ioctls, only_in_setup, opens, pins, action_of, polls, pulls, reads, reads_file, takes_name, unplugs, writes, writes_tree}
 use Rattle.gl_talk.specs.Talk.{acts, closes_all, does, does_by, keeps_monitor, keeps_set, replied_by, runs, quits, says, slot_behind, starts, starts_said, starts_tool, steps, stops}
 use Rattle.gl_talk.specs.ToolWords.{kind_of, word_texts}
-use Rattle.gl_talk.specs.Words.{behind_three, behind_two, bytes_said, live_word, or_else, place_word, pull_word, turns_word}
+use Rattle.gl_talk.specs.Words.{behind_three, behind_two, bytes_said, live_word, name_word, or_else, place_word, pull_word, turns_word}
 use Rattle.gl_talk.proofs.ToolParts.{started_cost, started_fits, tool_fits}
 use Rattle.gl_values.specs.Client.{held_program, tool_program}
 use Rattle.gl_values.specs.Costs.{held_cost, tool_cost}
@@ -115,6 +116,10 @@ writes_cost (Some file) path value = action_if 2 file.is_pull _ _ (pulls_cost fi
 opens_cost : (taken : Bool) (slot : ℕ) (word : List ℕ) → ActionCosts 2 (opens taken slot word)
 opens_cost true slot word = tt
 opens_cost false slot word = omega arith
+
+aggregates_cost : (label : List ℕ) (named : List (Option File)) → ActionCosts 1 (aggregates label named)
+aggregates_cost label named =
+    action_if 1 (list_any (λ file. not (is_some file)) named) _ _ tt (action_if 1 (list_any is_chip_file named) _ _ tt (omega arith))
 
 file_cost : (file : Option File) (can_be_read : TalkFileKind → Bool) (len : ℕ) (reply : ResultFormat) → ActionCosts 1 (reads_file file can_be_read len reply)
 file_cost None can_be_read len reply = tt
@@ -226,6 +231,7 @@ action_cost Read files slot first words = reads_cost (line_file (text_at 0 words
 action_cost Clock files slot first words = omega arith
 action_cost Fault files slot first words = omega arith
 action_cost Accept files slot first words = omega arith
+action_cost Aggregate files slot first words = aggregates_cost (name_word (text_at 0 words)) (files_named 4 (behind_two (first ∷ words)) files)
 action_cost Pin files slot first words = pins_cost (place_word (text_at 1 words)) (first ∷ words)
 action_cost Irq files slot first words = irqs_cost (place_word (text_at 1 words)) (first ∷ words)
 action_cost Open files slot first words = opens_cost (is_some (file_of (text_at 0 words) files)) slot (text_at 1 words)
@@ -305,8 +311,9 @@ stops_cost (Some watched) held names first words =
 keyword_cost : (keyword : Keyword) (kind : StatementKind) (names : Names) (slot : ℕ) (first : Span) (words : List Span) → keyword_of first.text ≡ Some keyword → kind_of (Some keyword) ≡ kind
     → CostsAtMost (cost keyword words) (does_by kind names slot (first ∷ words))
 keyword_cost keyword Plain names slot first words k e =
-    subst (λ o. CostsAtMost (cost keyword words) (acts (action_of o names.files slot (first ∷ words)) names slot (first ∷ words))) (sym k)
-    (acts_cost (cost keyword words) (action_of (Some keyword) names.files slot (first ∷ words)) names slot (first ∷ words) (action_cost keyword names.files slot first words))
+    subst (λ o. CostsAtMost (cost keyword words) (acts (only_in_setup names.in_setup o (action_of o names.files slot (first ∷ words))) names slot (first ∷ words))) (sym k)
+    (acts_cost (cost keyword words) (only_in_setup names.in_setup (Some keyword) (action_of (Some keyword) names.files slot (first ∷ words))) names slot (first ∷ words)
+    (action_if (cost keyword words) (is_aggregate (Some keyword) && not names.in_setup) _ _ tt (action_cost keyword names.files slot first words)))
 keyword_cost keyword ToolAlone names slot first words k e = runs_cost keyword (tool_said (word_texts (first ∷ words))) names slot first words k e refl
 keyword_cost Start Starting names slot first words k e = starts_cost (has_tool (text_at 0 words) names) names slot first words
 keyword_cost Step Stepping names slot first words k e =
@@ -317,7 +324,7 @@ keyword_cost keyword kind names slot first words k e = cc
 
 some_keyword_cost : (keyword : Option Keyword) (names : Names) (slot : ℕ) (first : Span) (words : List Span) → keyword_of first.text ≡ keyword
     → CostsAtMost (cost_by keyword words) (does_by (kind_of keyword) names slot (first ∷ words))
-some_keyword_cost None names slot first words k = subst (λ o. CostsAtMost 0 (acts (action_of o names.files slot (first ∷ words)) names slot (first ∷ words))) (sym k) tt
+some_keyword_cost None names slot first words k = subst (λ o. CostsAtMost 0 (acts (only_in_setup names.in_setup o (action_of o names.files slot (first ∷ words))) names slot (first ∷ words))) (sym k) tt
 some_keyword_cost (Some keyword) names slot first words k = keyword_cost keyword (kind_of (Some keyword)) names slot first words k refl
 
 pub statements_keep_within_cost : StatementsKeepWithinCost

@@ -13,7 +13,7 @@ use Rattle.gl_client.proofs.OpenSlots.{follows_at, is_there, names_open, names_t
 use Rattle.gl_script.specs.Cost.{words_cost}
 use Rattle.gl_script.specs.Table.{keyword_of}
 use Rattle.gl_talk.specs.Costs.{TalksMakeAtMost}
-use Rattle.gl_talk.specs.Files.{AllClosed, AreOpen, EndClosesAll, EndMakesAtMost, NoneIsOpenBefore, StatementsFindTheirFiles, StatementsLeaveEntries, TalksFindTheirFiles, open_files}
+use Rattle.gl_talk.specs.Files.{AllClosed, AreOpen, EndClosesAll, EndMakesAtMost, NoneIsOpenBefore, NoneIsOpenBeforeSetup, StatementsFindTheirFiles, StatementsLeaveEntries, TalksFindTheirFiles, open_files}
 use Rattle.gl_talk.specs.Open.{Names, no_names, open_slots, slots_in_order}
 use Rattle.gl_talk.specs.Talk.{closes_all, does, quits, says, slot_behind, talks}
 use Rattle.gl_talk.specs.ToolWords.{kind_of}
@@ -124,6 +124,9 @@ end_closes_all begun names slots known = all_closed (slots_in_order names) slots
 
 pub none_is_open_before : NoneIsOpenBefore
 none_is_open_before = record { same = λ s. refl; apart = λ s. omega arith; below = λ s e. cc }
+
+pub none_is_open_before_setup : NoneIsOpenBeforeSetup
+none_is_open_before_setup = record { same = λ s. refl; apart = λ s. omega arith; below = λ s e. cc }
 
 pub talks_find_their_files : TalksFindTheirFiles
 talks_find_their_files statements =

@@ -1,6 +1,7 @@
 -- Each operation of a talk names the slot of a file that is open, followed for one slot at a time.
 use Rattle.std.proofs.Common.{◌≡◌, ◌≤◌, ◌+◌, ◌-◌, ℕ, Bool, true, false, cond, List, [], ◌∷◌, ◌++◌, map, Option, None, Some, refl, sym, ap, subst, arith}
-use Rattle.std.specs.Prelude.{if◌then◌else◌, ◌==◌, find, is_some, nat_eq, option_map}
+use Rattle.std.specs.List.{list_any}
+use Rattle.std.specs.Prelude.{if◌then◌else◌, ◌==◌, ◌&&◌, ◌||◌, find, is_some, length, nat_eq, not, option_map, replicate, take}
 use Rattle.gl_base.specs.Operation.{refusal}
 use Rattle.gl_base.specs.Rows.{without_first}
 use Rattle.gl_base.specs.Words.{Span, text_at}
@@ -9,7 +10,7 @@ use Rattle.gl_base.specs.declared.errno.Errno.{Errno}
 use Rattle.gl_base.specs.declared.operation.Do.{Do}
 use Rattle.gl_base.specs.declared.operation.Do.TheVariants.{OpenChip, Ioctl as DoIoctl, Close as DoClose}
 use Rattle.gl_base.specs.declared.operation.Got.{Got}
-use Rattle.gl_client.specs.OpenSlots.{Where, one_if, times}
+use Rattle.gl_client.specs.OpenSlots.{Where, is_open, one_if, times}
 use Rattle.gl_args.specs.Options.{SaidTool, SaidDetect, SaidInfo, SaidGet, SaidSet, SaidWatch, SaidNotify}
 use Rattle.gl_client.specs.Program.{Program, done, then_by}
 use Rattle.gl_args.specs.Tools.{tool_said}
@@ -18,9 +19,10 @@ use Rattle.gl_monitor.specs.Monitor.{Watched, monitor_program, steps_held, watch
 use Rattle.gl_monitor.specs.Monitor.{stops as stops_watching}
 use Rattle.gl_monitor.proofs.MonitorNames.{monitor_at, steps_held_at}
 use Rattle.gl_monitor.proofs.MonitorNames.{stops_at as watching_stops_at}
+use Rattle.gl_script.specs.Cost.{is_aggregate}
 use Rattle.gl_script.specs.Table.{keyword_of}
 use Rattle.gl_script.specs.declared.table.Keyword.{Keyword}
-use Rattle.gl_script.specs.declared.table.Keyword.TheVariants.{Probe, Unplug, MakeDir, RemoveDir, Write, Read, Clock, Fault, Accept, Pin, Irq, Open, Ioctl, Events, OldIoctl, OldEvents, Changes, Poll, Close}
+use Rattle.gl_script.specs.declared.table.Keyword.TheVariants.{Probe, Unplug, MakeDir, RemoveDir, Write, Read, Clock, Fault, Accept, Aggregate, Pin, Irq, Open, Ioctl, Events, OldIoctl, OldEvents, Changes, Poll, Close}
 use Rattle.gl_v1.specs.declared.commands.KindV1.{KindV1}
 use Rattle.gl_v1.specs.declared.sending.Sent.{Sent}
 use Rattle.gl_talk.specs.declared.files.TalkFileKind.TheVariants.{Chip, Request}
@@ -29,9 +31,9 @@ use Rattle.gl_talk.specs.Formats.{Action, Nothing, Refuse, Ask, ResultFormat, Si
 use Rattle.gl_talk.specs.declared.tools.StatementKind.{StatementKind}
 use Rattle.gl_talk.specs.declared.tools.StatementKind.TheVariants.{Plain, ToolAlone, Starting, Stepping, Stopping}
 use Rattle.gl_talk.specs.Old.{kind_v1, made_kind, old_command_word, old_reply, sent_new, sent_old, takes_old_name}
-use Rattle.gl_talk.specs.Open.{File, Names, SetTool, MonitorTool, file_of, has_tool, held_of_name, is_chip, is_file, is_old_event, is_request, is_monitor, is_set, monitor_slots, open_slots, set_slots, watched_of_name, without_monitor, without_set}
+use Rattle.gl_talk.specs.Open.{File, Names, SetTool, MonitorTool, file_of, has_tool, held_of_name, is_chip, is_chip_file, is_file, is_old_event, is_request, is_monitor, is_set, monitor_slots, open_slots, set_slots, watched_of_name, without_monitor, without_set}
 use Rattle.gl_talk.specs.Paths.{line_file, live_device}
-use Rattle.gl_talk.specs.Actions.{asks_for, closes, command_reply, ioctls, ioctls_bytes, irqs, lives, old_ioctls, opens, pins, action_of, polls, pulls, reads, reads_file, takes_name, unplugs, writes, writes_tree}
+use Rattle.gl_talk.specs.Actions.{action_here, aggregates, asks_for, closes, files_named, command_reply, ioctls, ioctls_bytes, irqs, lives, old_ioctls, opens, pins, action_of, polls, pulls, reads, reads_file, slots_of, takes_name, unplugs, writes, writes_tree}
 use Rattle.gl_talk.specs.Talk.{acts, does_by, file, keeps_monitor, keeps_set, replied_by, runs, starts, starts_said, starts_tool, steps, stops}
 use Rattle.gl_talk.specs.ToolWords.{word_texts}
 use Rattle.gl_talk.specs.Words.{behind_two, bytes_said, behind_three, command_word, live_word, made_name, name_word, place_word, pull_word, turns_word}
@@ -339,6 +341,36 @@ module _ (s k : ℕ) where
     changes_at None len e = tt
     changes_at (Some found) len e = action_if (is_chip found.kind) _ _ (there (text_at 1 words) found e, λ got. refl) tt
 
+    -- the slots of named files are open
+    or_most : (a b : Bool) (n : ℕ) → one_if a ≤ n → one_if b ≤ n → one_if (a || b) ≤ n
+    or_most true b n p q = p
+    or_most false b n p q = q
+
+    one_named : (name : List ℕ) (o : Option File) (rest : List (Option File)) → file_of name names.files ≡ o → one_if (is_open s (slots_of rest)) ≤ open_times s names
+        → one_if (is_open s (slots_of (o ∷ rest))) ≤ open_times s names
+    one_named name None rest e h = h
+    one_named name (Some f) rest e h = or_most (nat_eq s f.slot) (is_open s (slots_of rest)) (open_times s names) (there name f e) h
+
+    some_named : (b : Bool) (named : List (Option File)) → one_if (is_open s (slots_of named)) ≤ open_times s names → one_if (is_open s (slots_of (if b then [] else named))) ≤ open_times s names
+    some_named true named h = omega arith
+    some_named false named h = h
+
+    named_slots : (most : ℕ) (found : List Span) → one_if (is_open s (slots_of (files_named most found names.files))) ≤ open_times s names
+    named_slots most [] = omega arith
+    named_slots most (word ∷ found) =
+        let rest = files_named (most - 1) found names.files in
+        some_named (nat_eq most 0) (file_of word.text names.files ∷ rest) (one_named word.text (file_of word.text names.files) rest refl (named_slots (most - 1) found))
+
+    front : (xs ys : List ℕ) → take (length xs) (xs ++ ys) ≡ xs
+    front [] ys = refl
+    front (x ∷ xs) ys = ap (λ (l : List ℕ). x ∷ l) (front xs ys)
+
+    aggregates_at : (label : List ℕ) (named : List (Option File)) → one_if (is_open s (slots_of named)) ≤ open_times s names → ActionsFit (aggregates label named)
+    aggregates_at label named h =
+        action_if (list_any (λ file. not (is_some file)) named) _ _ tt
+        (action_if (list_any is_chip_file named) _ _ tt
+        (subst (λ (slots : List ℕ). one_if (is_open s slots) ≤ open_times s names) (sym (front (slots_of named) (replicate (4 - length (slots_of named)) 0))) h, λ got. refl))
+
     polls_at : (o : Option File) → file_of (text_at 1 words) names.files ≡ o → ActionsFit (polls o)
     polls_at None e = tt
     polls_at (Some found) e = (there (text_at 1 words) found e, λ got. refl)
@@ -358,6 +390,7 @@ module _ (s k : ℕ) where
     action_at (Some Clock) = (tt, λ got. refl)
     action_at (Some Fault) = (tt, λ got. refl)
     action_at (Some Accept) = (tt, λ got. refl)
+    action_at (Some Aggregate) = aggregates_at (name_word (text_at 1 words)) (files_named 4 (behind_two words) names.files) (named_slots 4 (behind_two words))
     action_at (Some Pin) = pins_at (place_word (text_at 2 words))
     action_at (Some Irq) = irqs_at (place_word (text_at 2 words))
     action_at (Some Open) = opens_at (is_some (file_of (text_at 1 words) names.files)) (text_at 2 words)
@@ -369,6 +402,9 @@ module _ (s k : ℕ) where
     action_at (Some Poll) = polls_at (file_of (text_at 1 words) names.files) refl
     action_at (Some Close) = closes_at (file_of (text_at 1 words) names.files) refl
     action_at (Some keyword) = tt
+
+    pub here_at : ActionsFit (action_here names slot words)
+    here_at = action_if (is_aggregate (keyword_of (text_at 0 words)) && not names.in_setup) _ _ tt (action_at (keyword_of (text_at 0 words)))
 
   -- tools
   module _ (names : Names) (slot : ℕ) (room : open_times s names + one_if (nat_eq s slot) + one_if (nat_eq s (slot + 1)) ≤ k) where
@@ -435,7 +471,7 @@ module _ (s k : ℕ) where
 
   pub kind_at : (kind : StatementKind) (names : Names) (slot : ℕ) (words : List Span) → open_times s names + one_if (nat_eq s slot) + one_if (nat_eq s (slot + 1)) ≤ k → Keeps (open_times s names) (does_by kind names slot words)
   kind_at Plain names slot words room =
-      acts_at names slot words (omega (arith, room)) (action_of (keyword_of (text_at 0 words)) names.files slot words) (action_at names slot words (keyword_of (text_at 0 words)))
+      acts_at names slot words (omega (arith, room)) (action_here names slot words) (here_at names slot words)
   kind_at ToolAlone names slot words room = runs_at names slot room (tool_said (word_texts words)) words
   kind_at Starting names slot words room = starts_at names slot room (has_tool (text_at 1 words) names) words
   kind_at Stepping names slot words room = steps_at (watched_of_name (text_at 1 words) names.monitors) (held_of_name (text_at 1 words) names.sets) names words refl

@@ -42,7 +42,7 @@ use Rattle.gl_talk.specs.declared.tools.StatementKind.{StatementKind}
 use Rattle.gl_talk.specs.declared.tools.StatementKind.TheVariants.{Plain, ToolAlone, Starting, Stepping, Stopping}
 use Rattle.gl_talk.specs.Old.{old_command_word, old_edge_line, old_edge_lines, old_edge_word, old_edges_text, old_structure}
 use Rattle.gl_talk.specs.Open.{Names, has_tool, held_of_name, slots_in_order, watched_of_name, without_monitor, without_set}
-use Rattle.gl_talk.specs.Actions.{action_of}
+use Rattle.gl_talk.specs.Actions.{action_here}
 use Rattle.gl_talk.specs.Printed.{StatementsPrintLines, TalksPrintLines}
 use Rattle.gl_talk.specs.Replies.{edge_line, edge_lines, edge_word, edges_text, fd_of, info_line, info_lines, infos_text, kind_word, level_text, number_of, ready_text, size_or, structure_text, text_of}
 use Rattle.gl_talk.specs.Talk.{acts, closes_all, does_by, keeps_monitor, keeps_set, quits, refused, replied_by, runs, says, slot_behind, starts, starts_said, starts_tool, steps, stops, does}
@@ -159,7 +159,7 @@ stops_lines (Some watched) held names words =
     prints_then (stops_watching watched) (keeps_monitor (text_at 1 words) (without_monitor (text_at 1 words) names)) (watched_stops_lines watched) (λ value. tt)
 
 kind_lines : (kind : StatementKind) (names : Names) (slot : ℕ) (words : List Span) → PrintsLines (does_by kind names slot words)
-kind_lines Plain names slot words = acts_lines (action_of (keyword_of (text_at 0 words)) names.files slot words) names slot words
+kind_lines Plain names slot words = acts_lines (action_here names slot words) names slot words
 kind_lines ToolAlone names slot words = runs_lines (tool_said (word_texts words)) names slot words
 kind_lines Starting names slot words = starts_lines (has_tool (text_at 1 words) names) names slot words
 kind_lines Stepping names slot words = steps_lines (watched_of_name (text_at 1 words) names.monitors) (held_of_name (text_at 1 words) names.sets) names words

@@ -1,19 +1,21 @@
 -- What a statement does by its words it does by what it says, with no default in a word's place.
 use Rattle.std.proofs.Common.{◌≡◌, ℕ, ◌*◌, ◌/◌, Bool, true, false, cond, ◌&&◌, List, [], map, Option, None, Some, refl, sym, ◌∙◌, ap, subst, arith}
-use Rattle.std.specs.Prelude.{◌==◌, if◌then◌else◌, is_some, nat_le, nat_lt, codes}
+use Rattle.std.specs.List.{list_any}
+use Rattle.std.specs.Prelude.{◌==◌, if◌then◌else◌, is_some, length, not, nat_le, nat_lt, codes}
 use Rattle.std.specs.Str.{bytes_eq}
 use Rattle.std.proofs.lemmas.Bool.Decides.{nat_tests}
 use Rattle.gl_base.specs.ChipWord.{chip_number_of}
+use Rattle.gl_base.specs.Padded.{padded}
 use Rattle.gl_base.specs.Words.{Span, text_at}
 use Rattle.gl_base.specs.Operation.{bytes_of, refusal}
 use Rattle.gl_base.specs.declared.command.TheConstants.{GET_CHIPINFO, GET_LINEINFO, GET_LINEINFO_WATCH, GET_LINE, LINE_GET_VALUES}
 use Rattle.gl_base.specs.declared.errno.Errno.{Errno}
-use Rattle.gl_base.specs.declared.errno.Errno.TheVariants.{Exist, Inval, Perm}
+use Rattle.gl_base.specs.declared.errno.Errno.TheVariants.{BadF, Exist, Inval, Perm}
 use Rattle.gl_base.specs.declared.irq.IrqDo.{IrqDo}
 use Rattle.gl_base.specs.declared.irq.IrqDo.TheVariants.{Lock, Unlock, Enable, Disable, Never}
 use Rattle.gl_base.specs.declared.limits.TheConstants.{LINES_MAX, PLACES}
 use Rattle.gl_base.specs.declared.operation.Do.{Do}
-use Rattle.gl_base.specs.declared.operation.Do.TheVariants.{Probe as DoProbe, Unplug as DoUnplug, MakeDir as DoMakeDir, RemoveDir as DoRemoveDir, Write as DoWrite, Read as DoRead, Live as DoLive, Tick as DoTick, Pin as DoPin, Irq as DoIrq, Pull as DoPull, Level as DoLevel, OpenChip as DoOpenChip, Ioctl as DoIoctl, ReadFile as DoReadFile, Poll as DoPoll, Close as DoClose, Plan as DoPlan, Accept as DoAccept}
+use Rattle.gl_base.specs.declared.operation.Do.TheVariants.{Probe as DoProbe, Unplug as DoUnplug, MakeDir as DoMakeDir, RemoveDir as DoRemoveDir, Write as DoWrite, Read as DoRead, Live as DoLive, Tick as DoTick, Pin as DoPin, Irq as DoIrq, Pull as DoPull, Level as DoLevel, OpenChip as DoOpenChip, Ioctl as DoIoctl, ReadFile as DoReadFile, Poll as DoPoll, Close as DoClose, Plan as DoPlan, Accept as DoAccept, Aggregate as DoAggregate}
 use Rattle.gl_base.specs.declared.operation.Got.{Got}
 use Rattle.gl_base.specs.declared.pin.PinDo.{PinDo}
 use Rattle.gl_base.specs.declared.pin.PinDo.TheVariants.{Range, Hold, Release}
@@ -24,8 +26,8 @@ use Rattle.gl_script.specs.Pieces.{made_by, named}
 use Rattle.gl_script.specs.Said.{ArePins, AreValues, Spells, chip_of, irq_name, keyword_said, pin_name, small_of}
 use Rattle.gl_script.specs.Table.{keyword_of}
 use Rattle.gl_script.specs.declared.said.Said.{Said}
-use Rattle.gl_script.specs.declared.said.Said.TheVariants.{Probe, Unplug, MakeDir, RemoveDir, Write, Read, Clock, Fault, Accept, Pin, Irq, Open, Ioctl, Events, OldIoctl, OldEvents, Changes, Poll, Close, Start, Step, Stop}
-use Rattle.gl_script.specs.Cost.{or_zero}
+use Rattle.gl_script.specs.declared.said.Said.TheVariants.{Probe, Unplug, MakeDir, RemoveDir, Write, Read, Clock, Fault, Accept, Aggregate, Pin, Irq, Open, Ioctl, Events, OldIoctl, OldEvents, Changes, Poll, Close, Start, Step, Stop}
+use Rattle.gl_script.specs.Cost.{is_aggregate, or_zero}
 use Rattle.gl_v1.specs.Commands.{command_for, sent_as}
 use Rattle.gl_v1.specs.To.{sent_if}
 use Rattle.gl_v1.specs.Words.{makes as makes_old, makes_file, old_number_of}
@@ -43,18 +45,18 @@ use Rattle.gl_talk.specs.declared.files.TalkFileKind.TheVariants.{Chip, Request,
 use Rattle.gl_talk.specs.declared.paths.LineFile.{LineFile}
 use Rattle.gl_talk.specs.declared.tools.StatementKind.{StatementKind}
 use Rattle.gl_talk.specs.declared.tools.StatementKind.TheVariants.{Plain, Stepping}
-use Rattle.gl_talk.specs.Actions.{action_of, closes, command_reply, ioctls, ioctls_bytes, lives, old_ioctls, old_ioctls_bytes, opens, pin_said, polls, pulls, reads, reads_file, small_word, takes_name, unplugs, writes, writes_line, writes_tree}
+use Rattle.gl_talk.specs.Actions.{action_of, aggregates, closes, command_reply, files_named, ioctls, ioctls_bytes, lives, old_ioctls, old_ioctls_bytes, only_in_setup, opens, pin_said, polls, pulls, reads, reads_file, slots_of, small_word, takes_name, unplugs, writes, writes_line, writes_tree}
 use Rattle.gl_talk.specs.Doing.{Does, shows}
 use Rattle.gl_talk.specs.Formats.{Action, Nothing, Refuse, Ask, ResultFormat, Silent, Value, Level, Bytes, Edges, Infos, Ready, Opened, Closed, Made, OldBytes, OldEdges, OldMade}
 use Rattle.gl_talk.specs.Old.{kind_v1, made_kind, old_command_word, old_reply, old_structure_text, sent_new, sent_old, takes_old_name}
-use Rattle.gl_talk.specs.Open.{File, Names, file_in, file_of, is_chip, is_old_event, is_request, with_file}
+use Rattle.gl_talk.specs.Open.{File, Names, file_in, file_of, is_chip, is_chip_file, is_old_event, is_request, with_file}
 use Rattle.gl_talk.specs.Paths.{line_file, live_device}
 use Rattle.gl_talk.specs.Replies.{fd_text, structure_text}
-use Rattle.gl_talk.specs.SaidActions.{StatementsAskWhatTheySay, action_said, bytes_reply_said, closes_said, ioctls_bytes_said, ioctls_said, lives_said, old_bytes_reply_said, old_ioctls_bytes_said, old_ioctls_said, old_reply_said, opens_said, polls_said, pulls_said, reads_file_said, reads_said, reply_said, takes, writes_line_said, writes_said, writes_tree_said}
+use Rattle.gl_talk.specs.SaidActions.{StatementsAskWhatTheySay, action_said, aggregates_said, bytes_reply_said, closes_said, ioctls_bytes_said, ioctls_said, lives_said, old_bytes_reply_said, old_ioctls_bytes_said, old_ioctls_said, old_reply_said, opens_said, polls_said, pulls_said, reads_file_said, reads_said, reply_said, takes, writes_line_said, writes_said, writes_tree_said}
 use Rattle.gl_talk.specs.SaidTalk.{acts_said, file_said, replied_said_by, told_said}
 use Rattle.gl_talk.specs.Talk.{acts, replied_by, told}
 use Rattle.gl_talk.specs.ToolWords.{kind_of, name_said, names_tool, turns_said}
-use Rattle.gl_talk.specs.Words.{behind_three, bytes_said, command_word, irq_word, live_word, made_name, name_behind_as, name_word, number_word, or_else, path_word, place_of, place_word, pull_word, turns_word}
+use Rattle.gl_talk.specs.Words.{behind_two, behind_three, bytes_said, command_word, irq_word, live_word, made_name, name_behind_as, name_word, number_word, or_else, path_word, place_of, place_word, pull_word, turns_word}
 use Rattle.gl_talk.proofs.StatementCosts.{sent_cmd}
 use Rattle.gl_talk.proofs.WordReadings.{chip_word, file_name_is, file_name_word, label_is, label_word, live_device_is_read, tree_path_is, tree_path_word}
 
@@ -271,6 +273,14 @@ module _ (names : Names) (slot : ℕ) (words : List Span) where
   closes_are None = refl
   closes_are (Some found) = asks (DoClose found.slot) Closed SaidClosed (λ got. refl)
 
+  -- a chip over requests
+  aggregates_are : (label : List ℕ) (named : List (Option File)) → Same (aggregates label named) (aggregates_said label named)
+  aggregates_are label named =
+      let joined = DoAggregate label (padded 4 (slots_of named)) (length (slots_of named)) in
+      same_if (list_any (λ file. not (is_some file)) named) (Refuse BadF) (if list_any is_chip_file named then Refuse Inval else Ask joined Silent)
+      (SaidRefuse BadF) (if list_any is_chip_file named then SaidRefuse Inval else SaidAsk joined SaidSilent) refl
+      (same_if (list_any is_chip_file named) (Refuse Inval) (Ask joined Silent) (SaidRefuse Inval) (SaidAsk joined SaidSilent) refl (silent joined))
+
   -- how the result of a command is told
   bytes_told : (number : ℕ) (a b c d : Bool) (got : Got) → command_word (text_at 2 words) ≡ number → told (bytes_by a b c d) names slot words got ≡ told_said (said_by number a b c d) names slot words got
   bytes_told number true b c d got is = ap (λ (n : ℕ). shows (structure_text n (bytes_of got)) names) is
@@ -376,6 +386,9 @@ module _ (names : Names) (slot : ℕ) (words : List Span) where
       ∙ silent (DoTick mono real)
   row_is (Fault nth) files is = ap (λ (n : ℕ). doing (Ask (DoPlan n) Silent)) (number_is 1 1000000 (text_at 1 words) nth is) ∙ silent (DoPlan nth)
   row_is (Accept bits) files is = ap (λ (n : ℕ). doing (Ask (DoAccept n) Silent)) (number_is 0 0xFFFFFFFFFFFFFFFF (text_at 1 words) bits is) ∙ silent (DoAccept bits)
+  row_is (Aggregate label) files is =
+      let named = files_named 4 (behind_two words) files in
+      ap (λ (name : List ℕ). doing (aggregates name named)) (label_word (text_at 1 words) label is) ∙ aggregates_are label named
   row_is (Pin chip what) files is =
       ap (λ (n : ℕ). doing (Ask (DoPin n (pin_said words)) Silent)) (place_is (text_at 2 words) chip is.1)
       ∙ ap (λ (w : PinDo). doing (Ask (DoPin chip w) Silent)) (pin_is what words is.0 is.2)
@@ -410,12 +423,12 @@ pub statements_ask_what_they_say : StatementsAskWhatTheySay
 statements_ask_what_they_say said words files names slot spelled =
     ap (λ o. acts (action_of o files slot words) names slot words) spelled.keyword ∙ row_is names slot words said files spelled.each
 
--- what a statement does by its words is what an action does that it says
-pub as_said : (files items : List TalkFile) (action arm : SaidAction) (names : Names) (slot : ℕ) (words : List Span) → files ≡ items
-    → acts (action_of (keyword_of (text_at 0 words)) (map file_in files) slot words) names slot words ≡ acts_said action names slot words → action ≡ arm
-    → acts (action_of (keyword_of (text_at 0 words)) (map file_in items) slot words) names slot words ≡ acts_said arm names slot words
-as_said files items action arm names slot words same says is =
-    ap (λ (rows : List TalkFile). acts (action_of (keyword_of (text_at 0 words)) (map file_in rows) slot words) names slot words) (sym same)
+-- what a statement does by its words in its section is what an action does that it says
+pub as_said : (in_setup : Bool) (files items : List TalkFile) (action arm : SaidAction) (names : Names) (slot : ℕ) (words : List Span) → files ≡ items
+    → acts (only_in_setup in_setup (keyword_of (text_at 0 words)) (action_of (keyword_of (text_at 0 words)) (map file_in files) slot words)) names slot words ≡ acts_said action names slot words → action ≡ arm
+    → acts (only_in_setup in_setup (keyword_of (text_at 0 words)) (action_of (keyword_of (text_at 0 words)) (map file_in items) slot words)) names slot words ≡ acts_said arm names slot words
+as_said in_setup files items action arm names slot words same says is =
+    ap (λ (rows : List TalkFile). acts (only_in_setup in_setup (keyword_of (text_at 0 words)) (action_of (keyword_of (text_at 0 words)) (map file_in rows) slot words)) names slot words) (sym same)
     ∙ says
     ∙ ap (λ (a : SaidAction). acts_said a names slot words) is
 
@@ -425,6 +438,9 @@ nothing_asked line files slot none = subst (λ (l : List ℕ). action_of (keywor
 
 pub plain_kind : (line : List ℕ) → line ≡ [] → kind_of (keyword_of (text_at 0 (columns line))) ≡ Plain
 plain_kind line none = subst (λ (l : List ℕ). kind_of (keyword_of (text_at 0 (columns l))) ≡ Plain) (sym none) refl
+
+pub no_aggregate : (line : List ℕ) → line ≡ [] → is_aggregate (keyword_of (text_at 0 (columns line))) ≡ false
+no_aggregate line none = subst (λ (l : List ℕ). is_aggregate (keyword_of (text_at 0 (columns l))) ≡ false) (sym none) refl
 
 pub kind_is : (words : List Span) (said : Said) → Spells words said → kind_of (keyword_of (text_at 0 words)) ≡ kind_of (Some (keyword_said said))
 kind_is words said spelled = ap (λ o. kind_of o) spelled.keyword

@@ -1,24 +1,28 @@
 -- What each statement that is no tool's asks of the device, or how it is refused without a call; and how its result is told.
 -- This project's choice.
-use Rattle.std.specs.Prelude.{ℕ, ◌*◌, ◌/◌, Bool, true, false, ◌&&◌, ◌==◌, if◌then◌else◌, List, is_some, Option, Some, None, codes}
+use Rattle.std.specs.List.{list_any}
+use Rattle.std.specs.Prelude.{ℕ, ◌-◌, ◌*◌, ◌/◌, Bool, true, false, not, ◌&&◌, ◌==◌, nat_eq, if◌then◌else◌, List, [], ◌∷◌, length, is_some, Option, Some, None, codes}
 use Rattle.std.specs.Str.{bytes_eq}
+use Rattle.gl_base.specs.Padded.{padded}
 use Rattle.gl_base.specs.Words.{Span, text_at}
 use Rattle.gl_base.specs.declared.command.TheConstants.{GET_CHIPINFO, GET_LINEINFO, GET_LINEINFO_WATCH, GET_LINE, LINE_GET_VALUES}
 use Rattle.gl_base.specs.declared.errno.Errno.TheVariants.{BadF, Exist, Inval, Perm}
 use Rattle.gl_base.specs.declared.limits.TheConstants.{LINES_MAX}
-use Rattle.gl_base.specs.declared.operation.Do.TheVariants.{Probe as DoProbe, Unplug as DoUnplug, MakeDir as DoMakeDir, RemoveDir as DoRemoveDir, Write as DoWrite, Read as DoRead, Live as DoLive, Tick as DoTick, Pin as DoPin, Irq as DoIrq, Pull as DoPull, Level as DoLevel, OpenChip as DoOpenChip, Ioctl as DoIoctl, ReadFile as DoReadFile, Poll as DoPoll, Close as DoClose, Plan as DoPlan, Accept as DoAccept}
+use Rattle.gl_base.specs.declared.operation.Do.TheVariants.{Probe as DoProbe, Unplug as DoUnplug, MakeDir as DoMakeDir, RemoveDir as DoRemoveDir, Write as DoWrite, Read as DoRead, Live as DoLive, Tick as DoTick, Pin as DoPin, Irq as DoIrq, Pull as DoPull, Level as DoLevel, OpenChip as DoOpenChip, Ioctl as DoIoctl, ReadFile as DoReadFile, Poll as DoPoll, Close as DoClose, Plan as DoPlan, Accept as DoAccept, Aggregate as DoAggregate}
 use Rattle.gl_base.specs.declared.pin.PinDo.{PinDo}
 use Rattle.gl_base.specs.declared.pin.PinDo.TheVariants.{Range, Hold, Release}
+use Rattle.gl_script.specs.Cost.{is_aggregate}
+use Rattle.gl_script.specs.Table.{keyword_of}
 use Rattle.gl_script.specs.declared.table.Keyword.{Keyword}
-use Rattle.gl_script.specs.declared.table.Keyword.TheVariants.{Probe, Unplug, MakeDir, RemoveDir, Write, Read, Clock, Fault, Accept, Pin, Irq, Open, Ioctl, Events, OldIoctl, OldEvents, Changes, Poll, Close, Detect, Info, Get, Set, Start, Step, Stop}
+use Rattle.gl_script.specs.declared.table.Keyword.TheVariants.{Probe, Unplug, MakeDir, RemoveDir, Write, Read, Clock, Fault, Accept, Aggregate, Pin, Irq, Open, Ioctl, Events, OldIoctl, OldEvents, Changes, Poll, Close, Detect, Info, Get, Set, Start, Step, Stop}
 use Rattle.gl_talk.specs.declared.paths.LineFile.{LineFile}
 use Rattle.gl_v1.specs.declared.sending.Sent.{Sent}
 use Rattle.gl_talk.specs.declared.files.TalkFileKind.{TalkFileKind}
 use Rattle.gl_talk.specs.Formats.{Action, Nothing, Refuse, Ask, ResultFormat, Silent, Value, Level, Bytes, Edges, Infos, Ready, Opened, Closed, Made, OldEdges}
 use Rattle.gl_talk.specs.Old.{old_command_word, old_reply, sent_new, sent_old, takes_old_name}
-use Rattle.gl_talk.specs.Open.{File, file_of, is_chip, is_old_event, is_request}
+use Rattle.gl_talk.specs.Open.{File, Names, file_of, is_chip, is_chip_file, is_old_event, is_request}
 use Rattle.gl_talk.specs.Paths.{line_file, live_device}
-use Rattle.gl_talk.specs.Words.{name_word, path_word, number_word, place_word, command_word, irq_word, pull_word, live_word, behind_three, bytes_said, made_name}
+use Rattle.gl_talk.specs.Words.{name_word, path_word, number_word, place_word, command_word, irq_word, pull_word, live_word, behind_two, behind_three, bytes_said, made_name}
 
 -- a number of 32 bits
 abbrev pub small_word : List ℕ → ℕ
@@ -39,6 +43,23 @@ faults nth = Ask (DoPlan (number_word 1 1000000 nth)) Silent
 -- `accept N`
 abbrev pub accepts : List ℕ → Action
 accepts bits = Ask (DoAccept (number_word 0 0xFFFFFFFFFFFFFFFF bits)) Silent
+
+-- `aggregate LABEL NAME [NAME [NAME [NAME]]]`: the files of the first names, in order, where they are there; the slots of these; and what is asked for. A
+-- request that a statement of the first uAPI made is a request too.
+abbrev pub files_named : ℕ → List Span → List File → List (Option File)
+files_named most [] files = []
+files_named most (word ∷ words) files = if nat_eq most 0 then [] else file_of word.text files ∷ files_named (most - 1) words files
+
+abbrev pub slots_of : List (Option File) → List ℕ
+slots_of [] = []
+slots_of (None ∷ named) = slots_of named
+slots_of (Some file ∷ named) = file.slot ∷ slots_of named
+
+abbrev pub aggregates : List ℕ → List (Option File) → Action
+aggregates label named =
+    if list_any (λ file. not (is_some file)) named then Refuse BadF
+    else if list_any is_chip_file named then Refuse Inval
+    else Ask (DoAggregate label (padded 4 (slots_of named)) (length (slots_of named))) Silent
 
 -- `unplug CHIP`
 abbrev pub unplugs : ℕ → Action
@@ -156,6 +177,7 @@ action_of (Some Read) files slot words = reads (line_file (text_at 1 words)) (te
 action_of (Some Clock) files slot words = clocks (text_at 1 words) (text_at 2 words)
 action_of (Some Fault) files slot words = faults (text_at 1 words)
 action_of (Some Accept) files slot words = accepts (text_at 1 words)
+action_of (Some Aggregate) files slot words = aggregates (name_word (text_at 1 words)) (files_named 4 (behind_two words) files)
 action_of (Some Pin) files slot words = pins (place_word (text_at 2 words)) words
 action_of (Some Irq) files slot words = irqs (place_word (text_at 2 words)) words
 action_of (Some Open) files slot words = opens (is_some (file_of (text_at 1 words) files)) slot (text_at 2 words)
@@ -173,3 +195,11 @@ action_of (Some Set) files slot words = Nothing
 action_of (Some Start) files slot words = Nothing
 action_of (Some Step) files slot words = Nothing
 action_of (Some Stop) files slot words = Nothing
+
+-- `aggregate` is a statement of `setup` alone: in another section it is refused before its names are looked at
+abbrev pub only_in_setup : Bool → Option Keyword → Action → Action
+only_in_setup in_setup keyword action = if is_aggregate keyword && not in_setup then Refuse Inval else action
+
+-- what a statement that is no tool's does first, with these names there
+abbrev pub action_here : Names → ℕ → List Span → Action
+action_here names slot words = only_in_setup names.in_setup (keyword_of (text_at 0 words)) (action_of (keyword_of (text_at 0 words)) names.files slot words)

@@ -6,7 +6,7 @@ use Rattle.gl_client.specs.Entries.{EntriesLeave}
 use Rattle.gl_client.specs.OpenSlots.{AreApart, NamesOpenSlots, SameSlots, is_open}
 use Rattle.gl_client.specs.Program.{done}
 use Rattle.gl_script.specs.Cost.{words_cost}
-use Rattle.gl_talk.specs.Open.{Names, no_names, open_slots}
+use Rattle.gl_talk.specs.Open.{Names, no_names, open_slots, setup_names}
 use Rattle.gl_talk.specs.Talk.{quits, says, slot_behind, talks}
 
 -- These slots are open where a talk has begun so many statements and has these names: they are those of its files and tools,
@@ -23,6 +23,10 @@ AllClosed names slots = slots ≡ []
 -- None is open before the first statement.
 abbrev pub NoneIsOpenBefore : Type 0
 NoneIsOpenBefore = AreOpen 0 no_names []
+
+-- None is open before the first one of `setup`.
+abbrev pub NoneIsOpenBeforeSetup : Type 0
+NoneIsOpenBeforeSetup = AreOpen 0 setup_names []
 
 -- Statements in a row name open slots alone, and open files in free ones; after them the slots of the files are open that the
 -- names have then.

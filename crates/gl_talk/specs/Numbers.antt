@@ -1,6 +1,6 @@
 -- The numbers of a talk's files. Whoever carries a talk out gives each file that it opens a number above those of the files that are
 -- open then, as the device does. This project's choice.
-use Rattle.std.specs.Prelude.{◌≡◌, ℕ, ◌<◌, Bool, nat_eq, nat_lt, if◌then◌else◌, List, [], ◌∷◌, ◌++◌, map, Option, None, Some}
+use Rattle.std.specs.Prelude.{◌≡◌, ℕ, ◌<◌, Bool, nat_eq, nat_lt, if◌then◌else◌, List, [], ◌∷◌, ◌++◌, length, map, Option, None, Some}
 use Rattle.gl_base.specs.Operation.{refusal}
 use Rattle.gl_base.specs.Ordered.{ordered}
 use Rattle.gl_base.specs.Rows.{Each, without_first}
@@ -12,7 +12,7 @@ use Rattle.gl_base.specs.declared.operation.Do.TheVariants.{OpenChip, Ioctl, Clo
 use Rattle.gl_base.specs.declared.operation.Got.{Got}
 use Rattle.gl_client.specs.Entries.{IsKept}
 use Rattle.gl_client.specs.Program.{Program, done, print, ask}
-use Rattle.gl_talk.specs.Open.{Names, no_names, slots_in_order}
+use Rattle.gl_talk.specs.Open.{Names, left_setup, no_names, setup_names, slots_in_order}
 use Rattle.gl_talk.specs.Talk.{says}
 
 -- an open file: its slot, and its number
@@ -52,3 +52,7 @@ CloseByNumber names files = slots_in_order names ≡ map (λ file. file.slot) (o
 -- So it is after the statements of each talk.
 abbrev pub FilesCloseByNumber : Type 0
 FilesCloseByNumber = (statements : List (List Span)) → NumbersFiles CloseByNumber [] (says 0 statements done no_names)
+
+-- So it is after the statements of `setup`, and then those of another section, in one talk.
+abbrev pub SetupClosesByNumber : Type 0
+SetupClosesByNumber = (setup later : List (List Span)) → NumbersFiles CloseByNumber [] (says 0 setup (λ names. says (length setup) later done (left_setup names)) setup_names)

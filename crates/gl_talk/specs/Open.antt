@@ -44,14 +44,22 @@ pub record MonitorTool : Type 0 where
   pub name : List ℕ
   pub watched : Watched
 
--- what an actor has open, by name; names of files and names of tools are apart
+-- what an actor has open, by name; names of files and names of tools are apart. And whether the statements under way are those of `setup`.
 pub record Names : Type 0 where
   pub files : List File
   pub sets : List SetTool
   pub monitors : List MonitorTool
+  pub in_setup : Bool
 
 abbrev pub no_names : Names
-no_names = record { files = []; sets = []; monitors = [] }
+no_names = record { files = []; sets = []; monitors = []; in_setup = false }
+
+-- as `setup` begins, and as another section goes on with what it left
+abbrev pub setup_names : Names
+setup_names = record no_names { in_setup = true }
+
+abbrev pub left_setup : Names → Names
+left_setup names = record names { in_setup = false }
 
 abbrev pub is_file : List ℕ → File → Bool
 is_file name file = bytes_eq file.name name

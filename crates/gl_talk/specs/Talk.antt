@@ -31,7 +31,7 @@ pub use Rattle.gl_talk.specs.Doing.{Does, refused, shows}
 use Rattle.gl_talk.specs.Formats.{Action, Nothing, Refuse, Ask, ResultFormat, Silent, Value, Level, Bytes, Edges, Infos, Ready, Opened, Closed, Made, OldBytes, OldEdges, OldMade}
 use Rattle.gl_talk.specs.Old.{made_kind, old_command_word, old_edges_text, old_structure_text}
 use Rattle.gl_talk.specs.Open.{File, Names, no_names, file_in, set_in, monitor_in, has_tool, held_of_name, watched_of_name, with_file, without_file, with_set, with_monitor, without_set, without_monitor, slots_in_order}
-use Rattle.gl_talk.specs.Actions.{action_of}
+use Rattle.gl_talk.specs.Actions.{action_here}
 use Rattle.gl_talk.specs.Replies.{number_of, text_of, level_text, ready_text, structure_text, fd_text, edges_text, infos_text}
 use Rattle.gl_talk.specs.SaidTalk.{replied_said}
 use Rattle.gl_talk.specs.ToolWords.{kind_of, usage_text, word_texts}
@@ -115,7 +115,7 @@ stops None (Some held) names words = then_by (stops_holding held) (keeps_set (te
 stops None None names words = refused BadF names
 
 abbrev pub does_by : StatementKind → Names → ℕ → List Span → Does
-does_by Plain names slot words = acts (action_of (keyword_of (text_at 0 words)) names.files slot words) names slot words
+does_by Plain names slot words = acts (action_here names slot words) names slot words
 does_by ToolAlone names slot words = runs (tool_said (word_texts words)) names slot words
 does_by Starting names slot words = starts (has_tool (text_at 1 words) names) names slot words
 does_by Stepping names slot words = steps (watched_of_name (text_at 1 words) names.monitors) (held_of_name (text_at 1 words) names.sets) names words
@@ -195,7 +195,7 @@ left_at t names slot words Quitting = goes_on (quits names)
 left_at t names slot words Closing = waits (λ _. closes_all t.closing.items)
 
 abbrev pub names_in : Talk → Names
-names_in t = record { files = map file_in t.files.items; sets = map set_in t.sets.items; monitors = map monitor_in t.monitors.items }
+names_in t = record { files = map file_in t.files.items; sets = map set_in t.sets.items; monitors = map monitor_in t.monitors.items; in_setup = t.in_setup }
 
 abbrev pub slot_in : Talk → ℕ
 slot_in t = 2 * t.begun

@@ -3,13 +3,15 @@
 //! An action has some 600 bytes, and a function begins by zeroing each value of that size that any of its branches makes. So a branch
 //! that makes an action is a function.
 
-ghost use Rattle.std.specs.Prelude.{◌≡◌, ◌*◌, ◌/◌, ◌<◌, ◌≤◌, map, is_some, Some, Ok, option_map, option_copied, IfOk, IfSome, IsOkUnless, true, false};
+ghost use Rattle.std.specs.Prelude.{◌≡◌, ◌*◌, ◌/◌, ◌<◌, ◌≤◌, ◌&&◌, not, map, is_some, Some, Ok, option_map, option_copied, IfOk, IfSome, IsOkUnless, true, false};
 ghost use Rattle.gl_base.specs.Words.{text_at};
 ghost use Rattle.gl_script.specs.Columns.{columns};
+ghost use Rattle.gl_script.specs.Cost.{is_aggregate};
+ghost use Rattle.gl_script.specs.Said.{keyword_said};
 ghost use Rattle.gl_script.specs.Table.{keyword_of};
 ghost use Rattle.gl_talk.specs.Open.{Names, file_in, file_of, is_chip, is_old_event, is_request};
 ghost use Rattle.gl_talk.specs.Paths.{line_file, live_device};
-ghost use Rattle.gl_talk.specs.Actions.{action_of};
+ghost use Rattle.gl_talk.specs.Actions.{action_of, only_in_setup};
 ghost use Rattle.gl_talk.specs.SaidActions.{action_said, asks_for_said, bytes_reply_said, closes_said, command_reply_said, ioctls_bytes_said, ioctls_said, is_command, lives_said, old_ioctls_bytes_said, old_ioctls_said, old_reply_said, opens_said, polls_said, read_if_said, reads_file_said, reads_said, reply_said, takes, writes_line_said, writes_said, writes_tree_said};
 ghost use Rattle.gl_talk.specs.SaidTalk.{acts_said};
 ghost use Rattle.gl_talk.specs.Talk.{acts};
@@ -17,6 +19,7 @@ ghost use Rattle.gl_talk.specs.Words.{behind_three, bytes_said};
 
 use crate::copied::CopiedStatement;
 use crate::files::{TalkFile, TalkFileKind, file_of, has_file, is_chip, is_old_event, is_request};
+use crate::joining::aggregates;
 use crate::old::{old_bytes_reply, old_reply, sent_new, sent_old};
 use crate::paths::{LineFile, line_file, live_device};
 use crate::words::{bytes_said, live_word, pull_word, word};
@@ -73,8 +76,51 @@ pub enum SaidAction {
     Ask(Do, SaidFormat),
 }
 
-/// What a statement does first: with it the statement does what its words say. `slot` is a slot of its own.
-pub fn action_of(
+/// What a statement does first in its section: with it the statement does what its words say. `slot` is a slot of its own.
+pub fn action_here(
+    alloc: Global,
+    in_setup: bool,
+    files: &[TalkFile],
+    slot: u32,
+    line: &CopiedStatement,
+) -> Result<SaidAction, Errno>
+    ensures ok { (names : Names) → IfOk result (λ what.
+        acts (only_in_setup in_setup (keyword_of (text_at 0 (columns line.now))) (action_of (keyword_of (text_at 0 (columns line.now))) (map file_in files.now) slot (columns line.now))) names slot (columns line.now)
+        ≡ acts_said what names slot (columns line.now)) }
+    ensures memory_alone { IsOkUnless result Errno.NoMemory }
+{
+    if is_out_of_place(in_setup, line) {
+        return refuses_command(Errno::Inval);
+    }
+    action_of(alloc, files, slot, line)
+}
+
+/// Whether a statement is an `aggregate` that stands in another section than `setup`.
+fn is_out_of_place(in_setup: bool, line: &CopiedStatement) -> bool
+    ensures { result ≡ (is_aggregate (keyword_of (text_at 0 (columns line.now))) && not in_setup) }
+{
+    is_aggregate(line) && !in_setup
+}
+
+/// Whether a statement is an `aggregate`.
+fn is_aggregate(line: &CopiedStatement) -> bool
+    ensures { result ≡ is_aggregate (keyword_of (text_at 0 (columns line.now))) }
+{
+    match line.said() {
+        Some(said) => is_aggregate_said(&said),
+        None => false,
+    }
+}
+
+/// Whether what is said is that of one.
+fn is_aggregate_said(said: &Said) -> bool
+    ensures { result ≡ is_aggregate (Some (keyword_said said.now)) }
+{
+    matches!(said, Said::Aggregate { .. })
+}
+
+/// What a statement does first, wherever it stands: with it the statement does what its words say. `slot` is a slot of its own.
+fn action_of(
     alloc: Global,
     files: &[TalkFile],
     slot: u32,
@@ -124,6 +170,7 @@ fn row_said(said: &Said, files: &[TalkFile], slot: u32, line: &CopiedStatement) 
         Said::Clock { mono, real } => ticks(*mono, *real),
         Said::Fault { nth } => plans(*nth),
         Said::Accept { bits } => accepts(*bits),
+        Said::Aggregate { label } => aggregates(label, files, line),
         Said::Pin { chip, what } => pins(*chip, *what),
         Said::Irq { what, chip, offset } => irqs(*what, *chip, *offset),
         Said::Open { name, word } => opens(has_file(files, name.as_bytes()), slot, name, word),
@@ -199,7 +246,7 @@ fn irqs(what: IrqDo, place: u8, offset: u32) -> SaidAction
 }
 
 /// It is refused without a call.
-fn refuses(errno: Errno) -> SaidAction
+pub fn refuses(errno: Errno) -> SaidAction
     ensures { result ≡ SaidAction.Refuse errno }
 {
     SaidAction::Refuse(errno)

@@ -2,8 +2,8 @@
 //! as they are. Each law stands as the contract of a function that does nothing.
 ghost use Rattle.gl_talk.specs.Costs.{StatementsKeepWithinCost, TalksKeepWithinCost, TalksMakeAtMost};
 ghost use Rattle.gl_talk.specs.Slots.{SlotsAreOwn};
-ghost use Rattle.gl_talk.specs.Files.{EndClosesAll, EndMakesAtMost, NoneIsOpenBefore, StatementsFindTheirFiles, StatementsLeaveEntries, TalksFindTheirFiles};
-ghost use Rattle.gl_talk.specs.Numbers.{FilesCloseByNumber};
+ghost use Rattle.gl_talk.specs.Files.{EndClosesAll, EndMakesAtMost, NoneIsOpenBefore, NoneIsOpenBeforeSetup, StatementsFindTheirFiles, StatementsLeaveEntries, TalksFindTheirFiles};
+ghost use Rattle.gl_talk.specs.Numbers.{FilesCloseByNumber, SetupClosesByNumber};
 ghost use Rattle.gl_talk.specs.InParts.{StatementsComeInParts, TalksAreStatementsAndTheEnd};
 ghost use Rattle.gl_talk.specs.Printed.{StatementsPrintLines, TalksPrintLines};
 ghost use Rattle.gl_talk.specs.SaidActions.{StatementsAskWhatTheySay};
@@ -27,6 +27,7 @@ pub fn talks_keep_within_cost()
 /// operation.
 pub fn talks_find_their_files()
     ensures before { NoneIsOpenBefore }
+    ensures before_setup { NoneIsOpenBeforeSetup }
     ensures statements { StatementsFindTheirFiles }
     ensures end { EndClosesAll }
     ensures whole { TalksFindTheirFiles }
@@ -56,6 +57,11 @@ pub fn slots_are_own()
 /// numbers: whatever number each was given where it was opened, above those of the files that were open then.
 pub fn files_close_by_number()
     ensures { FilesCloseByNumber }
+{}
+
+/// The same of the talk of `setup`, which goes on with the statements of another section.
+pub fn setup_closes_by_number()
+    ensures { SetupClosesByNumber }
 {}
 
 /// Statements in a row are those of a first list and then those of a second one, so a talk may wait between the two; and what

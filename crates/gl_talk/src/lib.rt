@@ -7,6 +7,7 @@ mod copied;
 mod files;
 mod held;
 mod holding;
+mod joining;
 mod laws;
 mod old;
 mod over;
@@ -18,7 +19,7 @@ mod tools;
 mod words;
 
 pub use laws::{
-    files_close_by_number, slots_are_own, statements_ask_what_they_say,
+    files_close_by_number, setup_closes_by_number, slots_are_own, statements_ask_what_they_say,
     statements_keep_within_cost, statements_leave_entries, talks_are_statements_and_the_end,
     talks_find_their_files, talks_keep_within_cost, talks_make_at_most, talks_print_lines,
     words_are_read_as_they_are,

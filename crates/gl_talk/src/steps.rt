@@ -7,13 +7,13 @@ ghost use Rattle.gl_args.specs.Tools.{tool_said};
 ghost use Rattle.gl_script.specs.Table.{keyword_of};
 ghost use Rattle.gl_values.specs.Client.{client_left};
 ghost use Rattle.gl_talk.specs.Open.{with_file};
-ghost use Rattle.gl_talk.specs.Actions.{action_of};
+ghost use Rattle.gl_talk.specs.Actions.{action_here};
 ghost use Rattle.gl_talk.specs.Replies.{fd_text};
 ghost use Rattle.gl_talk.specs.SaidTalk.{file_said, replied_said, told_said};
 ghost use Rattle.gl_talk.specs.Talk.{StaysBegun, StaysLeft, acts, closes_all, does, left, names_in, quits, refused, runs, shows, slot_in, words_in};
 ghost use Rattle.gl_talk.specs.ToolWords.{word_texts};
 
-use crate::actions::{SaidAction, SaidFormat, action_of};
+use crate::actions::{SaidAction, SaidFormat, action_here};
 use crate::closing::slots_in_order;
 use crate::files::{TalkFile, TalkFileKind, remove_file};
 use crate::old::{old_edges_text, old_structure_line};
@@ -107,13 +107,14 @@ impl Talk {
     /// The first step of a statement that asks for one operation at most.
     fn start_plain(&mut self, alloc: Global, step: &mut Next) -> Result<(), Errno>
         requires { self.old.begun ≤ 2147483647 }
-        ensures goes { OnOk result (Goes (acts (action_of (keyword_of (text_at 0 (words_in self.old))) (names_in self.old).files (slot_in self.old) (words_in self.old)) (names_in self.old) (slot_in self.old) (words_in self.old)) step.new (left self.new)) }
+        ensures goes { OnOk result (Goes (acts (action_here (names_in self.old) (slot_in self.old) (words_in self.old)) (names_in self.old) (slot_in self.old) (words_in self.old)) step.new (left self.new)) }
         ensures rests { OnOk result (MatchNext step.new (Unit {0}) (left self.new ≡ goes_on (done (names_in self.new)))) }
         ensures counted { OnOk result (self.new.begun ≡ self.old.begun) }
         ensures kept { OnErr result (self.new ≡ self.old) }
         ensures memory_alone { IsOkUnless result Errno.NoMemory }
     {
-        let action = action_of(alloc, &self.files, 2 * self.begun, &self.line)?;
+        let slot = 2 * self.begun;
+        let action = action_here(alloc, self.in_setup, &self.files, slot, &self.line)?;
         match &action {
             SaidAction::Nothing => {
                 self.end(step);
@@ -328,6 +329,7 @@ impl Talk {
             self.files.clear();
             self.sets.clear();
             self.monitors.clear();
+            self.in_setup = false;
             return self.end(step);
         }
         let slot = self.closing.remove(0);

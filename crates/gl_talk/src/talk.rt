@@ -2,7 +2,7 @@
 ghost use Rattle.std.specs.Prelude.{◌≡◌, ◌+◌, ◌*◌, ◌<◌, ◌≤◌, [], ◌∷◌, List, IfOk, OnOk, OnErr, IsOkUnless, option_copied};
 ghost use Rattle.gl_client.specs.Program.{Goes, MatchNext, given, goes_on, done, then_left};
 ghost use Rattle.gl_base.specs.Words.{Span};
-ghost use Rattle.gl_talk.specs.Open.{Names, file_of, is_chip_file, no_names};
+ghost use Rattle.gl_talk.specs.Open.{Names, file_of, is_chip_file, left_setup, no_names, setup_names};
 ghost use Rattle.gl_talk.specs.Over.{columns_in};
 ghost use Rattle.gl_talk.specs.Talk.{Does, does, left, names_in, quits, slot_behind, talk_left, talks};
 
@@ -50,6 +50,8 @@ pub struct Talk {
     pub sets: Vec<SetRow>,
     /// The monitors that were started and watch their lines.
     pub monitors: Vec<MonitorRow>,
+    /// Whether its statements are those of `setup`.
+    pub in_setup: bool,
     /// How many statements were begun.
     pub begun: u32,
     /// Where it stands.
@@ -63,9 +65,24 @@ pub struct Talk {
 }
 
 impl Talk {
-    /// No statement was begun, and no file is open.
+    /// No statement was begun, and no file is open. Its statements are those of another section than `setup`.
     pub fn new(alloc: Global) -> Result<Talk, Errno>
         ensures ok { IfOk result (λ talk. (names_in talk ≡ no_names) × (talk.begun ≡ 0) × (left talk ≡ goes_on (done no_names))) }
+        ensures memory_alone { IsOkUnless result Errno.NoMemory }
+    {
+        Talk::in_section(alloc, false)
+    }
+
+    /// The same, of the statements of `setup`.
+    pub fn for_setup(alloc: Global) -> Result<Talk, Errno>
+        ensures ok { IfOk result (λ talk. (names_in talk ≡ setup_names) × (talk.begun ≡ 0) × (left talk ≡ goes_on (done setup_names))) }
+        ensures memory_alone { IsOkUnless result Errno.NoMemory }
+    {
+        Talk::in_section(alloc, true)
+    }
+
+    fn in_section(alloc: Global, in_setup: bool) -> Result<Talk, Errno>
+        ensures ok { IfOk result (λ talk. (names_in talk ≡ record no_names { in_setup = in_setup }) × (talk.begun ≡ 0) × (left talk ≡ goes_on (done (record no_names { in_setup = in_setup })))) }
         ensures memory_alone { IsOkUnless result Errno.NoMemory }
     {
         Ok(Talk {
@@ -73,12 +90,24 @@ impl Talk {
             files: Vec::new(alloc),
             sets: Vec::new(alloc),
             monitors: Vec::new(alloc),
+            in_setup,
             begun: 0,
             stage: Stage::Idle,
             client: Client::Nothing,
             monitor: None,
             closing: Vec::new(alloc),
         })
+    }
+
+    /// The statements that are begun from now on are those of another section than `setup`. (It gives up a statement that is under way: let it
+    /// come to its end before.)
+    pub fn leave_setup(&mut self)
+        ensures left { left self.new ≡ goes_on (done (left_setup (names_in self.old))) }
+        ensures names { names_in self.new ≡ left_setup (names_in self.old) }
+        ensures counted { self.new.begun ≡ self.old.begun }
+    {
+        self.in_setup = false;
+        self.stage = Stage::Idle;
     }
 
     /// Begins a statement, which has two slots of its own. It is copied; `NoMemory` alone is refused, and then all is as it was.

@@ -60,6 +60,7 @@ fn kind_said(said: &Said) -> StatementKind
         | Said::Clock { .. }
         | Said::Fault { .. }
         | Said::Accept { .. }
+        | Said::Aggregate { .. }
         | Said::Pin { .. }
         | Said::Irq { .. }
         | Said::Open { .. }

@@ -1,10 +1,13 @@
 pub mod ChipWords
+pub mod DetectChips
 pub mod DetectCosts
 pub mod DetectPrints
+pub mod InfoChips
 pub mod InfoCosts
 pub mod InfoLines
 pub mod InfoPrints
 pub mod Staying
+pub mod ToolChips
 pub mod ToolCosts
 pub mod ToolNames
 pub mod ToolPrints

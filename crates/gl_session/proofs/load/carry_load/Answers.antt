@@ -1,9 +1,16 @@
-use Rattle.std.proofs.Common.{◌≡◌, ℕ, List, IfOk, rules, subst}
+use Rattle.std.proofs.Common.{◌≡◌, ℕ, List, IfOk, rules, subst, sym}
 use Rattle.gl_script.specs.Gen.{load_text}
+use Rattle.gl_script.specs.Section.{SaidSection}
+use Rattle.gl_script.specs.Sentence.{Sentence, sections_said}
 use Rattle.gl_session.specs.Figures.{CameToFigures}
 use Rattle.gl_session.specs.Workers.{told_at}
 use Rattle.gl_session.proofs.load.carry_load.Goals as goal
 use Rattle.gl_check.specs.Drivers.{driver_kind}
+
+pub carry_bytes-requires-clause-session : goal.carry_bytes-requires-clause-session
+carry_bytes-requires-clause-session g c κs within =
+    let load_is : c.deref.result.now ≡ load_text c.args.turns = search rules in
+    subst (λ (bytes : List ℕ). (sections : List SaidSection) × Sentence bytes sections) (sym load_is) (sections_said (load_text c.args.turns), (c.loads_are_sessions.ensures c.args.turns c.requires.turns.0 c.requires.turns.1).0)
 
 pub returns-in-Ok-clause-came : goal.returns-in-Ok-clause-came
 returns-in-Ok-clause-came g c =

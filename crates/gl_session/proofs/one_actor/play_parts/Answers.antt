@@ -2,7 +2,7 @@ use Rattle.std.proofs.Common.{◌≡◌, [], arith, refl, inl, inr, ⊎_elim}
 use Rattle.gl_client.specs.Program.{done}
 use Rattle.gl_script.specs.Script.{sections_of}
 use Rattle.gl_script.specs.declared.section.SectionKind.TheVariants.{After, Setup}
-use Rattle.gl_talk.specs.Open.{no_names}
+use Rattle.gl_talk.specs.Open.{left_setup, setup_names}
 use Rattle.gl_talk.specs.Talk.{names_in, quits}
 use Rattle.gl_check.specs.Drivers.{driver_kind}
 use Rattle.gl_check.specs.Programs.{after_of, setup_of}
@@ -20,7 +20,7 @@ returns-in-Err-clause-stopped g c =
     (λ full. inr (
       full.0,
       stops_in_setup (driver_kind g.D.Driver.ENTRIES g.D.Driver.is_planned g.D.Driver.OwnEntries g.D.Driver.Follows) (sections_of c.args.script.now) _ _ c.args.player.now.carried.told c.requires.first
-          (stops_so _ _ c.args.player.now.carried.told (said_in_kind Setup (sections_of c.args.script.now)) done c.args.talk.now.begun 0 (names_in c.args.talk.now) no_names c.args.player.now.carried.files [] c.requires.talk.1 c.requires.talk.0 c.requires.new.0 _ full.1),
+          (stops_so _ _ c.args.player.now.carried.told (said_in_kind Setup (sections_of c.args.script.now)) done c.args.talk.now.begun 0 (names_in c.args.talk.now) setup_names c.args.player.now.carried.files [] c.requires.talk.1 c.requires.talk.0 c.requires.new.0 _ full.1),
     ))
     c.in-Err.ensures.stopped
 
@@ -28,7 +28,7 @@ pub returns-in-Err-play_actor-clause-stopped : goal.returns-in-Err-play_actor-cl
 returns-in-Err-play_actor-clause-stopped g c =
     let setup : PlaysOn (driver_kind g.D.Driver.ENTRIES g.D.Driver.is_planned g.D.Driver.OwnEntries g.D.Driver.Follows) (setup_of (sections_of c.args.script.now)) c.args.player.now.view (carried [] c.args.player.now.carried.told) c.args.player.now.text
     (done (names_in c.play_kind.new.talk)) c.play_kind.new.player.view c.play_kind.new.player.carried c.play_kind.new.player.text
-    = begins_so _ _ c.args.player.now.carried.told (said_in_kind Setup (sections_of c.args.script.now)) done c.args.talk.now.begun 0 (names_in c.args.talk.now) no_names c.args.player.now.carried.files [] c.requires.talk.1 c.requires.talk.0 c.requires.new.0 _ _ _ _ _ c.in-Ok.ensures.played in
+    = begins_so _ _ c.args.player.now.carried.told (said_in_kind Setup (sections_of c.args.script.now)) done c.args.talk.now.begun 0 (names_in c.args.talk.now) setup_names c.args.player.now.carried.files [] c.requires.talk.1 c.requires.talk.0 c.requires.new.0 _ _ _ _ _ c.in-Ok.ensures.played in
     ⊎_elim (λ wanted. inl wanted)
     (λ full. inr (full.0, stops_in_actor (driver_kind g.D.Driver.ENTRIES g.D.Driver.is_planned g.D.Driver.OwnEntries g.D.Driver.Follows) (sections_of c.args.script.now) _ _ _ c.requires.first _ _ _ _ setup _ full.1))
     c.in-Err-play_actor.ensures.stopped
@@ -37,28 +37,28 @@ pub returns-in-Ok-play_to_end-clause-played : goal.returns-in-Ok-play_to_end-cla
 returns-in-Ok-play_to_end-clause-played g c =
     let setup : PlaysOn (driver_kind g.D.Driver.ENTRIES g.D.Driver.is_planned g.D.Driver.OwnEntries g.D.Driver.Follows) (setup_of (sections_of c.args.script.now)) c.args.player.now.view (carried [] c.args.player.now.carried.told) c.args.player.now.text
     (done (names_in c.play_kind.new.talk)) c.play_kind.new.player.view c.play_kind.new.player.carried c.play_kind.new.player.text
-    = begins_so _ _ c.args.player.now.carried.told (said_in_kind Setup (sections_of c.args.script.now)) done c.args.talk.now.begun 0 (names_in c.args.talk.now) no_names c.args.player.now.carried.files [] c.requires.talk.1 c.requires.talk.0 c.requires.new.0 _ _ _ _ _ c.in-Ok.ensures.played in
-    let number : c.play_kind.new.talk.begun ≡ count_in_kind Setup (sections_of c.args.script.now) = omega (arith, c.requires.talk.1, c.in-Ok.ensures.counted) in
+    = begins_so _ _ c.args.player.now.carried.told (said_in_kind Setup (sections_of c.args.script.now)) done c.args.talk.now.begun 0 (names_in c.args.talk.now) setup_names c.args.player.now.carried.files [] c.requires.talk.1 c.requires.talk.0 c.requires.new.0 _ _ _ _ _ c.in-Ok.ensures.played in
+    let number : c.leave_setup.new.self.begun ≡ count_in_kind Setup (sections_of c.args.script.now) = omega (arith, c.requires.talk.1, c.in-Ok.ensures.counted, c.leave_setup.ensures.counted) in
     let own = c.in-Ok-play_actor.ensures.played in
     let after : PlaysOn (driver_kind g.D.Driver.ENTRIES g.D.Driver.is_planned g.D.Driver.OwnEntries g.D.Driver.Follows) (after_of (sections_of c.args.script.now) (names_in c.play_kind.new.talk)) c.play_actor.new.player.view
     (carried c.play_kind.new.player.carried.files c.play_actor.new.player.carried.told) c.play_actor.new.player.text
     (done (names_in c.play_to_end.new.talk)) c.play_to_end.new.player.view c.play_to_end.new.player.carried c.play_to_end.new.player.text
-    = begins_so _ _ c.play_actor.new.player.carried.told (said_in_kind After (sections_of c.args.script.now)) quits c.play_kind.new.talk.begun (count_in_kind Setup (sections_of c.args.script.now)) (names_in c.play_kind.new.talk) (names_in c.play_kind.new.talk) c.play_actor.new.player.carried.files c.play_kind.new.player.carried.files number refl c.in-Ok-play_actor.ensures.waiting _ _ _ _ _ c.in-Ok-play_to_end.ensures.played in
+    = begins_so _ _ c.play_actor.new.player.carried.told (said_in_kind After (sections_of c.args.script.now)) quits c.leave_setup.new.self.begun (count_in_kind Setup (sections_of c.args.script.now)) (names_in c.leave_setup.new.self) (left_setup (names_in c.play_kind.new.talk)) c.play_actor.new.player.carried.files c.play_kind.new.player.carried.files number c.leave_setup.ensures.names c.in-Ok-play_actor.ensures.waiting _ _ _ _ _ c.in-Ok-play_to_end.ensures.played in
     has_played (driver_kind g.D.Driver.ENTRIES g.D.Driver.is_planned g.D.Driver.OwnEntries g.D.Driver.Follows) (sections_of c.args.script.now) _ _ _ c.requires.first _ _ _ _ setup _ _ own.0 (carried own.1 c.play_actor.new.player.carried.told) own.2 _ _ _ _ c.requires.new.1 after
 
 pub returns-in-Err-play_to_end-clause-stopped : goal.returns-in-Err-play_to_end-clause-stopped
 returns-in-Err-play_to_end-clause-stopped g c =
     let setup : PlaysOn (driver_kind g.D.Driver.ENTRIES g.D.Driver.is_planned g.D.Driver.OwnEntries g.D.Driver.Follows) (setup_of (sections_of c.args.script.now)) c.args.player.now.view (carried [] c.args.player.now.carried.told) c.args.player.now.text
     (done (names_in c.play_kind.new.talk)) c.play_kind.new.player.view c.play_kind.new.player.carried c.play_kind.new.player.text
-    = begins_so _ _ c.args.player.now.carried.told (said_in_kind Setup (sections_of c.args.script.now)) done c.args.talk.now.begun 0 (names_in c.args.talk.now) no_names c.args.player.now.carried.files [] c.requires.talk.1 c.requires.talk.0 c.requires.new.0 _ _ _ _ _ c.in-Ok.ensures.played in
-    let number : c.play_kind.new.talk.begun ≡ count_in_kind Setup (sections_of c.args.script.now) = omega (arith, c.requires.talk.1, c.in-Ok.ensures.counted) in
+    = begins_so _ _ c.args.player.now.carried.told (said_in_kind Setup (sections_of c.args.script.now)) done c.args.talk.now.begun 0 (names_in c.args.talk.now) setup_names c.args.player.now.carried.files [] c.requires.talk.1 c.requires.talk.0 c.requires.new.0 _ _ _ _ _ c.in-Ok.ensures.played in
+    let number : c.leave_setup.new.self.begun ≡ count_in_kind Setup (sections_of c.args.script.now) = omega (arith, c.requires.talk.1, c.in-Ok.ensures.counted, c.leave_setup.ensures.counted) in
     let own = c.in-Ok-play_actor.ensures.played in
     ⊎_elim (λ wanted. inl wanted)
     (λ full. inr (
       full.0,
       let stopped : StoppedFull (driver_kind g.D.Driver.ENTRIES g.D.Driver.is_planned g.D.Driver.OwnEntries g.D.Driver.Follows) (after_of (sections_of c.args.script.now) (names_in c.play_kind.new.talk)) c.play_actor.new.player.view
           (carried c.play_kind.new.player.carried.files c.play_actor.new.player.carried.told) c.play_to_end.new.player.view
-          = stops_so _ _ c.play_actor.new.player.carried.told (said_in_kind After (sections_of c.args.script.now)) quits c.play_kind.new.talk.begun (count_in_kind Setup (sections_of c.args.script.now)) (names_in c.play_kind.new.talk) (names_in c.play_kind.new.talk) c.play_actor.new.player.carried.files c.play_kind.new.player.carried.files number refl c.in-Ok-play_actor.ensures.waiting _ full.1 in
+          = stops_so _ _ c.play_actor.new.player.carried.told (said_in_kind After (sections_of c.args.script.now)) quits c.leave_setup.new.self.begun (count_in_kind Setup (sections_of c.args.script.now)) (names_in c.leave_setup.new.self) (left_setup (names_in c.play_kind.new.talk)) c.play_actor.new.player.carried.files c.play_kind.new.player.carried.files number c.leave_setup.ensures.names c.in-Ok-play_actor.ensures.waiting _ full.1 in
           stops_in_after (driver_kind g.D.Driver.ENTRIES g.D.Driver.is_planned g.D.Driver.OwnEntries g.D.Driver.Follows) (sections_of c.args.script.now) _ _ _ c.requires.first _ _ _ _ setup _ _ own.0 (carried own.1 c.play_actor.new.player.carried.told) own.2 _ stopped,
     ))
     c.in-Err-play_to_end.ensures.stopped

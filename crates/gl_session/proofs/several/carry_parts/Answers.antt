@@ -3,7 +3,7 @@ use Rattle.gl_client.specs.Program.{done}
 use Rattle.gl_driver.specs.Told.{Told}
 use Rattle.gl_script.specs.Script.{sections_of}
 use Rattle.gl_script.specs.declared.section.SectionKind.TheVariants.{After, Setup}
-use Rattle.gl_talk.specs.Open.{no_names}
+use Rattle.gl_talk.specs.Open.{left_setup, setup_names}
 use Rattle.gl_talk.specs.Talk.{names_in, quits}
 use Rattle.gl_check.specs.Drivers.{driver_kind}
 use Rattle.gl_check.specs.Programs.{after_of, setup_of}
@@ -22,12 +22,12 @@ returns-in-Ok-play_to_end-clause-out g c =
     (done (names_in c.play_kind.new.talk)) c.take_text-setup.new.self.view c.take_text-setup.new.self.carried c.take_text-setup.result.items
     = (let taken = c.take_text-setup.ensures in
     text_taken (driver_kind g.D.Driver.ENTRIES g.D.Driver.is_planned g.D.Driver.OwnEntries g.D.Driver.Follows) _ _ _ _ _ _ _ _ _ _ _ c.requires.new.1 taken.view taken.carried taken.text
-    (begins_so _ _ c.args.first.now.carried.told (said_in_kind Setup (sections_of c.args.script.now)) done c.args.talk.now.begun 0 (names_in c.args.talk.now) no_names c.args.first.now.carried.files [] c.requires.talk.1 c.requires.talk.0 c.requires.new.0 _ _ _ _ _ c.in-Ok.ensures.played)) in
-    let number : c.play_kind.new.talk.begun ≡ count_in_kind Setup (sections_of c.args.script.now) = omega (arith, c.requires.talk.1, c.in-Ok.ensures.counted) in
+    (begins_so _ _ c.args.first.now.carried.told (said_in_kind Setup (sections_of c.args.script.now)) done c.args.talk.now.begun 0 (names_in c.args.talk.now) setup_names c.args.first.now.carried.files [] c.requires.talk.1 c.requires.talk.0 c.requires.new.0 _ _ _ _ _ c.in-Ok.ensures.played)) in
+    let number : c.leave_setup.new.self.begun ≡ count_in_kind Setup (sections_of c.args.script.now) = omega (arith, c.requires.talk.1, c.in-Ok.ensures.counted, c.leave_setup.ensures.counted) in
     let waiting = c.take_text-setup.new.self.carried in
     let behind : PlaysOn (driver_kind g.D.Driver.ENTRIES g.D.Driver.is_planned g.D.Driver.OwnEntries g.D.Driver.Follows) (after_of (sections_of c.args.script.now) (names_in c.play_kind.new.talk)) c.fork.new.first.view (carried waiting.files c.fork.new.first.carried.told) c.fork.new.first.text
     (done (names_in c.play_to_end.new.talk)) c.play_to_end.new.player.view c.play_to_end.new.player.carried c.play_to_end.new.player.text
-    = begins_so _ _ c.fork.new.first.carried.told (said_in_kind After (sections_of c.args.script.now)) quits c.play_kind.new.talk.begun (count_in_kind Setup (sections_of c.args.script.now)) (names_in c.play_kind.new.talk) (names_in c.play_kind.new.talk) c.fork.new.first.carried.files waiting.files number refl c.in-Ok-fork.ensures.files _ _ _ _ _ c.in-Ok-play_to_end.ensures.played in
+    = begins_so _ _ c.fork.new.first.carried.told (said_in_kind After (sections_of c.args.script.now)) quits c.leave_setup.new.self.begun (count_in_kind Setup (sections_of c.args.script.now)) (names_in c.leave_setup.new.self) (left_setup (names_in c.play_kind.new.talk)) c.fork.new.first.carried.files waiting.files number c.leave_setup.ensures.names c.in-Ok-fork.ensures.files _ _ _ _ _ c.in-Ok-play_to_end.ensures.played in
     let last : PlaysOn (driver_kind g.D.Driver.ENTRIES g.D.Driver.is_planned g.D.Driver.OwnEntries g.D.Driver.Follows) (after_of (sections_of c.args.script.now) (names_in c.play_kind.new.talk)) c.fork.new.first.view waiting []
     (done (names_in c.play_to_end.new.talk)) c.take_text-last.new.self.view c.take_text-last.new.self.carried c.take_text-last.result.items
     = (let taken = c.take_text-last.ensures in
@@ -52,7 +52,7 @@ pub returns-in-Err-clause-stopped : goal.returns-in-Err-clause-stopped
 returns-in-Err-clause-stopped g c =
     ⊎_elim (λ wanted. inl wanted)
     (λ full. inr (full_in_setup (driver_kind g.D.Driver.ENTRIES g.D.Driver.is_planned g.D.Driver.OwnEntries g.D.Driver.Follows) (sections_of c.args.script.now) _ c.args.first.now.carried.told c.requires.first _
-    (stops_so _ _ c.args.first.now.carried.told (said_in_kind Setup (sections_of c.args.script.now)) done c.args.talk.now.begun 0 (names_in c.args.talk.now) no_names c.args.first.now.carried.files [] c.requires.talk.1 c.requires.talk.0 c.requires.new.0 _ full.1)))
+    (stops_so _ _ c.args.first.now.carried.told (said_in_kind Setup (sections_of c.args.script.now)) done c.args.talk.now.begun 0 (names_in c.args.talk.now) setup_names c.args.first.now.carried.files [] c.requires.talk.1 c.requires.talk.0 c.requires.new.0 _ full.1)))
     c.in-Err.ensures.stopped
 
 pub returns-in-Err-fork-clause-stopped : goal.returns-in-Err-fork-clause-stopped
@@ -61,7 +61,7 @@ returns-in-Err-fork-clause-stopped g c =
     (done (names_in c.play_kind.new.talk)) c.take_text-setup.new.self.view c.take_text-setup.new.self.carried c.take_text-setup.result.items
     = (let taken = c.take_text-setup.ensures in
     text_taken (driver_kind g.D.Driver.ENTRIES g.D.Driver.is_planned g.D.Driver.OwnEntries g.D.Driver.Follows) _ _ _ _ _ _ _ _ _ _ _ c.requires.new.1 taken.view taken.carried taken.text
-    (begins_so _ _ c.args.first.now.carried.told (said_in_kind Setup (sections_of c.args.script.now)) done c.args.talk.now.begun 0 (names_in c.args.talk.now) no_names c.args.first.now.carried.files [] c.requires.talk.1 c.requires.talk.0 c.requires.new.0 _ _ _ _ _ c.in-Ok.ensures.played)) in
+    (begins_so _ _ c.args.first.now.carried.told (said_in_kind Setup (sections_of c.args.script.now)) done c.args.talk.now.begun 0 (names_in c.args.talk.now) setup_names c.args.first.now.carried.files [] c.requires.talk.1 c.requires.talk.0 c.requires.new.0 _ _ _ _ _ c.in-Ok.ensures.played)) in
     ⊎_elim (λ wanted. inl wanted)
     (λ full. inr (full_at_fork (driver_kind g.D.Driver.ENTRIES g.D.Driver.is_planned g.D.Driver.OwnEntries g.D.Driver.Follows) (sections_of c.args.script.now) _ _ c.requires.first _ _ _ _ _ setup _ _ full))
     c.in-Err-fork.ensures.stopped
@@ -72,12 +72,12 @@ returns-in-Err-play_to_end-clause-stopped g c =
     (done (names_in c.play_kind.new.talk)) c.take_text-setup.new.self.view c.take_text-setup.new.self.carried c.take_text-setup.result.items
     = (let taken = c.take_text-setup.ensures in
     text_taken (driver_kind g.D.Driver.ENTRIES g.D.Driver.is_planned g.D.Driver.OwnEntries g.D.Driver.Follows) _ _ _ _ _ _ _ _ _ _ _ c.requires.new.1 taken.view taken.carried taken.text
-    (begins_so _ _ c.args.first.now.carried.told (said_in_kind Setup (sections_of c.args.script.now)) done c.args.talk.now.begun 0 (names_in c.args.talk.now) no_names c.args.first.now.carried.files [] c.requires.talk.1 c.requires.talk.0 c.requires.new.0 _ _ _ _ _ c.in-Ok.ensures.played)) in
-    let number : c.play_kind.new.talk.begun ≡ count_in_kind Setup (sections_of c.args.script.now) = omega (arith, c.requires.talk.1, c.in-Ok.ensures.counted) in
+    (begins_so _ _ c.args.first.now.carried.told (said_in_kind Setup (sections_of c.args.script.now)) done c.args.talk.now.begun 0 (names_in c.args.talk.now) setup_names c.args.first.now.carried.files [] c.requires.talk.1 c.requires.talk.0 c.requires.new.0 _ _ _ _ _ c.in-Ok.ensures.played)) in
+    let number : c.leave_setup.new.self.begun ≡ count_in_kind Setup (sections_of c.args.script.now) = omega (arith, c.requires.talk.1, c.in-Ok.ensures.counted, c.leave_setup.ensures.counted) in
     ⊎_elim (λ wanted. inl wanted)
     (λ full.
     let stopped : StoppedFull (driver_kind g.D.Driver.ENTRIES g.D.Driver.is_planned g.D.Driver.OwnEntries g.D.Driver.Follows) (after_of (sections_of c.args.script.now) (names_in c.play_kind.new.talk)) c.fork.new.first.view
     (carried c.take_text-setup.new.self.carried.files c.fork.new.first.carried.told) c.play_to_end.new.player.view
-    = stops_so _ _ c.fork.new.first.carried.told (said_in_kind After (sections_of c.args.script.now)) quits c.play_kind.new.talk.begun (count_in_kind Setup (sections_of c.args.script.now)) (names_in c.play_kind.new.talk) (names_in c.play_kind.new.talk) c.fork.new.first.carried.files c.take_text-setup.new.self.carried.files number refl c.in-Ok-fork.ensures.files _ full.1 in
+    = stops_so _ _ c.fork.new.first.carried.told (said_in_kind After (sections_of c.args.script.now)) quits c.leave_setup.new.self.begun (count_in_kind Setup (sections_of c.args.script.now)) (names_in c.leave_setup.new.self) (left_setup (names_in c.play_kind.new.talk)) c.fork.new.first.carried.files c.take_text-setup.new.self.carried.files number c.leave_setup.ensures.names c.in-Ok-fork.ensures.files _ full.1 in
     inr (full_in_after (driver_kind g.D.Driver.ENTRIES g.D.Driver.is_planned g.D.Driver.OwnEntries g.D.Driver.Follows) (sections_of c.args.script.now) _ _ c.requires.first _ _ _ _ _ setup g.D.Port.Port.told _ _ _ _ _ c.fork.new.first.carried.told c.in-Ok-fork.ensures.forked stopped))
     c.in-Err-play_to_end.ensures.stopped
