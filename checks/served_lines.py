@@ -36,10 +36,15 @@ def has_sections(lines: List[str]) -> bool:
     return any(line.split()[:1] in (["actor"], ["after"]) for line in lines)
 
 
+def joins_lines(lines: List[str]) -> bool:
+    """It has an `aggregate`, which is refused where a session is served."""
+    return any(line.split()[:1] == ["aggregate"] for line in lines)
+
+
 def sessions() -> Iterator[Tuple[Path, List[str]]]:
-    """The sessions that run and have a `setup` alone."""
+    """The sessions that run, have a `setup` alone, and print the same where they are served."""
     for path, lines in folder_sessions(0):
-        if not has_sections(lines):
+        if not has_sections(lines) and not joins_lines(lines):
             yield path, lines
 
 

@@ -1,17 +1,20 @@
 //! The device that all actors share: the machine, its history and the guards of its places under one mutex.
 
+use crate::aggregate::{Map, Op, MAPS_MAX};
 use crate::line::Irq;
 use crate::machine::*;
 use crate::wire::*;
 use std::fmt::{self, Display, Formatter};
 use std::sync::{Condvar, Mutex, MutexGuard};
 
-/// An actor's way to the driver, which fails at the call that was planned, and answers that it debounces the accepted lines.
+/// An actor's way to the driver, which fails at the call that was planned, and answers that it debounces the accepted lines; and the maps of
+/// chips whose lines are those of requests.
 #[derive(Default)]
 pub struct Port {
     calls: u64,
     planned: u64,
     bits: u64,
+    maps: Vec<Map>,
 }
 
 impl Port {
@@ -21,6 +24,23 @@ impl Port {
 
     pub fn accept(&mut self, bits: u64) {
         self.bits = bits;
+    }
+
+    /// A port through which no call went, with the same maps.
+    pub fn sibling(&self) -> Port {
+        Port { maps: self.maps.clone(), ..Port::default() }
+    }
+
+    pub fn is_full(&self) -> bool {
+        self.maps.len() == MAPS_MAX
+    }
+
+    pub fn learn(&mut self, map: Map) {
+        self.maps.push(map);
+    }
+
+    pub fn map(&self, place: u8) -> Option<Map> {
+        self.maps.iter().find(|map| map.place == place).cloned()
     }
 
     fn call(&mut self, configures: bool) -> Option<u64> {
@@ -104,7 +124,7 @@ impl Device {
     }
 
     /// A command on a file: what it is answered, and what it wrote to the buffer's start.
-    pub fn ioctl(&self, actor: u8, port: &mut Port, handle: Handle, cmd: u32, buffer: &[u8]) -> Answer {
+    pub fn command(&self, actor: u8, port: &mut Port, handle: Handle, cmd: u32, buffer: &[u8]) -> Answer {
         let Handle { chip, place, fd } = handle;
         let guard = usize::from(place);
         let long = size_of(chip, cmd).is_some_and(|size| buffer.len() >= size);
@@ -118,15 +138,24 @@ impl Device {
             return state.act(actor, Call::Refused { place, poll: false });
         }
         state.act(actor, call(Part::Ask))?;
+        let offsets = state.machine.lines_asked(fd, cmd, buffer);
         state.inside[guard] += 1;
         drop(state);
-        let answer = port.call([GET_LINE, SET_CONFIG].contains(&cmd));
+        let answer = match port.map(place) {
+            Some(map) => map.ask(self, actor, port, &Op::of(cmd, buffer, offsets.len()), &offsets),
+            None => port.call([GET_LINE, SET_CONFIG].contains(&cmd)),
+        };
         let mut state = self.lock();
         let told = state.act(actor, call(Part::Tell(answer)));
         state.inside[guard] -= 1;
         drop(state);
         self.left.notify_all();
         told
+    }
+
+    /// How many lines a request has.
+    pub fn line_count(&self, handle: Handle) -> u32 {
+        self.lock().machine.line_count(handle.fd)
     }
 
     /// How many entries the history has.
@@ -170,7 +199,9 @@ fn end(last: bool) -> &'static str {
 
 fn print_call(out: &mut Vec<u8>, call: &Call) {
     match call {
-        Call::Probe { label, lines } => print(out, format_args!("probe {} {lines} sim", Word(label))),
+        Call::Probe { label, lines, remote } => {
+            print(out, format_args!("probe {} {lines} {}", Word(label), if *remote { "remote" } else { "sim" }))
+        }
         Call::Unplug { place, last } => print(out, format_args!("unplug {place} {}", end(*last))),
         Call::MakeDir(path) => print(out, format_args!("mkdir {}", Word(path))),
         Call::RemoveDir(path) => print(out, format_args!("rmdir {}", Word(path))),
@@ -285,7 +316,7 @@ impl Actor<'_> {
     }
 
     pub fn ioctl(&mut self, handle: Handle, cmd: u32, buffer: &[u8]) -> Answer {
-        self.device.ioctl(self.number, &mut self.port, handle, cmd, buffer)
+        self.device.command(self.number, &mut self.port, handle, cmd, buffer)
     }
 
     /// Requests lines of a chip.

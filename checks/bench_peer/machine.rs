@@ -23,6 +23,8 @@ struct Chip {
     phase: Phase,
     remover: Option<u8>,
     device: Option<String>,
+    /// Its values are the driver's, and so are its levels.
+    remote: bool,
     lines: Vec<Line>,
     ranges: Vec<Range>,
 }
@@ -70,7 +72,7 @@ pub enum Part {
 
 #[derive(Clone)]
 pub enum Call {
-    Probe { label: String, lines: u32 },
+    Probe { label: String, lines: u32, remote: bool },
     Unplug { place: u8, last: bool },
     MakeDir(String),
     RemoveDir(String),
@@ -130,7 +132,7 @@ impl Machine {
 
     pub fn step(&mut self, actor: u8, call: &Call) -> Answer {
         match call {
-            Call::Probe { label, lines } => self.probe(label, *lines),
+            Call::Probe { label, lines, remote } => self.probe(label, *lines, *remote),
             Call::Unplug { place, last } => self.unplug(actor, *place, *last),
             Call::MakeDir(path) => self.tree.mkdir(path).and_then(|()| done()),
             Call::RemoveDir(path) => self.tree.rmdir(path).and_then(|()| done()),
@@ -143,7 +145,7 @@ impl Machine {
             Call::Irq(place, offset, what) => self.line(*place, *offset)?.irq(*what).and_then(|()| done()),
             Call::Pull { place, offset, up } => self.pull(*place, *offset, *up),
             Call::Level { place, offset, pull } => {
-                let line = self.line(*place, *offset)?;
+                let line = self.simulated_line(*place, *offset)?;
                 let level = if *pull { line.pull } else { line.level() };
                 Ok((Reply::Number(u64::from(level)), vec![]))
             }
@@ -166,6 +168,30 @@ impl Machine {
 
     fn line(&mut self, place: u8, offset: u32) -> Result<&mut Line, Errno> {
         self.chip(place)?.lines.get_mut(offset as usize).ok_or(Errno::Inval)
+    }
+
+    /// A line of a simulated chip.
+    fn simulated_line(&mut self, place: u8, offset: u32) -> Result<&mut Line, Errno> {
+        let remote = self.chip(place)?.remote;
+        let line = self.line(place, offset)?;
+        if remote {
+            Err(Errno::Inval)
+        } else {
+            Ok(line)
+        }
+    }
+
+    /// How many lines a request has.
+    pub fn line_count(&self, fd: u32) -> u32 {
+        self.requests.get(&fd).map_or(0, |request| request.offsets.len() as u32)
+    }
+
+    /// The lines that a command speaks of: those of its request, or those that GET_LINE asks for.
+    pub fn lines_asked(&self, fd: u32, cmd: u32, bytes: &[u8]) -> Vec<u32> {
+        match cmd {
+            GET_LINE => (0..u32_at(bytes, 560) as usize).map(|i| u32_at(bytes, 4 * i)).collect(),
+            _ => self.requests[&fd].offsets.clone(),
+        }
     }
 
     /// A line that is known to be there.
@@ -212,19 +238,19 @@ impl Machine {
         self.given - 1
     }
 
-    fn probe(&mut self, label: &str, lines: u32) -> Answer {
+    fn probe(&mut self, label: &str, lines: u32, remote: bool) -> Answer {
         if self.chips.len() == PLACES {
             return Err(Errno::NoSpc);
         }
         let place = self.chips.len() as u64;
         let lines = (0..lines).map(|_| Line::new("")).collect();
-        self.add_chip(label, None, lines);
+        self.add_chip(label, None, remote, lines);
         Ok((Reply::Number(place), vec![]))
     }
 
-    fn add_chip(&mut self, label: &str, device: Option<String>, lines: Vec<Line>) {
+    fn add_chip(&mut self, label: &str, device: Option<String>, remote: bool, lines: Vec<Line>) {
         let label = label.into();
-        self.chips.push(Chip { label, phase: Phase::Up, remover: None, device, lines, ranges: vec![] });
+        self.chips.push(Chip { label, phase: Phase::Up, remover: None, device, remote, lines, ranges: vec![] });
     }
 
     fn live(&mut self, device: &str) -> Answer {
@@ -232,7 +258,7 @@ impl Machine {
         self.tree.set(device, Device::Live(self.chips.len() as u8));
         for plan in plans {
             let lines = plan.lines.into_iter().map(|(name, hog)| hogged(Line::new(&name), hog)).collect();
-            self.add_chip(&plan.label, Some(device.into()), lines);
+            self.add_chip(&plan.label, Some(device.into()), false, lines);
         }
         done()
     }
@@ -341,7 +367,7 @@ impl Machine {
 
     fn pull(&mut self, place: u8, offset: u32, up: bool) -> Answer {
         let mono = self.mono;
-        let line = self.line(place, offset)?;
+        let line = self.simulated_line(place, offset)?;
         let before = line.level();
         line.pull = up;
         let is_input = matches!(line.holder, Holder::Held(_)) && !line.output;
@@ -605,12 +631,13 @@ impl Machine {
     }
 
     fn configure(&mut self, place: u8, offset: u32, setting: &Setting, accepted: bool) {
+        let remote = self.chips[usize::from(place)].remote;
         let line = self.at(place, offset);
         let before = (line.period, line.hard);
         line.flags = setting.flags;
         line.period = setting.period;
         line.hard = setting.period != 0 && accepted;
-        if setting.flags & (PULL_UP | PULL_DOWN) != 0 {
+        if setting.flags & (PULL_UP | PULL_DOWN) != 0 && !remote {
             line.pull = setting.flags & PULL_UP != 0;
         }
         if setting.flags & OUTPUT != 0 {
@@ -659,9 +686,13 @@ impl Machine {
         if let Some(go) = go_or_fault(part) {
             return go;
         }
+        let remote = self.chips[usize::from(place)].remote;
+        let answered = if let Part::Tell(Some(bits)) = part { bits } else { 0 };
         let mut bits = 0;
         for (i, &offset) in offsets.iter().enumerate() {
-            bits |= (mask >> i & 1 & u64::from(self.at(place, offset).value())) << i;
+            let line = self.at(place, offset);
+            let value = if remote && !line.is_debounced() { answered >> i & 1 == 1 } else { line.value() };
+            bits |= (mask >> i & 1 & u64::from(value)) << i;
         }
         Ok((Reply::Done, [bits.to_le_bytes(), mask.to_le_bytes()].concat()))
     }

@@ -1,5 +1,6 @@
 //! A plain program that runs sessions: see README.md in this folder.
 
+mod aggregate;
 mod device;
 mod line;
 mod machine;
@@ -55,14 +56,15 @@ fn run_many(device: &Device, sections: &[Section]) -> Vec<u8> {
     out.append(&mut shared.out);
     let actors = sections.iter().filter(|section| matches!(section.head, Head::Actor(_)));
     let texts: Vec<Vec<u8>> = std::thread::scope(|scope| {
-        let work = |number: usize, section| {
-            let mut actor = Actor { device, number: number as u8, port: Port::default() };
+        let ports: Vec<Port> = actors.clone().map(|_| first.port.sibling()).collect();
+        let work = |number: usize, port: Port, section| {
+            let mut actor = Actor { device, number: number as u8, port };
             let mut talk = Talk::default();
             say(&mut talk, &mut actor, section);
             talk.end(&actor);
             talk.out
         };
-        let threads: Vec<_> = actors.clone().zip(1..).map(|(s, i)| scope.spawn(move || work(i, s))).collect();
+        let threads: Vec<_> = actors.clone().zip(1..).zip(ports).map(|((s, i), port)| scope.spawn(move || work(i, port, s))).collect();
         threads.into_iter().map(|thread| thread.join().unwrap()).collect()
     });
     for (section, text) in actors.zip(texts) {

@@ -1,5 +1,6 @@
 //! The statements of a section: what each asks of the device and prints.
 
+use crate::aggregate::{Map, Target};
 use crate::device::{ready_text, Actor, Handle};
 use crate::line::Irq;
 use crate::machine::{Call, Pin, Reply};
@@ -76,7 +77,7 @@ impl Talk {
             "poll" => self.poll(actor, words[1]),
             "close" => self.close(actor, words[1]),
             "read" => self.read(actor, words[1]),
-            "aggregate" => self.aggregate(&words[2..]),
+            "aggregate" => self.aggregate(actor, words),
             _ => plain(actor, words),
         };
         if let Err(errno) = said {
@@ -164,16 +165,25 @@ impl Talk {
         Ok(())
     }
 
-    /// A chip over requests, of which no actor's port here would keep a map.
-    fn aggregate(&self, names: &[&str]) -> Said {
+    /// A chip whose lines are those of requests.
+    fn aggregate(&self, actor: &mut Actor, words: &Statement) -> Said {
         if !self.in_setup {
             return Err(Errno::Inval);
         }
-        let files = names.iter().map(|name| self.file(name)).collect::<Result<Vec<File>, Errno>>()?;
-        if files.iter().any(|file| file.kind == Kind::Chip) {
+        let files = words[2..].iter().map(|name| self.file(name)).collect::<Result<Vec<File>, Errno>>()?;
+        if files.iter().any(|file| file.kind == Kind::Chip || actor.port.map(file.handle.place).is_some()) {
             return Err(Errno::Inval);
         }
-        Err(Errno::NoSpc)
+        if actor.port.is_full() {
+            return Err(Errno::NoSpc);
+        }
+        let targets: Vec<Target> = files.iter().map(|file| Target { handle: file.handle, lines: actor.device.line_count(file.handle) }).collect();
+        let lines = targets.iter().map(|target| target.lines).sum();
+        match actor.call(Call::Probe { label: words[1].to_string(), lines, remote: true })?.0 {
+            Reply::Number(place) => actor.port.learn(Map { place: place as u8, targets }),
+            _ => unreachable!(),
+        }
+        Ok(())
     }
 
     fn poll(&mut self, actor: &Actor, name: &str) -> Said {
@@ -315,7 +325,7 @@ fn plain(actor: &mut Actor, words: &Statement) -> Said {
     let word = |i: usize| words[i].to_string();
     let chip = |i: usize| chip_number(words[i], 63).unwrap() as u8;
     match words[0] {
-        "probe" => actor.call(Call::Probe { label: word(1), lines: small(words[2]) }).map(|_| ()),
+        "probe" => actor.call(Call::Probe { label: word(1), lines: small(words[2]), remote: false }).map(|_| ()),
         "unplug" => {
             let place = chip(1);
             let call = |last| Call::Unplug { place, last };

@@ -1,12 +1,14 @@
--- What a call of the device tells of its driver where no place has a map: the driver made no entries of its own, and the port is what the
+-- What a call of the device tells of its driver over a port without a map: the driver made no entries of its own, and the port is what the
 -- tells of the call make of it.
-use Rattle.std.proofs.Common.{◌≡◌, ℕ, Bool, true, false, List, [], ◌∷◌, ◌++◌, length, Option, None, Some, refl, sym, ap, ◌∙◌, subst, arith}
+use Rattle.std.proofs.Common.{◌≡◌, ℕ, zero, suc, Bool, true, false, List, [], ◌∷◌, ◌++◌, length, Option, None, Some, refl, sym, ap, ◌∙◌, subst, arith}
 use Rattle.std.proofs.lemmas.Bool.{false≢true}
 use Rattle.gl_base.specs.declared.op.Op.{Op}
 use Rattle.gl_uapi.specs.Command.{command_of}
 use Rattle.gl_world.specs.Deeds.{entries_in}
 use Rattle.gl_world.specs.History.{entry}
+use Rattle.gl_driver.specs.Maps.{map_at, map_for}
 use Rattle.gl_driver.specs.Told.{PortAfter, Told}
+use Rattle.gl_driver.specs.declared.map.Map.{Map}
 use Rattle.gl_model.specs.Entries.{begins, last_call}
 use Rattle.gl_model.specs.Parts.{Makes, MakesAt, MakesCommand, MakesOne, MakesRest, MakesTwo, first_call, guard_of, in_ask, in_tell, is_driver_asked, is_single}
 use Rattle.gl_model.specs.declared.call.Call.{Call}
@@ -19,6 +21,7 @@ use Rattle.gl_model.specs.declared.device_call.RemovalOf.TheVariants.{OfChip, Of
 use Rattle.gl_model.specs.declared.reply.Reply.{Reply}
 use Rattle.gl_core.specs.Device.{OneDeed, OneEntry, call_tells, tells_in}
 use Rattle.gl_check.specs.Drivers.{DriverKind}
+use Rattle.gl_check.specs.Joining.{Maps}
 use Rattle.gl_check.specs.Seats.{deed, is_refusal}
 use Rattle.gl_check.specs.Turns.{Exchange, HasMade, PortBy, is_begun, map_of, was_asked}
 
@@ -108,6 +111,16 @@ module _ (n : ℕ) (answer : Option ℕ) (own made : List OneEntry) where
   commanding_own c false makes unasked = command_own c (is_driver_asked c.of_chip c.len (command_of c.cmd)) makes unasked
   commanding_own c true makes unasked = makes.1
 
+-- a port without a map has none at any place
+no_map_in : (limit place : ℕ) (kept : List Map) → kept ≡ [] → map_for limit place kept ≡ None
+no_map_in zero place kept none = refl
+no_map_in (suc limit) place kept none = ap (λ (l : List Map). map_at place l) none
+
+pub unmapped_call : (driver : DriverKind) (m : Maps) → m.kept ≡ [] → (call : DeviceCall) → map_of driver m call ≡ None
+unmapped_call driver m bare (Once call) = refl
+unmapped_call driver m bare (Removing removal) = refl
+unmapped_call driver m bare (Commanding c) = no_map_in driver.limit c.place m.kept bare
+
 module _ (driver : DriverKind) (n : ℕ) (op : Option Op) (e : Exchange) (before after : Option Told) where
   abbrev Port : List OneEntry → Type 0
   Port made = PortAfter driver.is_planned op (tells_in made) before after
@@ -149,8 +162,6 @@ module _ (driver : DriverKind) (n : ℕ) (op : Option Op) (e : Exchange) (before
         deeds_are = two.2;
         inner_own = sym none;
         may_make = none;
-        room = 0;
-        seen = 0;
         gives = p.3;
         told_then = p.2;
       }
@@ -179,17 +190,20 @@ module _ (driver : DriverKind) (n : ℕ) (op : Option Op) (e : Exchange) (before
   alone_by call none makes port = let alone = subst (λ (own : List OneEntry). Makes n e.closed call e.answer own (entries_in e.did)) none makes in
       record { own = none; makes = alone; port = port alone }
 
-  pub unmapped : (call : DeviceCall) → HasMade driver n call op e before after → Unmapped call
-  unmapped (Once call) h = let silent = once_tells n e.answer e.own (entries_in e.did) call h.makes.0 (guard_of (Once call)) e.closed h.makes.1 in
+  pub unmapped : (m : Maps) → m.kept ≡ [] → (call : DeviceCall) → HasMade driver n m call op e before after → Unmapped call
+  unmapped m bare (Once call) h = let silent = once_tells n e.answer e.own (entries_in e.did) call h.makes.0 (guard_of (Once call)) e.closed h.makes.1 in
       alone_by (Once call) silent.1 h.makes (λ alone. none_port (entries_in e.did) silent.0 h.port)
-  unmapped (Removing removal) h = alone_by (Removing removal) h.makes.1.1 h.makes
+  unmapped m bare (Removing removal) h = alone_by (Removing removal) h.makes.1.1 h.makes
       (λ alone. none_port (entries_in e.did) (removal_tells n e.answer e.own (entries_in e.did) removal h.makes.1.0) h.port)
-  unmapped (Commanding c) h = alone_by (Commanding c)
-      (own_by (is_begun (entries_in e.did)) h.port (commanding_own n e.answer e.own (entries_in e.did) c e.closed h.makes.1)) h.makes
-      (λ alone. command_port c e.closed (entries_in e.did) alone.1 h.port)
+  unmapped m bare (Commanding c) h =
+      let port : By (is_begun (entries_in e.did)) = subst (λ (map : Option Map). PortBy driver n (is_begun (entries_in e.did)) map op e before after) (no_map_in driver.limit c.place m.kept bare) h.port in
+      alone_by (Commanding c)
+      (own_by (is_begun (entries_in e.did)) port (commanding_own n e.answer e.own (entries_in e.did) c e.closed h.makes.1)) h.makes
+      (λ alone. command_port c e.closed (entries_in e.did) alone.1 port)
 
-  pub port_asked : (call : DeviceCall) → e.own ≡ [] → Makes n e.closed call e.answer [] (entries_in e.did) → PortAfter driver.is_planned op (tells_in (entries_in e.did)) before after
-      → PortBy driver n (was_asked call (entries_in e.did)) (map_of call) op e before after
-  port_asked (Once call) none makes port = same_port (entries_in e.did) (once_tells n e.answer [] (entries_in e.did) call makes.0 (guard_of (Once call)) e.closed makes.1).0 port
-  port_asked (Removing removal) none makes port = same_port (entries_in e.did) (removal_tells n e.answer [] (entries_in e.did) removal makes.1.0) port
-  port_asked (Commanding c) none makes port = command_asked c e.closed makes.1 none port
+  pub port_asked : (m : Maps) → m.kept ≡ [] → (call : DeviceCall) → e.own ≡ [] → Makes n e.closed call e.answer [] (entries_in e.did) → PortAfter driver.is_planned op (tells_in (entries_in e.did)) before after
+      → PortBy driver n (was_asked call (entries_in e.did)) (map_of driver m call) op e before after
+  port_asked m bare (Once call) none makes port = same_port (entries_in e.did) (once_tells n e.answer [] (entries_in e.did) call makes.0 (guard_of (Once call)) e.closed makes.1).0 port
+  port_asked m bare (Removing removal) none makes port = same_port (entries_in e.did) (removal_tells n e.answer [] (entries_in e.did) removal makes.1.0) port
+  port_asked m bare (Commanding c) none makes port =
+      subst (λ (map : Option Map). PortBy driver n (is_begun (entries_in e.did)) map op e before after) (sym (no_map_in driver.limit c.place m.kept bare)) (command_asked c e.closed makes.1 none port)

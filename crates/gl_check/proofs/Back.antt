@@ -1,6 +1,6 @@
 -- Deeds that a talk passes through to its end are those of the talk, carried out.
 use Rattle.std.proofs.Common.{◌≡◌, ℕ, Bool, true, false, List, [], ◌∷◌, ◌++◌, Option, None, Some, refl, sym, ap, ◌∙◌, subst, arith}
-use Rattle.std.specs.Prelude.{if◌then◌else◌}
+use Rattle.std.specs.Prelude.{if◌then◌else◌, is_some}
 use Rattle.std.proofs.lemmas.Bool.{false≢true, true≢false}
 use Rattle.std.proofs.lemmas.List.{append_assoc, append-nil}
 use Rattle.gl_base.specs.Planned.{bits_for}
@@ -33,10 +33,12 @@ use Rattle.gl_check.specs.One.{PlannedPort}
 use Rattle.gl_check.specs.Ports.{next_answer}
 use Rattle.gl_check.specs.Seats.{Bearing, IsRefusedAt, Passes, Seat, SuitsFirst, SuitsStand, answers, called, first_inside, goes_by, is_ended, is_refusal, moved, moved_by, seat, second_of, settles}
 use Rattle.gl_check.specs.Drivers.{plain, planning}
-use Rattle.gl_check.specs.Turns.{Carried, Did, Exchange, Follows, HasMade, IsDone, Played, Said, Takes, Turn, did_by, said_by}
+use Rattle.gl_check.specs.Joining.{Maps, asking_with, maps_behind, no_maps}
+use Rattle.gl_check.specs.Turns.{AreWithin, Carried, Did, Exchange, Follows, HasMade, IsDone, Played, Said, Takes, Turn, did_by, map_of, said_by}
 use Rattle.gl_check.specs.declared.stand.Stand.{Stand}
 use Rattle.gl_check.specs.declared.stand.Stand.TheVariants.{Ended, Before, Between}
 use Rattle.gl_check.proofs.Asked.{port_asked, single_is}
+use Rattle.gl_check.proofs.Joined.{asking_plainly, no_maps_behind}
 use Rattle.gl_check.proofs.Operations.{AsksOp, HasBits, asks_op, has_bits, has_call}
 use Rattle.gl_check.proofs.Order.{AreOf}
 use Rattle.gl_check.proofs.Through.{BitsBy, IsTold, accepted_port, bearing_by, called_port, files_of, guard_is, of_asked, planned_port, planned_told, poll_is, port_by, told_by_bits, told_by_call, told_by_plan}
@@ -59,7 +61,7 @@ abbrev nothing : List OneEntry
 nothing = []
 
 abbrev exchange : Do → Bool → Option ℕ → List OneDeed → Reply → List ℕ → Exchange
-exchange what closed answer did reply wrote = record { what = what; closed = closed; answer = answer; own = []; did = did; reply = reply; wrote = wrote }
+exchange what closed answer did reply wrote = record { what = what; mapped = false; closed = closed; answer = answer; own = []; room = 0; seen = 0; did = did; reply = reply; wrote = wrote }
 
 -- the files stay after the second entry
 pub same_files : (next : Call) (b : Bearing) → b.files ≡ (called next b).files
@@ -220,6 +222,23 @@ module _ (n : ℕ) where
       on None = m
       on (Some place) = m
 
+  -- over a port that takes no maps an operation goes by the files alone, leaves it so, and no driver goes by a map
+  plainly : (r : Carried) (what : Do) → r.maps ≡ no_maps 0 → asking_with r.maps r.files what ≡ asking r.files what
+  plainly r what bare = ap (λ (m : Maps). asking_with m r.files what) bare ∙ asking_plainly r.files what
+
+  stays : (r : Carried) (what : Do) (reply : Reply) → r.maps ≡ no_maps 0 → maps_behind what reply r.files r.maps ≡ r.maps
+  stays r what reply bare = ap (λ (m : Maps). maps_behind what reply r.files m) bare ∙ no_maps_behind what reply r.files ∙ sym bare
+
+  unmapped_at : (call : DeviceCall) (m : Maps) → m ≡ no_maps 0 → map_of (planning plain) m call ≡ None
+  unmapped_at (Once call) m bare = refl
+  unmapped_at (Removing removal) m bare = refl
+  unmapped_at (Commanding c) m bare = refl
+
+  within_append : (room : ℕ) (first later : List Turn) → AreWithin room first → AreWithin room later → AreWithin room (first ++ later)
+  within_append room [] later h k = k
+  within_append room (Said text ∷ first) later h k = within_append room first later h k
+  within_append room (Did e ∷ first) later h k = (h.0, within_append room first later h.1 k)
+
   module _ (p : Program Names) (s : Carried) where
     -- the talk went on to here, with this text and these deeds
     pub record Reached (did : List OneDeed) (q : Program Names) (r : Carried) (text : List ℕ) : Type 0 where
@@ -228,16 +247,21 @@ module _ (n : ℕ) where
       pub text_is : text ≡ said_by turns
       pub did_is : did ≡ did_by turns
       pub told : IsTold r.told
+      pub bare : r.maps ≡ no_maps 0
+      -- no driver goes by a map, so whatever room there is
+      pub within : (room : ℕ) → AreWithin room turns
 
     -- a turn more
-    one_more : (did more : List OneDeed) (q u : Program Names) (r c : Carried) (text : List ℕ) (turn : Turn) → Takes (planning plain) n q r turn u c → did_by (turn ∷ []) ≡ more → IsTold c.told
-        → Reached did q r text → Reached (did ++ more) u c (text ++ said_by (turn ∷ []))
-    one_more did more q u r c text turn takes is told so_far = record {
+    one_more : (did more : List OneDeed) (q u : Program Names) (r c : Carried) (text : List ℕ) (turn : Turn) → Takes (planning plain) n q r turn u c → did_by (turn ∷ []) ≡ more → IsTold c.told → c.maps ≡ no_maps 0
+        → ((room : ℕ) → AreWithin room (turn ∷ [])) → Reached did q r text → Reached (did ++ more) u c (text ++ said_by (turn ∷ []))
+    one_more did more q u r c text turn takes is told bare within so_far = record {
       turns = so_far.turns ++ turn ∷ [];
       follows = follows_on so_far.turns (turn ∷ []) p q u s r c so_far.follows (u, c, takes, (refl, refl));
       text_is = ap (λ l. l ++ said_by (turn ∷ [])) so_far.text_is ∙ sym (said_append so_far.turns (turn ∷ []));
       did_is = (λ i. so_far.did_is i ++ sym is i) ∙ sym (did_append so_far.turns (turn ∷ []));
       told = told;
+      bare = bare;
+      within = λ room. within_append room so_far.turns (turn ∷ []) (so_far.within room) (within room);
     }
 
     -- Before a call, between its two entries, and at the end: what is known of an actor with these deeds.
@@ -278,11 +302,13 @@ module _ (n : ℕ) where
 
     -- an operation without a call of the device is carried out
     nothing_done : (did : List OneDeed) (what : Do) (rest : Got → Program Names) (reply : Reply) (r c : Carried) (text : List ℕ)
-        → IsDone (planning plain) n (asking r.files what) (op_asked r.files what) (exchange what false None [] reply []) r.told c.told
-        → c.files ≡ files_behind what reply r.files → IsTold c.told → Reached did (ask what rest) r text → Reached did (rest (got_of what reply [])) c text
-    nothing_done did what rest reply r c text is files told so_far =
+        → IsDone (planning plain) n r.maps (asking r.files what) (op_asked r.files what) (exchange what false None [] reply []) r.told c.told
+        → c.files ≡ files_behind what reply r.files → c.maps ≡ r.maps → IsTold c.told → Reached did (ask what rest) r text → Reached did (rest (got_of what reply [])) c text
+    nothing_done did what rest reply r c text is files maps told so_far =
+        let done_so : IsDone (planning plain) n r.maps (asking_with r.maps r.files what) (op_asked r.files what) (exchange what false None [] reply []) r.told c.told
+        = subst (λ (a : Asking). IsDone (planning plain) n r.maps a (op_asked r.files what) (exchange what false None [] reply []) r.told c.told) (sym (plainly r what so_far.bare)) is in
         let more : Reached (did ++ []) (rest (got_of what reply [])) c (text ++ [])
-        = one_more did [] (ask what rest) (rest (got_of what reply [])) r c text (Did (exchange what false None [] reply [])) (rest, refl, refl, record { is_done = is; files = files }) refl told so_far in
+        = one_more did [] (ask what rest) (rest (got_of what reply [])) r c text (Did (exchange what false None [] reply [])) (rest, refl, refl, record { is_done = done_so; files = files; maps = maps ∙ sym (stays r what reply so_far.bare) }) refl told (maps ∙ so_far.bare) (λ room. (tt, tt)) so_far in
         let one : Reached did (rest (got_of what reply [])) c (text ++ []) = subst (λ (l : List OneDeed). Reached l (rest (got_of what reply [])) c (text ++ [])) (append-nil did) more in
         subst (λ l. Reached did (rest (got_of what reply [])) c l) (append-nil text) one
 
@@ -291,44 +317,45 @@ module _ (n : ℕ) where
     at_settled did (done value) r text so_far = record { value = value; left_is = refl; carried = r; so_far = so_far; bearing = refl }
     at_settled did (print more q) r text so_far = at_settled did q r (text ++ more)
         (subst (λ l. Reached did q r (text ++ l)) (append-nil more)
-        (subst (λ (l : List OneDeed). Reached l q r (text ++ (more ++ []))) (append-nil did) (one_more did [] (print more q) q r r text (Said more) (refl, refl) refl so_far.told so_far)))
+        (subst (λ (l : List OneDeed). Reached l q r (text ++ (more ++ []))) (append-nil did) (one_more did [] (print more q) q r r text (Said more) (refl, refl) refl so_far.told so_far.bare (λ room. tt) so_far)))
     at_settled did (ask what rest) r text so_far = by (asking r.files what) refl (λ got c more. at_settled did (rest got) c text more)
       where
         by : (a : Asking) → asking r.files what ≡ a → ((got : Got) (c : Carried) → Reached did (rest got) c text → IsSeat did (settles (rest got) (bearing_by c) text))
             → IsSeat did (goes_by a what (waits rest) (bearing_by r) text (λ got later. settles (rest got) later text))
         by (Calls call) is later = record { rest = rest; left_is = refl; carried = r; so_far = so_far; call = call; calls = is; next_is = refl; bearing = refl }
         by (Plans nth) is later =
-            let c : Carried = record { files = files_behind what Done r.files; told = with_plan nth r.told } in
-            let done_so : IsDone (planning plain) n (asking r.files what) (op_asked r.files what) (exchange what false None [] Done []) r.told c.told
-            = subst (λ a. IsDone (planning plain) n a (op_asked r.files what) (exchange what false None [] Done []) r.told c.told) (sym is) (record { did = refl; reply_is = refl; bytes_are = refl }, refl) in
+            let c : Carried = record { files = files_behind what Done r.files; maps = r.maps; told = with_plan nth r.told } in
+            let done_so : IsDone (planning plain) n r.maps (asking r.files what) (op_asked r.files what) (exchange what false None [] Done []) r.told c.told
+            = subst (λ a. IsDone (planning plain) n r.maps a (op_asked r.files what) (exchange what false None [] Done []) r.told c.told) (sym is) (record { did = refl; reply_is = refl; bytes_are = refl }, refl) in
             subst (λ (port : PlannedPort). IsSeat did (settles (rest (got_of what Done [])) (record { files = files_behind what Done r.files; port = port }) text)) (planned_port nth r.told so_far.told)
-            (later (got_of what Done []) c (nothing_done did what rest Done r c text done_so refl (told_by_plan nth r.told so_far.told) so_far))
+            (later (got_of what Done []) c (nothing_done did what rest Done r c text done_so refl refl (told_by_plan nth r.told so_far.told) so_far))
         by (Accepts bits) is later =
-            let c : Carried = record { files = files_behind what Done r.files; told = with_bits bits r.told } in
-            let done_so : IsDone (planning plain) n (asking r.files what) (op_asked r.files what) (exchange what false None [] Done []) r.told c.told
-            = subst (λ a. IsDone (planning plain) n a (op_asked r.files what) (exchange what false None [] Done []) r.told c.told) (sym is) (record { did = refl; reply_is = refl; bytes_are = refl }, refl) in
+            let c : Carried = record { files = files_behind what Done r.files; maps = r.maps; told = with_bits bits r.told } in
+            let done_so : IsDone (planning plain) n r.maps (asking r.files what) (op_asked r.files what) (exchange what false None [] Done []) r.told c.told
+            = subst (λ a. IsDone (planning plain) n r.maps a (op_asked r.files what) (exchange what false None [] Done []) r.told c.told) (sym is) (record { did = refl; reply_is = refl; bytes_are = refl }, refl) in
             subst (λ (port : PlannedPort). IsSeat did (settles (rest (got_of what Done [])) (record { files = files_behind what Done r.files; port = port }) text)) (accepted_port bits r.told so_far.told)
-            (later (got_of what Done []) c (nothing_done did what rest Done r c text done_so refl (told_by_bits bits r.told so_far.told) so_far))
+            (later (got_of what Done []) c (nothing_done did what rest Done r c text done_so refl refl (told_by_bits bits r.told so_far.told) so_far))
         by (Refuses errno) is later =
-            let c : Carried = record { files = files_behind what (Refused errno) r.files; told = r.told } in
-            let done_so : IsDone (planning plain) n (asking r.files what) (op_asked r.files what) (exchange what false None [] (Refused errno) []) r.told c.told
-            = subst (λ a. IsDone (planning plain) n a (op_asked r.files what) (exchange what false None [] (Refused errno) []) r.told c.told) (sym is) (record { did = refl; reply_is = refl; bytes_are = refl }, refl) in
-            later (got_of what (Refused errno) []) c (nothing_done did what rest (Refused errno) r c text done_so refl so_far.told so_far)
+            let c : Carried = record { files = files_behind what (Refused errno) r.files; maps = r.maps; told = r.told } in
+            let done_so : IsDone (planning plain) n r.maps (asking r.files what) (op_asked r.files what) (exchange what false None [] (Refused errno) []) r.told c.told
+            = subst (λ a. IsDone (planning plain) n r.maps a (op_asked r.files what) (exchange what false None [] (Refused errno) []) r.told c.told) (sym is) (record { did = refl; reply_is = refl; bytes_are = refl }, refl) in
+            later (got_of what (Refused errno) []) c (nothing_done did what rest (Refused errno) r c text done_so refl refl so_far.told so_far)
 
     -- a call of the device was made whole: the talk goes on after it
     call_done : (did made : List OneDeed) (what : Do) (next : Call) (left : Left Names) (b c : Bearing) (text : List ℕ) (at : AtCall did what next left b text) (shut : Bool) (answer : Option ℕ) (reply : Reply) (wrote : List ℕ) (told : Option Told)
-        → IsTold told → HasMade (planning plain) n at.call (op_asked at.carried.files what) (exchange what shut answer made reply wrote) at.carried.told told
-        → bearing_by (record { files = files_behind what reply at.carried.files; told = told }) ≡ c
+        → IsTold told → HasMade (planning plain) n at.carried.maps at.call (op_asked at.carried.files what) (exchange what shut answer made reply wrote) at.carried.told told
+        → bearing_by (record { files = files_behind what reply at.carried.files; maps = at.carried.maps; told = told }) ≡ c
         → IsSeat (did ++ made) (settles (given left (Some (got_of what reply wrote))) c text)
     call_done did made what next left b c text at shut answer reply wrote told is_told has_made bearing =
         let r : Carried = at.carried in
         let rest : Got → Program Names = at.rest in
         let e : Exchange = exchange what shut answer made reply wrote in
-        let t : Carried = record { files = files_behind what reply r.files; told = told } in
-        let done_so : IsDone (planning plain) n (asking r.files what) (op_asked r.files what) e r.told told = subst (λ a. IsDone (planning plain) n a (op_asked r.files what) e r.told told) (sym at.calls) has_made in
-        let takes : Takes (planning plain) n (ask what rest) r (Did e) (rest (got_of what reply wrote)) t = (rest, refl, refl, record { is_done = done_so; files = refl }) in
+        let t : Carried = record { files = files_behind what reply r.files; maps = r.maps; told = told } in
+        let done_so : IsDone (planning plain) n r.maps (asking_with r.maps r.files what) (op_asked r.files what) e r.told told
+        = subst (λ a. IsDone (planning plain) n r.maps a (op_asked r.files what) e r.told told) (sym (plainly r what at.so_far.bare ∙ at.calls)) has_made in
+        let takes : Takes (planning plain) n (ask what rest) r (Did e) (rest (got_of what reply wrote)) t = (rest, refl, refl, record { is_done = done_so; files = refl; maps = sym (stays r what reply at.so_far.bare) }) in
         let more : Reached (did ++ made) (rest (got_of what reply wrote)) t (text ++ [])
-        = one_more did made (ask what rest) (rest (got_of what reply wrote)) r t text (Did e) takes (append-nil made) is_told at.so_far in
+        = one_more did made (ask what rest) (rest (got_of what reply wrote)) r t text (Did e) takes (append-nil made) is_told at.so_far.bare (λ room. (tt, tt)) at.so_far in
         subst (λ (l : Left Names). IsSeat (did ++ made) (settles (given l (Some (got_of what reply wrote))) c text)) (sym at.left_is)
         (subst (λ (b : Bearing). IsSeat (did ++ made) (settles (rest (got_of what reply wrote)) b text)) bearing
         (at_settled (did ++ made) (rest (got_of what reply wrote)) t text (subst (λ l. Reached (did ++ made) (rest (got_of what reply wrote)) t l) (append-nil text) more)))
@@ -339,12 +366,13 @@ module _ (n : ℕ) where
     one_made did what next left b text d shut at makes silent =
         call_done did (d ∷ []) what next left b (files_of what d.entry.reply b) text at shut None d.entry.reply d.bytes at.carried.told at.so_far.told
         (record {
+          mapped_is = ap is_some (sym (unmapped_at at.call at.carried.maps at.so_far.bare));
           makes = (has_call at.carried.files what at.call at.calls, makes);
           few_own = omega arith;
           may_own = record { quiet = tt; no_claims = tt };
           reply_is = refl;
           bytes_are = refl;
-          port = port_asked (planning plain) n (op_asked at.carried.files what) (exchange what shut None (d ∷ []) d.entry.reply d.bytes) at.carried.told at.carried.told at.call refl
+          port = port_asked (planning plain) n (op_asked at.carried.files what) (exchange what shut None (d ∷ []) d.entry.reply d.bytes) at.carried.told at.carried.told at.carried.maps (ap (λ (m : Maps). m.kept) at.so_far.bare) at.call refl
               (has_call at.carried.files what at.call at.calls, makes)
               (subst (λ (l : List (Option ℕ)). PortAfter true (op_asked at.carried.files what) (l ++ []) at.carried.told at.carried.told) (sym silent) refl);
         })
@@ -378,12 +406,13 @@ module _ (n : ℕ) where
         let whole : IsSeat (at.earlier ++ (at.first ∷ d ∷ [])) (answers what left (called next b) text d)
         = call_done at.earlier (at.first ∷ d ∷ []) what next left b (files_of what d.entry.reply (called next b)) text at.at false two.answer d.entry.reply d.bytes two.told two.is_told
         (record {
+          mapped_is = ap is_some (sym (unmapped_at call r.maps at.at.so_far.bare));
           makes = (is_there, open_one call (at.first.entry ∷ d.entry ∷ []) two.answer two.makes);
           few_own = omega arith;
           may_own = record { quiet = tt; no_claims = tt };
           reply_is = refl;
           bytes_are = refl;
-          port = port_asked (planning plain) n op (exchange what false two.answer (at.first ∷ d ∷ []) d.entry.reply d.bytes) r.told two.told call refl
+          port = port_asked (planning plain) n op (exchange what false two.answer (at.first ∷ d ∷ []) d.entry.reply d.bytes) r.told two.told r.maps (ap (λ (m : Maps). m.kept) at.at.so_far.bare) call refl
               (is_there, open_one call (at.first.entry ∷ d.entry ∷ []) two.answer two.makes) two.port;
         })
         ((λ i. record { files = files_behind what d.entry.reply (same_files next (bearing_by r) i); port = two.bearing i }) ∙ ap (λ (b : Bearing). files_of what d.entry.reply (called next b)) at.at.bearing) in
@@ -408,10 +437,11 @@ module _ (n : ℕ) where
     ended_at did (Between what next) left b text is at = absurd (false≢true is)
 
     -- Deeds that the talk passes through to its end are those of the talk, carried out.
-    pub passes_back : (ds : List OneDeed) (t : Seat) → AreOf n ds → IsTold s.told → is_ended t.stand ≡ true → Passes (settles p (bearing_by s) []) ds t
-        → (value : Names) × (r : Carried) × Played (planning plain) n p s t.text ds value r × (t ≡ seat Ended (goes_on (done value)) (bearing_by r) t.text) × IsTold r.told
-    passes_back ds t of told ended passes =
-        let start : Reached [] p s [] = record { turns = []; follows = (refl, refl); text_is = refl; did_is = refl; told = told } in
+    pub passes_back : (ds : List OneDeed) (t : Seat) → AreOf n ds → IsTold s.told → s.maps ≡ no_maps 0 → is_ended t.stand ≡ true → Passes (settles p (bearing_by s) []) ds t
+        → (value : Names) × (r : Carried) × (played : Played (planning plain) n p s t.text ds value r) × (t ≡ seat Ended (goes_on (done value)) (bearing_by r) t.text) × IsTold r.told × (r.maps ≡ no_maps 0)
+        × ((room : ℕ) → AreWithin room played.turns)
+    passes_back ds t of told bare ended passes =
+        let start : Reached [] p s [] = record { turns = []; follows = (refl, refl); text_is = refl; did_is = refl; told = told; bare = bare; within = λ room. tt } in
         let o = ended_at ds t.stand t.left t.bearing t.text ended (passed_at [] ds (settles p (bearing_by s) []) t of (at_settled [] p s [] start) passes) in
         let at : AtEnd ds t.left t.bearing t.text = o.0 in (
           at.value,
@@ -419,4 +449,6 @@ module _ (n : ℕ) where
           record { turns = at.so_far.turns; follows = at.so_far.follows; text_is = at.so_far.text_is; did_is = at.so_far.did_is },
           λ i. seat (o.1 i) (at.left_is i) (sym at.bearing i) t.text,
           at.so_far.told,
+          at.so_far.bare,
+          at.so_far.within,
         )

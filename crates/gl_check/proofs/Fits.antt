@@ -14,7 +14,8 @@ use Rattle.gl_world.specs.History.{entries_of, fold_from}
 use Rattle.gl_model.specs.Machine.{world_after}
 use Rattle.gl_model.specs.World.{World, opening}
 use Rattle.gl_core.specs.Device.{OneDeed, OneEntry, core}
-use Rattle.gl_check.specs.Drivers.{plain, planning}
+use Rattle.gl_check.specs.Drivers.{over, plain, planning}
+use Rattle.gl_check.specs.Joining.{Maps, no_maps}
 use Rattle.gl_check.specs.Many.{ActorPlayed, ActorsPlayed, AllPlayed, Texts, all_new, program_of}
 use Rattle.gl_check.specs.Misfit.{AllFit, AtEnd, IsMisfit, MayGo, MisfitIsNoneForMany, Moment, actors_in, after_begun, after_by, after_entry, all_ended, behind, last_by, last_of, others_texts, texts_in, texts_of}
 use Rattle.gl_check.specs.One.{PlannedPort}
@@ -157,21 +158,22 @@ module _ (sections : List SaidSection) where
       (subst (λ w. LegalFrom w es) (sym (world_next sections c e)) legal.1) in
       record { fit = ((legal.0, o.0), more.fit); setup = more.setup ∙ o.1; others = more.others ∙ o.2; last = more.last }
 
-  played_passes : (n : ℕ) (p : Program Names) (s : Carried) (text : List ℕ) (ds : List OneDeed) (value : Names) (r : Carried) → IsTold s.told → Played (planning plain) n p s text ds value r
-      → Passes (settles p (bearing_by s) []) ds (seat Ended (goes_on (done value)) (bearing_by r) text) × IsTold r.told
-  played_passes n p s text ds value r told played =
-      let f = follows_through n played.turns p s value r [] told played.follows in (
+  played_passes : (n : ℕ) (p : Program Names) (s : Carried) (text : List ℕ) (ds : List OneDeed) (value : Names) (r : Carried) → IsTold s.told → s.maps ≡ no_maps 0 → Played (planning plain) n p s text ds value r
+      → Passes (settles p (bearing_by s) []) ds (seat Ended (goes_on (done value)) (bearing_by r) text) × IsTold r.told × (r.maps ≡ no_maps 0)
+  played_passes n p s text ds value r told bare played =
+      let f = follows_through n played.turns p s value r [] told bare played.follows in (
         subst (λ (l : List OneDeed). Passes (settles p (bearing_by s) []) l (seat Ended (goes_on (done value)) (bearing_by r) text)) (sym played.did_is)
             (subst (λ t. Passes (settles p (bearing_by s) []) (did_by played.turns) (seat Ended (goes_on (done value)) (bearing_by r) t)) (sym played.text_is) f.0),
         f.1,
+        f.2,
       )
 
   -- the text of an actor among those of all
-  actor_at : (left : ℕ → Option Told) (es : List OneEntry) (texts : List (List ℕ)) (k n : ℕ) → ActorsPlayed (planning plain) all_new left sections es k texts → k ≤ n → n < k + length texts → (text : List ℕ) × ActorPlayed (planning plain) all_new left sections es n text
-  actor_at left es [] k n played low high = absurd (omega arith)
-  actor_at left es (text ∷ texts) k n played low high = dite (ℕ_discrete k n)
-      (λ is. (text, subst (λ n. ActorPlayed (planning plain) all_new left sections es n text) is played.0))
-      (λ ne. actor_at left es texts (k + 1) n played.1 (above ne low) (omega arith))
+  actor_at : (left : ℕ → Option Told) (es : List OneEntry) (m : Maps) (texts : List (List ℕ)) (k n : ℕ) → ActorsPlayed (over 0 (planning plain)) all_new left sections es m k texts → k ≤ n → n < k + length texts → (text : List ℕ) × ActorPlayed (over 0 (planning plain)) all_new left sections es m n text
+  actor_at left es m [] k n played low high = absurd (omega arith)
+  actor_at left es m (text ∷ texts) k n played low high = dite (ℕ_discrete k n)
+      (λ is. (text, subst (λ n. ActorPlayed (over 0 (planning plain)) all_new left sections es m n text) is played.0))
+      (λ ne. actor_at left es m texts (k + 1) n played.1 (above ne low) (omega arith))
     where
       above : k ≢ n → k ≤ n → k + 1 ≤ n
       above ne low = omega arith
@@ -182,35 +184,35 @@ module _ (sections : List SaidSection) where
     pub passes : Passes ((start sections).others n) (deeds_from core opening n es) to
     pub ended : is_ended to.stand ≡ true
 
-  comes_to : (left : ℕ → Option Told) (es : List OneEntry) (n : ℕ) (text : List ℕ) → ActorPlayed (planning plain) all_new left sections es n text → (o : Comes es n) × (o.to.text ≡ text)
-  comes_to left es n text played = let p = played_passes n (program_of sections n) (carried [] (all_new n)) text (deeds_from core opening n es) played.names played.behind tt played.played in
+  comes_to : (left : ℕ → Option Told) (es : List OneEntry) (m : Maps) → m ≡ no_maps 0 → (n : ℕ) (text : List ℕ) → ActorPlayed (over 0 (planning plain)) all_new left sections es m n text → (o : Comes es n) × (o.to.text ≡ text)
+  comes_to left es m bare n text played = let p = played_passes n (program_of sections n) (carried [] (all_new n) m) text (deeds_from core opening n es) played.names played.behind tt bare played.played in
       (record { to = seat Ended (goes_on (done played.names)) (bearing_by played.behind) text; passes = p.0; ended = refl }, refl)
 
-  all_come : (left : ℕ → Option Told) (es : List OneEntry) (texts : Texts) → AllPlayed (planning plain) all_new left sections es texts → (n : ℕ) → 1 ≤ n → Comes es n
-  all_come left es texts played n one = dite (dec_lt (actors_in sections) n)
+  all_come : (left : ℕ → Option Told) (es : List OneEntry) (texts : Texts) → AllPlayed (over 0 (planning plain)) all_new left sections es texts → (n : ℕ) → 1 ≤ n → Comes es n
+  all_come left es texts played n one = let bare = (played_passes 0 (setup_of sections) (carried [] (all_new 0) (no_maps 0)) texts.setup (deeds_from core opening 0 played.first) played.names played.waiting tt refl played.setup).2 in dite (dec_lt (actors_in sections) n)
       (λ more. record {
         to = (start sections).others n;
         passes = subst (λ (l : List OneDeed). Passes ((start sections).others n) l ((start sections).others n)) (sym (deeds_none opening n es (played.nobody_else n more))) refl;
         ended = beyond_ended sections n more;
       })
-      (λ less. let a = actor_at left es texts.actors 1 n played.actors one (let l = played.as_many in omega arith) in (comes_to left es n a.0 a.1).0)
+      (λ less. let a = actor_at left es played.waiting.maps texts.actors 1 n played.actors one (let l = played.as_many in omega arith) in (comes_to left es played.waiting.maps bare n a.0 a.1).0)
 
-  texts_are : (left : ℕ → Option Told) (es : List OneEntry) → AllFit sections (start sections) es → (texts : List (List ℕ)) (n : ℕ) → 1 ≤ n → ActorsPlayed (planning plain) all_new left sections es n texts
+  texts_are : (left : ℕ → Option Told) (es : List OneEntry) → AllFit sections (start sections) es → (m : Maps) → m ≡ no_maps 0 → (texts : List (List ℕ)) (n : ℕ) → 1 ≤ n → ActorsPlayed (over 0 (planning plain)) all_new left sections es m n texts
       → texts ≡ others_texts n (length texts) (behind sections (start sections) es).others
-  texts_are left es fit [] n one played = refl
-  texts_are left es fit (text ∷ texts) n one played =
-      let o = comes_to left es n text played.0 in
+  texts_are left es fit m bare [] n one played = refl
+  texts_are left es fit m bare (text ∷ texts) n one played =
+      let o = comes_to left es m bare n text played.0 in
       let same : o.0.to ≡ (behind sections (start sections) es).others n
       = passes_one sections ((start sections).others n) o.0.to ((behind sections (start sections) es).others n) (deeds_from core opening n es) o.0.passes (others_pass sections n one (start sections) es fit) in
-      (λ i. (sym o.1 ∙ ap (λ (s : Seat). s.text) same) i ∷ texts) ∙ ap (λ l. ((behind sections (start sections) es).others n).text ∷ l) (texts_are left es fit texts (n + 1) (omega arith) played.1)
+      (λ i. (sym o.1 ∙ ap (λ (s : Seat). s.text) same) i ∷ texts) ∙ ap (λ l. ((behind sections (start sections) es).others n).text ∷ l) (texts_are left es fit m bare texts (n + 1) (omega arith) played.1)
 
-  pub played_fit : (left : ℕ → Option Told) (es : List OneEntry) (texts : Texts) → AllPlayed (planning plain) all_new left sections es texts
+  pub played_fit : (left : ℕ → Option Told) (es : List OneEntry) (texts : Texts) → AllPlayed (over 0 (planning plain)) all_new left sections es texts
       → AllFit sections (start sections) es × AtEnd sections (behind sections (start sections) es) × (texts ≡ texts_in sections (behind sections (start sections) es))
   played_fit left es texts played =
       let c : Moment = start sections in
       let legal = legal_append opening (played.first ++ played.middle) played.last (subst (λ (l : List OneEntry). LegalFrom opening l) played.is (goes_legal opening es played.legal.0 played.legal.1)) in
       let legal_front = legal_append opening played.first played.middle legal.0 in
-      let setup = played_passes 0 (setup_of sections) (carried [] (all_new 0)) texts.setup (deeds_from core opening 0 played.first) played.names played.waiting tt played.setup in
+      let setup = played_passes 0 (setup_of sections) (carried [] (all_new 0) (no_maps 0)) texts.setup (deeds_from core opening 0 played.first) played.names played.waiting tt refl played.setup in
       let setup_to : Seat = seat Ended (goes_on (done played.names)) (bearing_by played.waiting) texts.setup in
       let r1 = run_first c played.first setup_to played.others_not_first setup.0 legal_front.0 in
       let c1 : Moment = behind sections c played.first in
@@ -234,7 +236,7 @@ module _ (sections : List SaidSection) where
       let c2_all : all_ended (actors_in sections) c2.others ≡ true = all_ended_from (actors_in sections) c2.others (λ n one.
       subst (λ (s : Seat). is_ended s.stand ≡ true)
       (passes_one sections (c1.others n) (come n one).to (c2.others n) (deeds_from core c1.world n played.middle) (middle_passes n one) (others_pass sections n one c1 played.middle r2.fit)) (come n one).ended) in
-      let after = played_passes 0 (after_of sections played.names) played.waiting texts.last (deeds_from core (fold_from core opening (played.first ++ played.middle)) 0 played.last) played.end played.behind setup.1 played.after in
+      let after = played_passes 0 (after_of sections played.names) played.waiting texts.last (deeds_from core (fold_from core opening (played.first ++ played.middle)) 0 played.last) played.end played.behind setup.1 setup.2 played.after in
       let last_to : Seat = seat Ended (goes_on (done played.end)) (bearing_by played.behind) texts.last in
       let last_is : last_of sections c2 ≡ settles (after_of sections played.names) (bearing_by played.waiting) []
       = (λ i. last_by sections ((r2.last ∙ r1.last) i) (r2.setup i)) ∙ ap (λ (s : Seat). after_begun sections s) r1.setup in
@@ -251,7 +253,7 @@ module _ (sections : List SaidSection) where
       let b_setup : b.setup ≡ setup_to = ap (λ (c : Moment). c.setup) b_is ∙ r3.setup ∙ r2.setup ∙ r1.setup in
       let b_last : last_of sections b ≡ last_to = ap (λ (c : Moment). last_of sections c) b_is ∙ r3.last in
       let b_others : b.others ≡ c2.others = ap (λ (c : Moment). c.others) b_is ∙ r3.others in
-      let actors : texts.actors ≡ others_texts 1 (actors_in sections) b.others = texts_are left es fit texts.actors 1 (omega arith) played.actors ∙ ap (λ k. others_texts 1 k b.others) played.as_many in (
+      let actors : texts.actors ≡ others_texts 1 (actors_in sections) b.others = texts_are left es fit played.waiting.maps setup.2 texts.actors 1 (omega arith) played.actors ∙ ap (λ k. others_texts 1 k b.others) played.as_many in (
         fit,
         record {
           setup = subst (λ (s : Seat). is_ended s.stand ≡ true) (sym b_setup) refl;
@@ -308,7 +310,7 @@ module _ (sections : List SaidSection) where
 
 pub judged : MisfitIsNoneForMany
 judged sections history = record {
-  sound = λ fits. let p = fit_played sections history fits.0 fits.1 in (without_ports (planning plain) all_new p.0 sections history (texts_of sections history) p.1, p);
+  sound = λ fits. let p = fit_played sections history fits.0 fits.1 in (without_ports (over 0 (planning plain)) all_new p.0 sections history (texts_of sections history) p.1, p);
   complete = λ texts played. let f = played_fit sections played.0 history texts played.1 in ((f.0, f.1), f.2);
   at_most_one = misfits_are_one sections history;
 }

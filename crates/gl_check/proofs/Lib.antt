@@ -9,6 +9,7 @@ pub mod Numbers
 pub mod OfKind
 pub mod Operations
 pub mod Order
+pub mod Outer
 pub mod Printing
 pub mod Replayed
 pub mod SaidHere
@@ -16,5 +17,7 @@ pub mod SameCalls
 pub mod Settling
 pub mod Silent
 pub mod Through
+pub mod ThroughPort
 pub mod Whole
 pub mod WholeSections
+pub mod Joined

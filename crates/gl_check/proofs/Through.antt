@@ -33,9 +33,11 @@ use Rattle.gl_check.specs.One.{PlannedPort, from_plan}
 use Rattle.gl_check.specs.Ports.{after_answer, next_answer}
 use Rattle.gl_check.specs.Seats.{Bearing, IsRefusedAt, Passes, Seat, SuitsFirst, answers, called, deed, first_inside, goes_by, is_refusal, moved, seat, second_of, settles}
 use Rattle.gl_check.specs.Drivers.{plain, planning}
+use Rattle.gl_check.specs.Joining.{Maps, asking_with, maps_behind, no_maps}
 use Rattle.gl_check.specs.Turns.{Carried, Carries, Did, DidNothing, Exchange, Follows, IsDone, Said, Turn, did_by, said_by}
 use Rattle.gl_check.specs.declared.stand.Stand.TheVariants.{Ended, Before, Between}
 use Rattle.gl_check.proofs.Asked.{one_deed, single_is, two_deeds, unmapped}
+use Rattle.gl_check.proofs.Joined.{asking_plainly, no_maps_behind}
 use Rattle.gl_check.proofs.Operations.{ForCall, HasBits, all_have_bits}
 
 -- what a planned driver goes by, of what a port tells
@@ -286,52 +288,58 @@ abbrev GoesFrom : Do → (Got → Program Names) → Exchange → Carried → Ca
 GoesFrom what rest e s r text a =
     Passes (goes_by a what (waits rest) (bearing_by s) text (λ got later. settles (rest got) later text)) e.did (settles (rest (got_of what e.reply e.wrote)) (bearing_by r) text) × IsTold r.told
 
-asking_through : (n : ℕ) (rest : Got → Program Names) (e : Exchange) (s r : Carried) (text : List ℕ) (a : Asking) (op : Option Op) → ForCall (HasBits op) a → IsTold s.told → IsDone (planning plain) n a op e s.told r.told → r.files ≡ files_behind e.what e.reply s.files
+asking_through : (n : ℕ) (rest : Got → Program Names) (e : Exchange) (s r : Carried) (text : List ℕ) (a : Asking) (op : Option Op) → ForCall (HasBits op) a → s.maps.kept ≡ [] → IsTold s.told → IsDone (planning plain) n s.maps a op e s.told r.told → r.files ≡ files_behind e.what e.reply s.files
     → GoesFrom e.what rest e s r text a
-asking_through n rest e s r text (Calls call) op asks told is files =
-    let u = unmapped (planning plain) n op e s.told r.told call is in
+asking_through n rest e s r text (Calls call) op asks bare told is files =
+    let u = unmapped (planning plain) n op e s.told r.told s.maps bare call is in
     call_through n e.what rest text e.reply e.wrote call op s r e.closed e.answer e.did
     (record { told = told; reply_is = is.reply_is; bytes_are = is.bytes_are; port = u.port; files = files }) asks u.makes
-asking_through n rest e s r text (Plans nth) op asks told is files =
+asking_through n rest e s r text (Plans nth) op asks bare told is files =
     let at : bearing_by r ≡ record { files = files_behind e.what Done s.files; port = from_plan.planned nth (port_by s.told) }
     = λ i. record { files = (files ∙ ap (λ p. files_behind e.what p s.files) is.0.reply_is) i; port = (ap port_by is.1 ∙ planned_port nth s.told told) i } in (
       still_through n e.what rest e Done (record { files = files_behind e.what Done s.files; port = from_plan.planned nth (port_by s.told) }) (bearing_by r) text is.0 at,
       subst (λ t. IsTold t) (sym is.1) (told_by_plan nth s.told told),
     )
-asking_through n rest e s r text (Accepts bits) op asks told is files =
+asking_through n rest e s r text (Accepts bits) op asks bare told is files =
     let at : bearing_by r ≡ record { files = files_behind e.what Done s.files; port = from_plan.accepted bits (port_by s.told) }
     = λ i. record { files = (files ∙ ap (λ p. files_behind e.what p s.files) is.0.reply_is) i; port = (ap port_by is.1 ∙ accepted_port bits s.told told) i } in (
       still_through n e.what rest e Done (record { files = files_behind e.what Done s.files; port = from_plan.accepted bits (port_by s.told) }) (bearing_by r) text is.0 at,
       subst (λ t. IsTold t) (sym is.1) (told_by_bits bits s.told told),
     )
-asking_through n rest e s r text (Refuses errno) op asks told is files =
+asking_through n rest e s r text (Refuses errno) op asks bare told is files =
     let at : bearing_by r ≡ record { files = files_behind e.what (Refused errno) s.files; port = port_by s.told }
     = λ i. record { files = (files ∙ ap (λ p. files_behind e.what p s.files) is.0.reply_is) i; port = port_by (is.1 i) } in (
       still_through n e.what rest e (Refused errno) (record { files = files_behind e.what (Refused errno) s.files; port = port_by s.told }) (bearing_by r) text is.0 at,
       subst (λ t. IsTold t) (sym is.1) told,
     )
 
--- A talk that was carried out passes through its deeds to its end, with its text.
-pub follows_through : (n : ℕ) (turns : List Turn) (p : Program Names) (s : Carried) (value : Names) (r : Carried) (text : List ℕ) → IsTold s.told → Follows (planning plain) n p s turns (done value) r
-    → Passes (settles p (bearing_by s) text) (did_by turns) (seat Ended (goes_on (done value)) (bearing_by r) (text ++ said_by turns)) × IsTold r.told
-follows_through n [] p s value r text told h =
-    ((λ i. settles (h.0 i) (bearing_by (h.1 i)) text) ∙ ap (seat Ended (goes_on (done value)) (bearing_by r)) (sym (append-nil text)), subst (λ (c : Carried). IsTold c.told) h.1 told)
-follows_through n (Said more ∷ turns) p s value r text told h =
-    let on = follows_through n turns h.0 h.1 value r (text ++ more) (subst (λ (c : Carried). IsTold c.told) (sym h.2.1) told) h.3 in
+-- A talk that was carried out over a port that takes no maps passes through its deeds to its end, with its text.
+pub follows_through : (n : ℕ) (turns : List Turn) (p : Program Names) (s : Carried) (value : Names) (r : Carried) (text : List ℕ) → IsTold s.told → s.maps ≡ no_maps 0 → Follows (planning plain) n p s turns (done value) r
+    → Passes (settles p (bearing_by s) text) (did_by turns) (seat Ended (goes_on (done value)) (bearing_by r) (text ++ said_by turns)) × IsTold r.told × (r.maps ≡ no_maps 0)
+follows_through n [] p s value r text told none h =
+    ((λ i. settles (h.0 i) (bearing_by (h.1 i)) text) ∙ ap (seat Ended (goes_on (done value)) (bearing_by r)) (sym (append-nil text)), subst (λ (c : Carried). IsTold c.told) h.1 told, subst (λ (c : Carried). c.maps ≡ no_maps 0) h.1 none)
+follows_through n (Said more ∷ turns) p s value r text told none h =
+    let on = follows_through n turns h.0 h.1 value r (text ++ more) (subst (λ (c : Carried). IsTold c.told) (sym h.2.1) told) (subst (λ (c : Carried). c.maps ≡ no_maps 0) (sym h.2.1) none) h.3 in
     let start : settles p (bearing_by s) text ≡ settles h.0 (bearing_by h.1) (text ++ more) = λ i. settles (h.2.0 i) (bearing_by (sym h.2.1 i)) text in (
       subst (λ (a : Seat). Passes a (did_by turns) (seat Ended (goes_on (done value)) (bearing_by r) (text ++ (more ++ said_by turns)))) (sym start)
           (subst (λ t. Passes (settles h.0 (bearing_by h.1) (text ++ more)) (did_by turns) (seat Ended (goes_on (done value)) (bearing_by r) t)) (append_assoc text more (said_by turns)) on.0),
       on.1,
+      on.2,
     )
-follows_through n (Did e ∷ turns) p s value r text told h =
+follows_through n (Did e ∷ turns) p s value r text told none h =
     let rest : Got → Program Names = h.2.0 in
     let carries : Carries (planning plain) n s e h.1 = h.2.3 in
-    let one = asking_through n rest e s h.1 text (asking s.files e.what) (op_asked s.files e.what) (all_have_bits s.files e.what) told carries.is_done carries.files in
-    let on = follows_through n turns h.0 h.1 value r text one.1 h.3 in
+    let plainly : asking_with s.maps s.files e.what ≡ asking s.files e.what = ap (λ (m : Maps). asking_with m s.files e.what) none ∙ asking_plainly s.files e.what in
+    let is_done : IsDone (planning plain) n s.maps (asking s.files e.what) (op_asked s.files e.what) e s.told h.1.told
+    = subst (λ (a : Asking). IsDone (planning plain) n s.maps a (op_asked s.files e.what) e s.told h.1.told) plainly carries.is_done in
+    let one = asking_through n rest e s h.1 text (asking s.files e.what) (op_asked s.files e.what) (all_have_bits s.files e.what) (ap (λ (m : Maps). m.kept) none) told is_done carries.files in
+    let none_behind : h.1.maps ≡ no_maps 0 = carries.maps ∙ ap (λ (m : Maps). maps_behind e.what e.reply s.files m) none ∙ no_maps_behind e.what e.reply s.files in
+    let on = follows_through n turns h.0 h.1 value r text one.1 none_behind h.3 in
     let goal : Seat = seat Ended (goes_on (done value)) (bearing_by r) (text ++ said_by turns) in
     let behind : Passes (settles (rest (got_of e.what e.reply e.wrote)) (bearing_by h.1) text) (did_by turns) goal
     = subst (λ (q : Program Names). Passes (settles q (bearing_by h.1) text) (did_by turns) goal) h.2.2 on.0 in (
       subst (λ (q : Program Names). Passes (settles q (bearing_by s) text) (e.did ++ did_by turns) goal) (sym h.2.1)
           (passes_on e.did (did_by turns) (settles (ask e.what rest) (bearing_by s) text) (settles (rest (got_of e.what e.reply e.wrote)) (bearing_by h.1) text) goal one.0 behind),
       on.1,
+      on.2,
     )

@@ -6,6 +6,7 @@ use mathlib.Core.Logic.{dite}
 use native.Mathlib.Decide.{dec_lt}
 use Rattle.gl_client.specs.Program.{Program, done, goes_on}
 use Rattle.gl_driver.specs.Told.{Told}
+use Rattle.gl_script.specs.Cost.{session_cost}
 use Rattle.gl_script.specs.Section.{SaidSection}
 use Rattle.gl_talk.specs.Open.{Names}
 use Rattle.gl_world.specs.Deeds.{deed_in, deeds_from, deeds_of, entries_in}
@@ -13,12 +14,13 @@ use Rattle.gl_world.specs.History.{entries_of, fold_from}
 use Rattle.gl_model.specs.Machine.{world_after}
 use Rattle.gl_model.specs.World.{World, opening}
 use Rattle.gl_core.specs.Device.{OneDeed, OneEntry, core}
-use Rattle.gl_check.specs.Drivers.{plain, planning}
+use Rattle.gl_check.specs.Drivers.{over, plain, planning}
+use Rattle.gl_check.specs.Joining.{Maps, no_maps}
 use Rattle.gl_check.specs.Many.{ActorPlayed, ActorsPlayed, PlannedTells, all_new, program_of}
 use Rattle.gl_check.specs.Misfit.{AllFit, AtEnd, Moment, actors_in, after_begun, after_entry, all_ended, beginning, behind, last_by, last_of, others_texts, texts_in}
 use Rattle.gl_check.specs.Programs.{after_of, setup_of}
 use Rattle.gl_check.specs.Seats.{Bearing, Passes, Seat, is_ended, moved, new_bearing, seat, settles}
-use Rattle.gl_check.specs.Turns.{Carried, Played, carried}
+use Rattle.gl_check.specs.Turns.{AreWithin, Carried, Played, carried}
 use Rattle.gl_check.specs.declared.stand.Stand.TheVariants.{Ended}
 use Rattle.gl_check.proofs.Through.{IsTold, bearing_by}
 use Rattle.gl_check.proofs.Back.{passes_back}
@@ -144,10 +146,11 @@ module _ (sections : List SaidSection) where
   all_still es fit all n one = dite (dec_lt (actors_in sections) n) (λ more. (beyond_still n more es fit).1) (λ less. ended_at (actors_in sections) n (behind sections start es).others all one (omega arith))
 
   -- one actor's deeds lead it to its end: it carried its program out
-  seat_played : (n : ℕ) (p : Program Names) (s : Carried) (b : Bearing) (t : Seat) (ds : List OneDeed) → bearing_by s ≡ b → IsTold s.told → is_ended t.stand ≡ true → (w : World) (es : List OneEntry) → LegalFrom w es → ds ≡ deeds_from core w n es
-      → Passes (settles p b []) ds t → (value : Names) × (r : Carried) × Played (planning plain) n p s t.text ds value r × (t ≡ seat Ended (goes_on (done value)) (bearing_by r) t.text) × IsTold r.told
-  seat_played n p s b t ds bearing told ended w es legal ds_is passes =
-      passes_back n p s ds t (subst (λ (l : List OneDeed). AreOf n l) (sym ds_is) (deeds_are_of w n es legal)) told ended (subst (λ (b : Bearing). Passes (settles p b []) ds t) (sym bearing) passes)
+  seat_played : (n : ℕ) (p : Program Names) (s : Carried) (b : Bearing) (t : Seat) (ds : List OneDeed) → bearing_by s ≡ b → IsTold s.told → s.maps ≡ no_maps 0 → is_ended t.stand ≡ true → (w : World) (es : List OneEntry) → LegalFrom w es → ds ≡ deeds_from core w n es
+      → Passes (settles p b []) ds t → (value : Names) × (r : Carried) × (played : Played (planning plain) n p s t.text ds value r) × (t ≡ seat Ended (goes_on (done value)) (bearing_by r) t.text) × IsTold r.told × (r.maps ≡ no_maps 0)
+      × ((room : ℕ) → AreWithin room played.turns)
+  seat_played n p s b t ds bearing told bare ended w es legal ds_is passes =
+      passes_back n p s ds t (subst (λ (l : List OneDeed). AreOf n l) (sym ds_is) (deeds_are_of w n es legal)) told bare ended (subst (λ (b : Bearing). Passes (settles p b []) ds t) (sym bearing) passes)
 
   many_texts : (k n : ℕ) (others : ℕ → Seat) → length (others_texts n k others) ≡ k
   many_texts zero n others = refl
@@ -166,13 +169,14 @@ module _ (sections : List SaidSection) where
     pub record Carried_out (n : ℕ) : Type 0 where
       pub names : Names
       pub behind : Carried
-      pub played : Played (planning plain) n (program_of sections n) (carried [] (all_new n)) (at_last n).text (deeds_of core n es) names behind
+      pub played : Played (planning plain) n (program_of sections n) (carried [] (all_new n) (no_maps 0)) (at_last n).text (deeds_of core n es) names behind
+      pub within : AreWithin (session_cost sections) played.turns
 
     played_at : (m : ℕ) → Carried_out (suc m)
     played_at m =
-        let p = seat_played (suc m) (program_of sections (suc m)) (carried [] (all_new (suc m))) new_bearing (at_last (suc m)) (deeds_from core opening (suc m) es) refl tt
+        let p = seat_played (suc m) (program_of sections (suc m)) (carried [] (all_new (suc m)) (no_maps 0)) new_bearing (at_last (suc m)) (deeds_from core opening (suc m) es) refl tt refl
         (all_still es fit all (suc m) (omega arith)) opening es (fit_legal sections start es fit) refl (others_pass sections (suc m) (omega arith) start es fit) in
-        record { names = p.0; behind = p.1; played = p.2 }
+        record { names = p.0; behind = p.1; played = p.2; within = p.6 (session_cost sections) }
 
     -- what the ports tell then
     module _ (first : Option Told) where
@@ -184,17 +188,17 @@ module _ (sections : List SaidSection) where
       unfolding left
       first_left = refl
 
-      actor_played : (n : ℕ) → 1 ≤ n → ActorPlayed (planning plain) all_new left sections es n (at_last n).text
+      actor_played : (n : ℕ) → 1 ≤ n → ActorPlayed (over 0 (planning plain)) all_new left sections es (no_maps 0) n (at_last n).text
       unfolding left
       actor_played zero one = absurd (omega arith)
-      actor_played (suc m) one = let p = played_at m in record { names = p.names; behind = p.behind; played = p.played; left_is = refl }
+      actor_played (suc m) one = let p = played_at m in record { names = p.names; behind = p.behind; played = p.played; within = p.within; left_is = refl }
 
-      actors_played : (k n : ℕ) → 1 ≤ n → ActorsPlayed (planning plain) all_new left sections es n (others_texts n k (behind sections start es).others)
+      actors_played : (k n : ℕ) → 1 ≤ n → ActorsPlayed (over 0 (planning plain)) all_new left sections es (no_maps 0) n (others_texts n k (behind sections start es).others)
       actors_played zero n one = tt
       actors_played (suc k) n one = (actor_played n one, actors_played k (n + 1) (omega arith))
 
   -- Where all entries fit and all actors are at their end, the history is that of all that was carried out, with these texts.
-  pub fit_played : (es : List OneEntry) → AllFit sections start es → AtEnd sections (behind sections start es) → PlannedTells plain sections es (texts_in sections (behind sections start es))
+  pub fit_played : (es : List OneEntry) → AllFit sections start es → AtEnd sections (behind sections start es) → PlannedTells (over 0 plain) sections es (texts_in sections (behind sections start es))
   fit_played es fit end =
       let b : Moment = behind sections start es in
       let f = first_part start es fit end.setup in
@@ -215,7 +219,7 @@ module _ (sections : List SaidSection) where
       let legal = fit_legal sections start es fit in
       let in_parts = legal_append opening (f.first ++ mid.middle) mid.last (subst (λ (l : List OneEntry). LegalFrom opening l) es_is legal) in
       let in_front = legal_append opening f.first mid.middle in_parts.0 in
-      let setup = seat_played 0 (setup_of sections) (carried [] (all_new 0)) new_bearing c.setup (deeds_from core opening 0 f.first) refl tt f.ended opening f.first in_front.0 refl f.passes in
+      let setup = seat_played 0 (setup_of sections) (carried [] (all_new 0) (no_maps 0)) new_bearing c.setup (deeds_from core opening 0 f.first) refl tt refl f.ended opening f.first in_front.0 refl f.passes in
       let last_is : last_of sections d ≡ settles (after_of sections setup.0) (bearing_by setup.1) []
       = (λ i. last_by sections ((mid.last_is ∙ f.last_is) i) (mid.setup_is i)) ∙ ap (λ (s : Seat). after_begun sections s) setup.3 in
       let world_is : d.world ≡ fold_from core opening (f.first ++ mid.middle) = ap (λ (d : Moment). d.world) (sym d_is) ∙ world_behind sections start (f.first ++ mid.middle) in
@@ -224,8 +228,11 @@ module _ (sections : List SaidSection) where
       = subst (λ (t : Seat). Passes (settles (after_of sections setup.0) (bearing_by setup.1) []) (deeds_from core (fold_from core opening (f.first ++ mid.middle)) 0 mid.last) t) (sym end_is)
       (subst (λ w. Passes (settles (after_of sections setup.0) (bearing_by setup.1) []) (deeds_from core w 0 mid.last) (last_of sections (behind sections d mid.last))) world_is
       (subst (λ (s : Seat). Passes s (deeds_from core d.world 0 mid.last) (last_of sections (behind sections d mid.last))) last_is last.passes)) in
-      let after = seat_played 0 (after_of sections setup.0) setup.1 (bearing_by setup.1) (last_of sections b) (deeds_from core (fold_from core opening (f.first ++ mid.middle)) 0 mid.last) refl setup.4 end.last
+      let after = seat_played 0 (after_of sections setup.0) setup.1 (bearing_by setup.1) (last_of sections b) (deeds_from core (fold_from core opening (f.first ++ mid.middle)) 0 mid.last) refl setup.4 setup.5 end.last
       (fold_from core opening (f.first ++ mid.middle)) mid.last in_parts.1 refl passes in
+      let setup_then : (played : Played (planning plain) 0 (setup_of sections) (carried [] (all_new 0) (no_maps 0)) b.setup.text (deeds_from core opening 0 f.first) setup.0 setup.1) × AreWithin (session_cost sections) played.turns
+      = subst (λ text. (played : Played (planning plain) 0 (setup_of sections) (carried [] (all_new 0) (no_maps 0)) text (deeds_from core opening 0 f.first) setup.0 setup.1) × AreWithin (session_cost sections) played.turns)
+      (ap (λ (s : Seat). s.text) (sym b_setup)) (setup.2, setup.6 (session_cost sections)) in
       let told_last : ℕ → Option Told = left es fit end.others after.1.told in (
         told_last,
         record {
@@ -239,12 +246,15 @@ module _ (sections : List SaidSection) where
           others_not_last = last.alone;
           names = setup.0;
           waiting = setup.1;
-          setup = subst (λ text. Played (planning plain) 0 (setup_of sections) (carried [] (all_new 0)) text (deeds_from core opening 0 f.first) setup.0 setup.1) (ap (λ (s : Seat). s.text) (sym b_setup)) setup.2;
+          setup = setup_then.0;
+          setup_within = setup_then.1;
           end = after.0;
           behind = after.1;
           after = after.2;
+          after_within = after.6 (session_cost sections);
           left_is = first_left es fit end.others after.1.told;
-          actors = actors_played es fit end.others after.1.told (actors_in sections) 1 (omega arith);
+          actors = subst (λ (m : Maps). ActorsPlayed (over 0 (planning plain)) all_new told_last sections es m 1 (others_texts 1 (actors_in sections) b.others)) (sym setup.5)
+              (actors_played es fit end.others after.1.told (actors_in sections) 1 (omega arith));
           as_many = many_texts (actors_in sections) 1 b.others;
           nobody_else = λ n more. sym (deeds_entries opening n es) ∙ ap (λ (l : List OneDeed). entries_in l) (beyond_still n more es fit).0;
         },

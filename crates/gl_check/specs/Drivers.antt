@@ -2,8 +2,10 @@
 use Rattle.std.specs.Prelude.{◌≡◌, ℕ, Bool, true, false, List, [], Option, Some, None, IfSome}
 use Rattle.gl_base.specs.declared.op.Op.{Op}
 use Rattle.gl_driver.specs.Told.{Told, planned_for}
+use Rattle.gl_driver.specs.Maps.{map_for}
 use Rattle.gl_driver.specs.declared.map.Map.{Map}
 use Rattle.gl_core.specs.Device.{OneDeed, OneEntry}
+use Rattle.gl_check.specs.Joining.{Maps, no_maps}
 
 -- A driver as a session goes by it: how many entries of its own it makes for a call at most, and whether its answers are planned at a place
 -- without a map. At a place with a map: which entries of its own it may make for an operation, and which answer follows, by what its port told
@@ -51,6 +53,18 @@ planning driver = record driver { is_planned = true }
 abbrev pub plain : DriverKind
 plain = record { limit = 0; is_planned = false; Own = λ map op own. own ≡ []; Follows = λ map told op did room seen answer. Unit {0} }
 
--- The map by which a driver goes at a place. No statement of a session teaches a port any.
-abbrev pub map_in : ℕ → Option Map
-map_in place = None
+-- the map by which a driver goes at a place, over a port with these maps
+abbrev pub map_in : DriverKind → Maps → ℕ → Option Map
+map_in driver m place = map_for driver.limit place m.kept
+
+-- A driver, and how many maps each of its ports takes at the beginning of a session, where it has none.
+pub record DriverOver : Type 1 where
+  pub kind : DriverKind
+  pub maps_left : ℕ
+
+abbrev pub over : ℕ → DriverKind → DriverOver
+over left kind = record { kind = kind; maps_left = left }
+
+-- the maps of each port then
+abbrev pub start_maps : DriverOver → Maps
+start_maps driver = no_maps driver.maps_left

@@ -4,6 +4,7 @@ pub mod Many
 pub mod Misfit
 pub mod One
 pub mod OneChip
+pub mod OnePort
 pub mod Ports
 pub mod Programs
 pub mod Rows
@@ -14,3 +15,5 @@ pub mod Tells
 pub mod Texts
 pub mod Drivers
 pub mod Turns
+pub mod Joining
+pub mod Lawful

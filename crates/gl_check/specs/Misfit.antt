@@ -9,7 +9,7 @@ use Rattle.gl_model.specs.World.{World, opening}
 use Rattle.gl_talk.specs.Open.{Names, no_names}
 use Rattle.gl_core.specs.Device.{OneDeed, OneEntry, core}
 use Rattle.gl_core.specs.Legal.{GoesOn}
-use Rattle.gl_check.specs.Drivers.{plain}
+use Rattle.gl_check.specs.Drivers.{over, plain}
 use Rattle.gl_check.specs.Many.{Many, PlannedTells, Texts, actor_sections, program_of}
 use Rattle.gl_check.specs.Programs.{after_of, setup_of}
 use Rattle.gl_check.specs.Seats.{Seat, Suits, is_ended, moved, new_bearing, settles}
@@ -123,11 +123,12 @@ module _ (sections : List SaidSection) where
   abbrev pub texts_of : List OneEntry → Texts
   texts_of history = texts_in (behind beginning history)
 
--- There is no misfit exactly where PlannedTells holds for some texts. Then Many holds for the same texts, and PlannedTells for no others.
+-- There is no misfit exactly where PlannedTells holds for some texts, over ports that take no maps. Then Many holds for the same texts, and
+-- PlannedTells for no others.
 -- And IsMisfit holds for at most one answer: no history has two misfits, and none that has one has none.
 pub record JudgesMany (sections : List SaidSection) (history : List OneEntry) : Type 0 where
-  pub sound : IsMisfit sections history None → Many plain sections history (texts_of sections history) × PlannedTells plain sections history (texts_of sections history)
-  pub complete : (texts : Texts) → PlannedTells plain sections history texts → IsMisfit sections history None × (texts ≡ texts_of sections history)
+  pub sound : IsMisfit sections history None → Many (over 0 plain) sections history (texts_of sections history) × PlannedTells (over 0 plain) sections history (texts_of sections history)
+  pub complete : (texts : Texts) → PlannedTells (over 0 plain) sections history texts → IsMisfit sections history None × (texts ≡ texts_of sections history)
   pub at_most_one : (i j : Option ℕ) → IsMisfit sections history i → IsMisfit sections history j → i ≡ j
 
 abbrev pub MisfitIsNoneForMany : Type 0

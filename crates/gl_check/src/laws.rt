@@ -4,6 +4,7 @@
 ghost use Rattle.std.specs.Prelude.{◌≡◌, []};
 ghost use Rattle.gl_check.specs.Misfit.{MisfitIsNoneForMany};
 ghost use Rattle.gl_check.specs.OneChip.{output, plans, printed, takes};
+ghost use Rattle.gl_check.specs.OnePort.{OneIsThroughPort};
 
 /// One of a session that makes a chip and lists the chips is its one line, and no driver is asked for it. Computed from the
 /// definitions alone.
@@ -17,4 +18,10 @@ pub fn one_chip()
 /// same texts, and PlannedTells for no others. And no history has two misfits, nor both one and none.
 pub fn misfit_is_none_for_many()
     ensures { MisfitIsNoneForMany }
+{}
+
+/// One through a port that tells is the same run as One over the list alone, whatever the port told before. Where each call of the driver was for
+/// an operation, the port tells in the end as many calls more as One takes of what the driver does, and as its last answer that of the last of them.
+pub fn one_is_through_port()
+    ensures { OneIsThroughPort }
 {}

@@ -75,31 +75,31 @@ none_left [] = refl
 none_left (file ∷ files) = ap (left_of files) (without_it file.slot file files (eq-eqb file.slot file.slot refl)) ∙ none_left files
 
 -- a closing takes the file of its slot away
-closed_one : (slot : ℕ) (s : Standing PlannedPort) → (performs from_plan (Close slot) s).1.files ≡ without_file slot s.files
+closed_one : (slot : ℕ) (s : Standing PlannedPort) → (performs 0 from_plan (Close slot) s).1.files ≡ without_file slot s.files
 closed_one slot s = by (file_in slot s.files)
   where
-    by : (found : Option OpenFile) → (performs_as from_plan (on_file found (λ file. once (CallClose file.fd))) None (Close slot) s).1.files ≡ without_file slot s.files
+    by : (found : Option OpenFile) → (performs_as 0 from_plan (on_file found (λ file. once (CallClose file.fd))) None (Close slot) s).1.files ≡ without_file slot s.files
     by None = refl
     by (Some file) = refl
 
 closed_these : (files : List OpenFile) (s : Standing PlannedPort) → (closes files s).files ≡ left_of files s.files
 closed_these [] s = refl
-closed_these (file ∷ files) s = closed_these files (performs from_plan (Close file.slot) s).1 ∙ ap (left_of files) (closed_one file.slot s)
+closed_these (file ∷ files) s = closed_these files (performs 0 from_plan (Close file.slot) s).1 ∙ ap (left_of files) (closed_one file.slot s)
 
 pub none_is_open : (s : Standing PlannedPort) → (all_closed s).files ≡ []
 none_is_open s = closed_these (ordered is_before s.files) s ∙ left_ordered s.files s.files ∙ none_left s.files
 
 -- one file more is closed
-pub closes_more : (files : List OpenFile) (file : OpenFile) (s : Standing PlannedPort) → closes (files ++ file ∷ []) s ≡ (performs from_plan (Close file.slot) (closes files s)).1
+pub closes_more : (files : List OpenFile) (file : OpenFile) (s : Standing PlannedPort) → closes (files ++ file ∷ []) s ≡ (performs 0 from_plan (Close file.slot) (closes files s)).1
 closes_more [] file s = refl
-closes_more (first ∷ files) file s = closes_more files file (performs from_plan (Close first.slot) s).1
+closes_more (first ∷ files) file s = closes_more files file (performs 0 from_plan (Close first.slot) s).1
 
 map_more : (rows : List FileRow) (row : FileRow) → map row_file (rows ++ row ∷ []) ≡ map row_file rows ++ row_file row ∷ []
 map_more [] row = refl
 map_more (first ∷ rows) row = ap (λ (files : List OpenFile). row_file first ∷ files) (map_more rows row)
 
 pub row_closed : (rows : List FileRow) (i : ℕ) (d : FileRow) (s : Standing PlannedPort) → i < length rows
-    → closes (map row_file (take (i + 1) rows)) s ≡ (performs from_plan (Close (get_or rows i d).slot) (closes (map row_file (take i rows)) s)).1
+    → closes (map row_file (take (i + 1) rows)) s ≡ (performs 0 from_plan (Close (get_or rows i d).slot) (closes (map row_file (take i rows)) s)).1
 row_closed rows i d s within =
     ap (λ (front : List FileRow). closes (map row_file front) s) (take_more rows i d within)
     ∙ ap (λ (files : List OpenFile). closes files s) (map_more (take i rows) (get_or rows i d))

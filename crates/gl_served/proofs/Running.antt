@@ -36,10 +36,10 @@ texts a b ran = ap (λ (t : List ℕ). record ran { text = t }) (sym (append_ass
 
 -- a program, and then another one by what it gives
 pub run_then : {A B : Type 0} (p : Program A) (f : A → Program B) (s : Standing PlannedPort)
-    → run from_plan (then_by p f) s ≡ behind_text (run from_plan p s).text (run from_plan (f (run from_plan p s).value) (run from_plan p s).behind)
+    → run 0 from_plan (then_by p f) s ≡ behind_text (run 0 from_plan p s).text (run 0 from_plan (f (run 0 from_plan p s).value) (run 0 from_plan p s).behind)
 run_then (done value) f s = refl
-run_then (print text p) f s = ap (λ ran. behind_text text ran) (run_then p f s) ∙ texts text (run from_plan p s).text (run from_plan (f (run from_plan p s).value) (run from_plan p s).behind)
-run_then (ask what p) f s = run_then (p (performs from_plan what s).0) f (performs from_plan what s).1
+run_then (print text p) f s = ap (λ ran. behind_text text ran) (run_then p f s) ∙ texts text (run 0 from_plan p s).text (run 0 from_plan (f (run 0 from_plan p s).value) (run 0 from_plan p s).behind)
+run_then (ask what p) f s = run_then (p (performs 0 from_plan what s).0) f (performs 0 from_plan what s).1
 
 carried_more : (lines : List (List ℕ)) (line : List ℕ) (count : ℕ) (ran : Ran PlannedPort Names) → carried_from count ran (lines ++ line ∷ []) ≡ stated (count + length lines) (carried_from count ran lines) line
 carried_more [] line count ran = let none : count ≡ count + 0 = omega arith in ap (λ (n : ℕ). stated n ran line) none
@@ -55,13 +55,13 @@ one_more lines line =
 
 -- statements that have slots of their own are those of a talk
 pub carried_says : (lines : List (List ℕ)) (count : ℕ) (ran : Ran PlannedPort Names) → count + length lines ≤ PAIRS
-    → carried_from count ran lines ≡ behind_text ran.text (run from_plan (says count (map columns lines) done ran.value) ran.behind)
+    → carried_from count ran lines ≡ behind_text ran.text (run 0 from_plan (says count (map columns lines) done ran.value) ran.behind)
 carried_says [] count ran few = ap (λ (t : List ℕ). record ran { text = t }) (sym (append-nil ran.text))
 carried_says (line ∷ lines) count ran few =
     let own : pair_behind count ran.behind.files ≡ Some count = ap (λ b. cond b (Some count) (lowest_free ran.behind.files)) (lt-ltb count PAIRS (omega (arith, few))) in
-    let first : Ran PlannedPort Names = run from_plan (does ran.value (slot_behind count) (columns line)) ran.behind in
-    let later : Ran PlannedPort Names = run from_plan (says (count + 1) (map columns lines) done first.value) first.behind in
-    ap (λ (pair : Option ℕ). carried_from (count + 1) (behind_text ran.text (run from_plan (does ran.value (slot_of pair) (columns line)) ran.behind)) lines) own
+    let first : Ran PlannedPort Names = run 0 from_plan (does ran.value (slot_behind count) (columns line)) ran.behind in
+    let later : Ran PlannedPort Names = run 0 from_plan (says (count + 1) (map columns lines) done first.value) first.behind in
+    ap (λ (pair : Option ℕ). carried_from (count + 1) (behind_text ran.text (run 0 from_plan (does ran.value (slot_of pair) (columns line)) ran.behind)) lines) own
     ∙ carried_says lines (count + 1) (behind_text ran.text first) (omega (arith, few))
     ∙ sym (texts ran.text first.text later)
     ∙ ap (λ (r : Ran PlannedPort Names). behind_text ran.text r) (sym (run_then (does ran.value (slot_behind count) (columns line)) (says (count + 1) (map columns lines) done) ran.behind))
@@ -110,12 +110,13 @@ stands_same a b s is stands = record {
   world = subst (λ (v : AloneValue). StandsFor v.core s.world) (sym is) stands.world;
   files = ap (λ (v : AloneValue). v.files) is ∙ stands.files;
   source = ap (λ (v : AloneValue). v.port) is ∙ stands.source;
+  maps = stands.maps;
 }
 
 module _ (p : Program Names) (s : Standing PlannedPort) where
   -- nothing yet
   pub gone_nothing : (left : Left Names) (a : Alone) → StandsAs a s → given left None ≡ p → HasGone p s (Told None) None [] left a
-  gone_nothing left a stands is = record { standing = s; stands = stands; runs = ap (λ q. run from_plan q s) (sym is); first_is = ap (λ q. first_got q s) (sym is) }
+  gone_nothing left a stands is = record { standing = s; stands = stands; runs = ap (λ q. run 0 from_plan q s) (sym is); first_is = ap (λ q. first_got q s) (sym is) }
 
   -- the same, by other names
   pub gone_as : (step then : Step) (first later : Option Got) (printed text : List ℕ) (left : Left Names) (a : Alone) → then ≡ step → later ≡ first → text ≡ printed
@@ -130,7 +131,7 @@ module _ (p : Program Names) (s : Standing PlannedPort) where
   gone_told got first printed old new step a b gone is told same = record {
     standing = gone.standing;
     stands = subst (λ (x : Alone). StandsAs x gone.standing) (sym same) gone.stands;
-    runs = gone.runs ∙ ap (λ q. behind_text printed (run from_plan q gone.standing)) is;
+    runs = gone.runs ∙ ap (λ q. behind_text printed (run 0 from_plan q gone.standing)) is;
     first_is = gone.first_is ∙ ap (λ q. first_or first (first_or got (first_got q gone.standing))) is
         ∙ first_again first got (first_got (left_by new step) gone.standing)
         ∙ ap (λ (t : Option Got). first_or (first_or first got) (first_or t (first_got (left_by new step) gone.standing))) (sym told);
@@ -138,11 +139,11 @@ module _ (p : Program Names) (s : Standing PlannedPort) where
 
   -- an operation was carried out
   pub gone_done : (what : Do) (got : Got) (first : Option Got) (printed : List ℕ) (left : Left Names) (a b : Alone) (gone : HasGone p s (Asks what) first printed left a)
-      → got ≡ (performs from_plan what gone.standing).0 → StandsAs b (performs from_plan what gone.standing).1 → HasGone p s (Told (Some got)) first printed left b
+      → got ≡ (performs 0 from_plan what gone.standing).0 → StandsAs b (performs 0 from_plan what gone.standing).1 → HasGone p s (Told (Some got)) first printed left b
   gone_done what got first printed left a b gone is stands = record {
-    standing = (performs from_plan what gone.standing).1;
+    standing = (performs 0 from_plan what gone.standing).1;
     stands = stands;
-    runs = gone.runs ∙ ap (λ (g : Got). behind_text printed (run from_plan (given left (Some g)) (performs from_plan what gone.standing).1)) (sym is);
+    runs = gone.runs ∙ ap (λ (g : Got). behind_text printed (run 0 from_plan (given left (Some g)) (performs 0 from_plan what gone.standing).1)) (sym is);
     first_is = gone.first_is ∙ ap (λ (g : Got). first_or first (Some g)) (sym is);
   }
 
@@ -152,7 +153,7 @@ module _ (p : Program Names) (s : Standing PlannedPort) where
   gone_printed text first printed left a gone = record {
     standing = gone.standing;
     stands = gone.stands;
-    runs = gone.runs ∙ texts printed text (run from_plan (given left None) gone.standing);
+    runs = gone.runs ∙ texts printed text (run 0 from_plan (given left None) gone.standing);
     first_is = gone.first_is;
   }
 
@@ -175,7 +176,7 @@ pub is_carried : (said : Accepted) (line : List ℕ) (step : Step) (first : Opti
 is_carried said line step first printed left b names gone ended told =
     let ran : Ran PlannedPort Names = carried_out said.statements in
     let whole : carried_out (said.statements ++ line ∷ []) ≡ behind_text ran.text (behind_text printed (record { text = []; value = names; behind = gone.standing })) =
-    one_more said.statements line ∙ ap (λ (r : Ran PlannedPort Names). behind_text ran.text r) (gone.runs ∙ ap (λ q. behind_text printed (run from_plan q gone.standing)) ended) in
+    one_more said.statements line ∙ ap (λ (r : Ran PlannedPort Names). behind_text ran.text r) (gone.runs ∙ ap (λ q. behind_text printed (run 0 from_plan q gone.standing)) ended) in
     record {
       adds = ap (λ (r : Ran PlannedPort Names). r.text) whole ∙ ap (λ (t : List ℕ). ran.text ++ t) (append-nil printed);
       names_are = ap (λ (r : Ran PlannedPort Names). r.value) (sym whole);
@@ -300,7 +301,7 @@ pub advanced : (result : Result Next Errno) (before : Left Names) (got : Option 
 advanced (Ok next) before got after names begun old goes rests kept = (goes, rests)
 advanced (Err errno) before got after names begun old goes rests kept = kept.0
 
-pub carried_out_so : (what : Do) (result : Result Got Errno) (a b : Alone) → ((s : Standing PlannedPort) → StandsAs a s → IfOk result (λ got. (got ≡ (performs from_plan what s).0) × StandsAs b (performs from_plan what s).1))
+pub carried_out_so : (what : Do) (result : Result Got Errno) (a b : Alone) → ((s : Standing PlannedPort) → StandsAs a s → IfOk result (λ got. (got ≡ (performs 0 from_plan what s).0) × StandsAs b (performs 0 from_plan what s).1))
     → OnErr result (alone_in b ≡ alone_in a) → CarriedOut what result a b
 carried_out_so what (Ok got) a b so kept = so
 carried_out_so what (Err errno) a b so kept = kept

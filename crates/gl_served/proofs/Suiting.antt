@@ -41,6 +41,8 @@ use Rattle.gl_core.specs.Kept.{StandsFor}
 use Rattle.gl_base.specs.declared.op.Op.{Op}
 use Rattle.gl_asking.proofs.Told.{accepted_got as got_of_bits, planned_got as got_of_plan, refused_got as got_of_refusal}
 use Rattle.gl_asking.specs.Driving.{applies, lines_by, op_asked, op_of, op_on, op_requested}
+use Rattle.gl_check.specs.Joining.{Maps, asking_with, maps_behind, no_maps}
+use Rattle.gl_check.proofs.Joined.{asking_plainly, no_maps_behind}
 use Rattle.gl_check.specs.One.{PlannedPort, Standing, at_guard, bits_asked, comes_by, comes_to, from_plan, is_asked, performs, performs_as, two, with_answer}
 use Rattle.gl_check.specs.Buffers.{buffer_for}
 use Rattle.gl_check.specs.Ports.{next_answer}
@@ -182,7 +184,7 @@ accepted_got files what bits is = got_of_bits files what bits is
 
 -- What the driver answers to an operation, as the code has it of the operation's call.
 abbrev Answered : Option Op → DeviceCall → Type 0
-Answered op call = (w : World) (port : PlannedPort) → comes_by w call (from_plan.next op port) ≡ comes_to w call (next_to call port)
+Answered op call = (w : World) (port : PlannedPort) → comes_by w call (from_plan.next None op port) ≡ comes_to w call (next_to call port)
 
 answered_if : (op : Option Op) (call : DeviceCall) (errno : Errno) (b : Bool) → Answered op call → ForCall (Answered op) (if b then Calls call else Refuses errno)
 answered_if op call errno true answered = answered
@@ -201,7 +203,7 @@ abbrev named_to : World → CommandIn → Option Command → Option ℕ → Outc
 named_to w c command answer = at_guard (Some c.place) false w (if is_driver_asked c.of_chip c.len command then two w (in_ask c) (in_tell answer c) else step w 0 (in_whole c))
 
 named_answered : (lines : Lines) (c : CommandIn) (w : World) (port : PlannedPort) (command : Option Command)
-    → named_to w c command (from_plan.next (op_of lines command c.bytes) port).answer ≡ named_to w c command (next_answer (applies command) port)
+    → named_to w c command (from_plan.next None (op_of lines command c.bytes) port).answer ≡ named_to w c command (next_answer (applies command) port)
 named_answered lines c w port None = refl
 named_answered lines c w port (Some ChipInfo) = refl
 named_answered lines c w port (Some LineInfo) = refl
@@ -248,42 +250,58 @@ answered files (Plan nth) = tt
 answered files (Accept bits) = tt
 answered files (Aggregate label slots count) = tt
 
--- the world, the files and the port after an operation that is a call
-answer_source : (b : Bool) (op : Option Op) (s : Standing PlannedPort) → (with_answer from_plan op b s).source ≡ after_asking b s.source
-answer_source true op s = refl
-answer_source false op s = refl
+-- the world, the files, the port and the maps after an operation that is a call
+answer_source : (call : DeviceCall) (b : Bool) (op : Option Op) (s : Standing PlannedPort) → (with_answer 0 from_plan call op b s).source ≡ after_asking b s.source
+answer_source call true op s = refl
+answer_source call false op s = refl
 
-answer_files : (b : Bool) (op : Option Op) (s : Standing PlannedPort) → (with_answer from_plan op b s).files ≡ s.files
-answer_files true op s = refl
-answer_files false op s = refl
+answer_files : (call : DeviceCall) (b : Bool) (op : Option Op) (s : Standing PlannedPort) → (with_answer 0 from_plan call op b s).files ≡ s.files
+answer_files call true op s = refl
+answer_files call false op s = refl
 
-module _ (what : Do) (s : Standing PlannedPort) (a : Alone) (got : Got) where
+answer_maps : (call : DeviceCall) (b : Bool) (op : Option Op) (s : Standing PlannedPort) → (with_answer 0 from_plan call op b s).maps ≡ s.maps
+answer_maps call true op s = refl
+answer_maps call false op s = refl
+
+-- `none`: the port has no maps, and takes none
+module _ (what : Do) (s : Standing PlannedPort) (none : s.maps ≡ no_maps 0) (a : Alone) (got : Got) where
   abbrev IsPerformed : Asking → Type 0
-  IsPerformed x = (got ≡ (performs_as from_plan x (op_asked s.files what) what s).0) × StandsAs a (performs_as from_plan x (op_asked s.files what) what s).1
+  IsPerformed x = (got ≡ (performs_as 0 from_plan x (op_asked s.files what) what s).0) × StandsAs a (performs_as 0 from_plan x (op_asked s.files what) what s).1
 
-  pub performed_call : (call : DeviceCall) → Calls call ≡ asking s.files what → let out = comes_by s.world call (from_plan.next (op_asked s.files what) s.source) in
+  asks_plainly : asking_with s.maps s.files what ≡ asking s.files what
+  asks_plainly = ap (λ (m : Maps). asking_with m s.files what) none ∙ asking_plainly s.files what
+
+  maps_stay : (reply : Reply) (files : List OpenFile) → maps_behind what reply files s.maps ≡ no_maps 0
+  maps_stay reply files = ap (λ (m : Maps). maps_behind what reply files m) none ∙ no_maps_behind what reply files
+
+  pub performed_call : (call : DeviceCall) → Calls call ≡ asking s.files what → let out = comes_by s.world call (from_plan.next None (op_asked s.files what) s.source) in
       got ≡ got_of what out.reply out.bytes → StandsFor a.core out.world → map row_file a.rows.items ≡ files_behind what out.reply s.files → port_in a.port ≡ after_asking (is_asked s.world call) s.source
-      → (got ≡ (performs from_plan what s).0) × StandsAs a (performs from_plan what s).1
-  performed_call call is gets world files port = subst (λ (x : Asking). IsPerformed x) is (
-    gets,
-    record {
-      world = world;
-      files = files ∙ ap (λ (l : List OpenFile). files_behind what (comes_by s.world call (from_plan.next (op_asked s.files what) s.source)).reply l) (sym (answer_files (is_asked s.world call) (op_asked s.files what) s));
-      source = port ∙ sym (answer_source (is_asked s.world call) (op_asked s.files what) s);
-    },
-  )
+      → (got ≡ (performs 0 from_plan what s).0) × StandsAs a (performs 0 from_plan what s).1
+  performed_call call is gets world files port =
+      let asks = is_asked s.world call in
+      let op = op_asked s.files what in
+      let reply = (comes_by s.world call (from_plan.next None op s.source)).reply in
+      subst (λ (x : Asking). IsPerformed x) (is ∙ sym asks_plainly) (
+        gets,
+        record {
+          world = world;
+          files = files ∙ ap (λ (l : List OpenFile). files_behind what reply l) (sym (answer_files call asks op s));
+          source = port ∙ sym (answer_source call asks op s);
+          maps = ap (λ (m : Maps). maps_behind what reply (with_answer 0 from_plan call op asks s).files m) (answer_maps call asks op s) ∙ maps_stay reply (with_answer 0 from_plan call op asks s).files;
+        },
+      )
 
   pub performed_plan : (nth : ℕ) → Plans nth ≡ asking s.files what → got ≡ got_of what DoneReply [] → StandsFor a.core s.world → map row_file a.rows.items ≡ files_behind what DoneReply s.files → port_in a.port ≡ from_plan.planned nth s.source
-      → (got ≡ (performs from_plan what s).0) × StandsAs a (performs from_plan what s).1
-  performed_plan nth is gets world files port = subst (λ (x : Asking). IsPerformed x) is (gets, record { world = world; files = files; source = port })
+      → (got ≡ (performs 0 from_plan what s).0) × StandsAs a (performs 0 from_plan what s).1
+  performed_plan nth is gets world files port = subst (λ (x : Asking). IsPerformed x) (is ∙ sym asks_plainly) (gets, record { world = world; files = files; source = port; maps = maps_stay DoneReply s.files })
 
   pub performed_accept : (bits : ℕ) → Accepts bits ≡ asking s.files what → got ≡ got_of what DoneReply [] → StandsFor a.core s.world → map row_file a.rows.items ≡ files_behind what DoneReply s.files → port_in a.port ≡ from_plan.accepted bits s.source
-      → (got ≡ (performs from_plan what s).0) × StandsAs a (performs from_plan what s).1
-  performed_accept bits is gets world files port = subst (λ (x : Asking). IsPerformed x) is (gets, record { world = world; files = files; source = port })
+      → (got ≡ (performs 0 from_plan what s).0) × StandsAs a (performs 0 from_plan what s).1
+  performed_accept bits is gets world files port = subst (λ (x : Asking). IsPerformed x) (is ∙ sym asks_plainly) (gets, record { world = world; files = files; source = port; maps = maps_stay DoneReply s.files })
 
   pub performed_refusal : (errno : Errno) → Refuses errno ≡ asking s.files what → got ≡ got_of what (RefusedReply errno) [] → StandsFor a.core s.world → map row_file a.rows.items ≡ files_behind what (RefusedReply errno) s.files → port_in a.port ≡ s.source
-      → (got ≡ (performs from_plan what s).0) × StandsAs a (performs from_plan what s).1
-  performed_refusal errno is gets world files port = subst (λ (x : Asking). IsPerformed x) is (gets, record { world = world; files = files; source = port })
+      → (got ≡ (performs 0 from_plan what s).0) × StandsAs a (performs 0 from_plan what s).1
+  performed_refusal errno is gets world files port = subst (λ (x : Asking). IsPerformed x) (is ∙ sym asks_plainly) (gets, record { world = world; files = files; source = port; maps = maps_stay (RefusedReply errno) s.files })
 
   -- the same by what the code is told: of the port and the files as the code keeps them, and of the buffer
   pub performed_from : (call : DeviceCall) (port : PlannedPort) (files : List OpenFile) (reply : Reply) (buffer new : List ℕ) → Calls call ≡ asking s.files what → port ≡ s.source → files ≡ s.files → buffer ≡ buffer_for what → Suits what call
@@ -291,9 +309,9 @@ module _ (what : Do) (s : Standing PlannedPort) (a : Alone) (got : Got) where
       → port_in a.port ≡ after_asking (is_asked s.world call) port
       → map row_file a.rows.items ≡ files_behind what reply files
       → ((wrote : List ℕ) → IsFilled what wrote new → got ≡ got_of what reply wrote)
-      → (got ≡ (performs from_plan what s).0) × StandsAs a (performs from_plan what s).1
+      → (got ≡ (performs 0 from_plan what s).0) × StandsAs a (performs 0 from_plan what s).1
   performed_from call port files reply buffer new is source same handed suited came told left gets =
-      let out : Outcome = comes_by s.world call (from_plan.next (op_asked s.files what) s.source) in
+      let out : Outcome = comes_by s.world call (from_plan.next None (op_asked s.files what) s.source) in
       let same_answer : Answered (op_asked s.files what) call = subst (λ (x : Asking). ForCall (Answered (op_asked s.files what)) x) (sym is) (answered s.files what) in
       let made : CameBy call out reply a.core buffer new = subst (λ (o : Outcome). CameBy call o reply a.core buffer new) (sym (same_answer s.world s.source))
       (subst (λ (p : PlannedPort). CameBy call (comes_to s.world call (next_to call p)) reply a.core buffer new) source came) in

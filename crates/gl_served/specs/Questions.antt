@@ -74,7 +74,7 @@ data_kind said line =
 abbrev pub first_got : {A : Type 0} → Program A → Standing PlannedPort → Option Got
 first_got (done value) s = None
 first_got (print text p) s = first_got p s
-first_got (ask what p) s = Some (performs from_plan what s).0
+first_got (ask what p) s = Some (performs 0 from_plan what s).0
 
 -- bytes as a line
 abbrev pub bytes_text_line : List ℕ → List ℕ

@@ -11,6 +11,7 @@ use Rattle.gl_script.specs.declared.served.Stage.TheVariants.{Opening, Headed}
 use Rattle.gl_talk.specs.Open.{Names, setup_names}
 use Rattle.gl_talk.specs.Talk.{does, names_in}
 use Rattle.gl_talk.specs.declared.talk.Talk.{Talk}
+use Rattle.gl_check.specs.Joining.{no_maps}
 use Rattle.gl_check.specs.One.{PlannedPort, Ran, Standing, behind_text, from_plan, run}
 use Rattle.gl_served.specs.Alone.{StandsAs}
 use Rattle.gl_check.specs.Ports.{unplanned}
@@ -21,13 +22,13 @@ use Rattle.gl_served.specs.declared.answered.Answer.{Answer}
 use Rattle.gl_served.specs.declared.answered.Answer.TheVariants.{Text, Refused}
 use Rattle.gl_served.specs.declared.under_way.UnderWay.{UnderWay}
 
--- a new machine, without an open file, and a new port
+-- a new machine, without an open file, and a new port, which takes no maps
 abbrev pub start : Standing PlannedPort
-start = record { world = opening; files = []; source = unplanned; took = []; entries = 0 }
+start = record { world = opening; files = []; maps = no_maps 0; source = unplanned; took = []; asked = []; entries = 0 }
 
 -- a statement after so many others is carried out, over a planned driver
 abbrev pub stated : ℕ → Ran PlannedPort Names → List ℕ → Ran PlannedPort Names
-stated count ran line = behind_text ran.text (run from_plan (does ran.value (slot_of (pair_behind count ran.behind.files)) (columns line)) ran.behind)
+stated count ran line = behind_text ran.text (run 0 from_plan (does ran.value (slot_of (pair_behind count ran.behind.files)) (columns line)) ran.behind)
 
 -- statements in a row, after so many others
 abbrev pub carried_from : ℕ → Ran PlannedPort Names → List (List ℕ) → Ran PlannedPort Names

@@ -48,7 +48,7 @@ text_shown true first text = shown first text
 pub record HasGone (p : Program Names) (s : Standing PlannedPort) (step : Step) (first : Option Got) (printed : List ℕ) (left : Left Names) (a : Alone) : Type 0 where
   pub standing : Standing PlannedPort
   pub stands : StandsAs a standing
-  pub runs : run from_plan p s ≡ behind_text printed (run from_plan (left_by left step) standing)
+  pub runs : run 0 from_plan p s ≡ behind_text printed (run 0 from_plan (left_by left step) standing)
   pub first_is : first_got p s ≡ first_or first (first_or (told_by step) (first_got (left_by left step) standing))
 
 -- a talk to which so much was left was told a result, and said what comes next: so much is left then, and at its end it has these names
@@ -58,7 +58,7 @@ Advances (Err errno) before got after names = after ≡ before
 
 -- an operation was carried out, or nothing was done
 abbrev pub CarriedOut : Do → Result Got Errno → Alone → Alone → Type 0
-CarriedOut what (Ok got) a b = (s : Standing PlannedPort) → StandsAs a s → (got ≡ (performs from_plan what s).0) × StandsAs b (performs from_plan what s).1
+CarriedOut what (Ok got) a b = (s : Standing PlannedPort) → StandsAs a s → (got ≡ (performs 0 from_plan what s).0) × StandsAs b (performs 0 from_plan what s).1
 CarriedOut what (Err errno) a b = alone_in b ≡ alone_in a
 
 abbrev pub IsGoing : Program Names → Standing PlannedPort → UnderWay → ServedValue → Type 0

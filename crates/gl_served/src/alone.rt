@@ -56,7 +56,7 @@ impl Alone {
     pub fn perform(&mut self, alloc: Global, what: &Do) -> Result<Got, Errno>
         requires rows { Each IsRow self.old.rows.items }
         ensures rows { Each IsRow self.new.rows.items }
-        ensures ok { (s : Standing PlannedPort) → StandsAs self.old s → IfOk result (λ got. (got ≡ (performs from_plan what.now s).0) × StandsAs self.new (performs from_plan what.now s).1) }
+        ensures ok { (s : Standing PlannedPort) → StandsAs self.old s → IfOk result (λ got. (got ≡ (performs 0 from_plan what.now s).0) × StandsAs self.new (performs 0 from_plan what.now s).1) }
         ensures kept { OnErr result (alone_in self.new ≡ alone_in self.old) }
         ensures memory_alone { IsOkUnless result Errno.NoMemory }
     {
@@ -126,7 +126,7 @@ impl Alone {
         requires fits { FitsDevice call.now }
         requires asks { (files : List OpenFile) → file_for what.now files ≡ file_of row → Calls call.now ≡ asking files what.now }
         ensures rows { Each IsRow self.new.rows.items }
-        ensures ok { (s : Standing PlannedPort) → StandsAs self.old s → IfOk result (λ got. (got ≡ (performs from_plan what.now s).0) × StandsAs self.new (performs from_plan what.now s).1) }
+        ensures ok { (s : Standing PlannedPort) → StandsAs self.old s → IfOk result (λ got. (got ≡ (performs 0 from_plan what.now s).0) × StandsAs self.new (performs 0 from_plan what.now s).1) }
         ensures kept { OnErr result (alone_in self.new ≡ alone_in self.old) }
         ensures memory_alone { IsOkUnless result Errno.NoMemory }
     {

@@ -9,27 +9,32 @@ use Rattle.gl_gate.specs.Calls.{HasAllOf}
 use Rattle.gl_rule.specs.Views.{newcomer}
 use Rattle.gl_client.specs.Program.{Program, done}
 use Rattle.gl_driver.specs.Told.{Told}
+use Rattle.gl_driver.specs.declared.map.Map.{Map}
+use Rattle.gl_script.specs.Cost.{session_cost}
 use Rattle.gl_script.specs.Section.{SaidSection}
 use Rattle.gl_talk.specs.Open.{Names}
 use Rattle.gl_core.specs.Device.{OneEntry, core}
 use Rattle.gl_chip.specs.Values.{OneView}
-use Rattle.gl_check.specs.Drivers.{DriverKind}
+use Rattle.gl_check.specs.Drivers.{DriverKind, DriverOver, start_maps}
+use Rattle.gl_check.specs.Joining.{Maps}
 use Rattle.gl_check.specs.Programs.{setup_of}
-use Rattle.gl_check.specs.Many.{AllPlayed, Texts, actor_sections, program_of}
+use Rattle.gl_check.specs.Many.{AllPlayedBelow, Texts, actor_sections, program_of}
 use Rattle.gl_session.specs.Many.{CameToMany}
 use Rattle.gl_session.specs.Performed.{PlaysOn}
 use Rattle.gl_check.specs.Turns.{carried}
-use Rattle.gl_session.specs.Ports.{AreAllThere}
+use Rattle.gl_session.specs.Ports.{AreAllThere, IsTaught, LearnAbove}
 use Rattle.gl_session.specs.Workers.{AreKept, CameOut, HasCarriedOut, there_at, told_at}
+use Rattle.gl_session.proofs.Actors.{all_within}
+use Rattle.gl_session.proofs.Counting.{within_cost}
 use Rattle.gl_session.proofs.Ends.{all_played}
 use Rattle.gl_session.proofs.ManyFollows.{came_to_many}
 use Rattle.gl_session.proofs.PortPlaces.{all_found, found_all, get_other, get_set, not_there, there_got, there_same, told_got, told_same}
 
 -- promises are kept over ports that told the same and tell the same
-kept_as : (driver : DriverKind) (programs : ℕ → Program Names) (start other left later : ℕ → Option Told) (v first : OneView) (n : ℕ) (texts : List (Result (List ℕ) Errno)) → ((k : ℕ) → n ≤ k → start k ≡ other k) → ((k : ℕ) → n ≤ k → left k ≡ later k)
-    → AreKept driver programs start left v first n texts → AreKept driver programs other later v first n texts
-kept_as driver programs start other left later v first n [] same_start same_end h = tt
-kept_as driver programs start other left later v first n (t ∷ ts) same_start same_end h = let k = h.0 in (
+kept_as : (driver : DriverKind) (m : Maps) (programs : ℕ → Program Names) (start other left later : ℕ → Option Told) (v first : OneView) (n : ℕ) (texts : List (Result (List ℕ) Errno)) → ((k : ℕ) → n ≤ k → start k ≡ other k) → ((k : ℕ) → n ≤ k → left k ≡ later k)
+    → AreKept driver m programs start left v first n texts → AreKept driver m programs other later v first n texts
+kept_as driver m programs start other left later v first n [] same_start same_end h = tt
+kept_as driver m programs start other left later v first n (t ∷ ts) same_start same_end h = let k = h.0 in (
   record {
     saw = k.saw;
     place = k.place;
@@ -38,9 +43,9 @@ kept_as driver programs start other left later v first n (t ∷ ts) same_start s
     begins = k.begins;
     own = k.own;
     nothing_before = k.nothing_before;
-    came = subst (λ (x : Option Told × Option Told). CameOut driver n (programs n) x.0 k.saw v.room t x.1) (λ i. (same_start n (omega arith) i, same_end n (omega arith) i)) k.came;
+    came = subst (λ (x : Option Told × Option Told). CameOut driver m n (programs n) x.0 k.saw v.room t x.1) (λ i. (same_start n (omega arith) i, same_end n (omega arith) i)) k.came;
   },
-  kept_as driver programs start other left later v first (n + 1) ts (λ j more. same_start j (omega arith)) (λ j more. same_end j (omega arith)) h.1,
+  kept_as driver m programs start other left later v first (n + 1) ts (λ j more. same_start j (omega arith)) (λ j more. same_end j (omega arith)) h.1,
 )
 
 -- the first port is there, and the others are once it is taken out
@@ -55,7 +60,7 @@ taken_there ports taken all left_is n far less =
 pub new_first : (room : ℕ) (v : OneView) → v ≡ newcomer 0 room [] 1 [] [] → (v.number ≡ 0) × (v.made ≡ 1)
 new_first room v new = (ap (λ (x : OneView). x.number) new, ap (λ (x : OneView). x.made) new)
 
-module _ {P : Type 0} (told : P → Option Told) (driver : DriverKind) (sections : List SaidSection) where
+module _ {P : Type 0} (told : P → Option Told) (driver : DriverOver) (sections : List SaidSection) where
   -- all others were taken in
   pub all_joined : (room : ℕ) (v w : OneView) (before left : Option Told) (ports ports_then : List (Option P)) (texts : Texts) → v ≡ newcomer 0 room [] 1 [] [] → HasCarriedOut told driver sections v before ports texts w left ports_then
       → (w.number ≡ 0) × (length w.joined + 1 ≡ w.made)
@@ -79,47 +84,54 @@ module _ {P : Type 0} (told : P → Option Told) (driver : DriverKind) (sections
     same_then k far = told_same told ports_then given k (sym (ap (λ l. slice_get l k) given_is ∙ get_other ports_then 0 k (Some port_then) (λ same. absurd (omega (arith, same)))))
 
     -- what came of the whole
-    pub came : (room : ℕ) (v w : OneView) (before left : Option Told) (texts : Texts) (history : List OneEntry) → v ≡ newcomer 0 room [] 1 [] [] → before ≡ told port → left ≡ told port_then
+    pub came : driver.kind.limit ≤ 8 → (v w : OneView) (before left : Option Told) (texts : Texts) (history : List OneEntry) → v ≡ newcomer 0 (session_cost sections) [] 1 [] [] → before ≡ told port → left ≡ told port_then
         → HasCarriedOut told driver sections v before taken texts w left ports_then → length taken ≡ length ports_then
         → Legal core history → StartsWith history w.seen → entries_of 0 history ≡ w.mine → HasAllOf w.joined history → ((n : ℕ) → w.made ≤ n → entries_of n history ≡ [])
         → CameToMany driver sections (told_at told ports) (told_at told given) history texts
-    came room v w before left texts history new first_is last_is out same_length legal begins mine all others =
+    came limit v w before left texts history new first_is last_is out same_length legal begins mine all others =
         let start : told_at told ports 0 ≡ told port = told_got told ports 0 port got in
         let long : length taken ≡ length ports = ap (λ l. length l) left_is ∙ length-set ports 0 None in
         let end : told_at told given 0 ≡ told port_then = ap (λ l. told_at told l 0) given_is ∙ told_got told (set ports_then 0 (Some port_then)) 0 port_then (get_set ports_then 0 (Some port_then) (omega arith)) in
-        let played : AllPlayed driver (told_at told ports) (told_at told given) sections history texts =
-        all_played driver (told_at told ports) (told_at told given) sections room (length (actor_sections sections)) (length (actor_sections sections)) v out.at_fork out.forked.between out.behind_fork w out.names out.end out.waiting out.behind texts.setup texts.last texts.actors history
+        let played : AllPlayedBelow driver (told_at told ports) (told_at told given) sections history (length history) texts =
+        all_played driver (told_at told ports) (told_at told given) sections (length (actor_sections sections)) (length (actor_sections sections)) v out.at_fork out.forked.between out.behind_fork w out.names out.end out.waiting out.behind texts.setup texts.last texts.actors history
         new
-        (subst (λ t. PlaysOn driver (setup_of sections) v (carried [] t) [] (done out.names) out.at_fork out.waiting texts.setup) (first_is ∙ sym start) out.setup)
+        (subst (λ t. PlaysOn driver.kind (setup_of sections) v (carried [] t (start_maps driver)) [] (done out.names) out.at_fork out.waiting texts.setup) (first_is ∙ sym start) out.setup)
         out.forked.split out.forked.joined
-        (kept_as driver (program_of sections) (told_at told taken) (told_at told ports) (told_at told ports_then) (told_at told given) out.at_fork out.behind_fork 1 (map Ok texts.actors) same_before same_then out.forked.kept)
+        (kept_as driver.kind out.waiting.maps (program_of sections) (told_at told out.ports_taught) (told_at told ports) (told_at told ports_then) (told_at told given) out.at_fork out.behind_fork 1 (map Ok texts.actors)
+        (λ k far. out.told_same k ∙ same_before k far) same_then out.forked.kept)
         out.own out.last (out.left_is ∙ last_is ∙ sym end) legal begins mine all others (sym out.forked.as_many) out.forked.as_many
-        in came_to_many driver (told_at told ports) (told_at told given) sections history texts played
+        in let fits = within_cost driver limit (told_at told ports) (told_at told given) sections history (length history) texts played in
+        came_to_many driver limit (told_at told ports) (told_at told given) sections history texts (all_within driver (told_at told ports) (told_at told given) sections history (length history) fits texts played)
 
-    -- all ports are there again, and those of numbers that no actor has are as they were
-    pub all_there : (v w : OneView) (before left : Option Told) (texts : Texts) → HasCarriedOut told driver sections v before taken texts w left ports_then → AreAllThere ports
-        → AreAllThere given × ((n : ℕ) → length (actor_sections sections) < n → slice_get given n ≡ slice_get ports n)
-    all_there v w before left texts out were = (record { count = long ∙ were.count; there = found_all given at }, beyond) where
+    behind_first : (n : ℕ) → 1 ≤ n → slice_get given n ≡ slice_get ports_then n
+    behind_first n far = ap (λ l. slice_get l n) given_is ∙ get_other ports_then 0 n (Some port_then) (λ same. absurd (omega (arith, same)))
+
+    untaken : (n : ℕ) → 1 ≤ n → slice_get taken n ≡ slice_get ports n
+    untaken n far = ap (λ l. slice_get l n) left_is ∙ get_other ports 0 n None (λ same. absurd (omega (arith, same)))
+
+    -- all ports are there again
+    pub all_there : (v w : OneView) (before left : Option Told) (texts : Texts) → HasCarriedOut told driver sections v before taken texts w left ports_then → AreAllThere ports → AreAllThere given
+    all_there v w before left texts out were = record { count = long ∙ were.count; there = found_all given at } where
       taken_long : length taken ≡ length ports
       taken_long = ap (λ l. length l) left_is ∙ length-set ports 0 None
 
-      long : length given ≡ length ports
-      long = ap (λ l. length l) given_is ∙ length-set ports_then 0 (Some port_then) ∙ out.forked.ports_len ∙ taken_long
-
       then_long : length ports_then ≡ length ports
-      then_long = out.forked.ports_len ∙ taken_long
+      then_long = out.forked.ports_len ∙ out.taught_len ∙ taken_long
 
-      behind_first : (n : ℕ) → 1 ≤ n → slice_get given n ≡ slice_get ports_then n
-      behind_first n far = ap (λ l. slice_get l n) given_is ∙ get_other ports_then 0 n (Some port_then) (λ same. absurd (omega (arith, same)))
-
-      untaken : (n : ℕ) → 1 ≤ n → slice_get taken n ≡ slice_get ports n
-      untaken n far = ap (λ l. slice_get l n) left_is ∙ get_other ports 0 n None (λ same. absurd (omega (arith, same)))
-
-      beyond : (n : ℕ) → length (actor_sections sections) < n → slice_get given n ≡ slice_get ports n
-      beyond n far = behind_first n (omega arith) ∙ out.forked.others n far ∙ untaken n (omega arith)
+      long : length given ≡ length ports
+      long = ap (λ l. length l) given_is ∙ length-set ports_then 0 (Some port_then) ∙ then_long
 
       at : (n : ℕ) → n < length given → there_at given n ≡ true
       at zero less = ap (λ l. there_at l 0) given_is ∙ there_got (set ports_then 0 (Some port_then)) 0 port_then (get_set ports_then 0 (Some port_then) (let e = then_long in let l = long in omega arith))
       at (suc n) less = dite (dec_lt (length (actor_sections sections)) (suc n))
-          (λ far. there_same given ports (suc n) (beyond (suc n) far) ∙ all_found ports were.there (suc n) (let l = long in omega arith))
+          (λ far. there_same given ports_then (suc n) (behind_first (suc n) (omega arith)) ∙ there_same ports_then out.ports_taught (suc n) (out.forked.others (suc n) far) ∙ out.there_same (suc n)
+          ∙ there_same taken ports (suc n) (untaken (suc n) (omega arith)) ∙ all_found ports were.there (suc n) (let l = long in omega arith))
           (λ near. there_same given ports_then (suc n) (behind_first (suc n) (omega arith)) ∙ out.forked.there (suc n) (omega arith) (omega arith))
+
+    -- and those of numbers that no actor has learned the same maps
+    pub others_learn : (kept : P → List Map) (takes : P → ℕ) (faults : P → ℕ) (top : ℕ) → LearnAbove kept takes told faults top sections taken ports_then → LearnAbove kept takes told faults top sections ports given
+    others_learn kept takes faults top h = record {
+      taught_maps = h.taught_maps;
+      learned = λ n far. subst (λ (x : Option (Option P) × Option (Option P)). IsTaught kept takes told faults h.taught_maps x.0 x.1) (λ i. (untaken n (omega arith) i, sym (behind_first n (omega arith)) i)) (h.learned n far);
+      stay = λ without n far. behind_first n (omega arith) ∙ h.stay without n far ∙ untaken n (omega arith);
+    }

@@ -8,11 +8,11 @@ use Rattle.gl_trace.specs.EntryText.{HasText}
 use Rattle.gl_trace.proofs.Legal.{legal_entries_have_texts}
 use Rattle.gl_core.specs.Device.{OneEntry}
 use Rattle.gl_session.specs.Many.{CameToMany}
-use Rattle.gl_check.specs.Drivers.{DriverKind}
+use Rattle.gl_check.specs.Drivers.{DriverOver}
 use Rattle.gl_check.specs.Many.{Texts}
 
 -- each entry has a text
-pub entries_told : (driver : DriverKind) (sections : List SaidSection) (before left : ℕ → Option Told) (history items : List OneEntry) (texts : Texts) → items ≡ history → CameToMany driver sections before left history texts
+pub entries_told : (driver : DriverOver) (sections : List SaidSection) (before left : ℕ → Option Told) (history items : List OneEntry) (texts : Texts) → items ≡ history → CameToMany driver sections before left history texts
     → Each (λ (e : OneEntry). HasText e) items
 entries_told driver sections before left history items texts same came =
     subst (λ (l : List OneEntry). Each (λ (e : OneEntry). HasText e) l) (sym same) ((legal_entries_have_texts StandsFor).behind_a_history history came.many.legal)

@@ -14,7 +14,7 @@ use Rattle.gl_session.specs.declared.status.Status.TheVariants.{Ran, Usage, Refu
 use Rattle.gl_session.specs.Streams.{ReadsThrough}
 use Rattle.gl_session.specs.Run.{IsOutput, IsRefusal}
 use Rattle.gl_session.proofs.FewStatements.{sentence_is_short}
-use Rattle.gl_check.specs.Drivers.{DriverKind}
+use Rattle.gl_check.specs.Drivers.{DriverOver}
 
 -- a sentence is not refused
 pub not_refused : (bytes : List ℕ) (sections : List SaidSection) → Sentence bytes sections → first_fault bytes ≡ None
@@ -36,7 +36,7 @@ long_refusal bytes h =
 pub short : (bytes : List ℕ) (sections : List SaidSection) → Sentence bytes sections → length bytes ≤ 1048576
 short bytes sections r = sentence_is_short bytes sections r
 
-single : (bytes : List ℕ) (some others : List SaidSection) → Sentence bytes some → Sentence bytes others → some ≡ others
+pub single : (bytes : List ℕ) (some others : List SaidSection) → Sentence bytes some → Sentence bytes others → some ≡ others
 single bytes some others r s = r.says ∙ sym s.says
 
 module _ (input bytes rest : List ℕ) (whole : input ≡ bytes ++ rest) (ends : length bytes ≤ 1048576 → rest ≡ []) where
@@ -65,7 +65,7 @@ module _ (input bytes rest : List ℕ) (whole : input ≡ bytes ++ rest) (ends :
   same_refusal : first_fault input ≡ first_fault bytes
   same_refusal = same_if (nat_lt 1048576 (length bytes)) refl
 
-  output_of_read : (driver : DriverKind) (before left : ℕ → Option Told) (text : List ℕ) → IsOutput driver before left bytes text → IsOutput driver before left input text
+  output_of_read : (driver : DriverOver) (before left : ℕ → Option Told) (text : List ℕ) → IsOutput driver before left bytes text → IsOutput driver before left input text
   output_of_read driver before left text (inl session) = inl (session.0, runs_of_read session.0 session.1, session.2)
   output_of_read driver before left text (inr refused) = inr (refused.0, same_refusal ∙ refused.1, refused.2)
 
@@ -97,7 +97,7 @@ if_refused None new bytes Written r out = tt
 if_refused (Some input) None bytes Written r out = absurd r.first
 if_refused (Some input) (Some rest) bytes Written r out = (out.0, same_refusal input bytes rest r.first r.end ∙ out.1, out.2)
 
-pub if_output : (driver : DriverKind) (before left : ℕ → Option Told) (old new : Option (List ℕ)) (bytes : List ℕ) (Written : List ℕ → Type 0) → ReadsThrough 1048576 old new bytes →
+pub if_output : (driver : DriverOver) (before left : ℕ → Option Told) (old new : Option (List ℕ)) (bytes : List ℕ) (Written : List ℕ → Type 0) → ReadsThrough 1048576 old new bytes →
     (text : List ℕ) × IsOutput driver before left bytes text × Written text →
     IfSome old (λ input. (text : List ℕ) × IsOutput driver before left input text × Written text)
 if_output driver before left None new bytes Written r out = tt
@@ -165,3 +165,8 @@ pub if_sections : (old new : Option (List ℕ)) (bytes : List ℕ) (Said : List 
 if_sections None new bytes Said r h = tt
 if_sections (Some input) None bytes Said r h = absurd r.first
 if_sections (Some input) (Some rest) bytes Said r h = λ sections s. h sections (runs_of_input input bytes rest r.first r.end sections s)
+
+-- what holds whatever the source has
+pub if_any : (o : Option (List ℕ)) (P : List ℕ → Type 0) → ((input : List ℕ) → P input) → IfSome o P
+if_any None P all = tt
+if_any (Some input) P all = all input

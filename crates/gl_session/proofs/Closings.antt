@@ -50,7 +50,8 @@ use Rattle.gl_asking.specs.declared.kinds.Asking.TheVariants.{Calls, Plans, Acce
 use Rattle.gl_asking.specs.Asking.{asking, buffer_of, files_behind, got_of, lines_named, made_by as made_of_kind, made_on, on_file, once, with_request}
 use Rattle.gl_asking.specs.Driving.{op_asked}
 use Rattle.gl_session.specs.Alone.{IsAlone, PlayedSession}
-use Rattle.gl_check.specs.Drivers.{DriverKind}
+use Rattle.gl_check.specs.Drivers.{DriverKind, DriverOver, start_maps}
+use Rattle.gl_check.specs.Joining.{Maps, asking_with}
 use Rattle.gl_check.specs.Programs.{actor_of, after_of, setup_of}
 use Rattle.gl_session.specs.Closings.{ActorsCloseByNumber, AreKept, ClosesByNumber, OneActorClosesByNumber, after_statements, section_statements, closed_by, closed_in, number_in, numbers_of}
 use Rattle.gl_asking.specs.Files.{OpenFile, chip_file, file_in, is_in, line_file, without_file}
@@ -239,7 +240,7 @@ abbrev command_on : ℕ → ℕ → List ℕ → OpenFile → Asking
 command_on cmd len bytes file = Calls (Commanding (command_in file.place file.fd file.of_chip cmd (buffer_of len bytes)))
 
 -- What an operation makes of the files, carried out by an actor over these entries of a history.
-module _ (driver : DriverKind) (actor : ℕ) (w : World) (es : List OneEntry) (files : List OpenFile) (agree : HoldersAgree w) (claims : ClaimsFrom actor w.next w.requests) (answered : AnsweredFrom core w es)
+module _ (driver : DriverKind) (actor : ℕ) (m : Maps) (w : World) (es : List OneEntry) (files : List OpenFile) (agree : HoldersAgree w) (claims : ClaimsFrom actor w.next w.requests) (answered : AnsweredFrom core w es)
     (under : AreBelow w.next files) (rising : Rises files)
   where
     abbrev last_number : ℕ
@@ -298,20 +299,20 @@ module _ (driver : DriverKind) (actor : ℕ) (w : World) (es : List OneEntry) (f
           (ap (λ o. made_on made o lines reply files) found ∙ ap (λ b. made_of_kind b made file.place lines reply files) chip)
 
     module _ (e : Exchange) (before after : Option Told) (own : entries_of actor es ≡ entries_in e.did) where
-      opens : (slot : ℕ) (word : List ℕ) → IsDone driver actor (once (OpenChip word)) None e before after → Fresh files (DoOpenChip slot word) e.reply e.wrote w.next last_number
+      opens : (slot : ℕ) (word : List ℕ) → IsDone driver actor m (once (OpenChip word)) None e before after → Fresh files (DoOpenChip slot word) e.reply e.wrote w.next last_number
       opens slot word is =
           let one = is.makes.1.0 in
           let said : one.0 ≡ e.reply = ap (λ o. reply_or e.reply o) (ap (λ (l : List OneEntry). last_reply l) (sym one.1) ∙ is.reply_is) in
           chip_opened slot word e.reply e.wrote (subst (λ r. IsAnswer w.next last_number r) said (open_answers actor w es word one.0 answered (own ∙ one.1)))
 
-      commands : (slot cmd len : ℕ) (bytes : List ℕ) (made : ℕ) → IsDone driver actor (asking files (DoIoctl slot cmd len bytes made)) (op_asked files (DoIoctl slot cmd len bytes made)) e before after
+      commands : (slot cmd len : ℕ) (bytes : List ℕ) (made : ℕ) → IsDone driver actor m (asking files (DoIoctl slot cmd len bytes made)) (op_asked files (DoIoctl slot cmd len bytes made)) e before after
           → Fresh files (DoIoctl slot cmd len bytes made) e.reply e.wrote w.next last_number
       commands slot cmd len bytes made is = by (nat_eq cmd GET_LINE) refl
         where
           by_file : nat_eq cmd GET_LINE ≡ true → (o : Option OpenFile) → file_in slot files ≡ o → Fresh files (DoIoctl slot cmd len bytes made) e.reply e.wrote w.next last_number
-          by_file same None none = let refused = subst (λ o. IsDone driver actor (on_file o (command_on cmd len bytes)) (op_asked files (DoIoctl slot cmd len bytes made)) e before after) none is in
+          by_file same None none = let refused = subst (λ o. IsDone driver actor m (on_file o (command_on cmd len bytes)) (op_asked files (DoIoctl slot cmd len bytes made)) e before after) none is in
               refused_kept slot cmd len bytes made same e.reply e.wrote (BadF, refused.0.reply_is) (ap (λ o. made_on made o (lines_named (buffer_of len bytes)) e.reply files) none)
-          by_file same (Some file) found = let called = subst (λ o. IsDone driver actor (on_file o (command_on cmd len bytes)) (op_asked files (DoIoctl slot cmd len bytes made)) e before after) found is in
+          by_file same (Some file) found = let called = subst (λ o. IsDone driver actor m (on_file o (command_on cmd len bytes)) (op_asked files (DoIoctl slot cmd len bytes made)) e before after) found is in
               request_made slot cmd len bytes made same e.reply e.wrote file found file.of_chip refl
               (get_line_answers actor w es (command_in file.place file.fd file.of_chip cmd (buffer_of len bytes)) e.reply (ap command_of (are_one cmd GET_LINE same)) agree claims answered
               (ap (λ (l : List OneEntry). last_reply l) own ∙ called.reply_is) e.closed e.answer e.own
@@ -323,7 +324,7 @@ module _ (driver : DriverKind) (actor : ℕ) (w : World) (es : List OneEntry) (f
               (ap (λ b. cond b (made_on made (file_in slot files) (lines_named (buffer_of len bytes)) e.reply files) files) other)
               (ap (λ b. cond b (with_number (refusal (got_of (DoIoctl slot cmd len bytes made) e.reply e.wrote)) made w.next (numbered files)) (numbered files)) other)
 
-      made_fresh : (what : Do) → IsDone driver actor (asking files what) (op_asked files what) e before after → Fresh files what e.reply e.wrote w.next last_number
+      made_fresh : (what : Do) → IsDone driver actor m (asking_with m files what) (op_asked files what) e before after → Fresh files what e.reply e.wrote w.next last_number
       made_fresh (DoProbe label lines) is = unchanged (DoProbe label lines) e.reply e.wrote refl refl
       made_fresh (DoUnplug place) is = unchanged (DoUnplug place) e.reply e.wrote refl refl
       made_fresh (DoMakeDir path) is = unchanged (DoMakeDir path) e.reply e.wrote refl refl
@@ -352,19 +353,19 @@ made_more : (calls : List (Called Kept)) (called : Called Kept) → made_by (cal
 made_more [] called = append-nil called.made
 made_more (x ∷ calls) called = ap (λ (l : List OneEntry). x.made ++ l) (made_more calls called) ∙ sym (append_assoc x.made (made_by calls) called.made)
 
-of_calls : (driver : DriverKind) (actor : ℕ) (entries : List OneEntry) (a : Asking) (op : Option Op) (e : Exchange) (before after : Option Told) → AreOfCalls StandsFor actor entries → IsDone driver actor a op e before after
+of_calls : (driver : DriverKind) (actor : ℕ) (m : Maps) (entries : List OneEntry) (a : Asking) (op : Option Op) (e : Exchange) (before after : Option Told) → AreOfCalls StandsFor actor entries → IsDone driver actor m a op e before after
     → AreOfCalls StandsFor actor (entries ++ entries_in e.did)
-of_calls driver actor entries (Calls call) op e before after so_far is =
+of_calls driver actor m entries (Calls call) op e before after so_far is =
     let called : Called Kept = record { closed = e.closed; call = call; answer = e.answer; own = e.own; made = entries_in e.did } in record {
       calls = so_far.calls ++ called ∷ [];
       each = each_added (λ c. IsCalled StandsFor actor c) so_far.calls called (record { makes = is.makes; quiet = is.may_own.quiet; no_claims = is.may_own.no_claims }) so_far.each;
       are = ap (λ (l : List OneEntry). l ++ entries_in e.did) so_far.are ∙ sym (made_more so_far.calls called);
     }
-of_calls driver actor entries (Plans nth) op e before after so_far is =
+of_calls driver actor m entries (Plans nth) op e before after so_far is =
     subst (λ l. AreOfCalls StandsFor actor l) (sym (ap (λ (did : List OneDeed). entries ++ entries_in did) is.0.did ∙ append-nil entries)) so_far
-of_calls driver actor entries (Accepts bits) op e before after so_far is =
+of_calls driver actor m entries (Accepts bits) op e before after so_far is =
     subst (λ l. AreOfCalls StandsFor actor l) (sym (ap (λ (did : List OneDeed). entries ++ entries_in did) is.0.did ∙ append-nil entries)) so_far
-of_calls driver actor entries (Refuses errno) op e before after so_far is =
+of_calls driver actor m entries (Refuses errno) op e before after so_far is =
     subst (λ l. AreOfCalls StandsFor actor l) (sym (ap (λ (did : List OneDeed). entries ++ entries_in did) is.0.did ∙ append-nil entries)) so_far
 
 -- who has no unfinished claim has none below any number
@@ -417,7 +418,7 @@ module _ {A : Type 0} (driver : DriverKind) (actor : ℕ) (P : A → List Number
       let legal_seen : Legal core seen = (answered_prefix core core.opening seen es legal_here.0, placed_prefix core core.opening seen es legal_here.1) in
       let answered : AnsweredFrom core w (part.before ++ part.behind) = subst (λ l. AnsweredFrom core w l) part.at (answered_rest core core.opening seen es legal_here.0) in
       let claims : ClaimsFrom actor w.next w.requests = claims_none actor w.next w.requests ((calls_finish_claims StandsFor).between_calls seen legal_seen actor stands.calls) in
-      let fresh = made_fresh driver actor w part.before s.files (holders_always_agree StandsFor seen legal_seen) claims (answered_prefix core w part.before part.behind answered) stands.below stands.rises e s.told then.told own e.what carries.is_done in
+      let fresh = made_fresh driver actor s.maps w part.before s.files (holders_always_agree StandsFor seen legal_seen) claims (answered_prefix core w part.before part.behind answered) stands.below stands.rises e s.told then.told own e.what carries.is_done in
       let got : Got = got_of e.what e.reply e.wrote in
       let below : Each (λ (file : Numbered). file.number < fresh.number) (numbered s.files) = numbered_below fresh.number s.files (below_more w.next fresh.number s.files fresh.above stands.below) in
       let world : fold core (seen ++ part.before) ≡ fold_from core w part.before = fold_append core core.opening seen part.before in
@@ -425,7 +426,7 @@ module _ {A : Type 0} (driver : DriverKind) (actor : ℕ) (P : A → List Number
       (whole ∙ ap (λ (l : List OneEntry). seen ++ l) part.at ∙ sym (append_assoc seen part.before part.behind))
       (record {
         calls = subst (λ l. AreOfCalls StandsFor actor l) (sym (entries_append actor seen part.before ∙ ap (λ (l : List OneEntry). entries_of actor seen ++ l) own))
-            (of_calls driver actor (entries_of actor seen) (asking s.files e.what) (op_asked s.files e.what) e s.told then.told stands.calls carries.is_done);
+            (of_calls driver actor s.maps (entries_of actor seen) (asking_with s.maps s.files e.what) (op_asked s.files e.what) e s.told then.told stands.calls carries.is_done);
         below = subst (λ (x : World × List OpenFile). AreBelow x.0.next x.1) (λ i. (sym world i, sym carries.files i)) fresh.below;
         rises = subst (λ l. Rises l) (sym carries.files) fresh.rises;
       })
@@ -580,36 +581,36 @@ no_deeds : (did : List OneDeed) → entries_in did ≡ [] → did ≡ []
 no_deeds [] none = refl
 no_deeds (d ∷ did) none = let n : length (d.entry ∷ entries_in did) ≡ 0 = ap (λ (l : List OneEntry). length l) none in absurd (omega arith)
 
-section_closes_by_number : (driver : DriverKind) (before left : ℕ → Option Told) (sections : List SaidSection) (history : List OneEntry) → Legal core history → (n : ℕ) (text : List ℕ) (actor : ActorPlayed driver before left sections history n text)
-    → ClosesByNumber driver n [] (section_statements sections n) (carried [] (before n)) actor.played.turns actor.names actor.behind
-section_closes_by_number driver before left sections history legal n text actor =
+section_closes_by_number : (driver : DriverOver) (before left : ℕ → Option Told) (sections : List SaidSection) (history : List OneEntry) → Legal core history → (m : Maps) (n : ℕ) (text : List ℕ) (actor : ActorPlayed driver before left sections history m n text)
+    → ClosesByNumber driver.kind n [] (section_statements sections n) (carried [] (before n) m) actor.played.turns actor.names actor.behind
+section_closes_by_number driver before left sections history legal m n text actor =
     let words : List (List Span) = words_of (get_or (actor_sections sections) (n - 1) no_section) in
-    closes driver n history legal [] actor.played.turns (says 0 words done no_names) (carried [] (before n)) actor.behind actor.names [] history [] refl (nothing_yet n)
+    closes driver.kind n history legal [] actor.played.turns (says 0 words done no_names) (carried [] (before n) m) actor.behind actor.names [] history [] refl (nothing_yet n)
     (actor.played.did_is ∙ sym (append-nil (did_by actor.played.turns))) (λ none. files_close_by_number words)
-    (subst (λ (q : Program Names). Follows driver n q (carried [] (before n)) actor.played.turns (done actor.names) actor.behind) (are_statements_and_the_end 0 words no_names) actor.played.follows)
+    (subst (λ (q : Program Names). Follows driver.kind n q (carried [] (before n) m) actor.played.turns (done actor.names) actor.behind) (are_statements_and_the_end 0 words no_names) actor.played.follows)
 
-after_closes_by_number : (driver : DriverKind) (before left : ℕ → Option Told) (sections : List SaidSection) (history : List OneEntry) (texts : Texts) (all : AllPlayed driver before left sections history texts)
-    → ClosesByNumber driver 0 all.setup.turns (after_statements sections all.names) all.waiting all.after.turns all.end all.behind
+after_closes_by_number : (driver : DriverOver) (before left : ℕ → Option Told) (sections : List SaidSection) (history : List OneEntry) (texts : Texts) (all : AllPlayed driver before left sections history texts)
+    → ClosesByNumber driver.kind 0 all.setup.turns (after_statements sections all.names) all.waiting all.after.turns all.end all.behind
 after_closes_by_number driver before left sections history texts all =
     let front : List OneEntry = all.first ++ all.middle in
     let between : deeds_from core (fold core all.first) 0 all.middle ≡ [] = no_deeds (deeds_from core (fold core all.first) 0 all.middle) (deeds_entries core (fold core all.first) 0 all.middle ∙ all.zero_not_between) in
     let setup_did : deeds_of core 0 front ≡ did_by all.setup.turns = deeds_append core core.opening 0 all.first all.middle ∙ (λ i. deeds_of core 0 all.first ++ between i) ∙ append-nil (deeds_of core 0 all.first) ∙ all.setup.did_is in
     let deeds : deeds_of core 0 history ≡ did_by all.setup.turns ++ did_by all.after.turns =
     ap (λ (l : List OneEntry). deeds_of core 0 l) all.is ∙ deeds_append core core.opening 0 front all.last ∙ (λ i. setup_did i ++ all.after.did_is i) in
-    let went = walk driver 0 CloseByNumber history all.legal all.setup.turns (both sections) (behind_setup sections all.names) (carried [] (before 0)) all.waiting [] history (did_by all.after.turns) refl (nothing_yet 0) deeds
-    (follows_then driver 0 (behind_setup sections) (setup_of sections) (carried [] (before 0)) all.setup.turns (done all.names) all.waiting all.setup.follows) in
-    closes driver 0 history all.legal all.setup.turns all.after.turns (behind_setup sections all.names) all.waiting all.behind all.end went.seen went.behind [] went.whole went.stands
+    let went = walk driver.kind 0 CloseByNumber history all.legal all.setup.turns (both sections) (behind_setup sections all.names) (carried [] (before 0) (start_maps driver)) all.waiting [] history (did_by all.after.turns) refl (nothing_yet 0) deeds
+    (follows_then driver.kind 0 (behind_setup sections) (setup_of sections) (carried [] (before 0) (start_maps driver)) all.setup.turns (done all.names) all.waiting all.setup.follows) in
+    closes driver.kind 0 history all.legal all.setup.turns all.after.turns (behind_setup sections all.names) all.waiting all.behind all.end went.seen went.behind [] went.whole went.stands
     (went.later ∙ sym (append-nil (did_by all.after.turns))) (went.numbers (number_both sections))
-    (subst (λ (q : Program Names). Follows driver 0 q all.waiting all.after.turns (done all.end) all.behind) (to_the_end sections all.names) all.after.follows)
+    (subst (λ (q : Program Names). Follows driver.kind 0 q all.waiting all.after.turns (done all.end) all.behind) (to_the_end sections all.names) all.after.follows)
 
-pub actors_close_by_number : (driver : DriverKind) → ActorsCloseByNumber driver
+pub actors_close_by_number : (driver : DriverOver) → ActorsCloseByNumber driver
 actors_close_by_number driver = record {
   sections = section_closes_by_number driver;
   after = after_closes_by_number driver;
 }
 
 -- one actor alone
-module _ (driver : DriverKind) (sections : List SaidSection) (before left : Option Told) (text : List ℕ) (did : List OneDeed) (history : List OneEntry) (played : PlayedSession driver sections before text did left) (alone : IsAlone history did) where
+module _ (driver : DriverOver) (sections : List SaidSection) (before left : Option Told) (text : List ℕ) (did : List OneDeed) (history : List OneEntry) (played : PlayedSession driver sections before text did left) (alone : IsAlone history did) where
   abbrev setup_turns : List Turn
   setup_turns = played.setup.played.turns
 
@@ -622,29 +623,29 @@ module _ (driver : DriverKind) (sections : List SaidSection) (before left : Opti
   deeds : deeds_of core 0 history ≡ did_by setup_turns ++ (did_by actor_turns ++ did_by last_turns)
   deeds = alone.deeds ∙ played.did_is ∙ (λ i. played.setup.played.did_is i ++ (played.actor.played.did_is i ++ played.last.played.did_is i))
 
-  behind_setup_stands : Went driver 0 CloseByNumber history alone.legal (both sections) (behind_setup sections played.setup.names) (carried [] before) played.setup.behind setup_turns (fold core []).next (did_by actor_turns ++ did_by last_turns)
-  behind_setup_stands = walk driver 0 CloseByNumber history alone.legal setup_turns (both sections) (behind_setup sections played.setup.names) (carried [] before) played.setup.behind [] history (did_by actor_turns ++ did_by last_turns) refl (nothing_yet 0) deeds
-      (follows_then driver 0 (behind_setup sections) (setup_of sections) (carried [] before) setup_turns (done played.setup.names) played.setup.behind played.setup.played.follows)
+  behind_setup_stands : Went driver.kind 0 CloseByNumber history alone.legal (both sections) (behind_setup sections played.setup.names) (carried [] before (start_maps driver)) played.setup.behind setup_turns (fold core []).next (did_by actor_turns ++ did_by last_turns)
+  behind_setup_stands = walk driver.kind 0 CloseByNumber history alone.legal setup_turns (both sections) (behind_setup sections played.setup.names) (carried [] before (start_maps driver)) played.setup.behind [] history (did_by actor_turns ++ did_by last_turns) refl (nothing_yet 0) deeds
+      (follows_then driver.kind 0 (behind_setup sections) (setup_of sections) (carried [] before (start_maps driver)) setup_turns (done played.setup.names) played.setup.behind played.setup.played.follows)
 
-  abbrev went : Went driver 0 CloseByNumber history alone.legal (both sections) (behind_setup sections played.setup.names) (carried [] before) played.setup.behind setup_turns (fold core []).next (did_by actor_turns ++ did_by last_turns)
+  abbrev went : Went driver.kind 0 CloseByNumber history alone.legal (both sections) (behind_setup sections played.setup.names) (carried [] before (start_maps driver)) played.setup.behind setup_turns (fold core []).next (did_by actor_turns ++ did_by last_turns)
   went = behind_setup_stands
 
   -- the section begins with no file of its own
   none_open : Stands 0 went.seen []
   none_open = record { calls = went.stands.calls; below = tt; rises = tt }
 
-  section_closes : ClosesByNumber driver 0 [] (says 0 (said_in_kind Actor sections) done no_names) (carried [] played.setup.behind.told) actor_turns played.actor.names played.actor.behind
-  section_closes = closes driver 0 history alone.legal [] actor_turns (says 0 (said_in_kind Actor sections) done no_names) (carried [] played.setup.behind.told) played.actor.behind played.actor.names
+  section_closes : ClosesByNumber driver.kind 0 [] (says 0 (said_in_kind Actor sections) done no_names) (carried [] played.setup.behind.told played.setup.behind.maps) actor_turns played.actor.names played.actor.behind
+  section_closes = closes driver.kind 0 history alone.legal [] actor_turns (says 0 (said_in_kind Actor sections) done no_names) (carried [] played.setup.behind.told played.setup.behind.maps) played.actor.behind played.actor.names
       went.seen went.behind (did_by last_turns) went.whole none_open went.later (λ none. files_close_by_number (said_in_kind Actor sections))
-      (subst (λ (q : Program Names). Follows driver 0 q (carried [] played.setup.behind.told) actor_turns (done played.actor.names) played.actor.behind) (are_statements_and_the_end 0 (said_in_kind Actor sections) no_names) played.actor.played.follows)
+      (subst (λ (q : Program Names). Follows driver.kind 0 q (carried [] played.setup.behind.told played.setup.behind.maps) actor_turns (done played.actor.names) played.actor.behind) (are_statements_and_the_end 0 (said_in_kind Actor sections) no_names) played.actor.played.follows)
 
-  after_closes : ClosesByNumber driver 0 setup_turns (behind_setup sections played.setup.names) (carried played.setup.behind.files played.actor.behind.told) last_turns played.last.names played.last.behind
+  after_closes : ClosesByNumber driver.kind 0 setup_turns (behind_setup sections played.setup.names) (carried played.setup.behind.files played.actor.behind.told played.actor.behind.maps) last_turns played.last.names played.last.behind
   after_closes =
-      let on = walk driver 0 CloseByNumber history alone.legal actor_turns (actor_of sections) (done played.actor.names) (carried [] played.setup.behind.told) played.actor.behind went.seen went.behind (did_by last_turns) went.whole none_open went.later played.actor.played.follows in
-      closes driver 0 history alone.legal setup_turns last_turns (behind_setup sections played.setup.names) (carried played.setup.behind.files played.actor.behind.told) played.last.behind played.last.names on.seen on.behind [] on.whole
+      let on = walk driver.kind 0 CloseByNumber history alone.legal actor_turns (actor_of sections) (done played.actor.names) (carried [] played.setup.behind.told played.setup.behind.maps) played.actor.behind went.seen went.behind (did_by last_turns) went.whole none_open went.later played.actor.played.follows in
+      closes driver.kind 0 history alone.legal setup_turns last_turns (behind_setup sections played.setup.names) (carried played.setup.behind.files played.actor.behind.told played.actor.behind.maps) played.last.behind played.last.names on.seen on.behind [] on.whole
       (record { calls = on.stands.calls; below = below_more (fold core went.seen).next (fold core on.seen).next played.setup.behind.files on.no_fewer went.stands.below; rises = went.stands.rises })
       (on.later ∙ sym (append-nil (did_by last_turns))) (went.numbers (number_both sections))
-      (subst (λ (q : Program Names). Follows driver 0 q (carried played.setup.behind.files played.actor.behind.told) last_turns (done played.last.names) played.last.behind) (to_the_end sections played.setup.names) played.last.played.follows)
+      (subst (λ (q : Program Names). Follows driver.kind 0 q (carried played.setup.behind.files played.actor.behind.told played.actor.behind.maps) last_turns (done played.last.names) played.last.behind) (to_the_end sections played.setup.names) played.last.played.follows)
 
-pub one_actor_closes_by_number : (driver : DriverKind) → OneActorClosesByNumber driver
+pub one_actor_closes_by_number : (driver : DriverOver) → OneActorClosesByNumber driver
 one_actor_closes_by_number driver = record { section = section_closes driver; after = after_closes driver }

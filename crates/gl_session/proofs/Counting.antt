@@ -12,21 +12,22 @@ use Rattle.gl_world.proofs.Histories.{entries_append, none_of}
 use Rattle.gl_client.specs.Costs.{CostsAtMost}
 use Rattle.gl_client.specs.Program.{Program, done}
 use Rattle.gl_driver.specs.Told.{Told}
-use Rattle.gl_script.specs.Cost.{session_cost, words_cost}
+use Rattle.gl_script.specs.Cost.{has_aggregate, session_cost, with_own, words_cost}
 use Rattle.gl_script.specs.Section.{SaidSection}
 use Rattle.gl_script.specs.declared.section.SectionKind.TheVariants.{Setup, Actor, After}
 use Rattle.gl_talk.specs.Open.{Names, no_names}
 use Rattle.gl_talk.specs.Talk.{quits, talks}
 use Rattle.gl_talk.proofs.StatementCosts.{end_cost, says_cost}
 use Rattle.gl_core.specs.Device.{OneDeed, OneEntry, core}
-use Rattle.gl_check.specs.Drivers.{DriverKind}
+use Rattle.gl_check.specs.Drivers.{DriverKind, DriverOver, start_maps}
 use Rattle.gl_check.specs.Programs.{after_of, setup_of}
-use Rattle.gl_check.specs.Many.{AllPlayed, Texts, actor_sections, no_section, program_of, words_of}
+use Rattle.gl_check.specs.Many.{AllPlayedBelow, Texts, actor_sections, no_section, program_of, words_of}
 use Rattle.gl_check.specs.One.{is_kind, said_in_kind}
 use Rattle.gl_check.specs.Turns.{Carried, Played, carried, did_by}
 use Rattle.gl_session.specs.Within.{cost_in_kind}
-use Rattle.gl_session.proofs.Silence.{actor_at}
-use Rattle.gl_session.proofs.Within.{costs_no_more, entries_within_cost, sessions_cost_their_parts}
+use Rattle.gl_session.proofs.Actors.{actor_at, none_waiting}
+use Rattle.gl_session.proofs.NoChips.{asks_none}
+use Rattle.gl_session.proofs.Within.{Few, few_behind, few_in, own_most, own_none, own_plus, parts_cost, sessions_cost_their_parts, sum_own, within}
 
 -- how many entries so many actors have, from this number on
 abbrev pub count : ℕ → ℕ → List OneEntry → ℕ
@@ -92,39 +93,50 @@ pub entries_length : (did : List OneDeed) → length (entries_in did) ≡ length
 entries_length [] = refl
 entries_length (d ∷ did) = ap suc (entries_length did)
 
--- a program that was carried out made no more entries than it costs
-pub played_within : (driver : DriverKind) (n limit : ℕ) (program : Program Names) (s r : Carried) (text : List ℕ) (did : List OneDeed) (names : Names) (es : List OneEntry) → CostsAtMost limit program
-    → Played driver n program s text did names r → entries_in did ≡ es → length es + length r.files ≤ limit + length s.files
-played_within driver n limit program s r text did names es costs h entries =
-    let w = entries_within_cost driver n limit program s h.turns (done names) r costs h.follows in
+-- a program that was carried out made no more entries than it costs, counted once or five times
+pub played_within : (b : Bool) (driver : DriverKind) (n limit : ℕ) (program : Program Names) (s r : Carried) (text : List ℕ) (did : List OneDeed) (names : Names) (es : List OneEntry) → CostsAtMost limit program
+    → Played driver n program s text did names r → Few b driver r.maps → entries_in did ≡ es → length es + with_own b (length r.files) ≤ with_own b (limit + length s.files)
+played_within b driver n limit program s r text did names es costs h few entries =
+    let w = within b driver n h.turns limit program s (done names) r costs h.follows few in
+    let less = own_most b (length r.files) (length r.files + w.0) (omega arith) in
     let same : length did ≡ length (did_by h.turns) = ap (λ (l : List OneDeed). length l) h.did_is in
     let many : length es ≡ length did = ap (λ (l : List OneEntry). length l) (sym entries) ∙ entries_length did in omega (arith, w.2)
 
-pub within_cost : (driver : DriverKind) (before left : ℕ → Option Told) (sections : List SaidSection) (history : List OneEntry) (texts : Texts) → AllPlayed driver before left sections history texts → length history ≤ session_cost sections
-within_cost driver before left sections history texts h =
-    let costs = sessions_cost_their_parts sections in let whole = costs.whole in let most = costs_no_more sections in
+-- what the sections of actors cost, each counted so
+pub own_costs : (b : Bool) (sections : List SaidSection) → sum_by (λ section. with_own b (section_costs section)) (actor_sections sections) ≡ with_own b (cost_in_kind Actor sections)
+own_costs b sections = sum_own b section_costs (actor_sections sections) ∙ ap (with_own b) (actors_cost sections)
+
+pub within_cost : (driver : DriverOver) → driver.kind.limit ≤ 8 → (before left : ℕ → Option Told) (sections : List SaidSection) (history : List OneEntry) (most : ℕ) (texts : Texts)
+    → AllPlayedBelow driver before left sections history most texts → length history ≤ session_cost sections
+within_cost driver limit before left sections history most texts h =
+    let costs = sessions_cost_their_parts sections in let whole = parts_cost sections in
     let actors : ℕ = length (actor_sections sections) in let many = h.as_many in
-    let first = played_within driver 0 (cost_in_kind Setup sections) (setup_of sections) (carried [] (before 0)) h.waiting texts.setup (deeds_of core 0 h.first) h.names (entries_of 0 h.first) costs.setup h.setup
-    (deeds_entries core core.opening 0 h.first) in
-    let last = played_within driver 0 (cost_in_kind After sections) (after_of sections h.names) h.waiting h.behind texts.last (deeds_from core (fold core (h.first ++ h.middle)) 0 h.last) h.end (entries_of 0 h.last) (costs.last h.names) h.after
-    (deeds_entries core (fold core (h.first ++ h.middle)) 0 h.last) in
+    let first = played_within (has_aggregate sections) driver.kind 0 (cost_in_kind Setup sections) (setup_of sections) (carried [] (before 0) (start_maps driver)) h.waiting texts.setup (deeds_of core 0 h.first) h.names (entries_of 0 h.first) costs.setup h.setup
+    (few_in driver sections limit h.waiting.maps none) (deeds_entries core core.opening 0 h.first) in
+    let last = played_within (has_aggregate sections) driver.kind 0 (cost_in_kind After sections) (after_of sections h.names) h.waiting h.behind texts.last (deeds_from core (fold core (h.first ++ h.middle)) 0 h.last) h.end (entries_of 0 h.last) (costs.last h.names) h.after
+    (few_behind driver sections limit 0 _ _ h.after.turns _ h.behind h.after.follows (λ without. (asks_none sections without).after h.names) none) (deeds_entries core (fold core (h.first ++ h.middle)) 0 h.last) in
     let zeroth : length (entries_of 0 history) ≡ length (entries_of 0 h.first) + length (entries_of 0 h.last) =
     ap (λ (l : List OneEntry). length (entries_of 0 l)) h.is ∙ ap (λ (l : List OneEntry). length l) (entries_append 0 (h.first ++ h.middle) h.last)
     ∙ length-append (entries_of 0 (h.first ++ h.middle)) (entries_of 0 h.last)
     ∙ ap (λ (l : List OneEntry). length l + length (entries_of 0 h.last)) (entries_append 0 h.first h.middle ∙ ap (λ (l : List OneEntry). entries_of 0 h.first ++ l) h.zero_not_between)
     ∙ ap (λ n. n + length (entries_of 0 h.last)) (length-append (entries_of 0 h.first) [] ∙ plus_none (length (entries_of 0 h.first))) in
-    let middle = count_costs section_costs history 1 (actor_sections sections) (λ i less. one_within i less) in
-    let same = actors_cost sections in
+    let middle = count_costs (λ section. with_own (has_aggregate sections) (section_costs section)) history 1 (actor_sections sections) (λ i less. one_within i less) in
+    let same = own_costs (has_aggregate sections) sections in
+    let setup_files = own_plus (has_aggregate sections) (cost_in_kind Setup sections) 0 in let after_files = own_plus (has_aggregate sections) (cost_in_kind After sections) (length h.waiting.files) in let nothing = own_none (has_aggregate sections) in
     let all = count_all (suc actors) history (λ n far. h.nobody_else n (omega arith)) in omega arith
   where
+    none : has_aggregate sections ≡ false → h.waiting.maps.kept ≡ []
+    none = none_waiting driver before left sections history most texts h
+
     plus_none : (n : ℕ) → n + 0 ≡ n
     plus_none n = omega arith
 
-    one_within : (i : ℕ) → i < length (actor_sections sections) → length (entries_of (1 + i) history) ≤ section_costs (get_or (actor_sections sections) i no_section)
-    one_within i less = let many = h.as_many in let a = actor_at driver before left sections history 1 texts.actors h.actors (suc i) (omega arith) (omega arith) in
+    one_within : (i : ℕ) → i < length (actor_sections sections) → length (entries_of (1 + i) history) ≤ with_own (has_aggregate sections) (section_costs (get_or (actor_sections sections) i no_section))
+    one_within i less = let many = h.as_many in let a = actor_at driver before left sections history most h.waiting.maps 1 texts.actors h.actors (suc i) (omega arith) (omega arith) in
         let words : List (List Span) = words_of (get_or (actor_sections sections) i no_section) in
         let first : i ≡ suc i - 1 = omega arith in
-        let w = played_within driver (suc i) (sum_by words_cost words) (program_of sections (suc i)) (carried [] (before (suc i))) a.1.behind a.0 (deeds_of core (suc i) history) a.1.names (entries_of (suc i) history)
+        let w = played_within (has_aggregate sections) driver.kind (suc i) (sum_by words_cost words) (program_of sections (suc i)) (carried [] (before (suc i)) h.waiting.maps) a.1.behind a.0 (deeds_of core (suc i) history) a.1.names (entries_of (suc i) history)
         (subst (λ j. CostsAtMost (sum_by words_cost words) (talks 0 (words_of (get_or (actor_sections sections) j no_section)) no_names)) first (says_cost 0 words quits end_cost no_names))
-        a.1.played (deeds_entries core core.opening (suc i) history) in
+        a.1.played (few_behind driver sections limit (suc i) _ _ a.1.played.turns _ a.1.behind a.1.played.follows (λ without. (asks_none sections without).actors (suc i)) none) (deeds_entries core core.opening (suc i) history) in
+        let files = own_plus (has_aggregate sections) (sum_by words_cost words) 0 in let nothing = own_none (has_aggregate sections) in
         let n : 1 + i ≡ suc i = omega arith in let same : length (entries_of (1 + i) history) ≡ length (entries_of (suc i) history) = ap (λ k. length (entries_of k history)) n in omega arith

@@ -13,16 +13,19 @@ use Rattle.gl_gate.proofs.Grown.{begins_further, grown_has_its_own}
 use Rattle.gl_rule.specs.Views.{newcomer}
 use Rattle.gl_client.specs.Program.{done}
 use Rattle.gl_driver.specs.Told.{Told}
+use Rattle.gl_script.specs.Cost.{session_cost}
 use Rattle.gl_script.specs.Section.{SaidSection}
 use Rattle.gl_talk.specs.Open.{Names}
 use Rattle.gl_core.specs.Device.{OneDeed, OneEntry, core}
 use Rattle.gl_chip.specs.Values.{OneView}
-use Rattle.gl_check.specs.Drivers.{DriverKind}
+use Rattle.gl_check.specs.Drivers.{DriverOver, start_maps}
+use Rattle.gl_check.specs.Joining.{Maps}
 use Rattle.gl_check.specs.Programs.{after_of, setup_of}
-use Rattle.gl_check.specs.Many.{ActorsPlayed, AllPlayed, actor_sections, program_of}
+use Rattle.gl_check.specs.Many.{ActorsPlayedBelow, AllPlayedBelow, actor_sections, program_of}
 use Rattle.gl_session.specs.Performed.{PlaysOn}
-use Rattle.gl_check.specs.Turns.{Carried, Follows, Played, carried, did_by}
+use Rattle.gl_check.specs.Turns.{AreSeen, Carried, Follows, Played, carried, did_by}
 use Rattle.gl_session.specs.Workers.{AreKept, HasJoined, HasSplit, IsKept}
+use Rattle.gl_session.proofs.Seen.{no_shorter, seen_more}
 
 nothing_more : (xs ys : List OneEntry) → xs ++ ys ≡ xs → ys ≡ []
 nothing_more xs [] e = refl
@@ -48,29 +51,43 @@ none_last : (n : ℕ) (xs ys : List OneEntry) → entries_of n (xs ++ ys) ≡ []
 none_last n xs ys e = nothing_behind (entries_of n xs) (entries_of n ys) (sym (entries_append n xs ys) ∙ e)
 
 -- a promise that was kept, of one of several numbers
-module _ (driver : DriverKind) (sections : List SaidSection) (before left : ℕ → Option Told) (v : OneView) where
-  pub kept_at : (first : OneView) (k : ℕ) (texts : List (Result (List ℕ) Errno)) → AreKept driver (program_of sections) before left v first k texts → (n : ℕ) → k ≤ n → n < k + length texts → (t : Result (List ℕ) Errno) × IsKept driver (program_of sections) before left v first n t
+module _ (driver : DriverOver) (m : Maps) (sections : List SaidSection) (before left : ℕ → Option Told) (v : OneView) where
+  pub kept_at : (first : OneView) (k : ℕ) (texts : List (Result (List ℕ) Errno)) → AreKept driver.kind m (program_of sections) before left v first k texts → (n : ℕ) → k ≤ n → n < k + length texts → (t : Result (List ℕ) Errno) × IsKept driver.kind m (program_of sections) before left v first n t
   kept_at first k [] h n low high = absurd (omega arith)
   kept_at first k (t ∷ ts) h n low high = dite (ℕ_discrete k n)
-      (λ same. (t, subst (λ j. IsKept driver (program_of sections) before left v first j t) same h.0))
+      (λ same. (t, subst (λ j. IsKept driver.kind m (program_of sections) before left v first j t) same h.0))
       (λ other. let ne : (k ≡ n → ⊥) = other in kept_at first (k + 1) ts h.1 n (above k n low ne) (omega arith))
     where
       above : (k n : ℕ) → k ≤ n → (k ≡ n → ⊥) → k + 1 ≤ n
       above k n low ne = omega arith
 
-  module _ (history : List OneEntry) (first : OneView) (begins : StartsWith history first.seen) (all : HasAllOf first.joined history) where
+  module _ (history : List OneEntry) (first : OneView) (begins : StartsWith history first.seen) (all : HasAllOf first.joined history) (room_is : v.room ≡ session_cost sections) where
     -- the deeds of such an actor in the history are those that it knew of
-    kept_deeds : (n : ℕ) (t : List ℕ) (k : IsKept driver (program_of sections) before left v first n (Ok t))
-        → Played driver n (program_of sections n) (carried [] (before n)) t (deeds_of core n history) k.came.names (carried k.came.files (left n))
-    kept_deeds n t k = subst (λ ds. Played driver n (program_of sections n) (carried [] (before n)) t ds k.came.names (carried k.came.files (left n)))
-        (sym (deeds_stay core n history k.saw (begins_further history first.seen k.saw begins k.begins) (all k.place (record { number = n; mine = k.mine }) k.joined ∙ sym k.own))) k.came.played
+    abbrev kept_deeds : (n : ℕ) (t : List ℕ) (k : IsKept driver.kind m (program_of sections) before left v first n (Ok t))
+        → Played driver.kind n (program_of sections n) (carried [] (before n) m) t (deeds_of core n history) k.came.names (carried k.came.files (left n) k.came.maps_then)
+    kept_deeds n t k = record {
+      turns = k.came.played.turns;
+      follows = k.came.played.follows;
+      text_is = k.came.played.text_is;
+      did_is = deeds_stay core n history k.saw (begins_further history first.seen k.saw begins k.begins) (all k.place (record { number = n; mine = k.mine }) k.joined ∙ sym k.own) ∙ k.came.played.did_is;
+    }
 
-    pub kept_played : (n : ℕ) (texts : List (List ℕ)) → AreKept driver (program_of sections) before left v first n (map Ok texts) → ActorsPlayed driver before left sections history n texts
+    pub kept_played : (n : ℕ) (texts : List (List ℕ)) → AreKept driver.kind m (program_of sections) before left v first n (map Ok texts) → ActorsPlayedBelow driver before left sections history (length history) m n texts
     kept_played n [] h = tt
-    kept_played n (t ∷ ts) h = (record { names = h.0.came.names; behind = carried h.0.came.files (left n); played = kept_deeds n t h.0; left_is = refl }, kept_played (n + 1) ts h.1)
+    kept_played n (t ∷ ts) h = (
+      record {
+        names = h.0.came.names;
+        behind = carried h.0.came.files (left n) h.0.came.maps_then;
+        played = kept_deeds n t h.0;
+        within = subst (λ (room : ℕ). AreSeen room (length history) h.0.came.played.turns) room_is
+            (seen_more v.room (length h.0.saw) (length history) h.0.came.played.turns (no_shorter history h.0.saw (begins_further history first.seen h.0.saw begins h.0.begins)) h.0.came.seen);
+        left_is = refl;
+      },
+      kept_played (n + 1) ts h.1,
+    )
 
     -- and after what the first actor had seen as it took them in, there is no entry of them
-    kept_last : (last : List OneEntry) → history ≡ first.seen ++ last → (n : ℕ) (t : Result (List ℕ) Errno) → IsKept driver (program_of sections) before left v first n t → entries_of n last ≡ []
+    kept_last : (last : List OneEntry) → history ≡ first.seen ++ last → (n : ℕ) (t : Result (List ℕ) Errno) → IsKept driver.kind m (program_of sections) before left v first n t → entries_of n last ≡ []
     kept_last last is n t k = let rest : List OneEntry = k.begins.0 in let whole : history ≡ k.saw ++ (rest ++ last) = is ∙ (ap (λ l. l ++ last) k.begins.1 ∙ append_assoc k.saw rest last) in
         none_last n rest last (none_behind n k.saw (rest ++ last) k.mine (ap (λ l. entries_of n l) (sym whole) ∙ all k.place (record { number = n; mine = k.mine }) k.joined) k.own)
 
@@ -80,21 +97,23 @@ side zero (suc k) = inl (omega arith)
 side (suc n) (suc k) = ⊎_elim (λ h. inl (omega arith)) (λ h. inr (omega arith)) (side n k)
 
 -- v0: the first actor at the beginning; v1: after `setup`; v2: after the others were made; v3: after they were taken in; v4: after `after`
-pub all_played : (driver : DriverKind) (before left : ℕ → Option Told) (sections : List SaidSection) (room made_count joined_count : ℕ) (v0 v1 v2 v3 v4 : OneView) (names end : Names) (waiting behind : Carried) (first_text last_text : List ℕ) (texts : List (List ℕ)) (history : List OneEntry)
-    → v0 ≡ newcomer 0 room [] 1 [] []
-    → PlaysOn driver (setup_of sections) v0 (carried [] (before 0)) [] (done names) v1 waiting first_text
-    → HasSplit v1 made_count v2 → HasJoined v2 joined_count v3 → AreKept driver (program_of sections) before left v1 v3 1 (map Ok texts) → HasItsOwn v3
-    → PlaysOn driver (after_of sections names) v3 waiting [] (done end) v4 behind last_text
+pub all_played : (driver : DriverOver) (before left : ℕ → Option Told) (sections : List SaidSection) (made_count joined_count : ℕ) (v0 v1 v2 v3 v4 : OneView) (names end : Names) (waiting behind : Carried) (first_text last_text : List ℕ) (texts : List (List ℕ)) (history : List OneEntry)
+    → v0 ≡ newcomer 0 (session_cost sections) [] 1 [] []
+    → PlaysOn driver.kind (setup_of sections) v0 (carried [] (before 0) (start_maps driver)) [] (done names) v1 waiting first_text
+    → HasSplit v1 made_count v2 → HasJoined v2 joined_count v3 → AreKept driver.kind waiting.maps (program_of sections) before left v1 v3 1 (map Ok texts) → HasItsOwn v3
+    → PlaysOn driver.kind (after_of sections names) v3 waiting [] (done end) v4 behind last_text
     → behind.told ≡ left 0
     → Legal core history → StartsWith history v4.seen → entries_of 0 history ≡ v4.mine → HasAllOf v4.joined history → ((n : ℕ) → v4.made ≤ n → entries_of n history ≡ [])
     → made_count ≡ length texts → length texts ≡ length (actor_sections sections)
-    → AllPlayed driver before left sections history (record { setup = first_text; actors = texts; last = last_text })
-all_played driver before left sections room made_count joined_count v0 v1 v2 v3 v4 names end waiting behind first_text last_text texts history new setup split joined kept own3 after left_is legal begins mine all others split_all as_many =
+    → AllPlayedBelow driver before left sections history (length history) (record { setup = first_text; actors = texts; last = last_text })
+all_played driver before left sections made_count joined_count v0 v1 v2 v3 v4 names end waiting behind first_text last_text texts history new setup split joined kept own3 after left_is legal begins mine all others split_all as_many =
     let results : List (Result (List ℕ) Errno) = map Ok texts in
     let as_results : length results ≡ length texts = length-map texts Ok in
     let d1 : List OneDeed = did_by setup.turns in let d2 : List OneDeed = did_by after.turns in
     let grew1 = setup.grew in let grew2 = after.grew in
     let number0 : v0.number ≡ 0 = ap (λ (v : OneView). v.number) new in
+    let room1 : v1.room ≡ session_cost sections = grew1.room ∙ ap (λ (v : OneView). v.room) new in
+    let room3 : v3.room ≡ session_cost sections = joined.room ∙ (split.room ∙ room1) in
     let number1 : v1.number ≡ 0 = grew1.number ∙ number0 in
     let number3 : v3.number ≡ 0 = joined.number ∙ (split.number ∙ number1) in
     let number4 : v4.number ≡ 0 = grew2.number ∙ number3 in
@@ -122,29 +141,32 @@ all_played driver before left sections room made_count joined_count v0 v1 v2 v3 
       middle = middle;
       last = last;
       is = begins3.1 ∙ ap (λ l. l ++ last) whole3.1;
-      others_not_first = λ n positive. ⊎_elim (λ near. (kept_at driver sections before left v1 v3 1 results kept n positive (let same = as_results in omega arith)).1.nothing_before)
+      others_not_first = λ n positive. ⊎_elim (λ near. (kept_at driver waiting.maps sections before left v1 v3 1 results kept n positive (let same = as_results in omega arith)).1.nothing_before)
           (λ far. entries_none n first (middle ++ last) (ap (λ l. entries_of n l) (sym whole1) ∙ no_number n far)) (side n (1 + length texts));
       zero_not_between = none_behind 0 first middle v1.mine (ap (λ l. entries_of 0 l) (sym whole3.1) ∙ own_third) own_first;
-      others_not_last = λ n positive. ⊎_elim (λ near. let k = kept_at driver sections before left v1 v3 1 results kept n positive (let same = as_results in omega arith) in kept_last driver sections before left v1 history v3 begins3 all3 last begins3.1 n k.0 k.1)
+      others_not_last = λ n positive. ⊎_elim (λ near. let k = kept_at driver waiting.maps sections before left v1 v3 1 results kept n positive (let same = as_results in omega arith) in kept_last driver waiting.maps sections before left v1 history v3 begins3 all3 room1 last begins3.1 n k.0 k.1)
           (λ far. none_last n v3.seen last (ap (λ l. entries_of n l) (sym begins3.1) ∙ no_number n far)) (side n (1 + length texts));
       names = names;
       waiting = waiting;
       setup = record {
         turns = setup.turns;
-        follows = subst (λ k. Follows driver k (setup_of sections) (carried [] (before 0)) setup.turns (done names) waiting) number0 setup.follows;
+        follows = subst (λ k. Follows driver.kind k (setup_of sections) (carried [] (before 0) (start_maps driver)) setup.turns (done names) waiting) number0 setup.follows;
         text_is = setup.text_is;
         did_is = deeds1;
       };
+      setup_within = subst (λ (room : ℕ). AreSeen room (length history) setup.turns) (ap (λ (v : OneView). v.room) new)
+          (seen_more v0.room (length v1.seen) (length history) setup.turns (no_shorter history v1.seen (middle ++ last, whole1)) setup.seen);
       end = end;
       behind = behind;
       after = record {
         turns = after.turns;
-        follows = subst (λ k. Follows driver k (after_of sections names) waiting after.turns (done end) behind) number3 after.follows;
+        follows = subst (λ k. Follows driver.kind k (after_of sections names) waiting after.turns (done end) behind) number3 after.follows;
         text_is = after.text_is;
         did_is = ap (λ (l : List OneEntry). deeds_from core (fold core l) 0 last) (sym whole3.1) ∙ deeds2;
       };
+      after_within = subst (λ (room : ℕ). AreSeen room (length history) after.turns) room3 (seen_more v3.room (length v4.seen) (length history) after.turns (no_shorter history v4.seen begins) after.seen);
       left_is = left_is;
-      actors = kept_played driver sections before left v1 history v3 begins3 all3 1 texts kept;
+      actors = kept_played driver waiting.maps sections before left v1 history v3 begins3 all3 room1 1 texts kept;
       as_many = as_many;
       nobody_else = λ n far. no_number n (let m = as_many in omega arith);
     }

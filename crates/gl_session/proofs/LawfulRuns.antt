@@ -1,5 +1,5 @@
 -- What is judged to be a lawful run is one, and each lawful run is judged so.
-use Rattle.std.proofs.Common.{◌≡◌, ℕ, ◌≤◌, Bool, true, false, not, ◌&&◌, List, ◌++◌, length, Option, Some, None, is_some, nat_le, nat_lt, refl, sym, ◌∙◌, ap, subst, arith}
+use Rattle.std.proofs.Common.{◌≡◌, inr, ℕ, ◌≤◌, Bool, true, false, not, ◌&&◌, List, ◌++◌, length, Option, Some, None, is_some, nat_le, nat_lt, refl, sym, ◌∙◌, ap, subst, arith}
 use Rattle.std.specs.Prelude.{if◌then◌else◌}
 use Rattle.std.specs.Str.{bytes_eq}
 use Rattle.std.proofs.lemmas.Bool.Decides.{nat_tests}
@@ -13,7 +13,7 @@ use Rattle.gl_trace.specs.HistoryRead.{Bad, Good, HistoriesAreReadAlone, Histori
 use Rattle.gl_trace.specs.HistoryText.{AreTold, history_text}
 use Rattle.gl_trace.proofs.Fields.{both_true}
 use Rattle.gl_core.specs.Device.{OneEntry}
-use Rattle.gl_check.specs.Drivers.{DriverKind, plain, planning}
+use Rattle.gl_check.specs.Drivers.{DriverOver, over, plain, planning}
 use Rattle.gl_check.specs.Many.{Texts, actor_sections, all_new}
 use Rattle.gl_check.specs.Misfit.{IsMisfit, MisfitIsNoneForMany, texts_of}
 use Rattle.gl_check.specs.Texts.{texts_text}
@@ -133,13 +133,13 @@ module _ (judges : MisfitIsNoneForMany) (back : HistoriesAreReadBack) (alone : H
   -- a history of a lawful run isn't longer than its session may be
   history_few : (input : List ℕ) (l : IsLawful input) → length l.history ≤ COST_MAX
   history_few input l =
-      let within = (came_to_many (planning plain) all_new l.planned.0 l.sections l.history l.texts l.planned.1).within in
+      let within = (came_to_many (over 0 (planning plain)) (omega arith) all_new l.planned.0 l.sections l.history l.texts l.planned.1).within in
       let cheap = (sentence_is_sized l.session l.sections l.sentence).cheap in
       omega arith
 
   history_read : (input : List ℕ) (l : IsLawful input) → history_in (output l.sections l.texts l.history) ≡ Good (texts_text l.sections l.texts) l.history
   history_read input l =
-      back (texts_text l.sections l.texts) l.history (printed_lines (planning plain) all_new l.planned.0 l.sections l.history l.texts l.planned.1) (history_few input l) l.told
+      back (texts_text l.sections l.texts) l.history (printed_lines (over 0 (planning plain)) all_new l.planned.0 l.sections l.history l.texts l.planned.1) (history_few input l) l.told
 
   lawful_output : (input : List ℕ) (l : IsLawful input) (verdict : Verdict) → IsOutputVerdict l.sections (Good (texts_text l.sections l.texts) l.history) verdict → verdict ≡ Yes
   lawful_output input l verdict h =
@@ -160,9 +160,9 @@ module _ (judges : MisfitIsNoneForMany) (back : HistoriesAreReadBack) (alone : H
       lawful_output input l verdict (subst (λ (f : History). IsOutputVerdict l.sections f verdict) (history_read input l) said)
 
 -- what a run of several actors printed is a lawful run
-pub runs_are_lawful : (driver : DriverKind) → RunsAreLawful driver
+pub runs_are_lawful : (driver : DriverOver) → RunsAreLawful driver
 runs_are_lawful driver is session sections before left text sentence several without run new within =
-    let played = played_plainly driver before left sections run.history run.texts run.came.ports in record {
+    let played = played_plainly driver before left sections run.history (inr without) run.texts run.came.ports in record {
       session = session;
       sections = sections;
       texts = run.texts;
@@ -172,7 +172,7 @@ runs_are_lawful driver is session sections before left text sentence several wit
       sentence = sentence;
       several = several;
       without = without;
-      many = many_played (as_plain driver) before left sections run.history run.texts played;
-      planned = planned_played (as_plain driver) before left sections run.history run.texts is new played;
+      many = many_played (over 0 (as_plain driver.kind)) before left sections run.history run.texts played;
+      planned = planned_played (over 0 (as_plain driver.kind)) before left sections run.history run.texts is new played;
       told = run.told;
     }

@@ -1,21 +1,24 @@
 -- A call of the device by one actor alone: what its deeds tell is what One makes of the call in the world before it.
-use Rattle.std.proofs.Common.{◌≡◌, ℕ, ◌+◌, ◌<◌, ◌≤◌, Bool, true, false, List, [], ◌∷◌, ◌++◌, length, length-append, Option, None, Some, refl, sym, ap, ◌∙◌, subst, arith}
-use Rattle.std.specs.Prelude.{if◌then◌else◌, ◌&&◌, not}
+use Rattle.std.proofs.Common.{◌≡◌, ℕ, ◌+◌, ◌<◌, ◌≤◌, Bool, true, false, List, [], ◌∷◌, ◌++◌, length, length-append, map, Option, None, Some, refl, sym, ap, ◌∙◌, subst, arith}
+use Rattle.std.specs.Prelude.{cond, if◌then◌else◌, ◌&&◌, not}
 use Rattle.std.proofs.lemmas.List.{append_assoc}
 use Rattle.std.proofs.lemmas.Bool.{true≢false}
+use Rattle.gl_base.specs.Rows.{Each}
 use Rattle.gl_base.specs.declared.phase.Phase.{Phase}
 use Rattle.gl_base.specs.declared.phase.Phase.TheVariants.{Absent, Up, Leaving, Gone}
 use Rattle.gl_uapi.specs.Command.{command_of}
 use Rattle.gl_world.specs.Deeds.{entries_in}
-use Rattle.gl_world.specs.History.{entry}
+use Rattle.gl_world.specs.History.{ended_in, entry}
 use Rattle.gl_world.specs.Laws.{Laws}
 use Rattle.gl_world.specs.Removal.{AllQuiet}
 use Rattle.gl_world.specs.Ranks.{rank}
 use Rattle.gl_model.specs.declared.call.Call.{Call}
 use Rattle.gl_model.specs.declared.call.Call.TheVariants.{Probe, Unplug, MakeDir, RemoveDir, Write, Read, Live, Remove, Tick, Pin, Irq, Pull, Level, Interrupt, OpenChip, Find, Ioctl, ReadEdges, ReadInfo, PollLine, PollChip, Close, Refused as RefusedCall}
+use Rattle.gl_model.specs.declared.call.Part.{Part}
+use Rattle.gl_model.specs.declared.call.Part.TheVariants.{Whole, Ask, Tell}
 use Rattle.gl_model.specs.declared.reply.Reply.{Reply}
 use Rattle.gl_model.specs.Chips.{phase_at}
-use Rattle.gl_model.specs.Entries.{begins, begun_places, guarded_place, last_call, places_named, refused_place}
+use Rattle.gl_model.specs.Entries.{begins, begun_places, ends, guarded_place, is_last_removal, is_tell, last_call, places_named, refused_place}
 use Rattle.gl_model.specs.Fits.{FitsCall}
 use Rattle.gl_model.specs.Outcome.{Outcome}
 use Rattle.gl_model.specs.declared.device_call.CommandIn.{CommandIn}
@@ -26,8 +29,10 @@ use Rattle.gl_model.specs.declared.device_call.RemovalOf.TheVariants.{OfChip, Of
 use Rattle.gl_model.specs.Parts.{Makes, MakesAt, MakesCommand, MakesOne, MakesRest, MakesTwo, first_call, in_ask, in_tell, in_whole, is_driver_asked, is_poll, is_single, last_reply}
 use Rattle.gl_model.specs.Step.{guard_reply, step}
 use Rattle.gl_model.specs.World.{World}
-use Rattle.gl_core.specs.Device.{OneDeed, OneEntry, call_tells, core, last_bytes}
-use Rattle.gl_check.specs.One.{Answering, at_guard, comes_by, count_inside, entry_count, inside_by, is_asked, is_closed, is_gone, one_or_more, two_around, world_behind}
+use Rattle.gl_core.specs.Device.{OneDeed, OneEntry, call_tells, core, last_bytes, part_tells}
+use Rattle.gl_check.specs.One.{Answering, at_guard, comes_by, count_inside, entry_count, inside_by, is_asked, is_closed, is_gone, one_or_more, place_of_guard, steps_of, tells_among, two_around, world_asked, world_behind}
+use Rattle.gl_check.specs.Lawful.{IsLetInOrRefused, deed_of}
+use Rattle.gl_check.specs.Seats.{is_refusal}
 use Rattle.gl_check.specs.Turns.{is_begun, was_asked}
 use Rattle.gl_session.specs.Alone.{calls_in, is_command}
 use Rattle.gl_session.proofs.OneHistories.{FirstDeed, IsSteady, Rest, first_deed, head_deed, last_deed, length_entries, no_deeds, one_deed, removal_steady, rest_own, still_steady}
@@ -164,6 +169,20 @@ unbegun_none (OfDevice device) reply bytes unbegun = ap (λ (b : Bool). if b the
 last_none : (removal : RemovalOf) (reply : Reply) (bytes : List ℕ) → begun_places (last_call (first_call removal)) reply bytes ≡ []
 last_none (OfChip place) reply bytes = refl
 last_none (OfDevice device) reply bytes = refl
+
+abbrev first_or : OneEntry → List OneEntry → OneEntry
+first_or d [] = d
+first_or d (e ∷ es) = e
+
+-- a call is refused at its guard just where that is closed
+open_at : (w : World) (guard : Option ℕ) → ((p : ℕ) → guard ≡ Some p → rank (phase_at w p) < 3) → false ≡ is_closed guard w
+open_at w None named = refl
+open_at w (Some place) named = sym (open_if (phase_at w place) (named place refl))
+
+guard_so : (w : World) (call : Call) → ((p : ℕ) → guarded_place call ≡ Some p → rank (phase_at w p) < 3) → ((p : ℕ) → refused_place call ≡ Some p → 2 ≤ rank (phase_at w p)) → IsSteady core w
+    → is_refusal call ≡ is_closed (place_of_guard call) w
+guard_so w (RefusedCall place poll) named refused steady = sym (gone_if (phase_at w place) (steady place) (refused place refl))
+guard_so w call named refused steady = open_at w (guarded_place call) named
 
 -- the last of deeds
 reply_behind : (x : OneDeed) (inner : List OneDeed) (y : OneDeed) → last_reply (entries_in (x ∷ (inner ++ y ∷ []))) ≡ Some y.entry.reply
@@ -365,3 +384,67 @@ module _ (laws : Laws core) where
         came = λ guess right. subst (λ (out : Outcome). Came did ds out) (command_as w c (doing own answer) guess (λ is. sym (right is))) x.came;
         count = λ guess right. x.count ∙ count_as w c (length own) (length guess.own) (λ is. sym (as_many_calls own) ∙ ap (λ (a : Answering). length a.own) (sym (right is)));
       }
+
+  -- what an actor did in the calls of a list, as the machine's steps make them
+  steps_as : (w : World) (inner ds : List OneDeed) → Rest core w (inner ++ ds) → map deed_of (steps_of w (calls_in (entries_in inner))) ≡ inner
+  steps_as w [] ds rest = refl
+  steps_as w (d ∷ inner) ds rest =
+      let mine : d.entry ≡ entry 0 d.entry.call d.entry.reply = λ i. record { actor = rest_own core w d (inner ++ ds) rest i; call = d.entry.call; reply = d.entry.reply } in
+      let f : FirstDeed core w d.entry.call d (inner ++ ds) = first_deed core laws w d.entry.call d.entry.reply d (inner ++ ds) mine rest in
+      (λ i. record { entry = record { actor = sym mine_actor i; call = d.entry.call; reply = sym f.reply i }; bytes = sym f.bytes i } ∷ steps_as (step w 0 d.entry.call).world inner ds f.rest i)
+    where
+      mine_actor : d.entry.actor ≡ 0
+      mine_actor = rest_own core w d (inner ++ ds) rest
+
+  -- each of them was let in or refused at its guard
+  steps_guarded : (w : World) (inner ds : List OneDeed) → AllQuiet core (entries_in inner) → Rest core w (inner ++ ds) → IsSteady core w → Each IsLetInOrRefused (steps_of w (calls_in (entries_in inner)))
+  steps_guarded w [] ds quiet rest steady = tt
+  steps_guarded w (d ∷ inner) ds quiet rest steady =
+      let mine : d.entry ≡ entry 0 d.entry.call d.entry.reply = λ i. record { actor = rest_own core w d (inner ++ ds) rest i; call = d.entry.call; reply = d.entry.reply } in
+      let f : FirstDeed core w d.entry.call d (inner ++ ds) = first_deed core laws w d.entry.call d.entry.reply d (inner ++ ds) mine rest in (
+        guard_so w d.entry.call f.named f.refused steady,
+        steps_guarded (step w 0 d.entry.call).world inner ds quiet.1 f.rest
+            (still_steady core laws w d.entry.call rest.sound f.fits steady (ap (λ r. begun_places d.entry.call r (step w 0 d.entry.call).bytes) (sym f.reply) ∙ quiet.0.0 (step w 0 d.entry.call).bytes)),
+      )
+
+  -- where the driver was asked, the call's entries begin with the ask
+  asks_first : (c : CommandIn) (closed : Bool) (answer : Option ℕ) (own made : List OneEntry) → MakesAt 0 (Some c.place) closed (Commanding c) answer own made → is_begun made ≡ true
+      → (reply : Reply) × (later : List OneEntry) × (made ≡ entry 0 (in_ask c) reply ∷ later)
+  asks_first c true answer own made makes begun = absurd (true≢false (sym begun ∙ ap (λ (l : List OneEntry). is_begun l) makes.0))
+  asks_first c false answer own made makes begun = by (is_driver_asked c.of_chip c.len (command_of c.cmd)) makes
+    where
+      by : (asks : Bool) → MakesCommand 0 asks answer c own made → (reply : Reply) × (later : List OneEntry) × (made ≡ entry 0 (in_ask c) reply ∷ later)
+      by false m = absurd (true≢false (sym begun ∙ ap (λ (l : List OneEntry). is_begun l) m.0.1))
+      by true m = (m.0, m.1, m.2)
+
+  -- What it made of its own there are the steps of its calls, from the world behind the ask on, each let in or refused at its guard.
+  pub inner_steps : (w : World) (call : DeviceCall) (closed : Bool) (answer : Option ℕ) (own : List OneEntry) (did ds : List OneDeed) (ask tell : OneDeed) (inner : List OneDeed) → Makes 0 closed call answer own (entries_in did) → AllQuiet core own → Rest core w (did ++ ds) → IsSteady core w
+      → was_asked call (entries_in did) ≡ true → did ≡ ask ∷ (inner ++ tell ∷ []) → entries_in inner ≡ own
+      → (map deed_of (steps_of (world_asked w call) (calls_in own)) ≡ inner) × Each IsLetInOrRefused (steps_of (world_asked w call) (calls_in own))
+  inner_steps w (Once call) closed answer own did ds ask tell inner makes quiet rest steady asked is same = absurd (true≢false (sym asked))
+  inner_steps w (Removing removal) closed answer own did ds ask tell inner makes quiet rest steady asked is same = absurd (true≢false (sym asked))
+  inner_steps w (Commanding c) closed answer own did ds ask tell inner makes quiet rest steady asked is same =
+      let a = asks_first c closed answer own (entries_in did) makes.1 asked in
+      let first : ask.entry ≡ entry 0 (in_ask c) a.0 = ap (λ (l : List OneEntry). first_or ask.entry l) (sym (ap (λ (l : List OneDeed). entries_in l) is) ∙ a.2) in
+      let whole : Rest core w (ask ∷ (inner ++ tell ∷ ds)) = subst (λ (l : List OneDeed). Rest core w (ask ∷ l)) (append_assoc inner (tell ∷ []) ds) (subst (λ (l : List OneDeed). Rest core w (l ++ ds)) is rest) in
+      let f : FirstDeed core w (in_ask c) ask (inner ++ tell ∷ ds) = first_deed core laws w (in_ask c) a.0 ask (inner ++ tell ∷ ds) first whole in
+      subst (λ (l : List OneEntry). (map deed_of (steps_of (step w 0 (in_ask c)).world (calls_in l)) ≡ inner) × Each IsLetInOrRefused (steps_of (step w 0 (in_ask c)).world (calls_in l))) same (
+        steps_as (step w 0 (in_ask c)).world inner (tell ∷ ds) f.rest,
+        steps_guarded (step w 0 (in_ask c)).world inner (tell ∷ ds) (subst (λ (l : List OneEntry). AllQuiet core l) (sym same) quiet) f.rest (still_steady core laws w (in_ask c) rest.sound f.fits steady refl),
+      )
+
+-- a driver's own calls tell as many answers as they end
+one_ended : (call : Call) → is_last_removal call ≡ false → length (call_tells call) ≡ cond (ends call) 1 0
+one_ended (Unplug place last) quiet = ap (λ (b : Bool). cond b 1 0) (sym quiet)
+one_ended (Remove device last) quiet = ap (λ (b : Bool). cond b 1 0) (sym quiet)
+one_ended (Ioctl place fd cmd len bytes part) quiet = by part
+  where
+    by : (part : Part) → length (part_tells part) ≡ cond (is_tell part) 1 0
+    by Whole = refl
+    by Ask = refl
+    by (Tell answer) = refl
+one_ended call quiet = refl
+
+pub tells_ended : (own : List OneEntry) → AllQuiet core own → tells_among (calls_in own) ≡ ended_in core own
+tells_ended [] quiet = refl
+tells_ended (e ∷ own) quiet = λ i. one_ended e.call quiet.0.1 i + tells_ended own quiet.1 i

@@ -1,6 +1,6 @@
 -- What comes of an operation of a talk on the device.
-use Rattle.std.proofs.Common.{◌≡◌, ◌⊎◌, inl, inr, ⊎_elim, ℕ, false, List, [], ◌++◌, length, take, drop, Option, None, Result, Ok, Err, refl, sym, ◌∙◌, ap, subst, arith}
-use Rattle.std.specs.Prelude.{IfOk, IfErr, IsOkUnless}
+use Rattle.std.proofs.Common.{◌≡◌, ◌⊎◌, inl, inr, ⊎_elim, ℕ, Bool, false, List, [], ◌++◌, length, take, drop, Option, None, Result, Ok, Err, refl, sym, ◌∙◌, ap, subst, arith}
+use Rattle.std.specs.Prelude.{IfOk, IfErr, IsOkUnless, is_some}
 use Rattle.std.proofs.lemmas.List.{append-nil, drop_all, take_all}
 use Rattle.gl_base.specs.declared.errno.Errno.{Errno}
 use Rattle.gl_base.specs.declared.errno.Errno.TheVariants.{Full, NoMemory}
@@ -25,9 +25,11 @@ use Rattle.gl_chip.specs.Orders.{CouldNot, WroteTo, op_ordered}
 use Rattle.gl_chip.specs.Steps.{FoundNoRoom}
 use Rattle.gl_chip.specs.Values.{ActorValue, OneView}
 use Rattle.gl_check.specs.Drivers.{DriverKind}
+use Rattle.gl_check.specs.Joining.{asking_with, maps_behind}
 use Rattle.gl_check.specs.Turns.{Carried, Exchange, IsDone, PortBy, map_of, was_asked}
-use Rattle.gl_session.specs.Performed.{HasPerformed, IsCall, MadeFor, Performs, exchange}
+use Rattle.gl_session.specs.Performed.{GoesByFiles, HasPerformed, IsCall, MadeFor, Performs, exchange}
 use Rattle.gl_check.specs.Buffers.{buffer_for}
+use Rattle.gl_session.proofs.Seen.{where_mapped}
 use Rattle.gl_session.proofs.Suiting.{Suits}
 
 pub unmoved : (v : OneView) → Grew core v [] v
@@ -43,70 +45,80 @@ unmoved v = record {
 
 module _ (driver : DriverKind) (what : Do) (v w : OneView) (s r : Carried) where
   -- An operation that is a call.
-  made_exchange : (u : OneView) (call : DeviceCall) (on : FileKind) (reply : Reply) (bytes : List ℕ) (got : Got) → Calls call ≡ asking s.files what → op_asked s.files what ≡ op_ordered call on → got ≡ got_of what reply bytes
-      → r.files ≡ files_behind what reply s.files → MadeFor driver call on v reply bytes u s.told r.told → HasPerformed driver what v s got u r
-  made_exchange u call on reply bytes got asks op gets files made = let called = made.called in
-      let e : Exchange = exchange what called.closed called.answer called.own called.did reply bytes in
+  pub made_exchange : (u : OneView) (call : DeviceCall) (on : FileKind) (reply : Reply) (bytes : List ℕ) (got : Got) → Calls call ≡ asking_with s.maps s.files what → op_asked s.files what ≡ op_ordered call on
+      → got ≡ got_of what reply bytes → r.files ≡ files_behind what reply s.files → r.maps ≡ maps_behind what reply s.files s.maps → MadeFor driver s.maps call on v reply bytes u s.told r.told → HasPerformed driver what v s got u r
+  made_exchange u call on reply bytes got asks op gets files maps made = let called = made.called in let mapped : Bool = is_some (map_of driver s.maps call) in
+      let e : Exchange = exchange what mapped called.closed called.answer called.own v.room made.saw called.did reply bytes in
       record {
         exchange = e;
         what_is = refl;
         got_is = gets;
         carries = record {
-          is_done = subst (λ (a : Asking). IsDone driver v.number a (op_asked s.files what) e s.told r.told) asks (record {
+          is_done = subst (λ (a : Asking). IsDone driver v.number s.maps a (op_asked s.files what) e s.told r.told) asks (record {
+            mapped_is = refl;
             makes = called.makes;
             few_own = called.few_own;
             may_own = called.may_own;
             reply_is = called.reply_is;
             bytes_are = called.bytes_are;
-            port = subst (λ (o : Option Op). PortBy driver v.number (was_asked call (entries_in called.did)) (map_of call) o e s.told r.told) (sym op) (made.port what);
+            port = subst (λ (o : Option Op). PortBy driver v.number (was_asked call (entries_in called.did)) (map_of driver s.maps call) o e s.told r.told) (sym op) (made.port what);
           });
           files = files;
+          maps = maps;
         };
+        seen = where_mapped mapped v.room (length u.seen) e refl made.fewer;
         grew = called.grew;
       }
+
+  -- An operation that is no call.
+  pub nothing_done : (asks : Asking) (reply : Reply) (got : Got) → asks ≡ asking_with s.maps s.files what → w ≡ v → r.files ≡ files_behind what reply s.files → r.maps ≡ maps_behind what reply s.files s.maps → got ≡ got_of what reply []
+      → IsDone driver v.number s.maps asks (op_asked s.files what) (exchange what false false None [] 0 0 [] reply []) s.told r.told → HasPerformed driver what v s got w r
+  nothing_done asks reply got is same files maps gets done =
+      let e : Exchange = exchange what false false None [] 0 0 [] reply [] in
+      record {
+        exchange = e;
+        what_is = refl;
+        got_is = gets;
+        carries = record {
+          is_done = subst (λ (a : Asking). IsDone driver v.number s.maps a (op_asked s.files what) e s.told r.told) is done;
+          files = files;
+          maps = maps;
+        };
+        seen = tt;
+        grew = subst (λ (u : OneView). Grew core v [] u) (sym same) (unmoved v);
+      }
+
+-- An operation that the maps of the port mean nothing to; the port keeps them.
+module _ (driver : DriverKind) (what : Do) (plain : GoesByFiles what) (v w : OneView) (s r : Carried) (keeps : r.maps ≡ s.maps) where
+  maps_stay : (reply : Reply) → r.maps ≡ maps_behind what reply s.files s.maps
+  maps_stay reply = keeps ∙ sym (plain.teaches_nothing s.maps s.files reply)
 
   -- The call was made with this buffer, which is as it came back, and left the files as they were; then they were changed by its reply.
   pub call_performs : (call : DeviceCall) (on : FileKind) (reply : Reply) (old came new : List ℕ) (got : Got) (result : Result Got Errno) (u : OneView) (m : Carried)
       → Calls call ≡ asking s.files what → Suits what (op_asked s.files what) on call → old ≡ buffer_for what → new ≡ came
-      → (bytes : List ℕ) × WroteTo call bytes old came × MadeFor driver call on v reply bytes u s.told m.told
+      → (bytes : List ℕ) × WroteTo call bytes old came × MadeFor driver s.maps call on v reply bytes u s.told m.told
       → m.files ≡ s.files → w ≡ u → r.told ≡ m.told
       → ((wrote : List ℕ) → IsFilled what wrote new → got ≡ got_of what reply wrote)
       → IfOk result (λ g. (g ≡ got) × (r.files ≡ files_behind what reply m.files)) → IsOkUnless result NoMemory
       → Performs driver what result v s w r
   call_performs call on reply old came new got (Ok g) u m asks suits handed back (bytes, wrote, made) kept same told gets settled memory =
       let wrote_so : WroteTo call bytes (buffer_for what) new = subst (λ (x : List ℕ × List ℕ). WroteTo call bytes x.0 x.1) (λ i. (handed i, sym back i)) wrote in
-      let made_so : MadeFor driver call on v reply bytes u s.told r.told = subst (λ (t : Option Told). MadeFor driver call on v reply bytes u s.told t) (sym told) made in
+      let made_so : MadeFor driver s.maps call on v reply bytes u s.told r.told = subst (λ (t : Option Told). MadeFor driver s.maps call on v reply bytes u s.told t) (sym told) made in
       subst (λ (x : OneView). HasPerformed driver what v s g x r) (sym same)
-      (made_exchange u call on reply bytes g asks suits.op (settled.0 ∙ gets bytes (suits.filled bytes new wrote_so)) (settled.1 ∙ ap (λ (l : List OpenFile). files_behind what reply l) kept) made_so)
+      (made_exchange driver what v w s r u call on reply bytes g (asks ∙ sym (plain.asks s.maps s.files)) suits.op (settled.0 ∙ gets bytes (suits.filled bytes new wrote_so))
+      (settled.1 ∙ ap (λ (l : List OpenFile). files_behind what reply l) kept) (maps_stay reply) made_so)
   call_performs call on reply old came new got (Err errno) u m asks suits handed back made kept same told gets settled memory = inl memory
 
   -- the call wasn't made
   pub could_not_perform : (call : DeviceCall) (errno : Errno) → Calls call ≡ asking s.files what → (errno ≡ NoMemory) ⊎ ((errno ≡ Full) × FoundNoRoom core v w) → Performs driver what (Err errno) v s w r
-  could_not_perform call errno asks = ⊎_elim (λ wanted. inl wanted) (λ full. inr (full.0, (subst IsCall asks tt, full.1)))
-
-  -- An operation that is no call.
-  nothing_done : (asks : Asking) (reply : Reply) (got : Got) → asks ≡ asking s.files what → w ≡ v → r.files ≡ files_behind what reply s.files → got ≡ got_of what reply []
-      → IsDone driver v.number asks (op_asked s.files what) (record { what = what; closed = false; answer = None; own = []; did = []; reply = reply; wrote = [] }) s.told r.told
-      → HasPerformed driver what v s got w r
-  nothing_done asks reply got is same files gets done =
-      let e : Exchange = record { what = what; closed = false; answer = None; own = []; did = []; reply = reply; wrote = [] } in
-      record {
-        exchange = e;
-        what_is = refl;
-        got_is = gets;
-        carries = record {
-          is_done = subst (λ (a : Asking). IsDone driver v.number a (op_asked s.files what) e s.told r.told) is done;
-          files = files;
-        };
-        grew = subst (λ (u : OneView). Grew core v [] u) (sym same) (unmoved v);
-      }
+  could_not_perform call errno asks = ⊎_elim (λ wanted. inl wanted) (λ full. inr (full.0, (subst IsCall (asks ∙ sym (plain.asks s.maps s.files)) tt, full.1)))
 
   told_alone : (asks : Asking) (reply : Reply) (got : Got) (result : Result Got Errno) (m : Carried) → asks ≡ asking s.files what → w ≡ v → m.files ≡ s.files → got ≡ got_of what reply []
-      → IsDone driver v.number asks (op_asked s.files what) (record { what = what; closed = false; answer = None; own = []; did = []; reply = reply; wrote = [] }) s.told r.told
+      → IsDone driver v.number s.maps asks (op_asked s.files what) (exchange what false false None [] 0 0 [] reply []) s.told r.told
       → IfOk result (λ g. (g ≡ got) × (r.files ≡ files_behind what reply m.files)) → IsOkUnless result NoMemory
       → Performs driver what result v s w r
   told_alone asks reply got (Ok g) m is same kept gets done settled memory =
-      nothing_done asks reply g is same (settled.1 ∙ ap (λ (l : List OpenFile). files_behind what reply l) kept) (settled.0 ∙ gets) done
+      nothing_done driver what v w s r asks reply g (is ∙ sym (plain.asks s.maps s.files)) same (settled.1 ∙ ap (λ (l : List OpenFile). files_behind what reply l) kept) (maps_stay reply) (settled.0 ∙ gets) done
   told_alone asks reply got (Err errno) m is same kept gets done settled memory = inl memory
 
   pub plan_performs : (nth : ℕ) (got : Got) (result : Result Got Errno) (m : Carried) → Plans nth ≡ asking s.files what → w ≡ v → m.files ≡ s.files → m.told ≡ with_plan nth s.told → r.told ≡ m.told → got ≡ got_of what DoneReply []

@@ -16,8 +16,9 @@ use Rattle.gl_talk.specs.Talk.{does, says, slot_behind}
 use Rattle.gl_asking.specs.Asking.{got_of}
 use Rattle.gl_session.specs.Performed.{HasPerformed, MetFull, PlaysOn, StoppedFull}
 use Rattle.gl_session.proofs.Performing.{unmoved}
+use Rattle.gl_session.proofs.Seen.{no_shorter, seen_append, seen_more}
 use Rattle.gl_check.specs.Drivers.{DriverKind}
-use Rattle.gl_check.specs.Turns.{Carried, Did, Follows, Said, Takes, Turn, did_by, said_by}
+use Rattle.gl_check.specs.Turns.{AreSeen, Carried, Did, Follows, Said, Takes, Turn, carried, did_by, said_by}
 
 pub said_append : (first later : List Turn) → said_by (first ++ later) ≡ said_by first ++ said_by later
 said_append [] later = refl
@@ -61,12 +62,14 @@ module _ {A : Type 0} (driver : DriverKind) where
     turns = first.turns ++ later.turns;
     follows = follows_on driver v.number p s first.turns q r later.turns x y first.follows (number_same q r later.turns x y v.number w.number first.grew.number later.follows);
     text_is = later.text_is ∙ ap (λ text. text ++ said_by later.turns) first.text_is ∙ append_assoc t0 (said_by first.turns) (said_by later.turns) ∙ ap (λ text. t0 ++ text) (sym (said_append first.turns later.turns));
+    seen = seen_append v.room (length u.seen) first.turns later.turns (seen_more v.room (length w.seen) (length u.seen) first.turns (no_shorter u.seen w.seen later.grew.seen) first.seen)
+        (subst (λ (room : ℕ). AreSeen room (length u.seen) later.turns) first.grew.room later.seen);
     grew = subst (λ (did : List OneDeed). Grew core v did u) (sym (did_append first.turns later.turns)) (grows_on core v w u (did_by first.turns) (did_by later.turns) first.grew later.grew);
   }
 
   -- nothing yet
   pub plays_nothing : (p : Program A) (v : OneView) (s : Carried) (text : List ℕ) → PlaysOn driver p v s text p v s text
-  plays_nothing p v s text = record { turns = []; follows = (refl, refl); text_is = sym (append-nil text); grew = unmoved v }
+  plays_nothing p v s text = record { turns = []; follows = (refl, refl); text_is = sym (append-nil text); seen = tt; grew = unmoved v }
 
   -- and then until the history was full
   pub stops_on : (p : Program A) (v : OneView) (s : Carried) (t0 : List ℕ) (q : Program A) (w : OneView) (r : Carried) (t1 : List ℕ) (u : OneView)
@@ -92,6 +95,7 @@ module _ {A B : Type 0} (driver : DriverKind) (f : A → Program B) where
     turns = played.turns;
     follows = follows_then driver v.number f p s played.turns q r played.follows;
     text_is = played.text_is;
+    seen = played.seen;
     grew = played.grew;
   }
 
@@ -110,27 +114,27 @@ module _ {A B : Type 0} (driver : DriverKind) (f : A → Program B) where
 -- The same of views, files, ports and texts that are the same.
 module _ {A : Type 0} (driver : DriverKind) (p q : Program A) where
   pub plays_as : (v : OneView) (s : Carried) (t0 : List ℕ) (w : OneView) (r : Carried) (t1 : List ℕ) (v' : OneView) (s' : Carried) (t0' : List ℕ) (w' : OneView) (r' : Carried) (t1' : List ℕ)
-      → v ≡ v' → s.files ≡ s'.files → s.told ≡ s'.told → t0 ≡ t0' → w' ≡ w → r.files ≡ r'.files → r'.told ≡ r.told → t1' ≡ t1
+      → v ≡ v' → s.files ≡ s'.files → s.told ≡ s'.told → s.maps ≡ s'.maps → t0 ≡ t0' → w' ≡ w → r.files ≡ r'.files → r'.told ≡ r.told → r'.maps ≡ r.maps → t1' ≡ t1
       → PlaysOn driver p v s t0 q w r t1 → PlaysOn driver p v' s' t0' q w' r' t1'
-  plays_as v s t0 w r t1 v' s' t0' w' r' t1' view files told text view_then files_then told_then text_then played =
+  plays_as v s t0 w r t1 v' s' t0' w' r' t1' view files told maps text view_then files_then told_then maps_then text_then played =
       subst (λ (x : OneView × Carried × List ℕ × OneView × Carried × List ℕ). PlaysOn driver p x.0 x.1 x.2 q x.3 x.4 x.5)
-      (λ i. (view i, record { files = files i; told = told i }, text i, sym view_then i, record { files = files_then i; told = sym told_then i }, sym text_then i)) played
+      (λ i. (view i, carried (files i) (told i) (maps i), text i, sym view_then i, carried (files_then i) (sym told_then i) (sym maps_then i), sym text_then i)) played
 
   -- the text was taken after it
   pub text_taken : (v : OneView) (s : Carried) (t0 : List ℕ) (w : OneView) (r : Carried) (t1 : List ℕ) (w' : OneView) (r' : Carried) (t1' : List ℕ) → t0 ≡ [] → w' ≡ w → r' ≡ r → t1' ≡ t1
       → PlaysOn driver p v s t0 q w r t1 → PlaysOn driver p v s [] q w' r' t1'
-  text_taken v s t0 w r t1 w' r' t1' empty view carried text played =
-      subst (λ (x : List ℕ × OneView × Carried × List ℕ). PlaysOn driver p v s x.0 q x.1 x.2 x.3) (λ i. (empty i, sym view i, sym carried i, sym text i)) played
+  text_taken v s t0 w r t1 w' r' t1' empty view same text played =
+      subst (λ (x : List ℕ × OneView × Carried × List ℕ). PlaysOn driver p v s x.0 q x.1 x.2 x.3) (λ i. (empty i, sym view i, sym same i, sym text i)) played
 
 module _ {A : Type 0} (driver : DriverKind) (p : Program A) where
-  pub stops_as : (v : OneView) (s : Carried) (w : OneView) (v' : OneView) (s' : Carried) → v ≡ v' → s.files ≡ s'.files → s.told ≡ s'.told → StoppedFull driver p v s w → StoppedFull driver p v' s' w
-  stops_as v s w v' s' view files told stopped =
-      subst (λ (x : OneView × Carried). StoppedFull driver p x.0 x.1 w) (λ i. (view i, record { files = files i; told = told i })) stopped
+  pub stops_as : (v : OneView) (s : Carried) (w : OneView) (v' : OneView) (s' : Carried) → v ≡ v' → s.files ≡ s'.files → s.told ≡ s'.told → s.maps ≡ s'.maps → StoppedFull driver p v s w → StoppedFull driver p v' s' w
+  stops_as v s w v' s' view files told maps stopped =
+      subst (λ (x : OneView × Carried). StoppedFull driver p x.0 x.1 w) (λ i. (view i, carried (files i) (told i) (maps i))) stopped
 
 -- one turn of a client: what it does next, and what is left to it
 module _ {A : Type 0} (driver : DriverKind) (p : Program A) (v : OneView) (s : Carried) (text : List ℕ) where
   said_turn : (piece : List ℕ) (left : Left A) → Goes p (Print piece) left → PlaysOn driver p v s text (given left None) v s (text ++ piece)
-  said_turn piece (goes_on q) goes = record { turns = Said piece ∷ []; follows = follows_one driver v.number p s (Said piece) q s (goes, refl); text_is = ap (λ t. text ++ t) (sym (append-nil piece)); grew = unmoved v }
+  said_turn piece (goes_on q) goes = record { turns = Said piece ∷ []; follows = follows_one driver v.number p s (Said piece) q s (goes, refl); text_is = ap (λ t. text ++ t) (sym (append-nil piece)); seen = tt; grew = unmoved v }
   said_turn piece (waits rest) goes = absurd goes
 
   pub printed_turn : (piece text_then : List ℕ) (left : Left A) (w : OneView) (r : Carried) → Goes p (Print piece) left → w ≡ v → r ≡ s → text_then ≡ text ++ piece → PlaysOn driver p v s text (given left None) w r text_then
@@ -145,6 +149,7 @@ module _ {A : Type 0} (driver : DriverKind) (p : Program A) (v : OneView) (s : C
     follows = follows_one driver v.number p s (Did performed.exchange) (rest got) r
         (rest, subst (λ (d : Do). p ≡ ask d rest) (sym performed.what_is) goes, ap rest (subst (λ (d : Do). got ≡ got_of d performed.exchange.reply performed.exchange.wrote) (sym performed.what_is) performed.got_is), performed.carries);
     text_is = stays ∙ sym (append-nil text);
+    seen = (performed.seen, tt);
     grew = subst (λ (did : List OneDeed). Grew core v did w) (sym (append-nil performed.exchange.did)) performed.grew;
   }
 

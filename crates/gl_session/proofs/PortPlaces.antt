@@ -1,14 +1,11 @@
 -- Ports by the numbers of their actors, as they are taken out and put back.
-use Rattle.std.proofs.Common.{◌≡◌, ◌≢◌, ◌<◌, ℕ, zero, suc, true, List, [], ◌∷◌, drop, get_or, length, length-set, set, Option, Some, None, refl, sym, ap, ◌∙◌, subst, arith}
+use Rattle.std.proofs.Common.{◌≡◌, ◌≢◌, ◌<◌, ℕ, zero, suc, true, List, [], ◌∷◌, drop, get_or, length, set, Option, Some, None, refl, sym, ap, ◌∙◌, subst, arith}
 use Rattle.std.specs.Prelude.{slice_get, is_some}
 use Rattle.std.specs.List.{AllPass}
 use Rattle.std.proofs.lemmas.Option.{slice_get-get_or}
 use Rattle.gl_driver.specs.Told.{Told}
-use Rattle.gl_script.specs.Section.{SaidSection}
-use Rattle.gl_session.specs.OneActor.{CameWithEntries}
 use Rattle.gl_session.specs.Ports.{AreAllThere}
 use Rattle.gl_session.specs.Workers.{is_found, there_at, told_at, told_found}
-use Rattle.gl_check.specs.Drivers.{DriverKind}
 
 pub get_set : {X : Type 0} (xs : List X) (n : ℕ) (x : X) → n < length xs → slice_get (set xs n x) n ≡ Some x
 get_set [] n x lt = absurd (omega arith)
@@ -60,11 +57,3 @@ module _ {P : Type 0} where
   pub all_put_back : (ports taken given : List (Option P)) (port : P) → taken ≡ set ports 0 None → given ≡ set taken 0 (Some port) → AreAllThere ports → AreAllThere given × (drop 1 given ≡ drop 1 ports)
   all_put_back ports taken given port left_is given_is were =
       subst (λ (l : List (Option P)). AreAllThere l × (drop 1 l ≡ drop 1 ports)) (sym (given_is ∙ ap (λ (l : List (Option P)). set l 0 (Some port)) left_is)) (put_back ports port were)
-
-  pub came_through : (told : P → Option Told) (driver : DriverKind) (sections : List SaidSection) (ports taken given : List (Option P)) (port port_then : P) (text : List ℕ) (entries : ℕ) → AreAllThere ports
-      → slice_get ports 0 ≡ Some (Some port) → taken ≡ set ports 0 None → given ≡ set taken 0 (Some port_then)
-      → CameWithEntries driver sections (told port) text (told port_then) entries → CameWithEntries driver sections (told_at told ports 0) text (told_at told given 0) entries
-  came_through told driver sections ports taken given port port_then text entries were got left_is given_is came =
-      let long : length taken ≡ length ports = ap (λ (l : List (Option P)). length l) left_is ∙ length-set ports 0 None in let many = were.count in
-      let end : told_at told given 0 ≡ told port_then = ap (λ l. told_at told l 0) given_is ∙ told_got told (set taken 0 (Some port_then)) 0 port_then (get_set taken 0 (Some port_then) (omega arith)) in
-      subst (λ (x : Option Told × Option Told). CameWithEntries driver sections x.0 text x.1 entries) (λ i. (sym (told_got told ports 0 port got) i, sym end i)) came

@@ -13,7 +13,8 @@ use Rattle.gl_talk.specs.Talk.{quits}
 use Rattle.gl_talk.proofs.TalkPrints.{end_lines, says_lines}
 use Rattle.gl_core.specs.Device.{OneDeed, OneEntry}
 use Rattle.gl_asking.specs.Asking.{got_of}
-use Rattle.gl_check.specs.Drivers.{DriverKind}
+use Rattle.gl_check.specs.Drivers.{DriverKind, DriverOver}
+use Rattle.gl_check.specs.Joining.{Maps}
 use Rattle.gl_check.specs.Many.{ActorsPlayed, AllPlayed, Texts, actor_sections, no_section, program_of, words_of}
 use Rattle.gl_check.specs.One.{said_in_kind}
 use Rattle.gl_check.specs.Programs.{after_of, setup_of}
@@ -45,24 +46,24 @@ after_lines sections names = says_lines (length (said_in_kind Setup sections)) (
 actor_lines : (sections : List SaidSection) (n : ℕ) → PrintsLines (program_of sections n)
 actor_lines sections n = says_lines 0 (words_of (get_or (actor_sections sections) (n - 1) no_section)) quits end_lines no_names
 
-module _ (driver : DriverKind) (before left : ℕ → Option Told) (sections : List SaidSection) (history : List OneEntry) where
-  texts_lines : (others : List SaidSection) (n : ℕ) (texts : List (List ℕ)) → ActorsPlayed driver before left sections history n texts → ends_lines (actors_text others texts) ≡ true
-  texts_lines [] n texts h = refl
-  texts_lines (section ∷ others) n [] h = refl
-  texts_lines (section ∷ others) n (text ∷ texts) h =
+module _ (driver : DriverOver) (before left : ℕ → Option Told) (sections : List SaidSection) (history : List OneEntry) where
+  texts_lines : (m : Maps) (others : List SaidSection) (n : ℕ) (texts : List (List ℕ)) → ActorsPlayed driver before left sections history m n texts → ends_lines (actors_text others texts) ≡ true
+  texts_lines m [] n texts h = refl
+  texts_lines m (section ∷ others) n [] h = refl
+  texts_lines m (section ∷ others) n (text ∷ texts) h =
       let head : List ℕ = text_line (codes "== actor " ++ section.name) in
-      let here : ends_lines text ≡ true = played_lines driver n (program_of sections n) _ text _ _ _ (actor_lines sections n) h.0.played in
-      lines_end (head ++ text) (actors_text others texts) (lines_end head text (line_ends (codes "== actor " ++ section.name)) here) (texts_lines others (n + 1) texts h.1)
+      let here : ends_lines text ≡ true = played_lines driver.kind n (program_of sections n) _ text _ _ _ (actor_lines sections n) h.0.played in
+      lines_end (head ++ text) (actors_text others texts) (lines_end head text (line_ends (codes "== actor " ++ section.name)) here) (texts_lines m others (n + 1) texts h.1)
 
   -- the texts of a session that was carried out are whole lines
   pub printed_lines : (texts : Texts) → AllPlayed driver before left sections history texts → ends_lines (texts_text sections texts) ≡ true
   printed_lines texts h =
-      let setup : ends_lines texts.setup ≡ true = played_lines driver 0 (setup_of sections) _ texts.setup _ _ _ (setup_lines sections) h.setup in
-      let last : ends_lines texts.last ≡ true = played_lines driver 0 (after_of sections h.names) _ texts.last _ _ _ (after_lines sections h.names) h.after in
+      let setup : ends_lines texts.setup ≡ true = played_lines driver.kind 0 (setup_of sections) _ texts.setup _ _ _ (setup_lines sections) h.setup in
+      let last : ends_lines texts.last ≡ true = played_lines driver.kind 0 (after_of sections h.names) _ texts.last _ _ _ (after_lines sections h.names) h.after in
       let actors : List ℕ = actors_text (actor_sections sections) texts.actors in
       let first : ends_lines (text_line (codes "== setup") ++ texts.setup) ≡ true = lines_end (text_line (codes "== setup")) texts.setup refl setup in
       let middle : ends_lines (text_line (codes "== setup") ++ texts.setup ++ actors) ≡ true =
-      lines_end (text_line (codes "== setup") ++ texts.setup) actors first (texts_lines (actor_sections sections) 1 texts.actors h.actors) in
+      lines_end (text_line (codes "== setup") ++ texts.setup) actors first (texts_lines h.waiting.maps (actor_sections sections) 1 texts.actors h.actors) in
       let behind : ends_lines (text_line (codes "== setup") ++ texts.setup ++ actors ++ text_line (codes "== after")) ≡ true =
       lines_end (text_line (codes "== setup") ++ texts.setup ++ actors) (text_line (codes "== after")) middle refl in
       lines_end (text_line (codes "== setup") ++ texts.setup ++ actors ++ text_line (codes "== after")) texts.last behind last

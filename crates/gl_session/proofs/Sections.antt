@@ -15,6 +15,7 @@ use Rattle.gl_talk.specs.Open.{Names}
 use Rattle.gl_talk.specs.Talk.{does, quits, says, slot_behind}
 use Rattle.gl_talk.proofs.InARow.{come_in_parts}
 use Rattle.gl_check.specs.Drivers.{DriverKind}
+use Rattle.gl_check.specs.Joining.{Maps}
 use Rattle.gl_check.specs.One.{is_kind, said_in_kind}
 use Rattle.gl_check.specs.Sections.{said_at, said_of}
 use Rattle.gl_asking.specs.Files.{OpenFile}
@@ -110,12 +111,14 @@ module _ (driver : DriverKind) (v : OneView) (s : Carried) (begun : ℕ) (statem
       (subst (λ (o : Program Names). StoppedFull driver o w r u) is stopped)
 
 -- the same statements from the same beginning
-module _ (driver : DriverKind) (v : OneView) (told : Option Told) (statements : List (List Span)) (behind : Names → Program Names) (n m : ℕ) (names others : Names) (files : List OpenFile) (before : List OpenFile) (number : n ≡ m) (same : names ≡ others) (open_are : files ≡ before) where
-  pub begins_so : (t0 : List ℕ) (q : Program Names) (w : OneView) (r : Carried) (t1 : List ℕ) → PlaysOn driver (says n statements behind names) v (carried files told) t0 q w r t1
-      → PlaysOn driver (says m statements behind others) v (carried before told) t0 q w r t1
-  begins_so t0 q w r t1 played =
-      subst (λ (x : ℕ × Names × List OpenFile). PlaysOn driver (says x.0 statements behind x.1) v (carried x.2 told) t0 q w r t1) (λ i. (number i, same i, open_are i)) played
+module _ (driver : DriverKind) (v : OneView) (told : Option Told) (m o : Maps) (statements : List (List Span)) (behind : Names → Program Names) (n k : ℕ) (names others : Names) (files : List OpenFile) (before : List OpenFile)
+    (number : n ≡ k) (same : names ≡ others) (open_are : files ≡ before) (maps_are : m ≡ o)
+  where
+    pub begins_so : (t0 : List ℕ) (q : Program Names) (w : OneView) (r : Carried) (t1 : List ℕ) → PlaysOn driver (says n statements behind names) v (carried files told m) t0 q w r t1
+        → PlaysOn driver (says k statements behind others) v (carried before told o) t0 q w r t1
+    begins_so t0 q w r t1 played =
+        subst (λ (x : ℕ × Names × List OpenFile × Maps). PlaysOn driver (says x.0 statements behind x.1) v (carried x.2 told x.3) t0 q w r t1) (λ i. (number i, same i, open_are i, maps_are i)) played
 
-  pub stops_so : (w : OneView) → StoppedFull driver (says n statements behind names) v (carried files told) w → StoppedFull driver (says m statements behind others) v (carried before told) w
-  stops_so w stopped =
-      subst (λ (x : ℕ × Names × List OpenFile). StoppedFull driver (says x.0 statements behind x.1) v (carried x.2 told) w) (λ i. (number i, same i, open_are i)) stopped
+    pub stops_so : (w : OneView) → StoppedFull driver (says n statements behind names) v (carried files told m) w → StoppedFull driver (says k statements behind others) v (carried before told o) w
+    stops_so w stopped =
+        subst (λ (x : ℕ × Names × List OpenFile × Maps). StoppedFull driver (says x.0 statements behind x.1) v (carried x.2 told x.3) w) (λ i. (number i, same i, open_are i, maps_are i)) stopped

@@ -1,10 +1,8 @@
 -- What actors carried out, whatever their ports told: the same holds over ports that tell nothing; and what a port tells in the end.
-use Rattle.std.specs.Prelude.{if◌then◌else◌}
-use Rattle.std.proofs.Common.{◌≡◌, ℕ, zero, suc, ◌+◌, ◌-◌, ◌<◌, ◌≤◌, Bool, true, false, List, [], ◌∷◌, ◌++◌, length, length-append, Option, None, Some, refl, sym, ◌∙◌, ap, subst, arith}
+use Rattle.std.specs.Prelude.{if◌then◌else◌, is_some}
+use Rattle.std.proofs.Common.{◌≡◌, ◌⊎◌, inl, inr, ℕ, zero, suc, ◌+◌, ◌-◌, ◌<◌, ◌≤◌, Bool, true, false, List, [], ◌∷◌, ◌++◌, length, length-append, Option, None, Some, refl, sym, ◌∙◌, ap, subst, arith}
 use Rattle.std.proofs.lemmas.Bool.{false≢true}
 use Rattle.std.proofs.lemmas.List.{append_assoc, append-nil}
-use mathlib.Core.Logic.{dite}
-use native.Mathlib.Decide.{ℕ_discrete}
 use Rattle.gl_base.specs.Count.{counted_up}
 use Rattle.gl_base.specs.Planned.{planned_call}
 use Rattle.gl_uapi.specs.Command.{command_of}
@@ -12,7 +10,11 @@ use Rattle.gl_world.specs.Deeds.{deeds_from, deeds_of, entries_in}
 use Rattle.gl_world.specs.History.{entries_of, entry, fold}
 use Rattle.gl_world.proofs.Deeds.{deeds_entries, entries_in_append}
 use Rattle.gl_world.proofs.Histories.{entries_append}
-use Rattle.gl_client.specs.Program.{Program, done}
+use Rattle.gl_base.specs.declared.operation.Do.{Do}
+use Rattle.gl_base.specs.declared.operation.Do.TheVariants.{Aggregate}
+use Rattle.gl_base.specs.declared.operation.Got.{Got}
+use Rattle.gl_client.specs.Chips.{AsksNoChips, IsPlain}
+use Rattle.gl_client.specs.Program.{Program, ask, done}
 use Rattle.gl_driver.specs.Told.{PortAfter, Told, new_port, with_bits, with_call, with_plan}
 use Rattle.gl_driver.specs.declared.map.Map.{Map}
 use Rattle.gl_base.specs.declared.op.Op.{Op}
@@ -24,87 +26,129 @@ use Rattle.gl_model.specs.Parts.{Makes, MakesAt, MakesCommand, MakesInside, Make
 use Rattle.gl_model.specs.declared.device_call.RemovalOf.TheVariants.{OfChip, OfDevice}
 use Rattle.gl_model.specs.declared.call.Call.{Call}
 use Rattle.gl_model.specs.declared.call.Call.TheVariants.{Remove, Unplug}
+use Rattle.gl_script.specs.Cost.{has_aggregate, session_cost}
 use Rattle.gl_script.specs.Section.{SaidSection}
 use Rattle.gl_talk.specs.Open.{Names}
 use Rattle.gl_core.specs.Device.{OneDeed, OneEntry, call_tells, core, tells_in}
-use Rattle.gl_check.specs.Drivers.{DriverKind, Gives, MayMake, plain, planning, untold}
+use Rattle.gl_check.specs.Drivers.{DriverKind, DriverOver, Gives, MayMake, over, plain, planning, start_maps, untold}
+use Rattle.gl_check.specs.Joining.{Maps, asking_with, maps_behind, no_maps}
 use Rattle.gl_check.specs.Tells.{TellsAfter, answered_last, calls_after, last_or, outer_tells, told_alone, under_way}
 use Rattle.gl_check.specs.Programs.{after_of, setup_of}
 use Rattle.gl_asking.specs.declared.kinds.Asking.{Asking}
 use Rattle.gl_asking.specs.declared.kinds.Asking.TheVariants.{Calls, Plans, Accepts, Refuses}
-use Rattle.gl_asking.specs.Asking.{asking}
+use Rattle.gl_asking.specs.Files.{OpenFile}
 use Rattle.gl_asking.specs.Driving.{op_asked}
-use Rattle.gl_check.specs.Many.{ActorPlayed, ActorsPlayed, AllPlayed, Many, PlannedTells, PortsTell, Texts, actor_sections, all_new, program_of, silent}
+use Rattle.gl_check.specs.Many.{ActorsPlayed, AllPlayed, Many, PlannedTells, PortsTell, Texts, actor_sections, all_new, program_of, silent}
 use Rattle.gl_check.specs.Turns.{Carried, Did, Exchange, Follows, HasMade, IsDone, Played, PortBy, Said, Takes, Turn, carried, did_by, map_of, was_asked}
-use Rattle.gl_check.proofs.Asked.{Unmapped, port_asked, single_is, unmapped}
+use Rattle.gl_check.proofs.Asked.{Unmapped, port_asked, single_is, unmapped, unmapped_call}
+use Rattle.gl_check.proofs.Joined.{no_maps_behind}
+use Rattle.gl_session.specs.Alone.{KeepsNoMaps}
+use Rattle.gl_session.proofs.Actors.{actor_at}
 use Rattle.gl_session.proofs.AloneRuns.{tells_append}
+use Rattle.gl_session.proofs.NoChips.{Bare, KeepsNone, asks_none, bare_behind, bare_first, bare_keeps, keeps_on, none_kept, turn_stays, zero_turn}
 use Rattle.gl_session.proofs.OneCalls.{single_is_plain}
 
 -- The same driver, as one that makes no entries of its own: without a map that is what it is.
 abbrev pub as_plain : DriverKind → DriverKind
 as_plain driver = record plain { is_planned = driver.is_planned }
 
--- What was carried out over one driver was carried out over another, with what the ports are shown to tell there.
-module _ (driver other : DriverKind) (shown : Option Told → Option Told) (plans : (nth : ℕ) (told : Option Told) → shown (with_plan nth told) ≡ with_plan nth (shown told)) (accepts : (bits : ℕ) (told : Option Told) → shown (with_bits bits told) ≡ with_bits bits (shown told))
-    (makes : (n : ℕ) (op : Option Op) (e : Exchange) (before after : Option Told) (call : DeviceCall) → HasMade driver n call op e before after → HasMade other n call op e (shown before) (shown after))
-  where
-    abbrev shows : Carried → Carried
-    shows s = carried s.files (shown s.told)
+-- What was carried out over one driver was carried out over another, with what the ports are shown to tell and to keep there. `Fine`: where talks
+-- stand in such a session.
+pub record Shows (driver other : DriverOver) (sections : List SaidSection) (shown : Option Told → Option Told) (keep : Maps → Maps) (Fine : Program Names → Carried → Type 0) : Type 0 where
+  pub plans : (nth : ℕ) (told : Option Told) → shown (with_plan nth told) ≡ with_plan nth (shown told)
+  pub accepts : (bits : ℕ) (told : Option Told) → shown (with_bits bits told) ≡ with_bits bits (shown told)
+  pub goes : (n : ℕ) (p : Program Names) (s : Carried) (turn : Turn) (q : Program Names) (r : Carried) → Takes driver.kind n p s turn q r → Fine p s → Fine q r
+  pub asks : (what : Do) (rest : Got → Program Names) (s : Carried) → Fine (ask what rest) s → asking_with (keep s.maps) s.files what ≡ asking_with s.maps s.files what
+  pub behind : (what : Do) (rest : Got → Program Names) (s : Carried) (reply : Reply) → Fine (ask what rest) s → keep (maps_behind what reply s.files s.maps) ≡ maps_behind what reply s.files (keep s.maps)
+  pub makes : (p : Program Names) (s : Carried) → Fine p s → (n : ℕ) (op : Option Op) (e : Exchange) (before after : Option Told) (call : DeviceCall) → HasMade driver.kind n s.maps call op e before after
+      → HasMade other.kind n (keep s.maps) call op e (shown before) (shown after)
+  pub starts : keep (start_maps driver) ≡ start_maps other
+  pub setup : (told : Option Told) → Fine (setup_of sections) (carried [] told (start_maps driver))
+  pub actors : (names : Names) (s : Carried) → Fine (done names) s → (n : ℕ) (told : Option Told) → Fine (program_of sections n) (carried [] told s.maps)
+  pub after : (last names : Names) (s : Carried) → Fine (done last) s → Fine (after_of sections names) s
 
-    done_shown : (n : ℕ) (a : Asking) (op : Option Op) (e : Exchange) (before after : Option Told) → IsDone driver n a op e before after → IsDone other n a op e (shown before) (shown after)
-    done_shown n (Calls call) op e before after h = makes n op e before after call h
-    done_shown n (Plans nth) op e before after h = (record { did = h.0.did; reply_is = h.0.reply_is; bytes_are = h.0.bytes_are }, ap shown h.1 ∙ plans nth before)
-    done_shown n (Accepts bits) op e before after h = (record { did = h.0.did; reply_is = h.0.reply_is; bytes_are = h.0.bytes_are }, ap shown h.1 ∙ accepts bits before)
-    done_shown n (Refuses errno) op e before after h = (record { did = h.0.did; reply_is = h.0.reply_is; bytes_are = h.0.bytes_are }, ap shown h.1)
+module _ (driver other : DriverOver) (sections : List SaidSection) (shown : Option Told → Option Told) (keep : Maps → Maps) (Fine : Program Names → Carried → Type 0) (h : Shows driver other sections shown keep Fine) where
+  abbrev shows : Carried → Carried
+  shows s = carried s.files (shown s.told) (keep s.maps)
 
-    module _ {A : Type 0} (n : ℕ) where
-      takes_shown : (p : Program A) (s : Carried) (turn : Turn) (q : Program A) (r : Carried) → Takes driver n p s turn q r → Takes other n p (shows s) turn q (shows r)
-      takes_shown p s (Said text) q r h = (h.0, ap shows h.1)
-      takes_shown p s (Did e) q r h = (h.0, h.1, h.2, record { is_done = done_shown n (asking s.files e.what) (op_asked s.files e.what) e s.told r.told h.3.is_done; files = h.3.files })
+  done_shown : (n : ℕ) (p : Program Names) (s : Carried) → Fine p s → (a : Asking) (op : Option Op) (e : Exchange) (before after : Option Told) → IsDone driver.kind n s.maps a op e before after → IsDone other.kind n (keep s.maps) a op e (shown before) (shown after)
+  done_shown n p s fine (Calls call) op e before after d = h.makes p s fine n op e before after call d
+  done_shown n p s fine (Plans nth) op e before after d = (record { did = d.0.did; reply_is = d.0.reply_is; bytes_are = d.0.bytes_are }, ap shown d.1 ∙ h.plans nth before)
+  done_shown n p s fine (Accepts bits) op e before after d = (record { did = d.0.did; reply_is = d.0.reply_is; bytes_are = d.0.bytes_are }, ap shown d.1 ∙ h.accepts bits before)
+  done_shown n p s fine (Refuses errno) op e before after d = (record { did = d.0.did; reply_is = d.0.reply_is; bytes_are = d.0.bytes_are }, ap shown d.1)
 
-      follows_shown : (p : Program A) (s : Carried) (turns : List Turn) (q : Program A) (r : Carried) → Follows driver n p s turns q r → Follows other n p (shows s) turns q (shows r)
-      follows_shown p s [] q r h = (h.0, ap shows h.1)
-      follows_shown p s (turn ∷ turns) q r h = (h.0, shows h.1, takes_shown p s turn h.0 h.1 h.2, follows_shown h.0 h.1 turns q r h.3)
+  takes_shown : (n : ℕ) (p : Program Names) (s : Carried) (turn : Turn) (q : Program Names) (r : Carried) → Fine p s → Takes driver.kind n p s turn q r → Takes other.kind n p (shows s) turn q (shows r)
+  takes_shown n p s (Said text) q r fine t = (t.0, ap shows t.1)
+  takes_shown n p s (Did e) q r fine t = let here : Fine (ask e.what t.0) s = subst (λ (x : Program Names). Fine x s) t.1 fine in (
+    t.0,
+    t.1,
+    t.2,
+    record {
+      is_done = subst (λ (a : Asking). IsDone other.kind n (keep s.maps) a (op_asked s.files e.what) e (shown s.told) (shown r.told)) (sym (h.asks e.what t.0 s here))
+          (done_shown n p s fine (asking_with s.maps s.files e.what) (op_asked s.files e.what) e s.told r.told t.3.is_done);
+      files = t.3.files;
+      maps = ap keep t.3.maps ∙ h.behind e.what t.0 s e.reply here;
+    },
+  )
 
-      played_shown : (p : Program A) (s : Carried) (text : List ℕ) (did : List OneDeed) (value : A) (r : Carried) → Played driver n p s text did value r → Played other n p (shows s) text did value (shows r)
-      played_shown p s text did value r h = record { turns = h.turns; follows = follows_shown p s h.turns (done value) r h.follows; text_is = h.text_is; did_is = h.did_is }
+  follows_shown : (n : ℕ) (p : Program Names) (s : Carried) (turns : List Turn) (q : Program Names) (r : Carried) → Fine p s → Follows driver.kind n p s turns q r → Follows other.kind n p (shows s) turns q (shows r)
+  follows_shown n p s [] q r fine f = (f.0, ap shows f.1)
+  follows_shown n p s (turn ∷ turns) q r fine f = (f.0, shows f.1, takes_shown n p s turn f.0 f.1 fine f.2, follows_shown n f.0 f.1 turns q r (h.goes n p s turn f.0 f.1 f.2 fine) f.3)
 
-    module _ (before left before_shown left_shown : ℕ → Option Told) (starts : (n : ℕ) → before_shown n ≡ shown (before n)) (stops : (n : ℕ) → left_shown n ≡ shown (left n)) (sections : List SaidSection) (history : List OneEntry) where
-      actors_shown : (n : ℕ) (texts : List (List ℕ)) → ActorsPlayed driver before left sections history n texts → ActorsPlayed other before_shown left_shown sections history n texts
-      actors_shown n [] h = tt
-      actors_shown n (text ∷ texts) h = (
-        record {
-          names = h.0.names;
-          behind = shows h.0.behind;
-          played = subst (λ t. Played other n (program_of sections n) (carried [] t) text (deeds_of core n history) h.0.names (shows h.0.behind)) (sym (starts n))
-              (played_shown n (program_of sections n) (carried [] (before n)) text (deeds_of core n history) h.0.names h.0.behind h.0.played);
-          left_is = ap shown h.0.left_is ∙ sym (stops n);
-        },
-        actors_shown (n + 1) texts h.1,
-      )
+  fine_behind : (n : ℕ) (p : Program Names) (s : Carried) (turns : List Turn) (q : Program Names) (r : Carried) → Fine p s → Follows driver.kind n p s turns q r → Fine q r
+  fine_behind n p s [] q r fine f = subst (λ (x : Program Names × Carried). Fine x.0 x.1) (λ i. (f.0 i, f.1 i)) fine
+  fine_behind n p s (turn ∷ turns) q r fine f = fine_behind n f.0 f.1 turns q r (h.goes n p s turn f.0 f.1 f.2 fine) f.3
 
-      all_shown : (texts : Texts) → AllPlayed driver before left sections history texts → AllPlayed other before_shown left_shown sections history texts
-      all_shown texts h = record {
-        legal = h.legal;
-        first = h.first;
-        middle = h.middle;
-        last = h.last;
-        is = h.is;
-        others_not_first = h.others_not_first;
-        zero_not_between = h.zero_not_between;
-        others_not_last = h.others_not_last;
-        names = h.names;
-        waiting = shows h.waiting;
-        setup = subst (λ t. Played other 0 (setup_of sections) (carried [] t) texts.setup (deeds_of core 0 h.first) h.names (shows h.waiting)) (sym (starts 0))
-            (played_shown 0 (setup_of sections) (carried [] (before 0)) texts.setup (deeds_of core 0 h.first) h.names h.waiting h.setup);
-        end = h.end;
-        behind = shows h.behind;
-        after = played_shown 0 (after_of sections h.names) h.waiting texts.last (deeds_from core (fold core (h.first ++ h.middle)) 0 h.last) h.end h.behind h.after;
-        left_is = ap shown h.left_is ∙ sym (stops 0);
-        actors = actors_shown 1 texts.actors h.actors;
-        as_many = h.as_many;
-        nobody_else = h.nobody_else;
-      }
+  abbrev played_shown : (n : ℕ) (p : Program Names) (s : Carried) (text : List ℕ) (did : List OneDeed) (value : Names) (r : Carried) → Fine p s → Played driver.kind n p s text did value r → Played other.kind n p (shows s) text did value (shows r)
+  played_shown n p s text did value r fine d = record { turns = d.turns; follows = follows_shown n p s d.turns (done value) r fine d.follows; text_is = d.text_is; did_is = d.did_is }
+
+  module _ (before left before_shown left_shown : ℕ → Option Told) (starts : (n : ℕ) → shown (before n) ≡ before_shown n) (stops : (n : ℕ) → left_shown n ≡ shown (left n)) (history : List OneEntry) where
+    -- the same from what a port tells there
+    abbrev played_from : (n : ℕ) (p : Program Names) (m : Maps) (k : Maps) (text : List ℕ) (did : List OneDeed) (value : Names) (r : Carried) → keep m ≡ k → Fine p (carried [] (before n) m) → Played driver.kind n p (carried [] (before n) m) text did value r
+        → Played other.kind n p (carried [] (before_shown n) k) text did value (shows r)
+    played_from n p m k text did value r kept fine d = record {
+      turns = d.turns;
+      follows = subst (λ (x : Option Told × Maps). Follows other.kind n p (carried [] x.0 x.1) d.turns (done value) (shows r)) (λ i. (starts n i, kept i)) (follows_shown n p (carried [] (before n) m) d.turns (done value) r fine d.follows);
+      text_is = d.text_is;
+      did_is = d.did_is;
+    }
+
+    actors_shown : (names : Names) (s : Carried) → Fine (done names) s → (n : ℕ) (texts : List (List ℕ)) → ActorsPlayed driver before left sections history s.maps n texts → ActorsPlayed other before_shown left_shown sections history (keep s.maps) n texts
+    actors_shown names s fine n [] a = tt
+    actors_shown names s fine n (text ∷ texts) a = (
+      record {
+        names = a.0.names;
+        behind = shows a.0.behind;
+        played = played_from n (program_of sections n) s.maps (keep s.maps) text (deeds_of core n history) a.0.names a.0.behind refl (h.actors names s fine n (before n)) a.0.played;
+        within = a.0.within;
+        left_is = ap shown a.0.left_is ∙ sym (stops n);
+      },
+      actors_shown names s fine (n + 1) texts a.1,
+    )
+
+    all_shown : (texts : Texts) → AllPlayed driver before left sections history texts → AllPlayed other before_shown left_shown sections history texts
+    all_shown texts a = let waiting : Fine (done a.names) a.waiting = fine_behind 0 (setup_of sections) (carried [] (before 0) (start_maps driver)) a.setup.turns (done a.names) a.waiting (h.setup (before 0)) a.setup.follows in record {
+      legal = a.legal;
+      first = a.first;
+      middle = a.middle;
+      last = a.last;
+      is = a.is;
+      others_not_first = a.others_not_first;
+      zero_not_between = a.zero_not_between;
+      others_not_last = a.others_not_last;
+      names = a.names;
+      waiting = shows a.waiting;
+      setup = played_from 0 (setup_of sections) (start_maps driver) (start_maps other) texts.setup (deeds_of core 0 a.first) a.names a.waiting h.starts (h.setup (before 0)) a.setup;
+      setup_within = a.setup_within;
+      end = a.end;
+      behind = shows a.behind;
+      after = played_shown 0 (after_of sections a.names) a.waiting texts.last (deeds_from core (fold core (a.first ++ a.middle)) 0 a.last) a.end a.behind (h.after a.names a.names a.waiting waiting) a.after;
+      after_within = a.after_within;
+      left_is = ap shown a.left_is ∙ sym (stops 0);
+      actors = actors_shown a.names a.waiting waiting 1 texts.actors a.actors;
+      as_many = a.as_many;
+      nobody_else = a.nobody_else;
+    }
 
 -- a call without a word of the port
 module _ (driver : DriverKind) where
@@ -127,31 +171,36 @@ module _ (driver : DriverKind) where
     deeds_are = h.deeds_are;
     inner_own = h.inner_own;
     may_make = untold_makes map h.asked_for e.own h.may_make;
-    room = h.room;
-    seen = h.seen;
-    gives = untold_gives map before h.asked_for h.inner h.room h.seen e.answer h.gives;
+    gives = untold_gives map before h.asked_for h.inner e.room e.seen e.answer h.gives;
     told_then = refl;
   }
 
-  made_untold : (n : ℕ) (op : Option Op) (e : Exchange) (before after : Option Told) (call : DeviceCall) → HasMade driver n call op e before after → HasMade (untold driver) n call op e None None
-  made_untold n op e before after call h = record {
+  same_map : (m : Maps) (call : DeviceCall) → map_of driver m call ≡ map_of (untold driver) m call
+  same_map m (Once call) = refl
+  same_map m (Removing removal) = refl
+  same_map m (Commanding c) = refl
+
+  made_untold : (m : Maps) (n : ℕ) (op : Option Op) (e : Exchange) (before after : Option Told) (call : DeviceCall) → HasMade driver n m call op e before after → HasMade (untold driver) n m call op e None None
+  made_untold m n op e before after call h = record {
+    mapped_is = h.mapped_is ∙ ap (λ (o : Option Map). is_some o) (same_map m call);
     makes = h.makes;
     few_own = h.few_own;
     may_own = h.may_own;
     reply_is = h.reply_is;
     bytes_are = h.bytes_are;
-    port = port_untold n (was_asked call (entries_in e.did)) (map_of call) op e before after h.port;
+    port = port_untold n (was_asked call (entries_in e.did)) (map_of (untold driver) m call) op e before after (subst (λ (o : Option Map). PortBy driver n (was_asked call (entries_in e.did)) o op e before after) (same_map m call) h.port);
   }
 
   -- and one over a driver that makes no entries of its own
-  made_plainly : (n : ℕ) (op : Option Op) (e : Exchange) (before after : Option Told) (call : DeviceCall) → HasMade driver n call op e before after → HasMade (as_plain driver) n call op e before after
-  made_plainly n op e before after call h = let u = unmapped driver n op e before after call h in record {
+  made_plainly : (m : Maps) → m.kept ≡ [] → (n : ℕ) (op : Option Op) (e : Exchange) (before after : Option Told) (call : DeviceCall) → HasMade driver n m call op e before after → HasMade (as_plain driver) n (no_maps 0) call op e before after
+  made_plainly m bare n op e before after call h = let u = unmapped driver n op e before after m bare call h in record {
+    mapped_is = h.mapped_is ∙ ap (λ (o : Option Map). is_some o) (unmapped_call driver m bare call ∙ sym (unmapped_call (as_plain driver) (no_maps 0) refl call));
     makes = h.makes;
     few_own = subst (λ (own : List OneEntry). length own ≤ 0) (sym u.own) (omega arith);
     may_own = h.may_own;
     reply_is = h.reply_is;
     bytes_are = h.bytes_are;
-    port = port_asked (as_plain driver) n op e before after call u.own u.makes u.port;
+    port = port_asked (as_plain driver) n op e before after (no_maps 0) refl call u.own u.makes u.port;
   }
 
 -- what a port tells after turns
@@ -221,21 +270,21 @@ module _ (n : ℕ) (answer : Option ℕ) (es : List OneEntry) where
       at (Some place) true h = subst (λ (l : List OneEntry). Few l) (sym h.0) (omega arith)
 
 module _ {A : Type 0} (driver : DriverKind) (n : ℕ) where
-  pub turns_tell : (p : Program A) (s : Carried) (turns : List Turn) (q : Program A) (r : Carried) (t : Told) → s.told ≡ Some t → Follows driver n p s turns q r
+  pub turns_tell : (p : Program A) (s : Carried) (turns : List Turn) (q : Program A) (r : Carried) (t : Told) → KeepsNone p s → s.told ≡ Some t → Follows driver n p s turns q r
       → TellsAfter t (tells_in (entries_in (did_by turns))) r.told
-  turns_tell p s [] q r t is h = nothing_told driver n t r.told (sym (ap (λ (c : Carried). c.told) h.1) ∙ is)
-  turns_tell p s (Said text ∷ turns) q r t is h = turns_tell h.0 h.1 turns q r t (ap (λ (c : Carried). c.told) h.2.1 ∙ is) h.3
-  turns_tell p s (Did e ∷ turns) q r t is h =
+  turns_tell p s [] q r t none is h = nothing_told driver n t r.told (sym (ap (λ (c : Carried). c.told) h.1) ∙ is)
+  turns_tell p s (Said text ∷ turns) q r t none is h = turns_tell h.0 h.1 turns q r t (keeps_on driver n p s (Said text) h.0 h.1 h.2 none) (ap (λ (c : Carried). c.told) h.2.1 ∙ is) h.3
+  turns_tell p s (Did e ∷ turns) q r t none is h =
       subst (λ l. TellsAfter t l r.told) (sym (ap (λ (l : List OneEntry). tells_in l) (entries_in_append e.did (did_by turns)) ∙ tells_append (entries_in e.did) (entries_in (did_by turns))))
-      (by (asking s.files e.what) h.2.3.is_done (λ u same. turns_tell h.0 h.1 turns q r u same h.3))
+      (by (asking_with s.maps s.files e.what) h.2.3.is_done (λ u same. turns_tell h.0 h.1 turns q r u (keeps_on driver n p s (Did e) h.0 h.1 h.2 none) same h.3))
     where
       rest : List (Option ℕ)
       rest = tells_in (entries_in (did_by turns))
 
-      alone : (call : DeviceCall) → HasMade driver n call (op_asked s.files e.what) e s.told h.1.told → Unmapped driver n (op_asked s.files e.what) e s.told h.1.told call
-      alone call d = unmapped driver n (op_asked s.files e.what) e s.told h.1.told call d
+      alone : (call : DeviceCall) → HasMade driver n s.maps call (op_asked s.files e.what) e s.told h.1.told → Unmapped driver n (op_asked s.files e.what) e s.told h.1.told call
+      alone call d = unmapped driver n (op_asked s.files e.what) e s.told h.1.told s.maps (none_kept p s none) call d
 
-      by : (a : Asking) → IsDone driver n a (op_asked s.files e.what) e s.told h.1.told → ((u : Told) → h.1.told ≡ Some u → TellsAfter u rest r.told) → TellsAfter t (tells_in (entries_in e.did) ++ rest) r.told
+      by : (a : Asking) → IsDone driver n s.maps a (op_asked s.files e.what) e s.told h.1.told → ((u : Told) → h.1.told ≡ Some u → TellsAfter u rest r.told) → TellsAfter t (tells_in (entries_in e.did) ++ rest) r.told
       by (Calls call) d on = port_on driver n (op_asked s.files e.what) (tells_in (entries_in e.did)) t s.told h.1.told r.told rest is (makes_few n e.answer (entries_in e.did) e.closed call (alone call d).makes) (alone call d).port on
       by (Plans nth) d on = subst (λ (l : List OneDeed). TellsAfter t (tells_in (entries_in l) ++ rest) r.told) (sym d.0.did)
           (let o = on (record { calls = t.calls; counted = t.counted; plan = planned_call t.counted nth; bits = t.bits; last = t.last }) (d.1 ∙ ap (with_plan nth) is) in record { told = o.told; left_is = o.left_is; calls = o.calls; last = o.last })
@@ -287,93 +336,163 @@ module _ (n : ℕ) (answer : Option ℕ) (es rest : List OneEntry) where
       at (Some place) true h = subst (λ (l : List OneEntry). Alone l) (sym h.0) refl
 
 module _ {A : Type 0} (driver : DriverKind) (n : ℕ) where
-  turns_alone : (p : Program A) (s : Carried) (turns : List Turn) (q : Program A) (r : Carried) → Follows driver n p s turns q r → (rest : List OneEntry)
+  turns_alone : (p : Program A) (s : Carried) (turns : List Turn) (q : Program A) (r : Carried) → KeepsNone p s → Follows driver n p s turns q r → (rest : List OneEntry)
       → outer_tells 0 (entries_in (did_by turns) ++ rest) ≡ tells_in (entries_in (did_by turns)) ++ outer_tells 0 rest
-  turns_alone p s [] q r h rest = refl
-  turns_alone p s (Said text ∷ turns) q r h rest = turns_alone h.0 h.1 turns q r h.3 rest
-  turns_alone p s (Did e ∷ turns) q r h rest =
+  turns_alone p s [] q r none h rest = refl
+  turns_alone p s (Said text ∷ turns) q r none h rest = turns_alone h.0 h.1 turns q r (keeps_on driver n p s (Said text) h.0 h.1 h.2 none) h.3 rest
+  turns_alone p s (Did e ∷ turns) q r none h rest =
       ap (λ (l : List OneEntry). outer_tells 0 (l ++ rest)) (entries_in_append e.did (did_by turns)) ∙ ap (λ (l : List OneEntry). outer_tells 0 l) (append_assoc (entries_in e.did) (entries_in (did_by turns)) rest)
-      ∙ by (asking s.files e.what) h.2.3.is_done
-      ∙ ap (λ (l : List (Option ℕ)). tells_in (entries_in e.did) ++ l) (turns_alone h.0 h.1 turns q r h.3 rest)
+      ∙ by (asking_with s.maps s.files e.what) h.2.3.is_done
+      ∙ ap (λ (l : List (Option ℕ)). tells_in (entries_in e.did) ++ l) (turns_alone h.0 h.1 turns q r (keeps_on driver n p s (Did e) h.0 h.1 h.2 none) h.3 rest)
       ∙ sym (append_assoc (tells_in (entries_in e.did)) (tells_in (entries_in (did_by turns))) (outer_tells 0 rest))
       ∙ ap (λ (l : List (Option ℕ)). l ++ outer_tells 0 rest) (sym (ap (λ (l : List OneEntry). tells_in l) (entries_in_append e.did (did_by turns)) ∙ tells_append (entries_in e.did) (entries_in (did_by turns))))
     where
       later : List OneEntry
       later = entries_in (did_by turns) ++ rest
 
-      by : (a : Asking) → IsDone driver n a (op_asked s.files e.what) e s.told h.1.told → outer_tells 0 (entries_in e.did ++ later) ≡ tells_in (entries_in e.did) ++ outer_tells 0 later
-      by (Calls call) d = makes_alone n e.answer (entries_in e.did) later e.closed call (unmapped driver n (op_asked s.files e.what) e s.told h.1.told call d).makes
+      by : (a : Asking) → IsDone driver n s.maps a (op_asked s.files e.what) e s.told h.1.told → outer_tells 0 (entries_in e.did ++ later) ≡ tells_in (entries_in e.did) ++ outer_tells 0 later
+      by (Calls call) d = makes_alone n e.answer (entries_in e.did) later e.closed call (unmapped driver n (op_asked s.files e.what) e s.told h.1.told s.maps (none_kept p s none) call d).makes
       by (Plans nth) d = subst (λ (l : List OneDeed). outer_tells 0 (entries_in l ++ later) ≡ tells_in (entries_in l) ++ outer_tells 0 later) (sym d.0.did) refl
       by (Accepts bits) d = subst (λ (l : List OneDeed). outer_tells 0 (entries_in l ++ later) ≡ tells_in (entries_in l) ++ outer_tells 0 later) (sym d.0.did) refl
       by (Refuses errno) d = subst (λ (l : List OneDeed). outer_tells 0 (entries_in l ++ later) ≡ tells_in (entries_in l) ++ outer_tells 0 later) (sym d.0.did) refl
 
+-- a driver of whose port no word is known
+untold_shows : (driver : DriverOver) (sections : List SaidSection) → Shows driver (over driver.maps_left (untold driver.kind)) sections (λ told. None) (λ m. m) (λ p s. Unit {0})
+untold_shows driver sections = record {
+  plans = λ nth told. refl;
+  accepts = λ bits told. refl;
+  goes = λ n p s turn q r takes fine. tt;
+  asks = λ what rest s fine. refl;
+  behind = λ what rest s reply fine. refl;
+  makes = λ p s fine n op e before after call h. made_untold driver.kind s.maps n op e before after call h;
+  starts = refl;
+  setup = λ told. tt;
+  actors = λ names s fine n told. tt;
+  after = λ last names s fine. tt;
+}
+
+-- one that makes no entries of its own, over ports that take no maps
+abbrev PlainIn : List SaidSection → Program Names → Carried → Type 0
+PlainIn sections p s = (s.maps ≡ no_maps 0) ⊎ ((has_aggregate sections ≡ false) × AsksNoChips p × (s.maps.kept ≡ []))
+
+plain_kept : (sections : List SaidSection) (p : Program Names) (s : Carried) → PlainIn sections p s → s.maps.kept ≡ []
+plain_kept sections p s (inl none) = ap (λ (m : Maps). m.kept) none
+plain_kept sections p s (inr none) = none.2
+
+plain_goes : (driver : DriverKind) (sections : List SaidSection) (n : ℕ) (p : Program Names) (s : Carried) (turn : Turn) (q : Program Names) (r : Carried) → Takes driver n p s turn q r → PlainIn sections p s → PlainIn sections q r
+plain_goes driver sections n p s turn q r takes (inl none) = inl (zero_turn driver n p s turn q r takes none)
+plain_goes driver sections n p s turn q r takes (inr none) = let on = turn_stays driver n p s turn q r none.1 takes in inr (none.0, on.0, ap (λ (m : Maps). m.kept) on.1 ∙ none.2)
+
+plain_asking : (what : Do) → IsPlain what → (m k : Maps) (files : List OpenFile) → asking_with m files what ≡ asking_with k files what
+plain_asking (Aggregate label slots count) by_files m k files = absurd by_files
+plain_asking what by_files m k files = refl
+
+plain_asks : (sections : List SaidSection) (what : Do) (rest : Got → Program Names) (s : Carried) → PlainIn sections (ask what rest) s → asking_with (no_maps 0) s.files what ≡ asking_with s.maps s.files what
+plain_asks sections what rest s (inl none) = ap (λ (m : Maps). asking_with m s.files what) (sym none)
+plain_asks sections what rest s (inr none) = plain_asking what none.1.0 (no_maps 0) s.maps s.files
+
+plain_starts : (driver : DriverOver) (sections : List SaidSection) → KeepsNoMaps driver sections → (told : Option Told) → PlainIn sections (setup_of sections) (carried [] told (start_maps driver))
+plain_starts driver sections (inl none) told = inl (ap no_maps none)
+plain_starts driver sections (inr without) told = inr (without, (asks_none sections without).setup, refl)
+
+plain_then : (sections : List SaidSection) (p q : Program Names) (s r : Carried) → (has_aggregate sections ≡ false → AsksNoChips q) → r.maps ≡ s.maps → PlainIn sections p s → PlainIn sections q r
+plain_then sections p q s r asks same (inl none) = inl (same ∙ none)
+plain_then sections p q s r asks same (inr none) = inr (none.0, asks none.0, ap (λ (m : Maps). m.kept) same ∙ none.2)
+
+plainly_shows : (driver : DriverOver) (sections : List SaidSection) → KeepsNoMaps driver sections → Shows driver (over 0 (as_plain driver.kind)) sections (λ told. told) (λ m. no_maps 0) (PlainIn sections)
+plainly_shows driver sections none = record {
+  plans = λ nth told. refl;
+  accepts = λ bits told. refl;
+  goes = λ n p s turn q r takes fine. plain_goes driver.kind sections n p s turn q r takes fine;
+  asks = λ what rest s fine. plain_asks sections what rest s fine;
+  behind = λ what rest s reply fine. sym (no_maps_behind what reply s.files);
+  makes = λ p s fine n op e before after call h. made_plainly driver.kind s.maps (plain_kept sections p s fine) n op e before after call h;
+  starts = refl;
+  setup = plain_starts driver sections none;
+  actors = λ names s fine n told. plain_then sections (done names) (program_of sections n) s (carried [] told s.maps) (λ without. (asks_none sections without).actors n) refl fine;
+  after = λ last names s fine. plain_then sections (done last) (after_of sections names) s s (λ without. (asks_none sections without).after names) refl fine;
+}
+
 -- of all actors
-module _ (driver : DriverKind) (before left : ℕ → Option Told) (sections : List SaidSection) (history : List OneEntry) where
+module _ (driver : DriverOver) (before left : ℕ → Option Told) (sections : List SaidSection) (history : List OneEntry) where
   -- whatever the ports told, the history and the texts are those of the talks
   pub many_played : (texts : Texts) → AllPlayed driver before left sections history texts → Many driver sections history texts
-  many_played texts h = all_shown driver (untold driver) (λ told. None) (λ nth told. refl) (λ bits told. refl) (made_untold driver) before left silent silent (λ n. refl) (λ n. refl) sections history texts h
+  many_played texts h = all_shown driver (over driver.maps_left (untold driver.kind)) sections (λ told. None) (λ m. m) (λ p s. Unit {0}) (untold_shows driver sections) before left silent silent (λ n. refl) (λ n. refl) history texts h
 
-  -- without a map it is one that makes no entries of its own
-  pub played_plainly : (texts : Texts) → AllPlayed driver before left sections history texts → AllPlayed (as_plain driver) before left sections history texts
-  played_plainly texts h = all_shown driver (as_plain driver) (λ told. told) (λ nth told. refl) (λ bits told. refl) (made_plainly driver) before left before left (λ n. refl) (λ n. refl) sections history texts h
+  -- where no port keeps a map it is one that makes no entries of its own
+  pub played_plainly : KeepsNoMaps driver sections → (texts : Texts) → AllPlayed driver before left sections history texts → AllPlayed (over 0 (as_plain driver.kind)) before left sections history texts
+  played_plainly none texts h = all_shown driver (over 0 (as_plain driver.kind)) sections (λ told. told) (λ m. no_maps 0) (PlainIn sections) (plainly_shows driver sections none) before left before left (λ n. refl) (λ n. refl) history texts h
 
-  -- the actor of a number
-  pub actor_at : (k : ℕ) (texts : List (List ℕ)) → ActorsPlayed driver before left sections history k texts → (n : ℕ) → k ≤ n → n < k + length texts → (text : List ℕ) × ActorPlayed driver before left sections history n text
-  actor_at k [] h n low high = absurd (omega arith)
-  actor_at k (text ∷ texts) h n low high = dite (ℕ_discrete k n)
-      (λ same. (text, subst (λ j. ActorPlayed driver before left sections history j text) same h.0))
-      (λ other. let ne : (k ≡ n → ⊥) = other in actor_at (k + 1) texts h.1 n (above k n low ne) (omega arith))
-    where
-      above : (k n : ℕ) → k ≤ n → (k ≡ n → ⊥) → k + 1 ≤ n
-      above k n low ne = omega arith
-
-  did_tells : (n : ℕ) (program : Program Names) (s r : Carried) (text : List ℕ) (did : List OneDeed) (names : Names) (es : List OneEntry) (t : Told) (last : Option Told) → s.told ≡ Some t → Played driver n program s text did names r
+  did_tells : (n : ℕ) (program : Program Names) (s r : Carried) (text : List ℕ) (did : List OneDeed) (names : Names) (es : List OneEntry) (t : Told) (last : Option Told) → KeepsNone program s → s.told ≡ Some t → Played driver.kind n program s text did names r
       → entries_in did ≡ es → r.told ≡ last → TellsAfter t (tells_in es) last
-  did_tells n program s r text did names es t last is h entries left_is =
+  did_tells n program s r text did names es t last none is h entries left_is =
       subst (λ (x : List OneEntry × Option Told). TellsAfter t (tells_in x.0) x.1) (λ i. ((ap (λ (l : List OneDeed). entries_in l) (sym h.did_is) ∙ entries) i, left_is i))
-      (turns_tell driver n program s h.turns (done names) r t is h.follows)
+      (turns_tell driver.kind n program s h.turns (done names) r t none is h.follows)
 
-  played_alone : (n : ℕ) (program : Program Names) (s r : Carried) (text : List ℕ) (did : List OneDeed) (names : Names) (es : List OneEntry) → Played driver n program s text did names r → entries_in did ≡ es
+  played_alone : (n : ℕ) (program : Program Names) (s r : Carried) (text : List ℕ) (did : List OneDeed) (names : Names) (es : List OneEntry) → KeepsNone program s → Played driver.kind n program s text did names r → entries_in did ≡ es
       → (rest : List OneEntry) → outer_tells 0 (es ++ rest) ≡ tells_in es ++ outer_tells 0 rest
-  played_alone n program s r text did names es h entries rest =
+  played_alone n program s r text did names es none h entries rest =
       subst (λ (l : List OneEntry). outer_tells 0 (l ++ rest) ≡ tells_in l ++ outer_tells 0 rest) (ap (λ (l : List OneDeed). entries_in l) (sym h.did_is) ∙ entries)
-      (turns_alone driver n program s h.turns (done names) r h.follows rest)
+      (turns_alone driver.kind n program s h.turns (done names) r none h.follows rest)
 
-  -- each port tells in the end what its actor's tells in the history were
-  pub ports_told : (texts : Texts) → AllPlayed driver before left sections history texts → PortsTell before left sections history
-  ports_told texts h zero t low told =
+  -- each port tells in the end what its actor's tells in the history were, where none keeps a map
+  module _ (bare : KeepsNoMaps driver sections) (texts : Texts) (h : AllPlayed driver before left sections history texts) where
+    bare_waiting : Bare driver sections h.waiting.maps
+    bare_waiting = bare_behind driver sections 0 _ _ h.setup.turns _ h.waiting h.setup.follows (λ without. (asks_none sections without).setup) (bare_first driver sections bare)
+
+    none_in_setup : KeepsNone (setup_of sections) (carried [] (before 0) (start_maps driver))
+    none_in_setup = bare_keeps driver sections (setup_of sections) [] (before 0) (start_maps driver) (λ without. (asks_none sections without).setup) (bare_first driver sections bare)
+
+    none_in_after : KeepsNone (after_of sections h.names) h.waiting
+    none_in_after = bare_keeps driver sections (after_of sections h.names) h.waiting.files h.waiting.told h.waiting.maps (λ without. (asks_none sections without).after h.names) bare_waiting
+
+    none_in_section : (n : ℕ) → KeepsNone (program_of sections n) (carried [] (before n) h.waiting.maps)
+    none_in_section n = bare_keeps driver sections (program_of sections n) [] (before n) h.waiting.maps (λ without. (asks_none sections without).actors n) bare_waiting
+
+  pub ports_told : KeepsNoMaps driver sections → (texts : Texts) → AllPlayed driver before left sections history texts → PortsTell before left sections history
+  ports_told bare texts h zero t low told =
       let first : List OneEntry = entries_of 0 h.first in let last : List OneEntry = entries_of 0 h.last in
       let first_did = deeds_entries core core.opening 0 h.first in let last_did = deeds_entries core (fold core (h.first ++ h.middle)) 0 h.last in
       let whole : entries_of 0 history ≡ first ++ last =
       ap (λ (l : List OneEntry). entries_of 0 l) h.is ∙ entries_append 0 (h.first ++ h.middle) h.last
       ∙ ap (λ (l : List OneEntry). l ++ last) (entries_append 0 h.first h.middle ∙ ap (λ (l : List OneEntry). first ++ l) h.zero_not_between ∙ append-nil first) in
       let alone : outer_tells 0 (first ++ last) ≡ tells_in first ++ tells_in last =
-      played_alone 0 (setup_of sections) (carried [] (before 0)) h.waiting texts.setup (deeds_of core 0 h.first) h.names first h.setup first_did last
+      played_alone 0 (setup_of sections) (carried [] (before 0) (start_maps driver)) h.waiting texts.setup (deeds_of core 0 h.first) h.names first (none_in_setup bare texts h) h.setup first_did last
       ∙ ap (λ (l : List (Option ℕ)). tells_in first ++ l) (ap (λ (l : List OneEntry). outer_tells 0 l) (sym (append-nil last))
-      ∙ played_alone 0 (after_of sections h.names) h.waiting h.behind texts.last (deeds_from core (fold core (h.first ++ h.middle)) 0 h.last) h.end last h.after last_did [] ∙ append-nil (tells_in last)) in
+      ∙ played_alone 0 (after_of sections h.names) h.waiting h.behind texts.last (deeds_from core (fold core (h.first ++ h.middle)) 0 h.last) h.end last (none_in_after bare texts h) h.after last_did [] ∙ append-nil (tells_in last)) in
       subst (λ l. TellsAfter t l (left 0)) (sym (ap (λ (l : List OneEntry). outer_tells 0 l) whole ∙ alone))
-      (later_told driver 0 (tells_in first) (tells_in last) t h.waiting.told (left 0)
-      (did_tells 0 (setup_of sections) (carried [] (before 0)) h.waiting texts.setup (deeds_of core 0 h.first) h.names first t h.waiting.told told h.setup first_did refl)
-      (λ u same. did_tells 0 (after_of sections h.names) h.waiting h.behind texts.last (deeds_from core (fold core (h.first ++ h.middle)) 0 h.last) h.end last u (left 0) same h.after
+      (later_told driver.kind 0 (tells_in first) (tells_in last) t h.waiting.told (left 0)
+      (did_tells 0 (setup_of sections) (carried [] (before 0) (start_maps driver)) h.waiting texts.setup (deeds_of core 0 h.first) h.names first t h.waiting.told (none_in_setup bare texts h) told h.setup first_did refl)
+      (λ u same. did_tells 0 (after_of sections h.names) h.waiting h.behind texts.last (deeds_from core (fold core (h.first ++ h.middle)) 0 h.last) h.end last u (left 0) (none_in_after bare texts h) same h.after
       last_did h.left_is))
-  ports_told texts h (suc k) t low told = let n : ℕ = suc k in let many = h.as_many in let a = actor_at 1 texts.actors h.actors n (omega arith) (omega arith) in
+  ports_told bare texts h (suc k) t low told = let n : ℕ = suc k in let many = h.as_many in let a = actor_at driver before left sections history (session_cost sections) h.waiting.maps 1 texts.actors h.actors n (omega arith) (omega arith) in
       let es : List OneEntry = entries_of n history in
       let alone : outer_tells 0 es ≡ tells_in es = ap (λ (l : List OneEntry). outer_tells 0 l) (sym (append-nil es))
-      ∙ played_alone n (program_of sections n) (carried [] (before n)) a.1.behind a.0 (deeds_of core n history) a.1.names es a.1.played (deeds_entries core core.opening n history) [] ∙ append-nil (tells_in es) in
+      ∙ played_alone n (program_of sections n) (carried [] (before n) h.waiting.maps) a.1.behind a.0 (deeds_of core n history) a.1.names es (none_in_section bare texts h n) a.1.played (deeds_entries core core.opening n history) []
+      ∙ append-nil (tells_in es) in
       subst (λ l. TellsAfter t l (left n)) (sym alone)
-      (did_tells n (program_of sections n) (carried [] (before n)) a.1.behind a.0 (deeds_of core n history) a.1.names es t (left n) told a.1.played (deeds_entries core core.opening n history) a.1.left_is)
+      (did_tells n (program_of sections n) (carried [] (before n) h.waiting.maps) a.1.behind a.0 (deeds_of core n history) a.1.names es t (left n) (none_in_section bare texts h n) told a.1.played (deeds_entries core core.opening n history) a.1.left_is)
 
   module _ (other : ℕ → Option Told) where
-    actors_of_other : (n : ℕ) (texts : List (List ℕ)) → ((k : ℕ) → k < n + length texts → before k ≡ other k) → ActorsPlayed driver before left sections history n texts → ActorsPlayed driver other left sections history n texts
-    actors_of_other n [] same h = tt
-    actors_of_other n (text ∷ texts) same h = (
+    abbrev played_other : (n : ℕ) (p : Program Names) (m : Maps) (text : List ℕ) (did : List OneDeed) (names : Names) (r : Carried) → before n ≡ other n → Played driver.kind n p (carried [] (before n) m) text did names r → Played driver.kind n p (carried [] (other n) m) text did names r
+    played_other n p m text did names r same h = record {
+      turns = h.turns;
+      follows = subst (λ t. Follows driver.kind n p (carried [] t m) h.turns (done names) r) same h.follows;
+      text_is = h.text_is;
+      did_is = h.did_is;
+    }
+
+    actors_of_other : (m : Maps) (n : ℕ) (texts : List (List ℕ)) → ((k : ℕ) → k < n + length texts → before k ≡ other k) → ActorsPlayed driver before left sections history m n texts → ActorsPlayed driver other left sections history m n texts
+    actors_of_other m n [] same h = tt
+    actors_of_other m n (text ∷ texts) same h = (
       record {
         names = h.0.names;
         behind = h.0.behind;
-        played = subst (λ t. Played driver n (program_of sections n) (carried [] t) text (deeds_of core n history) h.0.names h.0.behind) (same n (omega arith)) h.0.played;
+        played = played_other n (program_of sections n) m text (deeds_of core n history) h.0.names h.0.behind (same n (omega arith)) h.0.played;
+        within = h.0.within;
         left_is = h.0.left_is;
       },
-      actors_of_other (n + 1) texts (λ k less. same k (omega arith)) h.1,
+      actors_of_other m (n + 1) texts (λ k less. same k (omega arith)) h.1,
     )
 
     -- over ports that told the same
@@ -389,17 +508,22 @@ module _ (driver : DriverKind) (before left : ℕ → Option Told) (sections : L
       others_not_last = h.others_not_last;
       names = h.names;
       waiting = h.waiting;
-      setup = subst (λ t. Played driver 0 (setup_of sections) (carried [] t) texts.setup (deeds_of core 0 h.first) h.names h.waiting) (same 0 (omega arith)) h.setup;
+      setup = played_other 0 (setup_of sections) (start_maps driver) texts.setup (deeds_of core 0 h.first) h.names h.waiting (same 0 (omega arith)) h.setup;
+      setup_within = h.setup_within;
       end = h.end;
       behind = h.behind;
       after = h.after;
+      after_within = h.after_within;
       left_is = h.left_is;
-      actors = actors_of_other 1 texts.actors (λ k less. same k (omega arith)) h.actors;
+      actors = actors_of_other h.waiting.maps 1 texts.actors (λ k less. same k (omega arith)) h.actors;
       as_many = h.as_many;
       nobody_else = h.nobody_else;
     }
 
-pub planned_played : (driver : DriverKind) (before left : ℕ → Option Told) (sections : List SaidSection) (history : List OneEntry) (texts : Texts) → driver.is_planned ≡ true → ((k : ℕ) → k ≤ length (actor_sections sections) → before k ≡ Some new_port)
+pub planned_played : (driver : DriverOver) (before left : ℕ → Option Told) (sections : List SaidSection) (history : List OneEntry) (texts : Texts) → driver.kind.is_planned ≡ true → ((k : ℕ) → k ≤ length (actor_sections sections) → before k ≡ Some new_port)
     → AllPlayed driver before left sections history texts → PlannedTells driver sections history texts
-planned_played driver before left sections history texts is new h =
-    (left, all_of_other (planning driver) before left sections history all_new texts new (subst (λ (b : Bool). AllPlayed (record driver { is_planned = b }) before left sections history texts) is h))
+planned_played driver before left sections history texts is new h = (
+  left,
+  all_of_other (over driver.maps_left (planning driver.kind)) before left sections history all_new texts new
+      (subst (λ (b : Bool). AllPlayed (over driver.maps_left (record driver.kind { is_planned = b })) before left sections history texts) is h),
+)

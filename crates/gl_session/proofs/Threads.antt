@@ -23,7 +23,8 @@ use Rattle.gl_chip.specs.Values.{ActorValue, IsActorOf, OneView}
 use Rattle.gl_core.specs.Device.{OneDeed, core}
 use Rattle.gl_session.specs.Performed.{StoppedFull}
 use Rattle.gl_check.specs.Drivers.{DriverKind}
-use Rattle.gl_check.specs.Turns.{Follows, carried, did_by}
+use Rattle.gl_check.specs.Joining.{Maps}
+use Rattle.gl_check.specs.Turns.{AreSeen, Follows, carried, did_by}
 use Rattle.gl_session.specs.Workers.{AreDone, AreFresh, AreKept, CameOut, HasJoined, HasSplit, HasWorked, IsFresh, IsKept, PlaysWhole, WorkDone, there_at, told_at}
 use Rattle.gl_session.proofs.PortPlaces.{get_other, get_set, not_there, there_got, there_same, told_got, told_same}
 
@@ -64,10 +65,10 @@ module _ {P : Type 0} (told : P → Option Told) (start : ℕ → Option Told) (
   fresh_for before w v k n a is room seen number f =
       record { of = f.of; number = f.number ∙ number; room_is = f.room_is ∙ room; seen_is = f.seen_is ∙ seen; nothing = f.nothing; none_joined = f.none_joined; own = f.own; tells = f.tells ∙ is }
 
-  module _ (driver : DriverKind) (programs : ℕ → Program Names) where
+  module _ (driver : DriverKind) (m : Maps) (programs : ℕ → Program Names) where
     -- what was done over a port that told this is done over the port of its number
     worked_for : (v : OneView) (n : ℕ) (a b : ActorValue P) (text : Result (List ℕ) Errno) → IsFresh told start gate v n a
-        → HasWorked told (λ _. told a.port) gate driver programs a.pass.view a.pass.view.number b text → HasWorked told start gate driver programs v n b text
+        → HasWorked told (λ _. told a.port) gate driver m programs a.pass.view a.pass.view.number b text → HasWorked told start gate driver m programs v n b text
     worked_for v n a b text fresh h = record {
       of = h.of;
       number = h.number ∙ fresh.number;
@@ -75,29 +76,29 @@ module _ {P : Type 0} (told : P → Option Told) (start : ℕ → Option Told) (
       none_joined = h.none_joined;
       nothing_before = (λ i. entries_of (sym fresh.number i) (sym fresh.seen_is i)) ∙ h.nothing_before;
       begins = subst (λ l. StartsWith b.pass.view.seen l) fresh.seen_is h.begins;
-      came = subst (λ (x : ℕ × ℕ × Option Told). CameOut driver x.0 (programs x.0) x.2 b.pass.view.seen x.1 text (told b.port)) (λ i. (fresh.number i, fresh.room_is i, fresh.tells i)) h.came;
+      came = subst (λ (x : ℕ × ℕ × Option Told). CameOut driver m x.0 (programs x.0) x.2 b.pass.view.seen x.1 text (told b.port)) (λ i. (fresh.number i, fresh.room_is i, fresh.tells i)) h.came;
     }
 
     pub done_as : (v : OneView) (n : ℕ) (a : ActorValue P) (d : ActorValue P × Result (List ℕ) Errno) → IsFresh told start gate v n a
-        → WorkDone told (λ _. told a.port) gate driver programs a.pass.view a.pass.view.number d → WorkDone told start gate driver programs v n d
+        → WorkDone told (λ _. told a.port) gate driver m programs a.pass.view a.pass.view.number d → WorkDone told start gate driver m programs v n d
     done_as v n a d fresh h = ⊎_elim (λ wanted. inl wanted) (λ worked. inr (worked_for v n a d.0 d.1 fresh worked)) h
 
     pub done_last : (v : OneView) (n : ℕ) (ds : List (ActorValue P × Result (List ℕ) Errno)) (d : ActorValue P × Result (List ℕ) Errno)
-        → AreDone told start gate driver programs v n (ds ++ d ∷ []) → AreDone told start gate driver programs v n ds × WorkDone told start gate driver programs v (n + length ds) d
-    done_last v n [] d h = let e : n ≡ n + 0 = omega arith in (tt, subst (λ k. WorkDone told start gate driver programs v k d) e h.0)
-    done_last v n (x ∷ ds) d h = let e : (n + 1) + length ds ≡ n + length (x ∷ ds) = omega arith in let r = done_last v (n + 1) ds d h.1 in ((h.0, r.0), subst (λ k. WorkDone told start gate driver programs v k d) e r.1)
+        → AreDone told start gate driver m programs v n (ds ++ d ∷ []) → AreDone told start gate driver m programs v n ds × WorkDone told start gate driver m programs v (n + length ds) d
+    done_last v n [] d h = let e : n ≡ n + 0 = omega arith in (tt, subst (λ k. WorkDone told start gate driver m programs v k d) e h.0)
+    done_last v n (x ∷ ds) d h = let e : (n + 1) + length ds ≡ n + length (x ∷ ds) = omega arith in let r = done_last v (n + 1) ds d h.1 in ((h.0, r.0), subst (λ k. WorkDone told start gate driver m programs v k d) e r.1)
 
     pub done_all : (v : OneView) (n : ℕ) (ds : List (ActorValue P × Result (List ℕ) Errno))
-        → ((i : ℕ) (d : ActorValue P × Result (List ℕ) Errno) → i < length ds → WorkDone told start gate driver programs v (n + i) (get_or ds i d)) → AreDone told start gate driver programs v n ds
+        → ((i : ℕ) (d : ActorValue P × Result (List ℕ) Errno) → i < length ds → WorkDone told start gate driver m programs v (n + i) (get_or ds i d)) → AreDone told start gate driver m programs v n ds
     done_all v n [] h = tt
     done_all v n (d ∷ ds) h = let z : n + 0 ≡ n = omega arith in (
-      subst (λ k. WorkDone told start gate driver programs v k d) z (h 0 d (omega arith)),
-      done_all v (n + 1) ds (λ i e l. let s : n + suc i ≡ (n + 1) + i = omega arith in subst (λ k. WorkDone told start gate driver programs v k (get_or ds i e)) s (h (suc i) e (omega arith))),
+      subst (λ k. WorkDone told start gate driver m programs v k d) z (h 0 d (omega arith)),
+      done_all v (n + 1) ds (λ i e l. let s : n + suc i ≡ (n + 1) + i = omega arith in subst (λ k. WorkDone told start gate driver m programs v k (get_or ds i e)) s (h (suc i) e (omega arith))),
     )
 
     -- what a fresh actor did, however far it came
     has_worked : (v : OneView) (n : ℕ) (a b : ActorValue P) (text : Result (List ℕ) Errno) (did : List OneDeed) → IsFresh told start gate v n a → IsActorOf gate b → Grew core a.pass.view did b.pass.view
-        → (deeds_of core n b.pass.view.seen ≡ did → CameOut driver n (programs n) (start n) b.pass.view.seen v.room text (told b.port)) → HasWorked told start gate driver programs v n b text
+        → (deeds_of core n b.pass.view.seen ≡ did → CameOut driver m n (programs n) (start n) b.pass.view.seen v.room text (told b.port)) → HasWorked told start gate driver m programs v n b text
     has_worked v n a b text did fresh of grew came =
         let nothing_before : entries_of n v.seen ≡ [] = (λ i. entries_of (sym fresh.number i) (sym fresh.seen_is i)) ∙ (fresh.own ∙ fresh.nothing) in
         let none : deeds_of core n a.pass.view.seen ≡ [] = deeds_none core core.opening n a.pass.view.seen (ap (λ l. entries_of n l) fresh.seen_is ∙ nothing_before) in
@@ -114,19 +115,21 @@ module _ {P : Type 0} (told : P → Option Told) (start : ℕ → Option Told) (
 
     -- it carried a whole program out, or up to where the history was full
     pub work_done : (v : OneView) (n : ℕ) (a b : ActorValue P) (program : Program Names) (text : Result (List ℕ) Errno) → IsFresh told start gate v n a → IsActorOf gate b → program ≡ programs n
-        → IfOk text (λ t. PlaysWhole driver program a.pass.view (told a.port) t b.pass.view (told b.port))
-        → IfErr text (λ e. (e ≡ NoMemory) ⊎ ((e ≡ Full) × StoppedFull driver program a.pass.view (carried [] (told a.port)) b.pass.view))
-        → WorkDone told start gate driver programs v n (b, text)
+        → IfOk text (λ t. PlaysWhole driver program m a.pass.view (told a.port) t b.pass.view (told b.port))
+        → IfErr text (λ e. (e ≡ NoMemory) ⊎ ((e ≡ Full) × StoppedFull driver program a.pass.view (carried [] (told a.port) m) b.pass.view))
+        → WorkDone told start gate driver m programs v n (b, text)
     work_done v n a b program (Ok text) fresh of is whole stopped = inr (has_worked v n a b (Ok text) (did_by whole.plays.turns) fresh of whole.plays.grew (λ mine. record {
       names = whole.names;
       files = whole.files;
+      maps_then = whole.maps_then;
       played = record {
         turns = whole.plays.turns;
-        follows = subst (λ (x : ℕ × Program Names × Option Told). Follows driver x.0 x.1 (carried [] x.2) whole.plays.turns (done whole.names) (carried whole.files (told b.port)))
+        follows = subst (λ (x : ℕ × Program Names × Option Told). Follows driver x.0 x.1 (carried [] x.2 m) whole.plays.turns (done whole.names) (carried whole.files (told b.port) whole.maps_then))
             (λ i. (fresh.number i, is i, fresh.tells i)) whole.plays.follows;
         text_is = whole.plays.text_is;
         did_is = mine;
       };
+      seen = subst (λ room. AreSeen room (length b.pass.view.seen) whole.plays.turns) fresh.room_is whole.plays.seen;
     }))
     work_done v n a b program (Err errno) fresh of is whole stopped = ⊎_elim (λ wanted. inl (ap Err wanted))
         (λ full. let s = full.1 in inr (has_worked v n a b (Err errno) (did_by s.turns ++ []) fresh of (grows_on core a.pass.view s.view b.pass.view (did_by s.turns) [] s.grew s.full.1.grew) (λ mine. record {
@@ -134,7 +137,7 @@ module _ {P : Type 0} (told : P → Option Told) (start : ℕ → Option Told) (
           what = s.what;
           later = s.rest;
           behind = s.then;
-          follows = subst (λ (x : ℕ × Program Names × Option Told). Follows driver x.0 x.1 (carried [] x.2) s.turns (ask s.what s.rest) s.then) (λ i. (fresh.number i, is i, fresh.tells i)) s.follows;
+          follows = subst (λ (x : ℕ × Program Names × Option Told). Follows driver x.0 x.1 (carried [] x.2 m) s.turns (ask s.what s.rest) s.then) (λ i. (fresh.number i, is i, fresh.tells i)) s.follows;
           did = mine ∙ append-nil (did_by s.turns);
           calls = s.full.0;
           full = subst (λ room. room ≤ length b.pass.view.seen) (s.grew.room ∙ fresh.room_is) s.full.1.full;
@@ -142,9 +145,9 @@ module _ {P : Type 0} (told : P → Option Told) (start : ℕ → Option Told) (
         stopped
 
 -- what was kept of others stays, as the first actor takes one more in, and as ports of lower numbers are put back
-module _ (driver : DriverKind) (programs : ℕ → Program Names) (start : ℕ → Option Told) (fork : OneView) where
+module _ (driver : DriverKind) (m : Maps) (programs : ℕ → Program Names) (start : ℕ → Option Told) (fork : OneView) where
   pub kept_on : (left later : ℕ → Option Told) (v w u : OneView) → u ≡ taking_in v w → StartsWith u.seen v.seen → (n : ℕ) (texts : List (Result (List ℕ) Errno)) → ((k : ℕ) → n ≤ k → left k ≡ later k)
-      → AreKept driver programs start left fork v n texts → AreKept driver programs start later fork u n texts
+      → AreKept driver m programs start left fork v n texts → AreKept driver m programs start later fork u n texts
   kept_on left later v w u is begins n [] same h = tt
   kept_on left later v w u is begins n (t ∷ ts) same h = let k = h.0 in (
     record {
@@ -155,13 +158,13 @@ module _ (driver : DriverKind) (programs : ℕ → Program Names) (start : ℕ �
       begins = begins_further u.seen v.seen k.saw begins k.begins;
       own = k.own;
       nothing_before = k.nothing_before;
-      came = subst (λ x. CameOut driver n (programs n) (start n) k.saw fork.room t x) (same n (omega arith)) k.came;
+      came = subst (λ x. CameOut driver m n (programs n) (start n) k.saw fork.room t x) (same n (omega arith)) k.came;
     },
     kept_on left later v w u is begins (n + 1) ts (λ j more. same j (omega arith)) h.1,
   )
 
   pub kept_new : {P : Type 0} (told : P → Option Told) (left : ℕ → Option Told) (gate : GateValue) (v u : OneView) (a : ActorValue P) (n : ℕ) (t : Result (List ℕ) Errno) → u ≡ taking_in v a.pass.view → StartsWith u.seen a.pass.view.seen
-      → told a.port ≡ left n → HasWorked told start gate driver programs fork n a t → IsKept driver programs start left fork u n t
+      → told a.port ≡ left n → HasWorked told start gate driver m programs fork n a t → IsKept driver m programs start left fork u n t
   kept_new told left gate v u a n t is begins tells h = record {
     saw = a.pass.view.seen;
     place = length v.joined;
@@ -170,7 +173,7 @@ module _ (driver : DriverKind) (programs : ℕ → Program Names) (start : ℕ �
     begins = begins;
     own = ap (λ k. entries_of k a.pass.view.seen) (sym h.number) ∙ h.own;
     nothing_before = h.nothing_before;
-    came = subst (λ x. CameOut driver n (programs n) (start n) a.pass.view.seen fork.room t x) tells h.came;
+    came = subst (λ x. CameOut driver m n (programs n) (start n) a.pass.view.seen fork.room t x) tells h.came;
   }
 
 pub joined_more : (v w x u : OneView) (count : ℕ) → HasJoined v count w → u ≡ taking_in w x → x.joined ≡ [] → StartsWith u.seen w.seen → HasJoined v (count + 1) u
@@ -247,9 +250,9 @@ module _ {P : Type 0} (told : P → Option Told) (gate : GateValue) where
       → there_at ports (count + 1) ≡ true → ⊥
   next_there v w ports ports_now count actors so_far got there = not_there ports (count + 1) (sym (so_far.others (count + 1) (omega arith)) ∙ got) there
 
-pub done_has : {P : Type 0} (told : P → Option Told) (start : ℕ → Option Told) (gate : GateValue) (driver : DriverKind) (programs : ℕ → Program Names) (v : OneView) (n : ℕ) (d : ActorValue P × Result (List ℕ) Errno) → d.1 ≢ Err NoMemory
-    → WorkDone told start gate driver programs v n d → HasWorked told start gate driver programs v n d.0 d.1
-done_has told start gate driver programs v n d had h = ⊎_elim (λ wanted. absurd (had wanted)) (λ worked. worked) h
+pub done_has : {P : Type 0} (told : P → Option Told) (start : ℕ → Option Told) (gate : GateValue) (driver : DriverKind) (m : Maps) (programs : ℕ → Program Names) (v : OneView) (n : ℕ) (d : ActorValue P × Result (List ℕ) Errno) → d.1 ≢ Err NoMemory
+    → WorkDone told start gate driver m programs v n d → HasWorked told start gate driver m programs v n d.0 d.1
+done_has told start gate driver m programs v n d had h = ⊎_elim (λ wanted. absurd (had wanted)) (λ worked. worked) h
 
 -- The last actors were taken in, their promises are kept, and their ports are in their places; the others stand before them.
 pub record JoinedSoFar {P : Type 0} (told : P → Option Told) (gate : GateValue) (driver : DriverKind) (v : OneView) (all : List (ActorValue P × Result (List ℕ) Errno)) (ports : List (Option P))
@@ -257,8 +260,8 @@ pub record JoinedSoFar {P : Type 0} (told : P → Option Told) (gate : GateValue
   pub joined : HasJoined v (length texts) w
   pub len : length texts + length missing ≡ length all
   pub ports_len : length ports_now ≡ length ports
-  pub kept : (start : ℕ → Option Told) (programs : ℕ → Program Names) (fork : OneView) → AreDone told start gate driver programs fork 1 all
-      → AreDone told start gate driver programs fork 1 missing × AreKept driver programs start (told_at told ports_now) fork w (length missing + 1) texts
+  pub kept : (start : ℕ → Option Told) (m : Maps) (programs : ℕ → Program Names) (fork : OneView) → AreDone told start gate driver m programs fork 1 all
+      → AreDone told start gate driver m programs fork 1 missing × AreKept driver m programs start (told_at told ports_now) fork w (length missing + 1) texts
   pub others : (n : ℕ) → length all < n → slice_get ports_now n ≡ slice_get ports n
   pub there : (n : ℕ) → length missing < n → n ≤ length all → there_at ports_now n ≡ true
 
@@ -268,40 +271,40 @@ module _ {P : Type 0} (told : P → Option Told) (gate : GateValue) (driver : Dr
     joined = joined_none v;
     len = omega arith;
     ports_len = refl;
-    kept = λ start programs fork h. (h, tt);
+    kept = λ start m programs fork h. (h, tt);
     others = λ n far. refl;
     there = λ n more most. absurd (omega arith);
   }
 
   -- one actor was taken in
   pub join_goes_on : (v w u : OneView) (all missing missing_then : List (ActorValue P × Result (List ℕ) Errno)) (d : ActorValue P × Result (List ℕ) Errno) (ports ports_now ports_then : List (Option P)) (texts texts_then : List (Result (List ℕ) Errno))
-      → (start : ℕ → Option Told) (programs : ℕ → Program Names) (fork : OneView) → AreDone told start gate driver programs fork 1 all
+      → (start : ℕ → Option Told) (m : Maps) (programs : ℕ → Program Names) (fork : OneView) → AreDone told start gate driver m programs fork 1 all
       → length all < length ports → JoinedSoFar told gate driver v all ports w missing texts ports_now → missing ≡ missing_then ++ d ∷ []
       → u ≡ taking_in w d.0.pass.view → StartsWith u.seen w.seen → StartsWith u.seen d.0.pass.view.seen → d.1 ≢ Err NoMemory → texts_then ≡ d.1 ∷ texts → ports_then ≡ set ports_now (length missing_then + 1) (Some d.0.port)
       → JoinedSoFar told gate driver v all ports u missing_then texts_then ports_then
-  join_goes_on v w u all missing missing_then d ports ports_now ports_then texts texts_then start programs fork all_done room so_far popped is begins begins_other had more put_back =
+  join_goes_on v w u all missing missing_then d ports ports_now ports_then texts texts_then start m programs fork all_done room so_far popped is begins begins_other had more put_back =
       let shorter : length missing ≡ length missing_then + 1 = ap (λ l. length l) popped ∙ length-append missing_then (d ∷ []) in
       let longer : length texts_then ≡ length texts + 1 = (let m : length texts_then ≡ length (d.1 ∷ texts) = ap (λ l. length l) more in omega arith) in
       let count = so_far.len in let same_length = so_far.ports_len in
-      let last = done_last told start gate driver programs fork 1 missing_then d (subst (λ l. AreDone told start gate driver programs fork 1 l) popped (so_far.kept start programs fork all_done).0) in
-      let none = (done_has told start gate driver programs fork (1 + length missing_then) d had last.1).none_joined in
+      let last = done_last told start gate driver m programs fork 1 missing_then d (subst (λ l. AreDone told start gate driver m programs fork 1 l) popped (so_far.kept start m programs fork all_done).0) in
+      let none = (done_has told start gate driver m programs fork (1 + length missing_then) d had last.1).none_joined in
       let n : ℕ = length missing_then + 1 in
       let here : slice_get ports_then n ≡ Some (Some d.0.port) = ap (λ l. slice_get l n) put_back ∙ get_set ports_now n (Some d.0.port) (omega arith) in
       let elsewhere : (k : ℕ) → k ≢ n → slice_get ports_then k ≡ slice_get ports_now k = λ k other. ap (λ l. slice_get l k) put_back ∙ get_other ports_now n k (Some d.0.port) other in record {
         joined = subst (λ k. HasJoined v k u) (sym longer) (joined_more v w d.0.pass.view u (length texts) so_far.joined is none begins);
         len = omega arith;
         ports_len = ap (λ l. length l) put_back ∙ length-set ports_now n (Some d.0.port) ∙ so_far.ports_len;
-        kept = λ some_start some_programs some_fork h. let k = so_far.kept some_start some_programs some_fork h in
-            let l = done_last told some_start gate driver some_programs some_fork 1 missing_then d (subst (λ l. AreDone told some_start gate driver some_programs some_fork 1 l) popped k.0) in
-            let p = done_has told some_start gate driver some_programs some_fork (1 + length missing_then) d had l.1 in
+        kept = λ some_start some_maps some_programs some_fork h. let k = so_far.kept some_start some_maps some_programs some_fork h in
+            let l = done_last told some_start gate driver some_maps some_programs some_fork 1 missing_then d (subst (λ l. AreDone told some_start gate driver some_maps some_programs some_fork 1 l) popped k.0) in
+            let p = done_has told some_start gate driver some_maps some_programs some_fork (1 + length missing_then) d had l.1 in
             let this : 1 + length missing_then ≡ n = omega arith in
             let next : length missing + 1 ≡ n + 1 = omega arith in (
               l.0,
-              subst (λ l. AreKept driver some_programs some_start (told_at told ports_then) some_fork u n l) (sym more) (
-                kept_new driver some_programs some_start some_fork told (told_at told ports_then) gate w u d.0 n d.1 is begins_other (sym (told_got told ports_then n d.0.port here))
-                    (subst (λ k. HasWorked told some_start gate driver some_programs some_fork k d.0 d.1) this p),
-                subst (λ k. AreKept driver some_programs some_start (told_at told ports_then) some_fork u k texts) next
-                    (kept_on driver some_programs some_start some_fork (told_at told ports_now) (told_at told ports_then) w d.0.pass.view u is begins (length missing + 1) texts
+              subst (λ l. AreKept driver some_maps some_programs some_start (told_at told ports_then) some_fork u n l) (sym more) (
+                kept_new driver some_maps some_programs some_start some_fork told (told_at told ports_then) gate w u d.0 n d.1 is begins_other (sym (told_got told ports_then n d.0.port here))
+                    (subst (λ k. HasWorked told some_start gate driver some_maps some_programs some_fork k d.0 d.1) this p),
+                subst (λ k. AreKept driver some_maps some_programs some_start (told_at told ports_then) some_fork u k texts) next
+                    (kept_on driver some_maps some_programs some_start some_fork (told_at told ports_now) (told_at told ports_then) w d.0.pass.view u is begins (length missing + 1) texts
                     (λ k far. told_same told ports_now ports_then k (sym (elsewhere k (λ same. absurd (omega (arith, same)))))) k.1),
               ),
             );

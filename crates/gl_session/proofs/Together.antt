@@ -1,5 +1,5 @@
 -- Actors at work together make fewer entries than their session costs, while one of them has a call before it.
-use Rattle.std.proofs.Common.{◌≡◌, ℕ, zero, suc, ◌+◌, ◌-◌, ◌<◌, ◌≤◌, List, [], ◌∷◌, length, get_or, Option, sym, ap, ◌∙◌, subst, arith}
+use Rattle.std.proofs.Common.{◌≡◌, ℕ, zero, suc, ◌+◌, ◌-◌, ◌<◌, ◌≤◌, false, List, [], ◌∷◌, length, get_or, Option, sym, ap, ◌∙◌, subst, arith}
 use Rattle.std.specs.Prelude.{sum_by}
 use Rattle.std.proofs.lemmas.List.Sums.{sum_by-cons}
 use Rattle.gl_base.specs.Words.{Span}
@@ -7,7 +7,7 @@ use Rattle.gl_world.specs.Deeds.{deeds_of, entries_in}
 use Rattle.gl_world.specs.History.{entries_of}
 use Rattle.gl_world.proofs.Deeds.{deeds_entries}
 use Rattle.gl_client.specs.Costs.{CostsAtMost}
-use Rattle.gl_script.specs.Cost.{words_cost}
+use Rattle.gl_script.specs.Cost.{has_aggregate, session_cost, with_own, words_cost}
 use Rattle.gl_script.specs.Section.{SaidSection}
 use Rattle.gl_script.specs.declared.section.SectionKind.TheVariants.{Setup}
 use Rattle.gl_talk.specs.Open.{no_names}
@@ -15,14 +15,15 @@ use Rattle.gl_talk.specs.Talk.{quits, talks}
 use Rattle.gl_talk.proofs.StatementCosts.{end_cost, says_cost}
 use Rattle.gl_driver.specs.Told.{Told}
 use Rattle.gl_core.specs.Device.{OneDeed, OneEntry, core}
-use Rattle.gl_check.specs.Drivers.{DriverKind}
+use Rattle.gl_check.specs.Drivers.{DriverOver, start_maps}
 use Rattle.gl_check.specs.Programs.{setup_of}
 use Rattle.gl_check.specs.Many.{actor_sections, no_section, program_of, words_of}
 use Rattle.gl_check.specs.Turns.{Turn, carried, did_by}
 use Rattle.gl_session.specs.Together.{ActorsAtWorkHaveRoom, AtWork, BeforeCall, SoFar}
 use Rattle.gl_session.specs.Within.{cost_in_kind}
-use Rattle.gl_session.proofs.Counting.{actors_cost, count, count_all, count_costs, entries_length, played_within, section_costs}
-use Rattle.gl_session.proofs.Within.{calls_come_below_cost, costs_no_more, entries_within_cost, sessions_cost_their_parts}
+use Rattle.gl_session.proofs.Counting.{count, count_all, count_costs, entries_length, own_costs, played_within, section_costs}
+use Rattle.gl_session.proofs.NoChips.{asks_none}
+use Rattle.gl_session.proofs.Within.{below, few_behind, few_in, none_behind_setup, own_none, own_plus, parts_cost, sessions_cost_their_parts, within}
 
 abbrev pub section_at : List SaidSection → ℕ → SaidSection
 section_at sections i = get_or (actor_sections sections) i no_section
@@ -55,26 +56,37 @@ count_below cost history n (section ∷ sections) h (suc m) less fewer =
     m (omega arith) (subst (λ k. length (entries_of k history) < cost (get_or sections m no_section)) s fewer) in
     let whole = sum_by-cons cost section sections in omega arith
 
-module _ (driver : DriverKind) (before : ℕ → Option Told) (sections : List SaidSection) (history : List OneEntry) (w : AtWork driver before sections history) where
-  one_within : (i : ℕ) → i < length (actor_sections sections) → length (entries_of (1 + i) history) ≤ section_costs (section_at sections i)
-  one_within i less =
-      let a : SoFar driver before sections history (suc i) = w.actors (suc i) (omega arith) (omega arith) in
-      let within = entries_within_cost driver (suc i) (section_costs (section_at sections i)) (program_of sections (suc i)) (carried [] (before (suc i))) a.turns a.rest a.behind (costs sections i) a.come.follows in
-      let many = made (suc i) history a.turns a.come.did in
-      let n : 1 + i ≡ suc i = omega arith in let same : length (entries_of (1 + i) history) ≡ length (entries_of (suc i) history) = ap (λ k. length (entries_of k history)) n in omega (arith, within.2)
+module _ (driver : DriverOver) (limit : driver.kind.limit ≤ 8) (before : ℕ → Option Told) (sections : List SaidSection) (history : List OneEntry) (w : AtWork driver before sections history) where
+  abbrev counted : ℕ → ℕ
+  counted n = with_own (has_aggregate sections) n
 
-  one_below : (i : ℕ) → BeforeCall driver before sections history (suc i) → length (entries_of (1 + i) history) < section_costs (section_at sections i)
+  none : has_aggregate sections ≡ false → w.setup.behind.maps.kept ≡ []
+  none = none_behind_setup driver sections (before 0) w.setup
+
+  one_within : (i : ℕ) → i < length (actor_sections sections) → length (entries_of (1 + i) history) ≤ counted (section_costs (section_at sections i))
+  one_within i less =
+      let a : SoFar driver before sections history w.setup.behind.maps (suc i) = w.actors (suc i) (omega arith) (omega arith) in
+      let bounded = within (has_aggregate sections) driver.kind (suc i) a.turns (section_costs (section_at sections i)) (program_of sections (suc i)) (carried [] (before (suc i)) w.setup.behind.maps) a.rest a.behind (costs sections i) a.come.follows
+      (few_behind driver sections limit (suc i) _ _ a.turns _ a.behind a.come.follows (λ without. (asks_none sections without).actors (suc i)) none) in
+      let many = made (suc i) history a.turns a.come.did in let files = own_plus (has_aggregate sections) (section_costs (section_at sections i)) 0 in let nothing = own_none (has_aggregate sections) in
+      let n : 1 + i ≡ suc i = omega arith in let same : length (entries_of (1 + i) history) ≡ length (entries_of (suc i) history) = ap (λ k. length (entries_of k history)) n in omega (arith, bounded.2)
+
+  one_below : (i : ℕ) → BeforeCall driver before sections history w.setup.behind.maps (suc i) → length (entries_of (1 + i) history) < counted (section_costs (section_at sections i))
   one_below i b =
-      let below = calls_come_below_cost driver (suc i) (section_costs (section_at sections i)) (program_of sections (suc i)) (carried [] (before (suc i))) b.turns b.what b.later b.behind b.call (costs sections i) b.come.follows b.calls in
-      let many = made (suc i) history b.turns b.come.did in
+      let fewer = below (has_aggregate sections) driver.kind (suc i) (section_costs (section_at sections i)) (program_of sections (suc i)) (carried [] (before (suc i)) w.setup.behind.maps) b.turns b.what b.later b.behind b.call (costs sections i) b.come.follows
+      (few_behind driver sections limit (suc i) _ _ b.turns _ b.behind b.come.follows (λ without. (asks_none sections without).actors (suc i)) none) b.calls in
+      let many = made (suc i) history b.turns b.come.did in let files = own_plus (has_aggregate sections) (section_costs (section_at sections i)) 0 in let nothing = own_none (has_aggregate sections) in
       let n : 1 + i ≡ suc i = omega arith in let same : length (entries_of (1 + i) history) ≡ length (entries_of (suc i) history) = ap (λ k. length (entries_of k history)) n in omega arith
 
-pub actors_at_work_have_room : (driver : DriverKind) → ActorsAtWorkHaveRoom driver
-actors_at_work_have_room driver before sections history w zero positive low b = absurd (omega arith)
-actors_at_work_have_room driver before sections history w (suc m) positive low b =
-    let parts = sessions_cost_their_parts sections in let whole = parts.whole in let most = costs_no_more sections in
-    let first = played_within driver 0 (cost_in_kind Setup sections) (setup_of sections) (carried [] (before 0)) w.setup.behind w.setup.text w.setup.did w.setup.names (entries_of 0 history) parts.setup w.setup.played
-    (ap (λ (l : List OneDeed). entries_in l) (sym w.first) ∙ deeds_entries core core.opening 0 history) in
-    let middle = count_below section_costs history 1 (actor_sections sections) (λ i less. one_within driver before sections history w i less) m (omega arith) (one_below driver before sections history w m b) in
-    let same = actors_cost sections in
-    let all = count_all (suc (length (actor_sections sections))) history (λ n far. w.nobody_else n (omega arith)) in omega arith
+  pub at_work : (m : ℕ) → m < length (actor_sections sections) → BeforeCall driver before sections history w.setup.behind.maps (suc m) → length history < session_cost sections
+  at_work m low b =
+      let parts = sessions_cost_their_parts sections in let whole = parts_cost sections in
+      let first = played_within (has_aggregate sections) driver.kind 0 (cost_in_kind Setup sections) (setup_of sections) (carried [] (before 0) (start_maps driver)) w.setup.behind w.setup.text w.setup.did w.setup.names (entries_of 0 history) parts.setup w.setup.played
+      (few_in driver sections limit w.setup.behind.maps none) (ap (λ (l : List OneDeed). entries_in l) (sym w.first) ∙ deeds_entries core core.opening 0 history) in
+      let middle = count_below (λ section. counted (section_costs section)) history 1 (actor_sections sections) (λ i less. one_within i less) m low (one_below m b) in
+      let same = own_costs (has_aggregate sections) sections in let files = own_plus (has_aggregate sections) (cost_in_kind Setup sections) 0 in let nothing = own_none (has_aggregate sections) in
+      let all = count_all (suc (length (actor_sections sections))) history (λ n far. w.nobody_else n (omega arith)) in omega arith
+
+pub actors_at_work_have_room : (driver : DriverOver) → ActorsAtWorkHaveRoom driver
+actors_at_work_have_room driver limit before sections history w zero positive low b = absurd (omega arith)
+actors_at_work_have_room driver limit before sections history w (suc m) positive low b = at_work driver limit before sections history w m (omega arith) b

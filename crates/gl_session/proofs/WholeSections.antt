@@ -16,6 +16,7 @@ use Rattle.gl_talk.specs.Talk.{quits, says, talks}
 use Rattle.gl_talk.proofs.InARow.{are_statements_and_the_end}
 use Rattle.gl_asking.specs.Files.{OpenFile}
 use Rattle.gl_check.specs.Drivers.{DriverKind}
+use Rattle.gl_check.specs.Joining.{Maps}
 use Rattle.gl_check.specs.Many.{actor_sections, no_section, program_of, words_of}
 use Rattle.gl_check.specs.One.{is_kind, said_in_kind}
 use Rattle.gl_session.specs.Performed.{PlaysOn, StoppedFull}
@@ -24,41 +25,42 @@ use Rattle.gl_session.specs.Workers.{PlaysWhole}
 use Rattle.gl_session.proofs.Plays.{plays_on, plays_then, stops_on, stops_then}
 
 -- statements, and then the closing of what is open
-module _ (driver : DriverKind) (words : List (List Span)) (v w u : OneView) (before between left : Option Told) (waiting : List OpenFile) (text text_then : List ℕ) (names names_then : Names) where
+module _ (driver : DriverKind) (words : List (List Span)) (v w u : OneView) (before between left : Option Told) (m n maps_then : Maps) (waiting : List OpenFile) (text text_then : List ℕ) (names names_then : Names) where
   pub plays_whole : (begun : ℕ) (names_before : Names) (files files_then : List OpenFile) (nothing : List ℕ) (closing : Program Names) → begun ≡ 0 → names_before ≡ no_names → files ≡ [] → nothing ≡ [] → closing ≡ quits names
-      → PlaysOn driver (says begun words (λ given_names. done given_names) names_before) v (carried files before) nothing (done names) w (carried waiting between) text
-      → PlaysOn driver closing w (carried waiting between) text (done names_then) u (carried files_then left) text_then
-      → PlaysWhole driver (talks 0 words no_names) v before text_then u left
+      → PlaysOn driver (says begun words (λ given_names. done given_names) names_before) v (carried files before m) nothing (done names) w (carried waiting between n) text
+      → PlaysOn driver closing w (carried waiting between n) text (done names_then) u (carried files_then left maps_then) text_then
+      → PlaysWhole driver (talks 0 words no_names) m v before text_then u left
   plays_whole begun names_before files files_then nothing closing new unnamed closed empty ends statements end = record {
     names = names_then;
     files = files_then;
-    plays = subst (λ (p : Program Names). PlaysOn driver p v (carried [] before) [] (done names_then) u (carried files_then left) text_then) (sym (are_statements_and_the_end 0 words no_names))
-        (plays_on driver (then_by (says 0 words done no_names) quits) v (carried [] before) [] (quits names) w (carried waiting between) text (done names_then) u (carried files_then left) text_then
-        (plays_then driver quits (says 0 words done no_names) v (carried [] before) [] (done names) w (carried waiting between) text
-        (subst (λ (x : ℕ × Names × List OpenFile × List ℕ). PlaysOn driver (says x.0 words (λ given_names. done given_names) x.1) v (carried x.2 before) x.3 (done names) w (carried waiting between) text)
+    maps_then = maps_then;
+    plays = subst (λ (p : Program Names). PlaysOn driver p v (carried [] before m) [] (done names_then) u (carried files_then left maps_then) text_then) (sym (are_statements_and_the_end 0 words no_names))
+        (plays_on driver (then_by (says 0 words done no_names) quits) v (carried [] before m) [] (quits names) w (carried waiting between n) text (done names_then) u (carried files_then left maps_then) text_then
+        (plays_then driver quits (says 0 words done no_names) v (carried [] before m) [] (done names) w (carried waiting between n) text
+        (subst (λ (x : ℕ × Names × List OpenFile × List ℕ). PlaysOn driver (says x.0 words (λ given_names. done given_names) x.1) v (carried x.2 before m) x.3 (done names) w (carried waiting between n) text)
         (λ i. (new i, unnamed i, closed i, empty i)) statements))
-        (subst (λ (p : Program Names). PlaysOn driver p w (carried waiting between) text (done names_then) u (carried files_then left) text_then) ends end));
+        (subst (λ (p : Program Names). PlaysOn driver p w (carried waiting between n) text (done names_then) u (carried files_then left maps_then) text_then) ends end));
   }
 
 -- the history was full among the statements, or at the closing of what is open
-module _ (driver : DriverKind) (words : List (List Span)) (v w : OneView) (before : Option Told) (begun : ℕ) (names_before : Names) (files : List OpenFile) (new : begun ≡ 0) (unnamed : names_before ≡ no_names) (closed : files ≡ []) where
-  pub stops_among_them : StoppedFull driver (says begun words (λ given_names. done given_names) names_before) v (carried files before) w
-      → StoppedFull driver (talks 0 words no_names) v (carried [] before) w
+module _ (driver : DriverKind) (words : List (List Span)) (v w : OneView) (before : Option Told) (m : Maps) (begun : ℕ) (names_before : Names) (files : List OpenFile) (new : begun ≡ 0) (unnamed : names_before ≡ no_names) (closed : files ≡ []) where
+  pub stops_among_them : StoppedFull driver (says begun words (λ given_names. done given_names) names_before) v (carried files before m) w
+      → StoppedFull driver (talks 0 words no_names) v (carried [] before m) w
   stops_among_them stopped =
-      subst (λ (p : Program Names). StoppedFull driver p v (carried [] before) w) (sym (are_statements_and_the_end 0 words no_names))
-      (stops_then driver quits (says 0 words done no_names) v (carried [] before) w
-      (subst (λ (x : ℕ × Names × List OpenFile). StoppedFull driver (says x.0 words (λ given_names. done given_names) x.1) v (carried x.2 before) w) (λ i. (new i, unnamed i, closed i)) stopped))
+      subst (λ (p : Program Names). StoppedFull driver p v (carried [] before m) w) (sym (are_statements_and_the_end 0 words no_names))
+      (stops_then driver quits (says 0 words done no_names) v (carried [] before m) w
+      (subst (λ (x : ℕ × Names × List OpenFile). StoppedFull driver (says x.0 words (λ given_names. done given_names) x.1) v (carried x.2 before m) w) (λ i. (new i, unnamed i, closed i)) stopped))
 
-  pub stops_behind_them : (u : OneView) (between : Option Told) (waiting : List OpenFile) (nothing text : List ℕ) (names : Names) (closing : Program Names) → closing ≡ quits names
-      → PlaysOn driver (says begun words (λ given_names. done given_names) names_before) v (carried files before) nothing (done names) w (carried waiting between) text
-      → StoppedFull driver closing w (carried waiting between) u → StoppedFull driver (talks 0 words no_names) v (carried [] before) u
-  stops_behind_them u between waiting nothing text names closing ends statements stopped =
-      subst (λ (p : Program Names). StoppedFull driver p v (carried [] before) u) (sym (are_statements_and_the_end 0 words no_names))
-      (stops_on driver (then_by (says 0 words done no_names) quits) v (carried [] before) nothing (quits names) w (carried waiting between) text u
-      (plays_then driver quits (says 0 words done no_names) v (carried [] before) nothing (done names) w (carried waiting between) text
-      (subst (λ (x : ℕ × Names × List OpenFile). PlaysOn driver (says x.0 words (λ given_names. done given_names) x.1) v (carried x.2 before) nothing (done names) w (carried waiting between) text)
+  pub stops_behind_them : (u : OneView) (between : Option Told) (n : Maps) (waiting : List OpenFile) (nothing text : List ℕ) (names : Names) (closing : Program Names) → closing ≡ quits names
+      → PlaysOn driver (says begun words (λ given_names. done given_names) names_before) v (carried files before m) nothing (done names) w (carried waiting between n) text
+      → StoppedFull driver closing w (carried waiting between n) u → StoppedFull driver (talks 0 words no_names) v (carried [] before m) u
+  stops_behind_them u between n waiting nothing text names closing ends statements stopped =
+      subst (λ (p : Program Names). StoppedFull driver p v (carried [] before m) u) (sym (are_statements_and_the_end 0 words no_names))
+      (stops_on driver (then_by (says 0 words done no_names) quits) v (carried [] before m) nothing (quits names) w (carried waiting between n) text u
+      (plays_then driver quits (says 0 words done no_names) v (carried [] before m) nothing (done names) w (carried waiting between n) text
+      (subst (λ (x : ℕ × Names × List OpenFile). PlaysOn driver (says x.0 words (λ given_names. done given_names) x.1) v (carried x.2 before m) nothing (done names) w (carried waiting between n) text)
       (λ i. (new i, unnamed i, closed i)) statements))
-      (subst (λ (p : Program Names). StoppedFull driver p w (carried waiting between) u) ends stopped))
+      (subst (λ (p : Program Names). StoppedFull driver p w (carried waiting between n) u) ends stopped))
 
 -- an actor's section has no more statements than all of them
 pub actor_words_few : (sections : List SaidSection) (n : ℕ) → n < length (actor_sections sections) → length (words_of (get_or (actor_sections sections) n no_section)) ≤ length (said_in_kind Actor sections)

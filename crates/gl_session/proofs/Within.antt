@@ -1,5 +1,5 @@
 -- What is carried out on the device makes no more entries than it costs.
-use Rattle.std.proofs.Common.{◌≡◌, ℕ, ◌+◌, ◌-◌, ◌<◌, ◌≤◌, Bool, true, false, List, [], ◌∷◌, ◌++◌, length, length-append, map, Option, None, Some, Result, Ok, Err, refl, sym, ap, ◌∙◌, subst, arith, true-eqb}
+use Rattle.std.proofs.Common.{◌≡◌, ℕ, zero, suc, ◌+◌, ◌-◌, ◌<◌, ◌≤◌, Bool, true, false, List, [], ◌∷◌, ◌++◌, length, length-append, map, take, Option, None, Some, Result, Ok, Err, refl, sym, ap, ◌∙◌, subst, arith, true-eqb}
 use Rattle.std.specs.Prelude.{cond, find, if◌then◌else◌, ◌==◌, nat_eq, nat_lt, sum_by}
 use Rattle.std.proofs.lemmas.Bool.{true≢false}
 use Rattle.std.proofs.lemmas.List.Sums.{sum_by-append, sum_by-cons}
@@ -18,11 +18,15 @@ use Rattle.gl_uapi.specs.declared.commands.Command.{Command}
 use Rattle.gl_uapi.specs.declared.commands.Command.TheVariants.{ChipInfo, LineInfo, Watch, Unwatch, GetLine, SetConfig, GetValues, SetValues}
 use Rattle.gl_world.specs.Deeds.{entries_in}
 use Rattle.gl_world.specs.History.{entry}
+use Rattle.gl_client.specs.Chips.{AsksNoChips}
 use Rattle.gl_client.specs.Costs.{CostsAtMost, entries_of}
 use Rattle.gl_client.specs.Entries.{command_made, entries_made}
 use Rattle.gl_client.specs.Program.{Program, done, ask}
 use Rattle.gl_base.specs.declared.lines.Lines.{Lines}
 use Rattle.gl_driver.specs.Told.{Told}
+use Rattle.gl_driver.specs.Maps.{with_map}
+use Rattle.gl_driver.specs.declared.map.Map.{Map}
+use Rattle.gl_driver.specs.declared.map.Target.{Target}
 use Rattle.gl_base.specs.declared.op.Op.{Op}
 use Rattle.gl_model.specs.declared.call.Call.{Call}
 use Rattle.gl_model.specs.declared.call.Call.TheVariants.{Close}
@@ -44,7 +48,8 @@ use Rattle.gl_talk.proofs.StatementCosts.{end_cost, says_cost}
 use Rattle.gl_asking.specs.Opened.{ChipFile, opened_of}
 use Rattle.gl_core.specs.Device.{OneDeed, OneEntry}
 use Rattle.gl_session.specs.Alone.{Part}
-use Rattle.gl_check.specs.Drivers.{DriverKind}
+use Rattle.gl_check.specs.Drivers.{DriverKind, DriverOver, start_maps}
+use Rattle.gl_check.specs.Joining.{Maps, asking_with, joined_at, joining_fault, joins, learned, maps_behind, targets_in}
 use Rattle.gl_check.specs.Programs.{actor_of, after_of, setup_of}
 use Rattle.gl_asking.specs.declared.kinds.Asking.{Asking}
 use Rattle.gl_asking.specs.declared.kinds.Asking.TheVariants.{Calls, Plans, Accepts, Refuses}
@@ -52,9 +57,10 @@ use Rattle.gl_asking.specs.Asking.{asking, at_place, buffer_of, files_behind, ha
 use Rattle.gl_asking.specs.Driving.{op_asked}
 use Rattle.gl_asking.specs.Files.{OpenFile, chip_file, file_in, is_in, line_file, without_file}
 use Rattle.gl_check.specs.One.{is_kind, said_in_kind}
-use Rattle.gl_check.specs.Turns.{Carried, Did, Exchange, Follows, IsDone, Said, Turn, did_by}
+use Rattle.gl_check.specs.Turns.{Carried, Carries, Did, Exchange, Follows, IsDone, Said, Turn, carried, did_by}
 use Rattle.gl_check.proofs.Asked.{unmapped}
-use Rattle.gl_session.specs.Within.{CallsComeBelowCost, CallsHaveRoom, EntriesWithinCost, SessionsCostTheirParts, SessionsKeepWithinCost, Stop, cost_in_kind}
+use Rattle.gl_session.specs.Within.{CallsComeBelowCost, CallsHaveRoom, EntriesWithinCost, EntriesWithinPlainCost, SessionsCostTheirParts, SessionsKeepWithinCost, Stop, cost_in_kind}
+use Rattle.gl_session.proofs.NoChips.{asks_none, turns_stay}
 use Rattle.gl_session.proofs.OneHistories.{length_entries}
 
 -- The entries of a call of the device
@@ -100,6 +106,53 @@ call_entered : (n : ℕ) (guard : Option ℕ) (closed : Bool) (call : DeviceCall
 call_entered n None closed call answer es makes = inside_entered n call answer es makes
 call_entered n (Some place) false call answer es makes = inside_entered n call answer es makes
 call_entered n (Some place) true call answer es makes = let least = call_least call in let one = one_entry n _ es (_, makes.0) in omega arith
+
+-- The same where the driver makes some of its own: eight at most, between two counted ones.
+
+two_around : (n : ℕ) (first second : Call) (own es : List OneEntry) → MakesTwo n first second own es → length es ≤ 2 + length own
+two_around n first second own es (reply, rest, is, makes) = by (begins first reply) makes
+  where
+    by : (b : Bool) → MakesRest n b second own rest → length es ≤ 2 + length own
+    by false m = subst (λ (x : List OneEntry). length x ≤ 2 + length own) (sym (is ∙ ap (λ (x : List OneEntry). entry n first reply ∷ x) m.0)) (omega arith)
+    by true m = let all = length-append own (entry n second m.0 ∷ []) in
+        subst (λ (x : List OneEntry). length x ≤ 2 + length own) (sym (is ∙ ap (λ (x : List OneEntry). entry n first reply ∷ x) m.1)) (omega arith)
+
+command_around : (n : ℕ) (b : Bool) (answer : Option ℕ) (c : CommandIn) (own es : List OneEntry) → length own ≤ 8 → MakesCommand n b answer c own es → length es ≤ with_own true (if b then 2 else 1)
+command_around n true answer c own es few makes = let around = two_around n _ _ own es makes in omega arith
+command_around n false answer c own es few makes = let one = one_entry n _ es makes.0 in omega arith
+
+inside_around : (n : ℕ) (call : DeviceCall) (answer : Option ℕ) (own es : List OneEntry) → length own ≤ 8 → MakesInside n call answer own es → length es ≤ with_own true (call_entries call)
+inside_around n (Once call) answer own es few makes = let one = one_entry n call es makes.0 in omega arith
+inside_around n (Removing removal) answer own es few makes = let two = two_entries n _ _ es makes.0 in omega arith
+inside_around n (Commanding c) answer own es few makes = command_around n (is_driver_asked c.of_chip c.len (command_of c.cmd)) answer c own es few makes
+
+call_around : (n : ℕ) (guard : Option ℕ) (closed : Bool) (call : DeviceCall) (answer : Option ℕ) (own es : List OneEntry) → length own ≤ 8 → MakesAt n guard closed call answer own es → length es ≤ with_own true (call_entries call)
+call_around n None closed call answer own es few makes = inside_around n call answer own es few makes
+call_around n (Some place) false call answer own es few makes = inside_around n call answer own es few makes
+call_around n (Some place) true call answer own es few makes = let least = call_least call in let one = one_entry n _ es (_, makes.0) in omega arith
+
+-- What is counted once or five times
+
+pub own_plus : (b : Bool) (x y : ℕ) → with_own b (x + y) ≡ with_own b x + with_own b y
+own_plus true x y = omega arith
+own_plus false x y = refl
+
+pub own_most : (b : Bool) (x y : ℕ) → x ≤ y → with_own b x ≤ with_own b y
+own_most true x y less = omega arith
+own_most false x y less = less
+
+pub own_below : (b : Bool) (x y : ℕ) → x < y → with_own b x < with_own b y
+own_below true x y less = omega arith
+own_below false x y less = less
+
+pub own_none : (b : Bool) → with_own b 0 ≡ 0
+own_none true = refl
+own_none false = refl
+
+pub sum_own : {A : Type 0} (b : Bool) (cost : A → ℕ) (xs : List A) → sum_by (λ x. with_own b (cost x)) xs ≡ with_own b (sum_by cost xs)
+sum_own b cost [] = sym (own_none b)
+sum_own b cost (x ∷ xs) =
+    sum_by-cons (λ x. with_own b (cost x)) x xs ∙ ap (λ n. with_own b (cost x) + n) (sum_own b cost xs) ∙ sym (own_plus b (cost x) (sum_by cost xs)) ∙ ap (with_own b) (sym (sum_by-cons cost x xs))
 
 -- The entries of an operation
 
@@ -194,6 +247,33 @@ op_most files (Plan nth) = tt
 op_most files (Accept bits) = tt
 op_most files (Aggregate label slots count) = tt
 
+joins_most : (fault : Option Errno) (label : List ℕ) (targets : List Target) → MostOf 1 (joins fault label targets)
+joins_most None label targets = omega arith
+joins_most (Some errno) label targets = tt
+
+with_most : (m : Maps) (files : List OpenFile) (what : Do) → MostOf (entries_made what) (asking_with m files what)
+with_most m files (Aggregate label slots count) = joins_most (joining_fault m (targets_in (take count slots) files)) label (targets_in (take count slots) files)
+with_most m files (DoProbe label lines) = op_most files (DoProbe label lines)
+with_most m files (DoUnplug place) = op_most files (DoUnplug place)
+with_most m files (DoMakeDir path) = op_most files (DoMakeDir path)
+with_most m files (DoRemoveDir path) = op_most files (DoRemoveDir path)
+with_most m files (DoWrite path value) = op_most files (DoWrite path value)
+with_most m files (DoRead path) = op_most files (DoRead path)
+with_most m files (DoLive device up) = op_most files (DoLive device up)
+with_most m files (DoTick mono real) = op_most files (DoTick mono real)
+with_most m files (DoPin place what) = op_most files (DoPin place what)
+with_most m files (DoIrq place offset what) = op_most files (DoIrq place offset what)
+with_most m files (DoPull place offset up) = op_most files (DoPull place offset up)
+with_most m files (DoLevel place offset pull) = op_most files (DoLevel place offset pull)
+with_most m files (DoOpenChip slot word) = op_most files (DoOpenChip slot word)
+with_most m files (DoFind slot name) = op_most files (DoFind slot name)
+with_most m files (DoIoctl slot cmd len bytes made) = op_most files (DoIoctl slot cmd len bytes made)
+with_most m files (ReadFile slot len) = op_most files (ReadFile slot len)
+with_most m files (Poll slot) = op_most files (Poll slot)
+with_most m files (DoClose slot) = op_most files (DoClose slot)
+with_most m files (Plan nth) = op_most files (Plan nth)
+with_most m files (Accept bits) = op_most files (Accept bits)
+
 -- The open files after an operation
 
 one_more : (file : OpenFile) (files : List OpenFile) → length (files ++ file ∷ []) ≤ length files + 1
@@ -228,74 +308,126 @@ closes_one test (y ∷ ys) x is = by (test y) is (λ found. closes_one test ys x
     by true found later = omega arith
     by false found later = let rest = later found in omega arith
 
-module _ (driver : DriverKind) (actor : ℕ) where
-  asked_most : (a : Asking) (op : Option Op) (k : ℕ) (e : Exchange) (before after : Option Told) → MostOf k a → IsDone driver actor a op e before after → length e.did ≤ k
-  asked_most (Calls call) op k e before after most is = let made = call_entered actor (guard_of call) e.closed call e.answer (entries_in e.did) (unmapped driver actor op e before after call is).makes.1 in let same = length_entries e.did in omega arith
-  asked_most (Plans nth) op k e before after most is = no_deeds e.did k is.0.did
-  asked_most (Accepts bits) op k e before after most is = no_deeds e.did k is.0.did
-  asked_most (Refuses errno) op k e before after most is = no_deeds e.did k is.0.did
+-- maps are never taken away
+more_kept : (left : ℕ) (map : Map) (kept : List Map) → with_map left map kept ≡ [] → kept ≡ []
+more_kept zero map kept none = none
+more_kept (suc left) map [] none = refl
+more_kept (suc left) map (first ∷ kept) none = cc
 
-  -- the entries of an operation and the files after it come to what it costs and the files before it
-  op_within : (files : List OpenFile) (what : Do) (e : Exchange) (before after : Option Told) → IsDone driver actor (asking files what) (op_asked files what) e before after
-      → length e.did + length (files_behind what e.reply files) ≤ entries_of what + length files
-  op_within files what e before after is = by what (asked_most (asking files what) (op_asked files what) (entries_made what) e before after (op_most files what) is) is
+learned_kept : (reply : Reply) (targets : List Target) (m : Maps) → (learned reply targets m).kept ≡ [] → m.kept ≡ []
+learned_kept (Number place) targets m none = more_kept m.left (joined_at place targets) m.kept none
+learned_kept Done targets m none = none
+learned_kept (Go fd) targets m none = none
+learned_kept (Found a b c) targets m none = none
+learned_kept (Text a) targets m none = none
+learned_kept (Ready a) targets m none = none
+learned_kept (Refused a) targets m none = none
+
+behind_kept : (what : Do) (reply : Reply) (files : List OpenFile) (m : Maps) → (maps_behind what reply files m).kept ≡ [] → m.kept ≡ []
+behind_kept (Aggregate label slots count) reply files m none = learned_kept reply (targets_in (take count slots) files) m none
+behind_kept what reply files m none = none
+
+-- a driver that may make some of its own makes eight at most; else no port keeps a map
+abbrev pub Few : Bool → DriverKind → Maps → Type 0
+Few true driver m = driver.limit ≤ 8
+Few false driver m = m.kept ≡ []
+
+module _ (b : Bool) (driver : DriverKind) (actor : ℕ) where
+  few_turn : (s : Carried) (e : Exchange) (r : Carried) → Carries driver actor s e r → Few b driver r.maps → Few b driver s.maps
+  few_turn s e r carries few = by b few
     where
-      did : ℕ
-      did = length e.did
+      by : (b : Bool) → Few b driver r.maps → Few b driver s.maps
+      by true few = few
+      by false few = behind_kept e.what e.reply s.files s.maps (sym (ap (λ (m : Maps). m.kept) carries.maps) ∙ few)
 
-      by : (what : Do) → length e.did ≤ entries_made what → IsDone driver actor (asking files what) (op_asked files what) e before after → length e.did + length (files_behind what e.reply files) ≤ entries_of what + length files
-      by (DoProbe label lines) most is = omega arith
-      by (DoUnplug place) most is = omega arith
-      by (DoMakeDir path) most is = omega arith
-      by (DoRemoveDir path) most is = omega arith
-      by (DoWrite path value) most is = omega arith
-      by (DoRead path) most is = omega arith
-      by (DoLive device up) most is = omega arith
-      by (DoTick mono real) most is = omega arith
-      by (DoPin place what) most is = omega arith
-      by (DoIrq place offset what) most is = omega arith
-      by (DoPull place offset up) most is = omega arith
-      by (DoLevel place offset pull) most is = omega arith
-      by (DoOpenChip slot word) most is = let more = opened_most slot (opened_of word e.reply) files in omega arith
-      by (DoFind slot name) most is = omega arith
+  few_turns : {A : Type 0} (turns : List Turn) (p : Program A) (s : Carried) (q : Program A) (r : Carried) → Follows driver actor p s turns q r → Few b driver r.maps → Few b driver s.maps
+  few_turns [] p s q r (is, same) few = subst (λ (c : Carried). Few b driver c.maps) (sym same) few
+  few_turns (Said text ∷ turns) p s q r (next, mid, (is, same), follows) few = subst (λ (c : Carried). Few b driver c.maps) same (few_turns turns next mid q r follows few)
+  few_turns (Did e ∷ turns) p s q r (next, mid, (goes, is, onward, carries), follows) few = few_turn s e mid carries (few_turns turns next mid q r follows few)
+
+  asked_most : (m : Maps) (a : Asking) (op : Option Op) (k : ℕ) (e : Exchange) (before after : Option Told) → Few b driver m → MostOf k a → IsDone driver actor m a op e before after → length e.did ≤ with_own b k
+  asked_most m (Calls call) op k e before after few most is = by b few
+    where
+      by : (b : Bool) → Few b driver m → length e.did ≤ with_own b k
+      by false few = let made = call_entered actor (guard_of call) e.closed call e.answer (entries_in e.did) (unmapped driver actor op e before after m few call is).makes.1 in let same = length_entries e.did in omega arith
+      by true few = let own = is.few_own in let made = call_around actor (guard_of call) e.closed call e.answer e.own (entries_in e.did) (omega arith) is.makes.1 in let same = length_entries e.did in omega arith
+  asked_most m (Plans nth) op k e before after few most is = no_deeds e.did (with_own b k) is.0.did
+  asked_most m (Accepts bits) op k e before after few most is = no_deeds e.did (with_own b k) is.0.did
+  asked_most m (Refuses errno) op k e before after few most is = no_deeds e.did (with_own b k) is.0.did
+
+  -- an operation makes so many counted entries at most, and these and the files after it come to what it costs and the files before it
+  abbrev IsWithin : List OpenFile → Do → Exchange → Type 0
+  IsWithin files what e = (k : ℕ) × (length e.did ≤ with_own b k) × (k + length (files_behind what e.reply files) ≤ entries_of what + length files)
+
+  op_within : (m : Maps) (files : List OpenFile) (what : Do) (e : Exchange) (before after : Option Told) → Few b driver m → IsDone driver actor m (asking_with m files what) (op_asked files what) e before after
+      → IsWithin files what e
+  op_within m files what e before after few is = by what (asked_most m (asking_with m files what) (op_asked files what) (entries_made what) e before after few (with_most m files what) is) is
+    where
+      by : (what : Do) → length e.did ≤ with_own b (entries_made what) → IsDone driver actor m (asking_with m files what) (op_asked files what) e before after → IsWithin files what e
+      by (DoProbe label lines) most is = (1, most, omega arith)
+      by (DoUnplug place) most is = (2, most, omega arith)
+      by (DoMakeDir path) most is = (1, most, omega arith)
+      by (DoRemoveDir path) most is = (1, most, omega arith)
+      by (DoWrite path value) most is = (1, most, omega arith)
+      by (DoRead path) most is = (1, most, omega arith)
+      by (DoLive device up) most is = (2, most, omega arith)
+      by (DoTick mono real) most is = (1, most, omega arith)
+      by (DoPin place what) most is = (1, most, omega arith)
+      by (DoIrq place offset what) most is = (1, most, omega arith)
+      by (DoPull place offset up) most is = (1, most, omega arith)
+      by (DoLevel place offset pull) most is = (1, most, omega arith)
+      by (DoOpenChip slot word) most is = let more = opened_most slot (opened_of word e.reply) files in (1, most, omega arith)
+      by (DoFind slot name) most is = (1, most, omega arith)
       by (DoIoctl slot cmd len bytes made) most is = let more = made_most made (file_in slot files) (lines_named (buffer_of len bytes)) e.reply files in
-          let rest : ℕ = if nat_eq cmd LINE_SET_CONFIG then 2 else if nat_eq cmd LINE_GET_VALUES then 2 else if nat_eq cmd LINE_SET_VALUES then 2 else 1 in
-          (elim (nat_eq cmd GET_LINE) as (λ b. (d : ℕ) → d ≤ (if b then 2 else rest) → d + length (if b then made_on made (file_in slot files) (lines_named (buffer_of len bytes)) e.reply files else files) ≤ (if b then 3 else rest) + length files)
-          [ true ↦ λ d le. omega arith | false ↦ λ d le. omega arith ]) (length e.did) most
-      by (ReadFile slot len) most is = omega arith
-      by (Poll slot) most is = omega arith
+          let rest : ℕ = if nat_eq cmd LINE_SET_CONFIG then 2 else if nat_eq cmd LINE_GET_VALUES then 2 else if nat_eq cmd LINE_SET_VALUES then 2 else 1 in (
+            command_made cmd,
+            most,
+            elim (nat_eq cmd GET_LINE) as (λ b. (if b then 2 else rest) + length (if b then made_on made (file_in slot files) (lines_named (buffer_of len bytes)) e.reply files else files) ≤ (if b then 3 else rest) + length files)
+                [ true ↦ omega arith | false ↦ omega arith ],
+          )
+      by (ReadFile slot len) most is = (1, most, omega arith)
+      by (Poll slot) most is = (1, most, omega arith)
       by (DoClose slot) most is = closes (file_in slot files) refl is
         where
-          closes : (file : Option OpenFile) → file_in slot files ≡ file → IsDone driver actor (asking files (DoClose slot)) None e before after → length e.did + length (without_file slot files) ≤ 0 + length files
+          closes : (file : Option OpenFile) → file_in slot files ≡ file → IsDone driver actor m (asking files (DoClose slot)) None e before after → IsWithin files (DoClose slot) e
           closes None none is = let fewer = length-without_first-le (is_in slot) files in
-              let no_deed = no_deeds e.did 0 (subst (λ (f : Option OpenFile). IsDone driver actor (on_file f (λ file. once (Close file.fd))) None e before after) none is).0.did in omega arith
-          closes (Some file) found is = let fewer = closes_one (is_in slot) files file found in omega arith
-      by (Plan nth) most is = omega arith
-      by (Accept bits) most is = omega arith
-      by (Aggregate label slots count) most is = omega arith
+              (0, no_deeds e.did (with_own b 0) (subst (λ (f : Option OpenFile). IsDone driver actor m (on_file f (λ file. once (Close file.fd))) None e before after) none is).0.did, omega arith)
+          closes (Some file) found is = let fewer = closes_one (is_in slot) files file found in (1, most, omega arith)
+      by (Plan nth) most is = (0, most, omega arith)
+      by (Accept bits) most is = (0, most, omega arith)
+      by (Aggregate label slots count) most is = (1, most, omega arith)
 
   -- turns one after another
-  within : (turns : List Turn) (n : ℕ) (program : Program Names) (s : Carried) (rest : Program Names) (r : Carried) → CostsAtMost n program → Follows driver actor program s turns rest r
-      → (left : ℕ) × CostsAtMost left rest × (length (did_by turns) + length r.files + left ≤ n + length s.files)
-  within [] n program s rest r costs (is, same) = let files : length s.files ≡ length r.files = ap (λ (c : Carried). length c.files) same in (n, subst (λ (p : Program Names). CostsAtMost n p) is costs, omega arith)
-  within (Said text ∷ turns) n program s rest r costs (q, mid, (is, same), follows) =
+  pub within : (turns : List Turn) (n : ℕ) (program : Program Names) (s : Carried) (rest : Program Names) (r : Carried) → CostsAtMost n program → Follows driver actor program s turns rest r → Few b driver r.maps
+      → (left : ℕ) × CostsAtMost left rest × (length (did_by turns) + with_own b (length r.files + left) ≤ with_own b (n + length s.files))
+  within [] n program s rest r costs (is, same) few = let files : length s.files ≡ length r.files = ap (λ (c : Carried). length c.files) same in
+      let less = own_most b (length r.files + n) (n + length s.files) (omega arith) in (n, subst (λ (p : Program Names). CostsAtMost n p) is costs, omega arith)
+  within (Said text ∷ turns) n program s rest r costs (q, mid, (is, same), follows) few =
       let k : CostsAtMost n q = subst (λ (p : Program Names). CostsAtMost n p) is costs in
-      let on = within turns n q mid rest r k follows in let files : length mid.files ≡ length s.files = ap (λ (c : Carried). length c.files) same in (on.0, on.1, omega (arith, on.2))
-  within (Did e ∷ turns) n program s rest r costs (q, mid, (goes, is, next, carries), follows) = let cost : ℕ = entries_of e.what in
+      let on = within turns n q mid rest r k follows few in let files = own_most b (n + length mid.files) (n + length s.files) (let same_files : length mid.files ≡ length s.files = ap (λ (c : Carried). length c.files) same in omega arith) in
+      (on.0, on.1, omega (arith, on.2))
+  within (Did e ∷ turns) n program s rest r costs (q, mid, (goes, is, next, carries), follows) few = let cost : ℕ = entries_of e.what in
       let k : (cost ≤ n) × ((got : Got) → CostsAtMost (n - cost) (goes got)) = subst (λ (p : Program Names). CostsAtMost n p) is costs in
-      let on = within turns (n - cost) q mid rest r (subst (λ (p : Program Names). CostsAtMost (n - cost) p) (sym next) (k.1 _)) follows in
-      let here = op_within s.files e.what e s.told mid.told carries.is_done in
+      let on = within turns (n - cost) q mid rest r (subst (λ (p : Program Names). CostsAtMost (n - cost) p) (sym next) (k.1 _)) follows few in
+      let here = op_within s.maps s.files e.what e s.told mid.told (few_turn s e mid carries (few_turns turns q mid rest r follows few)) carries.is_done in
       let files : length mid.files ≡ length (files_behind e.what e.reply s.files) = ap (λ (l : List OpenFile). length l) carries.files in
-      let all : length (e.did ++ did_by turns) ≡ length e.did + length (did_by turns) = length-append e.did (did_by turns) in (on.0, on.1, omega (arith, on.2, k.0))
+      let sum = own_most b (here.0 + ((n - cost) + length mid.files)) (n + length s.files) (omega (arith, here.2, k.0)) in
+      let parts = own_plus b here.0 ((n - cost) + length mid.files) in
+      let all : length (e.did ++ did_by turns) ≡ length e.did + length (did_by turns) = length-append e.did (did_by turns) in (on.0, on.1, omega (arith, on.2, here.1))
 
-  part_within : (program : Program Names) (files : List OpenFile) (told : Option Told) (part : Part driver program files told) (n : ℕ) → actor ≡ 0 → CostsAtMost n program
-      → length part.did + length part.behind.files ≤ n + length files
-  part_within program files told part n first costs =
-      let w = within part.played.turns n program (record { files = files; told = told }) (done part.names) part.behind costs (subst (λ k. Follows driver k program (record { files = files; told = told }) part.played.turns (done part.names) part.behind) (sym first) part.played.follows) in
+  pub part_within : (program : Program Names) (files : List OpenFile) (told : Option Told) (m : Maps) (part : Part driver program files told m) (n : ℕ) → actor ≡ 0 → CostsAtMost n program → Few b driver part.behind.maps
+      → length part.did + with_own b (length part.behind.files) ≤ with_own b (n + length files)
+  part_within program files told m part n first costs few =
+      let w = within part.played.turns n program (carried files told m) (done part.names) part.behind costs (subst (λ k. Follows driver k program (carried files told m) part.played.turns (done part.names) part.behind) (sym first) part.played.follows) few in
+      let less = own_most b (length part.behind.files) (length part.behind.files + w.0) (omega arith) in
       let same : length part.did ≡ length (did_by part.played.turns) = ap (λ (l : List OneDeed). length l) part.played.did_is in omega (arith, w.2)
 
 pub entries_within_cost : (driver : DriverKind) → EntriesWithinCost driver
-entries_within_cost driver actor n program s turns rest r costs follows = within driver actor turns n program s rest r costs follows
+entries_within_cost driver limit actor n program s turns rest r costs follows = within true driver actor turns n program s rest r costs follows limit
+
+pub entries_within_plain_cost : (driver : DriverKind) → EntriesWithinPlainCost driver
+entries_within_plain_cost driver actor n program s turns rest r costs follows before behind =
+    let w = within false driver actor turns n program s rest r costs follows behind in (w.0, w.1, omega (arith, w.2))
 
 least_costs : (a b c d : Bool) → 1 ≤ (if a then 3 else if b then 2 else if c then 2 else if d then 2 else 1)
 least_costs true b c d = omega arith
@@ -338,9 +470,37 @@ call_costs files (Plan nth) call is = absurd (true≢false (sym (ap is_call is))
 call_costs files (Accept bits) call is = absurd (true≢false (sym (ap is_call is)))
 call_costs files (Aggregate label slots count) call is = absurd (true≢false (sym (ap is_call is)))
 
+with_costs : (m : Maps) (files : List OpenFile) (what : Do) (call : DeviceCall) → asking_with m files what ≡ Calls call → 1 ≤ entries_of what + length files
+with_costs m files (Aggregate label slots count) call is = omega arith
+with_costs m files (DoProbe label lines) call is = call_costs files (DoProbe label lines) call is
+with_costs m files (DoUnplug place) call is = call_costs files (DoUnplug place) call is
+with_costs m files (DoMakeDir path) call is = call_costs files (DoMakeDir path) call is
+with_costs m files (DoRemoveDir path) call is = call_costs files (DoRemoveDir path) call is
+with_costs m files (DoWrite path value) call is = call_costs files (DoWrite path value) call is
+with_costs m files (DoRead path) call is = call_costs files (DoRead path) call is
+with_costs m files (DoLive device up) call is = call_costs files (DoLive device up) call is
+with_costs m files (DoTick mono real) call is = call_costs files (DoTick mono real) call is
+with_costs m files (DoPin place what) call is = call_costs files (DoPin place what) call is
+with_costs m files (DoIrq place offset what) call is = call_costs files (DoIrq place offset what) call is
+with_costs m files (DoPull place offset up) call is = call_costs files (DoPull place offset up) call is
+with_costs m files (DoLevel place offset pull) call is = call_costs files (DoLevel place offset pull) call is
+with_costs m files (DoOpenChip slot word) call is = call_costs files (DoOpenChip slot word) call is
+with_costs m files (DoFind slot name) call is = call_costs files (DoFind slot name) call is
+with_costs m files (DoIoctl slot cmd len bytes made) call is = call_costs files (DoIoctl slot cmd len bytes made) call is
+with_costs m files (ReadFile slot len) call is = call_costs files (ReadFile slot len) call is
+with_costs m files (Poll slot) call is = call_costs files (Poll slot) call is
+with_costs m files (DoClose slot) call is = call_costs files (DoClose slot) call is
+with_costs m files (Plan nth) call is = call_costs files (Plan nth) call is
+with_costs m files (Accept bits) call is = call_costs files (Accept bits) call is
+
+pub below : (b : Bool) (driver : DriverKind) (actor n : ℕ) (program : Program Names) (s : Carried) (turns : List Turn) (what : Do) (later : Got → Program Names) (r : Carried) (call : DeviceCall)
+    → CostsAtMost n program → Follows driver actor program s turns (ask what later) r → Few b driver r.maps → asking_with r.maps r.files what ≡ Calls call → length (did_by turns) < with_own b (n + length s.files)
+below b driver actor n program s turns what later r call costs follows few is =
+    let w = within b driver actor turns n program s (ask what later) r costs follows few in let next = with_costs r.maps r.files what call is in
+    let some = own_below b 0 (length r.files + w.0) (omega (arith, w.1.0)) in let none = own_none b in omega (arith, w.2)
+
 pub calls_come_below_cost : (driver : DriverKind) → CallsComeBelowCost driver
-calls_come_below_cost driver actor n program s turns what later r call costs follows is =
-    let w = within driver actor turns n program s (ask what later) r costs follows in let next = call_costs r.files what call is in omega (arith, w.2, w.1.0)
+calls_come_below_cost driver limit actor n program s turns what later r call costs follows is = below true driver actor n program s turns what later r call costs follows limit is
 
 -- The cost of a session's parts
 
@@ -369,45 +529,80 @@ kinds_cost (section ∷ sections) = by section.kind (kinds_cost sections) ∙ sy
     by Actor rest = let m = more Actor in omega arith
     by After rest = let m = more After in omega arith
 
--- statements cost no more than their session
-pub costs_no_more : (sections : List SaidSection) → statements_cost sections ≤ session_cost sections
-costs_no_more sections = by (has_aggregate sections)
-  where
-    by : (b : Bool) → statements_cost sections ≤ with_own b (statements_cost sections)
-    by true = omega arith
-    by false = omega arith
-
 pub sessions_cost_their_parts : SessionsCostTheirParts
 sessions_cost_their_parts sections = record {
   setup = says_cost 0 (said_in_kind Setup sections) done (λ names. tt) setup_names;
   actor = says_cost 0 (said_in_kind Actor sections) quits end_cost no_names;
   last = λ names. says_cost (length (said_in_kind Setup sections)) (said_in_kind After sections) quits end_cost (left_setup names);
   whole = kinds_cost sections;
+  within = by (has_aggregate sections);
 }
+  where
+    by : (b : Bool) → statements_cost sections ≤ with_own b (statements_cost sections)
+    by true = omega arith
+    by false = omega arith
 
-pub sessions_keep_within_cost : (driver : DriverKind) → SessionsKeepWithinCost driver
-sessions_keep_within_cost driver sections before left text did p = let costs = sessions_cost_their_parts sections in
-    let first = part_within driver 0 _ [] before p.setup (cost_in_kind Setup sections) refl costs.setup in
-    let middle = part_within driver 0 _ [] p.setup.behind.told p.actor (cost_in_kind Actor sections) refl costs.actor in
-    let end = part_within driver 0 _ p.setup.behind.files p.actor.behind.told p.last (cost_in_kind After sections) refl (costs.last p.setup.names) in
+-- the parts of a session cost together what it costs
+pub parts_cost : (sections : List SaidSection) → let b : Bool = has_aggregate sections in
+    with_own b (cost_in_kind Setup sections) + with_own b (cost_in_kind Actor sections) + with_own b (cost_in_kind After sections) ≡ session_cost sections
+parts_cost sections = let b : Bool = has_aggregate sections in
+    sym (own_plus b (cost_in_kind Setup sections + cost_in_kind Actor sections) (cost_in_kind After sections) ∙ ap (λ n. n + with_own b (cost_in_kind After sections)) (own_plus b (cost_in_kind Setup sections) (cost_in_kind Actor sections)))
+    ∙ ap (with_own b) (kinds_cost sections)
+
+-- A session without `aggregate` teaches no port a map; with one, a driver makes eight entries of its own at most.
+pub few_in : (driver : DriverOver) (sections : List SaidSection) → driver.kind.limit ≤ 8 → (m : Maps) → (has_aggregate sections ≡ false → m.kept ≡ []) → Few (has_aggregate sections) driver.kind m
+few_in driver sections limit m none = by (has_aggregate sections) none
+  where
+    by : (b : Bool) → (b ≡ false → m.kept ≡ []) → Few b driver.kind m
+    by true none = limit
+    by false none = none refl
+
+pub few_behind : (driver : DriverOver) (sections : List SaidSection) → driver.kind.limit ≤ 8 → (actor : ℕ) (p : Program Names) (s : Carried) (turns : List Turn) (q : Program Names) (r : Carried) → Follows driver.kind actor p s turns q r
+    → (has_aggregate sections ≡ false → AsksNoChips p) → (has_aggregate sections ≡ false → s.maps.kept ≡ []) → Few (has_aggregate sections) driver.kind r.maps
+few_behind driver sections limit actor p s turns q r follows asks none =
+    few_in driver sections limit r.maps (λ without. ap (λ (m : Maps). m.kept) (turns_stay driver.kind actor p s turns q r (asks without) follows).1 ∙ none without)
+
+-- so it is behind each part of a session of one actor
+module _ (driver : DriverOver) (sections : List SaidSection) (before : Option Told) (setup : Part driver.kind (setup_of sections) [] before (start_maps driver)) where
+  pub none_behind_setup : has_aggregate sections ≡ false → setup.behind.maps.kept ≡ []
+  none_behind_setup without = ap (λ (m : Maps). m.kept) (turns_stay driver.kind 0 _ _ setup.played.turns _ setup.behind (asks_none sections without).setup setup.played.follows).1
+
+  module _ (actor : Part driver.kind (actor_of sections) [] setup.behind.told setup.behind.maps) where
+    pub none_behind_actor : has_aggregate sections ≡ false → actor.behind.maps.kept ≡ []
+    none_behind_actor without = ap (λ (m : Maps). m.kept) (turns_stay driver.kind 0 _ _ actor.played.turns _ actor.behind (asks_none sections without).alone actor.played.follows).1 ∙ none_behind_setup without
+
+pub sessions_keep_within_cost : (driver : DriverOver) → SessionsKeepWithinCost driver
+sessions_keep_within_cost driver limit sections before left text did p = let costs = sessions_cost_their_parts sections in let b : Bool = has_aggregate sections in
+    let first = part_within b driver.kind 0 _ [] before (start_maps driver) p.setup (cost_in_kind Setup sections) refl costs.setup (few_in driver sections limit p.setup.behind.maps (none_behind_setup driver sections before p.setup)) in
+    let middle = part_within b driver.kind 0 _ [] p.setup.behind.told p.setup.behind.maps p.actor (cost_in_kind Actor sections) refl costs.actor (few_in driver sections limit p.actor.behind.maps (none_behind_actor driver sections before p.setup p.actor)) in
+    let end = part_within b driver.kind 0 _ p.setup.behind.files p.actor.behind.told p.actor.behind.maps p.last (cost_in_kind After sections) refl (costs.last p.setup.names)
+    (few_behind driver sections limit 0 _ _ p.last.played.turns _ p.last.behind p.last.played.follows (λ without. (asks_none sections without).after p.setup.names) (none_behind_actor driver sections before p.setup p.actor)) in
     let all : length did ≡ length (p.setup.did ++ (p.actor.did ++ p.last.did)) = ap (λ (l : List OneDeed). length l) p.did_is in
-    let outer = length-append p.setup.did (p.actor.did ++ p.last.did) in let inner = length-append p.actor.did p.last.did in let whole = costs.whole in let most = costs_no_more sections in omega arith
+    let outer = length-append p.setup.did (p.actor.did ++ p.last.did) in let inner = length-append p.actor.did p.last.did in let whole = parts_cost sections in
+    let one = own_plus b (cost_in_kind Setup sections) 0 in let two = own_plus b (cost_in_kind Actor sections) 0 in let three = own_plus b (cost_in_kind After sections) (length p.setup.behind.files) in let none = own_none b in omega arith
 
-stop_below : (driver : DriverKind) (program : Program Names) (files : List OpenFile) (told : Option Told) (stop : Stop driver program files told) (n : ℕ) → CostsAtMost n program
-    → length (did_by stop.turns) < n + length files
-stop_below driver program files told stop n costs = calls_come_below_cost driver 0 n program (record { files = files; told = told }) stop.turns stop.what stop.later stop.behind stop.call costs stop.follows stop.calls
+module _ (driver : DriverOver) (sections : List SaidSection) (limit : driver.kind.limit ≤ 8) where
+  stop_below : (program : Program Names) (files : List OpenFile) (told : Option Told) (m : Maps) (stop : Stop driver.kind program files told m) (n : ℕ) → CostsAtMost n program
+      → (has_aggregate sections ≡ false → AsksNoChips program) → (has_aggregate sections ≡ false → m.kept ≡ []) → length (did_by stop.turns) < with_own (has_aggregate sections) (n + length files)
+  stop_below program files told m stop n costs asks none =
+      below (has_aggregate sections) driver.kind 0 n program (carried files told m) stop.turns stop.what stop.later stop.behind stop.call costs stop.follows
+      (few_behind driver sections limit 0 program (carried files told m) stop.turns _ stop.behind stop.follows asks none) stop.calls
 
-pub calls_have_room : (driver : DriverKind) → CallsHaveRoom driver
+pub calls_have_room : (driver : DriverOver) → CallsHaveRoom driver
 calls_have_room driver = record {
-  in_setup = λ sections before stop. let costs = sessions_cost_their_parts sections in let whole = costs.whole in let most = costs_no_more sections in
-      let below = stop_below driver (setup_of sections) [] before stop (cost_in_kind Setup sections) costs.setup in omega arith;
-  in_actor = λ sections before setup stop. let costs = sessions_cost_their_parts sections in let whole = costs.whole in let most = costs_no_more sections in
-      let first = part_within driver 0 (setup_of sections) [] before setup (cost_in_kind Setup sections) refl costs.setup in
-      let below = stop_below driver (actor_of sections) [] setup.behind.told stop (cost_in_kind Actor sections) costs.actor in
+  in_setup = λ limit sections before stop. let costs = sessions_cost_their_parts sections in let whole = parts_cost sections in let b : Bool = has_aggregate sections in
+      let fewer = stop_below driver sections limit (setup_of sections) [] before (start_maps driver) stop (cost_in_kind Setup sections) costs.setup (λ without. (asks_none sections without).setup) (λ without. refl) in
+      let one = own_plus b (cost_in_kind Setup sections) 0 in let none = own_none b in omega arith;
+  in_actor = λ limit sections before setup stop. let costs = sessions_cost_their_parts sections in let whole = parts_cost sections in let b : Bool = has_aggregate sections in
+      let first = part_within b driver.kind 0 (setup_of sections) [] before (start_maps driver) setup (cost_in_kind Setup sections) refl costs.setup (few_in driver sections limit setup.behind.maps (none_behind_setup driver sections before setup)) in
+      let fewer = stop_below driver sections limit (actor_of sections) [] setup.behind.told setup.behind.maps stop (cost_in_kind Actor sections) costs.actor (λ without. (asks_none sections without).alone) (none_behind_setup driver sections before setup) in
+      let one = own_plus b (cost_in_kind Setup sections) 0 in let two = own_plus b (cost_in_kind Actor sections) 0 in let none = own_none b in
       let all = length-append setup.did (did_by stop.turns) in omega arith;
-  in_after = λ sections before setup actor stop. let costs = sessions_cost_their_parts sections in let whole = costs.whole in let most = costs_no_more sections in
-      let first = part_within driver 0 (setup_of sections) [] before setup (cost_in_kind Setup sections) refl costs.setup in
-      let middle = part_within driver 0 (actor_of sections) [] setup.behind.told actor (cost_in_kind Actor sections) refl costs.actor in
-      let below = stop_below driver (after_of sections setup.names) setup.behind.files actor.behind.told stop (cost_in_kind After sections) (costs.last setup.names) in
+  in_after = λ limit sections before setup actor stop. let costs = sessions_cost_their_parts sections in let whole = parts_cost sections in let b : Bool = has_aggregate sections in
+      let first = part_within b driver.kind 0 (setup_of sections) [] before (start_maps driver) setup (cost_in_kind Setup sections) refl costs.setup (few_in driver sections limit setup.behind.maps (none_behind_setup driver sections before setup)) in
+      let middle = part_within b driver.kind 0 (actor_of sections) [] setup.behind.told setup.behind.maps actor (cost_in_kind Actor sections) refl costs.actor (few_in driver sections limit actor.behind.maps (none_behind_actor driver sections before setup actor)) in
+      let fewer = stop_below driver sections limit (after_of sections setup.names) setup.behind.files actor.behind.told actor.behind.maps stop (cost_in_kind After sections) (costs.last setup.names)
+      (λ without. (asks_none sections without).after setup.names) (none_behind_actor driver sections before setup actor) in
+      let one = own_plus b (cost_in_kind Setup sections) 0 in let two = own_plus b (cost_in_kind Actor sections) 0 in let three = own_plus b (cost_in_kind After sections) (length setup.behind.files) in let none = own_none b in
       let outer = length-append setup.did (actor.did ++ did_by stop.turns) in let inner = length-append actor.did (did_by stop.turns) in omega arith;
 }

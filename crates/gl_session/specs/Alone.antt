@@ -1,6 +1,6 @@
 -- A session of one actor as it was carried out on the device, and what follows of it: its text is One of the answers that the
 -- driver gave. This project's choice.
-use Rattle.std.specs.Prelude.{◌≡◌, ℕ, ◌≤◌, Bool, true, false, ◌&&◌, if◌then◌else◌, List, [], ◌∷◌, ◌++◌, length, Option, Some}
+use Rattle.std.specs.Prelude.{◌≡◌, ◌⊎◌, ℕ, ◌≤◌, Bool, true, false, ◌&&◌, if◌then◌else◌, List, [], ◌∷◌, ◌++◌, length, Option, Some}
 use Rattle.gl_world.specs.Deeds.{deeds_of, entries_in}
 use Rattle.gl_world.specs.History.{Legal, StartsWith, entries_of}
 use Rattle.gl_rule.specs.Turn.{NoStrangers}
@@ -11,31 +11,35 @@ use Rattle.gl_driver.specs.Told.{Told}
 use Rattle.gl_model.specs.Entries.{begins}
 use Rattle.gl_model.specs.declared.call.Call.{Call}
 use Rattle.gl_model.specs.declared.call.Call.TheVariants.{Ioctl}
+use Rattle.gl_base.specs.Rows.{Each}
+use Rattle.gl_script.specs.Cost.{has_aggregate, session_cost}
 use Rattle.gl_script.specs.Section.{SaidSection}
 use Rattle.gl_talk.specs.Open.{Names}
 use Rattle.gl_core.specs.Device.{OneDeed, OneEntry, core, tells_in}
 use Rattle.gl_chip.specs.Values.{OneView}
-use Rattle.gl_check.specs.Drivers.{DriverKind}
+use Rattle.gl_check.specs.Drivers.{DriverKind, DriverOver, start_maps}
+use Rattle.gl_check.specs.Joining.{Maps}
+use Rattle.gl_check.specs.Lawful.{IsLawfulCall}
 use Rattle.gl_check.specs.Programs.{actor_of, after_of, setup_of}
 use Rattle.gl_check.specs.Tells.{TellsAfter}
-use Rattle.gl_check.specs.One.{Answering, entries_made, entries_over, one, one_over, planned_over, taken, taken_over, told_behind}
+use Rattle.gl_check.specs.One.{Answering, asked_over, entries_made, entries_over, one, one_over, planned_over, taken, taken_over, told_behind, told_over}
 use Rattle.gl_asking.specs.Files.{OpenFile}
-use Rattle.gl_check.specs.Turns.{Carried, Did, Exchange, Played, Said, Turn}
+use Rattle.gl_check.specs.Turns.{AreSeen, Carried, Did, Exchange, Played, Said, Turn, carried}
 
--- a program that was carried out to its end from these open files on: what it printed, what it did, and what it left
-pub record Part (driver : DriverKind) (program : Program Names) (files : List OpenFile) (told : Option Told) : Type 0 where
+-- a program that was carried out to its end from these open files and these maps on: what it printed, what it did, and what it left
+pub record Part (driver : DriverKind) (program : Program Names) (files : List OpenFile) (told : Option Told) (m : Maps) : Type 0 where
   pub text : List ℕ
   pub did : List OneDeed
   pub names : Names
   pub behind : Carried
-  pub played : Played driver 0 program (record { files = files; told = told }) text did names behind
+  pub played : Played driver 0 program (carried files told m) text did names behind
 
 -- The sections of a session, carried out by actor 0 one after another: `setup` and `after` are one talk, which waits in between
 -- with its files and names, and the actor's section is a talk of its own.
-pub record PlayedSession (driver : DriverKind) (sections : List SaidSection) (before : Option Told) (text : List ℕ) (did : List OneDeed) (left : Option Told) : Type 0 where
-  pub setup : Part driver (setup_of sections) [] before
-  pub actor : Part driver (actor_of sections) [] setup.behind.told
-  pub last : Part driver (after_of sections setup.names) setup.behind.files actor.behind.told
+pub record PlayedSession (driver : DriverOver) (sections : List SaidSection) (before : Option Told) (text : List ℕ) (did : List OneDeed) (left : Option Told) : Type 0 where
+  pub setup : Part driver.kind (setup_of sections) [] before (start_maps driver)
+  pub actor : Part driver.kind (actor_of sections) [] setup.behind.told setup.behind.maps
+  pub last : Part driver.kind (after_of sections setup.names) setup.behind.files actor.behind.told actor.behind.maps
   pub text_is : text ≡ (setup.text ++ actor.text) ++ last.text
   pub did_is : did ≡ setup.did ++ (actor.did ++ last.did)
   pub left_is : left ≡ last.behind.told
@@ -68,9 +72,21 @@ given_by (Said text ∷ turns) = given_by turns
 given_by (Did e ∷ turns) = given_in e ++ given_by turns
 
 -- and in a session
-abbrev pub given_of : (driver : DriverKind) (sections : List SaidSection) (before : Option Told) (text : List ℕ) (did : List OneDeed) (left : Option Told)
+abbrev pub given_of : (driver : DriverOver) (sections : List SaidSection) (before : Option Told) (text : List ℕ) (did : List OneDeed) (left : Option Told)
     → PlayedSession driver sections before text did left → List Answering
 given_of driver sections before text did left p = given_by p.setup.played.turns ++ (given_by p.actor.played.turns ++ given_by p.last.played.turns)
+
+-- Where the driver goes by a map in one of the three parts, fewer entries than `most` had been seen before the last one of its call; so there was
+-- room for more where the history has room for as many.
+pub record ArePartsSeen (driver : DriverOver) (sections : List SaidSection) (before : Option Told) (text : List ℕ) (did : List OneDeed) (left : Option Told)
+    (p : PlayedSession driver sections before text did left) (room most : ℕ) : Type 0 where
+  pub setup : AreSeen room most p.setup.played.turns
+  pub actor : AreSeen room most p.actor.played.turns
+  pub last : AreSeen room most p.last.played.turns
+
+abbrev pub ArePartsWithin : (driver : DriverOver) (sections : List SaidSection) (before : Option Told) (text : List ℕ) (did : List OneDeed) (left : Option Told)
+    → PlayedSession driver sections before text did left → Type 0
+ArePartsWithin driver sections before text did left p = ArePartsSeen driver sections before text did left p (session_cost sections) (session_cost sections)
 
 -- a legal history that has the entries of actor 0 alone, and these are what it did
 pub record IsAlone (history : List OneEntry) (did : List OneDeed) : Type 0 where
@@ -92,26 +108,40 @@ FirstActorSeesItself = (room : ℕ) (v w : OneView) (did : List OneDeed) → v �
 
 -- What was printed is One over what the driver did where it was asked, calls of its own included; One takes just that, and makes
 -- as many entries.
-abbrev pub PrintsOver : DriverKind → Type 0
+abbrev pub PrintsOver : DriverOver → Type 0
 PrintsOver driver = (sections : List SaidSection) (before left : Option Told) (text : List ℕ) (did : List OneDeed) (history : List OneEntry)
     (p : PlayedSession driver sections before text did left) → IsAlone history did → let given = given_of driver sections before text did left p in
-    (text ≡ one_over sections given) × (taken_over sections given ≡ given) × (entries_over sections given ≡ length history)
+    (text ≡ one_over driver.kind.limit driver.maps_left sections given) × (taken_over driver.kind.limit driver.maps_left sections given ≡ given)
+    × (entries_over driver.kind.limit driver.maps_left sections given ≡ length history)
 
--- What was printed is One of the answers that the driver's tells have in order, One takes just these, and makes as many entries.
-abbrev pub PrintsOne : DriverKind → Type 0
+-- No port of the session ever keeps a map: it takes none, or is taught none.
+abbrev pub KeepsNoMaps : DriverOver → List SaidSection → Type 0
+KeepsNoMaps driver sections = (driver.maps_left ≡ 0) ⊎ (has_aggregate sections ≡ false)
+
+-- Then what was printed is One of the answers that the driver's tells have in order, One takes just these, and makes as many entries.
+abbrev pub PrintsOne : DriverOver → Type 0
 PrintsOne driver = (sections : List SaidSection) (before left : Option Told) (text : List ℕ) (did : List OneDeed) (history : List OneEntry)
-    → PlayedSession driver sections before text did left → IsAlone history did
+    → KeepsNoMaps driver sections → PlayedSession driver sections before text did left → IsAlone history did
     → (text ≡ one sections (tells_in history)) × (taken sections (tells_in history) ≡ tells_in history) × (entries_made sections (tells_in history) ≡ length history)
 
--- A planned driver over a port that tells answers as the port's plan and its statements say.
-abbrev pub AnswersAsPlanned : DriverKind → Type 0
-AnswersAsPlanned driver = driver.is_planned ≡ true → (sections : List SaidSection) (t : Told) (left : Option Told) (text : List ℕ) (did : List OneDeed) (history : List OneEntry)
-    → PlayedSession driver sections (Some t) text did left → IsAlone history did → tells_in history ≡ planned_over t sections
+-- And a planned driver over a port that tells answers as the port's plan and its statements say.
+abbrev pub AnswersAsPlanned : DriverOver → Type 0
+AnswersAsPlanned driver = driver.kind.is_planned ≡ true → (sections : List SaidSection) (t : Told) (left : Option Told) (text : List ℕ) (did : List OneDeed) (history : List OneEntry)
+    → KeepsNoMaps driver sections → PlayedSession driver sections (Some t) text did left → IsAlone history did → tells_in history ≡ planned_over t sections
 
--- Every driver is asked through the port: it tells in the end all that the statements and the calls make of it over the answers of the
--- history's tells. So where it told, it tells just these answers.
-pub record PortTells (driver : DriverKind) : Type 0 where
+-- Each call of the driver is one that it may make, and was made while there was room.
+abbrev pub AsksLawfully : DriverOver → Type 0
+AsksLawfully driver = (sections : List SaidSection) (before left : Option Told) (text : List ℕ) (did : List OneDeed) (history : List OneEntry)
+    (p : PlayedSession driver sections before text did left) → IsAlone history did → ArePartsWithin driver sections before text did left p
+    → Each (IsLawfulCall driver.kind (session_cost sections)) (asked_over driver.kind.limit driver.maps_left sections (given_of driver sections before text did left p) before)
+
+-- Every driver is asked through the port: it tells in the end all that the statements and the calls make of it over what the driver did; where
+-- no port keeps maps, over the answers of the history's tells. So where it told, it tells just these answers.
+pub record PortTells (driver : DriverOver) : Type 0 where
+  pub over : (sections : List SaidSection) (before left : Option Told) (text : List ℕ) (did : List OneDeed) (history : List OneEntry)
+      (p : PlayedSession driver sections before text did left) → IsAlone history did
+      → left ≡ told_over driver.kind.limit driver.maps_left sections (given_of driver sections before text did left p) before
   pub whole : (sections : List SaidSection) (before left : Option Told) (text : List ℕ) (did : List OneDeed) (history : List OneEntry)
-      → PlayedSession driver sections before text did left → IsAlone history did → left ≡ told_behind sections (tells_in history) before
+      → KeepsNoMaps driver sections → PlayedSession driver sections before text did left → IsAlone history did → left ≡ told_behind sections (tells_in history) before
   pub answers : (sections : List SaidSection) (t : Told) (left : Option Told) (text : List ℕ) (did : List OneDeed) (history : List OneEntry)
-      → PlayedSession driver sections (Some t) text did left → IsAlone history did → TellsAfter t (tells_in history) left
+      → KeepsNoMaps driver sections → PlayedSession driver sections (Some t) text did left → IsAlone history did → TellsAfter t (tells_in history) left

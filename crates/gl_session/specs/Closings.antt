@@ -15,7 +15,8 @@ use Rattle.gl_core.specs.Device.{OneDeed, OneEntry, core}
 use Rattle.gl_session.specs.Alone.{IsAlone, PlayedSession}
 use Rattle.gl_asking.specs.Asking.{files_behind, got_of}
 use Rattle.gl_asking.specs.Files.{OpenFile, file_in}
-use Rattle.gl_check.specs.Drivers.{DriverKind}
+use Rattle.gl_check.specs.Drivers.{DriverKind, DriverOver}
+use Rattle.gl_check.specs.Joining.{Maps}
 use Rattle.gl_check.specs.Many.{ActorPlayed, AllPlayed, Texts, actor_sections, no_section, words_of}
 use Rattle.gl_check.specs.One.{said_in_kind}
 use Rattle.gl_check.specs.Turns.{Carried, Did, Follows, Said, Turn, carried}
@@ -68,21 +69,21 @@ after_statements sections names = says (length (said_in_kind Setup sections)) (s
 
 -- So each actor's section ends in a legal history of several actors, and so does the talk of `setup` and `after`: of these the end
 -- closes what either left open, and it stands after `after`.
-pub record ActorsCloseByNumber (driver : DriverKind) : Type 0 where
+pub record ActorsCloseByNumber (driver : DriverOver) : Type 0 where
   pub sections : (before left : ℕ → Option Told) (sections : List SaidSection) (history : List OneEntry) → Legal core history
-      → (n : ℕ) (text : List ℕ) (actor : ActorPlayed driver before left sections history n text)
-      → ClosesByNumber driver n [] (section_statements sections n) (carried [] (before n)) actor.played.turns actor.names actor.behind
+      → (m : Maps) (n : ℕ) (text : List ℕ) (actor : ActorPlayed driver before left sections history m n text)
+      → ClosesByNumber driver.kind n [] (section_statements sections n) (carried [] (before n) m) actor.played.turns actor.names actor.behind
   pub after : (before left : ℕ → Option Told) (sections : List SaidSection) (history : List OneEntry) (texts : Texts)
       (all : AllPlayed driver before left sections history texts)
-      → ClosesByNumber driver 0 all.setup.turns (after_statements sections all.names) all.waiting all.after.turns all.end all.behind
+      → ClosesByNumber driver.kind 0 all.setup.turns (after_statements sections all.names) all.waiting all.after.turns all.end all.behind
 
 -- The same of the two talks of a session of one actor: its section closes its own files alone, while those of `setup` stay open.
-pub record OneActorClosesByNumber (driver : DriverKind) : Type 0 where
+pub record OneActorClosesByNumber (driver : DriverOver) : Type 0 where
   pub section : (sections : List SaidSection) (before left : Option Told) (text : List ℕ) (did : List OneDeed) (history : List OneEntry)
       (played : PlayedSession driver sections before text did left) → IsAlone history did
-      → ClosesByNumber driver 0 [] (says 0 (said_in_kind Actor sections) done no_names) (carried [] played.setup.behind.told)
+      → ClosesByNumber driver.kind 0 [] (says 0 (said_in_kind Actor sections) done no_names) (carried [] played.setup.behind.told played.setup.behind.maps)
       played.actor.played.turns played.actor.names played.actor.behind
   pub after : (sections : List SaidSection) (before left : Option Told) (text : List ℕ) (did : List OneDeed) (history : List OneEntry)
       (played : PlayedSession driver sections before text did left) → IsAlone history did
-      → ClosesByNumber driver 0 played.setup.played.turns (after_statements sections played.setup.names) (carried played.setup.behind.files played.actor.behind.told)
+      → ClosesByNumber driver.kind 0 played.setup.played.turns (after_statements sections played.setup.names) (carried played.setup.behind.files played.actor.behind.told played.actor.behind.maps)
       played.last.played.turns played.last.names played.last.behind

@@ -7,12 +7,14 @@ pub mod Many
 pub mod OneActor
 pub mod Output
 pub mod Performed
+pub mod Placed
 pub mod Player
 pub mod Ports
 pub mod Run
 pub mod Several
 pub mod Status
 pub mod Streams
+pub mod Targets
 pub mod Together
 pub mod Verdict
 pub mod Within

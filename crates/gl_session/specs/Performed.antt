@@ -1,5 +1,5 @@
 -- One operation of a talk, carried out on the device; and a program in the midst of being carried out.
-use Rattle.std.specs.Prelude.{◌≡◌, ◌⊎◌, ℕ, Bool, List, ◌++◌, Option, Result, Ok, Err}
+use Rattle.std.specs.Prelude.{◌≡◌, ◌⊎◌, ◌<◌, ℕ, Bool, is_some, List, ◌++◌, length, Option, Result, Ok, Err}
 use Rattle.gl_base.specs.declared.errno.Errno.{Errno}
 use Rattle.gl_base.specs.declared.errno.Errno.TheVariants.{Full, NoMemory}
 use Rattle.gl_base.specs.declared.operation.Do.{Do}
@@ -19,8 +19,10 @@ use Rattle.gl_asking.specs.declared.kinds.Asking.{Asking}
 use Rattle.gl_asking.specs.declared.kinds.FileKind.{FileKind}
 use Rattle.gl_asking.specs.declared.kinds.Asking.TheVariants.{Calls, Plans, Accepts, Refuses}
 use Rattle.gl_asking.specs.Asking.{asking, got_of}
+use Rattle.gl_asking.specs.Files.{OpenFile}
 use Rattle.gl_check.specs.Drivers.{DriverKind}
-use Rattle.gl_check.specs.Turns.{Carried, Carries, Exchange, Follows, PortBy, Turn, did_by, map_of, said_by, was_asked}
+use Rattle.gl_check.specs.Joining.{Maps, asking_with, maps_behind}
+use Rattle.gl_check.specs.Turns.{AreSeen, Carried, Carries, Exchange, Follows, PortBy, Turn, WhereMapped, did_by, map_of, said_by, was_asked}
 
 -- An operation was carried out by the actor whose pass knew v and knows w then: it got this, and did just the deeds of the exchange.
 pub record HasPerformed (driver : DriverKind) (what : Do) (v : OneView) (s : Carried) (got : Got) (w : OneView) (r : Carried) : Type 0 where
@@ -28,18 +30,27 @@ pub record HasPerformed (driver : DriverKind) (what : Do) (v : OneView) (s : Car
   pub what_is : exchange.what ≡ what
   pub got_is : got ≡ got_of what exchange.reply exchange.wrote
   pub carries : Carries driver v.number s exchange r
+  pub seen : WhereMapped exchange.mapped v.room (length w.seen) exchange
   pub grew : Grew core v exchange.did w
 
 -- an operation as it was carried out
-abbrev pub exchange : Do → Bool → Option ℕ → List OneEntry → List OneDeed → Reply → List ℕ → Exchange
-exchange what closed answer own did reply wrote = record { what = what; closed = closed; answer = answer; own = own; did = did; reply = reply; wrote = wrote }
+abbrev pub exchange : Do → Bool → Bool → Option ℕ → List OneEntry → ℕ → ℕ → List OneDeed → Reply → List ℕ → Exchange
+exchange what mapped closed answer own room seen did reply wrote =
+    record { what = what; mapped = mapped; closed = closed; answer = answer; own = own; room = room; seen = seen; did = did; reply = reply; wrote = wrote }
 
--- A call of the device was made on a file of this kind, over this driver, whatever the operation was for: what the actor did, and what became of
--- the port.
-pub record MadeFor (driver : DriverKind) (call : DeviceCall) (on : FileKind) (v : OneView) (reply : Reply) (bytes : List ℕ) (w : OneView) (before after : Option Told) : Type 0 where
+-- A call of the device was made on a file of this kind, over this driver and a port with these maps, whatever the operation was for: what the
+-- actor did, how many entries it had seen before the last of its own, and what became of the port.
+pub record MadeFor (driver : DriverKind) (m : Maps) (call : DeviceCall) (on : FileKind) (v : OneView) (reply : Reply) (bytes : List ℕ) (w : OneView) (before after : Option Told) : Type 0 where
   pub called : HasCalled driver.limit v call reply bytes w
-  pub port : (what : Do) → PortBy driver v.number (was_asked call (entries_in called.did)) (map_of call) (op_ordered call on)
-      (exchange what called.closed called.answer called.own called.did reply bytes) before after
+  pub saw : ℕ
+  pub fewer : saw < length w.seen
+  pub port : (what : Do) → PortBy driver v.number (was_asked call (entries_in called.did)) (map_of driver m call) (op_ordered call on)
+      (exchange what (is_some (map_of driver m call)) called.closed called.answer called.own v.room saw called.did reply bytes) before after
+
+-- the maps of a port mean nothing to the operation
+pub record GoesByFiles (what : Do) : Type 0 where
+  pub asks : (m : Maps) (files : List OpenFile) → asking_with m files what ≡ asking files what
+  pub teaches_nothing : (m : Maps) (files : List OpenFile) (reply : Reply) → maps_behind what reply files m ≡ m
 
 -- the operation is a call of the device
 abbrev pub IsCall : Asking → Type 0
@@ -50,7 +61,7 @@ IsCall (Refuses errno) = ⊥
 
 -- the history was full when a call was to be made
 abbrev pub MetFull : Do → OneView → Carried → OneView → Type 0
-MetFull what v s w = IsCall (asking s.files what) × FoundNoRoom core v w
+MetFull what v s w = IsCall (asking_with s.maps s.files what) × FoundNoRoom core v w
 
 -- How an operation comes out: it was carried out; or memory was wanted, or the history was full, and then it has no result.
 abbrev pub Performs : DriverKind → Do → Result Got Errno → OneView → Carried → OneView → Carried → Type 0
@@ -62,6 +73,7 @@ pub record PlaysOn {A : Type 0} (driver : DriverKind) (p : Program A) (v : OneVi
   pub turns : List Turn
   pub follows : Follows driver v.number p s turns q r
   pub text_is : text ≡ before ++ said_by turns
+  pub seen : AreSeen v.room (length w.seen) turns
   pub grew : Grew core v (did_by turns) w
 
 -- It was carried out until the history was full.

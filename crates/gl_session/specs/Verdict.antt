@@ -13,7 +13,7 @@ use Rattle.gl_trace.specs.HistoryText.{AreTold}
 use Rattle.gl_trace.specs.Joined.{joined}
 use Rattle.gl_trace.specs.WordRead.{number_below, stripped}
 use Rattle.gl_core.specs.Device.{OneEntry}
-use Rattle.gl_check.specs.Drivers.{plain}
+use Rattle.gl_check.specs.Drivers.{over, plain}
 use Rattle.gl_check.specs.Many.{Many, PlannedTells, Texts, actor_sections}
 use Rattle.gl_check.specs.Misfit.{IsMisfit, texts_of}
 use Rattle.gl_check.specs.Texts.{texts_text}
@@ -118,8 +118,8 @@ IsVerdict input verdict = IsLongVerdict (nat_lt CHECK_MAX (length input)) input 
 abbrev pub check_text : List ℕ → List ℕ → List ℕ
 check_text session printed = numbered_line (codes "check") (length session) ++ (session ++ printed)
 
--- An input is a lawful run: it is within its length, and is a header, a session of several actors without `aggregate`, and the Output of
--- some texts and some history with Many and PlannedTells. Its entries' numbers and texts are of their types.
+-- An input is a lawful run: it is within its length, and is a header, a session of several actors without `aggregate`, and the Output of some texts and some
+-- history with Many and PlannedTells. Its entries' numbers and texts are of their types.
 pub record IsLawful (input : List ℕ) : Type 0 where
   pub session : List ℕ
   pub sections : List SaidSection
@@ -130,8 +130,8 @@ pub record IsLawful (input : List ℕ) : Type 0 where
   pub sentence : Sentence session sections
   pub several : 2 ≤ length (actor_sections sections)
   pub without : has_aggregate sections ≡ false
-  pub many : Many plain sections history texts
-  pub planned : PlannedTells plain sections history texts
+  pub many : Many (over 0 plain) sections history texts
+  pub planned : PlannedTells (over 0 plain) sections history texts
   pub told : AreTold 0 history
 
 -- `yes` is the verdict on lawful runs, and on these alone

@@ -10,8 +10,10 @@ ghost use Rattle.gl_script.specs.declared.section.SectionKind.TheVariants.{Actor
 ghost use Rattle.gl_check.specs.Drivers.{driver_kind};
 ghost use Rattle.gl_check.specs.One.{said_in_kind};
 ghost use Rattle.gl_check.specs.Many.{actor_sections, program_of};
-ghost use Rattle.gl_session.specs.Ports.{AreBare, GoesByNoMap, OwnsNothing};
-ghost use Rattle.gl_session.specs.Workers.{AreDone, AreFresh, AreKept, HasJoined, HasSplit, HaveBarePorts, IsFresh, WorkDone, there_at, told_at};
+ghost use Rattle.gl_check.specs.Joining.{Maps};
+ghost use Rattle.gl_session.specs.Placed.{AreMapsPlaced};
+ghost use Rattle.gl_session.specs.Ports.{AllHave, AreMaps, OwnsNothing, maps_of};
+ghost use Rattle.gl_session.specs.Workers.{AreDone, AreFresh, AreKept, HasJoined, HasSplit, HaveMaps, IsFresh, WorkDone, there_at, told_at};
 
 use crate::player::Player;
 use crate::rendezvous::Rendezvous;
@@ -20,7 +22,7 @@ use gl_base::{ByteList, Errno};
 use gl_check::sections::actor_statements;
 use gl_chip::{Actor, Gpio};
 use gl_core::Core;
-use gl_driver::Driver;
+use gl_driver::{Driver, Map};
 use gl_script::Script;
 use std::alloc::{AllocError, Global};
 use std::sync::Wait;
@@ -68,12 +70,11 @@ fn split_one<D: Driver<Core>>(
     requires actor { IsActorOf device.now first.old }
     requires number { first.old.pass.view.number ≡ 0 }
     requires few { first.old.pass.view.made < 256 }
-    requires bare { GoesByNoMap D.ENTRIES (D.Port.maps port) }
     ensures actor { IsActorOf device.now first.new }
     ensures view { first.new.pass.view ≡ with_one_more first.old.pass.view }
     ensures port { first.new.port ≡ first.old.port }
     ensures more { OnOk result ((a : _) × (actors.new.items ≡ actors.old.items ++ a ∷ [])
-        × IsFresh D.Port.told (λ _. D.Port.told port) device.now first.old.pass.view first.old.pass.view.made a × GoesByNoMap D.ENTRIES (D.Port.maps a.port)) }
+        × IsFresh D.Port.told (λ _. D.Port.told port) device.now first.old.pass.view first.old.pass.view.made a × (a.port ≡ port)) }
     ensures memory_alone { IsOkUnless result Errno.NoMemory }
 {
     let actor = device.split(first, port);
@@ -93,10 +94,10 @@ pub fn split_all<D: Driver<Core>>(
     requires few { count < 256 }
     requires ports { count < length ports.old }
     requires there { (n : ℕ) → 1 ≤ n → n < length ports.old → there_at ports.old n ≡ true }
-    requires bare { AreBare D.ENTRIES D.Port.maps ports.old }
     ensures actor { IsActorOf device.now first.new }
     ensures port { first.new.port ≡ first.old.port }
-    ensures bare { IfOk result (λ v. HaveBarePorts D.ENTRIES D.Port.maps v.items) }
+    ensures seen { first.new.pass.view.seen ≡ first.old.pass.view.seen }
+    ensures maps { (m : Maps) → AllHave D.Port.maps D.Port.maps_left m ports.old → IfOk result (λ v. HaveMaps D.Port.maps D.Port.maps_left m v.items) }
     ensures split { OnOk result (HasSplit first.old.pass.view count first.new.pass.view) }
     ensures len { IfOk result (λ v. vec_len v ≡ count) }
     ensures fresh { IfOk result (λ v. AreFresh D.Port.told (told_at D.Port.told ports.old) device.now first.old.pass.view 1 v.items) }
@@ -117,25 +118,53 @@ pub fn split_all<D: Driver<Core>>(
     Ok(actors)
 }
 
-/// One actor's work: the section of its number, to the end. It begins when the others do.
+/// What the actors at work have in common.
+#[derive(Drop)]
+pub struct Common<'a> {
+    /// The session.
+    pub script: &'a Script<'a>,
+    /// The maps that their ports keep.
+    pub maps: &'a [Map],
+}
+
+/// Maps, once more.
+fn copied(alloc: Global, maps: &[Map]) -> Result<Vec<Map>, Errno>
+    ensures copied { IfOk result (λ v. v.items ≡ maps.now) }
+    ensures memory_alone { IsOkUnless result Errno.NoMemory }
+{
+    let mut copy = Vec::new(alloc);
+    match copy.extend_from_slice(maps) {
+        Ok(()) => Ok(copy),
+        Err(_) => Err(Errno::NoMemory),
+    }
+}
+
+/// One actor's work: the section of its number, to the end. It begins when the others do, also where it has no memory for it.
 fn work<R: Wait, D: Driver<Core>>(
     rt: &R,
     alloc: Global,
     device: &Gpio<D>,
-    script: &Script<'_>,
+    common: &Common<'_>,
     start: &Rendezvous,
     actor: Actor<D>,
 ) -> Done<D>
     requires none { OwnsNothing D.OwnEntries }
     requires fresh { IsFresh D.Port.told (λ _. D.Port.told actor.port) device.now actor.pass.view actor.pass.view.number actor }
-    requires bare { GoesByNoMap D.ENTRIES (D.Port.maps actor.port) }
-    requires section { (1 ≤ actor.pass.view.number) × (actor.pass.view.number ≤ length (actor_sections (sections_of script.now))) }
-    requires few { length (said_in_kind ActorKind (sections_of script.now)) ≤ 1048576 }
-    ensures { WorkDone D.Port.told (λ _. D.Port.told actor.port) device.now (driver_kind D.ENTRIES D.is_planned D.OwnEntries D.Follows) (program_of (sections_of script.now)) actor.pass.view actor.pass.view.number result }
+    requires maps { AreMaps common.now.maps.now × (common.now.maps.now ≡ D.Port.maps actor.port) × AreMapsPlaced actor.pass.view.seen common.now.maps.now }
+    requires section { (1 ≤ actor.pass.view.number) × (actor.pass.view.number ≤ length (actor_sections (sections_of common.now.script.now))) }
+    requires few { length (said_in_kind ActorKind (sections_of common.now.script.now)) ≤ 1048576 }
+    ensures { WorkDone D.Port.told (λ _. D.Port.told actor.port) device.now (driver_kind D.ENTRIES D.is_planned D.OwnEntries D.Follows) (maps_of D.Port.maps D.Port.maps_left actor.port) (program_of (sections_of common.now.script.now)) actor.pass.view actor.pass.view.number result }
 {
     let number = actor.number();
-    let statements = actor_statements(script, u32::from(number));
-    let mut player = Player::new(alloc, device, actor);
+    let maps = match copied(alloc, common.maps) {
+        Ok(maps) => maps,
+        Err(errno) => {
+            start.meet();
+            return (actor, Err(errno));
+        }
+    };
+    let statements = actor_statements(common.script, u32::from(number));
+    let mut player = Player::with_maps(alloc, device, actor, maps);
     let text = play_beside(rt, alloc, &mut player, start, statements);
     (player.into_actor(), text)
 }
@@ -145,29 +174,30 @@ fn map_all<R: Threads + Wait + Sync, D: Driver<Core>>(
     rt: &R,
     alloc: Global,
     device: &Gpio<D>,
-    script: &Script<'_>,
+    common: &Common<'_>,
     actors: Vec<Actor<D>>,
 ) -> Result<Vec<Done<D>>, AllocError>
     requires none { OwnsNothing D.OwnEntries }
-    requires few { length (said_in_kind ActorKind (sections_of script.now)) ≤ 1048576 }
+    requires few { length (said_in_kind ActorKind (sections_of common.now.script.now)) ≤ 1048576 }
+    requires may_be_learned { AreMaps common.now.maps.now }
     requires fresh { (i : ℕ) (a : _) → i < vec_len actors → a ≡ slice_index_or actors.items i a
         → IsFresh D.Port.told (λ _. D.Port.told a.port) device.now a.pass.view a.pass.view.number a
-        × (1 ≤ a.pass.view.number) × (a.pass.view.number ≤ length (actor_sections (sections_of script.now))) }
-    requires bare { (i : ℕ) (a : _) → i < vec_len actors → a ≡ slice_index_or actors.items i a → GoesByNoMap D.ENTRIES (D.Port.maps a.port) }
+        × (1 ≤ a.pass.view.number) × (a.pass.view.number ≤ length (actor_sections (sections_of common.now.script.now))) }
+    requires maps { (i : ℕ) (a : _) → i < vec_len actors → a ≡ slice_index_or actors.items i a → (common.now.maps.now ≡ D.Port.maps a.port) × AreMapsPlaced a.pass.view.seen common.now.maps.now }
     ensures len { IfOk result (λ v. vec_len v ≡ vec_len actors) }
     ensures done { IfOk result (λ v. (i : ℕ) (a : _) (d : _) → i < vec_len actors → a ≡ slice_index_or actors.items i a
-        → WorkDone D.Port.told (λ _. D.Port.told a.port) device.now (driver_kind D.ENTRIES D.is_planned D.OwnEntries D.Follows) (program_of (sections_of script.now)) a.pass.view a.pass.view.number (slice_index_or v.items i d)) }
+        → WorkDone D.Port.told (λ _. D.Port.told a.port) device.now (driver_kind D.ENTRIES D.is_planned D.OwnEntries D.Follows) (maps_of D.Port.maps D.Port.maps_left a.port) (program_of (sections_of common.now.script.now)) a.pass.view a.pass.view.number (slice_index_or v.items i d)) }
 {
     let meeting = Rendezvous::of(actors.len());
     let start = &meeting;
     let job = |actor: Actor<D>| -> Done<D>
         requires none { OwnsNothing D.OwnEntries }
-        requires few { length (said_in_kind ActorKind (sections_of script.now)) ≤ 1048576 }
+        requires few { length (said_in_kind ActorKind (sections_of common.now.script.now)) ≤ 1048576 }
         requires fresh { IsFresh D.Port.told (λ _. D.Port.told actor.port) device.now actor.pass.view actor.pass.view.number actor }
-        requires bare { GoesByNoMap D.ENTRIES (D.Port.maps actor.port) }
-        requires section { (1 ≤ actor.pass.view.number) × (actor.pass.view.number ≤ length (actor_sections (sections_of script.now))) }
-        ensures { WorkDone D.Port.told (λ _. D.Port.told actor.port) device.entry.now (driver_kind D.ENTRIES D.is_planned D.OwnEntries D.Follows) (program_of (sections_of script.entry.now)) actor.pass.view actor.pass.view.number result }
-    { work(rt, alloc, device, script, start, actor) };
+        requires maps { AreMaps common.now.maps.now × (common.now.maps.now ≡ D.Port.maps actor.port) × AreMapsPlaced actor.pass.view.seen common.now.maps.now }
+        requires section { (1 ≤ actor.pass.view.number) × (actor.pass.view.number ≤ length (actor_sections (sections_of common.now.script.now))) }
+        ensures { WorkDone D.Port.told (λ _. D.Port.told actor.port) device.entry.now (driver_kind D.ENTRIES D.is_planned D.OwnEntries D.Follows) (maps_of D.Port.maps D.Port.maps_left actor.port) (program_of (sections_of common.entry.now.script.now)) actor.pass.view actor.pass.view.number result }
+    { work(rt, alloc, device, common, start, actor) };
     thread::map_vec(rt, actors, &job)
 }
 
@@ -176,19 +206,21 @@ pub fn work_all<R: Threads + Wait + Sync, D: Driver<Core>>(
     rt: &R,
     alloc: Global,
     device: &Gpio<D>,
-    script: &Script<'_>,
+    common: &Common<'_>,
     actors: Vec<Actor<D>>,
 ) -> Result<Vec<Done<D>>, AllocError>
     requires none { OwnsNothing D.OwnEntries }
-    requires few { length (said_in_kind ActorKind (sections_of script.now)) ≤ 1048576 }
-    requires fresh { (start : _) × (v : _) × AreFresh D.Port.told start device.now v 1 actors.items }
-    requires bare { HaveBarePorts D.ENTRIES D.Port.maps actors.items }
-    requires sections { vec_len actors ≤ length (actor_sections (sections_of script.now)) }
+    requires few { length (said_in_kind ActorKind (sections_of common.now.script.now)) ≤ 1048576 }
+    requires fresh { (start : _) × (v : _) × AreFresh D.Port.told start device.now v 1 actors.items × AreMapsPlaced v.seen common.now.maps.now }
+    requires may_be_learned { AreMaps common.now.maps.now }
+    requires maps { (m : Maps) × (m.kept ≡ common.now.maps.now) × HaveMaps D.Port.maps D.Port.maps_left m actors.items }
+    requires sections { vec_len actors ≤ length (actor_sections (sections_of common.now.script.now)) }
     ensures len { IfOk result (λ v. vec_len v ≡ vec_len actors) }
-    ensures done { IfOk result (λ all. (start : _) (v : _) → AreFresh D.Port.told start device.now v 1 actors.items
-        → AreDone D.Port.told start device.now (driver_kind D.ENTRIES D.is_planned D.OwnEntries D.Follows) (program_of (sections_of script.now)) v 1 all.items) }
+    ensures done { IfOk result (λ all. (start : _) (v : _) (m : Maps) → AreFresh D.Port.told start device.now v 1 actors.items
+        → HaveMaps D.Port.maps D.Port.maps_left m actors.items
+        → AreDone D.Port.told start device.now (driver_kind D.ENTRIES D.is_planned D.OwnEntries D.Follows) m (program_of (sections_of common.now.script.now)) v 1 all.items) }
 {
-    match map_all(rt, alloc, device, script, actors) {
+    match map_all(rt, alloc, device, common, actors) {
         Ok(done) => Ok(done),
         Err(error) => Err(error),
     }
@@ -208,6 +240,7 @@ fn join_one<D: Driver<Core>>(
     requires other { done.1 ≢ Err NoMemory → IsActorOf device.now done.0 × (done.0.pass.view.number ≢ 0) }
     ensures actor { IsActorOf device.now first.new }
     ensures port { first.new.port ≡ first.old.port }
+    ensures grows { StartsWith first.new.pass.view.seen first.old.pass.view.seen }
     ensures ports { OnOk result (ports.new ≡ slice_set ports.old n (Some done.0.port)) }
     ensures joined { OnOk result ((first.new.pass.view ≡ taking_in first.old.pass.view done.0.pass.view)
         × StartsWith first.new.pass.view.seen first.old.pass.view.seen × StartsWith first.new.pass.view.seen done.0.pass.view.seen) }
@@ -239,13 +272,14 @@ pub fn join_all<D: Driver<Core>>(
 ) -> Result<Vec<Result<ByteList, Errno>>, Errno>
     requires actor { IsActorOf device.now first.old }
     requires ports { vec_len all < length ports.old }
-    requires done { (start : _) × (programs : _) × (v : _) × AreDone D.Port.told start device.now (driver_kind D.ENTRIES D.is_planned D.OwnEntries D.Follows) programs v 1 all.items }
+    requires done { (start : _) × (m : _) × (programs : _) × (v : _) × AreDone D.Port.told start device.now (driver_kind D.ENTRIES D.is_planned D.OwnEntries D.Follows) m programs v 1 all.items }
     ensures actor { IsActorOf device.now first.new }
     ensures port { first.new.port ≡ first.old.port }
+    ensures grows { StartsWith first.new.pass.view.seen first.old.pass.view.seen }
     ensures joined { OnOk result (HasJoined first.old.pass.view (vec_len all) first.new.pass.view) }
     ensures len { IfOk result (λ texts. vec_len texts ≡ vec_len all) }
-    ensures kept { IfOk result (λ texts. (start : _) (programs : _) (v : _) → AreDone D.Port.told start device.now (driver_kind D.ENTRIES D.is_planned D.OwnEntries D.Follows) programs v 1 all.items
-        → AreKept (driver_kind D.ENTRIES D.is_planned D.OwnEntries D.Follows) programs start (told_at D.Port.told ports.new) v first.new.pass.view 1 texts.items) }
+    ensures kept { IfOk result (λ texts. (start : _) (m : _) (programs : _) (v : _) → AreDone D.Port.told start device.now (driver_kind D.ENTRIES D.is_planned D.OwnEntries D.Follows) m programs v 1 all.items
+        → AreKept (driver_kind D.ENTRIES D.is_planned D.OwnEntries D.Follows) m programs start (told_at D.Port.told ports.new) v first.new.pass.view 1 texts.items) }
     ensures ports_len { length ports.new ≡ length ports.old }
     ensures others { OnOk result ((n : ℕ) → vec_len all < n → slice_get ports.new n ≡ slice_get ports.old n) }
     ensures there { OnOk result ((n : ℕ) → 1 ≤ n → n ≤ vec_len all → there_at ports.new n ≡ true) }

@@ -3,6 +3,7 @@
 
 mod check;
 pub mod fork;
+pub mod joining;
 mod judging;
 pub mod laws;
 mod load;
@@ -17,6 +18,7 @@ mod session;
 pub mod several;
 mod status;
 mod streams;
+mod teaching;
 mod text;
 mod verdict;
 pub mod worker;

@@ -1,12 +1,13 @@
 //! A generated load, run as a session: what it comes to is told by four numbers.
-ghost use Rattle.std.specs.Prelude.{◌≡◌, ◌≤◌, ◌%◌, ◌^◌, List, drop, length, sum, IfOk, IsOkUnless};
+ghost use Rattle.std.specs.Prelude.{◌≡◌, ◌≤◌, ◌%◌, ◌^◌, false, List, drop, length, sum, IfOk, IsOkUnless};
+ghost use Rattle.gl_script.specs.Cost.{has_aggregate};
 ghost use Rattle.gl_script.specs.Script.{sections_of};
 ghost use Rattle.gl_script.specs.Section.{SaidSection, statements_of};
 ghost use Rattle.gl_script.specs.Sentence.{Sentence};
 ghost use Rattle.gl_check.specs.Drivers.{driver_kind};
 ghost use Rattle.gl_chip.specs.Values.{IsQuietDriver};
 ghost use Rattle.gl_session.specs.Figures.{CameToFigures, CameToLoad, figures, statement_count};
-ghost use Rattle.gl_session.specs.Ports.{AreAllThere, AreBare, OwnsNothing};
+ghost use Rattle.gl_session.specs.Ports.{AreAllThere, OwnsNothing, TakeMaps};
 ghost use Rattle.gl_session.specs.Workers.{told_at};
 
 use crate::ports::run_alone;
@@ -14,7 +15,9 @@ use crate::text::put_numbered;
 use gl_base::Errno;
 use gl_core::Core;
 use gl_driver::Driver;
-use gl_script::{RefusalKind, Script, TURNS_MAX, generate, loads_are_sessions};
+use gl_script::{
+    RefusalKind, Script, TURNS_MAX, generate, loads_are_sessions, loads_have_no_aggregate,
+};
 use std::alloc::Global;
 use std::sync::Wait;
 
@@ -82,8 +85,9 @@ fn carry_bytes<R: Wait, D: Driver<Core>>(
 ) -> Result<Vec<u8>, Errno>
     requires none { OwnsNothing D.OwnEntries }
     requires quiet { IsQuietDriver D.OwnEntries }
-    requires bare { AreBare D.ENTRIES D.Port.maps ports.old }
-    requires session { (sections : List SaidSection) × Sentence bytes.now sections }
+    requires few_own { D.ENTRIES ≤ 8 }
+    requires bare { TakeMaps D.Port.maps D.Port.maps_left ports.old }
+    requires session { (sections : List SaidSection) × Sentence bytes.now sections × (has_aggregate sections ≡ false) }
     requires ports { AreAllThere ports.old }
     ensures came { IfOk result (λ out. CameToFigures (driver_kind D.ENTRIES D.is_planned D.OwnEntries D.Follows) bytes.now (told_at D.Port.told ports.old 0) (told_at D.Port.told ports.new 0) out.items) }
     ensures there { IfOk result (λ _. AreAllThere ports.new) }
@@ -114,7 +118,8 @@ pub fn carry_load<R: Wait, D: Driver<Core>>(
 ) -> Result<Vec<u8>, Errno>
     requires none { OwnsNothing D.OwnEntries }
     requires quiet { IsQuietDriver D.OwnEntries }
-    requires bare { AreBare D.ENTRIES D.Port.maps ports.old }
+    requires few_own { D.ENTRIES ≤ 8 }
+    requires bare { TakeMaps D.Port.maps D.Port.maps_left ports.old }
     requires turns { (1 ≤ turns) × (turns ≤ TURNS_MAX) }
     requires ports { AreAllThere ports.old }
     ensures came { IfOk result (λ out. CameToLoad (driver_kind D.ENTRIES D.is_planned D.OwnEntries D.Follows) turns (told_at D.Port.told ports.old 0) (told_at D.Port.told ports.new 0) out.items) }
@@ -123,6 +128,7 @@ pub fn carry_load<R: Wait, D: Driver<Core>>(
     ensures memory_alone { IsOkUnless result Errno.NoMemory }
 {
     loads_are_sessions();
+    loads_have_no_aggregate();
     let mut load = Vec::new(alloc);
     match generate(turns, &mut load) {
         Ok(()) => carry_bytes(rt, alloc, &load, driver, ports),

@@ -7,13 +7,14 @@ ghost use Rattle.gl_script.specs.Cost.{session_cost};
 ghost use Rattle.gl_script.specs.Script.{sections_of};
 ghost use Rattle.gl_talk.specs.Open.{Names, setup_names};
 ghost use Rattle.gl_talk.specs.Talk.{names_in, quits, says};
-ghost use Rattle.gl_check.specs.Drivers.{driver_kind};
+ghost use Rattle.gl_check.specs.Drivers.{driver_kind, over};
+ghost use Rattle.gl_check.specs.Joining.{no_maps, taught};
 ghost use Rattle.gl_check.specs.Programs.{actor_of};
 ghost use Rattle.gl_asking.specs.Files.{OpenFile};
 ghost use Rattle.gl_chip.specs.Values.{IsQuietDriver};
-ghost use Rattle.gl_session.specs.Ports.{GoesByNoMap, OwnsNothing};
+ghost use Rattle.gl_session.specs.Ports.{AreMaps, HasLearnedThem, OwnsNothing, maps_of};
 ghost use Rattle.gl_check.specs.One.{said_in_kind};
-ghost use Rattle.gl_session.specs.OneActor.{CameWithEntries, HasPlayed, IsSized, StoppedBelow, count_in_kind};
+ghost use Rattle.gl_session.specs.OneActor.{CameAloneWith, HasPlayed, IsSized, StoppedBelow, count_in_kind};
 ghost use Rattle.gl_session.specs.Performed.{PlaysOn, StoppedFull};
 ghost use Rattle.gl_check.specs.Turns.{carried};
 
@@ -24,7 +25,7 @@ use gl_base::Errno;
 use gl_check::sections::statements_of_kind;
 use gl_chip::Gpio;
 use gl_core::Core;
-use gl_driver::Driver;
+use gl_driver::{Driver, Map};
 use gl_script::{Script, SectionKind};
 use gl_talk::Talk;
 use std::alloc::Global;
@@ -101,11 +102,11 @@ fn play_actor<R: Wait, D: Driver<Core>>(
     requires sized { IsSized (sections_of script.now) }
     ensures device { player.new.gate ≡ player.old.gate }
     ensures played { OnOk result ((names : Names) × (files : List OpenFile)
-        × PlaysOn (driver_kind D.ENTRIES D.is_planned D.OwnEntries D.Follows) (actor_of (sections_of script.now)) player.old.view (carried [] player.old.carried.told) player.old.text
-        (done names) player.new.view (carried files player.new.carried.told) player.new.text) }
+        × PlaysOn (driver_kind D.ENTRIES D.is_planned D.OwnEntries D.Follows) (actor_of (sections_of script.now)) player.old.view (carried [] player.old.carried.told player.old.carried.maps) player.old.text
+        (done names) player.new.view (carried files player.new.carried.told player.new.carried.maps) player.new.text) }
     ensures waiting { OnOk result (player.new.carried.files ≡ player.old.carried.files) }
     ensures stopped { IfErr result (λ e. (e ≡ NoMemory) ⊎ ((e ≡ Full)
-        × StoppedFull (driver_kind D.ENTRIES D.is_planned D.OwnEntries D.Follows) (actor_of (sections_of script.now)) player.old.view (carried [] player.old.carried.told) player.new.view)) }
+        × StoppedFull (driver_kind D.ENTRIES D.is_planned D.OwnEntries D.Follows) (actor_of (sections_of script.now)) player.old.view (carried [] player.old.carried.told player.old.carried.maps) player.new.view)) }
 {
     let waiting = player.change_files(Rows::new(alloc));
     match Talk::new(alloc) {
@@ -134,11 +135,14 @@ fn play_parts<R: Wait, D: Driver<Core>>(
     requires none { OwnsNothing D.OwnEntries }
     requires sized { IsSized (sections_of script.now) }
     requires talk { (names_in talk.old ≡ setup_names) × (talk.old.begun ≡ 0) }
+    requires few_own { D.ENTRIES ≤ 8 }
     requires new { (player.old.carried.files ≡ []) × (player.old.text ≡ []) }
+    requires bare { player.old.carried.maps ≡ no_maps player.old.carried.maps.left }
     requires first { player.old.view.number ≡ 0 }
     ensures device { player.new.gate ≡ player.old.gate }
-    ensures played { OnOk result (HasPlayed (driver_kind D.ENTRIES D.is_planned D.OwnEntries D.Follows) (sections_of script.now) player.old.carried.told player.new.text player.new.carried.told
+    ensures played { OnOk result (HasPlayed (over player.old.carried.maps.left (driver_kind D.ENTRIES D.is_planned D.OwnEntries D.Follows)) (sections_of script.now) player.old.carried.told player.new.text player.new.carried.told
         player.old.view player.new.view) }
+    ensures learned { OnOk result (HasLearnedThem player.old.carried.maps.left player.new.carried.maps) }
     ensures stopped { IfErr result (λ e. (e ≡ NoMemory) ⊎ ((e ≡ Full) × StoppedBelow (session_cost (sections_of script.now)) player.old.view player.new.view)) }
 {
     match play_kind(rt, alloc, player, talk, script, SectionKind::Setup) {
@@ -165,11 +169,14 @@ fn play_session<R: Wait, D: Driver<Core>>(
 ) -> Result<Vec<u8>, Errno>
     requires none { OwnsNothing D.OwnEntries }
     requires sized { IsSized (sections_of script.now) }
+    requires few_own { D.ENTRIES ≤ 8 }
     requires new { (player.old.carried.files ≡ []) × (player.old.text ≡ []) }
+    requires bare { player.old.carried.maps ≡ no_maps player.old.carried.maps.left }
     requires first { player.old.view ≡ newcomer 0 (session_cost (sections_of script.now)) [] 1 [] [] }
     ensures device { player.new.gate ≡ player.old.gate }
-    ensures played { IfOk result (λ text. HasPlayed (driver_kind D.ENTRIES D.is_planned D.OwnEntries D.Follows) (sections_of script.now) player.old.carried.told text.items player.new.carried.told
+    ensures played { IfOk result (λ text. HasPlayed (over player.old.carried.maps.left (driver_kind D.ENTRIES D.is_planned D.OwnEntries D.Follows)) (sections_of script.now) player.old.carried.told text.items player.new.carried.told
         player.old.view player.new.view) }
+    ensures learned { OnOk result (HasLearnedThem player.old.carried.maps.left player.new.carried.maps) }
     ensures memory_alone { IsOkUnless result Errno.NoMemory }
 {
     match Talk::for_setup(alloc) {
@@ -184,8 +191,8 @@ fn play_session<R: Wait, D: Driver<Core>>(
     }
 }
 
-/// Runs a session by one actor, on a new device with this driver. Gives its text, how many entries its history has, and the port through
-/// which the driver was asked.
+/// Runs a session by one actor, on a new device with this driver. Gives its text, how many entries its history has, the port through
+/// which the driver was asked, and the maps that it learned.
 ///
 /// The history takes just as many entries as the session costs, and is never full before a call. `NoMemory` alone is refused.
 pub fn run_one<R: Wait, D: Driver<Core>>(
@@ -194,12 +201,14 @@ pub fn run_one<R: Wait, D: Driver<Core>>(
     driver: D,
     port: D::Port,
     script: &Script<'_>,
-) -> Result<(Vec<u8>, u64, D::Port), Errno>
+) -> Result<(Vec<u8>, u64, D::Port, Vec<Map>), Errno>
     requires none { OwnsNothing D.OwnEntries }
     requires quiet { IsQuietDriver D.OwnEntries }
-    requires bare { GoesByNoMap D.ENTRIES (D.Port.maps port) }
+    requires few_own { D.ENTRIES ≤ 8 }
+    requires bare { D.Port.maps port ≡ [] }
     requires sized { IsSized (sections_of script.now) }
-    ensures came { IfOk result (λ ran. CameWithEntries (driver_kind D.ENTRIES D.is_planned D.OwnEntries D.Follows) (sections_of script.now) (D.Port.told port) ran.0.items (D.Port.told ran.2) ran.1) }
+    ensures came { IfOk result (λ ran. CameAloneWith (over (D.Port.maps_left port) (driver_kind D.ENTRIES D.is_planned D.OwnEntries D.Follows)) (sections_of script.now) (D.Port.told port) ran.0.items (D.Port.told ran.2) ran.1) }
+    ensures maps { IfOk result (λ ran. AreMaps ran.3.items × (maps_of D.Port.maps D.Port.maps_left ran.2 ≡ taught ran.3.items (no_maps (D.Port.maps_left port)))) }
     ensures memory_alone { IsOkUnless result Errno.NoMemory }
 {
     match Gpio::new(alloc, driver, port, script.cost() as u32) {
@@ -207,9 +216,9 @@ pub fn run_one<R: Wait, D: Driver<Core>>(
             let mut player = Player::new(alloc, &device, actor);
             match play_session(rt, alloc, &mut player, script) {
                 Ok(text) => {
-                    let actor = player.into_actor();
+                    let (actor, maps) = player.into_parts();
                     let (_machine, history, port) = device.finish(actor);
-                    Ok((text, history.len() as u64, port))
+                    Ok((text, history.len() as u64, port, maps))
                 }
                 Err(errno) => Err(errno),
             }

@@ -1,43 +1,55 @@
 //! Who carries the operations of talks out on a device.
 
 ghost use Rattle.std.specs.Prelude.{◌≡◌, List, false};
+ghost use Rattle.std.specs.List.{list_any};
 ghost use Rattle.gl_model.specs.declared.reply.Reply.{Reply};
 ghost use Rattle.gl_asking.specs.Asking.{files_behind};
 ghost use Rattle.gl_asking.specs.Files.{OpenFile};
+ghost use Rattle.gl_check.specs.Joining.{is_joined};
 
+use crate::joining::Targets;
 use crate::rows::Rows;
 use gl_asking::{Answered, Asking, Change, FileRow, asking_of, files_behind, got_of};
 use gl_base::command::GET_LINE;
-use gl_base::{Do, Errno, Got};
+use gl_base::{Do, Errno, Got, Kind, LINES_MAX, Name};
 use gl_check::buffer_for;
 use gl_chip::{Actor, Gpio, Order};
 use gl_core::Core;
-use gl_driver::Driver;
-use gl_model::Reply;
+use gl_driver::{Driver, Map, Target};
+use gl_model::{Call, DeviceCall, Reply};
 use std::alloc::Global;
 use std::marker::Model;
 use std::mem;
 use std::sync::Wait;
 
-/// An actor of a device, with the open files of the talk that it carries out, and what its talks printed.
+/// An actor of a device, with the open files of the talk that it carries out, the maps of its port, and what its talks printed.
 #[derive(Drop)]
 pub struct Player<'d, D: Driver<Core>> {
     pub(crate) device: &'d Gpio<D>,
     pub(crate) actor: Actor<D>,
     files: Rows,
+    pub(crate) maps: Vec<Map>,
     text: Vec<u8>,
 }
 
 impl<'d, D: Driver<Core>> Model for Player<'d, D> {
+    ghost use Rattle.std.specs.Prelude.{◌≡◌};
     ghost use Rattle.gl_chip.specs.Values.{IsActorOf};
     ghost use Rattle.gl_session.specs.Player.{Playing};
-    ghost use Rattle.gl_session.specs.Ports.{GoesByNoMap};
+    ghost use Rattle.gl_session.specs.Placed.{AreFilesPlaced, AreMapsPlaced};
+    ghost use Rattle.gl_session.specs.Ports.{AreMaps, maps_of};
 
     ghost Value = { Playing };
 
-    ghost view = { λ p. record { gate = p.device.now; view = p.actor.pass.view; carried = record { files = p.files; told = D.Port.told p.actor.port }; text = p.text.items } };
+    ghost view = { λ p. record {
+      gate = p.device.now;
+      view = p.actor.pass.view;
+      carried = record { files = p.files; told = D.Port.told p.actor.port; maps = maps_of D.Port.maps D.Port.maps_left p.actor.port };
+      text = p.text.items;
+    } };
 
-    ghost invariant = { λ p. IsActorOf p.device.now p.actor × GoesByNoMap D.ENTRIES (D.Port.maps p.actor.port) };
+    ghost invariant = { λ p. IsActorOf p.device.now p.actor × AreMaps p.maps.items × (p.maps.items ≡ D.Port.maps p.actor.port)
+        × AreFilesPlaced p.actor.pass.view.seen p.files × AreMapsPlaced p.actor.pass.view.seen p.maps.items };
 }
 
 /// Whether an operation opens or closes a file, where it isn't refused. No other changes the open files.
@@ -52,11 +64,26 @@ fn opens_or_closes(what: &Do) -> bool
     }
 }
 
+/// Whether one of these requests is of a chip that the port of an actor has a map of.
+fn is_any_joined<D: Driver<Core>>(actor: &Actor<D>, targets: &[Target]) -> bool
+    ensures { result ≡ list_any (is_joined (D.Port.maps actor.now.port)) targets.now }
+{
+    for target in targets {
+        if actor.map(target.place).is_some() {
+            return true;
+        }
+    }
+    false
+}
+
 impl<'d, D: Driver<Core>> Player<'d, D> {
-    ghost use Rattle.std.specs.Prelude.{◌≡◌, ◌⊎◌, ◌++◌, ℕ, List, [], IfOk, IfErr, OnOk, IsOkUnless};
+    ghost use Rattle.std.specs.Prelude.{◌≡◌, ◌⊎◌, ◌++◌, ◌<◌, ◌≤◌, false, ℕ, List, [], length, None, IfOk, IfErr, OnOk, IsOkUnless};
+    ghost use Rattle.std.specs.List.{list_any};
     ghost use Rattle.gl_base.specs.declared.errno.Errno.TheVariants.{Full, NoMemory};
+    ghost use Rattle.gl_base.specs.declared.operation.Do.TheVariants.{Aggregate};
     ghost use Rattle.gl_rule.specs.Turn.{NoStrangers};
     ghost use Rattle.gl_gate.specs.Calls.{HasItsOwn};
+    ghost use Rattle.gl_driver.specs.Maps.{FitsMap, map_at};
     ghost use Rattle.gl_driver.specs.Told.{with_bits, with_plan};
     ghost use Rattle.gl_core.specs.Device.{core};
     ghost use Rattle.gl_asking.specs.declared.kinds.Asking.TheVariants.{Calls};
@@ -68,23 +95,50 @@ impl<'d, D: Driver<Core>> Player<'d, D> {
     ghost use Rattle.gl_chip.specs.Steps.{FoundNoRoom};
     ghost use Rattle.gl_chip.specs.Values.{IsActorOf};
     ghost use Rattle.gl_check.specs.Drivers.{driver_kind};
-    ghost use Rattle.gl_session.specs.Performed.{MadeFor, Performs};
-    ghost use Rattle.gl_session.specs.Ports.{GoesByNoMap, OwnsNothing};
+    ghost use Rattle.gl_check.specs.Joining.{is_joined, joining_fault, learned, with_one};
+    ghost use Rattle.gl_base.specs.declared.limits.TheConstants.{PLACES};
+    ghost use Rattle.gl_session.specs.Performed.{GoesByFiles, MadeFor, Performs};
+    ghost use Rattle.gl_session.specs.Placed.{AreFilesPlaced, AreMapsPlaced, IsPlaced};
+    ghost use Rattle.gl_session.specs.Ports.{AreMaps, OwnsNothing, maps_of};
+    ghost use Rattle.gl_session.specs.Targets.{is_target_at};
 
-    /// An actor of this device that has no file open and has printed nothing. Through its port the driver goes by no map.
+    /// An actor of this device that has no file open and has printed nothing. Its port keeps no map.
     pub fn new(alloc: Global, device: &'d Gpio<D>, actor: Actor<D>) -> Player<'d, D>
         requires actor { IsActorOf device.now actor }
-        requires bare { GoesByNoMap D.ENTRIES (D.Port.maps actor.port) }
+        requires bare { D.Port.maps actor.port ≡ [] }
         ensures device { result.gate ≡ device.now }
         ensures view { result.view ≡ actor.pass.view }
         ensures files { result.carried.files ≡ [] }
         ensures told { result.carried.told ≡ D.Port.told actor.port }
+        ensures maps { result.carried.maps ≡ maps_of D.Port.maps D.Port.maps_left actor.port }
+        ensures text { result.text ≡ [] }
+    {
+        Player::with_maps(alloc, device, actor, Vec::new(alloc))
+    }
+
+    /// The same where its port keeps these maps.
+    pub fn with_maps(
+        alloc: Global,
+        device: &'d Gpio<D>,
+        actor: Actor<D>,
+        maps: Vec<Map>,
+    ) -> Player<'d, D>
+        requires actor { IsActorOf device.now actor }
+        requires maps { AreMaps maps.items }
+        requires kept { maps.items ≡ D.Port.maps actor.port }
+        requires placed { AreMapsPlaced actor.pass.view.seen maps.items }
+        ensures device { result.gate ≡ device.now }
+        ensures view { result.view ≡ actor.pass.view }
+        ensures files { result.carried.files ≡ [] }
+        ensures told { result.carried.told ≡ D.Port.told actor.port }
+        ensures maps { result.carried.maps ≡ maps_of D.Port.maps D.Port.maps_left actor.port }
         ensures text { result.text ≡ [] }
     {
         Player {
             device,
             actor,
             files: Rows::new(alloc),
+            maps,
             text: Vec::new(alloc),
         }
     }
@@ -94,14 +148,37 @@ impl<'d, D: Driver<Core>> Player<'d, D> {
         ensures actor { IsActorOf self.entry.gate result }
         ensures view { result.pass.view ≡ self.entry.view }
         ensures port { D.Port.told result.port ≡ self.entry.carried.told }
+        ensures maps { maps_of D.Port.maps D.Port.maps_left result.port ≡ self.entry.carried.maps }
+    {
+        let (actor, _maps) = self.into_parts();
+        actor
+    }
+
+    /// The actor, and the maps that its port keeps.
+    pub fn into_parts(self) -> (Actor<D>, Vec<Map>)
+        ensures actor { IsActorOf self.entry.gate result.0 }
+        ensures view { result.0.pass.view ≡ self.entry.view }
+        ensures port { D.Port.told result.0.port ≡ self.entry.carried.told }
+        ensures maps { maps_of D.Port.maps D.Port.maps_left result.0.port ≡ self.entry.carried.maps }
+        ensures kept { result.1.items ≡ self.entry.carried.maps.kept }
+        ensures may_be_learned { AreMaps result.1.items }
     {
         let Player {
             device: _,
             actor,
             files: _,
+            maps,
             text: _,
         } = self;
-        actor
+        (actor, maps)
+    }
+
+    /// The maps that its port keeps, in the order in which it learned them.
+    pub fn maps(&self) -> &[Map]
+        ensures kept { result.now ≡ self.now.carried.maps.kept }
+        ensures may_be_learned { AreMaps result.now }
+    {
+        &self.maps
     }
 
     /// The number of the actor. It knows its own entries, and of other actors those alone that some actor may have made.
@@ -111,6 +188,15 @@ impl<'d, D: Driver<Core>> Player<'d, D> {
         ensures strangers { NoStrangers self.now.view self.now.view.seen }
     {
         self.actor.number()
+    }
+
+    /// The open files. At their places, and at those of its maps, chips were made, as far as it has seen.
+    fn files(&self) -> &Rows
+        ensures files { result.now ≡ self.now.carried.files }
+        ensures placed { AreFilesPlaced self.now.view.seen self.now.carried.files }
+        ensures maps_placed { AreMapsPlaced self.now.view.seen self.now.carried.maps.kept }
+    {
+        &self.files
     }
 
     /// Appends a piece of text.
@@ -140,11 +226,14 @@ impl<'d, D: Driver<Core>> Player<'d, D> {
 
     /// Goes on with these files open, and gives those that were open.
     pub fn change_files(&mut self, files: Rows) -> Rows
+        requires placed { AreFilesPlaced self.old.view.seen files }
         ensures given { result ≡ self.old.carried.files }
+        ensures given_placed { AreFilesPlaced self.old.view.seen result }
         ensures device { self.new.gate ≡ self.old.gate }
         ensures view { self.new.view ≡ self.old.view }
         ensures files { self.new.carried.files ≡ files }
         ensures told { self.new.carried.told ≡ self.old.carried.told }
+        ensures maps { self.new.carried.maps ≡ self.old.carried.maps }
         ensures text { self.new.text ≡ self.old.text }
     {
         mem::replace(&mut self.files, files)
@@ -157,6 +246,130 @@ impl<'d, D: Driver<Core>> Player<'d, D> {
         ensures text { self.new.text ≡ self.old.text }
         ensures performs { Performs (driver_kind D.ENTRIES D.is_planned D.OwnEntries D.Follows) what.now result self.old.view self.old.carried self.new.view self.new.carried }
     {
+        match what {
+            Do::Aggregate {
+                label,
+                slots,
+                count,
+            } => self.aggregate(rt, alloc, label, slots, *count),
+            _ => self.perform_plainly(rt, alloc, what),
+        }
+    }
+
+    /// Makes a chip whose lines are those of requests, and has the port keep its map; or refuses to.
+    fn aggregate<R: Wait>(
+        &mut self,
+        rt: &R,
+        alloc: Global,
+        label: &Name,
+        slots: &[u32; 4],
+        count: u32,
+    ) -> Result<Got, Errno>
+        requires none { OwnsNothing D.OwnEntries }
+        ensures device { self.new.gate ≡ self.old.gate }
+        ensures text { self.new.text ≡ self.old.text }
+        ensures performs { Performs (driver_kind D.ENTRIES D.is_planned D.OwnEntries D.Follows) (Aggregate label.now slots.now count) result self.old.view self.old.carried self.new.view self.new.carried }
+    {
+        // That a name is one is known once it is read.
+        let _name = label.as_bytes();
+        let targets = Targets::in_slots(self.files(), slots, count);
+        if let Some(errno) = self.joining_fault(&targets) {
+            return Ok(Got::Refused(errno));
+        }
+        let probe = DeviceCall::Once(Call::Probe {
+            label: *label,
+            lines: targets.line_count(),
+            kind: Kind::Remote,
+        });
+        let order = Order::of(probe, &None);
+        match self.make(rt, alloc, &order, &mut []) {
+            Ok(answered) => match answered.reply {
+                Reply::Number(place) => self.keep_map(place, &targets),
+                Reply::Refused(errno) => Ok(Got::Refused(errno)),
+                _ => Ok(Got::Done),
+            },
+            Err(errno) => Err(errno),
+        }
+    }
+
+    /// Why these requests can't be joined, the first that holds.
+    fn joining_fault(&self, targets: &Targets) -> Option<Errno>
+        ensures { result ≡ joining_fault self.now.carried.maps targets.now }
+    {
+        let lines = targets.line_count();
+        if self.is_one_joined(targets) {
+            Some(Errno::Inval)
+        } else if self.actor.maps_left() == 0 {
+            Some(Errno::NoSpc)
+        } else if lines == 0 || lines > LINES_MAX {
+            Some(Errno::Inval)
+        } else {
+            None
+        }
+    }
+
+    /// Whether one of them is of a chip whose lines are joined themselves.
+    fn is_one_joined(&self, targets: &Targets) -> bool
+        ensures { result ≡ list_any (is_joined self.now.carried.maps.kept) targets.now }
+    {
+        is_any_joined(&self.actor, targets.as_slice())
+    }
+
+    /// Has the port keep the map of a new chip, whose place no request and no map is of.
+    fn keep_map(&mut self, place: u64, targets: &Targets) -> Result<Got, Errno>
+        requires room { 1 ≤ self.old.carried.maps.left }
+        requires some { 1 ≤ length targets.now }
+        requires within { place < PLACES }
+        requires apart { list_any (is_target_at place) targets.now ≡ false }
+        requires new { map_at place self.old.carried.maps.kept ≡ None }
+        requires placed { IsPlaced self.old.view.seen place }
+        ensures device { self.new.gate ≡ self.old.gate }
+        ensures view { self.new.view ≡ self.old.view }
+        ensures files { self.new.carried.files ≡ self.old.carried.files }
+        ensures told { self.new.carried.told ≡ self.old.carried.told }
+        ensures text { self.new.text ≡ self.old.text }
+        ensures done { IfOk result (λ got. got ≡ Got.Done) }
+        ensures maps { OnOk result (self.new.carried.maps ≡ learned (Reply.Number place) targets.now self.old.carried.maps) }
+        ensures memory_alone { IsOkUnless result NoMemory }
+    {
+        match self.learn(targets.joined_at(place as u8)) {
+            Ok(()) => Ok(Got::Done),
+            Err(errno) => Err(errno),
+        }
+    }
+
+    /// Has the port keep a map more.
+    fn learn(&mut self, map: Map) -> Result<(), Errno>
+        requires room { 1 ≤ self.old.carried.maps.left }
+        requires new { map_at map.place self.old.carried.maps.kept ≡ None }
+        requires fits { FitsMap map }
+        requires placed { IsPlaced self.old.view.seen map.place }
+        ensures device { self.new.gate ≡ self.old.gate }
+        ensures view { self.new.view ≡ self.old.view }
+        ensures files { self.new.carried.files ≡ self.old.carried.files }
+        ensures told { self.new.carried.told ≡ self.old.carried.told }
+        ensures text { self.new.text ≡ self.old.text }
+        ensures maps { OnOk result (self.new.carried.maps ≡ with_one map self.old.carried.maps) }
+        ensures memory_alone { IsOkUnless result NoMemory }
+    {
+        match self.maps.push(map) {
+            Ok(()) => {
+                self.actor.learn(&map);
+                Ok(())
+            }
+            Err(_) => Err(Errno::NoMemory),
+        }
+    }
+
+    /// Carries an operation out that the maps of the port mean nothing to.
+    fn perform_plainly<R: Wait>(&mut self, rt: &R, alloc: Global, what: &Do) -> Result<Got, Errno>
+        requires none { OwnsNothing D.OwnEntries }
+        requires plain { GoesByFiles what.now }
+        ensures device { self.new.gate ≡ self.old.gate }
+        ensures text { self.new.text ≡ self.old.text }
+        ensures performs { Performs (driver_kind D.ENTRIES D.is_planned D.OwnEntries D.Follows) what.now result self.old.view self.old.carried self.new.view self.new.carried }
+    {
+        let _files = self.files();
         let row = self.row_for(what);
         let asking = asking_of(what, row);
         match &asking {
@@ -194,6 +407,7 @@ impl<'d, D: Driver<Core>> Player<'d, D> {
         order: &Order,
     ) -> Result<Got, Errno>
         requires none { OwnsNothing D.OwnEntries }
+        requires plain { GoesByFiles what.now }
         requires row { IsSomeRow row.now }
         requires found { file_for what.now self.old.carried.files ≡ file_of row.now }
         requires fits { FitsDevice order.now.call }
@@ -209,6 +423,7 @@ impl<'d, D: Driver<Core>> Player<'d, D> {
         };
         match self.make(rt, alloc, order, &mut buffer) {
             Ok(answered) => {
+                let _files = self.files();
                 self.settle(what, row, &answered)?;
                 Ok(got_of(what, &answered.reply, buffer))
             }
@@ -230,8 +445,9 @@ impl<'d, D: Driver<Core>> Player<'d, D> {
         ensures text { self.new.text ≡ self.old.text }
         ensures files { self.new.carried.files ≡ self.old.carried.files }
         ensures made { IfOk result (λ r. (bytes : List ℕ) × WroteTo order.now.call bytes out.old out.new
-            × MadeFor (driver_kind D.ENTRIES D.is_planned D.OwnEntries D.Follows) order.now.call order.now.on self.old.view r.reply bytes self.new.view
+            × MadeFor (driver_kind D.ENTRIES D.is_planned D.OwnEntries D.Follows) self.old.carried.maps order.now.call order.now.on self.old.view r.reply bytes self.new.view
             self.old.carried.told self.new.carried.told) }
+        ensures maps { self.new.carried.maps ≡ self.old.carried.maps }
         ensures form { IfOk result (λ r. AnswersOrder order.now.call order.now.on r.reply) }
         ensures lines { IfOk result (GivesLines order.now.call order.now.on) }
         ensures could_not { IfErr result (λ e. (e ≡ NoMemory) ⊎ ((e ≡ Full) × FoundNoRoom core self.old.view self.new.view)) }
@@ -245,9 +461,11 @@ impl<'d, D: Driver<Core>> Player<'d, D> {
         requires found { file_for what.now self.old.carried.files ≡ file_of row.now }
         requires opens { OpensWithin what.now answered.now.reply }
         requires named { NamesMade what.now row.now answered.now }
+        requires placed { AreFilesPlaced self.old.view.seen (files_behind what.now answered.now.reply self.old.carried.files) }
         ensures device { self.new.gate ≡ self.old.gate }
         ensures view { self.new.view ≡ self.old.view }
         ensures told { self.new.carried.told ≡ self.old.carried.told }
+        ensures maps { self.new.carried.maps ≡ self.old.carried.maps }
         ensures text { self.new.text ≡ self.old.text }
         ensures settled { OnOk result (self.new.carried.files ≡ files_behind what.now answered.now.reply self.old.carried.files) }
         ensures memory_alone { IsOkUnless result NoMemory }
@@ -269,9 +487,11 @@ impl<'d, D: Driver<Core>> Player<'d, D> {
         requires found { file_for what.now self.old.carried.files ≡ file_of row.now }
         requires opens { OpensWithin what.now answered.now.reply }
         requires named { NamesMade what.now row.now answered.now }
+        requires placed { AreFilesPlaced self.old.view.seen (files_behind what.now answered.now.reply self.old.carried.files) }
         ensures device { self.new.gate ≡ self.old.gate }
         ensures view { self.new.view ≡ self.old.view }
         ensures told { self.new.carried.told ≡ self.old.carried.told }
+        ensures maps { self.new.carried.maps ≡ self.old.carried.maps }
         ensures text { self.new.text ≡ self.old.text }
         ensures settled { OnOk result (self.new.carried.files ≡ files_behind what.now answered.now.reply self.old.carried.files) }
         ensures memory_alone { IsOkUnless result NoMemory }
@@ -282,9 +502,11 @@ impl<'d, D: Driver<Core>> Player<'d, D> {
     /// Makes a change in the open files.
     fn keep(&mut self, change: Change) -> Result<(), Errno>
         requires change { IsChange change }
+        requires placed { AreFilesPlaced self.old.view.seen (changed change self.old.carried.files) }
         ensures device { self.new.gate ≡ self.old.gate }
         ensures view { self.new.view ≡ self.old.view }
         ensures told { self.new.carried.told ≡ self.old.carried.told }
+        ensures maps { self.new.carried.maps ≡ self.old.carried.maps }
         ensures text { self.new.text ≡ self.old.text }
         ensures files { OnOk result (self.new.carried.files ≡ changed change self.old.carried.files) }
         ensures memory_alone { IsOkUnless result NoMemory }
@@ -306,6 +528,7 @@ impl<'d, D: Driver<Core>> Player<'d, D> {
         ensures view { self.new.view ≡ self.old.view }
         ensures files { self.new.carried.files ≡ self.old.carried.files }
         ensures told { self.new.carried.told ≡ with_plan nth self.old.carried.told }
+        ensures maps { self.new.carried.maps ≡ self.old.carried.maps }
         ensures text { self.new.text ≡ self.old.text }
     {
         self.actor.plan(nth);
@@ -317,6 +540,7 @@ impl<'d, D: Driver<Core>> Player<'d, D> {
         ensures view { self.new.view ≡ self.old.view }
         ensures files { self.new.carried.files ≡ self.old.carried.files }
         ensures told { self.new.carried.told ≡ with_bits bits self.old.carried.told }
+        ensures maps { self.new.carried.maps ≡ self.old.carried.maps }
         ensures text { self.new.text ≡ self.old.text }
     {
         self.actor.accept(bits);

@@ -3,7 +3,7 @@
 //! A row has the lines of its request, some 270 bytes in all. Each has memory of its own, so that where one is taken out the others
 //! stay where they are, and just their addresses move up.
 
-ghost use Rattle.std.specs.Prelude.{◌≡◌, [], map, OnOk, IsOkUnless};
+ghost use Rattle.std.specs.Prelude.{◌≡◌, [], map, OnOk, OnErr, IsOkUnless};
 ghost use Rattle.std.specs.List.{position};
 ghost use Rattle.gl_asking.specs.Asking.{file_for};
 ghost use Rattle.gl_asking.specs.Changes.{IsChange, changed};
@@ -46,6 +46,14 @@ impl Rows {
         }
     }
 
+    /// The file in a slot, if there is one.
+    pub fn in_slot(&self, slot: u32) -> Option<FileRow>
+        ensures found { file_of result ≡ file_in slot self.now }
+        ensures row { IsSomeRow result }
+    {
+        row_in(&self.rows, slot)
+    }
+
     /// The file that an operation names, if it names one and it is there.
     pub fn named_by(&self, what: &Do) -> Option<FileRow>
         ensures found { file_for what.now self.now ≡ file_of result }
@@ -58,6 +66,7 @@ impl Rows {
     pub fn change(&mut self, change: Change) -> Result<(), Errno>
         requires change { IsChange change }
         ensures changed { OnOk result (self.new ≡ changed change self.old) }
+        ensures unchanged { OnErr result (self.new ≡ self.old) }
         ensures memory_alone { IsOkUnless result Errno.NoMemory }
     {
         make(&mut self.rows, change)
@@ -100,6 +109,7 @@ fn make(rows: &mut Vec<Box<FileRow>>, change: Change) -> Result<(), Errno>
     requires change { IsChange change }
     requires rows { Each IsBoxedRow rows.old.items }
     ensures changed { OnOk result (map boxed_file rows.new.items ≡ changed change (map boxed_file rows.old.items)) }
+    ensures unchanged { OnErr result (rows.new.items ≡ rows.old.items) }
     ensures rows { Each IsBoxedRow rows.new.items }
     ensures memory_alone { IsOkUnless result Errno.NoMemory }
 {
@@ -118,6 +128,7 @@ fn add(rows: &mut Vec<Box<FileRow>>, row: FileRow) -> Result<(), Errno>
     requires row { IsRow row }
     requires rows { Each IsBoxedRow rows.old.items }
     ensures changed { OnOk result (map boxed_file rows.new.items ≡ changed (Change.Adds row) (map boxed_file rows.old.items)) }
+    ensures unchanged { OnErr result (rows.new.items ≡ rows.old.items) }
     ensures rows { Each IsBoxedRow rows.new.items }
     ensures memory_alone { IsOkUnless result Errno.NoMemory }
 {

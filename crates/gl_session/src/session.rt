@@ -6,10 +6,10 @@ ghost use Rattle.gl_script.specs.declared.refusal.Refusal.{Refusal};
 ghost use Rattle.gl_script.specs.Section.{SaidSection};
 ghost use Rattle.gl_script.specs.Sentence.{Sentence, first_fault};
 ghost use Rattle.gl_words.specs.Words.{asks, texts};
-ghost use Rattle.gl_check.specs.Drivers.{driver_kind};
+ghost use Rattle.gl_check.specs.Drivers.{driver_kind, over};
 ghost use Rattle.gl_chip.specs.Values.{IsQuietDriver};
 ghost use Rattle.gl_session.specs.Figures.{CameToLoad, HasWrittenLoad};
-ghost use Rattle.gl_session.specs.Ports.{AreAllThere, AreBare, OthersStay, OwnsNothing};
+ghost use Rattle.gl_session.specs.Ports.{AreAllThere, OthersLearn, OwnsNothing, TakeMaps, left_at};
 ghost use Rattle.gl_session.specs.Workers.{told_at};
 ghost use Rattle.gl_session.specs.Streams.{ReadsThrough, LosesFront, AppendsFront};
 ghost use Rattle.gl_session.specs.Verdict.{IsJudgment, IsLawful, IsVerdict, verdict_line, verdict_status, yes_line};
@@ -47,9 +47,9 @@ use std::thread::Threads;
 /// All other words write the line `usage`.
 ///
 /// The first cause decides: words that ask for nothing, a fault of reading, bytes that are no session, being out of memory, a fault of
-/// writing. There are 17 ports: that of the number of an actor is the one through which it asks the driver. Through none of them the driver
-/// goes by a map, and where it goes by none it makes no entries of its own; those that it makes elsewhere begin no removal, end none, and
-/// request no lines.
+/// writing. There are 17 ports: that of the number of an actor is the one through which it asks the driver. None of them keeps a map, and each
+/// takes as many; what an `aggregate` teaches one of them the others learn too. Where the driver goes by no map it makes no entries of its own; those
+/// that it makes elsewhere, eight at most for a call, begin no removal, end none, and request no lines.
 pub fn run<R: Threads + Wait + Sync, S: Source, K: Sink, D: Driver<Core>>(
     rt: &R,
     alloc: Global,
@@ -61,16 +61,17 @@ pub fn run<R: Threads + Wait + Sync, S: Source, K: Sink, D: Driver<Core>>(
 ) -> Status
     requires none { OwnsNothing D.OwnEntries }
     requires quiet { IsQuietDriver D.OwnEntries }
-    requires bare { AreBare D.ENTRIES D.Port.maps ports.old }
+    requires few_own { D.ENTRIES ≤ 8 }
+    requires bare { TakeMaps D.Port.maps D.Port.maps_left ports.old }
     requires ports { AreAllThere ports.old }
 
-    // A session that ran is read to its end, and what it came to is written. With fewer than two actors that is One of just the answers that
-    // its driver gave; a planned driver over a new port gave those of Planned, and a port that tells has told them. With two or more it is
-    // Output of texts and a history with Many; over new ports of a planned driver its tells are as planned, and each port that tells has
-    // told those of its actor.
+    // A session that ran is read to its end, and what it came to is written. With fewer than two actors that is One over what its driver did
+    // where it was asked; where no port keeps maps, as without an `aggregate`, it is One of just the answers that it gave. A planned driver over a
+    // new port gave those of Planned then, and a port that tells has told them. With two or more it is Output of texts and a history with Many; over
+    // new ports of a planned driver its tells are as planned, and each port that tells has told those of its actor.
     ensures output { result ≡ Status.Ran → words.now ≡ [] → IfSome (S.left source.old) (λ input. (sections : List SaidSection) → Sentence input sections →
         IsAtEnd (S.left source.new)
-        × HasWritten (driver_kind D.ENTRIES D.is_planned D.OwnEntries D.Follows) sections (told_at D.Port.told ports.old) (told_at D.Port.told ports.new) (K.held sink.old) (K.held sink.new)) }
+        × HasWritten (over (left_at D.Port.maps_left ports.old 0) (driver_kind D.ENTRIES D.is_planned D.OwnEntries D.Follows)) sections (told_at D.Port.told ports.old) (told_at D.Port.told ports.new) (K.held sink.old) (K.held sink.new)) }
     ensures ran_only_session { result ≡ Status.Ran → words.now ≡ [] → IfSome (S.left source.old) (λ input. (sections : List SaidSection) × Sentence input sections) }
 
     // A load that ran told its four numbers: how many statements it has, how many entries One makes of it over just the answers that its
@@ -108,7 +109,7 @@ pub fn run<R: Threads + Wait + Sync, S: Source, K: Sink, D: Driver<Core>>(
     ensures write_fault_told { K.fault_count sink.old < K.fault_count sink.new → result ≡ Status.WriteFault }
     ensures write_fault_read_through { result ≡ Status.WriteFault → words.now ≡ [] → (bytes : List ℕ) × ReadsThrough SESSION_MAX (S.left source.old) (S.left source.new) bytes }
     ensures write_fault_front { result ≡ Status.WriteFault → words.now ≡ [] → IfSome (S.left source.old) (λ input.
-        (text : List ℕ) × IsOutput (driver_kind D.ENTRIES D.is_planned D.OwnEntries D.Follows) (told_at D.Port.told ports.old) (told_at D.Port.told ports.new) input text
+        (text : List ℕ) × IsOutput (over (left_at D.Port.maps_left ports.old 0) (driver_kind D.ENTRIES D.is_planned D.OwnEntries D.Follows)) (told_at D.Port.told ports.old) (told_at D.Port.told ports.new) input text
         × AppendsFront (K.held sink.old) (K.held sink.new) text) }
     ensures load_front { result ≡ Status.WriteFault → (n : ℕ) → asks (texts words.now) ≡ Some (Task.Load n) → (text : List ℕ)
         × CameToLoad (driver_kind D.ENTRIES D.is_planned D.OwnEntries D.Follows) n (told_at D.Port.told ports.old 0) (told_at D.Port.told ports.new 0) text
@@ -144,10 +145,11 @@ pub fn run<R: Threads + Wait + Sync, S: Source, K: Sink, D: Driver<Core>>(
         ¬ Rises (S.fault_count source.old) (S.fault_count source.new) → ¬ Rises (K.fault_count sink.old) (K.fault_count sink.new) →
         (result ≡ Status.Ran) ⊎ (result ≡ Status.NoMemory)) }
 
-    // All ports are there again except when out of memory; those of numbers that no actor has are as they were, and so are all where nothing ran.
+    // All ports are there again except when out of memory. Those of numbers that no actor has learned the maps that an `aggregate` taught, and
+    // are as they were without one; and so are all where nothing ran.
     ensures ports_there { result ≢ Status.NoMemory → AreAllThere ports.new }
     ensures other_ports { result ≢ Status.NoMemory → words.now ≡ [] → IfSome (S.left source.old) (λ input.
-        (sections : List SaidSection) → Sentence input sections → OthersStay sections ports.old ports.new) }
+        (sections : List SaidSection) → Sentence input sections → OthersLearn D.Port.maps D.Port.maps_left D.Port.told D.Port.faults sections ports.old ports.new) }
     ensures load_ports { (n : ℕ) → asks (texts words.now) ≡ Some (Task.Load n) → drop 1 ports.new ≡ drop 1 ports.old }
     ensures check_ports { asks (texts words.now) ≡ Some Task.Check → ports.new ≡ ports.old }
     ensures usage_ports { asks (texts words.now) ≡ None → ports.new ≡ ports.old }
@@ -178,11 +180,12 @@ fn run_session<R: Threads + Wait + Sync, S: Source, K: Sink, D: Driver<Core>>(
 ) -> Status
     requires none { OwnsNothing D.OwnEntries }
     requires quiet { IsQuietDriver D.OwnEntries }
-    requires bare { AreBare D.ENTRIES D.Port.maps ports.old }
+    requires few_own { D.ENTRIES ≤ 8 }
+    requires bare { TakeMaps D.Port.maps D.Port.maps_left ports.old }
     requires ports { AreAllThere ports.old }
     ensures output { result ≡ Status.Ran → IfSome (S.left source.old) (λ input. (sections : List SaidSection) → Sentence input sections →
         IsAtEnd (S.left source.new)
-        × HasWritten (driver_kind D.ENTRIES D.is_planned D.OwnEntries D.Follows) sections (told_at D.Port.told ports.old) (told_at D.Port.told ports.new) (K.held sink.old) (K.held sink.new)) }
+        × HasWritten (over (left_at D.Port.maps_left ports.old 0) (driver_kind D.ENTRIES D.is_planned D.OwnEntries D.Follows)) sections (told_at D.Port.told ports.old) (told_at D.Port.told ports.new) (K.held sink.old) (K.held sink.new)) }
     ensures ran_only_session { result ≡ Status.Ran → IfSome (S.left source.old) (λ input. (sections : List SaidSection) × Sentence input sections) }
     ensures no_usage { result ≢ Status.Usage }
     ensures no_no { result ≢ Status.No }
@@ -199,14 +202,14 @@ fn run_session<R: Threads + Wait + Sync, S: Source, K: Sink, D: Driver<Core>>(
     ensures write_fault_told { K.fault_count sink.old < K.fault_count sink.new → result ≡ Status.WriteFault }
     ensures write_fault_read_through { result ≡ Status.WriteFault → (bytes : List ℕ) × ReadsThrough SESSION_MAX (S.left source.old) (S.left source.new) bytes }
     ensures write_fault_front { result ≡ Status.WriteFault → IfSome (S.left source.old) (λ input.
-        (text : List ℕ) × IsOutput (driver_kind D.ENTRIES D.is_planned D.OwnEntries D.Follows) (told_at D.Port.told ports.old) (told_at D.Port.told ports.new) input text
+        (text : List ℕ) × IsOutput (over (left_at D.Port.maps_left ports.old 0) (driver_kind D.ENTRIES D.is_planned D.OwnEntries D.Follows)) (told_at D.Port.told ports.old) (told_at D.Port.told ports.new) input text
         × AppendsFront (K.held sink.old) (K.held sink.new) text) }
     ensures no_memory_writes_nothing { result ≡ Status.NoMemory → sink.new ≡ sink.old }
     ensures complete { IfSome (S.left source.old) (λ input. (sections : List SaidSection) → Sentence input sections →
         ¬ Rises (S.fault_count source.old) (S.fault_count source.new) → ¬ Rises (K.fault_count sink.old) (K.fault_count sink.new) →
         (result ≡ Status.Ran) ⊎ (result ≡ Status.NoMemory)) }
     ensures ports_there { result ≢ Status.NoMemory → AreAllThere ports.new }
-    ensures other_ports { result ≢ Status.NoMemory → IfSome (S.left source.old) (λ input. (sections : List SaidSection) → Sentence input sections → OthersStay sections ports.old ports.new) }
+    ensures other_ports { result ≢ Status.NoMemory → IfSome (S.left source.old) (λ input. (sections : List SaidSection) → Sentence input sections → OthersLearn D.Port.maps D.Port.maps_left D.Port.told D.Port.faults sections ports.old ports.new) }
     ensures read_fault_ports { result ≡ Status.ReadFault → ports.new ≡ ports.old }
     ensures refused_ports { result ≡ Status.Refused → ports.new ≡ ports.old }
     ensures refused_bytes_ports { result ≢ Status.NoMemory → IfSome (S.left source.old) (λ input. (refusal : Refusal) → first_fault input ≡ Some refusal → ports.new ≡ ports.old) }
@@ -229,7 +232,8 @@ fn run_load<R: Wait, K: Sink, D: Driver<Core>>(
 ) -> Status
     requires none { OwnsNothing D.OwnEntries }
     requires quiet { IsQuietDriver D.OwnEntries }
-    requires bare { AreBare D.ENTRIES D.Port.maps ports.old }
+    requires few_own { D.ENTRIES ≤ 8 }
+    requires bare { TakeMaps D.Port.maps D.Port.maps_left ports.old }
     requires turns { (1 ≤ turns) × (turns ≤ TURNS_MAX) }
     requires ports { AreAllThere ports.old }
     ensures ends { (result ≡ Status.Ran) ⊎ ((result ≡ Status.WriteFault) ⊎ (result ≡ Status.NoMemory)) }
@@ -259,23 +263,24 @@ fn answer<R: Threads + Wait + Sync, K: Sink, D: Driver<Core>>(
 ) -> Status
     requires none { OwnsNothing D.OwnEntries }
     requires quiet { IsQuietDriver D.OwnEntries }
-    requires bare { AreBare D.ENTRIES D.Port.maps ports.old }
+    requires few_own { D.ENTRIES ≤ 8 }
+    requires bare { TakeMaps D.Port.maps D.Port.maps_left ports.old }
     requires ports { AreAllThere ports.old }
     ensures ran { result ≡ Status.Ran → (sections : List SaidSection) × Sentence bytes.now sections
-        × HasWritten (driver_kind D.ENTRIES D.is_planned D.OwnEntries D.Follows) sections (told_at D.Port.told ports.old) (told_at D.Port.told ports.new) (K.held sink.old) (K.held sink.new) }
+        × HasWritten (over (left_at D.Port.maps_left ports.old 0) (driver_kind D.ENTRIES D.is_planned D.OwnEntries D.Follows)) sections (told_at D.Port.told ports.old) (told_at D.Port.told ports.new) (K.held sink.old) (K.held sink.new) }
     ensures refused { result ≡ Status.Refused → (refusal : Refusal) × (first_fault bytes.now ≡ Some refusal)
         × Appends (K.held sink.old) (K.held sink.new) (refused_line refusal) }
     ensures write_fault { result ≡ Status.WriteFault → Rises (K.fault_count sink.old) (K.fault_count sink.new) }
     ensures write_fault_told { K.fault_count sink.old < K.fault_count sink.new → result ≡ Status.WriteFault }
     ensures front { result ≡ Status.WriteFault → (text : List ℕ)
-        × IsOutput (driver_kind D.ENTRIES D.is_planned D.OwnEntries D.Follows) (told_at D.Port.told ports.old) (told_at D.Port.told ports.new) bytes.now text
+        × IsOutput (over (left_at D.Port.maps_left ports.old 0) (driver_kind D.ENTRIES D.is_planned D.OwnEntries D.Follows)) (told_at D.Port.told ports.old) (told_at D.Port.told ports.new) bytes.now text
         × AppendsFront (K.held sink.old) (K.held sink.new) text }
     ensures no_memory { result ≡ Status.NoMemory → sink.new ≡ sink.old }
     ensures no_usage { result ≢ Status.Usage }
     ensures no_no { result ≢ Status.No }
     ensures no_read_fault { result ≢ Status.ReadFault }
     ensures ports_there { result ≢ Status.NoMemory → AreAllThere ports.new }
-    ensures other_ports { result ≢ Status.NoMemory → (sections : List SaidSection) → Sentence bytes.now sections → OthersStay sections ports.old ports.new }
+    ensures other_ports { result ≢ Status.NoMemory → (sections : List SaidSection) → Sentence bytes.now sections → OthersLearn D.Port.maps D.Port.maps_left D.Port.told D.Port.faults sections ports.old ports.new }
     ensures refused_ports { result ≢ Status.NoMemory → (refusal : Refusal) → first_fault bytes.now ≡ Some refusal → ports.new ≡ ports.old }
     ensures refused_only_ports { result ≡ Status.Refused → ports.new ≡ ports.old }
 {

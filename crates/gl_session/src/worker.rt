@@ -33,9 +33,9 @@ pub fn play_section<R: Wait, D: Driver<Core>>(
     requires new { (player.old.carried.files ≡ []) × (player.old.text ≡ []) }
     ensures device { player.new.gate ≡ player.old.gate }
     ensures played { IfOk result (λ text. PlaysWhole (driver_kind D.ENTRIES D.is_planned D.OwnEntries D.Follows) (talks 0 (map columns_in statements.now) no_names)
-        player.old.view player.old.carried.told text player.new.view player.new.carried.told) }
+        player.old.carried.maps player.old.view player.old.carried.told text player.new.view player.new.carried.told) }
     ensures stopped { IfErr result (λ e. (e ≡ NoMemory) ⊎ ((e ≡ Full)
-        × StoppedFull (driver_kind D.ENTRIES D.is_planned D.OwnEntries D.Follows) (talks 0 (map columns_in statements.now) no_names) player.old.view (carried [] player.old.carried.told) player.new.view)) }
+        × StoppedFull (driver_kind D.ENTRIES D.is_planned D.OwnEntries D.Follows) (talks 0 (map columns_in statements.now) no_names) player.old.view (carried [] player.old.carried.told player.old.carried.maps) player.new.view)) }
 {
     let mut talk = match Talk::new(alloc) {
         Ok(talk) => talk,
@@ -65,9 +65,9 @@ pub fn play_beside<R: Wait, D: Driver<Core>>(
     requires new { (player.old.carried.files ≡ []) × (player.old.text ≡ []) }
     ensures device { player.new.gate ≡ player.old.gate }
     ensures played { IfOk result (λ text. PlaysWhole (driver_kind D.ENTRIES D.is_planned D.OwnEntries D.Follows) (talks 0 (map columns_in statements.now) no_names)
-        player.old.view player.old.carried.told text player.new.view player.new.carried.told) }
+        player.old.carried.maps player.old.view player.old.carried.told text player.new.view player.new.carried.told) }
     ensures stopped { IfErr result (λ e. (e ≡ NoMemory) ⊎ ((e ≡ Full)
-        × StoppedFull (driver_kind D.ENTRIES D.is_planned D.OwnEntries D.Follows) (talks 0 (map columns_in statements.now) no_names) player.old.view (carried [] player.old.carried.told) player.new.view)) }
+        × StoppedFull (driver_kind D.ENTRIES D.is_planned D.OwnEntries D.Follows) (talks 0 (map columns_in statements.now) no_names) player.old.view (carried [] player.old.carried.told player.old.carried.maps) player.new.view)) }
 {
     start.meet();
     play_section(rt, alloc, player, statements)

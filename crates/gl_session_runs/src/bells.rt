@@ -2,9 +2,10 @@
 ghost use Rattle.std.specs.Prelude.{◌≡◌, ◌≤◌, false, []};
 ghost use Rattle.std.proofs.Common.{sym};
 ghost use Rattle.std.proofs.lemmas.Bool.{true≢false};
+ghost use Rattle.gl_session.specs.Ports.{AreAllThere, TakeMaps};
 
 use gl_base::Op;
-use gl_driver::{Driver, DriverFault, HoldDriver, SimPort};
+use gl_driver::{Driver, DriverFault, HoldDriver, Port, SimPort};
 use gl_gate::{Gate, Pass};
 use gl_world::Machine;
 use std::array;
@@ -87,6 +88,14 @@ impl Bells {
             Op::Apply { lines, .. } => self.on_apply(place, lines.offsets[0]),
         }
     }
+}
+
+/// 17 new ports of a driver by whose calls actors wait for each other.
+pub fn new_ports() -> [Option<SimPort>; 17]
+    ensures there { AreAllThere result }
+    ensures bare { TakeMaps (⟦<SimPort as Port>⟧.maps) (⟦<SimPort as Port>⟧.maps_left) result }
+{
+    array::from_fn(|_| Some(SimPort::new()))
 }
 
 /// A driver that goes by bells, one for each of the lines 0 to 7. A configuration of lines at place 1 rings the bell of its first line, and

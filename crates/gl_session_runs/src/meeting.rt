@@ -1,8 +1,8 @@
 //! A session whose actors meet in the driver.
 ghost use Rattle.std.specs.Prelude.{◌≤◌, IfSome};
 
-use crate::bells::BellDriver;
-use crate::play::{Session, new_ports};
+use crate::bells::{BellDriver, new_ports};
+use crate::play::Session;
 use crate::run_parameters::{RunParameters, word};
 use crate::same::put_same;
 use gl_base::{Errno, read_decimal, split_first};

@@ -1,12 +1,14 @@
 //! A session that is played in memory.
 ghost use Rattle.std.specs.Prelude.{◌<◌, ◌≤◌};
-ghost use Rattle.gl_session.specs.Ports.{AreAllThere};
+ghost use Rattle.gl_session.specs.Ports.{AreAllThere, TakeMaps};
 
 use crate::again::give_all;
 use crate::frames::put_texts;
 use crate::run_parameters::RunParameters;
+use gl_aggregator::laws::own_entries_are_quiet;
+use gl_aggregator::{AggDriver, AggPort};
 use gl_base::{Errno, put_decimal};
-use gl_driver::{SimDriver, SimPort};
+use gl_driver::{Port, SimDriver, SimPort};
 use gl_io::{MemSink, MemSource};
 use gl_served::{Ended, Served, serve};
 use gl_session::run;
@@ -83,7 +85,8 @@ impl Session {
             parameters.piece,
             only(parameters.write, alloc)?,
         )?;
-        let (driver, mut ports) = (SimDriver::new(), new_ports());
+        let (driver, mut ports) = (AggDriver::new(SimDriver::new()), new_ports());
+        own_entries_are_quiet();
         let words = [text_of(parameters.words[0]), text_of(parameters.words[1])];
         let count = count_words(&words);
         let status = run(
@@ -192,11 +195,12 @@ fn count_words(words: &[&str; 2]) -> usize
     }
 }
 
-/// 17 new ports.
-pub fn new_ports() -> [Option<SimPort>; 17]
-    ensures { AreAllThere result }
+/// 17 new ports of an aggregator over the simulated driver.
+fn new_ports() -> [Option<AggPort<SimPort>>; 17]
+    ensures there { AreAllThere result }
+    ensures bare { TakeMaps (⟦<AggPort<SimPort> as Port>⟧.maps) (⟦<AggPort<SimPort> as Port>⟧.maps_left) result }
 {
-    array::from_fn(|_| Some(SimPort::new()))
+    array::from_fn(|_| Some(AggPort::new(SimPort::new())))
 }
 
 /// The list of one number, or of none.

@@ -8,13 +8,15 @@ ghost use Rattle.gl_script.specs.Section.{SaidSection};
 ghost use Rattle.gl_script.specs.Sentence.{Sentence, first_fault};
 ghost use Rattle.gl_words.specs.Words.{asks, texts};
 ghost use Rattle.gl_words.specs.declared.task.Task.TheVariants.{Check, Load};
-ghost use Rattle.gl_session.specs.Ports.{AreAllThere};
+ghost use Rattle.gl_session.specs.Ports.{AreAllThere, TakeMaps, left_at};
 ghost use Rattle.gl_session.specs.Run.{IsRefusal, refused_line, usage_line};
 ghost use Rattle.gl_session.specs.Verdict.{IsJudgment, IsLawful, IsVerdict, verdict_line, verdict_status, yes_line};
 ghost use Rattle.gl_session.specs.Workers.{told_at};
 ghost use Rattle.gl_session.specs.declared.verdict.Verdict.{Verdict};
 ghost use Rattle.gpiosess.specs.Program.{HasPrinted, HasPrintedLoad};
 
+use gl_aggregator::laws::own_entries_are_quiet;
+use gl_aggregator::{AggDriver, AggPort};
 use gl_driver::{Port, SimDriver, SimPort};
 use gl_io::{Sink, Source};
 use gl_session::{Status, run};
@@ -23,15 +25,17 @@ use std::array;
 use std::sync::Wait;
 use std::thread::Threads;
 
-/// A new port for the first actor, and one for each of 16 further ones.
-fn new_ports() -> [Option<SimPort>; 17]
+/// A new port for the first actor, and one for each of 16 further ones. Each takes four maps.
+fn new_ports() -> [Option<AggPort<SimPort>>; 17]
     ensures there { AreAllThere result }
-    ensures new { (n : ℕ) → n < 17 → told_at (⟦<SimPort as Port>⟧.told) result n ≡ Some new_port }
+    ensures new { (n : ℕ) → n < 17 → told_at (⟦<AggPort<SimPort> as Port>⟧.told) result n ≡ Some new_port }
+    ensures bare { TakeMaps (⟦<AggPort<SimPort> as Port>⟧.maps) (⟦<AggPort<SimPort> as Port>⟧.maps_left) result }
+    ensures four { left_at (⟦<AggPort<SimPort> as Port>⟧.maps_left) result 0 ≡ 4 }
 {
-    array::from_fn(|_| Some(SimPort::new()))
+    array::from_fn(|_| Some(AggPort::new(SimPort::new())))
 }
 
-/// Carries out what the words ask for, over the simulated driver and a new port for each actor, and writes what comes of it.
+/// Carries out what the words ask for, over the simulated driver with an aggregator over it and a new port for each actor, and writes what comes of it.
 ///
 /// Without words a session is read from the source, and its text is written: of fewer than two actors that is one text, which the session
 /// alone decides. The words of a load write its four lines, which its number alone decides. The word `check` judges what the source has:
@@ -84,5 +88,7 @@ pub fn carry_out<R: Threads + Wait + Sync, S: Source, K: Sink>(
     ensures no_memory_writes_nothing { result ≡ Status.NoMemory → sink.new ≡ sink.old }
 {
     let mut ports = new_ports();
-    run(rt, alloc, words, source, sink, SimDriver::new(), &mut ports)
+    let driver = AggDriver::new(SimDriver::new());
+    own_entries_are_quiet();
+    run(rt, alloc, words, source, sink, driver, &mut ports)
 }

@@ -1,7 +1,8 @@
 use Rattle.std.proofs.Common.{◌≡◌}
+use Rattle.gl_check.specs.Joining.{Maps}
 use Rattle.gl_chip.specs.Values.{IsActorOf}
-use Rattle.gl_session.specs.Ports.{AreBare}
-use Rattle.gl_session.specs.Workers.{HaveBarePorts}
+use Rattle.gl_session.specs.Ports.{AllHave}
+use Rattle.gl_session.specs.Workers.{HaveMaps}
 use Rattle.gl_session.proofs.Threads.{SplitSoFar}
 use Rattle.gl_session.proofs.fork.split_all.Given as goal
 
@@ -11,6 +12,5 @@ invariant-loop-n g l = record {
   of : IsActorOf l.device l.first;
   port : l.first.port ≡ l.initial.first.port;
   split : SplitSoFar g.D.Port.Port.told l.device l.initial.first.pass.view l.initial.ports l.n l.first.pass.view l.actors.items l.ports;
-  bare : AreBare g.D.Driver.ENTRIES g.D.Port.Port.maps l.ports;
-  without : HaveBarePorts g.D.Driver.ENTRIES g.D.Port.Port.maps l.actors.items;
+  maps : (m : Maps) → AllHave g.D.Port.Port.maps g.D.Port.Port.maps_left m l.initial.ports → AllHave g.D.Port.Port.maps g.D.Port.Port.maps_left m l.ports × HaveMaps g.D.Port.Port.maps g.D.Port.Port.maps_left m l.actors.items;
 }

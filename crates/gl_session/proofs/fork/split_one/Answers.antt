@@ -1,5 +1,3 @@
-use Rattle.std.proofs.Common.{ap}
-use Rattle.gl_session.proofs.Bare.{still_bare}
 use Rattle.gl_session.proofs.Threads.{on_ok, split_fresh}
 use Rattle.gl_session.proofs.fork.split_one.Goals as goal
 
@@ -9,6 +7,6 @@ returns-clause-more g c = on_ok c.put.result _ _
       c.split-actor.result,
       e,
       split_fresh g.D.Port.Port.told c.args.device.now c.args.first.now.pass.view c.split-actor.result c.args.port c.split-actor.ensures.other c.split-actor.ensures.new c.split-actor.ensures.port c.split-actor.ensures.own.1,
-      still_bare g.D.Driver.ENTRIES _ _ (ap g.D.Port.Port.maps c.split-actor.ensures.port) c.requires.bare,
+      c.split-actor.ensures.port,
     ))
     c.put.ensures.put

@@ -6,4 +6,5 @@ pub returns : goal.returns
 returns g c = record {
   so_far = cost.entries_within_cost (driver_kind g.D.Driver.ENTRIES g.D.Driver.is_planned g.D.Driver.OwnEntries g.D.Driver.Follows);
   before_a_call = cost.calls_come_below_cost (driver_kind g.D.Driver.ENTRIES g.D.Driver.is_planned g.D.Driver.OwnEntries g.D.Driver.Follows);
+  plainly = cost.entries_within_plain_cost (driver_kind g.D.Driver.ENTRIES g.D.Driver.is_planned g.D.Driver.OwnEntries g.D.Driver.Follows);
 }

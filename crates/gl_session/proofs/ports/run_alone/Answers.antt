@@ -1,17 +1,42 @@
 use Rattle.std.proofs.Common.{◌∙◌, Some, ap}
-use Rattle.gl_session.proofs.PortPlaces.{all_put_back, came_through}
-use Rattle.gl_session.proofs.ports.run_alone.Goals as goal
+use Rattle.gl_script.specs.Script.{sections_of}
 use Rattle.gl_check.specs.Drivers.{driver_kind}
+use Rattle.gl_check.specs.Joining.{Maps, no_maps}
+use Rattle.gl_session.specs.Ports.{left_at}
+use Rattle.gl_session.proofs.AllTogether.{first_there}
+use Rattle.gl_session.proofs.Mapped.{others_have}
+use Rattle.gl_session.proofs.Taught.{all_there_beside, came_beside, learn_beside, stay_beside}
+use Rattle.gl_session.proofs.ports.run_alone.Goals as goal
 
 pub run_one-requires-clause-bare : goal.run_one-requires-clause-bare
-run_one-requires-clause-bare g c κs within = c.requires.bare 0 c.in-Some.port (c.take_port.ensures.taken ∙ ap Some c.in-Some.is)
+run_one-requires-clause-bare g c κs within = ap (λ (m : Maps). m.kept) (c.requires.bare 0 c.in-Some.port (c.take_port.ensures.taken ∙ ap Some c.in-Some.is))
+
+pub teach_where-requires-clause-bare : goal.teach_where-requires-clause-bare
+teach_where-requires-clause-bare g c κs within = (
+  left_at g.D.Port.Port.maps_left c.args.ports.now 0,
+  others_have g.D.Port.Port.maps g.D.Port.Port.maps_left (no_maps (left_at g.D.Port.Port.maps_left c.args.ports.now 0)) c.args.ports.now c.take_port.new.ports 0 c.take_port.ensures.left c.requires.bare,
+)
 
 pub returns-in-Ok-clause-came : goal.returns-in-Ok-clause-came
 returns-in-Ok-clause-came g c =
-    came_through g.D.Port.Port.told (driver_kind g.D.Driver.ENTRIES g.D.Driver.is_planned g.D.Driver.OwnEntries g.D.Driver.Follows) _ _ _ _ _ _ _ _ c.requires.ports (c.take_port.ensures.taken ∙ ap Some c.in-Some.is) c.take_port.ensures.left c.give_port.ensures c.in-Ok.ensures.came
+    came_beside g.D.Port.Port.maps g.D.Port.Port.maps_left g.D.Port.Port.told g.D.Port.Port.faults c.teach_where.ensures.taught.0 c.args.ports.now c.take_port.new.ports c.teach_where.new.ports c.give_port.new.ports c.in-Ok.port c.requires.ports c.take_port.ensures.left
+    c.teach_where.ensures.taught.1 c.teach_where.ensures.ports_len c.give_port.ensures (driver_kind g.D.Driver.ENTRIES g.D.Driver.is_planned g.D.Driver.OwnEntries g.D.Driver.Follows) (sections_of c.args.script.now) c.in-Some.port _ _
+    (c.take_port.ensures.taken ∙ ap Some c.in-Some.is) c.in-Ok.ensures.came
 
 pub returns-in-Ok-clause-there : goal.returns-in-Ok-clause-there
-returns-in-Ok-clause-there g c = (all_put_back _ _ _ _ c.take_port.ensures.left c.give_port.ensures c.requires.ports).0
+returns-in-Ok-clause-there g c =
+    all_there_beside g.D.Port.Port.maps g.D.Port.Port.maps_left g.D.Port.Port.told g.D.Port.Port.faults c.teach_where.ensures.taught.0 c.args.ports.now c.take_port.new.ports c.teach_where.new.ports c.give_port.new.ports c.in-Ok.port c.requires.ports c.take_port.ensures.left
+    c.teach_where.ensures.taught.1 c.teach_where.ensures.ports_len c.give_port.ensures
 
 pub returns-in-Ok-clause-others : goal.returns-in-Ok-clause-others
-returns-in-Ok-clause-others g c = (all_put_back _ _ _ _ c.take_port.ensures.left c.give_port.ensures c.requires.ports).1
+returns-in-Ok-clause-others g c =
+    learn_beside g.D.Port.Port.maps g.D.Port.Port.maps_left g.D.Port.Port.told g.D.Port.Port.faults c.teach_where.ensures.taught.0 c.args.ports.now c.take_port.new.ports c.teach_where.new.ports c.give_port.new.ports c.in-Ok.port c.requires.ports c.take_port.ensures.left
+    c.teach_where.ensures.taught.1 c.teach_where.ensures.ports_len c.give_port.ensures (sections_of c.args.script.now) (λ without. c.teach_where.ensures.stay (c.has_aggregate.ensures ∙ without))
+
+pub returns-in-Ok-clause-others_stay : goal.returns-in-Ok-clause-others_stay
+returns-in-Ok-clause-others_stay g c = λ without.
+    stay_beside g.D.Port.Port.maps g.D.Port.Port.maps_left g.D.Port.Port.told g.D.Port.Port.faults c.teach_where.ensures.taught.0 c.args.ports.now c.take_port.new.ports c.teach_where.new.ports c.give_port.new.ports c.in-Ok.port c.requires.ports c.take_port.ensures.left
+    c.teach_where.ensures.taught.1 c.teach_where.ensures.ports_len c.give_port.ensures (c.teach_where.ensures.stay (c.has_aggregate.ensures ∙ without))
+
+pub unreachable-requires : goal.unreachable-requires
+unreachable-requires g c = first_there c.args.ports.now c.requires.ports (c.take_port.ensures.taken ∙ ap Some c.in-None.is)

@@ -2,15 +2,16 @@ use Rattle.std.proofs.Common.{rules}
 use Rattle.std.specs.Io.KnownBytes.{Appends, IsAtEnd}
 use Rattle.gl_session.specs.Run.{HasWritten, refused_line}
 use Rattle.gl_session.specs.Streams.{AppendsFront}
-use Rattle.gl_session.specs.Ports.{OthersStay}
+use Rattle.gl_session.specs.Ports.{OthersLearn, further_actors, left_at}
 use Rattle.gl_session.specs.Workers.{told_at}
-use Rattle.gl_session.proofs.Causes.{as_lent, if_ran, if_session, if_refused, if_output, if_refusal, if_complete, if_faulty, if_sections}
+use Rattle.gl_session.proofs.Causes.{as_lent, if_ran, if_session, if_refused, if_output, if_refusal, if_complete, if_faulty, if_sections, if_any}
+use Rattle.gl_session.proofs.Taught.{none_learn}
 use Rattle.gl_session.proofs.session.run_session.Goals as goal
-use Rattle.gl_check.specs.Drivers.{driver_kind}
+use Rattle.gl_check.specs.Drivers.{driver_kind, over}
 
 pub returns-in-Ok-clause-output : goal.returns-in-Ok-clause-output
 returns-in-Ok-clause-output g c = λ e.
-    if_ran _ _ _ (IsAtEnd (g.S.Source.left c.read_through.new.source)) (λ sections. HasWritten (driver_kind g.D.Driver.ENTRIES g.D.Driver.is_planned g.D.Driver.OwnEntries g.D.Driver.Follows) sections (told_at g.D.Port.Port.told c.args.ports.now) (told_at g.D.Port.Port.told c.answer.new.ports)
+    if_ran _ _ _ (IsAtEnd (g.S.Source.left c.read_through.new.source)) (λ sections. HasWritten (over (left_at g.D.Port.Port.maps_left c.args.ports.now 0) (driver_kind g.D.Driver.ENTRIES g.D.Driver.is_planned g.D.Driver.OwnEntries g.D.Driver.Follows)) sections (told_at g.D.Port.Port.told c.args.ports.now) (told_at g.D.Port.Port.told c.answer.new.ports)
     (g.K.Sink.held c.args.sink.now) (g.K.Sink.held c.answer.new.sink))
     (as_lent _ _ _ _ c.deref.result.now c.in-Ok.ensures.ok (search rules)) (as_lent _ _ _ _ c.deref.result.now c.in-Ok.ensures.ok (search rules)).end (c.answer.ensures.ran e)
 
@@ -35,7 +36,11 @@ returns-in-Ok-clause-complete g c =
     (λ e. ((c.answer.ensures.refused e).0, (c.answer.ensures.refused e).1)) c.answer.ensures.write_fault
 
 pub returns-in-Ok-clause-other_ports : goal.returns-in-Ok-clause-other_ports
-returns-in-Ok-clause-other_ports g c = λ some. if_sections _ _ _ (λ sections. OthersStay sections c.args.ports.now c.answer.new.ports) (as_lent _ _ _ _ c.deref.result.now c.in-Ok.ensures.ok (search rules)) (c.answer.ensures.other_ports some)
+returns-in-Ok-clause-other_ports g c = λ some. if_sections _ _ _ (λ sections. OthersLearn g.D.Port.Port.maps g.D.Port.Port.maps_left g.D.Port.Port.told g.D.Port.Port.faults sections c.args.ports.now c.answer.new.ports) (as_lent _ _ _ _ c.deref.result.now c.in-Ok.ensures.ok (search rules)) (c.answer.ensures.other_ports some)
 
 pub returns-in-Ok-clause-refused_bytes_ports : goal.returns-in-Ok-clause-refused_bytes_ports
 returns-in-Ok-clause-refused_bytes_ports g c = λ some. if_faulty _ _ _ _ (as_lent _ _ _ _ c.deref.result.now c.in-Ok.ensures.ok (search rules)) (c.answer.ensures.refused_ports some)
+
+pub returns-in-Err-Fault-clause-other_ports : goal.returns-in-Err-Fault-clause-other_ports
+returns-in-Err-Fault-clause-other_ports g c = λ some.
+    if_any (g.S.Source.left c.args.source.now) _ (λ input sections said. none_learn g.D.Port.Port.maps g.D.Port.Port.maps_left g.D.Port.Port.told g.D.Port.Port.faults (further_actors sections) sections c.args.ports.now)

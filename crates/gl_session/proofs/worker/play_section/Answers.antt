@@ -15,15 +15,15 @@ pub returns-in-Ok-play-clause-played : goal.returns-in-Ok-play-clause-played
 returns-in-Ok-play-clause-played g c =
     let new = c.in-Ok.ensures.ok in
     let taken = c.take_text.ensures in
-    subst (λ (x : List ℕ × OneView × Option Told). PlaysWhole (driver_kind g.D.Driver.ENTRIES g.D.Driver.is_planned g.D.Driver.OwnEntries g.D.Driver.Follows) (talks 0 (map columns_in c.args.statements.now) no_names) c.args.player.now.view c.args.player.now.carried.told x.0 x.1 x.2)
+    subst (λ (x : List ℕ × OneView × Option Told). PlaysWhole (driver_kind g.D.Driver.ENTRIES g.D.Driver.is_planned g.D.Driver.OwnEntries g.D.Driver.Follows) (talks 0 (map columns_in c.args.statements.now) no_names) c.args.player.now.carried.maps c.args.player.now.view c.args.player.now.carried.told x.0 x.1 x.2)
     (λ i. (sym (c.of.ensures ∙ taken.text) i, sym taken.view i, ap (λ (k : Carried). k.told) (sym taken.carried) i))
-    (plays_whole _ (map columns_in c.args.statements.now) _ _ _ c.args.player.now.carried.told c.play_all.new.player.carried.told c.play.new.player.carried.told c.play_all.new.player.carried.files _ _ _ _ _ _ c.args.player.now.carried.files c.play.new.player.carried.files _ _ new.1 new.0 c.requires.new.0 c.requires.new.1 (ap (λ l. given l None) c.quit.ensures.quits) c.in-Ok-play_all.ensures.played c.in-Ok-play.ensures.played)
+    (plays_whole _ (map columns_in c.args.statements.now) _ _ _ c.args.player.now.carried.told c.play_all.new.player.carried.told c.play.new.player.carried.told c.args.player.now.carried.maps c.play_all.new.player.carried.maps c.play.new.player.carried.maps c.play_all.new.player.carried.files _ _ _ _ _ _ c.args.player.now.carried.files c.play.new.player.carried.files _ _ new.1 new.0 c.requires.new.0 c.requires.new.1 (ap (λ l. given l None) c.quit.ensures.quits) c.in-Ok-play_all.ensures.played c.in-Ok-play.ensures.played)
 
 pub returns-in-Err-play_all-clause-stopped : goal.returns-in-Err-play_all-clause-stopped
 returns-in-Err-play_all-clause-stopped g c =
     let new = c.in-Ok.ensures.ok in
     ⊎_elim (λ wanted. inl wanted)
-    (λ full. inr (full.0, stops_among_them _ (map columns_in c.args.statements.now) _ _ c.args.player.now.carried.told _ _ c.args.player.now.carried.files new.1 new.0 c.requires.new.0 full.1))
+    (λ full. inr (full.0, stops_among_them _ (map columns_in c.args.statements.now) _ _ c.args.player.now.carried.told c.args.player.now.carried.maps _ _ c.args.player.now.carried.files new.1 new.0 c.requires.new.0 full.1))
     c.in-Err-play_all.ensures.stopped
 
 pub returns-clause-stopped : goal.returns-clause-stopped
@@ -32,6 +32,6 @@ returns-clause-stopped g c =
     ⊎_elim (λ wanted. inl wanted)
     (λ full. inr (
       full.0,
-      stops_behind_them _ (map columns_in c.args.statements.now) _ _ c.args.player.now.carried.told _ _ c.args.player.now.carried.files new.1 new.0 c.requires.new.0 _ c.play_all.new.player.carried.told c.play_all.new.player.carried.files _ _ _ _ (ap (λ l. given l None) c.quit.ensures.quits) c.in-Ok-play_all.ensures.played full.1,
+      stops_behind_them _ (map columns_in c.args.statements.now) _ _ c.args.player.now.carried.told c.args.player.now.carried.maps _ _ c.args.player.now.carried.files new.1 new.0 c.requires.new.0 _ c.play_all.new.player.carried.told c.play_all.new.player.carried.maps c.play_all.new.player.carried.files _ _ _ _ (ap (λ l. given l None) c.quit.ensures.quits) c.in-Ok-play_all.ensures.played full.1,
     ))
     c.in-Err-play.ensures.stopped

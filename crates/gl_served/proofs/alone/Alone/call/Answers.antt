@@ -39,7 +39,7 @@ returns-in-Ok-clause-ok c = λ s stands.
     let suits = suits_call files c.args.what.now c.args.call.now (c.requires.asks files c.requires.found) in
     let came = c.in-Ok.ensures.made s.world stands.world in
     let same : c.in_ok-buffer.buffer.items ≡ buffer_for c.args.what.now = search rules in
-    performed_from c.args.what.now s c.keep.new.self c.got_of.result c.args.call.now (port_in c.args.self.now.port) files c.in-Ok.field-0.reply c.in_ok-buffer.buffer.items c.in-Ok.field-0.buffer.items
+    performed_from c.args.what.now s stands.maps c.keep.new.self c.got_of.result c.args.call.now (port_in c.args.self.now.port) files c.in-Ok.field-0.reply c.in_ok-buffer.buffer.items c.in-Ok.field-0.buffer.items
     (c.requires.asks s.files (subst (λ (l : List OpenFile). file_for c.args.what.now l ≡ file_of c.args.row) stands.files c.requires.found))
     stands.source stands.files same suits
     (subst (λ (k : Kept). CameBy c.args.call.now (comes_to s.world c.args.call.now (next_to c.args.call.now (port_in c.args.self.now.port))) c.in-Ok.field-0.reply k c.in_ok-buffer.buffer.items c.in-Ok.field-0.buffer.items) (sym c.keep.ensures.core) came.0)

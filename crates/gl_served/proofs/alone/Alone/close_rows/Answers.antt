@@ -13,5 +13,5 @@ loop-row-preserved c = (
   λ s stands.
       let came = c.in-Ok.ensures.ok (closes (map row_file (take c.loop-row.row-index c.args.rows.now)) s) (c.loop-row.invariant.1 s stands) in
       subst (λ (t : Standing PlannedPort). StandsAs c.perform.new.self t) (sym (row_closed c.args.rows.now c.loop-row.row-index _ s c.loop-row-test.true))
-      (subst (λ (slot : ℕ). StandsAs c.perform.new.self (performs from_plan (Close slot) (closes (map row_file (take c.loop-row.row-index c.args.rows.now)) s)).1) c.slot.ensures came.1),
+      (subst (λ (slot : ℕ). StandsAs c.perform.new.self (performs 0 from_plan (Close slot) (closes (map row_file (take c.loop-row.row-index c.args.rows.now)) s)).1) c.slot.ensures came.1),
 )

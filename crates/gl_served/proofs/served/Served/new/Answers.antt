@@ -7,6 +7,6 @@ returns-clause-ok c = record {
   stage = refl;
   count = refl;
   names = c.in_ok-talk.ensures.ok.0;
-  stands = record { world = c.in_ok-alone.ensures.ok.0; files = ap (map row_file) c.in_ok-alone.ensures.ok.1; source = c.in_ok-alone.ensures.ok.2 };
+  stands = record { world = c.in_ok-alone.ensures.ok.0; files = ap (map row_file) c.in_ok-alone.ensures.ok.1; source = c.in_ok-alone.ensures.ok.2; maps = refl };
   rests = refl;
 }
