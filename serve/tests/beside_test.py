@@ -157,7 +157,7 @@ class MachineTest(unittest.TestCase):
         for session in sorted((TOP / "examples").glob("*.session")):
             lines = session.read_bytes().removesuffix(b"\n").split(b"\n")
             expected = session.with_suffix(".expected")
-            if not expected.exists() or any(line.startswith((b"actor", b"after")) for line in lines):
+            if not expected.exists() or any(line.startswith((b"actor", b"after", b"aggregate")) for line in lines):
                 continue
             with self.subTest(session=session.name), served.Served() as machine:
                 answers = [machine.answer(line) for line in lines]

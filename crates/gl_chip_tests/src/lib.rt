@@ -2,6 +2,10 @@
 #![tactic(auto)]
 
 #[cfg(test)]
+mod aggregated;
+#[cfg(test)]
+mod aggregated_tests;
+#[cfg(test)]
 mod chip_files;
 #[cfg(test)]
 mod device_tests;
@@ -15,5 +19,7 @@ mod on_requests;
 mod refusal_tests;
 #[cfg(test)]
 mod tests;
+#[cfg(test)]
+mod unplugged_target;
 #[cfg(test)]
 mod unplugging;

@@ -10,7 +10,7 @@ use gl_chip::{Actor, ChipFd, Gpio};
 use gl_core::Core;
 use gl_core::laws::first_bad;
 use gl_device::Device;
-use gl_driver::{Port, SimDriver, SimPort};
+use gl_driver::{Driver, Port, SimDriver, SimPort};
 use gl_uapi::layout::LINE_REQUEST_SIZE;
 use gl_uapi::write_request;
 use gl_world::{Entry, Machine};
@@ -21,8 +21,12 @@ use std::thread::{Threads, join};
 /// An actor that unplugged a chip, and what it was answered.
 type Unplugged = (Actor<SimDriver>, Result<(), Errno>);
 
-/// Unplugs the chip of place 0, by an actor that comes back.
-fn unplug_once<R: Wait>(rt: &R, gpio: &Gpio<SimDriver>, mut actor: Actor<SimDriver>) -> Unplugged
+/// Unplugs the chip of place 0, by an actor that comes back, with what it was answered.
+pub fn unplug_once<D: Driver<Core>, R: Wait>(
+    rt: &R,
+    gpio: &Gpio<D>,
+    mut actor: Actor<D>,
+) -> (Actor<D>, Result<(), Errno>)
     requires actor { IsActorOf gpio.now actor }
     ensures actor { IsActorOf gpio.now result.0 }
     ensures same { IsSame actor.pass.view result.0.pass.view }
@@ -106,8 +110,8 @@ impl Ended {
 }
 
 /// Whether a short history is one that the machine can have.
-fn has_no_bad_entry(history: &[Entry<Core>], alloc: Global) -> bool {
-    history.len() <= 100 && first_bad(history, alloc) == Ok(None)
+pub fn has_no_bad_entry(history: &[Entry<Core>], alloc: Global) -> bool {
+    history.len() <= 1000 && first_bad(history, alloc) == Ok(None)
 }
 
 /// Requests line 0 as an input, while the first driver call fails.
