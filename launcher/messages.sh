@@ -13,7 +13,7 @@ write|write PATH VALUE: VALUE has 1 to 31 letters, digits, _, - or ., and no bla
 clock|clock MONOTONIC REAL: two decimal numbers of nanoseconds
 fault|fault N: a decimal number from 1 to 1000000
 accept|accept N: a decimal number below 2^64
-aggregate|aggregate LABEL NAME, and up to three further names, of requests
+aggregate|aggregate LABEL NAME, and up to three further names: LABEL has 1 to 31 letters, digits, _, - or ., and each NAME is that of a request
 pin|pin range CHIP OFFSET PIN COUNT, pin hold CHIP PIN or pin drop CHIP PIN
 irq|irq lock CHIP OFFSET, and so unlock, enable, disable and none
 open|open NAME CHIP: NAME has 1 to 15 letters, digits, _, - or .
@@ -97,7 +97,7 @@ about() {
   name) echo "each actor has a name of its own" ;;
   limit) about_limit ;;
   too-long) echo "a session has at most 1,048,576 bytes" ;;
-  cost) echo "it could make more than 300,000 calls: name the chip (gpiodetect 0 costs 3 and not 192, gpioinfo -c 0 515 and not 32960)" ;;
+  cost) echo "it could make more than 300,000 calls: name the chip (gpiodetect 0 costs 3 and not 192, gpioinfo -c 0 515 and not 32960); with an aggregate each call counts five times" ;;
   esac
 }
 

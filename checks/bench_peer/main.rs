@@ -48,8 +48,7 @@ fn run_one(device: &Device, sections: &[Section]) -> Vec<u8> {
 /// Runs the actors' sections in threads, between `setup` and `after`, and prints all texts and the history.
 fn run_many(device: &Device, sections: &[Section]) -> Vec<u8> {
     let mut first = Actor { device, number: 0, port: Port::default() };
-    let mut shared = Talk::default();
-    shared.in_setup = true;
+    let mut shared = Talk::for_setup();
     let of = |head: Head| sections.iter().find(move |section| section.head == head);
     let mut out = b"== setup\n".to_vec();
     of(Head::Setup).into_iter().for_each(|section| say(&mut shared, &mut first, section));

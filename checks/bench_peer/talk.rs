@@ -58,6 +58,11 @@ fn small(word: &str) -> u32 {
 type Said = Result<(), Errno>;
 
 impl Talk {
+    /// The talk of `setup`.
+    pub fn for_setup() -> Talk {
+        Talk { in_setup: true, ..Talk::default() }
+    }
+
     /// Runs a statement.
     pub fn say(&mut self, actor: &mut Actor, words: &Statement) {
         let said = match words[0] {

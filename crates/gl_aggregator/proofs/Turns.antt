@@ -1,5 +1,5 @@
 -- One turn of the loop over the targets: what a visit comes to.
-use Rattle.std.proofs.Common.{◌≡◌, false, ℕ, ◌+◌, ◌<◌, List, [], length, Option, Some, None, sym, refl, ap, ◌∙◌, subst}
+use Rattle.std.proofs.Common.{◌≡◌, false, ℕ, ◌+◌, ◌<◌, List, [], length, Option, Some, None, inl, inr, sym, refl, ap, ◌∙◌, subst}
 use Rattle.std.specs.Prelude.{get_or}
 use Rattle.gl_base.specs.Bits.{has_bit}
 use Rattle.gl_base.specs.declared.op.Op.{Op}
@@ -21,14 +21,15 @@ use Rattle.gl_rule.specs.declared.view.View.{View}
 use Rattle.gl_uapi.specs.Command.{command_of}
 use Rattle.gl_uapi.specs.declared.commands.Command.TheVariants.{GetValues}
 use Rattle.gl_world.specs.Deeds.{Deed}
-use Rattle.gl_world.specs.History.{StartsWith}
+use Rattle.gl_world.specs.declared.history.Entry.{Entry}
+use Rattle.gl_world.specs.declared.machine.Machine.{Ghosts}
 use Rattle.gl_aggregator.specs.Aggregating.{FollowsBehind}
 use Rattle.gl_aggregator.specs.Calling.{Calling}
 use Rattle.gl_aggregator.specs.Commands.{visit_on, visits, visits_on}
 use Rattle.gl_aggregator.specs.Course.{Called}
-use Rattle.gl_aggregator.specs.Gather.{gather, gather_on, with_bits_from}
+use Rattle.gl_aggregator.specs.Gather.{gather, gather_on, gathered_behind, with_bits_from}
 use Rattle.gl_aggregator.specs.Routes.{LineAt, lines_on, routes, with_bits_where}
-use Rattle.gl_aggregator.specs.Visiting.{Ends, Gets, WasAsked, WasRefused, visit_in}
+use Rattle.gl_aggregator.specs.Visiting.{Ends, Gets, Visits, WasAsked, WasRefused, WasVisited, visit_in}
 use Rattle.gl_aggregator.specs.declared.commands.Asking.{Asking}
 use Rattle.gl_aggregator.specs.declared.routes.Route.{Route}
 use Rattle.gl_aggregator.proofs.Behind.{back_behind, behind_on, follows_behind, told_behind}
@@ -43,41 +44,86 @@ same_bits (Get lines) asking bits word wrote ls gets by = ap (λ n. with_bits_wh
 same_bits (Set lines mask values) asking bits word wrote ls gets by = refl
 same_bits (Apply lines settings) asking bits word wrote ls gets by = refl
 
-module _ (Own : Option Map → Op → List OneEntry → Type 0) (Follows : Option Map → Option Told → Op → List (Deed Kept Call Reply Gift) → ℕ → ℕ → Option ℕ → Type 0)
-    (op : Op) (rows : List Route) (before now : Option Told) (at : ℕ) (d : Route) (v w : View Kept Call Reply Gift) (bits : ℕ) (less : at < length rows)
-    (calling : Calling core (FollowsBehind (Follows None) v.room) op rows at before now v w bits) (asking : Asking) (is : Some (visit_in asking) ≡ visit_on op (get_or rows at d)) where
+abbrev is_none : Option ℕ → Type 0
+is_none None = Unit {0}
+is_none (Some n) = ⊥
+
+none_some : (n : ℕ) → None ≡ Some n → ⊥
+none_some n is = subst (λ (o : Option ℕ). is_none o) is tt
+
+abbrev number_or : ℕ → Option ℕ → ℕ
+number_or n None = n
+number_or n (Some k) = k
+
+-- a visit by what its calls gave, where these are what the port told, the pass and the word behind it
+module _ {K : Type 0} (m : Ghosts K Call Reply Gift) (limit : ℕ) (Own : Option Map → Op → List (Entry K Call Reply Gift) → Type 0) (Follows : Option Map → Option Told → Op → List (Deed K Call Reply Gift) → ℕ → ℕ → Option ℕ → Type 0)
+    (asking : Asking) (maps : List Map) (before after : Option Told) (v w : View K Call Reply Gift) (word : Option ℕ) where
+  pub not_begun : (x : View K Call Reply Gift) → after ≡ before → w ≡ x → word ≡ None → WasRefused m (RefusedCall asking.command.place false) (in_ask asking.command) v x
+      → Visits m limit Own Follows asking maps before after v w word
+  not_begun x told_is w_is word_is r = subst (λ (o : Option ℕ). Visits m limit Own Follows asking maps before after v w o) (sym word_is)
+      (inl (told_is, subst (λ (y : View K Call Reply Gift). WasRefused m (RefusedCall asking.command.place false) (in_ask asking.command) v y) (sym w_is) r))
+
+  pub visited : (t : Option Told) (a u x : View K Call Reply Gift) (said answer given : Option ℕ) → after ≡ t → w ≡ x → word ≡ given → answer ≡ said → WasAsked m asking.command.place (in_ask asking.command) v a
+      → Drives m limit Own Follows (map_for limit asking.command.place maps) asking.op before t said a u → Ends m asking answer u x given → Visits m limit Own Follows asking maps before after v w word
+  visited t a u x said answer given told_is w_is word_is answer_is asked drives ends = subst (λ (o : Option ℕ). Visits m limit Own Follows asking maps before after v w o) (sym word_is)
+      (subst (λ (y : View K Call Reply Gift). Visits m limit Own Follows asking maps before after v y given) (sym w_is)
+      (subst (λ (y : Option Told). Visits m limit Own Follows asking maps before y v x given) (sym told_is) (by given ends))) where
+        whole : (word : Option ℕ) → Ends m asking answer u x word → WasVisited m limit Own Follows asking maps before t v x word
+        whole word e = record {
+          answer = answer;
+          asked_at = a;
+          driven_at = u;
+          asked = asked;
+          drives = subst (λ (o : Option ℕ). Drives m limit Own Follows (map_for limit asking.command.place maps) asking.op before t o a u) (sym answer_is) drives;
+          ends = e;
+        }
+
+        by : (word : Option ℕ) → Ends m asking answer u x word → Visits m limit Own Follows asking maps before t v x word
+        by None e = inr (whole None e)
+        by (Some n) e = whole (Some n) e
+
+module _ (limit : ℕ) (Own : Option Map → Op → List OneEntry → Type 0) (Follows : Option Map → Option Told → Op → List (Deed Kept Call Reply Gift) → ℕ → ℕ → Option ℕ → Type 0) (none : limit ≡ 0)
+    (op : Op) (rows : List Route) (before now after : Option Told) (at : ℕ) (d : Route) (v w x : View Kept Call Reply Gift) (bits : ℕ) (less : at < length rows)
+    (calling : Calling core (FollowsBehind (Follows None) v.room) op rows at before now v w bits) (asking : Asking) (is : Some (visit_in asking) ≡ visit_on op (get_or rows at d)) (maps : List Map) where
   -- the driver behind wasn't asked
-  pub turn_refused : (x : View Kept Call Reply Gift) → WasRefused core (RefusedCall asking.command.place false) (in_ask asking.command) w x
+  refused : WasRefused core (RefusedCall asking.command.place false) (in_ask asking.command) w x
       → Called core is_go is_done (FollowsBehind (Follows None) v.room) (gather_on op 0 rows) (visits_on op rows) before now v x None
-  turn_refused x r = ends_stopped core (FollowsBehind (Follows None) v.room) op rows before now at d v w bits less calling (visit_in asking) x now is
+  refused r = ends_stopped core (FollowsBehind (Follows None) v.room) op rows before now at d v w bits less calling (visit_in asking) x now is
       (refused_came core is_go is_done (FollowsBehind (Follows None) v.room) (visit_in asking) w x now (λ reply. refl) refl refl r)
 
-  module _ (limit : ℕ) (none : limit ≡ 0) (maps : List Map) (after : Option Told) (said answer : Option ℕ) (a u x : View Kept Call Reply Gift) (asked : WasAsked core asking.command.place (in_ask asking.command) w a)
-      (answer_is : answer ≡ said) (drives : Drives core limit Own Follows (map_for limit asking.command.place maps) asking.op now after said a u) where
-    driven_so : Drives core limit Own Follows (map_for limit asking.command.place maps) asking.op now after answer a u
-    driven_so = subst (λ (o : Option ℕ). Drives core limit Own Follows (map_for limit asking.command.place maps) asking.op now after o a u) (sym answer_is) drives
+  module _ (word : Option ℕ) (visit : WasVisited core limit Own Follows asking maps now after w x word) where
+    back : IsBack core visit.asked_at [] visit.driven_at
+    back = back_behind core Own Follows limit asking.command.place maps asking.op now after visit.answer visit.asked_at visit.driven_at none visit.drives
 
-    back : IsBack core a [] u
-    back = back_behind core Own Follows limit asking.command.place maps asking.op now after answer a u none driven_so
+    told : after ≡ with_call asking.op visit.answer now
+    told = told_behind core Own Follows limit asking.command.place maps asking.op now after visit.answer visit.asked_at visit.driven_at none visit.drives
 
-    told : after ≡ with_call asking.op answer now
-    told = told_behind core Own Follows limit asking.command.place maps asking.op now after answer a u none driven_so
+    follows : FollowsBehind (Follows None) v.room (length x.seen) now asking.op visit.answer
+    follows = follows_behind core Own Follows limit asking.command.place maps asking.op now after visit.answer visit.asked_at visit.driven_at none visit.drives v.room (length x.seen) (visit.asked.grew.room ∙ calling.back.grew.room)
+        (sees_on core is_go is_done (FollowsBehind (Follows None) v.room) visit.driven_at x visit.ends.told.grew.seen)
 
-    follows : (e : StartsWith x.seen u.seen) → FollowsBehind (Follows None) v.room (length x.seen) now asking.op answer
-    follows e = follows_behind core Own Follows limit asking.command.place maps asking.op now after answer a u none driven_so v.room (length x.seen) (asked.grew.room ∙ calling.back.grew.room)
-        (sees_on core is_go is_done (FollowsBehind (Follows None) v.room) u x e)
+  -- its tell was refused
+  failed : WasVisited core limit Own Follows asking maps now after w x None → Called core is_go is_done (FollowsBehind (Follows None) v.room) (gather_on op 0 rows) (visits_on op rows) before after v x None
+  failed visit = let e = visit.ends in ends_stopped core (FollowsBehind (Follows None) v.room) op rows before now at d v w bits less calling (visit_in asking) x after is
+      (failed_came core is_go is_done (FollowsBehind (Follows None) v.room) (visit_in asking) asking.command.place asking.op visit.answer w visit.asked_at visit.driven_at x e.reply e.old e.new now after (λ reply. refl) refl
+      visit.asked (back None visit) e.told (follows None visit) (told None visit) e.gives)
 
-    -- its tell was refused
-    pub turn_failed : Ends core asking answer u x None → Called core is_go is_done (FollowsBehind (Follows None) v.room) (gather_on op 0 rows) (visits_on op rows) before after v x None
-    turn_failed e = ends_stopped core (FollowsBehind (Follows None) v.room) op rows before now at d v w bits less calling (visit_in asking) x after is
-        (failed_came core is_go is_done (FollowsBehind (Follows None) v.room) (visit_in asking) asking.command.place asking.op answer w a u x e.reply e.old e.new now after (λ reply. refl) refl asked back e.told (follows e.told.grew.seen) told e.gives)
+  -- what is gathered behind the visit is nothing: the call ends
+  pub turn_stopped : (word : Option ℕ) → None ≡ gathered_behind op bits word (lines_on op (get_or rows at d)) → Visits core limit Own Follows asking maps now after w x word
+      → Called core is_go is_done (FollowsBehind (Follows None) v.room) (gather_on op 0 rows) (visits_on op rows) before after v x None
+  turn_stopped None gathers (inl (same, r)) = subst (λ (o : Option Told). Called core is_go is_done (FollowsBehind (Follows None) v.room) (gather_on op 0 rows) (visits_on op rows) before o v x None) (sym same) (refused r)
+  turn_stopped None gathers (inr visit) = failed visit
+  turn_stopped (Some word) gathers visit = absurd (none_some (with_bits_from op bits word (lines_on op (get_or rows at d))) gathers)
 
-    -- it was passed
-    pub turn_passed : (word next : ℕ) → Gets op asking → Ends core asking answer u x (Some word) → next ≡ with_bits_from op bits word (lines_on op (get_or rows at d))
-        → Calling core (FollowsBehind (Follows None) v.room) op rows (at + 1) before after v x next
-    turn_passed word next gets e next_is = goes_on core (FollowsBehind (Follows None) v.room) op rows before now at d v w bits less calling (visit_in asking) x after e.told.second.bytes next (behind_on (Follows None) v.room) is
-        (passed_came core is_go is_done (FollowsBehind (Follows None) v.room) (visit_in asking) asking.command.place asking.op answer w a u x e.reply e.old e.new now after (λ reply. refl) refl asked back e.told (follows e.told.grew.seen) told e.gives.0)
-        (next_is ∙ same_bits op asking bits word e.told.second.bytes (lines_on op (get_or rows at d)) gets e.gives.1)
+  -- it is these bits: the target was passed
+  pub turn_passed : (word : Option ℕ) (next : ℕ) → Gets op asking → Some next ≡ gathered_behind op bits word (lines_on op (get_or rows at d)) → Visits core limit Own Follows asking maps now after w x word
+      → Calling core (FollowsBehind (Follows None) v.room) op rows (at + 1) before after v x next
+  turn_passed None next gets gathers visit = absurd (none_some next (sym gathers))
+  turn_passed (Some word) next gets gathers visit =
+      let e = visit.ends in goes_on core (FollowsBehind (Follows None) v.room) op rows before now at d v w bits less calling (visit_in asking) x after e.told.second.bytes next (behind_on (Follows None) v.room) is
+      (passed_came core is_go is_done (FollowsBehind (Follows None) v.room) (visit_in asking) asking.command.place asking.op visit.answer w visit.asked_at visit.driven_at x e.reply e.old e.new now after (λ reply. refl) refl
+      visit.asked (back (Some word) visit) e.told (follows (Some word) visit) (told (Some word) visit) e.gives.0)
+      (ap (λ o. number_or next o) gathers ∙ same_bits op asking bits word e.told.second.bytes (lines_on op (get_or rows at d)) gets e.gives.1)
 
 -- the call over the routes of a map is the one over its visits
 pub over_map : (Follows : ℕ → Option Told → Op → Option ℕ → Type 0) (map : Map) (op : Op) (found rows : List Route) (before after : Option Told) (v w : View Kept Call Reply Gift) (answer : Option ℕ) → rows ≡ found → found ≡ routes map op

@@ -21,6 +21,11 @@ with_bits_from (Get lines) bits word ls = with_bits_where (λ l. has_bit word l.
 with_bits_from (Set lines mask values) bits word ls = bits
 with_bits_from (Apply lines settings) bits word ls = bits
 
+-- The same behind the visit of a target: by the word that the visit gave, and none where it gave none, as then the call fails.
+abbrev pub gathered_behind : Op → ℕ → Option ℕ → List LineAt → Option ℕ
+gathered_behind op bits None ls = None
+gathered_behind op bits (Some word) ls = Some (with_bits_from op bits word ls)
+
 -- the bits with those besides that are gathered of what was written at these targets' tells
 abbrev pub gather_on : Op → ℕ → List Route → List (List ℕ) → ℕ
 gather_on op bits [] told = bits

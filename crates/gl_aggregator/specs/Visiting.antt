@@ -2,7 +2,10 @@
 use Rattle.std.specs.Prelude.{◌≡◌, ◌⊎◌, ℕ, ◌+◌, ◌≤◌, Bool, true, false, List, [], ◌∷◌, ◌++◌, length, drop, Option, Some, None}
 use Rattle.gl_base.specs.declared.op.Op.{Op}
 use Rattle.gl_base.specs.declared.op.Op.TheVariants.{Apply, Get, Set}
-use Rattle.gl_driver.specs.Calls.{FitsOp, IsBack}
+use Rattle.gl_driver.specs.Calls.{Drives, FitsOp, IsBack}
+use Rattle.gl_driver.specs.Maps.{map_for}
+use Rattle.gl_driver.specs.Told.{Told}
+use Rattle.gl_driver.specs.declared.map.Map.{Map}
 use Rattle.gl_gate.specs.Calls.{HoldsNoTurn, IsInside, KnowsAsMuch}
 use Rattle.gl_gate.specs.Grown.{Grew}
 use Rattle.gl_model.specs.Fits.{FitsBytes}
@@ -137,3 +140,20 @@ module _ {K : Type 0} (m : Ghosts K Call Reply Gift) where
     pub new : List ℕ
     pub told : WasTold m asking.command.place (in_tell answer asking.command) u x reply old new
     pub gives : Gives asking (is_done reply) told.second.bytes word
+
+module _ {K : Type 0} (m : Ghosts K Call Reply Gift) (limit : ℕ) (Own : Option Map → Op → List (Entry K Call Reply Gift) → Type 0)
+    (Follows : Option Map → Option Told → Op → List (Deed K Call Reply Gift) → ℕ → ℕ → Option ℕ → Type 0) (asking : Asking) (maps : List Map) (before after : Option Told) where
+  -- a whole visit: its ask owed a tell, the driver behind was asked, and what that answered was told
+  pub record WasVisited (v w : View K Call Reply Gift) (word : Option ℕ) : Type 0 where
+    pub answer : Option ℕ
+    pub asked_at : View K Call Reply Gift
+    pub driven_at : View K Call Reply Gift
+    pub asked : WasAsked m asking.command.place (in_ask asking.command) v asked_at
+    pub drives : Drives m limit Own Follows (map_for limit asking.command.place maps) asking.op before after answer asked_at driven_at
+    pub ends : Ends m asking answer driven_at w word
+
+  -- How a visit comes out. It gives a word where the tell was done. It gives none where the tell wasn't, and where the driver behind wasn't asked, as the
+  -- guard of the place was closed, the ask was refused, or the history was full.
+  abbrev pub Visits : View K Call Reply Gift → View K Call Reply Gift → Option ℕ → Type 0
+  Visits v w (Some word) = WasVisited v w (Some word)
+  Visits v w None = ((after ≡ before) × WasRefused m (RefusedCall asking.command.place false) (in_ask asking.command) v w) ⊎ WasVisited v w None

@@ -17,7 +17,7 @@ use crate::commands::asking_on;
 use crate::port::AggPort;
 use crate::routes::routes_of;
 use crate::visiting::{begin_visit, end_visit};
-use crate::words::gathered;
+use crate::words::gathered_behind;
 use gl_core::Core;
 use gl_driver::{Driver, DriverFault, Op};
 use gl_gate::{Gate, Pass};
@@ -115,17 +115,19 @@ impl<D: Driver<Core>> Driver<Core> for AggDriver<D> {
                         Some(asking) => asking,
                         None => return port.tally.take_down(op, None),
                     };
-                    if !begin_visit(rt, gate, pass, &asking) {
-                        return port.tally.take_down(op, None);
-                    }
-                    let place = asking.command.place;
-                    let answer = answer_in(
-                        &self
-                            .inner
-                            .call(rt, gate, &mut port.inner, pass, place, &asking.op),
-                    );
-                    match end_visit(rt, gate, pass, &asking, answer) {
-                        Some(word) => bits = gathered(op, route, bits, word),
+                    let word = if begin_visit(rt, gate, pass, &asking) {
+                        let place = asking.command.place;
+                        let answer = answer_in(
+                            &self
+                                .inner
+                                .call(rt, gate, &mut port.inner, pass, place, &asking.op),
+                        );
+                        end_visit(rt, gate, pass, &asking, answer)
+                    } else {
+                        None
+                    };
+                    match gathered_behind(op, route, bits, word) {
+                        Some(more) => bits = more,
                         None => return port.tally.take_down(op, None),
                     }
                 }

@@ -3,7 +3,7 @@ ghost use Rattle.std.specs.Prelude.{◌≡◌, ◌+◌, ◌^◌, ◌<◌, ◌≤
 ghost use Rattle.gl_base.specs.Lines.{offsets_of};
 ghost use Rattle.gl_base.specs.Bits.{has_bit};
 ghost use Rattle.gl_driver.specs.Calls.{FitsOp};
-ghost use Rattle.gl_aggregator.specs.Gather.{with_bits_from};
+ghost use Rattle.gl_aggregator.specs.Gather.{gathered_behind, with_bits_from};
 ghost use Rattle.gl_aggregator.specs.Routes.{IsRoute, is_meant, line_at, lines_of, lines_on, position_at, position_in, with_bits_where, word_where};
 ghost use Rattle.gl_aggregator.specs.Commands.{is_high, word_at};
 ghost use Rattle.gl_aggregator.specs.Words.{is_chosen};
@@ -180,7 +180,7 @@ fn with_lines_from(op: &Op, route: &Route, bits: u64, word: u64) -> u64
 }
 
 /// The bits of an operation with those besides that one target's word gives.
-pub(crate) fn gathered(op: &Op, route: &Route, bits: u64, word: u64) -> u64
+fn gathered(op: &Op, route: &Route, bits: u64, word: u64) -> u64
     requires op { FitsOp op.now }
     requires route { IsRoute route.now }
     ensures { result ≡ with_bits_from op.now bits word (lines_on op.now route.now) }
@@ -188,5 +188,18 @@ pub(crate) fn gathered(op: &Op, route: &Route, bits: u64, word: u64) -> u64
     match op {
         Op::Get { .. } => with_lines_from(op, route, bits, word),
         Op::Set { .. } | Op::Apply { .. } => bits,
+    }
+}
+
+/// The bits of an operation behind the visit of one of its targets, of the word that the visit gave; none where it gave none, as where the target's
+/// place is closed.
+pub(crate) fn gathered_behind(op: &Op, route: &Route, bits: u64, word: Option<u64>) -> Option<u64>
+    requires op { FitsOp op.now }
+    requires route { IsRoute route.now }
+    ensures { result ≡ gathered_behind op.now bits word (lines_on op.now route.now) }
+{
+    match word {
+        Some(word) => Some(gathered(op, route, bits, word)),
+        None => None,
     }
 }

@@ -19,13 +19,13 @@ use Rattle.gl_asking.specs.Opened.{place_named}
 use Rattle.gl_asking.specs.Rows.{IsRow, is_on_chip, row_file}
 
 -- the files after a change
-abbrev pub changed : Change → List OpenFile → List OpenFile
+abbrev pub changed : Change FileRow → List OpenFile → List OpenFile
 changed Stays files = files
 changed (Adds row) files = with_file (row_file row) files
 changed (Removes slot) files = without_file slot files
 
 -- a row more is a row
-abbrev pub IsChange : Change → Type 0
+abbrev pub IsChange : Change FileRow → Type 0
 IsChange Stays = Unit {0}
 IsChange (Adds row) = IsRow row
 IsChange (Removes slot) = Unit {0}

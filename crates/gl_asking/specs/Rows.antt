@@ -1,8 +1,10 @@
 -- What the rows of the code stand for.
-use Rattle.std.specs.Prelude.{◌≡◌, ◌<◌, Bool, true, false, Option, None, Some}
+use Rattle.std.specs.Prelude.{◌≡◌, ◌<◌, ℕ, Bool, true, false, Option, None, Some}
 use Rattle.gl_base.specs.Lines.{IsLineCount}
 use Rattle.gl_base.specs.declared.limits.TheConstants.{PLACES}
 use Rattle.gl_base.specs.declared.lines.Lines.{Lines}
+use Rattle.gl_model.specs.declared.call.Call.{Call}
+use Rattle.gl_model.specs.declared.call.Call.TheVariants.{Close, PollChip, PollLine, ReadEdges, ReadInfo}
 use Rattle.gl_model.specs.declared.device_call.DeviceCall.{DeviceCall}
 use Rattle.gl_model.specs.declared.device_call.DeviceCall.TheVariants.{Once, Removing, Commanding}
 use Rattle.gl_asking.specs.declared.kinds.Asking.{Asking}
@@ -52,14 +54,31 @@ abbrev pub IsSomeRow : Option FileRow → Type 0
 IsSomeRow None = Unit {0}
 IsSomeRow (Some row) = IsRow row
 
--- a command is on the file of this row
-abbrev pub IsOn : DeviceCall → Option FileRow → Type 0
-IsOn (Once call) row = Unit {0}
-IsOn (Removing removal) row = Unit {0}
-IsOn (Commanding command) None = ⊥
-IsOn (Commanding command) (Some row) = (command.place ≡ row.place) × (command.fd ≡ row.fd) × (command.of_chip ≡ is_chip row.kind)
+-- there is a row, and this is true of it
+abbrev pub OfRow : Option FileRow → (FileRow → Type 0) → Type 0
+OfRow None P = ⊥
+OfRow (Some row) P = P row
 
--- what is asked for is on the file of this row, where it is a command
+-- the row of a file at this place, of this number, and of a chip or of a request
+abbrev pub IsRowOf : ℕ → ℕ → Bool → FileRow → Type 0
+IsRowOf place fd of_chip row = (place ≡ row.place) × (fd ≡ row.fd) × (of_chip ≡ is_chip row.kind)
+
+-- a read, a poll or a close is on the file of this row; no other call of the machine that is whole by itself acts on a file
+abbrev pub IsCallOn : Call → Option FileRow → Type 0
+IsCallOn (ReadEdges place fd len) row = OfRow row (IsRowOf place fd false)
+IsCallOn (ReadInfo place fd len) row = OfRow row (IsRowOf place fd true)
+IsCallOn (PollLine place fd) row = OfRow row (IsRowOf place fd false)
+IsCallOn (PollChip place fd) row = OfRow row (IsRowOf place fd true)
+IsCallOn (Close fd) row = OfRow row (λ r. fd ≡ r.fd)
+IsCallOn _ row = Unit {0}
+
+-- a call that acts on a file is on the file of this row
+abbrev pub IsOn : DeviceCall → Option FileRow → Type 0
+IsOn (Once call) row = IsCallOn call row
+IsOn (Removing removal) row = Unit {0}
+IsOn (Commanding command) row = OfRow row (IsRowOf command.place command.fd command.of_chip)
+
+-- what is asked for is on the file of this row, where it acts on one
 abbrev pub AsksOn : Option FileRow → Asking → Type 0
 AsksOn row (Calls call) = IsOn call row
 AsksOn row (Plans nth) = Unit {0}

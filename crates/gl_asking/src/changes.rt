@@ -32,7 +32,7 @@ pub fn place_named(word: &Path) -> u8
 }
 
 /// The row of a chip's file.
-fn chip_row(slot: u32, place: u8, fd: u32) -> Change
+fn chip_row(slot: u32, place: u8, fd: u32) -> Change<FileRow>
     requires { place < PLACES }
     ensures row { IsChange result }
     ensures told { (files : List OpenFile) → changed result files ≡ with_file (chip_file slot place fd) files }
@@ -46,7 +46,7 @@ fn chip_row(slot: u32, place: u8, fd: u32) -> Change
 }
 
 /// A chip that was opened into a slot. A reply of another form doesn't come.
-fn opened(slot: u32, word: &Path, reply: Reply) -> Change
+fn opened(slot: u32, word: &Path, reply: Reply) -> Change<FileRow>
     requires number { number_answered reply < 2 ^ 32 }
     requires place { (fd : ℕ) → reply ≡ Number fd → place_named word.now < PLACES }
     ensures row { IsChange result }
@@ -60,7 +60,7 @@ fn opened(slot: u32, word: &Path, reply: Reply) -> Change
 }
 
 /// A request of the lines that were asked for, which was made on a file, into a slot.
-fn made(slot: u32, row: Option<FileRow>, answered: &Answered) -> Change
+fn made(slot: u32, row: Option<FileRow>, answered: &Answered) -> Change<FileRow>
     requires number { number_answered answered.now.reply < 2 ^ 32 }
     requires row { IsSomeRow row }
     requires lines { (fd : ℕ) → answered.now.reply ≡ Number fd → is_on_chip row ≡ true → AreSome answered.now.lines }
@@ -125,7 +125,7 @@ pub fn answered_by(what: &Do, reply: Reply) -> Answered
 
 /// What becomes of the open files by an operation on this file that was answered so. A file that was to be closed is gone, whatever the
 /// reply; the lines of a new request are those that were asked for.
-pub fn files_behind(what: &Do, row: Option<FileRow>, answered: &Answered) -> Change
+pub fn files_behind(what: &Do, row: Option<FileRow>, answered: &Answered) -> Change<FileRow>
     requires within { OpensWithin what.now answered.now.reply }
     requires named { NamesMade what.now row answered.now }
     requires row { IsSomeRow row }

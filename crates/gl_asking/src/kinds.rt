@@ -15,8 +15,8 @@ pub enum FileKind {
     Request(Lines),
 }
 
-/// An open file, as who carries operations out keeps it. Its fields are this crate's own: `files_behind` alone makes one, of what was answered to an
-/// open or to a request of lines.
+/// An open file, as who carries operations out keeps it: by its slot, with its lines. `files_behind` makes one, of what was answered to an open or to a
+/// request of lines. It is no leave to act on the file: for that a device wants it as it gave it itself (`HeldFile` of `gl_chip`).
 #[derive(Clone, Copy)]
 pub struct FileRow {
     /// The slot by which operations name it.
@@ -84,19 +84,19 @@ pub enum Asking {
     Refuses(Errno),
 }
 
-/// What becomes of the open files by an operation.
+/// What becomes of the open files by an operation, by what is kept of a file: its row, or the file as a device gave it.
 #[derive(Clone, Copy)]
-pub enum Change {
+pub enum Change<F> {
     /// They stay.
     Stays,
     /// There is one more.
-    Adds(FileRow),
+    Adds(F),
     /// The one in this slot is gone, if there was one.
     Removes(u32),
 }
 
-/// What a call of the device is answered. `Gpio::call` of `gl_chip` makes one. So does who makes the steps of the machine itself, or reads in a
-/// history that they were made (`answered_by`), and who answers an operation without a call.
+/// What a call of the device is answered, as it says what becomes of a client's files. Who makes the steps of the machine itself makes one, or reads in a
+/// history that they were made (`answered_by`), and who answers an operation without a call. A device has its own (`Answer` of `gl_chip`), which has one.
 #[derive(Clone, Copy)]
 pub struct Answered {
     /// The reply of its last entry.

@@ -297,9 +297,8 @@ fn finds_on_all(name: &Name) -> Asking
 /// What an operation is, by the row of the open file that it names; None where it names none, or that isn't open.
 ///
 /// An operation on a slot without a file is refused with `BadF`; `NoEnt` where it names a place that no device has; a chip of no line,
-/// or of more than `LINES_MAX`, with `Inval`; a chip over requests, of which a port would have to keep a map, with `NoSpc`. These are refused
-/// without a call (this project's choice). Every other operation is a call that
-/// may be made, or speaks to the actor's port.
+/// or of more than `LINES_MAX`, with `Inval`; a chip over requests, of which a port would have to keep a map, with `NoSpc`. These are
+/// refused without a call (this project's choice). Every other operation is a call that may be made, or speaks to the actor's port.
 pub fn asking_of(what: &Do, row: Option<FileRow>) -> Asking
     requires row { IsSomeRow row }
     ensures told { (files : List OpenFile) → file_for what.now files ≡ file_of row → result ≡ asking files what.now }

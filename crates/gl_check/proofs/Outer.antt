@@ -29,7 +29,7 @@ use Rattle.gl_model.specs.declared.device_call.RemovalOf.{RemovalOf}
 use Rattle.gl_model.specs.declared.device_call.RemovalOf.TheVariants.{OfChip, OfDevice}
 use Rattle.gl_model.specs.declared.reply.Reply.{Reply}
 use Rattle.gl_script.specs.Section.{SaidSection}
-use Rattle.gl_core.specs.Device.{OneDeed, OneEntry, call_tells, core}
+use Rattle.gl_core.specs.Device.{AreWhole, OneDeed, OneEntry, call_tells, core}
 use Rattle.gl_asking.specs.declared.kinds.Asking.{Asking}
 use Rattle.gl_asking.specs.declared.kinds.Asking.TheVariants.{Calls, Plans, Accepts, Refuses}
 use Rattle.gl_asking.specs.Driving.{op_asked}
@@ -37,7 +37,7 @@ use Rattle.gl_check.specs.Drivers.{DriverKind, DriverOver, start_maps}
 use Rattle.gl_check.specs.Joining.{Maps, asking_with}
 use Rattle.gl_check.specs.Many.{ActorPlayed, ActorsPlayed, AllPlayed, PortsTell, Texts, program_of}
 use Rattle.gl_check.specs.Programs.{after_of, setup_of}
-use Rattle.gl_check.specs.Tells.{AreWhole, OwnsWhole, TellsAfter, answered_last, calls_after, last_or, outer_tells}
+use Rattle.gl_check.specs.Tells.{TellsAfter, answered_last, calls_after, last_or, outer_tells}
 use Rattle.gl_check.specs.Turns.{Carried, Did, Exchange, Follows, HasMade, IsDone, Played, PortBy, Said, Turn, carried, did_by, is_begun, map_of, was_asked}
 use Rattle.gl_check.proofs.Asked.{single_is}
 
@@ -78,7 +78,7 @@ abbrev told_if : Bool → Option ℕ → List (Option ℕ)
 told_if true answer = answer ∷ []
 told_if false answer = []
 
-module _ (n : ℕ) (answer : Option ℕ) (own rest : List OneEntry) where
+module _ (n : ℕ) (answer : Option ℕ) (own rest : List OneEntry) (whole : AreWhole false own) where
   -- a call that made these entries tells this alone
   abbrev Outer : Bool → List OneEntry → Type 0
   Outer asked made = outer_tells 0 (made ++ rest) ≡ told_if asked answer ++ outer_tells 0 rest
@@ -103,33 +103,33 @@ module _ (n : ℕ) (answer : Option ℕ) (own rest : List OneEntry) where
       by false m = ap (λ (es : List OneEntry). outer_tells 0 (es ++ rest)) m.0
       by true m = ap (λ (es : List OneEntry). outer_tells 1 (es ++ rest)) m.1
 
-  asking_outer : (c : CommandIn) (made : List OneEntry) → (is_begun made ≡ true → AreWhole false own) → MakesTwo n (in_ask c) (in_tell answer c) own made → Outer (is_begun made) made
-  asking_outer c made whole (reply, later, is, makes) = subst (λ (es : List OneEntry). Outer (is_begun es) es) (sym is) (by (begins (in_ask c) reply) refl makes)
+  asking_outer : (c : CommandIn) (made : List OneEntry) → MakesTwo n (in_ask c) (in_tell answer c) own made → Outer (is_begun made) made
+  asking_outer c made (reply, later, is, makes) = subst (λ (es : List OneEntry). Outer (is_begun es) es) (sym is) (by (begins (in_ask c) reply) makes)
     where
-      by : (b : Bool) → begins (in_ask c) reply ≡ b → MakesRest n b (in_tell answer c) own later → outer_tells ((0 + (if b then 1 else 0)) - 0) (later ++ rest) ≡ told_if b answer ++ outer_tells 0 rest
-      by false unbegun m = ap (λ (es : List OneEntry). outer_tells 0 (es ++ rest)) m.0
-      by true begun m =
+      by : (b : Bool) → MakesRest n b (in_tell answer c) own later → outer_tells ((0 + (if b then 1 else 0)) - 0) (later ++ rest) ≡ told_if b answer ++ outer_tells 0 rest
+      by false m = ap (λ (es : List OneEntry). outer_tells 0 (es ++ rest)) m.0
+      by true m =
           ap (λ (es : List OneEntry). outer_tells 1 (es ++ rest)) m.1
           ∙ ap (λ (es : List OneEntry). outer_tells 1 es) (append_assoc own (entry n (in_tell answer c) m.0 ∷ []) rest)
-          ∙ own_outer (entry n (in_tell answer c) m.0 ∷ rest) false own (whole (ap (λ (es : List OneEntry). is_begun es) is ∙ begun))
+          ∙ own_outer (entry n (in_tell answer c) m.0 ∷ rest) false own whole
 
-  inside_outer : (c : CommandIn) (asks : Bool) (made : List OneEntry) → (is_begun made ≡ true → AreWhole false own) → MakesCommand n asks answer c own made → Outer (is_begun made) made
-  inside_outer c true made whole makes = asking_outer c made whole makes
-  inside_outer c false made whole ((reply, is), none) = subst (λ (es : List OneEntry). Outer (is_begun es) es) (sym is) refl
+  inside_outer : (c : CommandIn) (asks : Bool) (made : List OneEntry) → MakesCommand n asks answer c own made → Outer (is_begun made) made
+  inside_outer c true made makes = asking_outer c made makes
+  inside_outer c false made ((reply, is), none) = subst (λ (es : List OneEntry). Outer (is_begun es) es) (sym is) refl
 
-  command_outer : (c : CommandIn) (closed : Bool) (made : List OneEntry) → (is_begun made ≡ true → AreWhole false own) → MakesAt n (Some c.place) closed (Commanding c) answer own made → Outer (is_begun made) made
-  command_outer c false made whole makes = inside_outer c (is_driver_asked c.of_chip c.len (command_of c.cmd)) made whole makes
-  command_outer c true made whole makes = subst (λ (es : List OneEntry). Outer (is_begun es) es) (sym makes.0) refl
+  command_outer : (c : CommandIn) (closed : Bool) (made : List OneEntry) → MakesAt n (Some c.place) closed (Commanding c) answer own made → Outer (is_begun made) made
+  command_outer c false made makes = inside_outer c (is_driver_asked c.of_chip c.len (command_of c.cmd)) made makes
+  command_outer c true made makes = subst (λ (es : List OneEntry). Outer (is_begun es) es) (sym makes.0) refl
 
   once_outer : (call : Call) → is_single call ≡ true → (guard : Option ℕ) (closed : Bool) (made : List OneEntry) → MakesAt n guard closed (Once call) answer own made → Outer false made
   once_outer call single None closed made makes = one_outer call made (single_is call single).never makes.0
   once_outer call single (Some place) false made makes = one_outer call made (single_is call single).never makes.0
   once_outer call single (Some place) true made makes = subst (λ (es : List OneEntry). Outer false es) (sym makes.0) refl
 
-  call_outer : (call : DeviceCall) (closed : Bool) (made : List OneEntry) → (was_asked call made ≡ true → AreWhole false own) → Makes n closed call answer own made → Outer (was_asked call made) made
-  call_outer (Once call) closed made whole makes = once_outer call makes.0 (guard_of (Once call)) closed made makes.1
-  call_outer (Removing removal) closed made whole makes = removal_outer removal made makes.1.0
-  call_outer (Commanding c) closed made whole makes = command_outer c closed made whole makes.1
+  call_outer : (call : DeviceCall) (closed : Bool) (made : List OneEntry) → Makes n closed call answer own made → Outer (was_asked call made) made
+  call_outer (Once call) closed made makes = once_outer call makes.0 (guard_of (Once call)) closed made makes.1
+  call_outer (Removing removal) closed made makes = removal_outer removal made makes.1.0
+  call_outer (Commanding c) closed made makes = command_outer c closed made makes.1
 
 -- what a port tells after answers, and after more of them
 pub later_told : (xs ys : List (Option ℕ)) (t u : Told) (left : Option Told) → TellsAfter t xs (Some u) → TellsAfter u ys left → TellsAfter t (xs ++ ys) left
@@ -182,12 +182,7 @@ nothing_outer t u did left none is calls last = record {
   alone = λ rest. ap (λ (l : List OneDeed). outer_tells 0 (entries_in l ++ rest)) none;
 }
 
-module _ (driver : DriverKind) (whole : OwnsWhole driver) (n : ℕ) where
-  own_whole : (asked : Bool) (map : Option Map) (op : Option Op) (e : Exchange) (before after : Option Told) → PortBy driver n asked map op e before after → asked ≡ true → AreWhole false e.own
-  own_whole false map op e before after port is = absurd (false≢true is)
-  own_whole true None op e before after port is = subst (λ (es : List OneEntry). AreWhole false es) (sym port.may_make) tt
-  own_whole true (Some map) op e before after port is = whole map port.asked_for e.own port.may_make
-
+module _ (driver : DriverKind) (n : ℕ) where
   -- what a port tells after one exchange
   port_tells : (asked : Bool) (map : Option Map) (op : Option Op) (e : Exchange) (t : Told) (before after : Option Told) → before ≡ Some t → PortBy driver n asked map op e before after
       → (u : Told) × (after ≡ Some u) × TellsAfter t (told_if asked e.answer) after
@@ -213,7 +208,7 @@ module _ (driver : DriverKind) (whole : OwnsWhole driver) (n : ℕ) where
         record {
           answers = told_if asked e.answer;
           tells = p.2;
-          alone = λ rest. call_outer n e.answer e.own rest call e.closed (entries_in e.did) (own_whole asked (map_of driver m call) op e before after h.port) h.makes;
+          alone = λ rest. call_outer n e.answer e.own rest h.may_own.whole call e.closed (entries_in e.did) h.makes;
         },
       )
 
@@ -240,7 +235,7 @@ module _ (driver : DriverKind) (whole : OwnsWhole driver) (n : ℕ) where
     played_outer p s text did value r t is h = subst (λ (l : List OneDeed). TellsOuter t l r.told) (sym h.did_is) (turns_outer p s h.turns (done value) r t is h.follows)
 
 -- of all actors
-module _ (driver : DriverOver) (whole : OwnsWhole driver.kind) (before left : ℕ → Option Told) (sections : List SaidSection) (history : List OneEntry) where
+module _ (driver : DriverOver) (before left : ℕ → Option Told) (sections : List SaidSection) (history : List OneEntry) where
   -- the actor of a number
   actor_at : (m : Maps) (k : ℕ) (texts : List (List ℕ)) → ActorsPlayed driver before left sections history m k texts → (n : ℕ) → k ≤ n → n < k + length texts
       → (text : List ℕ) × ActorPlayed driver before left sections history m n text
@@ -260,9 +255,9 @@ module _ (driver : DriverOver) (whole : OwnsWhole driver.kind) (before left : �
   -- Each port that told tells in the end as many calls more as its actor made, and the answer of the last of them.
   pub ports_tell : (texts : Texts) → AllPlayed driver before left sections history texts → PortsTell before left sections history
   ports_tell texts h zero t low told =
-      let first = played_outer driver.kind whole 0 (setup_of sections) (carried [] (before 0) (start_maps driver)) texts.setup (deeds_of core 0 h.first) h.names h.waiting t told h.setup in
+      let first = played_outer driver.kind 0 (setup_of sections) (carried [] (before 0) (start_maps driver)) texts.setup (deeds_of core 0 h.first) h.names h.waiting t told h.setup in
       let u = first.tells in
-      let last = played_outer driver.kind whole 0 (after_of sections h.names) h.waiting texts.last (deeds_from core (fold core (h.first ++ h.middle)) 0 h.last) h.end h.behind u.told u.left_is h.after in
+      let last = played_outer driver.kind 0 (after_of sections h.names) h.waiting texts.last (deeds_from core (fold core (h.first ++ h.middle)) 0 h.last) h.end h.behind u.told u.left_is h.after in
       let did : List OneDeed = deeds_of core 0 h.first ++ deeds_from core (fold core (h.first ++ h.middle)) 0 h.last in
       let both : TellsOuter t did (left 0) = subst (λ (o : Option Told). TellsOuter t did o) h.left_is
       (outer_on t u.told (deeds_of core 0 h.first) (deeds_from core (fold core (h.first ++ h.middle)) 0 h.last) h.waiting.told h.behind.told u.left_is first last) in
@@ -273,5 +268,5 @@ module _ (driver : DriverOver) (whole : OwnsWhole driver.kind) (before left : �
       (entries_in_append (deeds_of core 0 h.first) (deeds_from core (fold core (h.first ++ h.middle)) 0 h.last)
       ∙ (λ i. deeds_entries core core.opening 0 h.first i ++ deeds_entries core (fold core (h.first ++ h.middle)) 0 h.last i) ∙ sym entries) both
   ports_tell texts h (suc k) t low told = let n : ℕ = suc k in let many = h.as_many in let a = actor_at h.waiting.maps 1 texts.actors h.actors n (omega arith) (omega arith) in
-      let one = played_outer driver.kind whole n (program_of sections n) (carried [] (before n) h.waiting.maps) a.0 (deeds_of core n history) a.1.names a.1.behind t told a.1.played in
+      let one = played_outer driver.kind n (program_of sections n) (carried [] (before n) h.waiting.maps) a.0 (deeds_of core n history) a.1.names a.1.behind t told a.1.played in
       whole_tells t (deeds_of core n history) (entries_of n history) (left n) (deeds_entries core core.opening n history) (subst (λ (o : Option Told). TellsOuter t (deeds_of core n history) o) a.1.left_is one)

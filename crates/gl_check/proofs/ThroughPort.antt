@@ -20,7 +20,9 @@ use Rattle.gl_asking.specs.declared.kinds.Asking.{Asking}
 use Rattle.gl_asking.specs.declared.kinds.Asking.TheVariants.{Calls, Plans, Accepts, Refuses}
 use Rattle.gl_asking.specs.Driving.{op_asked}
 use Rattle.gl_asking.specs.Files.{OpenFile}
+use Rattle.gl_check.specs.Drivers.{DriverKind, DriverOver}
 use Rattle.gl_check.specs.Joining.{asking_with, no_maps}
+use Rattle.gl_check.specs.Lawful.{IsLawfulCall}
 use Rattle.gl_check.specs.One.{Answering, DriverAsked, Ran, Standing, TellingPort, answer_in, asked_over, behind_setup, behind_text, came_to, comes_by, entry_count, first_of_list, from_list, from_port, is_asked, map_by, performs, performs_as, run, run_actor, run_after, run_session, run_setup, said_in_kind, steps_of, taken_over, tells_among, told_of, told_over, with_answer, with_entries, world_asked}
 use Rattle.gl_check.specs.OnePort.{IsForOperation, OneIsThroughPort, through_port}
 use Rattle.gl_check.specs.Tells.{TellsAfter}
@@ -221,3 +223,20 @@ one_through_port limit left sections given = record {
   where
     takes : (before : Option Told) → (through_port limit left sections given before).behind.took ≡ taken_over limit left sections given
     takes before = sym (ap (λ (ran : Ran (List Answering) Names). ran.behind.took) (session_alike limit left sections given before).1)
+
+-- the calls of a driver that are such as it may make are for operations
+for_operations : (driver : DriverKind) (room : ℕ) (asked : List DriverAsked) → Each (IsLawfulCall driver room) asked → Each IsForOperation asked
+for_operations driver room [] h = tt
+for_operations driver room (a ∷ asked) h = ((h.0.op, h.0.asked_for), for_operations driver room asked h.1)
+
+-- So where they are, a port that told tells just the answers of what the driver did.
+pub tells_given : (driver : DriverOver) (room : ℕ) (sections : List SaidSection) (given : List Answering) (before left : Option Told)
+    → taken_over driver.kind.limit driver.maps_left sections given ≡ given → Each (IsLawfulCall driver.kind room) (asked_over driver.kind.limit driver.maps_left sections given before)
+    → left ≡ told_over driver.kind.limit driver.maps_left sections given before → (t : Told) → before ≡ Some t → TellsAfter t (map answer_in given) left
+tells_given driver room sections given before left takes lawful port t is =
+    let asked : Each IsForOperation (asked_over driver.kind.limit driver.maps_left sections given (Some t))
+    = for_operations driver.kind room (asked_over driver.kind.limit driver.maps_left sections given (Some t))
+    (subst (λ (o : Option Told). Each (IsLawfulCall driver.kind room) (asked_over driver.kind.limit driver.maps_left sections given o)) is lawful) in
+    subst (λ (l : List Answering). TellsAfter t (map answer_in l) left) takes
+    (subst (λ (o : Option Told). TellsAfter t (map answer_in (taken_over driver.kind.limit driver.maps_left sections given)) o) (sym (port ∙ ap (told_over driver.kind.limit driver.maps_left sections given) is))
+    ((one_through_port driver.kind.limit driver.maps_left sections given).tells t asked))

@@ -1,13 +1,10 @@
 -- What a port tells after answers of its driver. This project's choice.
-use Rattle.std.specs.Prelude.{◌≡◌, ℕ, zero, suc, ◌+◌, ◌-◌, Bool, true, false, if◌then◌else◌, List, [], ◌∷◌, ◌++◌, Option, Some, None}
+use Rattle.std.specs.Prelude.{◌≡◌, ℕ, zero, suc, ◌+◌, ◌-◌, if◌then◌else◌, List, [], ◌∷◌, ◌++◌, Option, Some, None}
 use Rattle.gl_base.specs.Count.{counted_up}
-use Rattle.gl_base.specs.declared.op.Op.{Op}
 use Rattle.gl_driver.specs.Told.{Told}
-use Rattle.gl_driver.specs.declared.map.Map.{Map}
 use Rattle.gl_driver.specs.declared.op.DriverCall.{DriverCall}
 use Rattle.gl_core.specs.Device.{OneEntry, call_tells}
 use Rattle.gl_model.specs.Entries.{begins, ends}
-use Rattle.gl_check.specs.Drivers.{DriverKind}
 
 -- how many calls went through a port after so many answers more
 abbrev pub calls_after : ℕ → List (Option ℕ) → ℕ
@@ -45,14 +42,3 @@ told_alone _ e = []
 abbrev pub outer_tells : ℕ → List OneEntry → List (Option ℕ)
 outer_tells calls [] = []
 outer_tells calls (e ∷ es) = told_alone calls e ++ outer_tells (under_way calls e) es
-
--- Entries of whole calls, one after another: where one owes a second entry, that stands right behind it, and no other is a second one.
--- `owed`: the first of them is one.
-abbrev pub AreWhole : Bool → List OneEntry → Type 0
-AreWhole false [] = Unit {0}
-AreWhole true [] = ⊥
-AreWhole owed (e ∷ es) = (ends e.call ≡ owed) × AreWhole (begins e.call e.reply) es
-
--- the entries of its own that a driver makes are those of whole calls
-abbrev pub OwnsWhole : DriverKind → Type 0
-OwnsWhole driver = (map : Map) (op : Op) (own : List OneEntry) → driver.Own map op own → AreWhole false own

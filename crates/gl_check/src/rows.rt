@@ -58,7 +58,7 @@ pub fn keep(rows: &mut Vec<FileRow>, what: &Do, row: Option<FileRow>, answered: 
 }
 
 /// Makes a change. There is room for a row more.
-fn change(rows: &mut Vec<FileRow>, change: Change)
+fn change(rows: &mut Vec<FileRow>, change: Change<FileRow>)
     requires room { vec_len rows.old + 1 ≤ vec_capacity rows.old }
     requires change { IsChange change }
     requires rows { Each IsRow rows.old.items }

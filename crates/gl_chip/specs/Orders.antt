@@ -1,5 +1,5 @@
 -- Any call of the device as one value, and how it comes out.
-use Rattle.std.specs.Prelude.{◌≡◌, ◌⊎◌, ◌↔◌, ℕ, ◌<◌, ◌^◌, true, false, List, ◌++◌, length, take, drop, Option, None, Some, Result, IfOk}
+use Rattle.std.specs.Prelude.{◌≡◌, ◌⊎◌, ◌↔◌, ℕ, ◌<◌, ◌^◌, true, false, List, ◌++◌, length, take, drop, Option, None, Some, Result, Ok, Err, IfOk}
 use Rattle.gl_base.specs.declared.errno.Errno.{Errno}
 use Rattle.gl_base.specs.declared.errno.Errno.TheVariants.{Full, NoDev, NoMemory}
 use Rattle.gl_base.specs.declared.lines.Lines.{Lines}
@@ -28,6 +28,7 @@ use Rattle.gl_asking.specs.declared.kinds.FileKind.TheVariants.{Chip, Request}
 use Rattle.gl_asking.specs.Fitting.{FitsDevice}
 use Rattle.gl_asking.specs.Handed.{command_in}
 use Rattle.gl_asking.specs.Rows.{HasLines, is_chip}
+use Rattle.gl_chip.specs.declared.held.Answer.{Answer}
 use Rattle.gl_chip.specs.Called.{HasCalled}
 use Rattle.gl_chip.specs.Calling.{Answers, KnowsBy, WroteBy}
 use Rattle.gl_chip.specs.DriverCommands.{HasCommanded, IsOp}
@@ -130,6 +131,11 @@ abbrev pub KnowsAfter : DeviceCall → Result Answered Errno → OneView → One
 KnowsAfter (Once call) result v w = KnowsBy (guarded_place call) v w
 KnowsAfter (Removing removal) result v w = IfOk result (λ r. KnowsRemoved removal r.reply v w)
 KnowsAfter (Commanding c) result v w = IfOk result (λ r. r.reply ≡ guard_reply false → KnowsClosed w c.place)
+
+-- what a device's answer says, if there is one
+abbrev pub answered_of : Result Answer Errno → Result Answered Errno
+answered_of (Ok answer) = Ok answer.answered
+answered_of (Err errno) = Err errno
 
 -- A call wasn't made: memory was wanted, and nothing was done; or the history was full.
 abbrev pub CouldNot : {P : Type 0} → Errno → ActorValue P → ActorValue P → Type 0

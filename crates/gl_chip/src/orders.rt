@@ -14,7 +14,7 @@ ghost use Rattle.gl_asking.specs.Rows.{HasLines, IsOn, is_chip, kind_of};
 ghost use Rattle.gl_chip.specs.Called.{HasCalled};
 ghost use Rattle.gl_chip.specs.DriverCommands.{HasCommanded, IsOp};
 ghost use Rattle.gl_asking.specs.Driving.{op_for};
-ghost use Rattle.gl_chip.specs.Orders.{AnswersOrder, Brings, CouldNot, EndsOrder, FitsOrder, GivesLines, GivesOn, HasDone, KnowsAfter, KnowsRemoved, WroteByForm, WroteTo, lines_on, op_ordered};
+ghost use Rattle.gl_chip.specs.Orders.{AnswersOrder, Brings, CouldNot, EndsOrder, FitsOrder, GivesLines, GivesOn, HasDone, KnowsAfter, KnowsRemoved, WroteByForm, WroteTo, answered_of, lines_on, op_ordered};
 ghost use Rattle.gl_driver.specs.Told.{PortAfter};
 ghost use Rattle.gl_core.specs.Device.{tells_in};
 ghost use Rattle.gl_chip.specs.Steps.{FoundNoRoom};
@@ -24,8 +24,9 @@ ghost use Rattle.gl_core.specs.Device.{core};
 use crate::actor::Actor;
 use crate::bringing::brought;
 use crate::gpio::Gpio;
+use crate::held::{Answer, HeldFile, row_of};
 use gl_asking::parts::first_call;
-use gl_asking::{Answered, FileKind, FileRow, kind_of};
+use gl_asking::{Answered, FileKind, kind_of};
 use gl_base::Errno;
 use gl_core::{Core, Gift, Reply};
 use gl_driver::Driver;
@@ -43,15 +44,15 @@ pub struct Order {
 }
 
 impl Order {
-    /// A call of the device, on the file of this row where it is a command. The lines of a request are the row's.
-    pub fn of(call: DeviceCall, row: &Option<FileRow>) -> Order
-        requires on { IsOn call row.now }
+    /// A call of the device, on this file where it is a command. The lines of a request are the file's.
+    pub fn of(call: DeviceCall, file: &Option<HeldFile>) -> Order
+        requires on { IsOn call file.now }
         ensures call { result.call ≡ call }
-        ensures on { result.on ≡ kind_of row.now }
+        ensures on { result.on ≡ kind_of file.now }
     {
         Order {
             call,
-            on: kind_of(row),
+            on: kind_of(&row_of(file)),
         }
     }
 }
@@ -175,33 +176,37 @@ impl<D: Driver<Core>> Gpio<D> {
     /// nothing was done; `Full` where the history is full. These two are its only errors.
     ///
     /// Over a driver that makes no entries of its own, the port becomes what the answers in the call's entries say (`port`).
-    pub fn call<R: Wait>(
+    pub fn call<'o, R: Wait>(
         &self,
         rt: &R,
         alloc: Global,
         actor: &mut Actor<D>,
-        order: &Order,
+        order: &'o Order,
         out: &mut [u8],
-    ) -> Result<Answered, Errno>
+    ) -> Result<Answer<'o>, Errno>
         requires actor { IsActorOf self.now actor.old }
         requires fits { FitsOrder order.now.call order.now.on out.old }
         ensures actor { IsActorOf self.now actor.new }
+        ensures order { IfOk result (λ r. r.order.now ≡ order.now) }
         ensures same { IsSameActor actor.old.pass.view actor.new.pass.view }
         ensures done { IfOk result (λ r. (bytes : List ℕ) × WroteTo order.now.call bytes out.old out.new
-            × HasDone D.Port.told D.Port.faults D.Port.maps D.Port.maps_left D.OwnEntries D.Follows D.ENTRIES order.now.call order.now.on actor.old r.reply bytes actor.new) }
+            × HasDone D.Port.told D.Port.faults D.Port.maps D.Port.maps_left D.OwnEntries D.Follows D.ENTRIES order.now.call order.now.on actor.old r.answered.reply bytes actor.new) }
         ensures port { D.ENTRIES ≡ 0 → IfOk result (λ r. (bytes : List ℕ) × WroteTo order.now.call bytes out.old out.new
-            × (called : HasCalled 0 actor.old.pass.view order.now.call r.reply bytes actor.new.pass.view)
+            × (called : HasCalled 0 actor.old.pass.view order.now.call r.answered.reply bytes actor.new.pass.view)
             × PortAfter D.is_planned (op_ordered order.now.call order.now.on) (tells_in (entries_in called.did)) (D.Port.told actor.old.port) (D.Port.told actor.new.port)) }
-        ensures form { IfOk result (λ r. AnswersOrder order.now.call order.now.on r.reply) }
-        ensures lines { IfOk result (GivesLines order.now.call order.now.on) }
-        ensures places { KnowsAfter order.now.call result actor.old.pass.view actor.new.pass.view }
-        ensures not_full { IfOk result (λ r. r.reply ≢ Refused Full) }
-        ensures not_memory { IfOk result (λ r. r.reply ≢ Refused NoMemory) }
+        ensures form { IfOk result (λ r. AnswersOrder order.now.call order.now.on r.answered.reply) }
+        ensures lines { IfOk result (λ r. GivesLines order.now.call order.now.on r.answered) }
+        ensures places { KnowsAfter order.now.call (answered_of result) actor.old.pass.view actor.new.pass.view }
+        ensures not_full { IfOk result (λ r. r.answered.reply ≢ Refused Full) }
+        ensures not_memory { IfOk result (λ r. r.answered.reply ≢ Refused NoMemory) }
         ensures could_not { IfErr result (λ e. CouldNot e actor.old actor.new × (out.new ≡ out.old)) }
     {
         match brought(&order.call, alloc) {
             Err(errno) => Err(errno),
-            Ok(mut gift) => self.carry(rt, actor, order, &mut gift, out),
+            Ok(mut gift) => match self.carry(rt, actor, order, &mut gift, out) {
+                Ok(answered) => Ok(Answer { order, answered }),
+                Err(errno) => Err(errno),
+            },
         }
     }
 }

@@ -33,7 +33,7 @@ module _ (s k : ℕ) where
   Fits n (ReadFile slot len) = one_if (nat_eq s slot) ≤ n
   Fits n (Poll slot) = one_if (nat_eq s slot) ≤ n
   Fits n (Close slot) = one_if (nat_eq s slot) ≤ n
-  Fits n (Aggregate label joined count) = one_if (is_open s (take count joined)) ≤ n
+  Fits n (Aggregate label joined count) = (count ≤ 4) × (one_if (is_open s (take count joined)) ≤ n)
   Fits n _ = Unit {0}
 
   abbrev pub with_one : Option Errno → ℕ → ℕ → ℕ
@@ -161,7 +161,7 @@ may_ask k slots le (Poll slot) h = there_by slot slots (h slot)
 may_ask k slots le (Close slot) h = there_by slot slots (h slot)
 may_ask k slots le (Plan nth) h = tt
 may_ask k slots le (Accept bits) h = tt
-may_ask k slots le (Aggregate label joined count) h = all_there (take count joined) slots h
+may_ask k slots le (Aggregate label joined count) h = ((h 0).0, all_there (take count joined) slots (λ s. (h s).1))
 
 -- how often a slot is open after an operation
 opened_times : (s : ℕ) (fault : Option Errno) (slot : ℕ) (slots : List ℕ) → times s (with_opened fault slot slots) ≡ with_one s 0 fault slot (times s slots)

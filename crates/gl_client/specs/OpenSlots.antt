@@ -22,7 +22,7 @@ Where true P = P
 Where false P = Unit {0}
 
 -- What an operation may name where these slots are open: what it asks of a file is asked of one that is open, and what it opens
--- goes into a slot that is free.
+-- goes into a slot that is free. A chip is asked for over four files at most; that it is one at least is the form of its statement.
 abbrev pub MayAsk : List ℕ → Do → Type 0
 MayAsk slots (OpenChip slot word) = is_open slot slots ≡ false
 MayAsk slots (Find None name) = Unit {0}
@@ -31,7 +31,7 @@ MayAsk slots (Ioctl slot command len bytes made) = (is_open slot slots ≡ true)
 MayAsk slots (ReadFile slot len) = is_open slot slots ≡ true
 MayAsk slots (Poll slot) = is_open slot slots ≡ true
 MayAsk slots (Close slot) = is_open slot slots ≡ true
-MayAsk slots (Aggregate label joined count) = Each (λ slot. is_open slot slots ≡ true) (take count joined)
+MayAsk slots (Aggregate label joined count) = (count ≤ 4) × Each (λ slot. is_open slot slots ≡ true) (take count joined)
 MayAsk slots _ = Unit {0}
 
 -- the slots that are open after an operation: what succeeds in opening adds a slot, and a closing takes one away

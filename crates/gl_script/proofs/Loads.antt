@@ -18,7 +18,7 @@ use Rattle.gl_base.proofs.Decimals.{digits-decimal, number_of_text-decimal}
 use Rattle.gl_base.proofs.FirstRows.{Each-append}
 use Rattle.gl_script.specs.declared.limits.TheConstants.{TURNS_MAX}
 use Rattle.gl_script.specs.Columns.{columns}
-use Rattle.gl_script.specs.Cost.{aggregates, do_aggregate, has_aggregate, section_cost, session_cost, statement_cost, statements_cost, with_own, words_cost}
+use Rattle.gl_script.specs.Cost.{has_aggregate, section_cost, session_cost, statement_aggregates, statement_cost, statements_cost, with_own, words_aggregate, words_cost}
 use Rattle.gl_script.specs.Faults.{byte_fault, is_printable, size_fault, spot, statement_fault}
 use Rattle.gl_script.specs.Forms.{is_path_byte, is_there, meets, within}
 use Rattle.gl_script.specs.Gen.{IsSession, clock_line, events_at, events_line, get_line, load_lines, load_text, next_number, is_up, line_pulled, pull_end, pull_line, request_line, text_of, turn, turns}
@@ -168,7 +168,7 @@ pub record IsGood (text : List ℕ) : Type 0 where
   pub fits : size_fault 0 (columns text) ≡ None
   pub counts : is_counted (columns text) ≡ true
   pub statement : AreStatement One (columns text)
-  pub plain : do_aggregate (columns text) ≡ false
+  pub plain : words_aggregate (columns text) ≡ false
 
 line_cost : List ℕ → ℕ
 line_cost text = words_cost (columns text)
@@ -231,7 +231,7 @@ clock_good b bs is number =
       fits = ap (size_fault 0) cols ∙ ap (λ t. cond t (Some (spot 7 Limit)) None) short;
       counts = ap is_counted cols;
       statement = subst (AreStatement One) (sym cols) (refl, ap (λ t. cond t None (Some (spot 7 Word))) number);
-      plain = ap do_aggregate cols;
+      plain = ap words_aggregate cols;
     }
 
 clock_cost : (b : ℕ) (bs : List ℕ) → IsDigits (b ∷ bs) → words_cost (columns (codes "clock " ++ ((b ∷ bs) ++ codes " 0"))) ≡ 1
@@ -271,7 +271,7 @@ pull_good ds up is =
       fits = ap (size_fault 0) cols ∙ fits up path short;
       counts = ap is_counted cols;
       statement = subst (AreStatement One) (sym cols) (refl, statement up path (path_meets ds is.digits is.few));
-      plain = ap do_aggregate cols;
+      plain = ap words_aggregate cols;
     }
   where
     end_printable : (up : Bool) → list_all is_printable (pull_end up) ≡ true
@@ -308,7 +308,7 @@ get_good b bs is =
       fits = ap (size_fault 0) cols ∙ ap (λ t. cond t (Some (spot 14 Limit)) None) short;
       counts = ap is_counted cols;
       statement = subst (AreStatement One) (sym cols) (refl, refl);
-      plain = ap do_aggregate cols;
+      plain = ap words_aggregate cols;
     }
 
 get_cost : (b : ℕ) (bs : List ℕ) → IsDigits (b ∷ bs) → words_cost (columns (codes "gpioget -c 0 " ++ (b ∷ bs))) ≡ 10
@@ -433,10 +433,10 @@ cost_placed at [] = refl
 cost_placed at (line ∷ lines) =
     omega (arith, sum_by-cons statement_cost (span at line) (placed (at + length line + 1) lines), sum_by-cons line_cost line lines, cost_placed (at + length line + 1) lines)
 
-none_aggregates : (at : ℕ) (lines : List (List ℕ)) → Each IsGood lines → list_any aggregates (placed at lines) ≡ false
+none_aggregates : (at : ℕ) (lines : List (List ℕ)) → Each IsGood lines → list_any statement_aggregates (placed at lines) ≡ false
 none_aggregates at [] each = refl
 none_aggregates at (line ∷ lines) each =
-    ap (λ b. b || list_any aggregates (placed (at + length line + 1) lines)) each.0.plain ∙ none_aggregates (at + length line + 1) lines each.1
+    ap (λ b. b || list_any statement_aggregates (placed (at + length line + 1) lines)) each.0.plain ∙ none_aggregates (at + length line + 1) lines each.1
 
 -- the load's one section
 abbrev load_section : ℕ → SaidSection

@@ -1,5 +1,5 @@
 -- A statement without a fault says something, and what it says is what its words spell.
-use Rattle.std.proofs.Common.{◌≡◌, ℕ, Bool, true, false, not, ◌||◌, List, [], ◌∷◌, Option, None, Some, refl, sym, ◌∙◌, ap, subst}
+use Rattle.std.proofs.Common.{◌≡◌, ℕ, ◌-◌, Bool, true, false, not, ◌||◌, List, [], ◌∷◌, Option, None, Some, refl, sym, ◌∙◌, ap, subst}
 use Rattle.std.specs.Prelude.{if◌then◌else◌, codes, is_some}
 use Rattle.std.specs.Str.{bytes_eq}
 use Rattle.std.proofs.lemmas.Slice.Eq.{bytes_eq-Decides}
@@ -10,6 +10,7 @@ use Rattle.gl_base.specs.Words.{Span, end_of, text_at}
 use Rattle.gl_base.specs.declared.irq.IrqDo.{IrqDo}
 use Rattle.gl_base.specs.declared.irq.IrqDo.TheVariants.{Lock, Unlock, Enable, Disable, Never}
 use Rattle.gl_base.specs.declared.limits.TheConstants.{LINES_MAX}
+use Rattle.gl_script.specs.declared.limits.TheConstants.{JOINED_MAX}
 use Rattle.gl_base.specs.declared.pin.PinDo.TheVariants.{Range, Hold, Release}
 use Rattle.gl_v1.specs.Words.{makes_file as makes_old_file, old_number_of}
 use Rattle.gl_script.specs.declared.refusal.Spot.{Spot}
@@ -164,7 +165,7 @@ values_there Fault first words n =
 values_there Accept first words n =
     one_there (λ x. SaidAccept x) (wide_of (text_at 0 words)) (number_there (wide_of (text_at 0 words)) (met1 (tail_fault NoMore) (Number 0 0xFFFFFFFFFFFFFFFF) [] (end_of first) words n))
 values_there Aggregate first words n =
-    one_there (λ label. SaidAggregate label) (label_of (text_at 0 words)) (text_there is_label_byte 31 (text_at 0 words) (met1 (tail_fault (FileNames 3)) Label (FileName ∷ []) (end_of first) words n))
+    one_there (λ label. SaidAggregate label) (label_of (text_at 0 words)) (text_there is_label_byte 31 (text_at 0 words) (met1 (tail_fault (FileNames (JOINED_MAX - 1))) Label (FileName ∷ []) (end_of first) words n))
 values_there Pin first words n =
     let word = text_at 0 words in
     pin_there (bytes_eq word (codes "range")) (bytes_eq word (codes "hold")) (bytes_eq word (codes "drop")) (end_of first) words

@@ -91,15 +91,15 @@ abbrev pub is_aggregate : Option Keyword → Bool
 is_aggregate (Some Aggregate) = true
 is_aggregate _ = false
 
-abbrev pub do_aggregate : List Span → Bool
-do_aggregate words = is_aggregate (keyword_of (text_at 0 words))
+abbrev pub words_aggregate : List Span → Bool
+words_aggregate words = is_aggregate (keyword_of (text_at 0 words))
 
-abbrev pub aggregates : Span → Bool
-aggregates line = do_aggregate (columns line.text)
+abbrev pub statement_aggregates : Span → Bool
+statement_aggregates line = words_aggregate (columns line.text)
 
 -- a section, and a session, has such a statement
 abbrev pub section_aggregates : SaidSection → Bool
-section_aggregates section = list_any aggregates section.statements
+section_aggregates section = list_any statement_aggregates section.statements
 
 abbrev pub has_aggregate : List SaidSection → Bool
 has_aggregate sections = list_any section_aggregates sections

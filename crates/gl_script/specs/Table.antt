@@ -1,5 +1,5 @@
 -- The statements: the word that each begins with, and the forms of its further words. This project's choice.
-use Rattle.std.specs.Prelude.{◌≡◌, ℕ, Bool, true, false, if◌then◌else◌, List, [], ◌∷◌, Option, None, Some, find, codes}
+use Rattle.std.specs.Prelude.{◌≡◌, ℕ, ◌-◌, Bool, true, false, if◌then◌else◌, List, [], ◌∷◌, Option, None, Some, find, codes}
 use Rattle.std.specs.Str.{bytes_eq}
 use Rattle.gl_script.specs.declared.table.Form.{Form}
 use Rattle.gl_script.specs.declared.table.Form.TheVariants.{FileName, Label, Path, Number, Chip, Word, Command, OldCommand, PinWord, IrqWord, HeldTool}
@@ -9,6 +9,7 @@ use Rattle.gl_script.specs.declared.table.TheConstants.{KEYWORDS}
 use Rattle.gl_script.specs.declared.version.Version.{Version}
 use Rattle.gl_script.specs.declared.version.Version.TheVariants.{One, Two}
 use Rattle.gl_base.specs.declared.limits.TheConstants.{LINES_MAX}
+use Rattle.gl_script.specs.declared.limits.TheConstants.{JOINED_MAX}
 
 -- the word of a statement
 abbrev pub keyword_name : Keyword → List ℕ
@@ -99,7 +100,7 @@ wanted Read second makes = only (Path ∷ [])
 wanted Clock second makes = only (Number 0 0xFFFFFFFFFFFFFFFF ∷ Number 0 0xFFFFFFFFFFFFFFFF ∷ [])
 wanted Fault second makes = only (Number 1 1000000 ∷ [])
 wanted Accept second makes = only (Number 0 0xFFFFFFFFFFFFFFFF ∷ [])
-wanted Aggregate second makes = followed (Label ∷ FileName ∷ []) (FileNames 3)
+wanted Aggregate second makes = followed (Label ∷ FileName ∷ []) (FileNames (JOINED_MAX - 1))
 wanted Pin second makes =
     if bytes_eq second (codes "range") then only (PinWord ∷ Chip ∷ Number 0 0xFFFFFFFF ∷ Number 0 0xFFFFFFFF ∷ Number 0 0xFFFFFFFF ∷ [])
     else only (PinWord ∷ Chip ∷ Number 0 0xFFFFFFFF ∷ [])

@@ -3,8 +3,7 @@ ghost use Rattle.std.specs.Prelude.{◌≡◌, ◌+◌, ◌*◌, ◌≤◌, ◌<
 ghost use Rattle.std.specs.List.{list_any, starts_with};
 ghost use Rattle.std.specs.Str.{bytes_eq};
 ghost use Rattle.gl_base.specs.Words.{words_at, text_at};
-ghost use Rattle.gl_script.specs.Cost.{aggregates, are_none, has_aggregate, is_aggregate, is_bare, is_chip_option, section_aggregates, section_cost, session_cost, start_cost, statement_cost, statements_cost};
-ghost use Rattle.gl_script.specs.Said.{keyword_said};
+ghost use Rattle.gl_script.specs.Cost.{are_none, has_aggregate, is_bare, is_chip_option, section_aggregates, section_cost, session_cost, start_cost, statement_aggregates, statement_cost, statements_cost};
 ghost use Rattle.gl_script.specs.SaidCost.{cost_said};
 ghost use Rattle.gl_script.specs.Meaning.{line_in, said_in};
 
@@ -81,10 +80,10 @@ fn section_aggregates(section: &Section<'_>) -> bool
 }
 
 fn one_aggregates(statements: &[Statement<'_>]) -> bool
-    ensures { result ≡ list_any aggregates (map line_in statements.now) }
+    ensures { result ≡ list_any statement_aggregates (map line_in statements.now) }
 {
     for statement in statements {
-        if aggregates(statement) {
+        if statement_aggregates(statement) {
             return true;
         }
     }
@@ -92,18 +91,11 @@ fn one_aggregates(statements: &[Statement<'_>]) -> bool
 }
 
 /// Whether a statement is one.
-fn aggregates(statement: &Statement<'_>) -> bool
-    ensures { result ≡ aggregates (line_in statement.now) }
+fn statement_aggregates(statement: &Statement<'_>) -> bool
+    ensures { result ≡ statement_aggregates (line_in statement.now) }
 {
     let said = statement.said();
-    is_aggregate(&said)
-}
-
-/// Whether what is said is that of one.
-fn is_aggregate(said: &Said) -> bool
-    ensures { result ≡ is_aggregate (Some (keyword_said said.now)) }
-{
-    matches!(said, Said::Aggregate { .. })
+    said.is_aggregate()
 }
 
 /// The cost of a section, or one more than `COST_MAX` where it is more than that.

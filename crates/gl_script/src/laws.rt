@@ -10,7 +10,9 @@ ghost use Rattle.gl_script.specs.ServedLines.{AcceptedLinesHaveNoFault, Accepted
 ghost use Rattle.gl_script.specs.Spelled.{Spelled};
 ghost use Rattle.gl_script.specs.Table.{StatementsHaveTheirWords};
 
-use crate::limits::{ACTORS_MAX, PIECES_MAX, SESSION_MAX, TURNS_MAX, WORD_MAX, WORDS_MAX};
+use crate::limits::{
+    ACTORS_MAX, JOINED_MAX, PIECES_MAX, SESSION_MAX, TURNS_MAX, WORD_MAX, WORDS_MAX,
+};
 
 /// Bytes say one list of sections at most.
 pub fn sentence_is_single()
@@ -71,4 +73,5 @@ pub fn limits_by_value()
     ensures pieces { PIECES_MAX ≡ 1024 }
     ensures actors { ACTORS_MAX ≡ 16 }
     ensures turns { TURNS_MAX ≡ 5000 }
+    ensures joined { JOINED_MAX ≡ 4 }
 {}

@@ -29,7 +29,7 @@ pub use laws::{
     sentence_is_single, sentences_are_spelled, served_lines_are_sessions, spelled_are_sentences,
     statements_are_said, statements_have_their_words,
 };
-pub use limits::{SESSION_MAX, TURNS_MAX};
+pub use limits::{JOINED_MAX, SESSION_MAX, TURNS_MAX};
 pub use load::generate;
 pub use refusal::{Refusal, RefusalKind, Spot};
 pub use said::Said;

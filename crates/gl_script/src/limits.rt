@@ -17,3 +17,6 @@ pub const PIECES_MAX: u64 = 1024;
 
 /// The greatest number of turns of a load that is still a session.
 pub const TURNS_MAX: u32 = 5000;
+
+/// How many requests the lines of one chip are joined of at most.
+pub const JOINED_MAX: u32 = 4;

@@ -10,6 +10,7 @@ ghost use Rattle.gl_script.specs.Table.{only};
 use crate::cursor::Cursor;
 use crate::faults::spot;
 use crate::forms::PinWord;
+use crate::limits::JOINED_MAX;
 use crate::refusal::{RefusalKind, Spot};
 use crate::said::Said;
 use crate::table::{Form, Keyword};
@@ -174,7 +175,7 @@ fn aggregate_said(words: &mut Cursor<'_>) -> Result<Said, Spot>
 {
     let label = words.label()?;
     words.text(Form::FileName)?;
-    words.file_names(3)?;
+    words.file_names(JOINED_MAX - 1)?;
     Ok(Said::Aggregate { label })
 }
 

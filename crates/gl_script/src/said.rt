@@ -1,4 +1,7 @@
 //! What a statement says.
+ghost use Rattle.std.specs.Prelude.{◌≡◌, Some};
+ghost use Rattle.gl_script.specs.Cost.{is_aggregate};
+ghost use Rattle.gl_script.specs.Said.{keyword_said};
 
 use gl_base::{IrqDo, Name, Path, PinDo};
 
@@ -144,4 +147,13 @@ pub enum Said {
         /// The tool's name.
         name: Name,
     },
+}
+
+impl Said {
+    /// Whether it is that of an `aggregate`.
+    pub fn is_aggregate(&self) -> bool
+        ensures { result ≡ is_aggregate (Some (keyword_said self.now)) }
+    {
+        matches!(self, Said::Aggregate { .. })
+    }
 }

@@ -16,18 +16,19 @@ use Rattle.gl_talk.specs.Open.{Names}
 use Rattle.gl_core.specs.Device.{OneEntry, core}
 use Rattle.gl_chip.specs.Values.{OneView}
 use Rattle.gl_check.specs.Drivers.{DriverKind, DriverOver, start_maps}
-use Rattle.gl_check.specs.Joining.{Maps}
+use Rattle.gl_check.specs.Joining.{Maps, taught}
 use Rattle.gl_check.specs.Programs.{setup_of}
 use Rattle.gl_check.specs.Many.{AllPlayedBelow, Texts, actor_sections, program_of}
 use Rattle.gl_session.specs.Many.{CameToMany}
 use Rattle.gl_session.specs.Performed.{PlaysOn}
 use Rattle.gl_check.specs.Turns.{carried}
-use Rattle.gl_session.specs.Ports.{AreAllThere, IsTaught, LearnAbove}
+use Rattle.gl_session.specs.Ports.{AreAllThere, IsTaught, LearnAbove, maps_of}
 use Rattle.gl_session.specs.Workers.{AreKept, CameOut, HasCarriedOut, there_at, told_at}
 use Rattle.gl_session.proofs.Actors.{all_within}
 use Rattle.gl_session.proofs.Counting.{within_cost}
 use Rattle.gl_session.proofs.Ends.{all_played}
 use Rattle.gl_session.proofs.ManyFollows.{came_to_many}
+use Rattle.gl_session.proofs.Mapped.{also_has}
 use Rattle.gl_session.proofs.PortPlaces.{all_found, found_all, get_other, get_set, not_there, there_got, there_same, told_got, told_same}
 
 -- promises are kept over ports that told the same and tell the same
@@ -128,10 +129,12 @@ module _ {P : Type 0} (told : P → Option Told) (driver : DriverOver) (sections
           ∙ there_same taken ports (suc n) (untaken (suc n) (omega arith)) ∙ all_found ports were.there (suc n) (let l = long in omega arith))
           (λ near. there_same given ports_then (suc n) (behind_first (suc n) (omega arith)) ∙ out.forked.there (suc n) (omega arith) (omega arith))
 
-    -- and those of numbers that no actor has learned the same maps
-    pub others_learn : (kept : P → List Map) (takes : P → ℕ) (faults : P → ℕ) (top : ℕ) → LearnAbove kept takes told faults top sections taken ports_then → LearnAbove kept takes told faults top sections ports given
-    others_learn kept takes faults top h = record {
+    -- they have the same maps, and those of numbers that no actor has learned just these
+    pub others_learn : (kept : P → List Map) (takes : P → ℕ) (faults : P → ℕ) (top : ℕ) (m : Maps) (h : LearnAbove kept takes told faults top sections m taken ports_then) → maps_of kept takes port_then ≡ taught h.taught_maps m
+        → LearnAbove kept takes told faults top sections m ports given
+    others_learn kept takes faults top m h first = record {
       taught_maps = h.taught_maps;
+      all_have = also_has kept takes (taught h.taught_maps m) ports_then given 0 port_then given_is h.all_have first;
       learned = λ n far. subst (λ (x : Option (Option P) × Option (Option P)). IsTaught kept takes told faults h.taught_maps x.0 x.1) (λ i. (untaken n (omega arith) i, sym (behind_first n (omega arith)) i)) (h.learned n far);
       stay = λ without n far. behind_first n (omega arith) ∙ h.stay without n far ∙ untaken n (omega arith);
     }

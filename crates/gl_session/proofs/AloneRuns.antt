@@ -36,9 +36,9 @@ use Rattle.gl_model.specs.World.{World, opening}
 use Rattle.gl_model.proofs.MachineLaws.{machine_laws}
 use Rattle.gl_script.specs.Cost.{has_aggregate, session_cost}
 use Rattle.gl_script.specs.Section.{SaidSection}
-use Rattle.gl_script.specs.declared.section.SectionKind.TheVariants.{Setup, Actor, After}
-use Rattle.gl_talk.specs.Open.{Names, left_setup, no_names, setup_names}
-use Rattle.gl_talk.specs.Talk.{quits, says, talks}
+use Rattle.gl_script.specs.declared.section.SectionKind.TheVariants.{Setup, After}
+use Rattle.gl_talk.specs.Open.{Names, left_setup}
+use Rattle.gl_talk.specs.Talk.{quits, says}
 use Rattle.gl_core.specs.Device.{MayOwn, OneDeed, OneEntry, call_tells, core, tells_in}
 use Rattle.gl_session.specs.Alone.{AnswersAsPlanned, AsksLawfully, IsAlone, KeepsNoMaps, Part, PlayedSession, PortTells, PrintsOne, PrintsOver, answering_in, begins_asked, calls_in, given_by, given_in, given_of, is_command}
 use Rattle.gl_check.specs.Drivers.{DriverKind, DriverOver, Gives, MayMake, start_maps}

@@ -22,6 +22,7 @@ pub mod NoRoom
 pub mod Numbering
 pub mod OneCalls
 pub mod OneHistories
+pub mod OutsideSetup
 pub mod Performing
 pub mod Placing
 pub mod Plays

@@ -1,12 +1,8 @@
 -- What all actors carried out comes to Many.
-use Rattle.std.proofs.Common.{◌⊎◌, inl, inr}
 use Rattle.gl_session.specs.Many.{AllPlayedCameToMany}
 use Rattle.gl_session.proofs.Counting.{within_cost}
-use Rattle.gl_session.proofs.Silence.{many_played, planned_played, ports_told}
-use Rattle.gl_session.specs.Alone.{KeepsNoMaps}
+use Rattle.gl_session.proofs.Silence.{many_played, planned_played}
 use Rattle.gl_check.specs.Drivers.{DriverOver}
-use Rattle.gl_check.specs.Many.{PortsTell}
-use Rattle.gl_check.specs.Tells.{OwnsWhole}
 use Rattle.gl_check.proofs.Outer.{ports_tell}
 use Rattle.gl_script.specs.Cost.{session_cost}
 
@@ -15,10 +11,6 @@ came_to_many driver limit before left sections history texts played = record {
   ports = played;
   many = many_played driver before left sections history texts played;
   as_planned = λ is news. planned_played driver before left sections history texts is news played;
-  tells = tells;
+  tells = ports_tell driver before left sections history texts played;
   within = within_cost driver limit before left sections history (session_cost sections) texts played;
 }
-  where
-    tells : KeepsNoMaps driver sections ⊎ OwnsWhole driver.kind → PortsTell before left sections history
-    tells (inl none) = ports_told driver before left sections history none texts played
-    tells (inr whole) = ports_tell driver whole before left sections history texts played

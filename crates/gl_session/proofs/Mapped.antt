@@ -1,6 +1,6 @@
 -- A call of the device through a port that may keep maps, over a driver that makes no entries of its own at a place without one: what was made for
 -- an operation; and the maps of ports, as they are taken out and put back.
-use Rattle.std.proofs.Common.{◌≡◌, ◌⊎◌, ⊎_elim, ℕ, zero, suc, ◌≤◌, Bool, true, false, List, [], ◌∷◌, ◌++◌, length, length-append, get_or, set, ◌<◌, ◌+◌, Option, None, Some, Result, Ok, Err, refl, sym, ◌∙◌, ap, subst, arith}
+use Rattle.std.proofs.Common.{◌≡◌, ◌⊎◌, ⊎_elim, ℕ, zero, suc, Bool, true, false, List, [], ◌∷◌, ◌++◌, length, length-append, get_or, map, set, ◌<◌, ◌+◌, Option, None, Some, Result, Ok, Err, refl, sym, ◌∙◌, ap, subst, arith}
 use Rattle.std.specs.Prelude.{IfOk, IfErr, IfSome, OnOk, OnErr, is_some, slice_get}
 use Rattle.std.proofs.lemmas.List.{append-nil}
 use Rattle.gl_world.specs.History.{StartsWith}
@@ -27,7 +27,7 @@ use Rattle.gl_check.specs.Joining.{Maps}
 use Rattle.gl_check.specs.Turns.{PortBy, WasAsked, is_begun}
 use Rattle.gl_session.specs.Performed.{MadeFor, exchange}
 use Rattle.gl_session.specs.Ports.{AllHave, OwnsNothing, maps_of}
-use Rattle.gl_session.specs.Workers.{HaveMaps}
+use Rattle.gl_session.specs.Workers.{HaveMaps, StillHas}
 use Rattle.gl_session.proofs.PortPlaces.{not_there, there_got}
 
 same_test : (made : List OneEntry) → is_asked made ≡ is_begun made
@@ -164,6 +164,10 @@ each_at Q [] h i d l = absurd (omega arith)
 each_at Q (x ∷ xs) h zero d l = h.0
 each_at Q (x ∷ xs) h (suc i) d l = each_at Q xs h.1 i d (omega arith)
 
+pub each_of : {A : Type 0} (Q : A → Type 0) (xs : List A) → ((i : ℕ) (d : A) → i < length xs → Q (get_or xs i d)) → Each Q xs
+each_of Q [] h = tt
+each_of Q (x ∷ xs) h = (h 0 x (omega arith), each_of Q xs (λ i d l. h (suc i) d (omega arith)))
+
 -- the ports that are left where one was taken out
 pub others_have : {P : Type 0} (kept : P → List Map) (takes : P → ℕ) (m : Maps) (ports left : List (Option P)) (n : ℕ) → left ≡ set ports n None → AllHave kept takes m ports → AllHave kept takes m left
 others_have {P} kept takes m ports left n is all = λ k port there. all k port (at ports n k port (subst (λ (l : List (Option P)). slice_get l k ≡ Some (Some port)) is there))
@@ -174,6 +178,43 @@ others_have {P} kept takes m ports left n is all = λ k port there. all k port (
     at (x ∷ xs) zero (suc k) port there = there
     at (x ∷ xs) (suc n) zero port there = there
     at (x ∷ xs) (suc n) (suc k) port there = at xs n k port there
+
+-- ports of which one was put in its place
+pub also_has : {P : Type 0} (kept : P → List Map) (takes : P → ℕ) (m : Maps) (ports given : List (Option P)) (n : ℕ) (port : P) → given ≡ set ports n (Some port) → AllHave kept takes m ports → maps_of kept takes port ≡ m → AllHave kept takes m given
+also_has {P} kept takes m ports given n port is all one = λ k other there. at ports n k other all (subst (λ (l : List (Option P)). slice_get l k ≡ Some (Some other)) is there)
+  where
+    same : {x y : P} → Some (Some x) ≡ Some (Some y) → x ≡ y
+    same e = cc
+
+    at : (xs : List (Option P)) (n k : ℕ) (other : P) → AllHave kept takes m xs → slice_get (set xs n (Some port)) k ≡ Some (Some other) → maps_of kept takes other ≡ m
+    at [] n k other all there = all k other there
+    at (x ∷ xs) zero zero other all there = subst (λ (p : P). maps_of kept takes p ≡ m) (same there) one
+    at (x ∷ xs) zero (suc k) other all there = all (suc k) other there
+    at (x ∷ xs) (suc n) zero other all there = all 0 other there
+    at (x ∷ xs) (suc n) (suc k) other all there = at xs n k other (λ j p is. all (suc j) p is) there
+
+-- One actor was taken in, and its port put in its place: where all have a text so far, so have all ports these maps.
+module _ {P : Type 0} (kept : P → List Map) (takes : P → ℕ) (m : Maps) where
+  each_last : (Q : ActorValue P × Result (List ℕ) Errno → Type 0) (xs : List (ActorValue P × Result (List ℕ) Errno)) (x : ActorValue P × Result (List ℕ) Errno) → Each Q (xs ++ x ∷ []) → Each Q xs × Q x
+  each_last Q [] x h = (tt, h.0)
+  each_last Q (y ∷ ys) x h = let more = each_last Q ys x h.1 in ((h.0, more.0), more.1)
+
+  pub joined_have : (all missing : List (ActorValue P × Result (List ℕ) Errno)) (d : ActorValue P × Result (List ℕ) Errno) (ports given : List (Option P)) (texts texts_then : List (Result (List ℕ) Errno)) (n : ℕ)
+      → all ≡ missing ++ d ∷ [] → given ≡ set ports n (Some d.0.port) → texts_then ≡ d.1 ∷ texts
+      → Each (StillHas kept takes m) all × ((printed : List (List ℕ)) → texts ≡ map Ok printed → AllHave kept takes m ports)
+      → Each (StillHas kept takes m) missing × ((printed : List (List ℕ)) → texts_then ≡ map Ok printed → AllHave kept takes m given)
+  joined_have all missing d ports given texts texts_then n last is more so_far =
+      let parted = each_last (StillHas kept takes m) missing d (subst (λ l. Each (StillHas kept takes m) l) last so_far.0) in (parted.0, λ printed same. by printed parted.1 (sym more ∙ same))
+    where
+      head : {x y : Result (List ℕ) Errno} {xs ys : List (Result (List ℕ) Errno)} → x ∷ xs ≡ y ∷ ys → x ≡ y
+      head e = cc
+
+      tail : {x y : Result (List ℕ) Errno} {xs ys : List (Result (List ℕ) Errno)} → x ∷ xs ≡ y ∷ ys → xs ≡ ys
+      tail e = cc
+
+      by : (printed : List (List ℕ)) → StillHas kept takes m d → d.1 ∷ texts ≡ map Ok printed → AllHave kept takes m given
+      by [] still e = cc
+      by (text ∷ printed) still e = also_has kept takes m ports given n d.0.port is (so_far.1 printed (tail e)) (subst (λ (r : Result (List ℕ) Errno). IfOk r (λ t. maps_of kept takes d.0.port ≡ m)) (head e) still)
 
 -- one actor more, and the actor of a row
 pub with_one : {P : Type 0} (kept : P → List Map) (takes : P → ℕ) (m : Maps) (actors more : List (ActorValue P)) (a : ActorValue P) → more ≡ actors ++ a ∷ [] → HaveMaps kept takes m actors → maps_of kept takes a.port ≡ m → HaveMaps kept takes m more

@@ -1,5 +1,5 @@
 -- A talk that asks for no chip over requests leaves the maps of its port.
-use Rattle.std.proofs.Common.{◌≡◌, ◌⊎◌, inl, inr, ℕ, zero, suc, ◌-◌, Bool, true, false, ◌||◌, List, [], ◌∷◌, ◌++◌, length, map, get_or, Option, refl, sym, ◌∙◌, ap, subst}
+use Rattle.std.proofs.Common.{◌≡◌, ◌⊎◌, inl, inr, ℕ, ◌-◌, Bool, true, false, ◌||◌, List, [], ◌∷◌, ◌++◌, length, map, get_or, Option, refl, sym, ◌∙◌, ap, subst}
 use Rattle.std.specs.List.{list_any}
 use Rattle.std.specs.Prelude.{if◌then◌else◌}
 use Rattle.gl_base.specs.declared.operation.Do.{Do}
@@ -8,13 +8,12 @@ use Rattle.gl_client.specs.Chips.{AsksNoChips, IsPlain}
 use Rattle.gl_base.specs.Words.{Span}
 use Rattle.gl_client.specs.Program.{Program, done}
 use Rattle.gl_script.specs.Columns.{columns}
-use Rattle.gl_script.specs.Cost.{aggregates, do_aggregate, has_aggregate, section_aggregates}
+use Rattle.gl_script.specs.Cost.{has_aggregate, section_aggregates, statement_aggregates, words_aggregate}
 use Rattle.gl_script.specs.Section.{SaidSection}
 use Rattle.gl_script.specs.declared.section.SectionKind.{SectionKind}
 use Rattle.gl_script.specs.declared.section.SectionKind.TheVariants.{Setup, Actor, After}
 use Rattle.gl_talk.specs.Open.{Names, left_setup, no_names, setup_names}
-use Rattle.gl_talk.specs.Talk.{quits}
-use Rattle.gl_talk.proofs.TalkChips.{end_none, neither, says_none}
+use Rattle.gl_talk.proofs.TalkChips.{neither, says_none}
 use Rattle.gl_model.specs.declared.reply.Reply.{Reply}
 use Rattle.gl_asking.specs.Files.{OpenFile}
 use Rattle.gl_check.specs.Drivers.{DriverKind, DriverOver, start_maps}
@@ -26,6 +25,7 @@ use Rattle.gl_check.specs.Turns.{Carried, Did, Follows, Said, Takes, Turn, carri
 use Rattle.gl_check.proofs.Joined.{no_maps_behind}
 use Rattle.gl_session.specs.Alone.{KeepsNoMaps}
 use Rattle.gl_driver.specs.Told.{Told}
+use Rattle.gl_session.proofs.OutsideSetup.{ends_outside}
 
 -- none of the talks of a session asks for one
 pub record AskNone (sections : List SaidSection) : Type 0 where
@@ -52,39 +52,39 @@ module _ {A : Type 0} (driver : DriverKind) (actor : ℕ) where
       let one = turn_stays p s turn next at none takes in let on = turns_stay next at turns q r one.0 follows in (on.0, on.1 ∙ one.1)
 
 -- What none of the lines of a session says, none of its talks says.
-none_of_lines : (lines : List Span) → list_any aggregates lines ≡ false → list_any do_aggregate (map (λ (line : Span). columns line.text) lines) ≡ false
+none_of_lines : (lines : List Span) → list_any statement_aggregates lines ≡ false → list_any words_aggregate (map (λ (line : Span). columns line.text) lines) ≡ false
 none_of_lines [] none = refl
-none_of_lines (line ∷ lines) none = let both = neither (aggregates line) (list_any aggregates lines) none in ap (λ b. b || list_any do_aggregate (map (λ (line : Span). columns line.text) lines)) both.0 ∙ none_of_lines lines both.1
+none_of_lines (line ∷ lines) none = let both = neither (statement_aggregates line) (list_any statement_aggregates lines) none in ap (λ b. b || list_any words_aggregate (map (λ (line : Span). columns line.text) lines)) both.0 ∙ none_of_lines lines both.1
 
-none_append : (xs ys : List (List Span)) → list_any do_aggregate xs ≡ false → list_any do_aggregate ys ≡ false → list_any do_aggregate (xs ++ ys) ≡ false
+none_append : (xs ys : List (List Span)) → list_any words_aggregate xs ≡ false → list_any words_aggregate ys ≡ false → list_any words_aggregate (xs ++ ys) ≡ false
 none_append [] ys first later = later
-none_append (x ∷ xs) ys first later = let both = neither (do_aggregate x) (list_any do_aggregate xs) first in ap (λ b. b || list_any do_aggregate (xs ++ ys)) both.0 ∙ none_append xs ys both.1 later
+none_append (x ∷ xs) ys first later = let both = neither (words_aggregate x) (list_any words_aggregate xs) first in ap (λ b. b || list_any words_aggregate (xs ++ ys)) both.0 ∙ none_append xs ys both.1 later
 
-none_in_kind : (kind : SectionKind) (sections : List SaidSection) → has_aggregate sections ≡ false → list_any do_aggregate (said_in_kind kind sections) ≡ false
+none_in_kind : (kind : SectionKind) (sections : List SaidSection) → has_aggregate sections ≡ false → list_any words_aggregate (said_in_kind kind sections) ≡ false
 none_in_kind kind [] none = refl
 none_in_kind kind (section ∷ sections) none = let both = neither (section_aggregates section) (has_aggregate sections) none in by (is_kind kind section.kind) (none_of_lines section.statements both.0) (none_in_kind kind sections both.1)
   where
-    by : (b : Bool) → list_any do_aggregate (words_of section) ≡ false → list_any do_aggregate (said_in_kind kind sections) ≡ false
-        → list_any do_aggregate (if b then words_of section ++ said_in_kind kind sections else said_in_kind kind sections) ≡ false
+    by : (b : Bool) → list_any words_aggregate (words_of section) ≡ false → list_any words_aggregate (said_in_kind kind sections) ≡ false
+        → list_any words_aggregate (if b then words_of section ++ said_in_kind kind sections else said_in_kind kind sections) ≡ false
     by true here later = none_append (words_of section) (said_in_kind kind sections) here later
     by false here later = later
 
-none_of_actor : (sections : List SaidSection) → has_aggregate sections ≡ false → (i : ℕ) → list_any do_aggregate (words_of (get_or (actor_sections sections) i no_section)) ≡ false
-none_of_actor [] none i = refl
-none_of_actor (section ∷ sections) none i = let both = neither (section_aggregates section) (has_aggregate sections) none in by (is_kind Actor section.kind) i (none_of_lines section.statements both.0) (none_of_actor sections both.1)
-  where
-    by : (b : Bool) (i : ℕ) → list_any do_aggregate (words_of section) ≡ false → ((k : ℕ) → list_any do_aggregate (words_of (get_or (actor_sections sections) k no_section)) ≡ false)
-        → list_any do_aggregate (words_of (get_or (if b then section ∷ actor_sections sections else actor_sections sections) i no_section)) ≡ false
-    by true zero here later = here
-    by true (suc i) here later = later i
-    by false i here later = later i
+-- The actors' sections, and `after`, ask for none whatever they say.
+pub actor_asks_none : (sections : List SaidSection) → AsksNoChips (actor_of sections)
+actor_asks_none sections = ends_outside 0 (said_in_kind Actor sections) no_names refl
+
+pub actors_ask_none : (sections : List SaidSection) (n : ℕ) → AsksNoChips (program_of sections n)
+actors_ask_none sections n = ends_outside 0 (words_of (get_or (actor_sections sections) (n - 1) no_section)) no_names refl
+
+pub after_asks_none : (sections : List SaidSection) (names : Names) → AsksNoChips (after_of sections names)
+after_asks_none sections names = ends_outside (length (said_in_kind Setup sections)) (said_in_kind After sections) (left_setup names) refl
 
 pub asks_none : (sections : List SaidSection) → has_aggregate sections ≡ false → AskNone sections
 asks_none sections none = record {
   setup = says_none 0 (said_in_kind Setup sections) done (none_in_kind Setup sections none) (λ names. tt) setup_names;
-  alone = says_none 0 (said_in_kind Actor sections) quits (none_in_kind Actor sections none) end_none no_names;
-  actors = λ n. says_none 0 (words_of (get_or (actor_sections sections) (n - 1) no_section)) quits (none_of_actor sections none (n - 1)) end_none no_names;
-  after = λ names. says_none (length (said_in_kind Setup sections)) (said_in_kind After sections) quits (none_in_kind After sections none) end_none (left_setup names);
+  alone = actor_asks_none sections;
+  actors = actors_ask_none sections;
+  after = after_asks_none sections;
 }
 
 -- A talk over a port that never keeps a map: it takes none, or is taught none.

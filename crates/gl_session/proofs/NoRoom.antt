@@ -5,7 +5,7 @@ use Rattle.std.proofs.lemmas.List.{append-nil, length-map}
 use Rattle.gl_base.specs.declared.errno.Errno.{Errno}
 use Rattle.gl_base.specs.declared.errno.Errno.TheVariants.{NoMemory}
 use Rattle.gl_world.specs.Deeds.{deeds_of, entries_in}
-use Rattle.gl_world.specs.History.{StartsWith, entries_of}
+use Rattle.gl_world.specs.History.{entries_of}
 use Rattle.gl_world.proofs.Deeds.{deeds_entries}
 use Rattle.gl_rule.specs.Views.{newcomer}
 use Rattle.gl_gate.specs.Calls.{HasAllOf}

@@ -6,7 +6,7 @@ use Rattle.std.proofs.lemmas.Bool.Decides.{nat_tests}
 use Rattle.std.proofs.lemmas.List.{append-nil}
 use Rattle.gl_base.specs.ChipWord.{chip_number_of}
 use Rattle.gl_base.specs.Refusals.{when}
-use Rattle.gl_base.specs.Rows.{Each, without_first}
+use Rattle.gl_base.specs.Rows.{Each}
 use Rattle.gl_base.specs.declared.command.TheConstants.{GET_LINE}
 use Rattle.gl_base.specs.declared.errno.Errno.{Errno}
 use Rattle.gl_base.specs.declared.errno.Errno.TheVariants.{NoSpc}
@@ -28,9 +28,9 @@ use Rattle.gl_world.proofs.Phases.{fold_sound}
 use Rattle.gl_gate.specs.Grown.{Grew}
 use Rattle.gl_gate.proofs.Grown.{begins_further}
 use Rattle.gl_driver.specs.declared.map.Map.{Map}
-use Rattle.gl_model.specs.Chips.{new_origin, new_place as new_tables, phase_at, probe, with_chips}
+use Rattle.gl_model.specs.Chips.{new_origin, new_place as new_tables, phase_at, with_chips}
 use Rattle.gl_model.specs.Opening.{open_at}
-use Rattle.gl_model.specs.Outcome.{Outcome, numbers, refused_or}
+use Rattle.gl_model.specs.Outcome.{numbers, refused_or}
 use Rattle.gl_model.specs.Parts.{last_reply}
 use Rattle.gl_model.specs.World.{World}
 use Rattle.gl_model.specs.declared.call.Call.{Call}
@@ -294,15 +294,6 @@ call_placed limit v w files what call on reply bytes asks called form placed = f
         let same : call ≡ Once (OpenChip word) = ap (λ (a : Asking). call_or call a) (asks ∙ ap (λ (d : Do). asking files d) is) in
         opens_by limit v w word reply bytes (subst (λ (c : DeviceCall). HasCalled limit v c reply bytes w) same called) (subst (λ (c : DeviceCall). AnswersOrder c on reply) same form)
 
-abbrev pub is_call : Asking → Bool
-is_call (Calls call) = true
-is_call (Plans nth) = false
-is_call (Accepts bits) = false
-is_call (Refuses errno) = false
-
--- and behind one that is none
-pub settled_placed : (seen : List OneEntry) (what : Do) (files : List OpenFile) (reply : Reply) (asks : Asking) → asks ≡ asking files what → is_call asks ≡ false → AreFilesPlaced seen files → AreFilesPlaced seen (files_behind what reply files)
-settled_placed seen what files reply asks is none placed = files_placed seen what reply files opens placed
-  where
-    opens : (slot : ℕ) (word : List ℕ) → what ≡ DoOpenChip slot word → Opens seen word reply
-    opens slot word opening = let no : false ≡ true = sym none ∙ ap (λ (a : Asking). is_call a) (is ∙ ap (λ (d : Do). asking files d) opening) in cc
+-- and behind one that was refused
+pub refused_placed : (seen : List OneEntry) (what : Do) (errno : Errno) (files : List OpenFile) → AreFilesPlaced seen files → AreFilesPlaced seen (files_behind what (Refused errno) files)
+refused_placed seen what errno files placed = files_placed seen what (Refused errno) files (λ slot word opening. inr (errno, refl)) placed

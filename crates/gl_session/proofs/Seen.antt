@@ -1,5 +1,5 @@
 -- How much an actor had seen where its driver went by a map: turns one after another, and as the history grows.
-use Rattle.std.proofs.Common.{◌≡◌, ◌<◌, ◌≤◌, ℕ, Bool, true, false, List, [], ◌∷◌, ◌++◌, length, length-append, refl, sym, ap, subst, arith}
+use Rattle.std.proofs.Common.{◌≡◌, ◌<◌, ◌≤◌, ℕ, Bool, true, false, List, [], ◌∷◌, ◌++◌, length, length-append, ap, arith}
 use Rattle.gl_world.specs.History.{StartsWith}
 use Rattle.gl_core.specs.Device.{OneEntry}
 use Rattle.gl_check.specs.Turns.{AreSeen, Did, Exchange, Said, Turn, WhereMapped}

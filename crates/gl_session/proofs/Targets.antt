@@ -1,10 +1,9 @@
 -- Requests in an array with room for four, one after another.
-use Rattle.std.proofs.Common.{◌≡◌, ◌<◌, ◌≤◌, ℕ, zero, suc, ◌+◌, ◌-◌, Bool, true, false, List, [], ◌∷◌, ◌++◌, length, length-append, take, set, get_or, Option, Some, None, refl, sym, ◌∙◌, ap, subst, arith}
+use Rattle.std.proofs.Common.{◌≡◌, ◌<◌, ◌≤◌, ℕ, zero, suc, ◌+◌, ◌-◌, List, [], ◌∷◌, ◌++◌, length, length-append, take, set, get_or, refl, sym, ◌∙◌, ap, subst, arith}
 use Rattle.std.specs.Prelude.{replicate, sum_by}
 use Rattle.std.proofs.lemmas.List.{append_assoc}
 use Rattle.std.proofs.lemmas.List.Sums.{sum_by-append, sum_by-cons}
 use Rattle.gl_base.specs.Rows.{Each}
-use Rattle.gl_base.specs.Lines.{IsLineCount}
 use Rattle.gl_driver.specs.declared.map.Target.{Target}
 use Rattle.gl_asking.specs.Files.{OpenFile, file_in}
 use Rattle.gl_check.specs.Joining.{line_count, no_target, target_in, targets_in}

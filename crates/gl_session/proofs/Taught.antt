@@ -19,9 +19,9 @@ use Rattle.gl_check.specs.Drivers.{DriverKind, over}
 use Rattle.gl_check.specs.Joining.{Maps, joined_at, learned, maps, maps_behind, no_maps, targets_in, taught, with_one}
 use Rattle.gl_check.specs.Turns.{Carried, Did, Follows, Said, Takes, Turn}
 use Rattle.gl_session.specs.OneActor.{CameAloneWith}
-use Rattle.gl_session.specs.Ports.{AllHave, AreAllThere, AreMaps, HasLearned, HasLearnedThem, IsTaught, LearnAbove, left_at, left_found}
+use Rattle.gl_session.specs.Ports.{AllHave, AreAllThere, AreMaps, HasLearned, HasLearnedThem, IsTaught, LearnAbove, left_at, left_found, maps_of}
 use Rattle.gl_session.specs.Workers.{is_found, there_at, told_at, told_found}
-use Rattle.gl_session.proofs.Mapped.{each_more}
+use Rattle.gl_session.proofs.Mapped.{also_has, each_more, others_have}
 use Rattle.gl_session.proofs.PortPlaces.{all_found, all_put_back, found_all, get_other, get_set, there_got, there_same, told_got}
 use Rattle.gl_session.proofs.Targets.{take_one}
 
@@ -123,14 +123,26 @@ taught_nothing kept left told faults None = refl
 taught_nothing kept left told faults (Some None) = refl
 taught_nothing kept left told faults (Some (Some port)) = (port, refl, learned_none kept left told faults port)
 
-pub none_learn : {P : Type 0} (kept : P → List Map) (left : P → ℕ) (told : P → Option Told) (faults : P → ℕ) (top : ℕ) (sections : List SaidSection) (ports : List (Option P)) → LearnAbove kept left told faults top sections ports ports
-none_learn kept left told faults top sections ports = record { taught_maps = []; learned = λ n above. taught_nothing kept left told faults (slice_get ports n); stay = λ without n above. refl }
+pub none_learn : {P : Type 0} (kept : P → List Map) (left : P → ℕ) (told : P → Option Told) (faults : P → ℕ) (top : ℕ) (sections : List SaidSection) (m : Maps) (ports : List (Option P)) → AllHave kept left m ports
+    → LearnAbove kept left told faults top sections m ports ports
+none_learn kept left told faults top sections m ports have =
+    record { taught_maps = []; all_have = have; learned = λ n above. taught_nothing kept left told faults (slice_get ports n); stay = λ without n above. refl }
 
 -- ports that learned none are as they were
 pub taught_none : {P : Type 0} (kept : P → List Map) (left : P → ℕ) (told : P → Option Told) (faults : P → ℕ) (them : List Map) → them ≡ [] → (old new : Option (Option P)) → IsTaught kept left told faults them old new → new ≡ old
 taught_none kept left told faults them none None new h = h
 taught_none kept left told faults them none (Some None) new h = h
 taught_none kept left told faults them none (Some (Some old)) new (port, is, learned) = is ∙ ap (λ p. Some (Some p)) (learned.none_same none)
+
+-- ports that are the same by their numbers
+same_ports : {P : Type 0} (ports others : List (Option P)) → ((n : ℕ) → slice_get ports n ≡ slice_get others n) → ports ≡ others
+same_ports [] [] same = refl
+same_ports [] (other ∷ others) same = let first = same 0 in cc
+same_ports (port ∷ ports) [] same = let first = same 0 in cc
+same_ports {P} (port ∷ ports) (other ∷ others) same = (λ i. first (same 0) i ∷ same_ports ports others (λ n. same (suc n)) i)
+  where
+    first : {x y : Option P} → Some x ≡ Some y → x ≡ y
+    first e = cc
 
 -- at the beginning, and of a port without a map
 pub learned_first : (m : Maps) → m ≡ no_maps m.left → HasLearnedThem m.left m
@@ -165,15 +177,19 @@ module _ {P : Type 0} (kept : P → List Map) (left : P → ℕ) (told : P → O
         there_same given between (suc n) (other_given (suc n) (omega arith)) ∙ taught_there kept left told faults them (slice_get taken (suc n)) (slice_get between (suc n)) (each (suc n))
         ∙ there_same taken ports (suc n) (other_taken (suc n) (omega arith)) ∙ all_found ports were.there (suc n) (omega arith)
 
-  pub learn_beside : (sections : List SaidSection) → (has_aggregate sections ≡ false → between ≡ taken) → LearnAbove kept left told faults 0 sections ports given
-  learn_beside sections stay = record {
+  stay_between : them ≡ [] → between ≡ taken
+  stay_between none = same_ports between taken (λ n. taught_none kept left told faults them none (slice_get taken n) (slice_get between n) (each n))
+
+  pub learn_beside : (sections : List SaidSection) (m : Maps) → AllHave kept left m ports → maps_of kept left port_then ≡ taught them m → (has_aggregate sections ≡ false → them ≡ []) → LearnAbove kept left told faults 0 sections m ports given
+  learn_beside sections m have first stay = record {
     taught_maps = them;
+    all_have = also_has kept left (taught them m) between given 0 port_then given_is (all_have_taught kept left told faults them m taken between each (others_have kept left m ports taken 0 left_is have)) first;
     learned = λ n above. subst (λ (x : Option (Option P) × Option (Option P)). IsTaught kept left told faults them x.0 x.1) (λ i. (other_taken n above i, sym (other_given n above) i)) (each n);
-    stay = λ without n above. other_given n above ∙ ap (λ (l : List (Option P)). slice_get l n) (stay without) ∙ other_taken n above;
+    stay = λ without n above. other_given n above ∙ ap (λ (l : List (Option P)). slice_get l n) (stay_between (stay without)) ∙ other_taken n above;
   }
 
-  pub stay_beside : between ≡ taken → drop 1 given ≡ drop 1 ports
-  stay_beside same = (all_put_back ports taken given port_then left_is (given_is ∙ ap (λ (l : List (Option P)). set l 0 (Some port_then)) same) were).1
+  pub stay_beside : them ≡ [] → drop 1 given ≡ drop 1 ports
+  stay_beside none = (all_put_back ports taken given port_then left_is (given_is ∙ ap (λ (l : List (Option P)). set l 0 (Some port_then)) (stay_between none)) were).1
 
   pub came_beside : (kind : DriverKind) (sections : List SaidSection) (port : P) (text : List ℕ) (entries : ℕ) → slice_get ports 0 ≡ Some (Some port)
       → CameAloneWith (over (left port) kind) sections (told port) text (told port_then) entries → CameAloneWith (over (left_at left ports 0) kind) sections (told_at told ports 0) text (told_at told given 0) entries

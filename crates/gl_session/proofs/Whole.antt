@@ -18,12 +18,15 @@ use Rattle.gl_core.specs.Device.{OneDeed, OneEntry, core, tells_in}
 use Rattle.gl_session.specs.Alone.{IsAlone, KeepsNoMaps, Part, PlayedSession, given_of}
 use Rattle.gl_check.specs.Drivers.{DriverKind, DriverOver, start_maps}
 use Rattle.gl_check.specs.Joining.{Maps, asking_with}
-use Rattle.gl_check.specs.One.{Answering}
+use Rattle.gl_base.specs.Rows.{Each}
+use Rattle.gl_check.specs.Lawful.{IsLawfulCall}
+use Rattle.gl_check.specs.One.{Answering, asked_over, entries_over, one_over, taken_over, told_over}
+use Rattle.gl_check.proofs.ThroughPort.{tells_given}
 use Rattle.gl_check.specs.Programs.{actor_of, after_of, setup_of}
 use Rattle.gl_asking.specs.declared.kinds.Asking.{Asking}
 use Rattle.gl_asking.specs.declared.kinds.Asking.TheVariants.{Calls, Plans, Accepts, Refuses}
 use Rattle.gl_asking.specs.Files.{OpenFile}
-use Rattle.gl_session.specs.OneActor.{CameAloneWith, CameWithEntries, HasPlayed, StoppedBelow}
+use Rattle.gl_session.specs.OneActor.{CameAloneWith, CameToOneOver, CameWithEntries, HasPlayed, StoppedBelow}
 use Rattle.gl_session.specs.Performed.{IsCall, PlaysOn, StoppedFull}
 use Rattle.gl_check.specs.Turns.{AreSeen, Carried, carried, did_by, said_by}
 use Rattle.gl_session.specs.Within.{Stop}
@@ -154,6 +157,20 @@ module _ (driver : DriverOver) (limit : driver.kind.limit ≤ 8) (sections : Lis
         makes = sym prints.2;
       }
 
+  came_over : (given : List Answering) → text ≡ one_over driver.kind.limit driver.maps_left sections given → taken_over driver.kind.limit driver.maps_left sections given ≡ given
+      → entries_over driver.kind.limit driver.maps_left sections given ≤ session_cost sections
+      → Each (IsLawfulCall driver.kind (session_cost sections)) (asked_over driver.kind.limit driver.maps_left sections given before) → left ≡ told_over driver.kind.limit driver.maps_left sections given before
+      → CameToOneOver driver sections before text left
+  came_over given prints takes within lawful port = record {
+    given = given;
+    prints = prints;
+    takes = takes;
+    within = within;
+    lawful = lawful;
+    port = port;
+    tells = tells_given driver (session_cost sections) sections given before left takes lawful port;
+  }
+
   pub came_with_entries : v ≡ newcomer 0 (session_cost sections) [] 1 [] [] → HasPlayed driver sections before text left v w → Legal core history → StartsWith history w.seen → entries_of 0 history ≡ w.mine
       → ((n : ℕ) → w.made ≤ n → entries_of n history ≡ []) → CameAloneWith driver sections before text left (length history)
   came_with_entries new (did, played, grew, seen) legal begins mine others =
@@ -164,17 +181,12 @@ module _ (driver : DriverOver) (limit : driver.kind.limit ≤ 8) (sections : Lis
       let count : length history ≡ length did = ap (λ (l : List OneEntry). length l) alone.entries ∙ length_entries did in
       let room : v.room ≡ session_cost sections = ap (λ (x : OneView). x.room) new in
       let less : length w.seen ≤ session_cost sections = (let long = no_shorter history w.seen begins in omega arith) in record {
-        over = record {
-          given = given;
-          prints = prints.0;
-          takes = prints.1;
-          within = (let makes = prints.2 in omega arith);
-          lawful = asks_lawfully driver sections before left text did history played alone (record {
-            setup = seen_more (session_cost sections) (length w.seen) (session_cost sections) played.setup.played.turns less (subst (λ (k : ℕ). AreSeen k (length w.seen) played.setup.played.turns) room seen.setup);
-            actor = seen_more (session_cost sections) (length w.seen) (session_cost sections) played.actor.played.turns less (subst (λ (k : ℕ). AreSeen k (length w.seen) played.actor.played.turns) room seen.actor);
-            last = seen_more (session_cost sections) (length w.seen) (session_cost sections) played.last.played.turns less (subst (λ (k : ℕ). AreSeen k (length w.seen) played.last.played.turns) room seen.last);
-          });
-          port = (port_tells driver).over sections before left text did history played alone;
-        };
+        over = came_over given prints.0 prints.1 (let makes = prints.2 in omega arith)
+            (asks_lawfully driver sections before left text did history played alone (record {
+              setup = seen_more (session_cost sections) (length w.seen) (session_cost sections) played.setup.played.turns less (subst (λ (k : ℕ). AreSeen k (length w.seen) played.setup.played.turns) room seen.setup);
+              actor = seen_more (session_cost sections) (length w.seen) (session_cost sections) played.actor.played.turns less (subst (λ (k : ℕ). AreSeen k (length w.seen) played.actor.played.turns) room seen.actor);
+              last = seen_more (session_cost sections) (length w.seen) (session_cost sections) played.last.played.turns less (subst (λ (k : ℕ). AreSeen k (length w.seen) played.last.played.turns) room seen.last);
+            }))
+            ((port_tells driver).over sections before left text did history played alone);
         plainly = λ none. came_plainly did played alone none;
       }

@@ -55,7 +55,7 @@ use Rattle.gl_asking.specs.declared.kinds.Asking.{Asking}
 use Rattle.gl_asking.specs.declared.kinds.Asking.TheVariants.{Calls, Plans, Accepts, Refuses}
 use Rattle.gl_asking.specs.Asking.{asking, at_place, buffer_of, files_behind, has_lines, lines_named, made_by, made_on, on_file, once, opened, with_request}
 use Rattle.gl_asking.specs.Driving.{op_asked}
-use Rattle.gl_asking.specs.Files.{OpenFile, chip_file, file_in, is_in, line_file, without_file}
+use Rattle.gl_asking.specs.Files.{OpenFile, chip_file, file_in, is_in, line_file}
 use Rattle.gl_check.specs.One.{is_kind, said_in_kind}
 use Rattle.gl_check.specs.Turns.{Carried, Carries, Did, Exchange, Follows, IsDone, Said, Turn, carried, did_by}
 use Rattle.gl_check.proofs.Asked.{unmapped}

@@ -1,5 +1,5 @@
 -- What comes of a session that one actor carries out on a device of its own. This project's choice.
-use Rattle.std.specs.Prelude.{◌≡◌, ◌<◌, ◌≤◌, ℕ, ◌+◌, true, List, length, Option, Some}
+use Rattle.std.specs.Prelude.{◌≡◌, ◌<◌, ◌≤◌, ℕ, ◌+◌, true, List, length, map, Option, Some}
 use Rattle.gl_base.specs.Rows.{Each}
 use Rattle.gl_base.specs.declared.limits.TheConstants.{COST_MAX}
 use Rattle.gl_gate.specs.Grown.{Grew}
@@ -15,7 +15,7 @@ use Rattle.gl_session.specs.Alone.{ArePartsSeen, KeepsNoMaps, PlayedSession}
 use Rattle.gl_check.specs.Drivers.{DriverKind, DriverOver}
 use Rattle.gl_check.specs.Tells.{TellsAfter}
 use Rattle.gl_check.specs.Lawful.{IsLawfulCall}
-use Rattle.gl_check.specs.One.{Answering, asked_over, entries_made, entries_over, one, one_over, planned_over, said_in_kind, taken, taken_over, told_behind, told_over}
+use Rattle.gl_check.specs.One.{Answering, answer_in, asked_over, entries_made, entries_over, one, one_over, planned_over, said_in_kind, taken, taken_over, told_behind, told_over}
 
 -- What the session came to, over a port that told this before and tells that now: its text is One of just the answers that One
 -- takes, and it makes no more entries than the session costs. A planned driver gave those that the port's plan before and the statements
@@ -33,7 +33,8 @@ pub record CameToOne (driver : DriverKind) (sections : List SaidSection) (before
 
 -- Whatever maps its port is taught: its text is One over just what the driver did where it was asked, its own calls among it, and no more
 -- entries are made than the session costs. Each call of the driver is one that it may make, with an answer that follows by what the port told
--- then, and there was room for its own calls. The port tells all that the statements and the calls make of what it told.
+-- then, and there was room for its own calls. The port tells all that the statements and the calls make of what it told; so where it told, it tells as
+-- many driver calls more as were asked, those within others left out, and as its last answer that of the last of them.
 pub record CameToOneOver (driver : DriverOver) (sections : List SaidSection) (before : Option Told) (text : List ℕ) (left : Option Told) : Type 0 where
   pub given : List Answering
   pub prints : text ≡ one_over driver.kind.limit driver.maps_left sections given
@@ -41,6 +42,7 @@ pub record CameToOneOver (driver : DriverOver) (sections : List SaidSection) (be
   pub within : entries_over driver.kind.limit driver.maps_left sections given ≤ session_cost sections
   pub lawful : Each (IsLawfulCall driver.kind (session_cost sections)) (asked_over driver.kind.limit driver.maps_left sections given before)
   pub port : left ≡ told_over driver.kind.limit driver.maps_left sections given before
+  pub tells : (t : Told) → before ≡ Some t → TellsAfter t (map answer_in given) left
 
 -- And where no port keeps maps it came to One of the answers alone.
 pub record CameAlone (driver : DriverOver) (sections : List SaidSection) (before : Option Told) (text : List ℕ) (left : Option Told) : Type 0 where

@@ -78,15 +78,17 @@ module _ {P : Type 0} (kept : P → List Map) (left : P → ℕ) where
     IsTaught taught_maps (Some None) new = new ≡ Some None
     IsTaught taught_maps (Some (Some old)) new = (port : P) × (new ≡ Some (Some port)) × HasLearned taught_maps old port
 
-    -- All ports of numbers above this one learned the same maps, and are as they were where the session has no `aggregate`.
-    pub record LearnAbove (top : ℕ) (sections : List SaidSection) (old new : List (Option P)) : Type 0 where
+    -- The session taught these maps: all ports that are there, the first one among them, have the maps that one with those of `m` has once it learned
+    -- them. Those of numbers above `top` learned them and did nothing else, and are as they were where the session has no `aggregate`.
+    pub record LearnAbove (top : ℕ) (sections : List SaidSection) (m : Maps) (old new : List (Option P)) : Type 0 where
       pub taught_maps : List Map
+      pub all_have : AllHave (taught taught_maps m) new
       pub learned : (n : ℕ) → top < n → IsTaught taught_maps (slice_get old n) (slice_get new n)
       pub stay : has_aggregate sections ≡ false → StayAbove top old new
 
-    -- so did those of numbers that no actor of a session has
+    -- The same of ports that had no map before, and those of numbers that no actor of the session has.
     abbrev pub OthersLearn : List SaidSection → List (Option P) → List (Option P) → Type 0
-    OthersLearn sections old new = LearnAbove (further_actors sections) sections old new
+    OthersLearn sections old new = LearnAbove (further_actors sections) sections (no_maps (left_at left old 0)) old new
 
 -- a driver that makes no entries of its own where it goes by no map
 abbrev pub OwnsNothing : OwnRelation → Type 0

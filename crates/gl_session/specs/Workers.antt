@@ -1,5 +1,5 @@
 -- Actors that carry out their sections each by itself: before their work, after it, and once they were taken in. This project's choice.
-use Rattle.std.specs.Prelude.{◌≡◌, ◌⊎◌, ℕ, ◌+◌, ◌<◌, ◌≤◌, Bool, true, false, is_some, List, [], ◌∷◌, length, map, slice_get, Option, None, Some, Result, Ok, Err}
+use Rattle.std.specs.Prelude.{◌≡◌, ◌⊎◌, ℕ, ◌+◌, ◌<◌, ◌≤◌, Bool, true, false, is_some, List, [], ◌∷◌, length, map, slice_get, Option, None, Some, Result, Ok, Err, IfOk}
 use Rattle.std.specs.List.{Contains}
 use mathlib.Core.Option.{some}
 use lib.ListN.{get_elem?}
@@ -46,6 +46,10 @@ told_at told ports n = told_found told (slice_get ports n)
 -- the ports of all actors have these maps
 abbrev pub HaveMaps : {P : Type 0} → (P → List Map) → (P → ℕ) → Maps → List (ActorValue P) → Type 0
 HaveMaps {P} kept left m actors = Each (λ (a : ActorValue P). maps_of kept left a.port ≡ m) actors
+
+-- the port of an actor that has carried its section out has these maps; nothing is said of one that has no text
+abbrev pub StillHas : {P : Type 0} → (P → List Map) → (P → ℕ) → Maps → ActorValue P × Result (List ℕ) Errno → Type 0
+StillHas kept left m d = IfOk d.1 (λ text. maps_of kept left d.0.port ≡ m)
 
 -- the port of actor n is there
 abbrev pub is_found : {P : Type 0} → Option (Option P) → Bool

@@ -1,6 +1,7 @@
 //! The actors of a session: made, each carrying its section out in a thread of its own, and taken in again.
-ghost use Rattle.std.specs.Prelude.{◌≡◌, ◌≢◌, ◌⊎◌, ℕ, ◌+◌, ◌≤◌, ◌<◌, true, [], ◌∷◌, ◌++◌, length, map, Some, None, Ok, Err, IfOk, IfErr, OnOk, IsOkUnless, slice_get, slice_set, slice_index_or, vec_len};
+ghost use Rattle.std.specs.Prelude.{◌≡◌, ◌≢◌, ◌⊎◌, ℕ, ◌+◌, ◌≤◌, ◌<◌, true, List, [], ◌∷◌, ◌++◌, length, map, Some, None, Ok, Err, IfOk, IfErr, OnOk, IsOkUnless, slice_get, slice_set, slice_index_or, vec_len};
 ghost use Rattle.std.specs.List.{Contains};
+ghost use Rattle.gl_base.specs.Rows.{Each};
 ghost use Rattle.gl_base.specs.declared.errno.Errno.TheVariants.{NoMemory};
 ghost use Rattle.gl_world.specs.History.{StartsWith};
 ghost use Rattle.gl_rule.specs.Views.{taking_in, with_one_more};
@@ -13,7 +14,7 @@ ghost use Rattle.gl_check.specs.Many.{actor_sections, program_of};
 ghost use Rattle.gl_check.specs.Joining.{Maps};
 ghost use Rattle.gl_session.specs.Placed.{AreMapsPlaced};
 ghost use Rattle.gl_session.specs.Ports.{AllHave, AreMaps, OwnsNothing, maps_of};
-ghost use Rattle.gl_session.specs.Workers.{AreDone, AreFresh, AreKept, HasJoined, HasSplit, HaveMaps, IsFresh, WorkDone, there_at, told_at};
+ghost use Rattle.gl_session.specs.Workers.{AreDone, AreFresh, AreKept, HasJoined, HasSplit, HaveMaps, IsFresh, StillHas, WorkDone, there_at, told_at};
 
 use crate::player::Player;
 use crate::rendezvous::Rendezvous;
@@ -98,6 +99,7 @@ pub fn split_all<D: Driver<Core>>(
     ensures port { first.new.port ≡ first.old.port }
     ensures seen { first.new.pass.view.seen ≡ first.old.pass.view.seen }
     ensures maps { (m : Maps) → AllHave D.Port.maps D.Port.maps_left m ports.old → IfOk result (λ v. HaveMaps D.Port.maps D.Port.maps_left m v.items) }
+    ensures maps_left { (m : Maps) → AllHave D.Port.maps D.Port.maps_left m ports.old → OnOk result (AllHave D.Port.maps D.Port.maps_left m ports.new) }
     ensures split { OnOk result (HasSplit first.old.pass.view count first.new.pass.view) }
     ensures len { IfOk result (λ v. vec_len v ≡ count) }
     ensures fresh { IfOk result (λ v. AreFresh D.Port.told (told_at D.Port.told ports.old) device.now first.old.pass.view 1 v.items) }
@@ -153,7 +155,8 @@ fn work<R: Wait, D: Driver<Core>>(
     requires maps { AreMaps common.now.maps.now × (common.now.maps.now ≡ D.Port.maps actor.port) × AreMapsPlaced actor.pass.view.seen common.now.maps.now }
     requires section { (1 ≤ actor.pass.view.number) × (actor.pass.view.number ≤ length (actor_sections (sections_of common.now.script.now))) }
     requires few { length (said_in_kind ActorKind (sections_of common.now.script.now)) ≤ 1048576 }
-    ensures { WorkDone D.Port.told (λ _. D.Port.told actor.port) device.now (driver_kind D.ENTRIES D.is_planned D.OwnEntries D.Follows) (maps_of D.Port.maps D.Port.maps_left actor.port) (program_of (sections_of common.now.script.now)) actor.pass.view actor.pass.view.number result }
+    ensures maps { StillHas D.Port.maps D.Port.maps_left (maps_of D.Port.maps D.Port.maps_left actor.port) result }
+    ensures done { WorkDone D.Port.told (λ _. D.Port.told actor.port) device.now (driver_kind D.ENTRIES D.is_planned D.OwnEntries D.Follows) (maps_of D.Port.maps D.Port.maps_left actor.port) (program_of (sections_of common.now.script.now)) actor.pass.view actor.pass.view.number result }
 {
     let number = actor.number();
     let maps = match copied(alloc, common.maps) {
@@ -185,6 +188,8 @@ fn map_all<R: Threads + Wait + Sync, D: Driver<Core>>(
         × (1 ≤ a.pass.view.number) × (a.pass.view.number ≤ length (actor_sections (sections_of common.now.script.now))) }
     requires maps { (i : ℕ) (a : _) → i < vec_len actors → a ≡ slice_index_or actors.items i a → (common.now.maps.now ≡ D.Port.maps a.port) × AreMapsPlaced a.pass.view.seen common.now.maps.now }
     ensures len { IfOk result (λ v. vec_len v ≡ vec_len actors) }
+    ensures maps { IfOk result (λ v. (i : ℕ) (a : _) (d : _) → i < vec_len actors → a ≡ slice_index_or actors.items i a
+        → StillHas D.Port.maps D.Port.maps_left (maps_of D.Port.maps D.Port.maps_left a.port) (slice_index_or v.items i d)) }
     ensures done { IfOk result (λ v. (i : ℕ) (a : _) (d : _) → i < vec_len actors → a ≡ slice_index_or actors.items i a
         → WorkDone D.Port.told (λ _. D.Port.told a.port) device.now (driver_kind D.ENTRIES D.is_planned D.OwnEntries D.Follows) (maps_of D.Port.maps D.Port.maps_left a.port) (program_of (sections_of common.now.script.now)) a.pass.view a.pass.view.number (slice_index_or v.items i d)) }
 {
@@ -196,7 +201,8 @@ fn map_all<R: Threads + Wait + Sync, D: Driver<Core>>(
         requires fresh { IsFresh D.Port.told (λ _. D.Port.told actor.port) device.now actor.pass.view actor.pass.view.number actor }
         requires maps { AreMaps common.now.maps.now × (common.now.maps.now ≡ D.Port.maps actor.port) × AreMapsPlaced actor.pass.view.seen common.now.maps.now }
         requires section { (1 ≤ actor.pass.view.number) × (actor.pass.view.number ≤ length (actor_sections (sections_of common.now.script.now))) }
-        ensures { WorkDone D.Port.told (λ _. D.Port.told actor.port) device.entry.now (driver_kind D.ENTRIES D.is_planned D.OwnEntries D.Follows) (maps_of D.Port.maps D.Port.maps_left actor.port) (program_of (sections_of common.entry.now.script.now)) actor.pass.view actor.pass.view.number result }
+        ensures maps { StillHas D.Port.maps D.Port.maps_left (maps_of D.Port.maps D.Port.maps_left actor.port) result }
+        ensures done { WorkDone D.Port.told (λ _. D.Port.told actor.port) device.entry.now (driver_kind D.ENTRIES D.is_planned D.OwnEntries D.Follows) (maps_of D.Port.maps D.Port.maps_left actor.port) (program_of (sections_of common.entry.now.script.now)) actor.pass.view actor.pass.view.number result }
     { work(rt, alloc, device, common, start, actor) };
     thread::map_vec(rt, actors, &job)
 }
@@ -216,6 +222,7 @@ pub fn work_all<R: Threads + Wait + Sync, D: Driver<Core>>(
     requires maps { (m : Maps) × (m.kept ≡ common.now.maps.now) × HaveMaps D.Port.maps D.Port.maps_left m actors.items }
     requires sections { vec_len actors ≤ length (actor_sections (sections_of common.now.script.now)) }
     ensures len { IfOk result (λ v. vec_len v ≡ vec_len actors) }
+    ensures maps { IfOk result (λ all. (m : Maps) → HaveMaps D.Port.maps D.Port.maps_left m actors.items → Each (StillHas D.Port.maps D.Port.maps_left m) all.items) }
     ensures done { IfOk result (λ all. (start : _) (v : _) (m : Maps) → AreFresh D.Port.told start device.now v 1 actors.items
         → HaveMaps D.Port.maps D.Port.maps_left m actors.items
         → AreDone D.Port.told start device.now (driver_kind D.ENTRIES D.is_planned D.OwnEntries D.Follows) m (program_of (sections_of common.now.script.now)) v 1 all.items) }
@@ -262,7 +269,7 @@ fn join_one<D: Driver<Core>>(
 }
 
 /// Takes in all actors, and gives what came of them in the order of their numbers: a text, or an error where the history was full. The
-/// port of each is in its place again.
+/// port of each is in its place again, and keeps its maps where all have a text.
 pub fn join_all<D: Driver<Core>>(
     alloc: Global,
     device: &Gpio<D>,
@@ -280,6 +287,8 @@ pub fn join_all<D: Driver<Core>>(
     ensures len { IfOk result (λ texts. vec_len texts ≡ vec_len all) }
     ensures kept { IfOk result (λ texts. (start : _) (m : _) (programs : _) (v : _) → AreDone D.Port.told start device.now (driver_kind D.ENTRIES D.is_planned D.OwnEntries D.Follows) m programs v 1 all.items
         → AreKept (driver_kind D.ENTRIES D.is_planned D.OwnEntries D.Follows) m programs start (told_at D.Port.told ports.new) v first.new.pass.view 1 texts.items) }
+    ensures maps { (m : Maps) → AllHave D.Port.maps D.Port.maps_left m ports.old → Each (StillHas D.Port.maps D.Port.maps_left m) all.items
+        → IfOk result (λ texts. (printed : List (List ℕ)) → texts.items ≡ map Ok printed → AllHave D.Port.maps D.Port.maps_left m ports.new) }
     ensures ports_len { length ports.new ≡ length ports.old }
     ensures others { OnOk result ((n : ℕ) → vec_len all < n → slice_get ports.new n ≡ slice_get ports.old n) }
     ensures there { OnOk result ((n : ℕ) → 1 ≤ n → n ≤ vec_len all → there_at ports.new n ≡ true) }

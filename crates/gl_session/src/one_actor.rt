@@ -1,9 +1,9 @@
 //! A session that one actor carries out on a device of its own: its sections one after the other.
-ghost use Rattle.std.specs.Prelude.{◌≡◌, ◌⊎◌, ◌+◌, ◌≤◌, List, [], IfOk, IfErr, OnOk, IsOkUnless};
+ghost use Rattle.std.specs.Prelude.{◌≡◌, ◌⊎◌, ◌+◌, ◌≤◌, false, List, [], IfOk, IfErr, OnOk, IsOkUnless};
 ghost use Rattle.gl_base.specs.declared.errno.Errno.TheVariants.{Full, NoMemory};
 ghost use Rattle.gl_client.specs.Program.{done};
 ghost use Rattle.gl_rule.specs.Views.{newcomer};
-ghost use Rattle.gl_script.specs.Cost.{session_cost};
+ghost use Rattle.gl_script.specs.Cost.{has_aggregate, session_cost};
 ghost use Rattle.gl_script.specs.Script.{sections_of};
 ghost use Rattle.gl_talk.specs.Open.{Names, setup_names};
 ghost use Rattle.gl_talk.specs.Talk.{names_in, quits, says};
@@ -143,6 +143,7 @@ fn play_parts<R: Wait, D: Driver<Core>>(
     ensures played { OnOk result (HasPlayed (over player.old.carried.maps.left (driver_kind D.ENTRIES D.is_planned D.OwnEntries D.Follows)) (sections_of script.now) player.old.carried.told player.new.text player.new.carried.told
         player.old.view player.new.view) }
     ensures learned { OnOk result (HasLearnedThem player.old.carried.maps.left player.new.carried.maps) }
+    ensures without { OnOk result (has_aggregate (sections_of script.now) ≡ false → player.new.carried.maps ≡ player.old.carried.maps) }
     ensures stopped { IfErr result (λ e. (e ≡ NoMemory) ⊎ ((e ≡ Full) × StoppedBelow (session_cost (sections_of script.now)) player.old.view player.new.view)) }
 {
     match play_kind(rt, alloc, player, talk, script, SectionKind::Setup) {
@@ -177,6 +178,7 @@ fn play_session<R: Wait, D: Driver<Core>>(
     ensures played { IfOk result (λ text. HasPlayed (over player.old.carried.maps.left (driver_kind D.ENTRIES D.is_planned D.OwnEntries D.Follows)) (sections_of script.now) player.old.carried.told text.items player.new.carried.told
         player.old.view player.new.view) }
     ensures learned { OnOk result (HasLearnedThem player.old.carried.maps.left player.new.carried.maps) }
+    ensures without { OnOk result (has_aggregate (sections_of script.now) ≡ false → player.new.carried.maps ≡ player.old.carried.maps) }
     ensures memory_alone { IsOkUnless result Errno.NoMemory }
 {
     match Talk::for_setup(alloc) {
@@ -208,6 +210,7 @@ pub fn run_one<R: Wait, D: Driver<Core>>(
     requires bare { D.Port.maps port ≡ [] }
     requires sized { IsSized (sections_of script.now) }
     ensures came { IfOk result (λ ran. CameAloneWith (over (D.Port.maps_left port) (driver_kind D.ENTRIES D.is_planned D.OwnEntries D.Follows)) (sections_of script.now) (D.Port.told port) ran.0.items (D.Port.told ran.2) ran.1) }
+    ensures without { IfOk result (λ ran. has_aggregate (sections_of script.now) ≡ false → ran.3.items ≡ []) }
     ensures maps { IfOk result (λ ran. AreMaps ran.3.items × (maps_of D.Port.maps D.Port.maps_left ran.2 ≡ taught ran.3.items (no_maps (D.Port.maps_left port)))) }
     ensures memory_alone { IsOkUnless result Errno.NoMemory }
 {

@@ -9,11 +9,11 @@ ghost use Rattle.gl_check.specs.Joining.{is_joined};
 
 use crate::joining::Targets;
 use crate::rows::Rows;
-use gl_asking::{Answered, Asking, Change, FileRow, asking_of, files_behind, got_of};
+use gl_asking::{Asking, Change, asking_of, got_of};
 use gl_base::command::GET_LINE;
 use gl_base::{Do, Errno, Got, Kind, LINES_MAX, Name};
 use gl_check::buffer_for;
-use gl_chip::{Actor, Gpio, Order};
+use gl_chip::{Actor, Answer, Gpio, HeldFile, Order, files_behind, files_uncalled, row_of};
 use gl_core::Core;
 use gl_driver::{Driver, Map, Target};
 use gl_model::{Call, DeviceCall, Reply};
@@ -79,18 +79,21 @@ fn is_any_joined<D: Driver<Core>>(actor: &Actor<D>, targets: &[Target]) -> bool
 impl<'d, D: Driver<Core>> Player<'d, D> {
     ghost use Rattle.std.specs.Prelude.{◌≡◌, ◌⊎◌, ◌++◌, ◌<◌, ◌≤◌, false, ℕ, List, [], length, None, IfOk, IfErr, OnOk, IsOkUnless};
     ghost use Rattle.std.specs.List.{list_any};
+    ghost use Rattle.gl_base.specs.declared.errno.Errno.{Errno as AnErrno};
     ghost use Rattle.gl_base.specs.declared.errno.Errno.TheVariants.{Full, NoMemory};
+    ghost use Rattle.gl_model.specs.declared.reply.Reply.TheVariants.{Done, Refused};
     ghost use Rattle.gl_base.specs.declared.operation.Do.TheVariants.{Aggregate};
     ghost use Rattle.gl_rule.specs.Turn.{NoStrangers};
     ghost use Rattle.gl_gate.specs.Calls.{HasItsOwn};
     ghost use Rattle.gl_driver.specs.Maps.{FitsMap, map_at};
     ghost use Rattle.gl_driver.specs.Told.{with_bits, with_plan};
     ghost use Rattle.gl_core.specs.Device.{core};
-    ghost use Rattle.gl_asking.specs.declared.kinds.Asking.TheVariants.{Calls};
+    ghost use Rattle.gl_asking.specs.declared.kinds.Asking.TheVariants.{Accepts, Calls, Plans};
     ghost use Rattle.gl_asking.specs.Asking.{asking, file_for, files_behind};
     ghost use Rattle.gl_asking.specs.Changes.{IsChange, NamesMade, OpensWithin, changed};
     ghost use Rattle.gl_asking.specs.Fitting.{FitsDevice};
     ghost use Rattle.gl_asking.specs.Rows.{IsSomeRow, file_of, kind_of};
+    ghost use Rattle.gl_chip.specs.Held.{IsCallOf};
     ghost use Rattle.gl_chip.specs.Orders.{AnswersOrder, FitsOrder, GivesLines, WroteTo};
     ghost use Rattle.gl_chip.specs.Steps.{FoundNoRoom};
     ghost use Rattle.gl_chip.specs.Values.{IsActorOf};
@@ -283,7 +286,7 @@ impl<'d, D: Driver<Core>> Player<'d, D> {
         });
         let order = Order::of(probe, &None);
         match self.make(rt, alloc, &order, &mut []) {
-            Ok(answered) => match answered.reply {
+            Ok(answer) => match answer.reply() {
                 Reply::Number(place) => self.keep_map(place, &targets),
                 Reply::Refused(errno) => Ok(Got::Refused(errno)),
                 _ => Ok(Got::Done),
@@ -369,9 +372,8 @@ impl<'d, D: Driver<Core>> Player<'d, D> {
         ensures text { self.new.text ≡ self.old.text }
         ensures performs { Performs (driver_kind D.ENTRIES D.is_planned D.OwnEntries D.Follows) what.now result self.old.view self.old.carried self.new.view self.new.carried }
     {
-        let _files = self.files();
         let row = self.row_for(what);
-        let asking = asking_of(what, row);
+        let asking = asking_of(what, row_of(&row));
         match &asking {
             Asking::Calls(call) => {
                 let order = Order::of(*call, &row);
@@ -379,19 +381,16 @@ impl<'d, D: Driver<Core>> Player<'d, D> {
             }
             Asking::Plans(nth) => {
                 self.plan(*nth);
-                let answered = Answered::without_lines(Reply::Done);
-                self.settle(what, &row, &answered)?;
+                self.settle_uncalled(what)?;
                 Ok(Got::Done)
             }
             Asking::Accepts(bits) => {
                 self.accept(*bits);
-                let answered = Answered::without_lines(Reply::Done);
-                self.settle(what, &row, &answered)?;
+                self.settle_uncalled(what)?;
                 Ok(Got::Done)
             }
             Asking::Refuses(errno) => {
-                let answered = Answered::without_lines(Reply::Refused(*errno));
-                self.settle(what, &row, &answered)?;
+                self.settle_uncalled(what)?;
                 Ok(Got::Refused(*errno))
             }
         }
@@ -403,7 +402,7 @@ impl<'d, D: Driver<Core>> Player<'d, D> {
         rt: &R,
         alloc: Global,
         what: &Do,
-        row: &Option<FileRow>,
+        row: &Option<HeldFile>,
         order: &Order,
     ) -> Result<Got, Errno>
         requires none { OwnsNothing D.OwnEntries }
@@ -422,85 +421,109 @@ impl<'d, D: Driver<Core>> Player<'d, D> {
             Err(errno) => return Err(errno),
         };
         match self.make(rt, alloc, order, &mut buffer) {
-            Ok(answered) => {
+            Ok(answer) => {
                 let _files = self.files();
-                self.settle(what, row, &answered)?;
-                Ok(got_of(what, &answered.reply, buffer))
+                self.settle(what, row, &answer)?;
+                Ok(got_of(what, &answer.reply(), buffer))
             }
             Err(errno) => Err(errno),
         }
     }
 
     /// Makes a call of the device.
-    fn make<R: Wait>(
+    fn make<'o, R: Wait>(
         &mut self,
         rt: &R,
         alloc: Global,
-        order: &Order,
+        order: &'o Order,
         out: &mut [u8],
-    ) -> Result<Answered, Errno>
+    ) -> Result<Answer<'o>, Errno>
         requires none { OwnsNothing D.OwnEntries }
         requires fits { FitsOrder order.now.call order.now.on out.old }
         ensures device { self.new.gate ≡ self.old.gate }
         ensures text { self.new.text ≡ self.old.text }
         ensures files { self.new.carried.files ≡ self.old.carried.files }
         ensures made { IfOk result (λ r. (bytes : List ℕ) × WroteTo order.now.call bytes out.old out.new
-            × MadeFor (driver_kind D.ENTRIES D.is_planned D.OwnEntries D.Follows) self.old.carried.maps order.now.call order.now.on self.old.view r.reply bytes self.new.view
+            × MadeFor (driver_kind D.ENTRIES D.is_planned D.OwnEntries D.Follows) self.old.carried.maps order.now.call order.now.on self.old.view r.answered.reply bytes self.new.view
             self.old.carried.told self.new.carried.told) }
+        ensures order { IfOk result (λ r. r.order.now ≡ order.now) }
         ensures maps { self.new.carried.maps ≡ self.old.carried.maps }
-        ensures form { IfOk result (λ r. AnswersOrder order.now.call order.now.on r.reply) }
-        ensures lines { IfOk result (GivesLines order.now.call order.now.on) }
+        ensures form { IfOk result (λ r. AnswersOrder order.now.call order.now.on r.answered.reply) }
+        ensures lines { IfOk result (λ r. GivesLines order.now.call order.now.on r.answered) }
         ensures could_not { IfErr result (λ e. (e ≡ NoMemory) ⊎ ((e ≡ Full) × FoundNoRoom core self.old.view self.new.view)) }
     {
         self.device.call(rt, alloc, &mut self.actor, order, out)
     }
 
     /// Keeps what becomes of the open files by the answer.
-    fn settle(&mut self, what: &Do, row: &Option<FileRow>, answered: &Answered) -> Result<(), Errno>
+    fn settle(
+        &mut self,
+        what: &Do,
+        row: &Option<HeldFile>,
+        answer: &Answer<'_>,
+    ) -> Result<(), Errno>
         requires row { IsSomeRow row.now }
         requires found { file_for what.now self.old.carried.files ≡ file_of row.now }
-        requires opens { OpensWithin what.now answered.now.reply }
-        requires named { NamesMade what.now row.now answered.now }
-        requires placed { AreFilesPlaced self.old.view.seen (files_behind what.now answered.now.reply self.old.carried.files) }
+        requires asks { IsCallOf what.now row.now answer.now.order.now.call }
+        requires opens { OpensWithin what.now answer.now.answered.reply }
+        requires named { NamesMade what.now row.now answer.now.answered }
+        requires placed { AreFilesPlaced self.old.view.seen (files_behind what.now answer.now.answered.reply self.old.carried.files) }
         ensures device { self.new.gate ≡ self.old.gate }
         ensures view { self.new.view ≡ self.old.view }
         ensures told { self.new.carried.told ≡ self.old.carried.told }
         ensures maps { self.new.carried.maps ≡ self.old.carried.maps }
         ensures text { self.new.text ≡ self.old.text }
-        ensures settled { OnOk result (self.new.carried.files ≡ files_behind what.now answered.now.reply self.old.carried.files) }
+        ensures settled { OnOk result (self.new.carried.files ≡ files_behind what.now answer.now.answered.reply self.old.carried.files) }
         ensures memory_alone { IsOkUnless result NoMemory }
     {
         if !opens_or_closes(what) {
             return Ok(());
         }
-        self.keep_behind(what, row, answered)
+        self.keep_behind(what, row, answer)
     }
 
     /// The same, of an operation that may open or close a file. It stands apart, so that no other has room for a change.
     fn keep_behind(
         &mut self,
         what: &Do,
-        row: &Option<FileRow>,
-        answered: &Answered,
+        row: &Option<HeldFile>,
+        answer: &Answer<'_>,
     ) -> Result<(), Errno>
         requires row { IsSomeRow row.now }
         requires found { file_for what.now self.old.carried.files ≡ file_of row.now }
-        requires opens { OpensWithin what.now answered.now.reply }
-        requires named { NamesMade what.now row.now answered.now }
-        requires placed { AreFilesPlaced self.old.view.seen (files_behind what.now answered.now.reply self.old.carried.files) }
+        requires asks { IsCallOf what.now row.now answer.now.order.now.call }
+        requires opens { OpensWithin what.now answer.now.answered.reply }
+        requires named { NamesMade what.now row.now answer.now.answered }
+        requires placed { AreFilesPlaced self.old.view.seen (files_behind what.now answer.now.answered.reply self.old.carried.files) }
         ensures device { self.new.gate ≡ self.old.gate }
         ensures view { self.new.view ≡ self.old.view }
         ensures told { self.new.carried.told ≡ self.old.carried.told }
         ensures maps { self.new.carried.maps ≡ self.old.carried.maps }
         ensures text { self.new.text ≡ self.old.text }
-        ensures settled { OnOk result (self.new.carried.files ≡ files_behind what.now answered.now.reply self.old.carried.files) }
+        ensures settled { OnOk result (self.new.carried.files ≡ files_behind what.now answer.now.answered.reply self.old.carried.files) }
         ensures memory_alone { IsOkUnless result NoMemory }
     {
-        self.keep(files_behind(what, *row, answered))
+        self.keep(files_behind(what, row, answer))
+    }
+
+    /// Keeps what becomes of the open files by an operation that made no call.
+    fn settle_uncalled(&mut self, what: &Do) -> Result<(), Errno>
+        ensures device { self.new.gate ≡ self.old.gate }
+        ensures view { self.new.view ≡ self.old.view }
+        ensures told { self.new.carried.told ≡ self.old.carried.told }
+        ensures maps { self.new.carried.maps ≡ self.old.carried.maps }
+        ensures text { self.new.text ≡ self.old.text }
+        ensures refused { OnOk result ((errno : AnErrno) → self.new.carried.files ≡ files_behind what.now (Refused errno) self.old.carried.files) }
+        ensures planned { OnOk result ((nth : ℕ) → asking self.old.carried.files what.now ≡ Plans nth → self.new.carried.files ≡ files_behind what.now Done self.old.carried.files) }
+        ensures accepted { OnOk result ((bits : ℕ) → asking self.old.carried.files what.now ≡ Accepts bits → self.new.carried.files ≡ files_behind what.now Done self.old.carried.files) }
+        ensures memory_alone { IsOkUnless result NoMemory }
+    {
+        let _files = self.files();
+        self.keep(files_uncalled(what))
     }
 
     /// Makes a change in the open files.
-    fn keep(&mut self, change: Change) -> Result<(), Errno>
+    fn keep(&mut self, change: Change<HeldFile>) -> Result<(), Errno>
         requires change { IsChange change }
         requires placed { AreFilesPlaced self.old.view.seen (changed change self.old.carried.files) }
         ensures device { self.new.gate ≡ self.old.gate }
@@ -515,7 +538,7 @@ impl<'d, D: Driver<Core>> Player<'d, D> {
     }
 
     /// The row of the file that an operation names, if it names one and it is open.
-    fn row_for(&self, what: &Do) -> Option<FileRow>
+    fn row_for(&self, what: &Do) -> Option<HeldFile>
         ensures found { file_for what.now self.now.carried.files ≡ file_of result }
         ensures row { IsSomeRow result }
     {

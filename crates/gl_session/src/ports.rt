@@ -3,6 +3,7 @@ ghost use Rattle.std.specs.Prelude.{◌≡◌, ◌≤◌, false, drop, length, I
 ghost use Rattle.gl_script.specs.Cost.{has_aggregate};
 ghost use Rattle.gl_script.specs.Script.{sections_of};
 ghost use Rattle.gl_check.specs.Drivers.{driver_kind, over};
+ghost use Rattle.gl_check.specs.Joining.{no_maps};
 ghost use Rattle.gl_check.specs.Many.{actor_sections};
 ghost use Rattle.gl_chip.specs.Values.{IsQuietDriver};
 ghost use Rattle.gl_session.specs.OneActor.{CameAloneWith, IsSized};
@@ -14,7 +15,7 @@ use crate::fork::{give_port, take_port};
 use crate::one_actor::run_one;
 use crate::output::output_of;
 use crate::several::run_several;
-use crate::teaching::teach_where;
+use crate::teaching::teach_all;
 use gl_base::Errno;
 use gl_check::sections::count_actors;
 use gl_core::Core;
@@ -43,14 +44,14 @@ pub fn run_alone<R: Wait, D: Driver<Core>>(
     requires ports { AreAllThere ports.old }
     ensures came { IfOk result (λ ran. CameAloneWith (over (left_at D.Port.maps_left ports.old 0) (driver_kind D.ENTRIES D.is_planned D.OwnEntries D.Follows)) (sections_of script.now) (told_at D.Port.told ports.old 0) ran.0.items (told_at D.Port.told ports.new 0) ran.1) }
     ensures there { IfOk result (λ _. AreAllThere ports.new) }
-    ensures others { OnOk result (LearnAbove D.Port.maps D.Port.maps_left D.Port.told D.Port.faults 0 (sections_of script.now) ports.old ports.new) }
+    ensures others { OnOk result (LearnAbove D.Port.maps D.Port.maps_left D.Port.told D.Port.faults 0 (sections_of script.now) (no_maps (left_at D.Port.maps_left ports.old 0)) ports.old ports.new) }
     ensures others_stay { has_aggregate (sections_of script.now) ≡ false → drop 1 ports.new ≡ drop 1 ports.old }
     ensures memory_alone { IsOkUnless result Errno.NoMemory }
 {
     match take_port::<D>(ports, 0) {
         Some(port) => match run_one(rt, alloc, driver, port, script) {
             Ok((text, entries, port, maps)) => {
-                teach_where::<D>(script.has_aggregate(), ports, &maps);
+                teach_all::<D>(ports, &maps);
                 give_port::<D>(ports, 0, port);
                 Ok((text, entries))
             }

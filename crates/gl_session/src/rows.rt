@@ -12,15 +12,16 @@ ghost use Rattle.gl_asking.specs.Rows.{IsRow, IsSomeRow, file_of};
 ghost use Rattle.gl_base.specs.Rows.{Each};
 ghost use Rattle.gl_session.specs.Player.{IsBoxedRow, boxed_file, is_boxed_row};
 
-use gl_asking::{Change, FileRow, slot_named};
+use gl_asking::{Change, slot_named};
 use gl_base::{Do, Errno};
+use gl_chip::HeldFile;
 use std::alloc::Global;
 use std::marker::Model;
 
 /// The open files of a talk. Contracts see what the rows stand for.
 #[derive(Drop)]
 pub struct Rows {
-    rows: Vec<Box<FileRow>>,
+    rows: Vec<Box<HeldFile>>,
 }
 
 impl Model for Rows {
@@ -47,7 +48,7 @@ impl Rows {
     }
 
     /// The file in a slot, if there is one.
-    pub fn in_slot(&self, slot: u32) -> Option<FileRow>
+    pub fn in_slot(&self, slot: u32) -> Option<HeldFile>
         ensures found { file_of result ≡ file_in slot self.now }
         ensures row { IsSomeRow result }
     {
@@ -55,7 +56,7 @@ impl Rows {
     }
 
     /// The file that an operation names, if it names one and it is there.
-    pub fn named_by(&self, what: &Do) -> Option<FileRow>
+    pub fn named_by(&self, what: &Do) -> Option<HeldFile>
         ensures found { file_for what.now self.now ≡ file_of result }
         ensures row { IsSomeRow result }
     {
@@ -63,7 +64,7 @@ impl Rows {
     }
 
     /// Makes a change. `NoMemory` where a file more finds none.
-    pub fn change(&mut self, change: Change) -> Result<(), Errno>
+    pub fn change(&mut self, change: Change<HeldFile>) -> Result<(), Errno>
         requires change { IsChange change }
         ensures changed { OnOk result (self.new ≡ changed change self.old) }
         ensures unchanged { OnErr result (self.new ≡ self.old) }
@@ -74,14 +75,14 @@ impl Rows {
 }
 
 /// Where the file in a slot stands.
-fn position_of(rows: &[Box<FileRow>], slot: u32) -> Option<usize>
+fn position_of(rows: &[Box<HeldFile>], slot: u32) -> Option<usize>
     ensures { result ≡ position (is_boxed_row slot) rows.now }
 {
-    rows.iter().position(|row| row.slot() == slot)
+    rows.iter().position(|row| row.row().slot() == slot)
 }
 
 /// The file in a slot, if there is one.
-fn row_in(rows: &[Box<FileRow>], slot: u32) -> Option<FileRow>
+fn row_in(rows: &[Box<HeldFile>], slot: u32) -> Option<HeldFile>
     requires { Each IsBoxedRow rows.now }
     ensures found { file_of result ≡ file_in slot (map boxed_file rows.now) }
     ensures row { IsSomeRow result }
@@ -93,7 +94,7 @@ fn row_in(rows: &[Box<FileRow>], slot: u32) -> Option<FileRow>
 }
 
 /// The row of the file that an operation names, if it names one and it is there.
-fn row_for(rows: &[Box<FileRow>], what: &Do) -> Option<FileRow>
+fn row_for(rows: &[Box<HeldFile>], what: &Do) -> Option<HeldFile>
     requires { Each IsBoxedRow rows.now }
     ensures found { file_for what.now (map boxed_file rows.now) ≡ file_of result }
     ensures row { IsSomeRow result }
@@ -105,7 +106,7 @@ fn row_for(rows: &[Box<FileRow>], what: &Do) -> Option<FileRow>
 }
 
 /// Makes a change in rows.
-fn make(rows: &mut Vec<Box<FileRow>>, change: Change) -> Result<(), Errno>
+fn make(rows: &mut Vec<Box<HeldFile>>, change: Change<HeldFile>) -> Result<(), Errno>
     requires change { IsChange change }
     requires rows { Each IsBoxedRow rows.old.items }
     ensures changed { OnOk result (map boxed_file rows.new.items ≡ changed change (map boxed_file rows.old.items)) }
@@ -124,7 +125,7 @@ fn make(rows: &mut Vec<Box<FileRow>>, change: Change) -> Result<(), Errno>
 }
 
 /// Adds a file.
-fn add(rows: &mut Vec<Box<FileRow>>, row: FileRow) -> Result<(), Errno>
+fn add(rows: &mut Vec<Box<HeldFile>>, row: HeldFile) -> Result<(), Errno>
     requires row { IsRow row }
     requires rows { Each IsBoxedRow rows.old.items }
     ensures changed { OnOk result (map boxed_file rows.new.items ≡ changed (Change.Adds row) (map boxed_file rows.old.items)) }
@@ -143,7 +144,7 @@ fn add(rows: &mut Vec<Box<FileRow>>, row: FileRow) -> Result<(), Errno>
 }
 
 /// Takes the file in a slot out, if there is one.
-fn remove(rows: &mut Vec<Box<FileRow>>, slot: u32)
+fn remove(rows: &mut Vec<Box<HeldFile>>, slot: u32)
     requires rows { Each IsBoxedRow rows.old.items }
     ensures changed { map boxed_file rows.new.items ≡ without_file slot (map boxed_file rows.old.items) }
     ensures rows { Each IsBoxedRow rows.new.items }

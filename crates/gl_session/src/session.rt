@@ -49,7 +49,8 @@ use std::thread::Threads;
 /// The first cause decides: words that ask for nothing, a fault of reading, bytes that are no session, being out of memory, a fault of
 /// writing. There are 17 ports: that of the number of an actor is the one through which it asks the driver. None of them keeps a map, and each
 /// takes as many; what an `aggregate` teaches one of them the others learn too. Where the driver goes by no map it makes no entries of its own; those
-/// that it makes elsewhere, eight at most for a call, begin no removal, end none, and request no lines.
+/// that it makes elsewhere, eight at most for a call, begin no removal, end none, request no lines, and are those of
+/// whole calls.
 pub fn run<R: Threads + Wait + Sync, S: Source, K: Sink, D: Driver<Core>>(
     rt: &R,
     alloc: Global,
@@ -145,8 +146,8 @@ pub fn run<R: Threads + Wait + Sync, S: Source, K: Sink, D: Driver<Core>>(
         ¬ Rises (S.fault_count source.old) (S.fault_count source.new) → ¬ Rises (K.fault_count sink.old) (K.fault_count sink.new) →
         (result ≡ Status.Ran) ⊎ (result ≡ Status.NoMemory)) }
 
-    // All ports are there again except when out of memory. Those of numbers that no actor has learned the maps that an `aggregate` taught, and
-    // are as they were without one; and so are all where nothing ran.
+    // All ports are there again except when out of memory. Once a session ran all of them keep the same maps, those that an `aggregate` taught the
+    // first one. Those of numbers that no actor has learned these alone, and are as they were without an `aggregate`; and so are all where nothing ran.
     ensures ports_there { result ≢ Status.NoMemory → AreAllThere ports.new }
     ensures other_ports { result ≢ Status.NoMemory → words.now ≡ [] → IfSome (S.left source.old) (λ input.
         (sections : List SaidSection) → Sentence input sections → OthersLearn D.Port.maps D.Port.maps_left D.Port.told D.Port.faults sections ports.old ports.new) }

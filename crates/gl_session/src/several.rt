@@ -11,7 +11,7 @@ ghost use Rattle.gl_talk.specs.Open.{setup_names};
 ghost use Rattle.gl_talk.specs.Talk.{names_in};
 ghost use Rattle.gl_session.specs.Many.{CameToMany};
 ghost use Rattle.gl_check.specs.Drivers.{driver_kind, over};
-ghost use Rattle.gl_check.specs.Joining.{no_maps};
+ghost use Rattle.gl_check.specs.Joining.{no_maps, taught};
 ghost use Rattle.gl_check.specs.Many.{actor_sections, program_of};
 ghost use Rattle.gl_session.specs.OneActor.{IsSized};
 ghost use Rattle.gl_session.specs.Workers.{CannotEnd, HasCarriedOut, HasForked, HasForkedFull, there_at, told_at};
@@ -66,6 +66,7 @@ fn fork<R: Threads + Wait + Sync, D: Driver<Core>>(
     ensures told { first.new.carried.told ≡ first.old.carried.told }
     ensures maps { first.new.carried.maps ≡ first.old.carried.maps }
     ensures text { first.new.text ≡ first.old.text }
+    ensures ports_maps { OnOk result (AllHave D.Port.maps D.Port.maps_left first.old.carried.maps ports.new) }
     ensures forked { IfOk result (λ texts. HasForked D.Port.told (driver_kind D.ENTRIES D.is_planned D.OwnEntries D.Follows) first.old.carried.maps (program_of (sections_of script.now)) (length (actor_sections (sections_of script.now)))
         first.old.view ports.old first.new.view texts.items ports.new) }
     ensures stopped { IfErr result (λ e. (e ≡ NoMemory) ⊎ HasForkedFull (driver_kind D.ENTRIES D.is_planned D.OwnEntries D.Follows) first.old.carried.maps (program_of (sections_of script.now)) (told_at D.Port.told ports.old)
@@ -101,6 +102,7 @@ fn work_beside<R: Threads + Wait + Sync, D: Driver<Core>>(
     ensures actor { IsActorOf device.now first.new }
     ensures port { first.new.port ≡ first.old.port }
     ensures grows { StartsWith first.new.pass.view.seen first.old.pass.view.seen }
+    ensures ports_maps { OnOk result (AllHave D.Port.maps D.Port.maps_left (maps_of D.Port.maps D.Port.maps_left first.old.port) ports.new) }
     ensures forked { IfOk result (λ texts. HasForked D.Port.told (driver_kind D.ENTRIES D.is_planned D.OwnEntries D.Follows) (maps_of D.Port.maps D.Port.maps_left first.old.port) (program_of (sections_of common.now.script.now)) (length (actor_sections (sections_of common.now.script.now)))
         first.old.pass.view ports.old first.new.pass.view texts.items ports.new) }
     ensures stopped { IfErr result (λ e. (e ≡ NoMemory) ⊎ HasForkedFull (driver_kind D.ENTRIES D.is_planned D.OwnEntries D.Follows) (maps_of D.Port.maps D.Port.maps_left first.old.port) (program_of (sections_of common.now.script.now)) (told_at D.Port.told ports.old)
@@ -149,7 +151,8 @@ fn carry_parts<R: Threads + Wait + Sync, D: Driver<Core>>(
     ensures device { first.new.gate ≡ first.old.gate }
     ensures out { IfOk result (λ printed. HasCarriedOut D.Port.told (over first.old.carried.maps.left (driver_kind D.ENTRIES D.is_planned D.OwnEntries D.Follows)) (sections_of script.now) first.old.view first.old.carried.told ports.old
         (texts_of printed) first.new.view first.new.carried.told ports.new) }
-    ensures others { OnOk result (LearnAbove D.Port.maps D.Port.maps_left D.Port.told D.Port.faults (length (actor_sections (sections_of script.now))) (sections_of script.now) ports.old ports.new) }
+    ensures others { OnOk result ((them : LearnAbove D.Port.maps D.Port.maps_left D.Port.told D.Port.faults (length (actor_sections (sections_of script.now))) (sections_of script.now) first.old.carried.maps ports.old ports.new)
+        × (first.new.carried.maps ≡ taught them.taught_maps first.old.carried.maps)) }
     ensures stopped { IfErr result (λ e. (e ≡ NoMemory) ⊎ CannotEnd first.new.view) }
     ensures ports_len { length ports.new ≡ length ports.old }
 {
@@ -198,7 +201,8 @@ fn carry_out<R: Threads + Wait + Sync, D: Driver<Core>>(
     ensures device { first.new.gate ≡ first.old.gate }
     ensures out { IfOk result (λ printed. HasCarriedOut D.Port.told (over first.old.carried.maps.left (driver_kind D.ENTRIES D.is_planned D.OwnEntries D.Follows)) (sections_of script.now) first.old.view first.old.carried.told ports.old
         (texts_of printed) first.new.view first.new.carried.told ports.new) }
-    ensures others { OnOk result (LearnAbove D.Port.maps D.Port.maps_left D.Port.told D.Port.faults (length (actor_sections (sections_of script.now))) (sections_of script.now) ports.old ports.new) }
+    ensures others { OnOk result ((them : LearnAbove D.Port.maps D.Port.maps_left D.Port.told D.Port.faults (length (actor_sections (sections_of script.now))) (sections_of script.now) first.old.carried.maps ports.old ports.new)
+        × (first.new.carried.maps ≡ taught them.taught_maps first.old.carried.maps)) }
     ensures stopped { IfErr result (λ e. (e ≡ NoMemory) ⊎ CannotEnd first.new.view) }
     ensures ports_len { length ports.new ≡ length ports.old }
 {
@@ -229,7 +233,7 @@ pub fn run_several<R: Threads + Wait + Sync, D: Driver<Core>>(
     requires ports { AreAllThere ports.old }
     ensures came { IfOk result (λ ran. CameToMany (over (left_at D.Port.maps_left ports.old 0) (driver_kind D.ENTRIES D.is_planned D.OwnEntries D.Follows)) (sections_of script.now) (told_at D.Port.told ports.old) (told_at D.Port.told ports.new) ran.1.items (texts_of ran.0)) }
     ensures there { OnOk result (AreAllThere ports.new) }
-    ensures others { OnOk result (LearnAbove D.Port.maps D.Port.maps_left D.Port.told D.Port.faults (length (actor_sections (sections_of script.now))) (sections_of script.now) ports.old ports.new) }
+    ensures others { OnOk result (LearnAbove D.Port.maps D.Port.maps_left D.Port.told D.Port.faults (length (actor_sections (sections_of script.now))) (sections_of script.now) (no_maps (left_at D.Port.maps_left ports.old 0)) ports.old ports.new) }
     ensures memory_alone { IsOkUnless result Errno.NoMemory }
 {
     match take_port::<D>(ports, 0) {

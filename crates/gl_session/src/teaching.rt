@@ -1,6 +1,6 @@
 //! Ports that wait while another one learns maps: they learn the same.
 
-ghost use Rattle.std.specs.Prelude.{◌≡◌, ◌≢◌, ◌<◌, ℕ, false, [], length, slice_get, Some};
+ghost use Rattle.std.specs.Prelude.{◌≡◌, ◌≢◌, ◌<◌, ℕ, [], length, slice_get, Some};
 ghost use Rattle.gl_check.specs.Joining.{no_maps};
 ghost use Rattle.gl_session.specs.Ports.{AllHave, AreMaps, HasLearned, IsTaught};
 
@@ -47,18 +47,4 @@ pub fn teach_all<D: Driver<Core>>(ports: &mut [Option<D::Port>], maps: &[Map])
     for n in 0..ports.len() {
         teach_at::<D>(ports, n, maps);
     }
-}
-
-/// Has all ports learn maps that are there, where a session may teach any.
-pub fn teach_where<D: Driver<Core>>(teaches: bool, ports: &mut [Option<D::Port>], maps: &[Map])
-    requires may_be_learned { AreMaps maps.now }
-    requires bare { (left : ℕ) × AllHave D.Port.maps D.Port.maps_left (no_maps left) ports.old }
-    ensures taught { (them : _) × ((n : ℕ) → IsTaught D.Port.maps D.Port.maps_left D.Port.told D.Port.faults them (slice_get ports.old n) (slice_get ports.new n)) }
-    ensures stay { teaches ≡ false → ports.new ≡ ports.old }
-    ensures ports_len { length ports.new ≡ length ports.old }
-{
-    if !teaches {
-        return;
-    }
-    teach_all::<D>(ports, maps);
 }

@@ -34,6 +34,7 @@ pub fn play_section<R: Wait, D: Driver<Core>>(
     ensures device { player.new.gate ≡ player.old.gate }
     ensures played { IfOk result (λ text. PlaysWhole (driver_kind D.ENTRIES D.is_planned D.OwnEntries D.Follows) (talks 0 (map columns_in statements.now) no_names)
         player.old.carried.maps player.old.view player.old.carried.told text player.new.view player.new.carried.told) }
+    ensures maps { IfOk result (λ _. player.new.carried.maps ≡ player.old.carried.maps) }
     ensures stopped { IfErr result (λ e. (e ≡ NoMemory) ⊎ ((e ≡ Full)
         × StoppedFull (driver_kind D.ENTRIES D.is_planned D.OwnEntries D.Follows) (talks 0 (map columns_in statements.now) no_names) player.old.view (carried [] player.old.carried.told player.old.carried.maps) player.new.view)) }
 {
@@ -66,6 +67,7 @@ pub fn play_beside<R: Wait, D: Driver<Core>>(
     ensures device { player.new.gate ≡ player.old.gate }
     ensures played { IfOk result (λ text. PlaysWhole (driver_kind D.ENTRIES D.is_planned D.OwnEntries D.Follows) (talks 0 (map columns_in statements.now) no_names)
         player.old.carried.maps player.old.view player.old.carried.told text player.new.view player.new.carried.told) }
+    ensures maps { IfOk result (λ _. player.new.carried.maps ≡ player.old.carried.maps) }
     ensures stopped { IfErr result (λ e. (e ≡ NoMemory) ⊎ ((e ≡ Full)
         × StoppedFull (driver_kind D.ENTRIES D.is_planned D.OwnEntries D.Follows) (talks 0 (map columns_in statements.now) no_names) player.old.view (carried [] player.old.carried.told player.old.carried.maps) player.new.view)) }
 {

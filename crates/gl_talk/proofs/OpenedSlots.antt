@@ -219,7 +219,7 @@ module _ (slot : ℕ) where
         (keeps_monitor_opens (text_at 1 words) (without_monitor (text_at 1 words) names))
 
     kind_opens : (kind : StatementKind) → Own (does_by kind names slot words)
-    kind_opens Plain = acts_open (action_here names slot words) (λ s. here_at s 0 names slot words)
+    kind_opens Plain = acts_open (action_here names.in_setup names.files slot words) (λ s. here_at s 0 names slot words)
     kind_opens ToolAlone = runs_open (tool_said (word_texts words))
     kind_opens Starting = starts_open (has_tool (text_at 1 words) names)
     kind_opens Stepping = steps_open_in (watched_of_name (text_at 1 words) names.monitors) (held_of_name (text_at 1 words) names.sets)
@@ -362,7 +362,7 @@ module _ (slot : ℕ) where
         (λ after. one_monitor (text_at 1 words) (without_monitor (text_at 1 words) names) after monitor_gone)
 
     one_kind : (kind : StatementKind) → Gives IsOneMore (does_by kind names slot words)
-    one_kind Plain = one_acts (action_here names slot words)
+    one_kind Plain = one_acts (action_here names.in_setup names.files slot words)
     one_kind ToolAlone = one_runs (tool_said (word_texts words))
     one_kind Starting = one_starts (has_tool (text_at 1 words) names)
     one_kind Stepping = one_steps (watched_of_name (text_at 1 words) names.monitors) (held_of_name (text_at 1 words) names.sets)

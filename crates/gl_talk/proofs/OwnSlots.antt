@@ -151,7 +151,7 @@ module _ (test : ℕ → Bool) where
         (λ after h. keeps_monitor_pass (without_monitor name names) name after (without_monitor_pass names name held_open) h)
 
     kind_pass : (kind : StatementKind) (words : List Span) → Gives (OpenPass test) (does_by kind names slot words)
-    kind_pass Plain words = acts_pass (action_here names slot words) words
+    kind_pass Plain words = acts_pass (action_here names.in_setup names.files slot words) words
     kind_pass ToolAlone words = runs_pass (tool_said (word_texts words)) words
     kind_pass Starting words = starts_pass (has_tool (text_at 1 words) names) words
     kind_pass Stepping words = steps_pass (watched_of_name (text_at 1 words) names.monitors) (held_of_name (text_at 1 words) names.sets) words refl

@@ -1,7 +1,7 @@
 -- What a statement asks costs no more than the statement, and a talk no more than its statements.
 use Rattle.std.proofs.Common.{◌≡◌, ◌≤◌, ◌+◌, ◌-◌, ℕ, suc, Bool, true, false, cond, List, [], ◌∷◌, length, Option, None, Some, refl, sym, subst, arith}
 use Rattle.std.specs.List.{list_any}
-use Rattle.std.specs.Prelude.{if◌then◌else◌, ◌==◌, ◌&&◌, nat_lt, is_some, not, sum_by}
+use Rattle.std.specs.Prelude.{if◌then◌else◌, ◌==◌, nat_lt, is_some, not, sum_by}
 use Rattle.std.proofs.lemmas.List.Sums.{sum_by-cons}
 use Rattle.gl_base.specs.CommandWord.{command_number_of}
 use Rattle.gl_base.specs.Operation.{refusal}
@@ -18,7 +18,7 @@ use Rattle.gl_monitor.specs.Monitor.{Watched, monitor_program, steps_held}
 use Rattle.gl_monitor.specs.Monitor.{stops as stops_watching}
 use Rattle.gl_monitor.proofs.MonitorCosts.{monitor_within}
 use Rattle.gl_monitor.proofs.MonitorCosts.{held_within as steps_within, stops_within as watched_stops_within}
-use Rattle.gl_script.specs.Cost.{cost, cost_by, is_aggregate, start_cost, words_cost}
+use Rattle.gl_script.specs.Cost.{cost, cost_by, start_cost, words_cost}
 use Rattle.gl_script.specs.Faults.{is_get_line}
 use Rattle.gl_script.specs.Table.{keyword_of}
 use Rattle.gl_script.specs.declared.table.Keyword.{Keyword}
@@ -30,6 +30,7 @@ use Rattle.gl_v1.specs.declared.sending.Sent.{Sent}
 use Rattle.gl_v1.specs.Commands.{command_for, sent_as, size_of}
 use Rattle.gl_v1.specs.To.{sent_for, sent_if, whole, without_bytes}
 use Rattle.gl_v1.specs.Words.{makes as makes_old, makes_file as makes_old_file, old_number_of}
+use Rattle.gl_script.specs.declared.limits.TheConstants.{JOINED_MAX}
 use Rattle.gl_talk.specs.declared.files.TalkFileKind.{TalkFileKind}
 use Rattle.gl_talk.specs.declared.files.TalkFileKind.TheVariants.{Chip, Request, Old}
 use Rattle.gl_talk.specs.declared.paths.LineFile.{LineFile}
@@ -40,7 +41,7 @@ use Rattle.gl_talk.specs.Costs.{StatementsKeepWithinCost, TalksKeepWithinCost}
 use Rattle.gl_talk.specs.Old.{sent_new, sent_old, takes_old_name}
 use Rattle.gl_talk.specs.Open.{File, Names, file_of, has_tool, held_of_name, is_chip, is_chip_file, is_old_event, is_request, watched_of_name, slots_in_order, without_monitor, without_set}
 use Rattle.gl_talk.specs.Paths.{line_file, live_device}
-use Rattle.gl_talk.specs.Actions.{aggregates, closes, files_named, ioctls, irqs, lives, old_ioctls, only_in_setup, opens, pins, action_of, polls, pulls, reads, reads_file, takes_name, unplugs, writes, writes_tree}
+use Rattle.gl_talk.specs.Actions.{aggregates, closes, files_named, ioctls, irqs, is_out_of_place, lives, old_ioctls, only_in_setup, opens, pins, action_of, polls, pulls, reads, reads_file, takes_name, unplugs, writes, writes_tree}
 use Rattle.gl_talk.specs.Talk.{acts, closes_all, does, does_by, keeps_monitor, keeps_set, replied_by, runs, quits, says, slot_behind, starts, starts_said, starts_tool, steps, stops}
 use Rattle.gl_talk.specs.ToolWords.{kind_of, word_texts}
 use Rattle.gl_talk.specs.Words.{behind_three, behind_two, bytes_said, live_word, name_word, or_else, place_word, pull_word, turns_word}
@@ -231,7 +232,7 @@ action_cost Read files slot first words = reads_cost (line_file (text_at 0 words
 action_cost Clock files slot first words = omega arith
 action_cost Fault files slot first words = omega arith
 action_cost Accept files slot first words = omega arith
-action_cost Aggregate files slot first words = aggregates_cost (name_word (text_at 0 words)) (files_named 4 (behind_two (first ∷ words)) files)
+action_cost Aggregate files slot first words = aggregates_cost (name_word (text_at 0 words)) (files_named JOINED_MAX (behind_two (first ∷ words)) files)
 action_cost Pin files slot first words = pins_cost (place_word (text_at 1 words)) (first ∷ words)
 action_cost Irq files slot first words = irqs_cost (place_word (text_at 1 words)) (first ∷ words)
 action_cost Open files slot first words = opens_cost (is_some (file_of (text_at 0 words) files)) slot (text_at 1 words)
@@ -313,7 +314,7 @@ keyword_cost : (keyword : Keyword) (kind : StatementKind) (names : Names) (slot 
 keyword_cost keyword Plain names slot first words k e =
     subst (λ o. CostsAtMost (cost keyword words) (acts (only_in_setup names.in_setup o (action_of o names.files slot (first ∷ words))) names slot (first ∷ words))) (sym k)
     (acts_cost (cost keyword words) (only_in_setup names.in_setup (Some keyword) (action_of (Some keyword) names.files slot (first ∷ words))) names slot (first ∷ words)
-    (action_if (cost keyword words) (is_aggregate (Some keyword) && not names.in_setup) _ _ tt (action_cost keyword names.files slot first words)))
+    (action_if (cost keyword words) (is_out_of_place names.in_setup (Some keyword)) _ _ tt (action_cost keyword names.files slot first words)))
 keyword_cost keyword ToolAlone names slot first words k e = runs_cost keyword (tool_said (word_texts (first ∷ words))) names slot first words k e refl
 keyword_cost Start Starting names slot first words k e = starts_cost (has_tool (text_at 0 words) names) names slot first words
 keyword_cost Step Stepping names slot first words k e =

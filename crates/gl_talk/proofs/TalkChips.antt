@@ -1,12 +1,12 @@
 -- Statements other than `aggregate`, and talks of them, ask for no chip over requests.
-use Rattle.std.proofs.Common.{◌≡◌, ◌+◌, ℕ, Bool, true, false, ◌||◌, ◌&&◌, not, List, [], ◌∷◌, Option, None, Some, refl, sym}
+use Rattle.std.proofs.Common.{◌≡◌, ◌+◌, ℕ, Bool, true, false, ◌||◌, List, [], ◌∷◌, Option, None, Some, refl}
 use Rattle.std.specs.List.{list_any}
 use Rattle.std.specs.Prelude.{if◌then◌else◌, is_some}
 use Rattle.std.proofs.lemmas.Bool.{true≢false}
 use Rattle.gl_base.specs.Operation.{refusal}
 use Rattle.gl_base.specs.Words.{Span, text_at}
 use Rattle.gl_base.specs.declared.errno.Errno.{Errno}
-use Rattle.gl_base.specs.declared.errno.Errno.TheVariants.{Exist, Inval, Perm}
+use Rattle.gl_base.specs.declared.errno.Errno.TheVariants.{Inval, Perm}
 use Rattle.gl_base.specs.declared.operation.Got.{Got}
 use Rattle.gl_args.specs.Options.{SaidTool, SaidDetect, SaidInfo, SaidGet, SaidSet, SaidWatch, SaidNotify}
 use Rattle.gl_args.specs.Tools.{tool_said}
@@ -17,7 +17,7 @@ use Rattle.gl_monitor.specs.Monitor.{Watched, monitor_program, steps_held}
 use Rattle.gl_monitor.specs.Monitor.{stops as stops_watching}
 use Rattle.gl_monitor.proofs.MonitorChips.{monitor_none, stepped_none}
 use Rattle.gl_monitor.proofs.MonitorChips.{stops_none as watched_stops_none}
-use Rattle.gl_script.specs.Cost.{do_aggregate, is_aggregate}
+use Rattle.gl_script.specs.Cost.{is_aggregate, words_aggregate}
 use Rattle.gl_script.specs.Table.{keyword_of}
 use Rattle.gl_script.specs.declared.table.Keyword.{Keyword}
 use Rattle.gl_script.specs.declared.table.Keyword.TheVariants.{Probe, Unplug, MakeDir, RemoveDir, Write, Read, Clock, Fault, Accept, Aggregate, Pin, Irq, Open, Ioctl, Events, OldIoctl, OldEvents, Changes, Poll, Close, Detect, Info, Get, Set, Start, Step, Stop}
@@ -30,15 +30,14 @@ use Rattle.gl_talk.specs.declared.files.TalkFileKind.{TalkFileKind}
 use Rattle.gl_talk.specs.declared.paths.LineFile.{LineFile}
 use Rattle.gl_talk.specs.declared.tools.StatementKind.{StatementKind}
 use Rattle.gl_talk.specs.declared.tools.StatementKind.TheVariants.{Plain, ToolAlone, Starting, Stepping, Stopping}
-use Rattle.gl_talk.specs.Actions.{action_here, action_of, closes, ioctls, ioctls_bytes, lives, old_ioctls, old_ioctls_bytes, opens, polls, pulls, read_if, reads, reads_file, writes, writes_line, writes_tree}
+use Rattle.gl_talk.specs.Actions.{action_here, action_of, closes, ioctls, is_out_of_place, lives, old_ioctls, opens, polls, pulls, read_if, reads, reads_file, takes_name, writes, writes_tree}
 use Rattle.gl_talk.specs.Formats.{Action, Nothing, Refuse, Ask, ResultFormat, Silent, Value, Level, Bytes, Edges, Infos, Ready, Opened, Closed, Made, OldBytes, OldEdges, OldMade}
 use Rattle.gl_talk.specs.Old.{takes_old_name}
 use Rattle.gl_talk.specs.Open.{File, Names, file_of, has_tool, held_of_name, is_chip, is_old_event, is_request, slots_in_order, watched_of_name, without_monitor, without_set}
 use Rattle.gl_talk.specs.Paths.{line_file, live_device}
-use Rattle.gl_talk.specs.Actions.{takes_name}
 use Rattle.gl_talk.specs.Talk.{acts, closes_all, does, does_by, keeps_monitor, keeps_set, quits, replied_by, runs, says, slot_behind, starts, starts_said, starts_tool, steps, stops}
 use Rattle.gl_talk.specs.ToolWords.{kind_of, word_texts}
-use Rattle.gl_talk.specs.Words.{behind_two, bytes_said, behind_three, command_word, live_word, made_name, name_word, pull_word, turns_word}
+use Rattle.gl_talk.specs.Words.{behind_two, live_word, pull_word, turns_word}
 
 -- what a statement that is no tool's does
 abbrev IsPlainAction : Action → Type 0
@@ -130,9 +129,9 @@ action_plain (Some Start) files slot words is = tt
 action_plain (Some Step) files slot words is = tt
 action_plain (Some Stop) files slot words is = tt
 
-here_plain : (names : Names) (slot : ℕ) (words : List Span) → do_aggregate words ≡ false → IsPlainAction (action_here names slot words)
+here_plain : (names : Names) (slot : ℕ) (words : List Span) → words_aggregate words ≡ false → IsPlainAction (action_here names.in_setup names.files slot words)
 here_plain names slot words is =
-    either_plain (is_aggregate (keyword_of (text_at 0 words)) && not names.in_setup) (Refuse Inval) (action_of (keyword_of (text_at 0 words)) names.files slot words) tt
+    either_plain (is_out_of_place names.in_setup (keyword_of (text_at 0 words))) (Refuse Inval) (action_of (keyword_of (text_at 0 words)) names.files slot words) tt
     (action_plain (keyword_of (text_at 0 words)) names.files slot words is)
 
 -- what is told of a result
@@ -192,8 +191,8 @@ stops_none None (Some held) names words =
 stops_none (Some watched) held names words =
     asks_then (stops_watching watched) (keeps_monitor (text_at 1 words) (without_monitor (text_at 1 words) names)) (watched_stops_none watched) (λ value. tt)
 
-kind_none : (kind : StatementKind) (names : Names) (slot : ℕ) (words : List Span) → do_aggregate words ≡ false → AsksNoChips (does_by kind names slot words)
-kind_none Plain names slot words is = acts_none (action_here names slot words) names slot words (here_plain names slot words is)
+kind_none : (kind : StatementKind) (names : Names) (slot : ℕ) (words : List Span) → words_aggregate words ≡ false → AsksNoChips (does_by kind names slot words)
+kind_none Plain names slot words is = acts_none (action_here names.in_setup names.files slot words) names slot words (here_plain names slot words is)
 kind_none ToolAlone names slot words is = runs_none (tool_said (word_texts words)) names slot words
 kind_none Starting names slot words is = starts_none (has_tool (text_at 1 words) names) names slot words
 kind_none Stepping names slot words is = steps_none (watched_of_name (text_at 1 words) names.monitors) (held_of_name (text_at 1 words) names.sets) names words
@@ -212,9 +211,9 @@ neither true c none = absurd (true≢false none)
 neither false c none = (refl, none)
 
 -- statements in a row, none of them `aggregate`, where what comes after them asks for none either
-pub says_none : {A : Type 0} (begun : ℕ) (statements : List (List Span)) (behind : Names → Program A) → list_any do_aggregate statements ≡ false → ((names : Names) → AsksNoChips (behind names)) → (names : Names)
+pub says_none : {A : Type 0} (begun : ℕ) (statements : List (List Span)) (behind : Names → Program A) → list_any words_aggregate statements ≡ false → ((names : Names) → AsksNoChips (behind names)) → (names : Names)
     → AsksNoChips (says begun statements behind names)
 says_none begun [] behind none h names = h names
-says_none begun (words ∷ statements) behind none h names = let both = neither (do_aggregate words) (list_any do_aggregate statements) none in
+says_none begun (words ∷ statements) behind none h names = let both = neither (words_aggregate words) (list_any words_aggregate statements) none in
     asks_then (does names (slot_behind begun) words) (says (begun + 1) statements behind) (kind_none (kind_of (keyword_of (text_at 0 words))) names (slot_behind begun) words both.0)
     (λ after. says_none (begun + 1) statements behind both.1 h after)

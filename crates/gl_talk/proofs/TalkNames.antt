@@ -1,7 +1,8 @@
 -- Each operation of a talk names the slot of a file that is open, followed for one slot at a time.
 use Rattle.std.proofs.Common.{◌≡◌, ◌≤◌, ◌+◌, ◌-◌, ℕ, Bool, true, false, cond, List, [], ◌∷◌, ◌++◌, map, Option, None, Some, refl, sym, ap, subst, arith}
 use Rattle.std.specs.List.{list_any}
-use Rattle.std.specs.Prelude.{if◌then◌else◌, ◌==◌, ◌&&◌, ◌||◌, find, is_some, length, nat_eq, not, option_map, replicate, take}
+use Rattle.std.specs.Prelude.{if◌then◌else◌, ◌==◌, ◌||◌, find, is_some, length, nat_eq, not, option_map, replicate, take}
+use Rattle.std.proofs.lemmas.Bool.Decides.{nat_tests}
 use Rattle.gl_base.specs.Operation.{refusal}
 use Rattle.gl_base.specs.Rows.{without_first}
 use Rattle.gl_base.specs.Words.{Span, text_at}
@@ -19,12 +20,12 @@ use Rattle.gl_monitor.specs.Monitor.{Watched, monitor_program, steps_held, watch
 use Rattle.gl_monitor.specs.Monitor.{stops as stops_watching}
 use Rattle.gl_monitor.proofs.MonitorNames.{monitor_at, steps_held_at}
 use Rattle.gl_monitor.proofs.MonitorNames.{stops_at as watching_stops_at}
-use Rattle.gl_script.specs.Cost.{is_aggregate}
 use Rattle.gl_script.specs.Table.{keyword_of}
 use Rattle.gl_script.specs.declared.table.Keyword.{Keyword}
 use Rattle.gl_script.specs.declared.table.Keyword.TheVariants.{Probe, Unplug, MakeDir, RemoveDir, Write, Read, Clock, Fault, Accept, Aggregate, Pin, Irq, Open, Ioctl, Events, OldIoctl, OldEvents, Changes, Poll, Close}
 use Rattle.gl_v1.specs.declared.commands.KindV1.{KindV1}
 use Rattle.gl_v1.specs.declared.sending.Sent.{Sent}
+use Rattle.gl_script.specs.declared.limits.TheConstants.{JOINED_MAX}
 use Rattle.gl_talk.specs.declared.files.TalkFileKind.TheVariants.{Chip, Request}
 use Rattle.gl_talk.specs.declared.paths.LineFile.{LineFile}
 use Rattle.gl_talk.specs.Formats.{Action, Nothing, Refuse, Ask, ResultFormat, Silent, Value, Level, Bytes, Edges, Infos, Ready, Opened, Closed, Made, OldBytes, OldEdges, OldMade}
@@ -33,7 +34,7 @@ use Rattle.gl_talk.specs.declared.tools.StatementKind.TheVariants.{Plain, ToolAl
 use Rattle.gl_talk.specs.Old.{kind_v1, made_kind, old_command_word, old_reply, sent_new, sent_old, takes_old_name}
 use Rattle.gl_talk.specs.Open.{File, Names, SetTool, MonitorTool, file_of, has_tool, held_of_name, is_chip, is_chip_file, is_file, is_old_event, is_request, is_monitor, is_set, monitor_slots, open_slots, set_slots, watched_of_name, without_monitor, without_set}
 use Rattle.gl_talk.specs.Paths.{line_file, live_device}
-use Rattle.gl_talk.specs.Actions.{action_here, aggregates, asks_for, closes, files_named, command_reply, ioctls, ioctls_bytes, irqs, lives, old_ioctls, opens, pins, action_of, polls, pulls, reads, reads_file, slots_of, takes_name, unplugs, writes, writes_tree}
+use Rattle.gl_talk.specs.Actions.{action_here, aggregates, asks_for, closes, files_named, command_reply, ioctls, ioctls_bytes, irqs, is_out_of_place, lives, old_ioctls, opens, pins, action_of, polls, pulls, reads, reads_file, slots_of, takes_name, unplugs, writes, writes_tree}
 use Rattle.gl_talk.specs.Talk.{acts, does_by, file, keeps_monitor, keeps_set, replied_by, runs, starts, starts_said, starts_tool, steps, stops}
 use Rattle.gl_talk.specs.ToolWords.{word_texts}
 use Rattle.gl_talk.specs.Words.{behind_two, bytes_said, behind_three, command_word, live_word, made_name, name_word, place_word, pull_word, turns_word}
@@ -361,15 +362,26 @@ module _ (s k : ℕ) where
         let rest = files_named (most - 1) found names.files in
         some_named (nat_eq most 0) (file_of word.text names.files ∷ rest) (one_named word.text (file_of word.text names.files) rest refl (named_slots (most - 1) found))
 
+    -- and they are few
+    few_by : (most : ℕ) (b : Bool) (o : Option File) (rest : List (Option File)) → nat_eq most 0 ≡ b → length (slots_of rest) ≤ most - 1 → length (slots_of (if b then [] else o ∷ rest)) ≤ most
+    few_by most true o rest e h = omega arith
+    few_by most false None rest e h = omega (arith, h)
+    few_by most false (Some f) rest e h = let some : 1 ≤ most = grind (arith, nat_tests) in omega (arith, some, h)
+
+    few_named : (most : ℕ) (found : List Span) → length (slots_of (files_named most found names.files)) ≤ most
+    few_named most [] = omega arith
+    few_named most (word ∷ found) =
+        few_by most (nat_eq most 0) (file_of word.text names.files) (files_named (most - 1) found names.files) refl (few_named (most - 1) found)
+
     front : (xs ys : List ℕ) → take (length xs) (xs ++ ys) ≡ xs
     front [] ys = refl
     front (x ∷ xs) ys = ap (λ (l : List ℕ). x ∷ l) (front xs ys)
 
-    aggregates_at : (label : List ℕ) (named : List (Option File)) → one_if (is_open s (slots_of named)) ≤ open_times s names → ActionsFit (aggregates label named)
-    aggregates_at label named h =
+    aggregates_at : (label : List ℕ) (named : List (Option File)) → length (slots_of named) ≤ JOINED_MAX → one_if (is_open s (slots_of named)) ≤ open_times s names → ActionsFit (aggregates label named)
+    aggregates_at label named few h =
         action_if (list_any (λ file. not (is_some file)) named) _ _ tt
         (action_if (list_any is_chip_file named) _ _ tt
-        (subst (λ (slots : List ℕ). one_if (is_open s slots) ≤ open_times s names) (sym (front (slots_of named) (replicate (4 - length (slots_of named)) 0))) h, λ got. refl))
+        ((few, subst (λ (slots : List ℕ). one_if (is_open s slots) ≤ open_times s names) (sym (front (slots_of named) (replicate (JOINED_MAX - length (slots_of named)) 0))) h), λ got. refl))
 
     polls_at : (o : Option File) → file_of (text_at 1 words) names.files ≡ o → ActionsFit (polls o)
     polls_at None e = tt
@@ -390,7 +402,7 @@ module _ (s k : ℕ) where
     action_at (Some Clock) = (tt, λ got. refl)
     action_at (Some Fault) = (tt, λ got. refl)
     action_at (Some Accept) = (tt, λ got. refl)
-    action_at (Some Aggregate) = aggregates_at (name_word (text_at 1 words)) (files_named 4 (behind_two words) names.files) (named_slots 4 (behind_two words))
+    action_at (Some Aggregate) = aggregates_at (name_word (text_at 1 words)) (files_named JOINED_MAX (behind_two words) names.files) (few_named JOINED_MAX (behind_two words)) (named_slots JOINED_MAX (behind_two words))
     action_at (Some Pin) = pins_at (place_word (text_at 2 words))
     action_at (Some Irq) = irqs_at (place_word (text_at 2 words))
     action_at (Some Open) = opens_at (is_some (file_of (text_at 1 words) names.files)) (text_at 2 words)
@@ -403,8 +415,8 @@ module _ (s k : ℕ) where
     action_at (Some Close) = closes_at (file_of (text_at 1 words) names.files) refl
     action_at (Some keyword) = tt
 
-    pub here_at : ActionsFit (action_here names slot words)
-    here_at = action_if (is_aggregate (keyword_of (text_at 0 words)) && not names.in_setup) _ _ tt (action_at (keyword_of (text_at 0 words)))
+    pub here_at : ActionsFit (action_here names.in_setup names.files slot words)
+    here_at = action_if (is_out_of_place names.in_setup (keyword_of (text_at 0 words))) _ _ tt (action_at (keyword_of (text_at 0 words)))
 
   -- tools
   module _ (names : Names) (slot : ℕ) (room : open_times s names + one_if (nat_eq s slot) + one_if (nat_eq s (slot + 1)) ≤ k) where
@@ -471,7 +483,7 @@ module _ (s k : ℕ) where
 
   pub kind_at : (kind : StatementKind) (names : Names) (slot : ℕ) (words : List Span) → open_times s names + one_if (nat_eq s slot) + one_if (nat_eq s (slot + 1)) ≤ k → Keeps (open_times s names) (does_by kind names slot words)
   kind_at Plain names slot words room =
-      acts_at names slot words (omega (arith, room)) (action_here names slot words) (here_at names slot words)
+      acts_at names slot words (omega (arith, room)) (action_here names.in_setup names.files slot words) (here_at names slot words)
   kind_at ToolAlone names slot words room = runs_at names slot room (tool_said (word_texts words)) words
   kind_at Starting names slot words room = starts_at names slot room (has_tool (text_at 1 words) names) words
   kind_at Stepping names slot words room = steps_at (watched_of_name (text_at 1 words) names.monitors) (held_of_name (text_at 1 words) names.sets) names words refl

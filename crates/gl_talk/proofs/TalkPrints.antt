@@ -159,7 +159,7 @@ stops_lines (Some watched) held names words =
     prints_then (stops_watching watched) (keeps_monitor (text_at 1 words) (without_monitor (text_at 1 words) names)) (watched_stops_lines watched) (λ value. tt)
 
 kind_lines : (kind : StatementKind) (names : Names) (slot : ℕ) (words : List Span) → PrintsLines (does_by kind names slot words)
-kind_lines Plain names slot words = acts_lines (action_here names slot words) names slot words
+kind_lines Plain names slot words = acts_lines (action_here names.in_setup names.files slot words) names slot words
 kind_lines ToolAlone names slot words = runs_lines (tool_said (word_texts words)) names slot words
 kind_lines Starting names slot words = starts_lines (has_tool (text_at 1 words) names) names slot words
 kind_lines Stepping names slot words = steps_lines (watched_of_name (text_at 1 words) names.monitors) (held_of_name (text_at 1 words) names.sets) names words

@@ -27,7 +27,7 @@ use Rattle.gl_script.specs.Said.{ArePins, AreValues, Spells, chip_of, irq_name, 
 use Rattle.gl_script.specs.Table.{keyword_of}
 use Rattle.gl_script.specs.declared.said.Said.{Said}
 use Rattle.gl_script.specs.declared.said.Said.TheVariants.{Probe, Unplug, MakeDir, RemoveDir, Write, Read, Clock, Fault, Accept, Aggregate, Pin, Irq, Open, Ioctl, Events, OldIoctl, OldEvents, Changes, Poll, Close, Start, Step, Stop}
-use Rattle.gl_script.specs.Cost.{is_aggregate, or_zero}
+use Rattle.gl_script.specs.Cost.{or_zero}
 use Rattle.gl_v1.specs.Commands.{command_for, sent_as}
 use Rattle.gl_v1.specs.To.{sent_if}
 use Rattle.gl_v1.specs.Words.{makes as makes_old, makes_file, old_number_of}
@@ -41,11 +41,12 @@ use Rattle.gl_talk.specs.declared.actions.SaidFormat.{SaidFormat}
 use Rattle.gl_talk.specs.declared.actions.SaidFormat.TheVariants.{Silent as SaidSilent, Value as SaidValue, Level as SaidLevel, Bytes as SaidBytes, Edges as SaidEdges, Infos as SaidInfos, Ready as SaidReady, Opened as SaidOpened, Closed as SaidClosed, Made as SaidMade, OldBytes as SaidOldBytes, OldEdges as SaidOldEdges, OldMade as SaidOldMade}
 use Rattle.gl_talk.specs.declared.files.TalkFile.{TalkFile}
 use Rattle.gl_talk.specs.declared.files.TalkFileKind.{TalkFileKind}
+use Rattle.gl_script.specs.declared.limits.TheConstants.{JOINED_MAX}
 use Rattle.gl_talk.specs.declared.files.TalkFileKind.TheVariants.{Chip, Request, Old}
 use Rattle.gl_talk.specs.declared.paths.LineFile.{LineFile}
 use Rattle.gl_talk.specs.declared.tools.StatementKind.{StatementKind}
 use Rattle.gl_talk.specs.declared.tools.StatementKind.TheVariants.{Plain, Stepping}
-use Rattle.gl_talk.specs.Actions.{action_of, aggregates, closes, command_reply, files_named, ioctls, ioctls_bytes, lives, old_ioctls, old_ioctls_bytes, only_in_setup, opens, pin_said, polls, pulls, reads, reads_file, slots_of, small_word, takes_name, unplugs, writes, writes_line, writes_tree}
+use Rattle.gl_talk.specs.Actions.{action_here, action_of, aggregates, closes, command_reply, files_named, ioctls, ioctls_bytes, is_out_of_place, lives, old_ioctls, old_ioctls_bytes, only_in_setup, opens, pin_said, polls, pulls, reads, reads_file, slots_of, small_word, takes_name, unplugs, writes, writes_line, writes_tree}
 use Rattle.gl_talk.specs.Doing.{Does, shows}
 use Rattle.gl_talk.specs.Formats.{Action, Nothing, Refuse, Ask, ResultFormat, Silent, Value, Level, Bytes, Edges, Infos, Ready, Opened, Closed, Made, OldBytes, OldEdges, OldMade}
 use Rattle.gl_talk.specs.Old.{kind_v1, made_kind, old_command_word, old_reply, old_structure_text, sent_new, sent_old, takes_old_name}
@@ -54,7 +55,7 @@ use Rattle.gl_talk.specs.Paths.{line_file, live_device}
 use Rattle.gl_talk.specs.Replies.{fd_text, structure_text}
 use Rattle.gl_talk.specs.SaidActions.{StatementsAskWhatTheySay, action_said, aggregates_said, bytes_reply_said, closes_said, ioctls_bytes_said, ioctls_said, lives_said, old_bytes_reply_said, old_ioctls_bytes_said, old_ioctls_said, old_reply_said, opens_said, polls_said, pulls_said, reads_file_said, reads_said, reply_said, takes, writes_line_said, writes_said, writes_tree_said}
 use Rattle.gl_talk.specs.SaidTalk.{acts_said, file_said, replied_said_by, told_said}
-use Rattle.gl_talk.specs.Talk.{acts, replied_by, told}
+use Rattle.gl_talk.specs.Talk.{acts, does_by, replied_by, told}
 use Rattle.gl_talk.specs.ToolWords.{kind_of, name_said, names_tool, turns_said}
 use Rattle.gl_talk.specs.Words.{behind_two, behind_three, bytes_said, command_word, irq_word, live_word, made_name, name_behind_as, name_word, number_word, or_else, path_word, place_of, place_word, pull_word, turns_word}
 use Rattle.gl_talk.proofs.StatementCosts.{sent_cmd}
@@ -276,7 +277,7 @@ module _ (names : Names) (slot : ℕ) (words : List Span) where
   -- a chip over requests
   aggregates_are : (label : List ℕ) (named : List (Option File)) → Same (aggregates label named) (aggregates_said label named)
   aggregates_are label named =
-      let joined = DoAggregate label (padded 4 (slots_of named)) (length (slots_of named)) in
+      let joined = DoAggregate label (padded JOINED_MAX (slots_of named)) (length (slots_of named)) in
       same_if (list_any (λ file. not (is_some file)) named) (Refuse BadF) (if list_any is_chip_file named then Refuse Inval else Ask joined Silent)
       (SaidRefuse BadF) (if list_any is_chip_file named then SaidRefuse Inval else SaidAsk joined SaidSilent) refl
       (same_if (list_any is_chip_file named) (Refuse Inval) (Ask joined Silent) (SaidRefuse Inval) (SaidAsk joined SaidSilent) refl (silent joined))
@@ -387,7 +388,7 @@ module _ (names : Names) (slot : ℕ) (words : List Span) where
   row_is (Fault nth) files is = ap (λ (n : ℕ). doing (Ask (DoPlan n) Silent)) (number_is 1 1000000 (text_at 1 words) nth is) ∙ silent (DoPlan nth)
   row_is (Accept bits) files is = ap (λ (n : ℕ). doing (Ask (DoAccept n) Silent)) (number_is 0 0xFFFFFFFFFFFFFFFF (text_at 1 words) bits is) ∙ silent (DoAccept bits)
   row_is (Aggregate label) files is =
-      let named = files_named 4 (behind_two words) files in
+      let named = files_named JOINED_MAX (behind_two words) files in
       ap (λ (name : List ℕ). doing (aggregates name named)) (label_word (text_at 1 words) label is) ∙ aggregates_are label named
   row_is (Pin chip what) files is =
       ap (λ (n : ℕ). doing (Ask (DoPin n (pin_said words)) Silent)) (place_is (text_at 2 words) chip is.1)
@@ -419,16 +420,26 @@ module _ (names : Names) (slot : ℕ) (words : List Span) where
   row_is Close files is = closes_are (file_of (text_at 1 words) files)
   row_is said files is = refl
 
-pub statements_ask_what_they_say : StatementsAskWhatTheySay
-statements_ask_what_they_say said words files names slot spelled =
+-- wherever a statement stands, and in its section
+pub asks_what_it_says : (said : Said) (words : List Span) (files : List File) (names : Names) (slot : ℕ) → Spells words said
+    → acts (action_of (keyword_of (text_at 0 words)) files slot words) names slot words ≡ acts_said (action_said said files slot words) names slot words
+asks_what_it_says said words files names slot spelled =
     ap (λ o. acts (action_of o files slot words) names slot words) spelled.keyword ∙ row_is names slot words said files spelled.each
+
+pub statements_ask_what_they_say : StatementsAskWhatTheySay
+statements_ask_what_they_say said words names slot spelled plain =
+    ap (λ o. does_by (kind_of o) names slot words) spelled.keyword
+    ∙ ap (λ kind. does_by kind names slot words) plain
+    ∙ ap (λ o. acts (only_in_setup names.in_setup o (action_of (keyword_of (text_at 0 words)) names.files slot words)) names slot words) spelled.keyword
+    ∙ same_if names slot words (is_out_of_place names.in_setup (Some (keyword_said said))) (Refuse Inval) (action_of (keyword_of (text_at 0 words)) names.files slot words) (SaidRefuse Inval)
+    (action_said said names.files slot words) refl (asks_what_it_says said words names.files names slot spelled)
 
 -- what a statement does by its words in its section is what an action does that it says
 pub as_said : (in_setup : Bool) (files items : List TalkFile) (action arm : SaidAction) (names : Names) (slot : ℕ) (words : List Span) → files ≡ items
-    → acts (only_in_setup in_setup (keyword_of (text_at 0 words)) (action_of (keyword_of (text_at 0 words)) (map file_in files) slot words)) names slot words ≡ acts_said action names slot words → action ≡ arm
-    → acts (only_in_setup in_setup (keyword_of (text_at 0 words)) (action_of (keyword_of (text_at 0 words)) (map file_in items) slot words)) names slot words ≡ acts_said arm names slot words
+    → acts (action_here in_setup (map file_in files) slot words) names slot words ≡ acts_said action names slot words → action ≡ arm
+    → acts (action_here in_setup (map file_in items) slot words) names slot words ≡ acts_said arm names slot words
 as_said in_setup files items action arm names slot words same says is =
-    ap (λ (rows : List TalkFile). acts (only_in_setup in_setup (keyword_of (text_at 0 words)) (action_of (keyword_of (text_at 0 words)) (map file_in rows) slot words)) names slot words) (sym same)
+    ap (λ (rows : List TalkFile). acts (action_here in_setup (map file_in rows) slot words) names slot words) (sym same)
     ∙ says
     ∙ ap (λ (a : SaidAction). acts_said a names slot words) is
 
@@ -438,9 +449,6 @@ nothing_asked line files slot none = subst (λ (l : List ℕ). action_of (keywor
 
 pub plain_kind : (line : List ℕ) → line ≡ [] → kind_of (keyword_of (text_at 0 (columns line))) ≡ Plain
 plain_kind line none = subst (λ (l : List ℕ). kind_of (keyword_of (text_at 0 (columns l))) ≡ Plain) (sym none) refl
-
-pub no_aggregate : (line : List ℕ) → line ≡ [] → is_aggregate (keyword_of (text_at 0 (columns line))) ≡ false
-no_aggregate line none = subst (λ (l : List ℕ). is_aggregate (keyword_of (text_at 0 (columns l))) ≡ false) (sym none) refl
 
 pub kind_is : (words : List Span) (said : Said) → Spells words said → kind_of (keyword_of (text_at 0 words)) ≡ kind_of (Some (keyword_said said))
 kind_is words said spelled = ap (λ o. kind_of o) spelled.keyword

@@ -18,9 +18,10 @@ use Rattle.gl_script.specs.declared.table.Keyword.TheVariants.{Probe, Unplug, Ma
 use Rattle.gl_talk.specs.declared.paths.LineFile.{LineFile}
 use Rattle.gl_v1.specs.declared.sending.Sent.{Sent}
 use Rattle.gl_talk.specs.declared.files.TalkFileKind.{TalkFileKind}
+use Rattle.gl_script.specs.declared.limits.TheConstants.{JOINED_MAX}
 use Rattle.gl_talk.specs.Formats.{Action, Nothing, Refuse, Ask, ResultFormat, Silent, Value, Level, Bytes, Edges, Infos, Ready, Opened, Closed, Made, OldEdges}
 use Rattle.gl_talk.specs.Old.{old_command_word, old_reply, sent_new, sent_old, takes_old_name}
-use Rattle.gl_talk.specs.Open.{File, Names, file_of, is_chip, is_chip_file, is_old_event, is_request}
+use Rattle.gl_talk.specs.Open.{File, file_of, is_chip, is_chip_file, is_old_event, is_request}
 use Rattle.gl_talk.specs.Paths.{line_file, live_device}
 use Rattle.gl_talk.specs.Words.{name_word, path_word, number_word, place_word, command_word, irq_word, pull_word, live_word, behind_two, behind_three, bytes_said, made_name}
 
@@ -59,7 +60,7 @@ abbrev pub aggregates : List ℕ → List (Option File) → Action
 aggregates label named =
     if list_any (λ file. not (is_some file)) named then Refuse BadF
     else if list_any is_chip_file named then Refuse Inval
-    else Ask (DoAggregate label (padded 4 (slots_of named)) (length (slots_of named))) Silent
+    else Ask (DoAggregate label (padded JOINED_MAX (slots_of named)) (length (slots_of named))) Silent
 
 -- `unplug CHIP`
 abbrev pub unplugs : ℕ → Action
@@ -177,7 +178,7 @@ action_of (Some Read) files slot words = reads (line_file (text_at 1 words)) (te
 action_of (Some Clock) files slot words = clocks (text_at 1 words) (text_at 2 words)
 action_of (Some Fault) files slot words = faults (text_at 1 words)
 action_of (Some Accept) files slot words = accepts (text_at 1 words)
-action_of (Some Aggregate) files slot words = aggregates (name_word (text_at 1 words)) (files_named 4 (behind_two words) files)
+action_of (Some Aggregate) files slot words = aggregates (name_word (text_at 1 words)) (files_named JOINED_MAX (behind_two words) files)
 action_of (Some Pin) files slot words = pins (place_word (text_at 2 words)) words
 action_of (Some Irq) files slot words = irqs (place_word (text_at 2 words)) words
 action_of (Some Open) files slot words = opens (is_some (file_of (text_at 1 words) files)) slot (text_at 2 words)
@@ -197,9 +198,12 @@ action_of (Some Step) files slot words = Nothing
 action_of (Some Stop) files slot words = Nothing
 
 -- `aggregate` is a statement of `setup` alone: in another section it is refused before its names are looked at
-abbrev pub only_in_setup : Bool → Option Keyword → Action → Action
-only_in_setup in_setup keyword action = if is_aggregate keyword && not in_setup then Refuse Inval else action
+abbrev pub is_out_of_place : Bool → Option Keyword → Bool
+is_out_of_place in_setup keyword = is_aggregate keyword && not in_setup
 
--- what a statement that is no tool's does first, with these names there
-abbrev pub action_here : Names → ℕ → List Span → Action
-action_here names slot words = only_in_setup names.in_setup (keyword_of (text_at 0 words)) (action_of (keyword_of (text_at 0 words)) names.files slot words)
+abbrev pub only_in_setup : Bool → Option Keyword → Action → Action
+only_in_setup in_setup keyword action = if is_out_of_place in_setup keyword then Refuse Inval else action
+
+-- what a statement that is no tool's does first in its section, with these files there
+abbrev pub action_here : Bool → List File → ℕ → List Span → Action
+action_here in_setup files slot words = only_in_setup in_setup (keyword_of (text_at 0 words)) (action_of (keyword_of (text_at 0 words)) files slot words)

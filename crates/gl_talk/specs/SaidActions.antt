@@ -1,4 +1,4 @@
--- What a statement that is no tool's asks of the device, by what it says: as `action_of`, with no number, command, name, path or word
+-- What a statement that is no tool's asks of the device, by what it says: as `action_here`, with no number, command, name, path or word
 -- of an interrupt read again. This project's choice.
 use Rattle.std.specs.List.{list_any}
 use Rattle.std.specs.Prelude.{◌≡◌, ℕ, ◌*◌, ◌/◌, Bool, true, false, not, ◌==◌, if◌then◌else◌, List, length, is_some, Option, Some, None}
@@ -7,8 +7,7 @@ use Rattle.gl_base.specs.Words.{Span, text_at}
 use Rattle.gl_base.specs.declared.command.TheConstants.{GET_CHIPINFO, GET_LINEINFO, GET_LINEINFO_WATCH, GET_LINE, LINE_GET_VALUES}
 use Rattle.gl_base.specs.declared.errno.Errno.TheVariants.{BadF, Exist, Inval, Perm}
 use Rattle.gl_base.specs.declared.operation.Do.TheVariants.{Probe as DoProbe, Unplug as DoUnplug, MakeDir as DoMakeDir, RemoveDir as DoRemoveDir, Write as DoWrite, Read as DoRead, Live as DoLive, Tick as DoTick, Pin as DoPin, Irq as DoIrq, Pull as DoPull, Level as DoLevel, OpenChip as DoOpenChip, Ioctl as DoIoctl, ReadFile as DoReadFile, Poll as DoPoll, Close as DoClose, Plan as DoPlan, Accept as DoAccept, Aggregate as DoAggregate}
-use Rattle.gl_script.specs.Said.{Spells}
-use Rattle.gl_script.specs.Table.{keyword_of}
+use Rattle.gl_script.specs.Said.{Spells, keyword_said}
 use Rattle.gl_script.specs.declared.said.Said.{Said}
 use Rattle.gl_script.specs.declared.said.Said.TheVariants.{Probe, Unplug, MakeDir, RemoveDir, Write, Read, Clock, Fault, Accept, Aggregate, Pin, Irq, Open, Ioctl, Events, OldIoctl, OldEvents, Changes, Poll, Close, Detect, Info, Get, Set, Start, Step, Stop}
 use Rattle.gl_v1.specs.declared.sending.Sent.{Sent}
@@ -17,13 +16,16 @@ use Rattle.gl_talk.specs.declared.actions.SaidAction.TheVariants.{Nothing, Refus
 use Rattle.gl_talk.specs.declared.actions.SaidFormat.{SaidFormat}
 use Rattle.gl_talk.specs.declared.actions.SaidFormat.TheVariants.{Silent, Value, Level, Bytes, Edges, Infos, Ready, Opened, Closed, Made, OldBytes, OldEdges, OldMade}
 use Rattle.gl_talk.specs.declared.files.TalkFileKind.{TalkFileKind}
+use Rattle.gl_script.specs.declared.limits.TheConstants.{JOINED_MAX}
 use Rattle.gl_talk.specs.declared.paths.LineFile.{LineFile}
-use Rattle.gl_talk.specs.Actions.{action_of, files_named, slots_of}
+use Rattle.gl_talk.specs.declared.tools.StatementKind.TheVariants.{Plain}
+use Rattle.gl_talk.specs.Actions.{files_named, is_out_of_place, slots_of}
 use Rattle.gl_talk.specs.Old.{kind_v1, made_kind, sent_new, sent_old}
 use Rattle.gl_talk.specs.Open.{File, Names, file_of, is_chip, is_chip_file, is_old_event, is_request}
 use Rattle.gl_talk.specs.Paths.{line_file, live_device}
 use Rattle.gl_talk.specs.SaidTalk.{acts_said}
-use Rattle.gl_talk.specs.Talk.{acts}
+use Rattle.gl_talk.specs.Talk.{does}
+use Rattle.gl_talk.specs.ToolWords.{kind_of}
 use Rattle.gl_talk.specs.Words.{behind_two, behind_three, bytes_said, live_word, pull_word}
 
 -- `read PATH`
@@ -144,7 +146,7 @@ abbrev pub aggregates_said : List ℕ → List (Option File) → SaidAction
 aggregates_said label named =
     if list_any (λ file. not (is_some file)) named then Refuse BadF
     else if list_any is_chip_file named then Refuse Inval
-    else Ask (DoAggregate label (padded 4 (slots_of named)) (length (slots_of named))) Silent
+    else Ask (DoAggregate label (padded JOINED_MAX (slots_of named)) (length (slots_of named))) Silent
 
 -- one row a statement; those of tools have none here
 abbrev pub action_said : Said → List File → ℕ → List Span → SaidAction
@@ -157,7 +159,7 @@ action_said (Read path) files slot words = reads_said (line_file path) path
 action_said (Clock mono real) files slot words = Ask (DoTick mono real) Silent
 action_said (Fault nth) files slot words = Ask (DoPlan nth) Silent
 action_said (Accept bits) files slot words = Ask (DoAccept bits) Silent
-action_said (Aggregate label) files slot words = aggregates_said label (files_named 4 (behind_two words) files)
+action_said (Aggregate label) files slot words = aggregates_said label (files_named JOINED_MAX (behind_two words) files)
 action_said (Pin chip what) files slot words = Ask (DoPin chip what) Silent
 action_said (Irq what chip offset) files slot words = Ask (DoIrq chip offset what) Silent
 action_said (Open name word) files slot words = opens_said (is_some (file_of name files)) slot name word
@@ -176,8 +178,12 @@ action_said (Start name) files slot words = Nothing
 action_said (Step name turns) files slot words = Nothing
 action_said (Stop name) files slot words = Nothing
 
--- A statement does what it says: its words are read as nothing else, and no default is taken in a word's place. What it asks, what it
--- prints of the result, and the names that it gives are the same.
+-- the same in its section
+abbrev pub action_said_here : Bool → Said → List File → ℕ → List Span → SaidAction
+action_said_here in_setup said files slot words = if is_out_of_place in_setup (Some (keyword_said said)) then Refuse Inval else action_said said files slot words
+
+-- A statement that is no tool's does what it says: its words are read as nothing else, and no default is taken in a word's place. What it
+-- asks, what it prints of the result, and the names that it gives are the same.
 abbrev pub StatementsAskWhatTheySay : Type 0
-StatementsAskWhatTheySay = (said : Said) (words : List Span) (files : List File) (names : Names) (slot : ℕ) → Spells words said
-    → acts (action_of (keyword_of (text_at 0 words)) files slot words) names slot words ≡ acts_said (action_said said files slot words) names slot words
+StatementsAskWhatTheySay = (said : Said) (words : List Span) (names : Names) (slot : ℕ) → Spells words said → kind_of (Some (keyword_said said)) ≡ Plain
+    → does names slot words ≡ acts_said (action_said_here names.in_setup said names.files slot words) names slot words

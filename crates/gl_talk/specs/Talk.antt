@@ -115,7 +115,7 @@ stops None (Some held) names words = then_by (stops_holding held) (keeps_set (te
 stops None None names words = refused BadF names
 
 abbrev pub does_by : StatementKind → Names → ℕ → List Span → Does
-does_by Plain names slot words = acts (action_here names slot words) names slot words
+does_by Plain names slot words = acts (action_here names.in_setup names.files slot words) names slot words
 does_by ToolAlone names slot words = runs (tool_said (word_texts words)) names slot words
 does_by Starting names slot words = starts (has_tool (text_at 1 words) names) names slot words
 does_by Stepping names slot words = steps (watched_of_name (text_at 1 words) names.monitors) (held_of_name (text_at 1 words) names.sets) names words

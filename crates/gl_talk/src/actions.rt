@@ -3,15 +3,13 @@
 //! An action has some 600 bytes, and a function begins by zeroing each value of that size that any of its branches makes. So a branch
 //! that makes an action is a function.
 
-ghost use Rattle.std.specs.Prelude.{◌≡◌, ◌*◌, ◌/◌, ◌<◌, ◌≤◌, ◌&&◌, not, map, is_some, Some, Ok, option_map, option_copied, IfOk, IfSome, IsOkUnless, true, false};
+ghost use Rattle.std.specs.Prelude.{◌≡◌, ◌*◌, ◌/◌, ◌<◌, ◌≤◌, map, is_some, Some, Ok, option_map, option_copied, IfOk, IfSome, IsOkUnless, true, false};
 ghost use Rattle.gl_base.specs.Words.{text_at};
 ghost use Rattle.gl_script.specs.Columns.{columns};
-ghost use Rattle.gl_script.specs.Cost.{is_aggregate};
-ghost use Rattle.gl_script.specs.Said.{keyword_said};
 ghost use Rattle.gl_script.specs.Table.{keyword_of};
 ghost use Rattle.gl_talk.specs.Open.{Names, file_in, file_of, is_chip, is_old_event, is_request};
 ghost use Rattle.gl_talk.specs.Paths.{line_file, live_device};
-ghost use Rattle.gl_talk.specs.Actions.{action_of, only_in_setup};
+ghost use Rattle.gl_talk.specs.Actions.{action_here, action_of, is_out_of_place};
 ghost use Rattle.gl_talk.specs.SaidActions.{action_said, asks_for_said, bytes_reply_said, closes_said, command_reply_said, ioctls_bytes_said, ioctls_said, is_command, lives_said, old_ioctls_bytes_said, old_ioctls_said, old_reply_said, opens_said, polls_said, read_if_said, reads_file_said, reads_said, reply_said, takes, writes_line_said, writes_said, writes_tree_said};
 ghost use Rattle.gl_talk.specs.SaidTalk.{acts_said};
 ghost use Rattle.gl_talk.specs.Talk.{acts};
@@ -85,8 +83,7 @@ pub fn action_here(
     line: &CopiedStatement,
 ) -> Result<SaidAction, Errno>
     ensures ok { (names : Names) → IfOk result (λ what.
-        acts (only_in_setup in_setup (keyword_of (text_at 0 (columns line.now))) (action_of (keyword_of (text_at 0 (columns line.now))) (map file_in files.now) slot (columns line.now))) names slot (columns line.now)
-        ≡ acts_said what names slot (columns line.now)) }
+        acts (action_here in_setup (map file_in files.now) slot (columns line.now)) names slot (columns line.now) ≡ acts_said what names slot (columns line.now)) }
     ensures memory_alone { IsOkUnless result Errno.NoMemory }
 {
     if is_out_of_place(in_setup, line) {
@@ -97,26 +94,9 @@ pub fn action_here(
 
 /// Whether a statement is an `aggregate` that stands in another section than `setup`.
 fn is_out_of_place(in_setup: bool, line: &CopiedStatement) -> bool
-    ensures { result ≡ (is_aggregate (keyword_of (text_at 0 (columns line.now))) && not in_setup) }
+    ensures { result ≡ is_out_of_place in_setup (keyword_of (text_at 0 (columns line.now))) }
 {
-    is_aggregate(line) && !in_setup
-}
-
-/// Whether a statement is an `aggregate`.
-fn is_aggregate(line: &CopiedStatement) -> bool
-    ensures { result ≡ is_aggregate (keyword_of (text_at 0 (columns line.now))) }
-{
-    match line.said() {
-        Some(said) => is_aggregate_said(&said),
-        None => false,
-    }
-}
-
-/// Whether what is said is that of one.
-fn is_aggregate_said(said: &Said) -> bool
-    ensures { result ≡ is_aggregate (Some (keyword_said said.now)) }
-{
-    matches!(said, Said::Aggregate { .. })
+    line.is_aggregate() && !in_setup
 }
 
 /// What a statement does first, wherever it stands: with it the statement does what its words say. `slot` is a slot of its own.

@@ -1,5 +1,9 @@
 //! The statement that is under way, in a copy of its own.
 ghost use Rattle.std.specs.Prelude.{◌≡◌, [], IfOk, IsOkUnless};
+ghost use Rattle.gl_base.specs.Words.{text_at};
+ghost use Rattle.gl_script.specs.Columns.{columns};
+ghost use Rattle.gl_script.specs.Cost.{is_aggregate};
+ghost use Rattle.gl_script.specs.Table.{keyword_of};
 ghost use Rattle.gl_talk.specs.Copied.{IsCopied};
 
 use gl_base::Errno;
@@ -53,6 +57,16 @@ impl CopiedStatement {
         ensures { result.now ≡ self.now }
     {
         &self.line
+    }
+
+    /// Whether it is an `aggregate`.
+    pub fn is_aggregate(&self) -> bool
+        ensures { result ≡ is_aggregate (keyword_of (text_at 0 (columns self.now))) }
+    {
+        match &self.said {
+            Some(said) => said.is_aggregate(),
+            None => false,
+        }
     }
 
     /// What it says.

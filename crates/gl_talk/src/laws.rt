@@ -78,8 +78,8 @@ pub fn talks_print_lines()
     ensures whole { TalksPrintLines }
 {}
 
-/// A statement that is no tool's does by its words what it does by what was read of them once: it asks the same, prints the same of
-/// the result, and gives the same names.
+/// A statement that is no tool's does by its words, in its section, what it does by what was read of them once: it asks the same, prints
+/// the same of the result, and gives the same names.
 pub fn statements_ask_what_they_say()
     ensures { StatementsAskWhatTheySay }
 {}

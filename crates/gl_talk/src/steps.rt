@@ -7,10 +7,9 @@ ghost use Rattle.gl_args.specs.Tools.{tool_said};
 ghost use Rattle.gl_script.specs.Table.{keyword_of};
 ghost use Rattle.gl_values.specs.Client.{client_left};
 ghost use Rattle.gl_talk.specs.Open.{with_file};
-ghost use Rattle.gl_talk.specs.Actions.{action_here};
 ghost use Rattle.gl_talk.specs.Replies.{fd_text};
 ghost use Rattle.gl_talk.specs.SaidTalk.{file_said, replied_said, told_said};
-ghost use Rattle.gl_talk.specs.Talk.{StaysBegun, StaysLeft, acts, closes_all, does, left, names_in, quits, refused, runs, shows, slot_in, words_in};
+ghost use Rattle.gl_talk.specs.Talk.{StaysBegun, StaysLeft, closes_all, does, does_by, left, names_in, quits, refused, runs, shows, slot_in, words_in};
 ghost use Rattle.gl_talk.specs.ToolWords.{word_texts};
 
 use crate::actions::{SaidAction, SaidFormat, action_here};
@@ -107,7 +106,7 @@ impl Talk {
     /// The first step of a statement that asks for one operation at most.
     fn start_plain(&mut self, alloc: Global, step: &mut Next) -> Result<(), Errno>
         requires { self.old.begun ≤ 2147483647 }
-        ensures goes { OnOk result (Goes (acts (action_here (names_in self.old) (slot_in self.old) (words_in self.old)) (names_in self.old) (slot_in self.old) (words_in self.old)) step.new (left self.new)) }
+        ensures goes { OnOk result (Goes (does_by StatementKind.Plain (names_in self.old) (slot_in self.old) (words_in self.old)) step.new (left self.new)) }
         ensures rests { OnOk result (MatchNext step.new (Unit {0}) (left self.new ≡ goes_on (done (names_in self.new)))) }
         ensures counted { OnOk result (self.new.begun ≡ self.old.begun) }
         ensures kept { OnErr result (self.new ≡ self.old) }

@@ -1,5 +1,5 @@
 -- What the program writes for a session: over the simulated driver, whose answers are planned, with an aggregator over it, and a new port for each actor.
-use Rattle.std.specs.Prelude.{◌≡◌, ℕ, Bool, true, false, nat_lt, List, [], length, Option, Some, IfSome}
+use Rattle.std.specs.Prelude.{◌≡◌, ℕ, Bool, true, false, nat_lt, List, length, Option, Some, IfSome}
 use Rattle.std.specs.Io.KnownBytes.{Appends}
 use Rattle.gl_base.specs.Rows.{Each}
 use Rattle.gl_base.specs.declared.op.Op.{Op}

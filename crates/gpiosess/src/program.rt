@@ -37,8 +37,8 @@ fn new_ports() -> [Option<AggPort<SimPort>>; 17]
 
 /// Carries out what the words ask for, over the simulated driver with an aggregator over it and a new port for each actor, and writes what comes of it.
 ///
-/// Without words a session is read from the source, and its text is written: of fewer than two actors that is one text, which the session
-/// alone decides. The words of a load write its four lines, which its number alone decides. The word `check` judges what the source has:
+/// Without words a session is read from the source, and its text is written: of fewer than two actors, without an `aggregate`, that is one text,
+/// which the session alone decides. The words of a load write its four lines, which its number alone decides. The word `check` judges what the source has:
 /// `yes` is written exactly where it is a lawful run. What else comes of words and streams, and when, is what `run` of `gl_session` says.
 pub fn carry_out<R: Threads + Wait + Sync, S: Source, K: Sink>(
     rt: &R,

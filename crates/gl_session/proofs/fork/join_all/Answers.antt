@@ -1,6 +1,7 @@
 use Rattle.std.proofs.Common.{◌∙◌, ◌≡◌, ◌<◌, ◌+◌, Some, ap, length, set, subst, arith}
 use Rattle.gl_gate.proofs.Grown.{begins_further}
 use Rattle.gl_session.specs.Workers.{AreDone}
+use Rattle.gl_session.proofs.Mapped.{joined_have}
 use Rattle.gl_session.proofs.Threads.{done_has, done_last, join_goes_on}
 use Rattle.gl_session.proofs.fork.join_all.Goals as goal
 use Rattle.gl_check.specs.Drivers.{driver_kind}
@@ -27,6 +28,8 @@ loop-done-preserved g c =
       joined = join_goes_on g.D.Port.Port.told c.args.device.now (driver_kind g.D.Driver.ENTRIES g.D.Driver.is_planned g.D.Driver.OwnEntries g.D.Driver.Follows) c.args.first.now.pass.view c.loop-done.first.pass.view c.join_one.new.first.pass.view c.args.all.items c.loop-done.all.items c.pop.new.self.items c.in-Some.done
           c.args.ports.now c.loop-done.ports c.join_one.new.ports c.loop-done.texts.items c.join_one.new.texts.items d.0 d.1 d.2 d.3 d.4 room i.joined c.in-Some.ensures.items j.0 j.1 j.2 t.0 t.1
           (c.in-Ok.ensures.ports ∙ ap (λ k. set c.loop-done.ports k (Some c.in-Some.done.0.port)) number);
+      maps = λ m have each. joined_have g.D.Port.Port.maps g.D.Port.Port.maps_left m c.loop-done.all.items c.pop.new.self.items c.in-Some.done c.loop-done.ports c.join_one.new.ports c.loop-done.texts.items c.join_one.new.texts.items _
+          c.in-Some.ensures.items c.in-Ok.ensures.ports t.1 (i.maps m have each);
     }
 
 pub returns-in-Err-clause-grows : goal.returns-in-Err-clause-grows

@@ -1,7 +1,7 @@
 use Rattle.std.proofs.Common.{◌∙◌, Some, ap}
 use Rattle.gl_session.specs.Ports.{maps_of}
 use Rattle.gl_session.proofs.Mapped.{others_have, with_one}
-use Rattle.gl_session.proofs.Threads.{split_begins, split_goes_on}
+use Rattle.gl_session.proofs.Threads.{split_goes_on}
 use Rattle.gl_session.proofs.fork.split_all.Goals as goal
 
 pub loop-n-preserved : goal.loop-n-preserved

@@ -15,6 +15,7 @@ use Rattle.gl_check.specs.Turns.{carried}
 use Rattle.gl_session.specs.Performed.{StoppedFull}
 use Rattle.gl_session.specs.Ports.{maps_of}
 use Rattle.gl_session.specs.Workers.{PlaysWhole}
+use Rattle.gl_session.proofs.Mapped.{if_ok}
 use Rattle.gl_session.proofs.Threads.{work_done}
 use Rattle.gl_session.proofs.WholeSections.{program_same, statements_few}
 use Rattle.gl_session.proofs.fork.work.Goals as goal
@@ -23,8 +24,8 @@ pub play_beside-text-requires-clause-few : goal.play_beside-text-requires-clause
 play_beside-text-requires-clause-few g c κs within =
     statements_few (sections_of c.args.common.now.script.now) _ _ _ _ (c.from.ensures ∙ c.number-number.ensures.number) c.requires.section.0 c.requires.section.1 c.actor_statements-statements.ensures c.requires.few
 
-pub returns : goal.returns
-returns g c =
+pub returns-clause-done : goal.returns-clause-done
+returns-clause-done g c =
     let t = g.D.Port.Port.told in
     let before = c.with_maps-player.ensures in
     let after = c.into_actor.ensures in
@@ -38,3 +39,9 @@ returns g c =
     (λ i. (before.view i, before.told i, sym after.view i, sym after.port i, maps i)) c.play_beside-text.ensures.played)
     (subst (λ (x : OneView × Option Told × OneView × Maps). IfErr c.play_beside-text.result (λ e. (e ≡ NoMemory) ⊎ ((e ≡ Full) × StoppedFull (driver_kind g.D.Driver.ENTRIES g.D.Driver.is_planned g.D.Driver.OwnEntries g.D.Driver.Follows) program x.0 (carried [] x.1 x.3) x.2)))
     (λ i. (before.view i, before.told i, sym after.view i, maps i)) c.play_beside-text.ensures.stopped)
+
+pub returns-clause-maps : goal.returns-clause-maps
+returns-clause-maps g c =
+    let of = maps_of g.D.Port.Port.maps g.D.Port.Port.maps_left in
+    if_ok c.play_beside-text.result (λ text. c.play_beside-text.new.player.carried.maps ≡ c.with_maps-player.result.carried.maps) (λ text. of c.into_actor.result.port ≡ of c.args.actor.port)
+    (λ text same. c.into_actor.ensures.maps ∙ same ∙ c.with_maps-player.ensures.maps) c.play_beside-text.ensures.maps

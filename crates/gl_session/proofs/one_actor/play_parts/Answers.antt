@@ -1,9 +1,10 @@
-use Rattle.std.proofs.Common.{◌≡◌, [], arith, refl, inl, inr, ⊎_elim}
+use Rattle.std.proofs.Common.{◌≡◌, ℕ, [], ap, arith, refl, sym, subst, ◌∙◌, inl, inr, ⊎_elim}
+use Rattle.gl_client.specs.Chips.{AsksNoChips}
 use Rattle.gl_client.specs.Program.{done}
 use Rattle.gl_script.specs.Script.{sections_of}
 use Rattle.gl_script.specs.declared.section.SectionKind.TheVariants.{After, Setup}
-use Rattle.gl_talk.specs.Open.{left_setup, setup_names}
-use Rattle.gl_talk.specs.Talk.{names_in, quits}
+use Rattle.gl_talk.specs.Open.{Names, left_setup, setup_names}
+use Rattle.gl_talk.specs.Talk.{names_in, quits, says}
 use Rattle.gl_check.specs.Drivers.{driver_kind, over}
 use Rattle.gl_check.specs.Joining.{no_maps}
 use Rattle.gl_check.specs.Programs.{after_of, setup_of}
@@ -11,6 +12,8 @@ use Rattle.gl_check.specs.One.{said_in_kind}
 use Rattle.gl_session.specs.OneActor.{count_in_kind}
 use Rattle.gl_session.specs.Performed.{PlaysOn, StoppedFull}
 use Rattle.gl_check.specs.Turns.{carried}
+use Rattle.gl_session.proofs.NoChips.{actor_asks_none, asks_none, turns_stay}
+use Rattle.gl_session.proofs.OutsideSetup.{ends_outside}
 use Rattle.gl_session.proofs.Sections.{begins_so, stops_so}
 use Rattle.gl_session.proofs.Taught.{by_turns, learned_first}
 use Rattle.gl_session.proofs.Whole.{has_played, stops_in_actor, stops_in_after, stops_in_setup}
@@ -71,3 +74,14 @@ returns-in-Ok-play_to_end-clause-learned g c =
     let setup = by_turns _ _ left _ _ c.in-Ok.ensures.played.turns _ _ c.in-Ok.ensures.played.follows (learned_first _ c.requires.bare) in
     let actor = by_turns _ _ left _ _ c.in-Ok-play_actor.ensures.played.2.turns _ _ c.in-Ok-play_actor.ensures.played.2.follows setup in
     by_turns _ _ left _ _ c.in-Ok-play_to_end.ensures.played.turns _ _ c.in-Ok-play_to_end.ensures.played.follows actor
+
+pub returns-in-Ok-play_to_end-clause-without : goal.returns-in-Ok-play_to_end-clause-without
+returns-in-Ok-play_to_end-clause-without g c = λ without.
+    let sections = sections_of c.args.script.now in
+    let setup_none : AsksNoChips (says c.args.talk.now.begun (said_in_kind Setup (sections_of c.args.script.now)) (λ names. done names) (names_in c.args.talk.now))
+    = subst (λ (x : ℕ × Names). AsksNoChips (says x.0 (said_in_kind Setup (sections_of c.args.script.now)) (λ names. done names) x.1)) (λ i. (sym c.requires.talk.1 i, sym c.requires.talk.0 i)) (asks_none sections without).setup in
+    let after_none : AsksNoChips (says c.leave_setup.new.self.begun (said_in_kind After (sections_of c.args.script.now)) quits (names_in c.leave_setup.new.self))
+    = ends_outside c.leave_setup.new.self.begun (said_in_kind After (sections_of c.args.script.now)) (names_in c.leave_setup.new.self) (ap (λ (names : Names). names.in_setup) c.leave_setup.ensures.names) in
+    (turns_stay _ _ _ _ c.in-Ok-play_to_end.ensures.played.turns _ _ after_none c.in-Ok-play_to_end.ensures.played.follows).1
+    ∙ (turns_stay _ _ _ _ c.in-Ok-play_actor.ensures.played.2.turns _ _ (actor_asks_none sections) c.in-Ok-play_actor.ensures.played.2.follows).1
+    ∙ (turns_stay _ _ _ _ c.in-Ok.ensures.played.turns _ _ setup_none c.in-Ok.ensures.played.follows).1

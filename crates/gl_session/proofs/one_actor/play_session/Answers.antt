@@ -1,4 +1,4 @@
-use Rattle.std.proofs.Common.{ℕ, List, Option, ⊎_elim, ap, subst, sym}
+use Rattle.std.proofs.Common.{ℕ, List, Option, ⊎_elim, ap, subst, sym, ◌∙◌}
 use Rattle.gl_driver.specs.Told.{Told}
 use Rattle.gl_script.specs.Script.{sections_of}
 use Rattle.gl_chip.specs.Values.{OneView}
@@ -21,3 +21,6 @@ returns-in-Ok-clause-memory_alone g c =
 
 pub returns-in-Ok-play_parts-clause-learned : goal.returns-in-Ok-play_parts-clause-learned
 returns-in-Ok-play_parts-clause-learned g c = subst (λ (k : Carried). HasLearnedThem c.args.player.now.carried.maps.left k.maps) (sym c.take_text.ensures.carried) c.in-Ok-play_parts.ensures.learned
+
+pub returns-in-Ok-play_parts-clause-without : goal.returns-in-Ok-play_parts-clause-without
+returns-in-Ok-play_parts-clause-without g c = λ without. ap (λ (k : Carried). k.maps) c.take_text.ensures.carried ∙ c.in-Ok-play_parts.ensures.without without

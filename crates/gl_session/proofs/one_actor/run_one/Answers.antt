@@ -1,6 +1,5 @@
-use Rattle.std.proofs.Common.{◌≡◌, ℕ, [], Option, ap, length, rules, subst, sym, ◌∙◌, List}
+use Rattle.std.proofs.Common.{◌≡◌, ℕ, [], Option, ap, length, rules, subst, sym, ◌∙◌}
 use Rattle.gl_driver.specs.Told.{Told}
-use Rattle.gl_driver.specs.declared.map.Map.{Map}
 use Rattle.gl_rule.specs.Views.{newcomer}
 use Rattle.gl_script.specs.Script.{sections_of}
 use Rattle.gl_chip.specs.Values.{OneView}
@@ -44,3 +43,7 @@ returns-in-Ok-play_session-clause-maps g c =
       ap (maps_of g.D.Port.Port.maps g.D.Port.Port.maps_left) c.finish-machine.ensures.port ∙ c.into_parts-actor.ensures.maps ∙ c.in-Ok-play_session.ensures.learned
           ∙ (λ i. taught (sym c.into_parts-actor.ensures.kept i) (no_maps (left i))),
     )
+
+pub returns-in-Ok-play_session-clause-without : goal.returns-in-Ok-play_session-clause-without
+returns-in-Ok-play_session-clause-without g c = λ without.
+    c.into_parts-actor.ensures.kept ∙ ap (λ (m : Maps). m.kept) (c.in-Ok-play_session.ensures.without without ∙ c.new-player.ensures.maps) ∙ ap g.D.Port.Port.maps c.in-Ok.ensures.port ∙ c.requires.bare

@@ -8,6 +8,7 @@ use Rattle.gl_session.proofs.Causes.{as_lent, if_ran, if_session, if_refused, if
 use Rattle.gl_session.proofs.Taught.{none_learn}
 use Rattle.gl_session.proofs.session.run_session.Goals as goal
 use Rattle.gl_check.specs.Drivers.{driver_kind, over}
+use Rattle.gl_check.specs.Joining.{no_maps}
 
 pub returns-in-Ok-clause-output : goal.returns-in-Ok-clause-output
 returns-in-Ok-clause-output g c = λ e.
@@ -43,4 +44,4 @@ returns-in-Ok-clause-refused_bytes_ports g c = λ some. if_faulty _ _ _ _ (as_le
 
 pub returns-in-Err-Fault-clause-other_ports : goal.returns-in-Err-Fault-clause-other_ports
 returns-in-Err-Fault-clause-other_ports g c = λ some.
-    if_any (g.S.Source.left c.args.source.now) _ (λ input sections said. none_learn g.D.Port.Port.maps g.D.Port.Port.maps_left g.D.Port.Port.told g.D.Port.Port.faults (further_actors sections) sections c.args.ports.now)
+    if_any (g.S.Source.left c.args.source.now) _ (λ input sections said. none_learn g.D.Port.Port.maps g.D.Port.Port.maps_left g.D.Port.Port.told g.D.Port.Port.faults (further_actors sections) sections (no_maps (left_at g.D.Port.Port.maps_left c.args.ports.now 0)) c.args.ports.now c.requires.bare)

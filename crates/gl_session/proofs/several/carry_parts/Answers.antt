@@ -1,4 +1,4 @@
-use Rattle.std.proofs.Common.{◌≡◌, ◌<◌, ℕ, [], List, Option, arith, inl, inr, ⊎_elim, refl, sym, ap, subst, ◌∙◌, length}
+use Rattle.std.proofs.Common.{◌≡◌, ℕ, [], Option, arith, inl, inr, ⊎_elim, refl, sym, ap, subst, ◌∙◌}
 use Rattle.std.specs.Prelude.{slice_get}
 use Rattle.gl_client.specs.Program.{done}
 use Rattle.gl_driver.specs.Told.{Told}
@@ -18,6 +18,7 @@ use Rattle.gl_session.specs.Ports.{AllHave, IsTaught}
 use Rattle.gl_session.proofs.NoRoom.{full_at_fork, full_in_after, full_in_setup}
 use Rattle.gl_session.proofs.Plays.{text_taken}
 use Rattle.gl_session.proofs.NoChips.{asks_none, turns_stay}
+use Rattle.gl_session.proofs.OutsideSetup.{ends_outside}
 use Rattle.gl_session.proofs.Sections.{begins_so, stops_so}
 use Rattle.gl_session.proofs.Taught.{all_have_taught, by_turns, learned_first, taught_none, taught_there, taught_told}
 use Rattle.gl_session.proofs.several.carry_parts.Goals as goal
@@ -111,11 +112,22 @@ fork-requires-clause-there g c κs within = λ n low less. let len = c.teach_all
     taught_there g.D.Port.Port.maps g.D.Port.Port.maps_left g.D.Port.Port.told g.D.Port.Port.faults c.maps.result.now _ _ (c.teach_all.ensures.taught n) ∙ c.requires.there n low (omega arith)
 
 pub returns-in-Ok-play_to_end-clause-others : goal.returns-in-Ok-play_to_end-clause-others
-returns-in-Ok-play_to_end-clause-others g c = record {
-  taught_maps = c.maps.result.now;
-  learned = λ n far. subst (λ o. IsTaught g.D.Port.Port.maps g.D.Port.Port.maps_left g.D.Port.Port.told g.D.Port.Port.faults c.maps.result.now (slice_get c.args.ports.now n) o) (sym (c.in-Ok-fork.ensures.forked.others n far)) (c.teach_all.ensures.taught n);
-  stay = λ without n far.
-      let none : c.maps.result.now ≡ [] = c.maps.ensures.kept ∙ ap (λ k. k.maps.kept) c.take_text-setup.ensures.carried
-      ∙ ap (λ (m : Maps). m.kept) ((turns_stay _ _ _ _ c.in-Ok.ensures.played.turns _ _ (subst (λ (x : ℕ × Names). AsksNoChips (says x.0 (said_in_kind Setup (sections_of c.args.script.now)) (λ names. done names) x.1)) (λ i. (sym c.requires.talk.1 i, sym c.requires.talk.0 i)) (asks_none (sections_of c.args.script.now) without).setup) c.in-Ok.ensures.played.follows).1 ∙ c.requires.maps) in
-      c.in-Ok-fork.ensures.forked.others n far ∙ taught_none g.D.Port.Port.maps g.D.Port.Port.maps_left g.D.Port.Port.told g.D.Port.Port.faults c.maps.result.now none _ _ (c.teach_all.ensures.taught n);
-}
+returns-in-Ok-play_to_end-clause-others g c =
+    let m = c.args.first.now.carried.maps in
+    let waiting = c.take_text-setup.new.self.carried.maps in
+    let learned = by_turns _ _ m.left _ _ c.in-Ok.ensures.played.turns _ _ c.in-Ok.ensures.played.follows (learned_first m c.requires.maps) in
+    let same : taught c.maps.result.now m ≡ waiting =
+    (λ i. taught ((c.maps.ensures.kept ∙ ap (λ k. k.maps.kept) c.take_text-setup.ensures.carried) i) (c.requires.maps i)) ∙ sym learned ∙ ap (λ k. k.maps) (sym c.take_text-setup.ensures.carried) in
+    let after_none : AsksNoChips (says c.leave_setup.new.self.begun (said_in_kind After (sections_of c.args.script.now)) quits (names_in c.leave_setup.new.self))
+    = ends_outside c.leave_setup.new.self.begun (said_in_kind After (sections_of c.args.script.now)) (names_in c.leave_setup.new.self) (ap (λ (names : Names). names.in_setup) c.leave_setup.ensures.names) in (
+      record {
+        taught_maps = c.maps.result.now;
+        all_have = subst (λ (x : Maps). AllHave g.D.Port.Port.maps g.D.Port.Port.maps_left x c.fork.new.ports) (sym same) c.in-Ok-fork.ensures.ports_maps;
+        learned = λ n far. subst (λ o. IsTaught g.D.Port.Port.maps g.D.Port.Port.maps_left g.D.Port.Port.told g.D.Port.Port.faults c.maps.result.now (slice_get c.args.ports.now n) o) (sym (c.in-Ok-fork.ensures.forked.others n far)) (c.teach_all.ensures.taught n);
+        stay = λ without n far.
+            let none : c.maps.result.now ≡ [] = c.maps.ensures.kept ∙ ap (λ k. k.maps.kept) c.take_text-setup.ensures.carried
+            ∙ ap (λ (m : Maps). m.kept) ((turns_stay _ _ _ _ c.in-Ok.ensures.played.turns _ _ (subst (λ (x : ℕ × Names). AsksNoChips (says x.0 (said_in_kind Setup (sections_of c.args.script.now)) (λ names. done names) x.1)) (λ i. (sym c.requires.talk.1 i, sym c.requires.talk.0 i)) (asks_none (sections_of c.args.script.now) without).setup) c.in-Ok.ensures.played.follows).1 ∙ c.requires.maps) in
+            c.in-Ok-fork.ensures.forked.others n far ∙ taught_none g.D.Port.Port.maps g.D.Port.Port.maps_left g.D.Port.Port.told g.D.Port.Port.faults c.maps.result.now none _ _ (c.teach_all.ensures.taught n);
+      },
+      ap (λ k. k.maps) c.take_text-last.ensures.carried ∙ (turns_stay _ _ _ _ c.in-Ok-play_to_end.ensures.played.turns _ _ after_none c.in-Ok-play_to_end.ensures.played.follows).1 ∙ c.fork.ensures.maps ∙ sym same,
+    )

@@ -1,5 +1,5 @@
 use Rattle.std.proofs.Common.{◌≡◌, ◌⊎◌, ap, sym, ◌∙◌, subst}
-use Rattle.std.specs.Prelude.{IfOk, IfErr, length}
+use Rattle.std.specs.Prelude.{IfOk, IfErr, OnOk, length}
 use Rattle.gl_base.specs.declared.errno.Errno.TheVariants.{NoMemory}
 use Rattle.gl_script.specs.Script.{sections_of}
 use Rattle.gl_check.specs.Drivers.{driver_kind}
@@ -49,3 +49,7 @@ returns-clause-stopped g c =
     let t = g.D.Port.Port.told in
     subst (λ (p : Playing). IfErr c.work_beside.result (λ e. (e ≡ NoMemory) ⊎ HasForkedFull (driver_kind g.D.Driver.ENTRIES g.D.Driver.is_planned g.D.Driver.OwnEntries g.D.Driver.Follows) p.carried.maps (program_of (sections_of c.args.script.now)) (told_at t c.args.ports.now) (length (actor_sections (sections_of c.args.script.now)))
     p.view c.work_beside.new.first.pass.view)) c.first.view_is c.work_beside.ensures.stopped
+
+pub returns-clause-ports_maps : goal.returns-clause-ports_maps
+returns-clause-ports_maps g c =
+    subst (λ (p : Playing). OnOk c.work_beside.result (AllHave g.D.Port.Port.maps g.D.Port.Port.maps_left p.carried.maps c.work_beside.new.ports)) c.first.view_is c.work_beside.ensures.ports_maps

@@ -6,7 +6,8 @@ use Rattle.gl_script.specs.Script.{sections_of}
 use Rattle.gl_chip.specs.Values.{OneView}
 use Rattle.gl_session.specs.Several.{texts_of}
 use Rattle.gl_session.specs.Workers.{CannotEnd, HasCarriedOut}
-use Rattle.gl_session.specs.Ports.{AllHave, left_at, left_found, maps_of}
+use Rattle.gl_check.specs.Many.{actor_sections}
+use Rattle.gl_session.specs.Ports.{AllHave, LearnAbove, left_at, left_found, maps_of}
 use Rattle.gl_session.proofs.Mapped.{others_have}
 use Rattle.gl_session.proofs.Taught.{bare_maps}
 use Rattle.gl_session.proofs.AllTogether.{all_there, came, first_there, others_learn, taken_there}
@@ -39,8 +40,14 @@ returns-in-Ok-carry_out-clause-there g c =
 pub returns-in-Ok-carry_out-clause-others : goal.returns-in-Ok-carry_out-clause-others
 returns-in-Ok-carry_out-clause-others g c =
     let some : 0 < length c.args.ports.now = (let n = c.requires.ports.count in omega arith) in
-    others_learn g.D.Port.Port.told (over 0 (driver_kind g.D.Driver.ENTRIES g.D.Driver.is_planned g.D.Driver.OwnEntries g.D.Driver.Follows)) (sections_of c.args.script.now) c.args.ports.now c.take_port.new.ports c.carry_out.new.ports c.give_port.new.ports c.in-Some.port c.finish-machine.result.2 some
-    (c.take_port.ensures.taken ∙ ap Some c.in-Some.is) c.take_port.ensures.left c.give_port.ensures g.D.Port.Port.maps g.D.Port.Port.maps_left g.D.Port.Port.faults _ c.in-Ok-carry_out.ensures.others
+    let m = c.new-first.result.carried.maps in
+    let learned = c.in-Ok-carry_out.ensures.others in
+    let bare : m ≡ no_maps (left_at g.D.Port.Port.maps_left c.args.ports.now 0) =
+    c.new-first.ensures.maps ∙ ap (maps_of g.D.Port.Port.maps g.D.Port.Port.maps_left) c.in-Ok.ensures.port ∙ c.requires.bare 0 c.in-Some.port (c.take_port.ensures.taken ∙ ap Some c.in-Some.is) in
+    subst (λ (k : Maps). LearnAbove g.D.Port.Port.maps g.D.Port.Port.maps_left g.D.Port.Port.told g.D.Port.Port.faults (length (actor_sections (sections_of c.args.script.now))) (sections_of c.args.script.now) k c.args.ports.now c.give_port.new.ports) bare
+    (others_learn g.D.Port.Port.told (over 0 (driver_kind g.D.Driver.ENTRIES g.D.Driver.is_planned g.D.Driver.OwnEntries g.D.Driver.Follows)) (sections_of c.args.script.now) c.args.ports.now c.take_port.new.ports c.carry_out.new.ports c.give_port.new.ports c.in-Some.port c.finish-machine.result.2 some
+    (c.take_port.ensures.taken ∙ ap Some c.in-Some.is) c.take_port.ensures.left c.give_port.ensures g.D.Port.Port.maps g.D.Port.Port.maps_left g.D.Port.Port.faults _ m learned.0
+    (ap (maps_of g.D.Port.Port.maps g.D.Port.Port.maps_left) c.finish-machine.ensures.port ∙ c.into_actor-actor.ensures.maps ∙ learned.1))
 
 pub new-first-requires-clause-bare : goal.new-first-requires-clause-bare
 new-first-requires-clause-bare g c κs within =

@@ -1,4 +1,4 @@
-use Rattle.std.proofs.Common.{◌≡◌, ℕ, List, Result, length, map, Ok, ap, sym, subst, ◌∙◌, inr, ⊎_elim, inl, arith}
+use Rattle.std.proofs.Common.{◌≡◌, ℕ, List, Result, length, map, Ok, ap, subst, ◌∙◌, inr, ⊎_elim, inl, arith}
 use Rattle.std.specs.Prelude.{vec_len}
 use Rattle.std.proofs.lemmas.List.{length-map}
 use Rattle.gl_base.specs.declared.errno.Errno.{Errno}
@@ -92,3 +92,8 @@ returns-in-Ok-all_printed-clause-grows g c = subst (λ seen. StartsWith c.join_a
 
 pub returns-in-Err-all_printed-clause-grows : goal.returns-in-Err-all_printed-clause-grows
 returns-in-Err-all_printed-clause-grows g c = subst (λ seen. StartsWith c.join_all.new.first.pass.view.seen seen) c.split_all.ensures.seen c.join_all.ensures.grows
+
+pub returns-in-Ok-all_printed-clause-ports_maps : goal.returns-in-Ok-all_printed-clause-ports_maps
+returns-in-Ok-all_printed-clause-ports_maps g c =
+    let m = maps_of g.D.Port.Port.maps g.D.Port.Port.maps_left c.args.first.now.port in
+    c.in-Ok-join_all.ensures.maps m (c.in-Ok.ensures.maps_left m c.requires.others) (c.in-Ok-work_all.ensures.maps m (c.in-Ok.ensures.maps m c.requires.others)) c.in-Ok-all_printed.texts.items c.in-Ok-all_printed.ensures.printed

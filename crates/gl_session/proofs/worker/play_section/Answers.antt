@@ -1,13 +1,17 @@
 use Rattle.std.proofs.Common.{ap, inl, inr, map, sym, subst, ⊎_elim, None, Option, List, ℕ, ◌∙◌}
-use Rattle.gl_client.specs.Program.{given}
-use Rattle.gl_talk.specs.Open.{no_names}
+use Rattle.gl_client.specs.Chips.{AsksNoChips}
+use Rattle.gl_client.specs.Program.{Program, done, given}
+use Rattle.gl_talk.specs.Open.{Names, no_names}
 use Rattle.gl_talk.specs.Over.{columns_in}
-use Rattle.gl_talk.specs.Talk.{talks}
+use Rattle.gl_talk.specs.Talk.{left, names_in, says, talks}
+use Rattle.gl_talk.proofs.TalkChips.{end_none}
 use Rattle.gl_driver.specs.Told.{Told}
 use Rattle.gl_chip.specs.Values.{OneView}
 use Rattle.gl_check.specs.Drivers.{driver_kind}
 use Rattle.gl_check.specs.Turns.{Carried}
 use Rattle.gl_session.specs.Workers.{PlaysWhole}
+use Rattle.gl_session.proofs.NoChips.{turns_stay}
+use Rattle.gl_session.proofs.OutsideSetup.{outside_none}
 use Rattle.gl_session.proofs.WholeSections.{plays_whole, stops_among_them, stops_behind_them}
 use Rattle.gl_session.proofs.worker.play_section.Goals as goal
 
@@ -35,3 +39,11 @@ returns-clause-stopped g c =
       stops_behind_them _ (map columns_in c.args.statements.now) _ _ c.args.player.now.carried.told c.args.player.now.carried.maps _ _ c.args.player.now.carried.files new.1 new.0 c.requires.new.0 _ c.play_all.new.player.carried.told c.play_all.new.player.carried.maps c.play_all.new.player.carried.files _ _ _ _ (ap (λ l. given l None) c.quit.ensures.quits) c.in-Ok-play_all.ensures.played full.1,
     ))
     c.in-Err-play.ensures.stopped
+
+pub returns-in-Ok-play-clause-maps : goal.returns-in-Ok-play-clause-maps
+returns-in-Ok-play-clause-maps g c =
+    let closing_none : AsksNoChips (given (left c.quit.new.self) None) = subst (λ (p : Program Names). AsksNoChips p) (sym (ap (λ l. given l None) c.quit.ensures.quits)) (end_none (names_in c.play_all.new.talk)) in
+    let none : AsksNoChips (says c.in-Ok.talk.begun (map columns_in c.args.statements.now) (λ names. done names) (names_in c.in-Ok.talk))
+    = outside_none c.in-Ok.talk.begun (map columns_in c.args.statements.now) (λ names. done names) (λ names out. tt) (names_in c.in-Ok.talk) (ap (λ (names : Names). names.in_setup) c.in-Ok.ensures.ok.0) in
+    ap (λ (k : Carried). k.maps) c.take_text.ensures.carried ∙ (turns_stay _ _ _ _ c.in-Ok-play.ensures.played.turns _ _ closing_none c.in-Ok-play.ensures.played.follows).1
+    ∙ (turns_stay _ _ _ _ c.in-Ok-play_all.ensures.played.turns _ _ none c.in-Ok-play_all.ensures.played.follows).1

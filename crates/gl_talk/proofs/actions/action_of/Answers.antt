@@ -6,14 +6,14 @@ use Rattle.gl_talk.specs.Open.{file_in}
 use Rattle.gl_talk.specs.SaidTalk.{acts_said}
 use Rattle.gl_talk.specs.Talk.{acts}
 use Rattle.gl_talk.proofs.Continuing.{if_ok}
-use Rattle.gl_talk.proofs.TypedActions.{nothing_asked, statements_ask_what_they_say}
+use Rattle.gl_talk.proofs.TypedActions.{nothing_asked, asks_what_it_says}
 use Rattle.gl_talk.proofs.actions.action_of.Goals as goal
 
 pub returns-in-Some-clause-ok : goal.returns-in-Some-clause-ok
 returns-in-Some-clause-ok c = λ names.
     let words = columns c.args.line.now in
     if_ok c.action_said.result _ _
-    (λ what is. statements_ask_what_they_say c.in-Some.said words (map file_in c.args.files.now) names c.args.slot c.in-Some.ensures ∙ sym (ap (λ (a : SaidAction). acts_said a names c.args.slot words) is))
+    (λ what is. asks_what_it_says c.in-Some.said words (map file_in c.args.files.now) names c.args.slot c.in-Some.ensures ∙ sym (ap (λ (a : SaidAction). acts_said a names c.args.slot words) is))
     c.action_said.ensures.ok
 
 pub returns-in-None-clause-ok : goal.returns-in-None-clause-ok

@@ -1,4 +1,4 @@
-use Rattle.std.proofs.Common.{rules, ◌≡◌, ℕ, List, None, Some, take, refl, sym, ap, ◌∙◌, subst}
+use Rattle.std.proofs.Common.{rules, ◌≡◌, ℕ, List, None, take, refl, sym, ap, ◌∙◌, subst}
 use Rattle.std.specs.Prelude.{OnOk}
 use Rattle.std.specs.List.{list_any}
 use Rattle.gl_base.specs.declared.kind.Kind.TheVariants.{Remote}
@@ -31,7 +31,7 @@ pub keep_map-requires-clause-apart : goal.keep_map-requires-clause-apart
 keep_map-requires-clause-apart g c κs within =
     let asked : List ℕ = take c.args.count c.args.slots.now in
     let targets : c.in_slots-targets.result ≡ targets_in asked c.args.self.now.carried.files = c.in_slots-targets.ensures ∙ ap (λ (files : List OpenFile). targets_in asked files) c.files.ensures.files in
-    let reply : c.in-Ok.answered.reply ≡ Number c.in-Number.place = c.in-Number.is in
+    let reply : c.in-Ok.answer.answered.reply ≡ Number c.in-Number.place = sym c.reply.ensures ∙ c.in-Number.is in
     let made = c.in-Ok.ensures.made in
     let called : HasCalled g.D.Driver.ENTRIES c.args.self.now.view (Once (Probe c.args.label.now c.line_count.result Remote)) (Number c.in-Number.place) made.0 c.make.new.self.view =
     subst (λ (x : DeviceCall × Reply). HasCalled g.D.Driver.ENTRIES c.args.self.now.view x.0 x.1 made.0 c.make.new.self.view) (λ i. (c.of-order.ensures.call i, reply i)) made.2.called in
@@ -41,7 +41,7 @@ keep_map-requires-clause-apart g c κs within =
 
 pub keep_map-requires-clause-new : goal.keep_map-requires-clause-new
 keep_map-requires-clause-new g c κs within =
-    let reply : c.in-Ok.answered.reply ≡ Number c.in-Number.place = c.in-Number.is in
+    let reply : c.in-Ok.answer.answered.reply ≡ Number c.in-Number.place = sym c.reply.ensures ∙ c.in-Number.is in
     let made = c.in-Ok.ensures.made in
     let called : HasCalled g.D.Driver.ENTRIES c.args.self.now.view (Once (Probe c.args.label.now c.line_count.result Remote)) (Number c.in-Number.place) made.0 c.make.new.self.view =
     subst (λ (x : DeviceCall × Reply). HasCalled g.D.Driver.ENTRIES c.args.self.now.view x.0 x.1 made.0 c.make.new.self.view) (λ i. (c.of-order.ensures.call i, reply i)) made.2.called in
@@ -50,7 +50,7 @@ keep_map-requires-clause-new g c κs within =
 
 pub keep_map-requires-clause-placed : goal.keep_map-requires-clause-placed
 keep_map-requires-clause-placed g c κs within =
-    let reply : c.in-Ok.answered.reply ≡ Number c.in-Number.place = c.in-Number.is in
+    let reply : c.in-Ok.answer.answered.reply ≡ Number c.in-Number.place = sym c.reply.ensures ∙ c.in-Number.is in
     let made = c.in-Ok.ensures.made in
     let called : HasCalled g.D.Driver.ENTRIES c.args.self.now.view (Once (Probe c.args.label.now c.line_count.result Remote)) (Number c.in-Number.place) made.0 c.make.new.self.view =
     subst (λ (x : DeviceCall × Reply). HasCalled g.D.Driver.ENTRIES c.args.self.now.view x.0 x.1 made.0 c.make.new.self.view) (λ i. (c.of-order.ensures.call i, reply i)) made.2.called in
@@ -67,7 +67,7 @@ returns-in-Number-clause-performs g c =
     let call : c.of-order.result.call ≡ Once (Probe c.args.label.now (line_count (targets_in asked c.args.self.now.carried.files)) Remote) =
     c.of-order.ensures.call ∙ ap (λ (n : ℕ). Once (Probe c.args.label.now n Remote)) (c.line_count.ensures ∙ ap (λ (l : List Target). line_count l) targets) in
     let made = c.in-Ok.ensures.made in
-    let reply : c.in-Ok.answered.reply ≡ Number c.in-Number.place = c.in-Number.is in
+    let reply : c.in-Ok.answer.answered.reply ≡ Number c.in-Number.place = sym c.reply.ensures ∙ c.in-Number.is in
     keep_joins (driver_kind g.D.Driver.ENTRIES g.D.Driver.is_planned g.D.Driver.OwnEntries g.D.Driver.Follows) c.args.label.now c.args.slots.now c.args.count c.args.self.now.view c.keep_map.new.self.view c.args.self.now.carried c.keep_map.new.self.carried c.of-order.result.on c.in-Number.place made.0 c.keep_map.result
     c.make.new.self.view c.make.new.self.carried none
     (subst (λ (x : DeviceCall × Reply). MadeFor (driver_kind g.D.Driver.ENTRIES g.D.Driver.is_planned g.D.Driver.OwnEntries g.D.Driver.Follows) c.args.self.now.carried.maps x.0 c.of-order.result.on c.args.self.now.view x.1 made.0 c.make.new.self.view c.args.self.now.carried.told c.make.new.self.carried.told) (λ i. (call i, reply i)) made.2)
@@ -85,7 +85,7 @@ returns-in-Refused-clause-performs g c =
     let call : c.of-order.result.call ≡ Once (Probe c.args.label.now (line_count (targets_in asked c.args.self.now.carried.files)) Remote) =
     c.of-order.ensures.call ∙ ap (λ (n : ℕ). Once (Probe c.args.label.now n Remote)) (c.line_count.ensures ∙ ap (λ (l : List Target). line_count l) targets) in
     let made = c.in-Ok.ensures.made in
-    let reply : c.in-Ok.answered.reply ≡ Refused c.in-Refused.errno = c.in-Refused.is in
+    let reply : c.in-Ok.answer.answered.reply ≡ Refused c.in-Refused.errno = sym c.reply.ensures ∙ c.in-Refused.is in
     probe_joins (driver_kind g.D.Driver.ENTRIES g.D.Driver.is_planned g.D.Driver.OwnEntries g.D.Driver.Follows) c.args.label.now c.args.slots.now c.args.count c.args.self.now.view c.make.new.self.view c.args.self.now.carried c.make.new.self.carried c.of-order.result.on (Refused c.in-Refused.errno) made.0 (GotRefused c.in-Refused.errno) none
     (subst (λ (x : DeviceCall × Reply). MadeFor (driver_kind g.D.Driver.ENTRIES g.D.Driver.is_planned g.D.Driver.OwnEntries g.D.Driver.Follows) c.args.self.now.carried.maps x.0 c.of-order.result.on c.args.self.now.view x.1 made.0 c.make.new.self.view c.args.self.now.carried.told c.make.new.self.carried.told) (λ i. (call i, reply i)) made.2)
     c.make.ensures.files c.make.ensures.maps refl

@@ -20,19 +20,19 @@ returns-clause-made g c =
     let law : FollowsPlan g.D.Driver.is_planned g.D.Driver.Follows = (g.met.D.Driver g.world.𝓛 g.world.𝓜 g.world.𝓡 ((λ s x. x), (λ x. x), (λ x. x), λ x. x)).follows_plan in
     let call = c.args.order.now.call in let on = c.args.order.now.on in
     subst (λ (p : Playing). IfOk c.call.result (λ r. (bytes : List ℕ) × WroteTo call bytes c.args.out.now c.call.new.out
-    × MadeFor (driver_kind g.D.Driver.ENTRIES g.D.Driver.is_planned g.D.Driver.OwnEntries g.D.Driver.Follows) p.carried.maps call on p.view r.reply bytes c.call.new.actor.pass.view p.carried.told (g.D.Port.Port.told c.call.new.actor.port)))
+    × MadeFor (driver_kind g.D.Driver.ENTRIES g.D.Driver.is_planned g.D.Driver.OwnEntries g.D.Driver.Follows) p.carried.maps call on p.view r.answered.reply bytes c.call.new.actor.pass.view p.carried.told (g.D.Port.Port.told c.call.new.actor.port)))
     c.self.view_is
     (if_ok c.call.result _ _ (λ r h. (
       h.0,
       h.1,
       done_made g.D.Port.Port.told g.D.Port.Port.faults g.D.Port.Port.maps g.D.Port.Port.maps_left g.D.Driver.OwnEntries g.D.Driver.Follows g.D.Driver.ENTRIES g.D.Driver.is_planned law c.requires.none
-          call on c.self.inside.actor c.call.new.actor r.reply h.0 h.2,
+          call on c.self.inside.actor c.call.new.actor r.answered.reply h.0 h.2,
     )) c.call.ensures.done)
 
 pub returns-clause-maps : goal.returns-clause-maps
 returns-clause-maps g c =
     maps_stay (maps_of g.D.Port.Port.maps g.D.Port.Port.maps_left) c.call.result c.self.inside.actor c.call.new.actor _
-    (λ r h. done_maps g.D.Port.Port.told g.D.Port.Port.faults g.D.Port.Port.maps g.D.Port.Port.maps_left g.D.Driver.OwnEntries g.D.Driver.Follows g.D.Driver.ENTRIES c.args.order.now.call c.args.order.now.on c.self.inside.actor c.call.new.actor r.reply h.0 h.2)
+    (λ r h. done_maps g.D.Port.Port.told g.D.Port.Port.faults g.D.Port.Port.maps g.D.Port.Port.maps_left g.D.Driver.OwnEntries g.D.Driver.Follows g.D.Driver.ENTRIES c.args.order.now.call c.args.order.now.on c.self.inside.actor c.call.new.actor r.answered.reply h.0 h.2)
     c.call.ensures.done _ _ c.call.ensures.could_not
     ∙ ap (λ (p : Playing). p.carried.maps) c.self.view_is
 
@@ -44,13 +44,13 @@ returns-clause-could_not g c =
 pub invariant_of-self : goal.invariant_of-self
 invariant_of-self g c =
     let grew = seen_grows c.call.result c.self.inside.actor c.call.new.actor _
-    (λ r h. done_grew g.D.Port.Port.told g.D.Port.Port.faults g.D.Port.Port.maps g.D.Port.Port.maps_left g.D.Driver.OwnEntries g.D.Driver.Follows g.D.Driver.ENTRIES c.args.order.now.call c.args.order.now.on c.self.inside.actor c.call.new.actor r.reply h.0 h.2)
+    (λ r h. done_grew g.D.Port.Port.told g.D.Port.Port.faults g.D.Port.Port.maps g.D.Port.Port.maps_left g.D.Driver.OwnEntries g.D.Driver.Follows g.D.Driver.ENTRIES c.args.order.now.call c.args.order.now.on c.self.inside.actor c.call.new.actor r.answered.reply h.0 h.2)
     c.call.ensures.done _ _ c.call.ensures.could_not in (
       c.call.ensures.actor,
       c.self.invariant.1,
       c.self.invariant.2
           ∙ sym (ap (λ (m : Maps). m.kept) (maps_stay (maps_of g.D.Port.Port.maps g.D.Port.Port.maps_left) c.call.result c.self.inside.actor c.call.new.actor _
-          (λ r h. done_maps g.D.Port.Port.told g.D.Port.Port.faults g.D.Port.Port.maps g.D.Port.Port.maps_left g.D.Driver.OwnEntries g.D.Driver.Follows g.D.Driver.ENTRIES c.args.order.now.call c.args.order.now.on c.self.inside.actor c.call.new.actor r.reply h.0 h.2)
+          (λ r h. done_maps g.D.Port.Port.told g.D.Port.Port.faults g.D.Port.Port.maps g.D.Port.Port.maps_left g.D.Driver.OwnEntries g.D.Driver.Follows g.D.Driver.ENTRIES c.args.order.now.call c.args.order.now.on c.self.inside.actor c.call.new.actor r.answered.reply h.0 h.2)
           c.call.ensures.done _ _ c.call.ensures.could_not)),
       files_later _ _ _ grew c.self.invariant.3,
       maps_later _ _ _ grew c.self.invariant.4,
