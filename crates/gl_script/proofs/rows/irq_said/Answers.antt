@@ -1,14 +1,52 @@
-use Rattle.std.proofs.Common.{◌≡◌, [], ◌∷◌, Err, ◌∙◌, rules}
-use Rattle.gl_script.specs.declared.table.Form.TheVariants.{Chip, IrqWord, Number}
+use Rattle.std.proofs.Common.{[], ◌∷◌, refl, ◌∙◌}
+use Rattle.gl_script.specs.declared.table.Form.{Form}
+use Rattle.gl_script.specs.declared.table.Form.TheVariants.{Number, Chip, IrqWord}
 use Rattle.gl_script.specs.Faults.{tail_fault}
 use Rattle.gl_script.specs.Left.{left_in}
-use Rattle.gl_script.specs.Said.{irq_of}
+use Rattle.gl_script.specs.Said.{chip_of, irq_of, irq_said, small_of}
 use Rattle.gl_script.specs.Table.{NoMore}
-use Rattle.gl_script.proofs.OneByOne.{misread_here, read_on}
+use Rattle.gl_script.proofs.OneByOne.{misread_here, passed_on, read_on, three_words}
 use Rattle.gl_script.proofs.rows.irq_said.Goals as goal
+
+abbrev number : Form
+number = Number 0 0xFFFFFFFF
+
+pub chip-requires : goal.chip-requires
+chip-requires c = c.in_ok-what.ensures.short
+
+pub small-requires : goal.small-requires
+small-requires c = c.in_ok-chip.ensures.short
+
+pub no_more-requires : goal.no_more-requires
+no_more-requires c = c.in_ok-offset.ensures.short
+
+pub returns-in_err-what : goal.returns-in_err-what
+returns-in_err-what c =
+    passed_on _ _ c.from_residual.result _ c.from_residual.ensures.1
+    (misread_here IrqWord (Chip ∷ number ∷ []) (tail_fault NoMore) c.args.words.now.end (left_in c.args.words.now).words _ c.in_err-what.ensures.read)
 
 pub returns-in_err-chip : goal.returns-in_err-chip
 returns-in_err-chip c =
-    let is : c.from_residual-in_err-chip.result ≡ Err c.in_err-chip.field-0.0 = search rules in
-    rw is (read_on IrqWord (Chip ∷ Number 0 0xFFFFFFFF ∷ []) (tail_fault NoMore) irq_of (left_in c.args.words.now) (left_in c.irq.new.self) c.in_ok-what.what c.in_ok-what.ensures.read
-    ∙ misread_here Chip (Number 0 0xFFFFFFFF ∷ []) (tail_fault NoMore) c.irq.new.self.end (left_in c.irq.new.self).words c.in_err-chip.field-0.0 c.in_err-chip.ensures.read)
+    passed_on _ _ c.from_residual-in_err-chip.result _ c.from_residual-in_err-chip.ensures.1
+    (read_on IrqWord (Chip ∷ number ∷ []) (tail_fault NoMore) irq_of _ _ _ c.in_ok-what.ensures.read
+    ∙ misread_here Chip (number ∷ []) (tail_fault NoMore) c.irq.new.self.end (left_in c.irq.new.self).words _ c.in_err-chip.ensures.read)
+
+pub returns-in_err-offset : goal.returns-in_err-offset
+returns-in_err-offset c =
+    passed_on _ _ c.from_residual-in_err-offset.result _ c.from_residual-in_err-offset.ensures.1
+    (read_on IrqWord (Chip ∷ number ∷ []) (tail_fault NoMore) irq_of _ _ _ c.in_ok-what.ensures.read
+    ∙ read_on Chip (number ∷ []) (tail_fault NoMore) chip_of _ _ _ c.in_ok-chip.ensures.read
+    ∙ misread_here number [] (tail_fault NoMore) c.chip.new.self.end (left_in c.chip.new.self).words _ c.in_err-offset.ensures.read)
+
+pub returns-in_err-no_more : goal.returns-in_err-no_more
+returns-in_err-no_more c =
+    passed_on _ _ c.from_residual-in_err-no_more.result _ c.from_residual-in_err-no_more.ensures.1
+    (read_on IrqWord (Chip ∷ number ∷ []) (tail_fault NoMore) irq_of _ _ _ c.in_ok-what.ensures.read
+    ∙ read_on Chip (number ∷ []) (tail_fault NoMore) chip_of _ _ _ c.in_ok-chip.ensures.read
+    ∙ read_on number [] (tail_fault NoMore) small_of _ _ _ c.in_ok-offset.ensures.read
+    ∙ c.in_err-no_more.ensures)
+
+pub returns : goal.returns
+returns c =
+    three_words IrqWord Chip number NoMore irq_of chip_of small_of irq_said
+    _ _ _ _ _ _ _ _ refl c.in_ok-what.ensures.read c.in_ok-chip.ensures.read c.in_ok-offset.ensures.read c.in_ok-no_more.ensures

@@ -1,25 +1,64 @@
-use Rattle.std.proofs.Common.{◌≡◌, [], ◌∷◌, Err, ◌∙◌, rules}
+use Rattle.std.proofs.Common.{[], ◌∷◌, refl, ◌∙◌}
 use Rattle.gl_script.specs.declared.table.Form.{Form}
-use Rattle.gl_script.specs.declared.table.Form.TheVariants.{Chip, Number}
+use Rattle.gl_script.specs.declared.table.Form.TheVariants.{Number, Chip}
 use Rattle.gl_script.specs.Faults.{tail_fault}
 use Rattle.gl_script.specs.Left.{left_in}
-use Rattle.gl_script.specs.Said.{chip_of, small_of}
+use Rattle.gl_script.specs.Said.{chip_of, pin_said, range_of, small_of}
 use Rattle.gl_script.specs.Table.{NoMore}
-use Rattle.gl_script.proofs.OneByOne.{misread_here, read_on}
+use Rattle.gl_script.proofs.OneByOne.{four_words, misread_here, passed_on, read_on}
 use Rattle.gl_script.proofs.rows.range_said.Goals as goal
 
 abbrev number : Form
 number = Number 0 0xFFFFFFFF
 
+pub small-requires : goal.small-requires
+small-requires c = c.in_ok-chip.ensures.short
+
+pub small-requires-2 : goal.small-requires-2
+small-requires-2 c = c.in_ok-offset.ensures.short
+
+pub small-requires-3 : goal.small-requires-3
+small-requires-3 c = c.in_ok-pin.ensures.short
+
+pub no_more-requires : goal.no_more-requires
+no_more-requires c = c.in_ok-count.ensures.short
+
 pub returns-in_err-chip : goal.returns-in_err-chip
 returns-in_err-chip c =
-    let is : c.from_residual.result ≡ Err c.in_err-chip.field-0.0 = search rules in
-    rw is (misread_here Chip (number ∷ number ∷ number ∷ []) (tail_fault NoMore) c.args.words.now.end (left_in c.args.words.now).words c.in_err-chip.field-0.0 c.in_err-chip.ensures.read)
+    passed_on _ _ c.from_residual.result _ c.from_residual.ensures.1
+    (misread_here Chip (number ∷ number ∷ number ∷ []) (tail_fault NoMore) c.args.words.now.end (left_in c.args.words.now).words _ c.in_err-chip.ensures.read)
+
+pub returns-in_err-offset : goal.returns-in_err-offset
+returns-in_err-offset c =
+    passed_on _ _ c.from_residual-in_err-offset.result _ c.from_residual-in_err-offset.ensures.1
+    (read_on Chip (number ∷ number ∷ number ∷ []) (tail_fault NoMore) chip_of _ _ _ c.in_ok-chip.ensures.read
+    ∙ misread_here number (number ∷ number ∷ []) (tail_fault NoMore) c.chip.new.self.end (left_in c.chip.new.self).words _ c.in_err-offset.ensures.read)
+
+pub returns-in_err-pin : goal.returns-in_err-pin
+returns-in_err-pin c =
+    passed_on _ _ c.from_residual-in_err-pin.result _ c.from_residual-in_err-pin.ensures.1
+    (read_on Chip (number ∷ number ∷ number ∷ []) (tail_fault NoMore) chip_of _ _ _ c.in_ok-chip.ensures.read
+    ∙ read_on number (number ∷ number ∷ []) (tail_fault NoMore) small_of _ _ _ c.in_ok-offset.ensures.read
+    ∙ misread_here number (number ∷ []) (tail_fault NoMore) c.small.new.self.end (left_in c.small.new.self).words _ c.in_err-pin.ensures.read)
 
 pub returns-in_err-count : goal.returns-in_err-count
 returns-in_err-count c =
-    let is : c.from_residual-in_err-count.result ≡ Err c.in_err-count.field-0.0 = search rules in
-    rw is (read_on Chip (number ∷ number ∷ number ∷ []) (tail_fault NoMore) chip_of (left_in c.args.words.now) (left_in c.chip.new.self) c.in_ok-chip.chip c.in_ok-chip.ensures.read
-    ∙ read_on number (number ∷ number ∷ []) (tail_fault NoMore) small_of (left_in c.chip.new.self) (left_in c.small.new.self) c.in_ok-offset.offset c.in_ok-offset.ensures.read
-    ∙ read_on number (number ∷ []) (tail_fault NoMore) small_of (left_in c.small.new.self) (left_in c.small-2.new.self) c.in_ok-pin.pin c.in_ok-pin.ensures.read
-    ∙ misread_here number [] (tail_fault NoMore) c.small-2.new.self.end (left_in c.small-2.new.self).words c.in_err-count.field-0.0 c.in_err-count.ensures.read)
+    passed_on _ _ c.from_residual-in_err-count.result _ c.from_residual-in_err-count.ensures.1
+    (read_on Chip (number ∷ number ∷ number ∷ []) (tail_fault NoMore) chip_of _ _ _ c.in_ok-chip.ensures.read
+    ∙ read_on number (number ∷ number ∷ []) (tail_fault NoMore) small_of _ _ _ c.in_ok-offset.ensures.read
+    ∙ read_on number (number ∷ []) (tail_fault NoMore) small_of _ _ _ c.in_ok-pin.ensures.read
+    ∙ misread_here number [] (tail_fault NoMore) c.small-2.new.self.end (left_in c.small-2.new.self).words _ c.in_err-count.ensures.read)
+
+pub returns-in_err-no_more : goal.returns-in_err-no_more
+returns-in_err-no_more c =
+    passed_on _ _ c.from_residual-in_err-no_more.result _ c.from_residual-in_err-no_more.ensures.1
+    (read_on Chip (number ∷ number ∷ number ∷ []) (tail_fault NoMore) chip_of _ _ _ c.in_ok-chip.ensures.read
+    ∙ read_on number (number ∷ number ∷ []) (tail_fault NoMore) small_of _ _ _ c.in_ok-offset.ensures.read
+    ∙ read_on number (number ∷ []) (tail_fault NoMore) small_of _ _ _ c.in_ok-pin.ensures.read
+    ∙ read_on number [] (tail_fault NoMore) small_of _ _ _ c.in_ok-count.ensures.read
+    ∙ c.in_err-no_more.ensures)
+
+pub returns : goal.returns
+returns c =
+    four_words Chip number number number NoMore chip_of small_of small_of small_of (λ chip offset pin count. pin_said chip (range_of offset pin count))
+    _ _ _ _ _ _ _ _ _ _ refl c.in_ok-chip.ensures.read c.in_ok-offset.ensures.read c.in_ok-pin.ensures.read c.in_ok-count.ensures.read c.in_ok-no_more.ensures
