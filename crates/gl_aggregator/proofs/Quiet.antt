@@ -1,17 +1,15 @@
--- The own entries of an aggregator have nothing to do with removals, request no lines, and are those of whole calls.
+-- The own entries of an aggregator have nothing to do with removals, and request no lines.
 use Rattle.std.proofs.Common.{◌≡◌, ℕ, Bool, true, false, List, [], ◌∷◌, Option, Some, None, inl, inr, sym, refl, subst}
 use Rattle.std.specs.Prelude.{if◌then◌else◌}
 use Rattle.gl_base.specs.declared.lines.Lines.{Lines}
 use Rattle.gl_base.specs.declared.op.Op.{Op}
 use Rattle.gl_base.specs.declared.op.Op.TheVariants.{Apply, Get, Set}
-use Rattle.gl_base.specs.Rows.{Each}
-use Rattle.gl_core.specs.Device.{AreWhole, MayOwn, OneEntry, core}
+use Rattle.gl_core.specs.Device.{MayOwn, OneEntry}
 use Rattle.gl_driver.specs.declared.map.Target.{Target}
-use Rattle.gl_model.specs.Entries.{begins, begun_places, ends, is_done, is_get_line, is_get_line_call, is_go, is_last_removal}
+use Rattle.gl_model.specs.Entries.{begun_places, is_done, is_get_line, is_get_line_call, is_go, is_last_removal}
 use Rattle.gl_model.specs.declared.call.Call.{Call}
 use Rattle.gl_model.specs.declared.device_call.CommandIn.{CommandIn}
 use Rattle.gl_model.specs.declared.reply.Reply.{Reply}
-use Rattle.gl_world.specs.Removal.{AllQuiet}
 use Rattle.gl_uapi.specs.Command.{command_of}
 use Rattle.gl_uapi.specs.NewRequest.{new_config_bytes}
 use Rattle.gl_base.specs.declared.command.TheConstants.{LINE_SET_CONFIG}
@@ -31,77 +29,36 @@ pub record IsCalmVisit (v : Visit Call) : Type 0 where
   pub ask : IsCalm v.ask
   pub tell : (answer : Option ℕ) → IsCalm (v.tell answer)
   pub refused : IsCalm v.refused
-  -- only the ask owes a second entry, where it was answered Go, and only the tell is one
-  pub asks : (reply : Reply) → begins v.ask reply ≡ is_go reply
-  pub is_first : ends v.ask ≡ false
-  pub is_second : (answer : Option ℕ) → ends (v.tell answer) ≡ true
-  pub owes_none : (answer : Option ℕ) (reply : Reply) → begins (v.tell answer) reply ≡ false
-  pub is_single : (ends v.refused ≡ false) × ((reply : Reply) → begins v.refused reply ≡ false)
 
 abbrev AreCalm : List (Option (Visit Call)) → Type 0
 AreCalm [] = Unit {0}
 AreCalm (None ∷ vs) = AreCalm vs
 AreCalm (Some v ∷ vs) = IsCalmVisit v × AreCalm vs
 
--- entries that have nothing to do with removals, and request no lines
-record AreQuiet (es : List OneEntry) : Type 0 where
-  quiet : AllQuiet core es
-  no_claims : Each (λ (e : OneEntry). is_get_line_call e.call ≡ false) es
+quiet_none : (es : List OneEntry) → es ≡ [] → MayOwn es
+quiet_none es none = subst (λ (l : List OneEntry). MayOwn l) (sym none) (record { quiet = tt; no_claims = tt })
 
-quiet_none : (es : List OneEntry) → es ≡ [] → AreQuiet es
-quiet_none es none = subst (λ (l : List OneEntry). AreQuiet l) (sym none) (record { quiet = tt; no_claims = tt })
-
-one_more : (e : OneEntry) (es : List OneEntry) (call : Call) → e.call ≡ call → IsCalm call → AreQuiet es → AreQuiet (e ∷ es)
+one_more : (e : OneEntry) (es : List OneEntry) (call : Call) → e.call ≡ call → IsCalm call → MayOwn es → MayOwn (e ∷ es)
 one_more e es call is calm later = let here : IsCalm e.call = subst (λ (c : Call). IsCalm c) (sym is) calm in record {
   quiet = ((λ bytes. here.begins e.reply bytes, here.ends), later.quiet);
   no_claims = (here.claims, later.no_claims);
 }
 
-behind_tell : (later : List OneEntry → Type 0) → ((es : List OneEntry) → later es → AreQuiet es) → (b : Bool) (es : List OneEntry) → BehindTell is_go is_done later b es → AreQuiet es
+behind_tell : (later : List OneEntry → Type 0) → ((es : List OneEntry) → later es → MayOwn es) → (b : Bool) (es : List OneEntry) → BehindTell is_go is_done later b es → MayOwn es
 behind_tell later quiet true es h = quiet es h
 behind_tell later quiet false es h = quiet_none es h
 
-behind_ask : (v : Visit Call) (later : List OneEntry → Type 0) → IsCalmVisit v → ((es : List OneEntry) → later es → AreQuiet es) → (b : Bool) (es : List OneEntry) → BehindAsk is_go is_done v later b es → AreQuiet es
+behind_ask : (v : Visit Call) (later : List OneEntry → Type 0) → IsCalmVisit v → ((es : List OneEntry) → later es → MayOwn es) → (b : Bool) (es : List OneEntry) → BehindAsk is_go is_done v later b es → MayOwn es
 behind_ask v later calm quiet false es h = quiet_none es h
 behind_ask v later calm quiet true [] h = absurd h
 behind_ask v later calm quiet true (e ∷ es) (answer, tells, rest) = one_more e es (v.tell answer) tells (calm.tell answer) (behind_tell later quiet (is_done e.reply) es rest)
 
-own_quiet : (vs : List (Option (Visit Call))) → AreCalm vs → (es : List OneEntry) → Own is_go is_done vs es → AreQuiet es
+own_quiet : (vs : List (Option (Visit Call))) → AreCalm vs → (es : List OneEntry) → Own is_go is_done vs es → MayOwn es
 own_quiet [] calm es own = quiet_none es own
 own_quiet (None ∷ vs) calm es own = quiet_none es own
 own_quiet (Some v ∷ vs) calm [] own = record { quiet = tt; no_claims = tt }
 own_quiet (Some v ∷ vs) calm (e ∷ es) (inl (is, none)) = one_more e es v.refused is calm.0.refused (quiet_none es none)
 own_quiet (Some v ∷ vs) calm (e ∷ es) (inr (is, behind)) = one_more e es v.ask is calm.0.ask (behind_ask v (Own is_go is_done vs) calm.0 (own_quiet vs calm.1) (is_go e.reply) es behind)
-
--- they are those of whole calls
-whole_none : (es : List OneEntry) → es ≡ [] → AreWhole false es
-whole_none es none = subst (λ (l : List OneEntry). AreWhole false l) (sym none) tt
-
-whole_tell : (later : List OneEntry → Type 0) → ((es : List OneEntry) → later es → AreWhole false es) → (b : Bool) (es : List OneEntry) → BehindTell is_go is_done later b es → AreWhole false es
-whole_tell later whole true es h = whole es h
-whole_tell later whole false es h = whole_none es h
-
-whole_ask : (v : Visit Call) (later : List OneEntry → Type 0) → IsCalmVisit v → ((es : List OneEntry) → later es → AreWhole false es) → (b : Bool) (es : List OneEntry) → BehindAsk is_go is_done v later b es → AreWhole b es
-whole_ask v later calm whole false es h = whole_none es h
-whole_ask v later calm whole true [] h = absurd h
-whole_ask v later calm whole true (e ∷ es) (answer, tells, rest) = (
-  subst (λ (c : Call). ends c ≡ true) (sym tells) (calm.is_second answer),
-  subst (λ (b : Bool). AreWhole b es) (sym (subst (λ (c : Call). begins c e.reply ≡ false) (sym tells) (calm.owes_none answer e.reply))) (whole_tell later whole (is_done e.reply) es rest),
-)
-
-own_whole : (vs : List (Option (Visit Call))) → AreCalm vs → (es : List OneEntry) → Own is_go is_done vs es → AreWhole false es
-own_whole [] calm es own = whole_none es own
-own_whole (None ∷ vs) calm es own = whole_none es own
-own_whole (Some v ∷ vs) calm [] own = tt
-own_whole (Some v ∷ vs) calm (e ∷ es) (inl (is, none)) = (
-  subst (λ (c : Call). ends c ≡ false) (sym is) calm.0.is_single.0,
-  subst (λ (b : Bool). AreWhole b es) (sym (subst (λ (c : Call). begins c e.reply ≡ false) (sym is) (calm.0.is_single.1 e.reply))) (whole_none es none),
-)
-own_whole (Some v ∷ vs) calm (e ∷ es) (inr (is, behind)) = (
-  subst (λ (c : Call). ends c ≡ false) (sym is) calm.0.is_first,
-  subst (λ (b : Bool). AreWhole b es) (sym (subst (λ (c : Call). begins c e.reply ≡ is_go e.reply) (sym is) (calm.0.asks e.reply)))
-      (whole_ask v (Own is_go is_done vs) calm.0 (own_whole vs calm.1) (is_go e.reply) es behind),
-)
 
 -- the commands that an aggregator makes
 
@@ -122,11 +79,6 @@ visit_calm lines c none = record {
   ask = record { begins = λ reply bytes. refl; ends = refl; claims = none };
   tell = λ answer. record { begins = λ reply bytes. refl; ends = refl; claims = none };
   refused = record { begins = λ reply bytes. refl; ends = refl; claims = refl };
-  asks = λ reply. refl;
-  is_first = refl;
-  is_second = λ answer. refl;
-  owes_none = λ answer reply. refl;
-  is_single = (refl, λ reply. refl);
 }
 
 visits_calm : (op : Op) (found : List Route) → AreCalm (visits_on op found)
@@ -137,9 +89,5 @@ visits_calm op (route ∷ found) = elim (command_to route.target op (lines_on op
 ] (no_request route.target op op (lines_on op route))
 
 pub own_entries_are_quiet : OwnEntriesAreQuiet
-own_entries_are_quiet None op own is = subst (λ (l : List OneEntry). MayOwn l) (sym is) (record { quiet = tt; no_claims = tt; whole = tt })
-own_entries_are_quiet (Some map) op own is =
-    let vs : List (Option (Visit Call)) = visits_on op (routes map op) in
-    let calm : AreCalm vs = visits_calm op (routes map op) in
-    let q = own_quiet vs calm own is in
-    record { quiet = q.quiet; no_claims = q.no_claims; whole = own_whole vs calm own is }
+own_entries_are_quiet None op own is = quiet_none own is
+own_entries_are_quiet (Some map) op own is = own_quiet (visits_on op (routes map op)) (visits_calm op (routes map op)) own is

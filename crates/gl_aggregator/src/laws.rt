@@ -31,7 +31,7 @@ pub fn fails_in_just_these_cases<D: Driver<Core>>()
     ensures told { EachTargetIsTold (D.Follows None) }
 {}
 
-/// The entries that an aggregator makes of its own begin no removal, end none, request no lines, and are those of whole calls: so it may be
+/// The entries that an aggregator makes of its own begin no removal, end none, and request no lines: so it may be
 /// the driver of a device.
 pub fn own_entries_are_quiet()
     ensures { OwnEntriesAreQuiet }

@@ -153,7 +153,7 @@ pub not_gone_io : guard_reply false ≡ Refused Io → ⊥
 not_gone_io e = true≢false (ap is_no_dev e)
 
 owns_nothing : MayOwn []
-owns_nothing = record { quiet = tt; no_claims = tt; whole = tt }
+owns_nothing = record { quiet = tt; no_claims = tt }
 
 -- the number in a reply that says Go
 pub go_is : (reply : Reply) → is_go reply ≡ true → (n : ℕ) × (reply ≡ Go n)

@@ -304,7 +304,7 @@ pub acts_last : (w u : OneView) (first call : Call) (reply : Reply) (old new : L
 acts_last w u first call reply old new is = subst (λ k. Acts core w k reply old new u) is
 
 owns_nothing : MayOwn []
-owns_nothing = record { quiet = tt; no_claims = tt; whole = tt }
+owns_nothing = record { quiet = tt; no_claims = tt }
 
 guard_none : (call : Call) → guard_of (Removing (removal_of call)) ≡ None
 guard_none call = refl

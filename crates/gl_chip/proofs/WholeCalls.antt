@@ -108,7 +108,7 @@ named_nowhere v call single none = record {
 }
 
 owns_nothing : MayOwn []
-owns_nothing = record { quiet = tt; no_claims = tt; whole = tt }
+owns_nothing = record { quiet = tt; no_claims = tt }
 
 nothing_wrote : (xs ys : List ℕ) → length (xs ++ ys) ≡ 0 → xs ≡ []
 nothing_wrote [] ys e = refl

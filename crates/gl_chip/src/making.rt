@@ -21,7 +21,7 @@ use std::alloc::Global;
 
 impl<D: Driver<Core>> Gpio<D> {
     /// A device with a new machine, and its first actor, whose number is 0. The history takes `room` entries. The driver's own
-    /// entries have nothing to do with removals, request no lines, and are those of whole calls.
+    /// entries have nothing to do with removals and request no lines.
     ///
     /// `NoMemory` when out of memory.
     pub fn new(

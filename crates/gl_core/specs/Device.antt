@@ -1,5 +1,5 @@
 -- The machine of every device: what its histories are made of, and the answers of a driver that their entries tell.
-use Rattle.std.specs.Prelude.{◌≡◌, Bool, true, false, ℕ, List, [], ◌∷◌, ◌++◌, Option}
+use Rattle.std.specs.Prelude.{◌≡◌, false, ℕ, List, [], ◌∷◌, ◌++◌, Option}
 use Rattle.gl_base.specs.Rows.{Each}
 use Rattle.gl_world.specs.declared.machine.Machine.{Ghosts}
 use Rattle.gl_world.specs.declared.history.Entry.{Entry}
@@ -11,7 +11,7 @@ use Rattle.gl_model.specs.declared.call.Part.{Part}
 use Rattle.gl_model.specs.declared.call.Part.TheVariants.{Whole, Ask, Tell}
 use Rattle.gl_model.specs.declared.gift.Gift.{Gift}
 use Rattle.gl_model.specs.declared.reply.Reply.{Reply}
-use Rattle.gl_model.specs.Entries.{begins, ends, is_get_line_call}
+use Rattle.gl_model.specs.Entries.{is_get_line_call}
 use Rattle.gl_model.specs.Machine.{machine}
 use Rattle.gl_core.specs.Kept.{Kept, StandsFor}
 
@@ -47,15 +47,7 @@ abbrev pub tells_in : List OneEntry → List (Option ℕ)
 tells_in [] = []
 tells_in (e ∷ es) = call_tells e.call ++ tells_in es
 
--- Entries of whole calls, one after another: where one owes a second entry, that stands right behind it, and no other is a second one.
--- `owed`: the first of them is one.
-abbrev pub AreWhole : Bool → List OneEntry → Type 0
-AreWhole false [] = Unit {0}
-AreWhole true [] = ⊥
-AreWhole owed (e ∷ es) = (ends e.call ≡ owed) × AreWhole (begins e.call e.reply) es
-
--- entries that a driver may make of its own: they begin no removal, end none, none of them is a GET_LINE, and they are those of whole calls
+-- entries that a driver may make of its own: they begin no removal, end none, and none of them is a GET_LINE
 pub record MayOwn (own : List OneEntry) : Type 0 where
   pub quiet : AllQuiet core own
   pub no_claims : Each (λ (e : OneEntry). is_get_line_call e.call ≡ false) own
-  pub whole : AreWhole false own

@@ -41,7 +41,7 @@ impl<D: Driver<Core>> Model for Device<D> {
 
 impl<D: Driver<Core>> Device<D> {
     /// A new machine behind this driver, which is asked through this port. The history takes `room` entries. The driver's own
-    /// entries have nothing to do with removals, request no lines, and are those of whole calls. `NoMemory` is its one refusal.
+    /// entries have nothing to do with removals and request no lines. `NoMemory` is its one refusal.
     pub fn new(alloc: Global, driver: D, port: D::Port, room: u32) -> Result<Device<D>, Errno>
         requires quiet { IsQuietDriver D.OwnEntries }
         ensures view { IfOk result (λ device. device.pass.view ≡ newcomer 0 room [] 1 [] []) }
