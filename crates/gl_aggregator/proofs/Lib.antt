@@ -17,3 +17,4 @@ pub mod BitsWhere
 pub mod Gathered
 pub mod Planned
 pub mod Quiet
+pub mod Settled

@@ -11,3 +11,4 @@ pub mod Course
 pub mod Calling
 pub mod Plans
 pub mod Quiet
+pub mod Settled

@@ -5,6 +5,7 @@ ghost use Rattle.gl_aggregator.specs.Gather.{GatheredBits, GetGivesBits};
 ghost use Rattle.gl_aggregator.specs.Joined.{LinesAreInOneTarget};
 ghost use Rattle.gl_aggregator.specs.Plans.{PlannedOnMaps};
 ghost use Rattle.gl_aggregator.specs.Quiet.{OwnEntriesAreQuiet};
+ghost use Rattle.gl_aggregator.specs.Settled.{DoesOneThing};
 
 use gl_core::Core;
 use gl_driver::Driver;
@@ -47,4 +48,10 @@ pub fn full_stands_before_the_tell<D: Driver<Core>>()
 /// Over a planned driver the tells of a call at a place with a map hold the planned answers.
 pub fn planned_on_maps<D: Driver<Core>>()
     ensures { PlannedOnMaps D.is_planned (D.Follows None) }
+{}
+
+/// What an aggregator over a planned driver may do in one call at a place with a map, for an actor that is alone in a world, through a port that tells, is
+/// one list of entries with one answer, where the history has room for all of it.
+pub fn does_one_thing<D: Driver<Core>>()
+    ensures { DoesOneThing D.is_planned (D.Follows None) }
 {}

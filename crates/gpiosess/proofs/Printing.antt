@@ -10,18 +10,28 @@ use Rattle.gl_base.specs.Rows.{Each}
 use Rattle.gl_script.specs.Cost.{session_cost}
 use Rattle.gl_check.specs.Lawful.{IsLawfulCall}
 use Rattle.gl_check.specs.One.{asked_over, entries_made, one, planned}
+use Rattle.gl_check.specs.Settled.{IsGiven, IsGivenOneList}
+use Rattle.gl_aggregator.specs.Settled.{DoesOneThing}
+use Rattle.gl_session.specs.OneActor.{CameAlone}
 use Rattle.gl_session.specs.Run.{CameBy, HasWritten}
 use Rattle.gl_session.proofs.FewActors.{few_actors}
-use Rattle.gpiosess.specs.Program.{HasPrinted, HasPrintedLoad, PrintsBy, PrintsLoad, simulated, simulated_over}
+use Rattle.gpiosess.specs.Program.{HasPrinted, HasPrintedLoad, PrintsBy, PrintsLoad, simulated, simulated_answer, simulated_over}
+use Rattle.gpiosess.proofs.OneThing.{is_given_one}
 
-module _ (before left : ℕ → Option Told) (new : (n : ℕ) → n < 17 → before n ≡ Some new_port) where
+module _ (before left : ℕ → Option Told) (new : (n : ℕ) → n < 17 → before n ≡ Some new_port) (one_thing : DoesOneThing true simulated_answer) (one_list : IsGivenOneList simulated_over) where
+  is_given : (sections : List SaidSection) (text : List ℕ) (came : CameAlone simulated_over sections (before 0) text (left 0)) → IsGiven simulated_over (session_cost sections) sections (Some new_port) came.over.given
+  is_given sections text came = record {
+    takes = came.over.takes;
+    lawful = subst (λ told. Each (IsLawfulCall simulated (session_cost sections)) (asked_over 8 4 sections came.over.given told)) (new 0 (omega arith)) came.over.lawful;
+  }
+
   prints_by : (alone : Bool) (sections : List SaidSection) (text : List ℕ) → length (actor_sections sections) ≤ 16 → CameBy alone simulated_over sections before left text → PrintsBy alone sections text
   prints_by true sections text few came = record {
     over = record {
       given = came.over.given;
       prints = came.over.prints;
-      takes = came.over.takes;
-      lawful = subst (λ told. Each (IsLawfulCall simulated (session_cost sections)) (asked_over 8 4 sections came.over.given told)) (new 0 (omega arith)) came.over.lawful;
+      is_given = is_given sections text came;
+      only = λ other is. is_given_one one_thing one_list sections other came.over.given is (is_given sections text came);
     };
     plainly = λ none. let plainly = came.plainly (inr none) in plainly.prints ∙ ap (λ answers. one sections answers) (plainly.as_planned refl new_port (new 0 (omega arith)));
   }

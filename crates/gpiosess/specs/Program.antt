@@ -1,7 +1,6 @@
 -- What the program writes for a session: over the simulated driver, whose answers are planned, with an aggregator over it, and a new port for each actor.
 use Rattle.std.specs.Prelude.{◌≡◌, ℕ, Bool, true, false, nat_lt, List, length, Option, Some, IfSome}
 use Rattle.std.specs.Io.KnownBytes.{Appends}
-use Rattle.gl_base.specs.Rows.{Each}
 use Rattle.gl_base.specs.declared.op.Op.{Op}
 use Rattle.gl_driver.specs.Told.{Told, new_port, planned_for}
 use Rattle.gl_script.specs.Cost.{has_aggregate, session_cost}
@@ -11,9 +10,9 @@ use Rattle.gl_script.specs.Sentence.{Sentence}
 use Rattle.gl_core.specs.Device.{OneDeed, OneEntry}
 use Rattle.gl_session.specs.Figures.{figures}
 use Rattle.gl_check.specs.Drivers.{DriverKind, DriverOver, driver_kind, over}
-use Rattle.gl_check.specs.Lawful.{IsLawfulCall}
 use Rattle.gl_check.specs.Many.{Many, PlannedTells, Texts, actor_sections}
-use Rattle.gl_check.specs.One.{Answering, asked_over, entries_made, one, one_over, planned, taken_over}
+use Rattle.gl_check.specs.One.{Answering, entries_made, one, one_over, planned}
+use Rattle.gl_check.specs.Settled.{IsGiven}
 use Rattle.gl_aggregator.specs.Aggregating.{FollowsAt, OwnAt}
 use Rattle.gl_session.specs.Output.{AreTold, output}
 
@@ -39,12 +38,13 @@ pub record PrintsMany (sections : List SaidSection) (text : List ℕ) : Type 0 w
   pub prints : text ≡ output sections texts history
 
 -- With fewer than two actors it is One over just what the driver did where it was asked, each call such as it may make, with an answer that follows:
--- at a place without a map the planned one, and at one with a map what is gathered of its targets, or a failure.
+-- at a place without a map the planned one, and at one with a map what is gathered of its targets, or a failure. There is one such list only, so
+-- the session has one text.
 pub record PrintsOver (sections : List SaidSection) (text : List ℕ) : Type 0 where
   pub given : List Answering
   pub prints : text ≡ one_over 8 4 sections given
-  pub takes : taken_over 8 4 sections given ≡ given
-  pub lawful : Each (IsLawfulCall simulated (session_cost sections)) (asked_over 8 4 sections given (Some new_port))
+  pub is_given : IsGiven simulated_over (session_cost sections) sections (Some new_port) given
+  pub only : (other : List Answering) → IsGiven simulated_over (session_cost sections) sections (Some new_port) other → other ≡ given
 
 -- Without an `aggregate` it is One over the answers of Planned, which is one text.
 pub record PrintsOne (sections : List SaidSection) (text : List ℕ) : Type 0 where

@@ -15,8 +15,9 @@ ghost use Rattle.gl_session.specs.Workers.{told_at};
 ghost use Rattle.gl_session.specs.declared.verdict.Verdict.{Verdict};
 ghost use Rattle.gpiosess.specs.Program.{HasPrinted, HasPrintedLoad};
 
-use gl_aggregator::laws::own_entries_are_quiet;
+use gl_aggregator::laws::{does_one_thing, own_entries_are_quiet};
 use gl_aggregator::{AggDriver, AggPort};
+use gl_check::laws::given_one_list;
 use gl_driver::{Port, SimDriver, SimPort};
 use gl_io::{Sink, Source};
 use gl_session::{Status, run};
@@ -37,8 +38,8 @@ fn new_ports() -> [Option<AggPort<SimPort>>; 17]
 
 /// Carries out what the words ask for, over the simulated driver with an aggregator over it and a new port for each actor, and writes what comes of it.
 ///
-/// Without words a session is read from the source, and its text is written: of fewer than two actors, without an `aggregate`, that is one text,
-/// which the session alone decides. The words of a load write its four lines, which its number alone decides. The word `check` judges what the source has:
+/// Without words a session is read from the source, and its text is written: of fewer than two actors that is one text, which the session alone
+/// decides. The words of a load write its four lines, which its number alone decides. The word `check` judges what the source has:
 /// `yes` is written exactly where it is a lawful run. What else comes of words and streams, and when, is what `run` of `gl_session` says.
 pub fn carry_out<R: Threads + Wait + Sync, S: Source, K: Sink>(
     rt: &R,
@@ -90,5 +91,7 @@ pub fn carry_out<R: Threads + Wait + Sync, S: Source, K: Sink>(
     let mut ports = new_ports();
     let driver = AggDriver::new(SimDriver::new());
     own_entries_are_quiet();
+    does_one_thing::<SimDriver>();
+    given_one_list::<AggDriver<SimDriver>>();
     run(rt, alloc, words, source, sink, driver, &mut ports)
 }
