@@ -6,7 +6,7 @@ use Rattle.gl_base.specs.declared.op.Op.{Op}
 use Rattle.gl_base.specs.declared.operation.Do.{Do}
 use Rattle.gl_base.specs.declared.operation.Got.{Got}
 use Rattle.gl_client.specs.Program.{Program, ask, done, print}
-use Rattle.gl_driver.specs.Told.{Told, planned_for, with_bits, with_call_counting, with_plan}
+use Rattle.gl_driver.specs.Told.{Told, planned_for, with_bits, with_plan}
 use Rattle.gl_driver.specs.declared.map.Map.{Map}
 use Rattle.gl_script.specs.Section.{SaidSection}
 use Rattle.gl_script.specs.declared.section.SectionKind.TheVariants.{Setup, Actor, After}
@@ -29,9 +29,9 @@ use Rattle.gl_asking.specs.Driving.{op_asked}
 use Rattle.gl_check.specs.Drivers.{DriverKind, DriverOver}
 use Rattle.gl_check.specs.Joining.{asking_with, no_maps}
 use Rattle.gl_check.specs.Lawful.{IsLawfulCall, deed_of}
-use Rattle.gl_check.specs.One.{Answering, DriverAsked, Ran, Standing, TellingPort, behind_setup, behind_text, came_to, comes_by, entry_count, first_of_list, from_port, goes_on, is_asked, is_gone, map_by, performs, performs_as, rest_of_list, run, run_actor, run_after, run_session, run_setup, said_in_kind, steps_of, taken_over, told_of, with_answer, with_entries, world_asked, world_behind}
+use Rattle.gl_check.specs.One.{Answering, DriverAsked, Ran, Standing, TellingPort, behind_setup, behind_text, came_to, comes_by, entry_count, first_of_list, from_port, goes_on, is_asked, is_gone, map_by, performs, performs_as, rest_of_list, run, run_actor, run_after, run_setup, said_in_kind, steps_of, taken_over, told_of, with_answer, with_entries, world_asked, world_behind}
 use Rattle.gl_check.specs.OnePort.{through_port}
-use Rattle.gl_check.specs.Settled.{IsGiven, IsGivenOneList, IsSettledOnMaps, asked_in}
+use Rattle.gl_check.specs.Settled.{IsGivenOneList, IsSettledOnMaps, asked_in}
 use Rattle.gl_check.proofs.ThroughPort.{one_through_port}
 
 -- where the driver isn't asked nothing counts that it would do
