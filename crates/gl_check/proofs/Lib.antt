@@ -21,3 +21,4 @@ pub mod ThroughPort
 pub mod Whole
 pub mod WholeSections
 pub mod Joined
+pub mod Settled

@@ -17,3 +17,4 @@ pub mod Drivers
 pub mod Turns
 pub mod Joining
 pub mod Lawful
+pub mod Settled

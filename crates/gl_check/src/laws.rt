@@ -1,10 +1,15 @@
 //! What follows of the definitions alone. Each is a function with nothing to do: its contract is the law, and a caller gets it by
 //! the call.
 
-ghost use Rattle.std.specs.Prelude.{◌≡◌, []};
+ghost use Rattle.std.specs.Prelude.{◌≡◌, ℕ, []};
+ghost use Rattle.gl_check.specs.Drivers.{driver_kind, over};
 ghost use Rattle.gl_check.specs.Misfit.{MisfitIsNoneForMany};
 ghost use Rattle.gl_check.specs.OneChip.{output, plans, printed, takes};
 ghost use Rattle.gl_check.specs.OnePort.{OneIsThroughPort};
+ghost use Rattle.gl_check.specs.Settled.{IsGivenOneList};
+
+use gl_core::Core;
+use gl_driver::Driver;
 
 /// One of a session that makes a chip and lists the chips is its one line, and no driver is asked for it. Computed from the
 /// definitions alone.
@@ -24,4 +29,10 @@ pub fn misfit_is_none_for_many()
 /// an operation, the port tells in the end as many calls more as One takes of what the driver does, and as its last answer that of the last of them.
 pub fn one_is_through_port()
     ensures { OneIsThroughPort }
+{}
+
+/// What a session of one actor is given of a planned driver, through a port that tells, is one list, where the driver may do one thing only for each call
+/// at a place with a map: all that is taken whole and lawfully is the same, and so is the text.
+pub fn given_one_list<D: Driver<Core>>()
+    ensures { (left : ℕ) → IsGivenOneList (over left (driver_kind D.ENTRIES D.is_planned D.OwnEntries D.Follows)) }
 {}
