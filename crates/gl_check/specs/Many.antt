@@ -1,7 +1,7 @@
 -- Many: what a session with two or more actors did, by its history and its texts. Each actor carries its section out as a talk of
 -- its own; the history has its entries in order, with other actors' between them. Actor 0 has `setup` in front of all other
 -- actors' entries, and `after` after them. This project's choice.
-use Rattle.std.specs.Prelude.{◌≡◌, ℕ, ◌+◌, ◌-◌, ◌<◌, ◌≤◌, if◌then◌else◌, List, [], ◌∷◌, ◌++◌, length, map, get_or, Option, Some, None}
+use Rattle.std.specs.Prelude.{◌≡◌, ℕ, zero, suc, ◌+◌, ◌-◌, ◌<◌, ◌≤◌, if◌then◌else◌, List, [], ◌∷◌, ◌++◌, length, map, get_or, Option, Some, None}
 use Rattle.gl_base.specs.Words.{Span}
 use Rattle.gl_world.specs.Deeds.{deeds_from, deeds_of}
 use Rattle.gl_world.specs.History.{Legal, entries_of, fold}
@@ -19,7 +19,7 @@ use Rattle.gl_check.specs.Joining.{Maps}
 use Rattle.gl_check.specs.Tells.{TellsAfter, outer_tells}
 use Rattle.gl_check.specs.Programs.{after_of, setup_of}
 use Rattle.gl_check.specs.One.{is_kind}
-use Rattle.gl_check.specs.Turns.{AreSeen, Carried, Played, carried}
+use Rattle.gl_check.specs.Turns.{AreSeen, Carried, Played, Turn, carried}
 
 -- the sections of actors, in order: actor n, counted from 1, has the nth
 abbrev pub actor_sections : List SaidSection → List SaidSection
@@ -116,8 +116,20 @@ Many driver sections history texts = AllPlayed (over driver.maps_left (untold dr
 abbrev pub PlannedTells : DriverOver → List SaidSection → List OneEntry → Texts → Type 0
 PlannedTells driver sections history texts = (left : ℕ → Option Told) × AllPlayed (over driver.maps_left (planning driver.kind)) all_new left sections history texts
 
--- Where an actor's port told, it tells in the end as many driver calls more as calls of the actor have a tell in the history, those within
--- others left out, and as its last answer that of the last of them.
-abbrev pub PortsTell : (ℕ → Option Told) → (ℕ → Option Told) → List SaidSection → List OneEntry → Type 0
-PortsTell before left sections history =
-    (n : ℕ) (t : Told) → n ≤ length (actor_sections sections) → before n ≡ Some t → TellsAfter t (outer_tells 0 (entries_of n history)) (left n)
+-- Where an actor's port told, it tells in the end as many driver calls more as the actor's turns have tells, those of a driver's own entries left
+-- out, and as its last answer that of the last of them.
+module _ (driver : DriverOver) (before left : ℕ → Option Told) (sections : List SaidSection) (history : List OneEntry) where
+  -- the turns of the nth of these actors
+  abbrev pub turns_among : (m : Maps) (n : ℕ) (texts : List (List ℕ)) → ActorsPlayed driver before left sections history m n texts → ℕ → List Turn
+  turns_among m n [] actors at = []
+  turns_among m n (text ∷ texts) actors zero = actors.0.played.turns
+  turns_among m n (text ∷ texts) actors (suc at) = turns_among m (n + 1) texts actors.1 at
+
+  -- and of the actor of a number: those of actor 0 are in `setup` and in `after`
+  abbrev pub turns_of : (texts : Texts) → AllPlayed driver before left sections history texts → ℕ → List Turn
+  turns_of texts played zero = played.setup.turns ++ played.after.turns
+  turns_of texts played (suc at) = turns_among played.waiting.maps 1 texts.actors played.actors at
+
+  abbrev pub PortsTell : (texts : Texts) → AllPlayed driver before left sections history texts → Type 0
+  PortsTell texts played =
+      (n : ℕ) (t : Told) → n ≤ length (actor_sections sections) → before n ≡ Some t → TellsAfter t (outer_tells (turns_of texts played n)) (left n)

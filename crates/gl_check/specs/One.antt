@@ -349,6 +349,10 @@ module _ (limit left : ℕ) where
   abbrev pub entries_over : List SaidSection → List Answering → ℕ
   entries_over sections given = (run_session limit left from_list sections given).behind.entries
 
+  -- the maps that the port keeps then, and how many more it takes
+  abbrev pub maps_over : List SaidSection → List Answering → Maps
+  maps_over sections given = (run_session limit left from_list sections given).behind.maps
+
   -- the calls of the driver, through a port that told this before, and what it tells then
   abbrev pub asked_over : List SaidSection → List Answering → Option Told → List DriverAsked
   asked_over sections given before = (run_session limit left from_port sections (record { left = given; told = before })).behind.asked

@@ -1,10 +1,11 @@
 -- What a port tells after answers of its driver. This project's choice.
-use Rattle.std.specs.Prelude.{◌≡◌, ℕ, zero, suc, ◌+◌, ◌-◌, if◌then◌else◌, List, [], ◌∷◌, ◌++◌, Option, Some, None}
+use Rattle.std.specs.Prelude.{◌≡◌, ℕ, List, [], ◌∷◌, ◌++◌, drop, length, Option, Some, None}
 use Rattle.gl_base.specs.Count.{counted_up}
+use Rattle.gl_world.specs.Deeds.{entries_in}
 use Rattle.gl_driver.specs.Told.{Told}
 use Rattle.gl_driver.specs.declared.op.DriverCall.{DriverCall}
-use Rattle.gl_core.specs.Device.{OneEntry, call_tells}
-use Rattle.gl_model.specs.Entries.{begins, ends}
+use Rattle.gl_core.specs.Device.{OneEntry, tells_in}
+use Rattle.gl_check.specs.Turns.{Did, Said, Turn}
 
 -- how many calls went through a port after so many answers more
 abbrev pub calls_after : ℕ → List (Option ℕ) → ℕ
@@ -28,17 +29,13 @@ pub record TellsAfter (t : Told) (answers : List (Option ℕ)) (left : Option To
   pub calls : told.calls ≡ calls_after t.calls answers
   pub last : answered_last told.last ≡ last_or (answered_last t.last) answers
 
--- how many calls of an actor are under way after an entry of it: one more where the entry owes a second one, and one less where it is one
-abbrev pub under_way : ℕ → OneEntry → ℕ
-under_way calls e = (calls + (if begins e.call e.reply then 1 else 0)) - (if ends e.call then 1 else 0)
+-- the entries of a call of the device that aren't the driver's own: its own ones stand behind the first
+abbrev pub without_own : List OneEntry → List OneEntry → List OneEntry
+without_own own [] = []
+without_own own (e ∷ es) = e ∷ drop (length own) es
 
--- the answer that an entry tells where just one call is under way
-abbrev pub told_alone : ℕ → OneEntry → List (Option ℕ)
-told_alone (suc zero) e = call_tells e.call
-told_alone _ e = []
-
--- The answers that an actor's entries tell, but for those within another call of it: these its driver asked for. So many calls are under way
--- before the first of the entries.
-abbrev pub outer_tells : ℕ → List OneEntry → List (Option ℕ)
-outer_tells calls [] = []
-outer_tells calls (e ∷ es) = told_alone calls e ++ outer_tells (under_way calls e) es
+-- The answers that turns tell, one after another, but for those within another call: these the driver asked for.
+abbrev pub outer_tells : List Turn → List (Option ℕ)
+outer_tells [] = []
+outer_tells (Said text ∷ turns) = outer_tells turns
+outer_tells (Did e ∷ turns) = tells_in (without_own e.own (entries_in e.did)) ++ outer_tells turns

@@ -22,7 +22,7 @@ use Rattle.gl_check.specs.Many.{AllPlayedBelow, Texts, actor_sections, program_o
 use Rattle.gl_session.specs.Many.{CameToMany}
 use Rattle.gl_session.specs.Performed.{PlaysOn}
 use Rattle.gl_check.specs.Turns.{carried}
-use Rattle.gl_session.specs.Ports.{AreAllThere, IsTaught, LearnAbove, maps_of}
+use Rattle.gl_session.specs.Ports.{AreAllThere, IsTaught, LearnAbove, maps_at, maps_found, maps_of}
 use Rattle.gl_session.specs.Workers.{AreKept, CameOut, HasCarriedOut, there_at, told_at}
 use Rattle.gl_session.proofs.Actors.{all_within}
 use Rattle.gl_session.proofs.Counting.{within_cost}
@@ -63,9 +63,9 @@ new_first room v new = (ap (λ (x : OneView). x.number) new, ap (λ (x : OneView
 
 module _ {P : Type 0} (told : P → Option Told) (driver : DriverOver) (sections : List SaidSection) where
   -- all others were taken in
-  pub all_joined : (room : ℕ) (v w : OneView) (before left : Option Told) (ports ports_then : List (Option P)) (texts : Texts) → v ≡ newcomer 0 room [] 1 [] [] → HasCarriedOut told driver sections v before ports texts w left ports_then
+  pub all_joined : (room : ℕ) (v w : OneView) (before left : Option Told) (m : Maps) (ports ports_then : List (Option P)) (texts : Texts) → v ≡ newcomer 0 room [] 1 [] [] → HasCarriedOut told driver sections v before ports texts w left m ports_then
       → (w.number ≡ 0) × (length w.joined + 1 ≡ w.made)
-  all_joined room v w before left ports ports_then texts new out =
+  all_joined room v w before left m ports ports_then texts new out =
       let one = out.setup.grew in let split = out.forked.split in let joined = out.forked.joined in let two = out.last.grew in
       let number : w.number ≡ 0 = two.number ∙ joined.number ∙ split.number ∙ one.number ∙ ap (λ (x : OneView). x.number) new in
       let nobody : length v.joined ≡ 0 = ap (λ (x : OneView). length x.joined) new in
@@ -85,14 +85,15 @@ module _ {P : Type 0} (told : P → Option Told) (driver : DriverOver) (sections
     same_then k far = told_same told ports_then given k (sym (ap (λ l. slice_get l k) given_is ∙ get_other ports_then 0 k (Some port_then) (λ same. absurd (omega (arith, same)))))
 
     -- what came of the whole
-    pub came : driver.kind.limit ≤ 8 → (v w : OneView) (before left : Option Told) (texts : Texts) (history : List OneEntry) → v ≡ newcomer 0 (session_cost sections) [] 1 [] [] → before ≡ told port → left ≡ told port_then
-        → HasCarriedOut told driver sections v before taken texts w left ports_then → length taken ≡ length ports_then
+    pub came : (kept : P → List Map) (takes : P → ℕ) → driver.kind.limit ≤ 8 → (v w : OneView) (before left : Option Told) (m : Maps) (texts : Texts) (history : List OneEntry) → v ≡ newcomer 0 (session_cost sections) [] 1 [] [] → before ≡ told port → left ≡ told port_then → m ≡ maps_of kept takes port_then
+        → HasCarriedOut told driver sections v before taken texts w left m ports_then → length taken ≡ length ports_then
         → Legal core history → StartsWith history w.seen → entries_of 0 history ≡ w.mine → HasAllOf w.joined history → ((n : ℕ) → w.made ≤ n → entries_of n history ≡ [])
-        → CameToMany driver sections (told_at told ports) (told_at told given) history texts
-    came limit v w before left texts history new first_is last_is out same_length legal begins mine all others =
+        → CameToMany driver sections (told_at told ports) (told_at told given) (maps_at kept takes given 0) history texts
+    came kept takes limit v w before left m texts history new first_is last_is maps_is out same_length legal begins mine all others =
         let start : told_at told ports 0 ≡ told port = told_got told ports 0 port got in
         let long : length taken ≡ length ports = ap (λ l. length l) left_is ∙ length-set ports 0 None in
-        let end : told_at told given 0 ≡ told port_then = ap (λ l. told_at told l 0) given_is ∙ told_got told (set ports_then 0 (Some port_then)) 0 port_then (get_set ports_then 0 (Some port_then) (omega arith)) in
+        let at_end : slice_get given 0 ≡ Some (Some port_then) = ap (λ l. slice_get l 0) given_is ∙ get_set ports_then 0 (Some port_then) (omega arith) in
+        let end : told_at told given 0 ≡ told port_then = told_got told given 0 port_then at_end in
         let played : AllPlayedBelow driver (told_at told ports) (told_at told given) sections history (length history) texts =
         all_played driver (told_at told ports) (told_at told given) sections (length (actor_sections sections)) (length (actor_sections sections)) v out.at_fork out.forked.between out.behind_fork w out.names out.end out.waiting out.behind texts.setup texts.last texts.actors history
         new
@@ -102,7 +103,8 @@ module _ {P : Type 0} (told : P → Option Told) (driver : DriverOver) (sections
         (λ k far. out.told_same k ∙ same_before k far) same_then out.forked.kept)
         out.own out.last (out.left_is ∙ last_is ∙ sym end) legal begins mine all others (sym out.forked.as_many) out.forked.as_many
         in let fits = within_cost driver limit (told_at told ports) (told_at told given) sections history (length history) texts played in
-        came_to_many driver limit (told_at told ports) (told_at told given) sections history texts (all_within driver (told_at told ports) (told_at told given) sections history (length history) fits texts played)
+        subst (λ (k : Maps). CameToMany driver sections (told_at told ports) (told_at told given) k history texts) (sym out.maps_are ∙ maps_is ∙ ap (maps_found kept takes) (sym at_end))
+        (came_to_many driver limit (told_at told ports) (told_at told given) sections history texts (all_within driver (told_at told ports) (told_at told given) sections history (length history) fits texts played))
 
     behind_first : (n : ℕ) → 1 ≤ n → slice_get given n ≡ slice_get ports_then n
     behind_first n far = ap (λ l. slice_get l n) given_is ∙ get_other ports_then 0 n (Some port_then) (λ same. absurd (omega (arith, same)))
@@ -111,8 +113,8 @@ module _ {P : Type 0} (told : P → Option Told) (driver : DriverOver) (sections
     untaken n far = ap (λ l. slice_get l n) left_is ∙ get_other ports 0 n None (λ same. absurd (omega (arith, same)))
 
     -- all ports are there again
-    pub all_there : (v w : OneView) (before left : Option Told) (texts : Texts) → HasCarriedOut told driver sections v before taken texts w left ports_then → AreAllThere ports → AreAllThere given
-    all_there v w before left texts out were = record { count = long ∙ were.count; there = found_all given at } where
+    pub all_there : (v w : OneView) (before left : Option Told) (m : Maps) (texts : Texts) → HasCarriedOut told driver sections v before taken texts w left m ports_then → AreAllThere ports → AreAllThere given
+    all_there v w before left m texts out were = record { count = long ∙ were.count; there = found_all given at } where
       taken_long : length taken ≡ length ports
       taken_long = ap (λ l. length l) left_is ∙ length-set ports 0 None
 

@@ -449,6 +449,7 @@ module _ {X : Type 0} (limit left_over : ℕ) (answers : Answers X) (driver : Dr
 
         pub session_runs : ((run_session limit left_over answers sections source).text ≡ text) × ((run_session limit left_over answers sections source).behind.took ≡ given_of driver sections before text did left p)
             × ((run_session limit left_over answers sections source).behind.entries ≡ length did) × Fits (run_session limit left_over answers sections source).behind.source left []
+            × Alike (done p.last.names) (run_session limit left_over answers sections source).behind.maps p.last.behind.maps
         session_runs =
             let first : List OneDeed = p.setup.did in let middle : List OneDeed = p.actor.did in let last : List OneDeed = p.last.did in
             let by_setup : List Answering = given_by p.setup.played.turns in let by_actor : List Answering = given_by p.actor.played.turns in let by_after : List Answering = given_by p.last.played.turns in
@@ -462,6 +463,7 @@ module _ {X : Type 0} (limit left_over : ℕ) (answers : Answers X) (driver : Dr
                   let of_after : length last ≡ length (did_by p.last.played.turns) = ap (λ (l : List OneDeed). length l) p.last.played.did_is in
                   let front = length-append first (middle ++ last) in let back = length-append middle last in omega arith),
               subst (λ told. Fits (run_session limit left_over answers sections source).behind.source told []) (sym p.left_is) ends.0.at.fits,
+              ends.1,
             )
 
 -- The run has the very maps of the port.
@@ -583,7 +585,7 @@ pub prints_over : (driver : DriverOver) → PrintsOver driver
 prints_over driver sections before left text did history p alone =
     let s = session_runs driver.kind.limit driver.maps_left from_list driver sections ListFits Any (list_serves driver) Alike (go_same driver sections) (λ p m k call same. tt) before left text did (given_of driver sections before text did left p) p
     (whole_rest history did alone) opens_steady refl in
-    (sym s.0, s.1, s.2 ∙ sym (length_entries did) ∙ ap (λ (l : List OneEntry). length l) (sym alone.entries))
+    (sym s.0, s.1, s.2 ∙ sym (length_entries did) ∙ ap (λ (l : List OneEntry). length l) (sym alone.entries), s.4)
 
 -- the answers of what the driver did at once
 answers_of : (answers : List (Option ℕ)) → map answer_in (map at_once answers) ≡ answers

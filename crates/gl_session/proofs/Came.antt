@@ -9,10 +9,11 @@ use Rattle.gl_trace.proofs.Legal.{legal_entries_have_texts}
 use Rattle.gl_core.specs.Device.{OneEntry}
 use Rattle.gl_session.specs.Many.{CameToMany}
 use Rattle.gl_check.specs.Drivers.{DriverOver}
+use Rattle.gl_check.specs.Joining.{Maps}
 use Rattle.gl_check.specs.Many.{Texts}
 
 -- each entry has a text
-pub entries_told : (driver : DriverOver) (sections : List SaidSection) (before left : ℕ → Option Told) (history items : List OneEntry) (texts : Texts) → items ≡ history → CameToMany driver sections before left history texts
+pub entries_told : (driver : DriverOver) (sections : List SaidSection) (before left : ℕ → Option Told) (m : Maps) (history items : List OneEntry) (texts : Texts) → items ≡ history → CameToMany driver sections before left m history texts
     → Each (λ (e : OneEntry). HasText e) items
-entries_told driver sections before left history items texts same came =
+entries_told driver sections before left m history items texts same came =
     subst (λ (l : List OneEntry). Each (λ (e : OneEntry). HasText e) l) (sym same) ((legal_entries_have_texts StandsFor).behind_a_history history came.many.legal)

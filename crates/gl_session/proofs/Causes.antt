@@ -15,6 +15,7 @@ use Rattle.gl_session.specs.Streams.{ReadsThrough}
 use Rattle.gl_session.specs.Run.{IsOutput, IsRefusal}
 use Rattle.gl_session.proofs.FewStatements.{sentence_is_short}
 use Rattle.gl_check.specs.Drivers.{DriverOver}
+use Rattle.gl_check.specs.Joining.{Maps}
 
 -- a sentence is not refused
 pub not_refused : (bytes : List ℕ) (sections : List SaidSection) → Sentence bytes sections → first_fault bytes ≡ None
@@ -65,9 +66,9 @@ module _ (input bytes rest : List ℕ) (whole : input ≡ bytes ++ rest) (ends :
   same_refusal : first_fault input ≡ first_fault bytes
   same_refusal = same_if (nat_lt 1048576 (length bytes)) refl
 
-  output_of_read : (driver : DriverOver) (before left : ℕ → Option Told) (text : List ℕ) → IsOutput driver before left bytes text → IsOutput driver before left input text
-  output_of_read driver before left text (inl session) = inl (session.0, runs_of_read session.0 session.1, session.2)
-  output_of_read driver before left text (inr refused) = inr (refused.0, same_refusal ∙ refused.1, refused.2)
+  output_of_read : (driver : DriverOver) (before left : ℕ → Option Told) (m : Maps) (text : List ℕ) → IsOutput driver before left m bytes text → IsOutput driver before left m input text
+  output_of_read driver before left m text (inl session) = inl (session.0, runs_of_read session.0 session.1, session.2)
+  output_of_read driver before left m text (inr refused) = inr (refused.0, same_refusal ∙ refused.1, refused.2)
 
 -- bytes that were read, and then lent
 pub as_lent : (limit : ℕ) (old new : Option (List ℕ)) (items lent : List ℕ) → ReadsThrough limit old new items → lent ≡ items → ReadsThrough limit old new lent
@@ -97,13 +98,13 @@ if_refused None new bytes Written r out = tt
 if_refused (Some input) None bytes Written r out = absurd r.first
 if_refused (Some input) (Some rest) bytes Written r out = (out.0, same_refusal input bytes rest r.first r.end ∙ out.1, out.2)
 
-pub if_output : (driver : DriverOver) (before left : ℕ → Option Told) (old new : Option (List ℕ)) (bytes : List ℕ) (Written : List ℕ → Type 0) → ReadsThrough 1048576 old new bytes →
-    (text : List ℕ) × IsOutput driver before left bytes text × Written text →
-    IfSome old (λ input. (text : List ℕ) × IsOutput driver before left input text × Written text)
-if_output driver before left None new bytes Written r out = tt
-if_output driver before left (Some input) None bytes Written r out = absurd r.first
-if_output driver before left (Some input) (Some rest) bytes Written r out =
-    (out.0, output_of_read input bytes rest r.first r.end driver before left out.0 out.1, out.2)
+pub if_output : (driver : DriverOver) (before left : ℕ → Option Told) (m : Maps) (old new : Option (List ℕ)) (bytes : List ℕ) (Written : List ℕ → Type 0) → ReadsThrough 1048576 old new bytes →
+    (text : List ℕ) × IsOutput driver before left m bytes text × Written text →
+    IfSome old (λ input. (text : List ℕ) × IsOutput driver before left m input text × Written text)
+if_output driver before left m None new bytes Written r out = tt
+if_output driver before left m (Some input) None bytes Written r out = absurd r.first
+if_output driver before left m (Some input) (Some rest) bytes Written r out =
+    (out.0, output_of_read input bytes rest r.first r.end driver before left m out.0 out.1, out.2)
 
 -- a run over refused bytes doesn't run
 only_refusals : (status : Status) → (status ≡ Usage → ⊥) → (status ≡ No → ⊥) → (status ≡ Ran → ⊥) → IsRefusal status

@@ -19,7 +19,7 @@ use Rattle.gl_check.specs.Drivers.{DriverKind, over}
 use Rattle.gl_check.specs.Joining.{Maps, joined_at, learned, maps, maps_behind, no_maps, targets_in, taught, with_one}
 use Rattle.gl_check.specs.Turns.{Carried, Did, Follows, Said, Takes, Turn}
 use Rattle.gl_session.specs.OneActor.{CameAloneWith}
-use Rattle.gl_session.specs.Ports.{AllHave, AreAllThere, AreMaps, HasLearned, HasLearnedThem, IsTaught, LearnAbove, left_at, left_found, maps_of}
+use Rattle.gl_session.specs.Ports.{AllHave, AreAllThere, AreMaps, HasLearned, HasLearnedThem, IsTaught, LearnAbove, left_at, left_found, maps_of, maps_at, maps_found}
 use Rattle.gl_session.specs.Workers.{is_found, there_at, told_at, told_found}
 use Rattle.gl_session.proofs.Mapped.{also_has, each_more, others_have}
 use Rattle.gl_session.proofs.PortPlaces.{all_found, all_put_back, found_all, get_other, get_set, there_got, there_same, told_got}
@@ -192,10 +192,11 @@ module _ {P : Type 0} (kept : P → List Map) (left : P → ℕ) (told : P → O
   stay_beside none = (all_put_back ports taken given port_then left_is (given_is ∙ ap (λ (l : List (Option P)). set l 0 (Some port_then)) (stay_between none)) were).1
 
   pub came_beside : (kind : DriverKind) (sections : List SaidSection) (port : P) (text : List ℕ) (entries : ℕ) → slice_get ports 0 ≡ Some (Some port)
-      → CameAloneWith (over (left port) kind) sections (told port) text (told port_then) entries → CameAloneWith (over (left_at left ports 0) kind) sections (told_at told ports 0) text (told_at told given 0) entries
+      → CameAloneWith (over (left port) kind) sections (told port) text (told port_then) (maps_of kept left port_then) entries
+      → CameAloneWith (over (left_at left ports 0) kind) sections (told_at told ports 0) text (told_at told given 0) (maps_at kept left given 0) entries
   came_beside kind sections port text entries got came =
-      subst (λ (x : ℕ × Option Told × Option Told). CameAloneWith (over x.0 kind) sections x.1 text x.2 entries)
-      (λ i. (ap (left_found left) (sym got) i, sym (told_got told ports 0 port got) i, sym (told_got told given 0 port_then first_given) i)) came
+      subst (λ (x : ℕ × Option Told × Option Told × Maps). CameAloneWith (over x.0 kind) sections x.1 text x.2 x.3 entries)
+      (λ i. (ap (left_found left) (sym got) i, sym (told_got told ports 0 port got) i, sym (told_got told given 0 port_then first_given) i, ap (maps_found kept left) (sym first_given) i)) came
 
 -- One map more, of those that a port keeps.
 keeps_apart : (front kept : List Map) (map : Map) → ((n : ℕ) (x : Map) → slice_get kept n ≡ Some x → map_at x.place (front ++ take n kept) ≡ None) → map_at map.place (front ++ kept) ≡ None

@@ -14,5 +14,5 @@ told_before index rest later e is typed text more = subst (λ (l : List OneEntry
 
 -- what was printed tells the history that a session came to
 pub texts_tell_history : (driver other_driver : DriverOver) → TextsTellHistory driver other_driver
-texts_tell_history driver other_driver sections others before left other_before other_left text a b =
+texts_tell_history driver other_driver sections others before left other_before other_left m other_m text a b =
     output_tells_history sections others a.texts b.texts a.history b.history a.told b.told (sym a.prints ∙ b.prints)

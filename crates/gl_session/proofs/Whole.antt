@@ -20,7 +20,7 @@ use Rattle.gl_check.specs.Drivers.{DriverKind, DriverOver, start_maps}
 use Rattle.gl_check.specs.Joining.{Maps, asking_with}
 use Rattle.gl_base.specs.Rows.{Each}
 use Rattle.gl_check.specs.Lawful.{IsLawfulCall}
-use Rattle.gl_check.specs.One.{Answering, asked_over, entries_over, one_over, taken_over, told_over}
+use Rattle.gl_check.specs.One.{Answering, asked_over, entries_over, maps_over, one_over, taken_over, told_over}
 use Rattle.gl_check.proofs.ThroughPort.{tells_given}
 use Rattle.gl_check.specs.Programs.{actor_of, after_of, setup_of}
 use Rattle.gl_asking.specs.declared.kinds.Asking.{Asking}
@@ -110,7 +110,7 @@ module _ (driver : DriverOver) (limit : driver.kind.limit ≤ 8) (sections : Lis
       }
 
       pub has_played : (x : OneView) (t3 : List ℕ) (last_names : Names) (last : Carried) → t0 ≡ [] → PlaysOn driver.kind (after_of sections names) u (carried r.files own.told own.maps) t2 (done last_names) x last t3
-          → HasPlayed driver sections told t3 last.told v x
+          → HasPlayed driver sections told t3 last.told last.maps v x
       has_played x t3 last_names last empty after =
           let later = no_shorter x.seen u.seen after.grew.seen in let between = no_shorter u.seen w.seen actor.grew.seen in (
             did_by setup.turns ++ (did_by actor.turns ++ did_by after.turns),
@@ -128,6 +128,7 @@ module _ (driver : DriverOver) (limit : driver.kind.limit ≤ 8) (sections : Lis
               actor = subst (λ (room : ℕ). AreSeen room (length x.seen) actor.turns) setup.grew.room (seen_more w.room (length u.seen) (length x.seen) actor.turns later actor.seen);
               last = subst (λ (room : ℕ). AreSeen room (length x.seen) after.turns) (actor.grew.room ∙ setup.grew.room) after.seen;
             },
+            refl,
           )
 
 -- The first actor of a new device finds no full history before as many entries as the history takes.
@@ -139,7 +140,7 @@ never_full limit v w new strangers s =
     let count : length w.seen ≡ length s.did = ap (λ (l : List OneEntry). length l) seen ∙ length_entries (s.did ++ []) ∙ ap (λ (l : List OneDeed). length l) (append-nil s.did) in
     let full = s.full.full in let few = s.few in omega arith
 
-module _ (driver : DriverOver) (limit : driver.kind.limit ≤ 8) (sections : List SaidSection) (before left : Option Told) (text : List ℕ) (v w : OneView) (history : List OneEntry) where
+module _ (driver : DriverOver) (limit : driver.kind.limit ≤ 8) (sections : List SaidSection) (before left : Option Told) (text : List ℕ) (m : Maps) (v w : OneView) (history : List OneEntry) where
   -- where no port keeps maps
   came_plainly : (did : List OneDeed) (played : PlayedSession driver sections before text did left) → IsAlone history did → KeepsNoMaps driver sections → CameWithEntries driver.kind sections before text left (length history)
   came_plainly did played alone none =
@@ -160,8 +161,8 @@ module _ (driver : DriverOver) (limit : driver.kind.limit ≤ 8) (sections : Lis
   came_over : (given : List Answering) → text ≡ one_over driver.kind.limit driver.maps_left sections given → taken_over driver.kind.limit driver.maps_left sections given ≡ given
       → entries_over driver.kind.limit driver.maps_left sections given ≤ session_cost sections
       → Each (IsLawfulCall driver.kind (session_cost sections)) (asked_over driver.kind.limit driver.maps_left sections given before) → left ≡ told_over driver.kind.limit driver.maps_left sections given before
-      → CameToOneOver driver sections before text left
-  came_over given prints takes within lawful port = record {
+      → m ≡ maps_over driver.kind.limit driver.maps_left sections given → CameToOneOver driver sections before text left m
+  came_over given prints takes within lawful port kept = record {
     given = given;
     prints = prints;
     takes = takes;
@@ -169,11 +170,12 @@ module _ (driver : DriverOver) (limit : driver.kind.limit ≤ 8) (sections : Lis
     lawful = lawful;
     port = port;
     tells = tells_given driver (session_cost sections) sections given before left takes lawful port;
+    maps = kept;
   }
 
-  pub came_with_entries : v ≡ newcomer 0 (session_cost sections) [] 1 [] [] → HasPlayed driver sections before text left v w → Legal core history → StartsWith history w.seen → entries_of 0 history ≡ w.mine
-      → ((n : ℕ) → w.made ≤ n → entries_of n history ≡ []) → CameAloneWith driver sections before text left (length history)
-  came_with_entries new (did, played, grew, seen) legal begins mine others =
+  pub came_with_entries : v ≡ newcomer 0 (session_cost sections) [] 1 [] [] → HasPlayed driver sections before text left m v w → Legal core history → StartsWith history w.seen → entries_of 0 history ≡ w.mine
+      → ((n : ℕ) → w.made ≤ n → entries_of n history ≡ []) → CameAloneWith driver sections before text left m (length history)
+  came_with_entries new (did, played, grew, seen, kept) legal begins mine others =
       let alone = first_actor_is_alone (session_cost sections) v w did history new grew legal begins mine others in
       let given : List Answering = given_of driver sections before text did left played in
       let prints = prints_over driver sections before left text did history played alone in
@@ -187,6 +189,6 @@ module _ (driver : DriverOver) (limit : driver.kind.limit ≤ 8) (sections : Lis
               actor = seen_more (session_cost sections) (length w.seen) (session_cost sections) played.actor.played.turns less (subst (λ (k : ℕ). AreSeen k (length w.seen) played.actor.played.turns) room seen.actor);
               last = seen_more (session_cost sections) (length w.seen) (session_cost sections) played.last.played.turns less (subst (λ (k : ℕ). AreSeen k (length w.seen) played.last.played.turns) room seen.last);
             }))
-            ((port_tells driver).over sections before left text did history played alone);
+            ((port_tells driver).over sections before left text did history played alone) (kept ∙ sym prints.3);
         plainly = λ none. came_plainly did played alone none;
       }

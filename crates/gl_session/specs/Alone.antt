@@ -22,7 +22,7 @@ use Rattle.gl_check.specs.Joining.{Maps}
 use Rattle.gl_check.specs.Lawful.{IsLawfulCall}
 use Rattle.gl_check.specs.Programs.{actor_of, after_of, setup_of}
 use Rattle.gl_check.specs.Tells.{TellsAfter}
-use Rattle.gl_check.specs.One.{Answering, asked_over, entries_made, entries_over, one, one_over, planned_over, taken, taken_over, told_behind, told_over}
+use Rattle.gl_check.specs.One.{Answering, asked_over, entries_made, entries_over, maps_over, one, one_over, planned_over, taken, taken_over, told_behind, told_over}
 use Rattle.gl_asking.specs.Files.{OpenFile}
 use Rattle.gl_check.specs.Turns.{AreSeen, Carried, Did, Exchange, Played, Said, Turn, carried}
 
@@ -106,13 +106,14 @@ FirstActorIsAlone = (room : ℕ) (v w : OneView) (did : List OneDeed) (history :
 abbrev pub FirstActorSeesItself : Type 0
 FirstActorSeesItself = (room : ℕ) (v w : OneView) (did : List OneDeed) → v ≡ newcomer 0 room [] 1 [] [] → Grew core v did w → NoStrangers w w.seen → w.seen ≡ entries_in did
 
--- What was printed is One over what the driver did where it was asked, calls of its own included; One takes just that, and makes
--- as many entries.
+-- What was printed is One over what the driver did where it was asked, calls of its own included; One takes just that, makes
+-- as many entries, and leaves the port with the same maps.
 abbrev pub PrintsOver : DriverOver → Type 0
 PrintsOver driver = (sections : List SaidSection) (before left : Option Told) (text : List ℕ) (did : List OneDeed) (history : List OneEntry)
     (p : PlayedSession driver sections before text did left) → IsAlone history did → let given = given_of driver sections before text did left p in
     (text ≡ one_over driver.kind.limit driver.maps_left sections given) × (taken_over driver.kind.limit driver.maps_left sections given ≡ given)
     × (entries_over driver.kind.limit driver.maps_left sections given ≡ length history)
+    × (maps_over driver.kind.limit driver.maps_left sections given ≡ p.last.behind.maps)
 
 -- No port of the session ever keeps a map: it takes none, or is taught none.
 abbrev pub KeepsNoMaps : DriverOver → List SaidSection → Type 0

@@ -57,6 +57,15 @@ module _ {P : Type 0} (kept : P → List Map) (left : P → ℕ) where
   abbrev pub maps_of : P → Maps
   maps_of port = maps (kept port) (left port)
 
+  -- the maps of the port of a number; none where there is none
+  abbrev pub maps_found : Option (Option P) → Maps
+  maps_found None = no_maps 0
+  maps_found (Some None) = no_maps 0
+  maps_found (Some (Some port)) = maps_of port
+
+  abbrev pub maps_at : List (Option P) → ℕ → Maps
+  maps_at ports n = maps_found (slice_get ports n)
+
   -- all ports that are there have these maps
   abbrev pub AllHave : Maps → List (Option P) → Type 0
   AllHave m ports = (n : ℕ) (port : P) → slice_get ports n ≡ Some (Some port) → maps_of port ≡ m

@@ -190,8 +190,8 @@ pub record CannotEnd (w : OneView) : Type 0 where
       → ((n : ℕ) → w.made ≤ n → entries_of n history ≡ []) → ⊥
 
 -- The first actor carried `setup` out, had the actors carry out their sections, each over a port with the maps of `setup`, and carried `after` out,
--- with this port of its own.
-pub record HasCarriedOut {P : Type 0} (told : P → Option Told) (driver : DriverOver) (sections : List SaidSection) (v : OneView) (before : Option Told) (ports : List (Option P)) (texts : Texts) (w : OneView) (left : Option Told) (ports_then : List (Option P)) : Type 0 where
+-- with this port of its own, which keeps these maps then.
+pub record HasCarriedOut {P : Type 0} (told : P → Option Told) (driver : DriverOver) (sections : List SaidSection) (v : OneView) (before : Option Told) (ports : List (Option P)) (texts : Texts) (w : OneView) (left : Option Told) (m : Maps) (ports_then : List (Option P)) : Type 0 where
   pub names : Names
   pub waiting : Carried
   pub at_fork : OneView
@@ -208,3 +208,4 @@ pub record HasCarriedOut {P : Type 0} (told : P → Option Told) (driver : Drive
   pub behind : Carried
   pub last : PlaysOn driver.kind (after_of sections names) behind_fork waiting [] (done end) w behind texts.last
   pub left_is : behind.told ≡ left
+  pub maps_are : m ≡ behind.maps

@@ -140,7 +140,7 @@ fn play_parts<R: Wait, D: Driver<Core>>(
     requires bare { player.old.carried.maps ≡ no_maps player.old.carried.maps.left }
     requires first { player.old.view.number ≡ 0 }
     ensures device { player.new.gate ≡ player.old.gate }
-    ensures played { OnOk result (HasPlayed (over player.old.carried.maps.left (driver_kind D.ENTRIES D.is_planned D.OwnEntries D.Follows)) (sections_of script.now) player.old.carried.told player.new.text player.new.carried.told
+    ensures played { OnOk result (HasPlayed (over player.old.carried.maps.left (driver_kind D.ENTRIES D.is_planned D.OwnEntries D.Follows)) (sections_of script.now) player.old.carried.told player.new.text player.new.carried.told player.new.carried.maps
         player.old.view player.new.view) }
     ensures learned { OnOk result (HasLearnedThem player.old.carried.maps.left player.new.carried.maps) }
     ensures without { OnOk result (has_aggregate (sections_of script.now) ≡ false → player.new.carried.maps ≡ player.old.carried.maps) }
@@ -175,7 +175,7 @@ fn play_session<R: Wait, D: Driver<Core>>(
     requires bare { player.old.carried.maps ≡ no_maps player.old.carried.maps.left }
     requires first { player.old.view ≡ newcomer 0 (session_cost (sections_of script.now)) [] 1 [] [] }
     ensures device { player.new.gate ≡ player.old.gate }
-    ensures played { IfOk result (λ text. HasPlayed (over player.old.carried.maps.left (driver_kind D.ENTRIES D.is_planned D.OwnEntries D.Follows)) (sections_of script.now) player.old.carried.told text.items player.new.carried.told
+    ensures played { IfOk result (λ text. HasPlayed (over player.old.carried.maps.left (driver_kind D.ENTRIES D.is_planned D.OwnEntries D.Follows)) (sections_of script.now) player.old.carried.told text.items player.new.carried.told player.new.carried.maps
         player.old.view player.new.view) }
     ensures learned { OnOk result (HasLearnedThem player.old.carried.maps.left player.new.carried.maps) }
     ensures without { OnOk result (has_aggregate (sections_of script.now) ≡ false → player.new.carried.maps ≡ player.old.carried.maps) }
@@ -209,7 +209,7 @@ pub fn run_one<R: Wait, D: Driver<Core>>(
     requires few_own { D.ENTRIES ≤ 8 }
     requires bare { D.Port.maps port ≡ [] }
     requires sized { IsSized (sections_of script.now) }
-    ensures came { IfOk result (λ ran. CameAloneWith (over (D.Port.maps_left port) (driver_kind D.ENTRIES D.is_planned D.OwnEntries D.Follows)) (sections_of script.now) (D.Port.told port) ran.0.items (D.Port.told ran.2) ran.1) }
+    ensures came { IfOk result (λ ran. CameAloneWith (over (D.Port.maps_left port) (driver_kind D.ENTRIES D.is_planned D.OwnEntries D.Follows)) (sections_of script.now) (D.Port.told port) ran.0.items (D.Port.told ran.2) (maps_of D.Port.maps D.Port.maps_left ran.2) ran.1) }
     ensures without { IfOk result (λ ran. has_aggregate (sections_of script.now) ≡ false → ran.3.items ≡ []) }
     ensures maps { IfOk result (λ ran. AreMaps ran.3.items × (maps_of D.Port.maps D.Port.maps_left ran.2 ≡ taught ran.3.items (no_maps (D.Port.maps_left port)))) }
     ensures memory_alone { IsOkUnless result Errno.NoMemory }

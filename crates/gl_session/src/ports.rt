@@ -7,7 +7,7 @@ ghost use Rattle.gl_check.specs.Joining.{no_maps};
 ghost use Rattle.gl_check.specs.Many.{actor_sections};
 ghost use Rattle.gl_chip.specs.Values.{IsQuietDriver};
 ghost use Rattle.gl_session.specs.OneActor.{CameAloneWith, IsSized};
-ghost use Rattle.gl_session.specs.Ports.{AreAllThere, LearnAbove, OthersLearn, OwnsNothing, TakeMaps, left_at};
+ghost use Rattle.gl_session.specs.Ports.{AreAllThere, LearnAbove, OthersLearn, OwnsNothing, TakeMaps, left_at, maps_at};
 ghost use Rattle.gl_session.specs.Run.{CameTo};
 ghost use Rattle.gl_session.specs.Workers.{told_at};
 
@@ -42,7 +42,7 @@ pub fn run_alone<R: Wait, D: Driver<Core>>(
     requires bare { TakeMaps D.Port.maps D.Port.maps_left ports.old }
     requires sized { IsSized (sections_of script.now) }
     requires ports { AreAllThere ports.old }
-    ensures came { IfOk result (λ ran. CameAloneWith (over (left_at D.Port.maps_left ports.old 0) (driver_kind D.ENTRIES D.is_planned D.OwnEntries D.Follows)) (sections_of script.now) (told_at D.Port.told ports.old 0) ran.0.items (told_at D.Port.told ports.new 0) ran.1) }
+    ensures came { IfOk result (λ ran. CameAloneWith (over (left_at D.Port.maps_left ports.old 0) (driver_kind D.ENTRIES D.is_planned D.OwnEntries D.Follows)) (sections_of script.now) (told_at D.Port.told ports.old 0) ran.0.items (told_at D.Port.told ports.new 0) (maps_at D.Port.maps D.Port.maps_left ports.new 0) ran.1) }
     ensures there { IfOk result (λ _. AreAllThere ports.new) }
     ensures others { OnOk result (LearnAbove D.Port.maps D.Port.maps_left D.Port.told D.Port.faults 0 (sections_of script.now) (no_maps (left_at D.Port.maps_left ports.old 0)) ports.old ports.new) }
     ensures others_stay { has_aggregate (sections_of script.now) ≡ false → drop 1 ports.new ≡ drop 1 ports.old }
@@ -79,7 +79,7 @@ pub fn carry_script<R: Threads + Wait + Sync, D: Driver<Core>>(
     requires sized { IsSized (sections_of script.now) }
     requires few { length (actor_sections (sections_of script.now)) ≤ 16 }
     requires ports { AreAllThere ports.old }
-    ensures came { IfOk result (λ text. CameTo (over (left_at D.Port.maps_left ports.old 0) (driver_kind D.ENTRIES D.is_planned D.OwnEntries D.Follows)) (sections_of script.now) (told_at D.Port.told ports.old) (told_at D.Port.told ports.new) text.items) }
+    ensures came { IfOk result (λ text. CameTo (over (left_at D.Port.maps_left ports.old 0) (driver_kind D.ENTRIES D.is_planned D.OwnEntries D.Follows)) (sections_of script.now) (told_at D.Port.told ports.old) (told_at D.Port.told ports.new) (maps_at D.Port.maps D.Port.maps_left ports.new 0) text.items) }
     ensures there { OnOk result (AreAllThere ports.new) }
     ensures others { OnOk result (OthersLearn D.Port.maps D.Port.maps_left D.Port.told D.Port.faults (sections_of script.now) ports.old ports.new) }
     ensures memory_alone { IsOkUnless result Errno.NoMemory }

@@ -9,7 +9,7 @@ ghost use Rattle.gl_words.specs.Words.{asks, texts};
 ghost use Rattle.gl_check.specs.Drivers.{driver_kind, over};
 ghost use Rattle.gl_chip.specs.Values.{IsQuietDriver};
 ghost use Rattle.gl_session.specs.Figures.{CameToLoad, HasWrittenLoad};
-ghost use Rattle.gl_session.specs.Ports.{AreAllThere, OthersLearn, OwnsNothing, TakeMaps, left_at};
+ghost use Rattle.gl_session.specs.Ports.{AreAllThere, OthersLearn, OwnsNothing, TakeMaps, left_at, maps_at};
 ghost use Rattle.gl_session.specs.Workers.{told_at};
 ghost use Rattle.gl_session.specs.Streams.{ReadsThrough, LosesFront, AppendsFront};
 ghost use Rattle.gl_session.specs.Verdict.{IsJudgment, IsLawful, IsVerdict, verdict_line, verdict_status, yes_line};
@@ -49,8 +49,7 @@ use std::thread::Threads;
 /// The first cause decides: words that ask for nothing, a fault of reading, bytes that are no session, being out of memory, a fault of
 /// writing. There are 17 ports: that of the number of an actor is the one through which it asks the driver. None of them keeps a map, and each
 /// takes as many; what an `aggregate` teaches one of them the others learn too. Where the driver goes by no map it makes no entries of its own; those
-/// that it makes elsewhere, eight at most for a call, begin no removal, end none, request no lines, and are those of
-/// whole calls.
+/// that it makes elsewhere, eight at most for a call, begin no removal, end none and request no lines.
 pub fn run<R: Threads + Wait + Sync, S: Source, K: Sink, D: Driver<Core>>(
     rt: &R,
     alloc: Global,
@@ -69,10 +68,11 @@ pub fn run<R: Threads + Wait + Sync, S: Source, K: Sink, D: Driver<Core>>(
     // A session that ran is read to its end, and what it came to is written. With fewer than two actors that is One over what its driver did
     // where it was asked; where no port keeps maps, as without an `aggregate`, it is One of just the answers that it gave. A planned driver over a
     // new port gave those of Planned then, and a port that tells has told them. With two or more it is Output of texts and a history with Many; over
-    // new ports of a planned driver its tells are as planned, and each port that tells has told those of its actor.
+    // new ports of a planned driver its tells are as planned, and each port that tells has told those of its actor. The first port keeps the maps that
+    // are taught there.
     ensures output { result ≡ Status.Ran → words.now ≡ [] → IfSome (S.left source.old) (λ input. (sections : List SaidSection) → Sentence input sections →
         IsAtEnd (S.left source.new)
-        × HasWritten (over (left_at D.Port.maps_left ports.old 0) (driver_kind D.ENTRIES D.is_planned D.OwnEntries D.Follows)) sections (told_at D.Port.told ports.old) (told_at D.Port.told ports.new) (K.held sink.old) (K.held sink.new)) }
+        × HasWritten (over (left_at D.Port.maps_left ports.old 0) (driver_kind D.ENTRIES D.is_planned D.OwnEntries D.Follows)) sections (told_at D.Port.told ports.old) (told_at D.Port.told ports.new) (maps_at D.Port.maps D.Port.maps_left ports.new 0) (K.held sink.old) (K.held sink.new)) }
     ensures ran_only_session { result ≡ Status.Ran → words.now ≡ [] → IfSome (S.left source.old) (λ input. (sections : List SaidSection) × Sentence input sections) }
 
     // A load that ran told its four numbers: how many statements it has, how many entries One makes of it over just the answers that its
@@ -110,7 +110,7 @@ pub fn run<R: Threads + Wait + Sync, S: Source, K: Sink, D: Driver<Core>>(
     ensures write_fault_told { K.fault_count sink.old < K.fault_count sink.new → result ≡ Status.WriteFault }
     ensures write_fault_read_through { result ≡ Status.WriteFault → words.now ≡ [] → (bytes : List ℕ) × ReadsThrough SESSION_MAX (S.left source.old) (S.left source.new) bytes }
     ensures write_fault_front { result ≡ Status.WriteFault → words.now ≡ [] → IfSome (S.left source.old) (λ input.
-        (text : List ℕ) × IsOutput (over (left_at D.Port.maps_left ports.old 0) (driver_kind D.ENTRIES D.is_planned D.OwnEntries D.Follows)) (told_at D.Port.told ports.old) (told_at D.Port.told ports.new) input text
+        (text : List ℕ) × IsOutput (over (left_at D.Port.maps_left ports.old 0) (driver_kind D.ENTRIES D.is_planned D.OwnEntries D.Follows)) (told_at D.Port.told ports.old) (told_at D.Port.told ports.new) (maps_at D.Port.maps D.Port.maps_left ports.new 0) input text
         × AppendsFront (K.held sink.old) (K.held sink.new) text) }
     ensures load_front { result ≡ Status.WriteFault → (n : ℕ) → asks (texts words.now) ≡ Some (Task.Load n) → (text : List ℕ)
         × CameToLoad (driver_kind D.ENTRIES D.is_planned D.OwnEntries D.Follows) n (told_at D.Port.told ports.old 0) (told_at D.Port.told ports.new 0) text
@@ -186,7 +186,7 @@ fn run_session<R: Threads + Wait + Sync, S: Source, K: Sink, D: Driver<Core>>(
     requires ports { AreAllThere ports.old }
     ensures output { result ≡ Status.Ran → IfSome (S.left source.old) (λ input. (sections : List SaidSection) → Sentence input sections →
         IsAtEnd (S.left source.new)
-        × HasWritten (over (left_at D.Port.maps_left ports.old 0) (driver_kind D.ENTRIES D.is_planned D.OwnEntries D.Follows)) sections (told_at D.Port.told ports.old) (told_at D.Port.told ports.new) (K.held sink.old) (K.held sink.new)) }
+        × HasWritten (over (left_at D.Port.maps_left ports.old 0) (driver_kind D.ENTRIES D.is_planned D.OwnEntries D.Follows)) sections (told_at D.Port.told ports.old) (told_at D.Port.told ports.new) (maps_at D.Port.maps D.Port.maps_left ports.new 0) (K.held sink.old) (K.held sink.new)) }
     ensures ran_only_session { result ≡ Status.Ran → IfSome (S.left source.old) (λ input. (sections : List SaidSection) × Sentence input sections) }
     ensures no_usage { result ≢ Status.Usage }
     ensures no_no { result ≢ Status.No }
@@ -203,7 +203,7 @@ fn run_session<R: Threads + Wait + Sync, S: Source, K: Sink, D: Driver<Core>>(
     ensures write_fault_told { K.fault_count sink.old < K.fault_count sink.new → result ≡ Status.WriteFault }
     ensures write_fault_read_through { result ≡ Status.WriteFault → (bytes : List ℕ) × ReadsThrough SESSION_MAX (S.left source.old) (S.left source.new) bytes }
     ensures write_fault_front { result ≡ Status.WriteFault → IfSome (S.left source.old) (λ input.
-        (text : List ℕ) × IsOutput (over (left_at D.Port.maps_left ports.old 0) (driver_kind D.ENTRIES D.is_planned D.OwnEntries D.Follows)) (told_at D.Port.told ports.old) (told_at D.Port.told ports.new) input text
+        (text : List ℕ) × IsOutput (over (left_at D.Port.maps_left ports.old 0) (driver_kind D.ENTRIES D.is_planned D.OwnEntries D.Follows)) (told_at D.Port.told ports.old) (told_at D.Port.told ports.new) (maps_at D.Port.maps D.Port.maps_left ports.new 0) input text
         × AppendsFront (K.held sink.old) (K.held sink.new) text) }
     ensures no_memory_writes_nothing { result ≡ Status.NoMemory → sink.new ≡ sink.old }
     ensures complete { IfSome (S.left source.old) (λ input. (sections : List SaidSection) → Sentence input sections →
@@ -268,13 +268,13 @@ fn answer<R: Threads + Wait + Sync, K: Sink, D: Driver<Core>>(
     requires bare { TakeMaps D.Port.maps D.Port.maps_left ports.old }
     requires ports { AreAllThere ports.old }
     ensures ran { result ≡ Status.Ran → (sections : List SaidSection) × Sentence bytes.now sections
-        × HasWritten (over (left_at D.Port.maps_left ports.old 0) (driver_kind D.ENTRIES D.is_planned D.OwnEntries D.Follows)) sections (told_at D.Port.told ports.old) (told_at D.Port.told ports.new) (K.held sink.old) (K.held sink.new) }
+        × HasWritten (over (left_at D.Port.maps_left ports.old 0) (driver_kind D.ENTRIES D.is_planned D.OwnEntries D.Follows)) sections (told_at D.Port.told ports.old) (told_at D.Port.told ports.new) (maps_at D.Port.maps D.Port.maps_left ports.new 0) (K.held sink.old) (K.held sink.new) }
     ensures refused { result ≡ Status.Refused → (refusal : Refusal) × (first_fault bytes.now ≡ Some refusal)
         × Appends (K.held sink.old) (K.held sink.new) (refused_line refusal) }
     ensures write_fault { result ≡ Status.WriteFault → Rises (K.fault_count sink.old) (K.fault_count sink.new) }
     ensures write_fault_told { K.fault_count sink.old < K.fault_count sink.new → result ≡ Status.WriteFault }
     ensures front { result ≡ Status.WriteFault → (text : List ℕ)
-        × IsOutput (over (left_at D.Port.maps_left ports.old 0) (driver_kind D.ENTRIES D.is_planned D.OwnEntries D.Follows)) (told_at D.Port.told ports.old) (told_at D.Port.told ports.new) bytes.now text
+        × IsOutput (over (left_at D.Port.maps_left ports.old 0) (driver_kind D.ENTRIES D.is_planned D.OwnEntries D.Follows)) (told_at D.Port.told ports.old) (told_at D.Port.told ports.new) (maps_at D.Port.maps D.Port.maps_left ports.new 0) bytes.now text
         × AppendsFront (K.held sink.old) (K.held sink.new) text }
     ensures no_memory { result ≡ Status.NoMemory → sink.new ≡ sink.old }
     ensures no_usage { result ≢ Status.Usage }

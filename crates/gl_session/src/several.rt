@@ -16,7 +16,7 @@ ghost use Rattle.gl_check.specs.Many.{actor_sections, program_of};
 ghost use Rattle.gl_session.specs.OneActor.{IsSized};
 ghost use Rattle.gl_session.specs.Workers.{CannotEnd, HasCarriedOut, HasForked, HasForkedFull, there_at, told_at};
 ghost use Rattle.gl_session.specs.Placed.{AreMapsPlaced};
-ghost use Rattle.gl_session.specs.Ports.{AllHave, AreAllThere, AreMaps, LearnAbove, OwnsNothing, TakeMaps, left_at, maps_of};
+ghost use Rattle.gl_session.specs.Ports.{AllHave, AreAllThere, AreMaps, LearnAbove, OwnsNothing, TakeMaps, left_at, maps_at, maps_of};
 ghost use Rattle.gl_session.specs.Several.{texts_of};
 
 use crate::fork::{Common, all_printed, give_port, join_all, split_all, take_port, work_all};
@@ -150,7 +150,7 @@ fn carry_parts<R: Threads + Wait + Sync, D: Driver<Core>>(
     requires there { (n : ℕ) → 1 ≤ n → n < length ports.old → there_at ports.old n ≡ true }
     ensures device { first.new.gate ≡ first.old.gate }
     ensures out { IfOk result (λ printed. HasCarriedOut D.Port.told (over first.old.carried.maps.left (driver_kind D.ENTRIES D.is_planned D.OwnEntries D.Follows)) (sections_of script.now) first.old.view first.old.carried.told ports.old
-        (texts_of printed) first.new.view first.new.carried.told ports.new) }
+        (texts_of printed) first.new.view first.new.carried.told first.new.carried.maps ports.new) }
     ensures others { OnOk result ((them : LearnAbove D.Port.maps D.Port.maps_left D.Port.told D.Port.faults (length (actor_sections (sections_of script.now))) (sections_of script.now) first.old.carried.maps ports.old ports.new)
         × (first.new.carried.maps ≡ taught them.taught_maps first.old.carried.maps)) }
     ensures stopped { IfErr result (λ e. (e ≡ NoMemory) ⊎ CannotEnd first.new.view) }
@@ -200,7 +200,7 @@ fn carry_out<R: Threads + Wait + Sync, D: Driver<Core>>(
     requires there { (n : ℕ) → 1 ≤ n → n < length ports.old → there_at ports.old n ≡ true }
     ensures device { first.new.gate ≡ first.old.gate }
     ensures out { IfOk result (λ printed. HasCarriedOut D.Port.told (over first.old.carried.maps.left (driver_kind D.ENTRIES D.is_planned D.OwnEntries D.Follows)) (sections_of script.now) first.old.view first.old.carried.told ports.old
-        (texts_of printed) first.new.view first.new.carried.told ports.new) }
+        (texts_of printed) first.new.view first.new.carried.told first.new.carried.maps ports.new) }
     ensures others { OnOk result ((them : LearnAbove D.Port.maps D.Port.maps_left D.Port.told D.Port.faults (length (actor_sections (sections_of script.now))) (sections_of script.now) first.old.carried.maps ports.old ports.new)
         × (first.new.carried.maps ≡ taught them.taught_maps first.old.carried.maps)) }
     ensures stopped { IfErr result (λ e. (e ≡ NoMemory) ⊎ CannotEnd first.new.view) }
@@ -231,7 +231,7 @@ pub fn run_several<R: Threads + Wait + Sync, D: Driver<Core>>(
     requires sized { IsSized (sections_of script.now) }
     requires count { length (actor_sections (sections_of script.now)) ≤ 16 }
     requires ports { AreAllThere ports.old }
-    ensures came { IfOk result (λ ran. CameToMany (over (left_at D.Port.maps_left ports.old 0) (driver_kind D.ENTRIES D.is_planned D.OwnEntries D.Follows)) (sections_of script.now) (told_at D.Port.told ports.old) (told_at D.Port.told ports.new) ran.1.items (texts_of ran.0)) }
+    ensures came { IfOk result (λ ran. CameToMany (over (left_at D.Port.maps_left ports.old 0) (driver_kind D.ENTRIES D.is_planned D.OwnEntries D.Follows)) (sections_of script.now) (told_at D.Port.told ports.old) (told_at D.Port.told ports.new) (maps_at D.Port.maps D.Port.maps_left ports.new 0) ran.1.items (texts_of ran.0)) }
     ensures there { OnOk result (AreAllThere ports.new) }
     ensures others { OnOk result (LearnAbove D.Port.maps D.Port.maps_left D.Port.told D.Port.faults (length (actor_sections (sections_of script.now))) (sections_of script.now) (no_maps (left_at D.Port.maps_left ports.old 0)) ports.old ports.new) }
     ensures memory_alone { IsOkUnless result Errno.NoMemory }

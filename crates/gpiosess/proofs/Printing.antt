@@ -5,6 +5,7 @@ use Rattle.gl_script.specs.Section.{SaidSection}
 use Rattle.gl_script.specs.Sentence.{Sentence}
 use Rattle.gl_session.specs.Figures.{CameToLoad, HasWrittenLoad, figures}
 use Rattle.gl_check.specs.Drivers.{over}
+use Rattle.gl_check.specs.Joining.{Maps}
 use Rattle.gl_check.specs.Many.{actor_sections}
 use Rattle.gl_base.specs.Rows.{Each}
 use Rattle.gl_script.specs.Cost.{session_cost}
@@ -18,14 +19,14 @@ use Rattle.gl_session.proofs.FewActors.{few_actors}
 use Rattle.gpiosess.specs.Program.{HasPrinted, HasPrintedLoad, PrintsBy, PrintsLoad, simulated, simulated_answer, simulated_over}
 use Rattle.gpiosess.proofs.OneThing.{is_given_one}
 
-module _ (before left : ℕ → Option Told) (new : (n : ℕ) → n < 17 → before n ≡ Some new_port) (one_thing : DoesOneThing true simulated_answer) (one_list : IsGivenOneList simulated_over) where
-  is_given : (sections : List SaidSection) (text : List ℕ) (came : CameAlone simulated_over sections (before 0) text (left 0)) → IsGiven simulated_over (session_cost sections) sections (Some new_port) came.over.given
+module _ (before left : ℕ → Option Told) (m : Maps) (new : (n : ℕ) → n < 17 → before n ≡ Some new_port) (one_thing : DoesOneThing true simulated_answer) (one_list : IsGivenOneList simulated_over) where
+  is_given : (sections : List SaidSection) (text : List ℕ) (came : CameAlone simulated_over sections (before 0) text (left 0) m) → IsGiven simulated_over (session_cost sections) sections (Some new_port) came.over.given
   is_given sections text came = record {
     takes = came.over.takes;
     lawful = subst (λ told. Each (IsLawfulCall simulated (session_cost sections)) (asked_over 8 4 sections came.over.given told)) (new 0 (omega arith)) came.over.lawful;
   }
 
-  prints_by : (alone : Bool) (sections : List SaidSection) (text : List ℕ) → length (actor_sections sections) ≤ 16 → CameBy alone simulated_over sections before left text → PrintsBy alone sections text
+  prints_by : (alone : Bool) (sections : List SaidSection) (text : List ℕ) → length (actor_sections sections) ≤ 16 → CameBy alone simulated_over sections before left m text → PrintsBy alone sections text
   prints_by true sections text few came = record {
     over = record {
       given = came.over.given;
@@ -44,19 +45,19 @@ module _ (before left : ℕ → Option Told) (new : (n : ℕ) → n < 17 → bef
     prints = came.prints;
   }
 
-  has_printed : (sections : List SaidSection) → length (actor_sections sections) ≤ 16 → (old then : Option (List ℕ)) → HasWritten simulated_over sections before left old then → HasPrinted sections old then
+  has_printed : (sections : List SaidSection) → length (actor_sections sections) ≤ 16 → (old then : Option (List ℕ)) → HasWritten simulated_over sections before left m old then → HasPrinted sections old then
   has_printed sections few old then w = (w.0, w.1, prints_by (nat_lt (length (actor_sections sections)) 2) sections w.0 few w.2)
 
-  printed_by : (input : Option (List ℕ)) (Ends : Type 0) (old then : Option (List ℕ)) → IfSome input (λ bytes. (sections : List SaidSection) → Sentence bytes sections → Ends × HasWritten simulated_over sections before left old then)
+  printed_by : (input : Option (List ℕ)) (Ends : Type 0) (old then : Option (List ℕ)) → IfSome input (λ bytes. (sections : List SaidSection) → Sentence bytes sections → Ends × HasWritten simulated_over sections before left m old then)
       → IfSome input (λ bytes. (sections : List SaidSection) → Sentence bytes sections → Ends × HasPrinted sections old then)
   printed_by None Ends old then h = tt
   printed_by (Some bytes) Ends old then h = λ sections said. ((h sections said).0, has_printed sections (few_actors bytes sections said) old then (h sections said).1)
 
   -- of a source that tells its bytes, over ports that take four maps
-  pub printed : (takes : ℕ) → takes ≡ 4 → (input : Option (List ℕ)) (Ends : Type 0) (old then : Option (List ℕ)) → IfSome input (λ bytes. (sections : List SaidSection) → Sentence bytes sections → Ends × HasWritten (over takes simulated) sections before left old then)
+  pub printed : (takes : ℕ) → takes ≡ 4 → (input : Option (List ℕ)) (Ends : Type 0) (old then : Option (List ℕ)) → IfSome input (λ bytes. (sections : List SaidSection) → Sentence bytes sections → Ends × HasWritten (over takes simulated) sections before left m old then)
       → IfSome input (λ bytes. (sections : List SaidSection) → Sentence bytes sections → Ends × HasPrinted sections old then)
   printed takes four input Ends old then h = printed_by input Ends old then
-      (subst (λ (n : ℕ). IfSome input (λ bytes. (sections : List SaidSection) → Sentence bytes sections → Ends × HasWritten (over n simulated) sections before left old then)) four h)
+      (subst (λ (n : ℕ). IfSome input (λ bytes. (sections : List SaidSection) → Sentence bytes sections → Ends × HasWritten (over n simulated) sections before left m old then)) four h)
 
 -- a load, over the new port of the first actor
 prints_load : (turns : ℕ) (before left : Option Told) (text : List ℕ) → before ≡ Some new_port → CameToLoad simulated turns before left text → PrintsLoad turns text

@@ -1,5 +1,4 @@
-use Rattle.std.proofs.Common.{ℕ, List, Option, ⊎_elim, ap, subst, sym, ◌∙◌}
-use Rattle.gl_driver.specs.Told.{Told}
+use Rattle.std.proofs.Common.{ℕ, List, ⊎_elim, ap, subst, sym, ◌∙◌}
 use Rattle.gl_script.specs.Script.{sections_of}
 use Rattle.gl_chip.specs.Values.{OneView}
 use Rattle.gl_check.specs.Drivers.{driver_kind, over}
@@ -12,8 +11,8 @@ use Rattle.gl_session.proofs.one_actor.play_session.Goals as goal
 pub returns-in-Ok-play_parts-clause-played : goal.returns-in-Ok-play_parts-clause-played
 returns-in-Ok-play_parts-clause-played g c =
     let taken = c.take_text.ensures in
-    subst (λ (x : List ℕ × Option Told × OneView). HasPlayed (over c.args.player.now.carried.maps.left (driver_kind g.D.Driver.ENTRIES g.D.Driver.is_planned g.D.Driver.OwnEntries g.D.Driver.Follows)) (sections_of c.args.script.now) c.args.player.now.carried.told x.0 x.1 c.args.player.now.view x.2)
-    (λ i. (sym taken.text i, ap (λ (k : Carried). k.told) (sym taken.carried) i, sym taken.view i)) c.in-Ok-play_parts.ensures.played
+    subst (λ (x : List ℕ × Carried × OneView). HasPlayed (over c.args.player.now.carried.maps.left (driver_kind g.D.Driver.ENTRIES g.D.Driver.is_planned g.D.Driver.OwnEntries g.D.Driver.Follows)) (sections_of c.args.script.now) c.args.player.now.carried.told x.0 x.1.told x.1.maps c.args.player.now.view x.2)
+    (λ i. (sym taken.text i, sym taken.carried i, sym taken.view i)) c.in-Ok-play_parts.ensures.played
 
 pub returns-in-Ok-clause-memory_alone : goal.returns-in-Ok-clause-memory_alone
 returns-in-Ok-clause-memory_alone g c =

@@ -24,16 +24,17 @@ returns-in-Ok-play_session-clause-came g c =
     let count : length c.finish-machine.result.1.items ≡ c.len.result = search rules in
     let left : c.new-player.result.carried.maps.left ≡ g.D.Port.Port.maps_left c.args.port = ap (λ (m : Maps). m.left) c.new-player.ensures.maps ∙ ap g.D.Port.Port.maps_left c.in-Ok.ensures.port in
     let played : HasPlayed (over (g.D.Port.Port.maps_left c.args.port) (driver_kind g.D.Driver.ENTRIES g.D.Driver.is_planned g.D.Driver.OwnEntries g.D.Driver.Follows)) (sections_of c.args.script.now) c.new-player.result.carried.told c.in-Ok-play_session.text.items c.play_session.new.player.carried.told
-    c.new-player.result.view c.into_parts-actor.result.0.pass.view
-    = subst (λ (x : OneView × ℕ). HasPlayed (over x.1 (driver_kind g.D.Driver.ENTRIES g.D.Driver.is_planned g.D.Driver.OwnEntries g.D.Driver.Follows)) (sections_of c.args.script.now) c.new-player.result.carried.told c.in-Ok-play_session.text.items c.play_session.new.player.carried.told c.new-player.result.view x.0)
+    c.play_session.new.player.carried.maps c.new-player.result.view c.into_parts-actor.result.0.pass.view
+    = subst (λ (x : OneView × ℕ). HasPlayed (over x.1 (driver_kind g.D.Driver.ENTRIES g.D.Driver.is_planned g.D.Driver.OwnEntries g.D.Driver.Follows)) (sections_of c.args.script.now) c.new-player.result.carried.told c.in-Ok-play_session.text.items c.play_session.new.player.carried.told c.play_session.new.player.carried.maps c.new-player.result.view x.0)
     (λ i. (sym c.into_parts-actor.ensures.view i, left i)) c.in-Ok-play_session.ensures.played in
-    subst (λ (x : Option Told × Option Told × ℕ). CameAloneWith (over (g.D.Port.Port.maps_left c.args.port) (driver_kind g.D.Driver.ENTRIES g.D.Driver.is_planned g.D.Driver.OwnEntries g.D.Driver.Follows)) (sections_of c.args.script.now) x.0 c.in-Ok-play_session.text.items x.1 x.2)
+    subst (λ (x : Option Told × Option Told × Maps × ℕ). CameAloneWith (over (g.D.Port.Port.maps_left c.args.port) (driver_kind g.D.Driver.ENTRIES g.D.Driver.is_planned g.D.Driver.OwnEntries g.D.Driver.Follows)) (sections_of c.args.script.now) x.0 c.in-Ok-play_session.text.items x.1 x.2 x.3)
     (λ i. (
       (c.new-player.ensures.told ∙ ap t c.in-Ok.ensures.port) i,
       (sym c.into_parts-actor.ensures.port ∙ ap t (sym f.port)) i,
+      (sym c.into_parts-actor.ensures.maps ∙ ap (maps_of g.D.Port.Port.maps g.D.Port.Port.maps_left) (sym f.port)) i,
       count i,
     ))
-    (came_with_entries (over (g.D.Port.Port.maps_left c.args.port) (driver_kind g.D.Driver.ENTRIES g.D.Driver.is_planned g.D.Driver.OwnEntries g.D.Driver.Follows)) c.requires.few_own (sections_of c.args.script.now) _ _ _ _ _ _
+    (came_with_entries (over (g.D.Port.Port.maps_left c.args.port) (driver_kind g.D.Driver.ENTRIES g.D.Driver.is_planned g.D.Driver.OwnEntries g.D.Driver.Follows)) c.requires.few_own (sections_of c.args.script.now) _ _ _ _ _ _ _
     (c.new-player.ensures.view ∙ c.in-Ok.ensures.first ∙ ap (λ (n : ℕ). newcomer 0 n [] 1 [] []) c.cost.ensures) played f.legal f.seen f.mine f.others)
 
 pub returns-in-Ok-play_session-clause-maps : goal.returns-in-Ok-play_session-clause-maps

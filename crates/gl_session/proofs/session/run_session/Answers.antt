@@ -2,7 +2,7 @@ use Rattle.std.proofs.Common.{rules}
 use Rattle.std.specs.Io.KnownBytes.{Appends, IsAtEnd}
 use Rattle.gl_session.specs.Run.{HasWritten, refused_line}
 use Rattle.gl_session.specs.Streams.{AppendsFront}
-use Rattle.gl_session.specs.Ports.{OthersLearn, further_actors, left_at}
+use Rattle.gl_session.specs.Ports.{OthersLearn, further_actors, left_at, maps_at}
 use Rattle.gl_session.specs.Workers.{told_at}
 use Rattle.gl_session.proofs.Causes.{as_lent, if_ran, if_session, if_refused, if_output, if_refusal, if_complete, if_faulty, if_sections, if_any}
 use Rattle.gl_session.proofs.Taught.{none_learn}
@@ -13,7 +13,7 @@ use Rattle.gl_check.specs.Joining.{no_maps}
 pub returns-in-Ok-clause-output : goal.returns-in-Ok-clause-output
 returns-in-Ok-clause-output g c = λ e.
     if_ran _ _ _ (IsAtEnd (g.S.Source.left c.read_through.new.source)) (λ sections. HasWritten (over (left_at g.D.Port.Port.maps_left c.args.ports.now 0) (driver_kind g.D.Driver.ENTRIES g.D.Driver.is_planned g.D.Driver.OwnEntries g.D.Driver.Follows)) sections (told_at g.D.Port.Port.told c.args.ports.now) (told_at g.D.Port.Port.told c.answer.new.ports)
-    (g.K.Sink.held c.args.sink.now) (g.K.Sink.held c.answer.new.sink))
+    (maps_at g.D.Port.Port.maps g.D.Port.Port.maps_left c.answer.new.ports 0) (g.K.Sink.held c.args.sink.now) (g.K.Sink.held c.answer.new.sink))
     (as_lent _ _ _ _ c.deref.result.now c.in-Ok.ensures.ok (search rules)) (as_lent _ _ _ _ c.deref.result.now c.in-Ok.ensures.ok (search rules)).end (c.answer.ensures.ran e)
 
 pub returns-in-Ok-clause-ran_only_session : goal.returns-in-Ok-clause-ran_only_session
@@ -29,7 +29,7 @@ returns-in-Ok-clause-refused_only g c = λ e.
 
 pub returns-in-Ok-clause-write_fault_front : goal.returns-in-Ok-clause-write_fault_front
 returns-in-Ok-clause-write_fault_front g c = λ e.
-    if_output _ _ _ _ _ _ (AppendsFront (g.K.Sink.held c.args.sink.now) (g.K.Sink.held c.answer.new.sink)) (as_lent _ _ _ _ c.deref.result.now c.in-Ok.ensures.ok (search rules)) (c.answer.ensures.front e)
+    if_output _ _ _ _ _ _ _ (AppendsFront (g.K.Sink.held c.args.sink.now) (g.K.Sink.held c.answer.new.sink)) (as_lent _ _ _ _ c.deref.result.now c.in-Ok.ensures.ok (search rules)) (c.answer.ensures.front e)
 
 pub returns-in-Ok-clause-complete : goal.returns-in-Ok-clause-complete
 returns-in-Ok-clause-complete g c =

@@ -57,6 +57,7 @@ returns-in-Ok-play_to_end-clause-out g c =
       behind = c.take_text-last.new.self.carried;
       last = last;
       left_is = refl;
+      maps_are = refl;
     }
 
 pub returns-in-Err-clause-stopped : goal.returns-in-Err-clause-stopped

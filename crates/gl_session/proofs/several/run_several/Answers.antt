@@ -24,18 +24,19 @@ returns-in-Ok-carry_out-clause-came g c =
     let left : c.new-first.result.carried.maps.left ≡ left_at g.D.Port.Port.maps_left c.args.ports.now 0 =
     ap (λ (m : Maps). m.left) c.new-first.ensures.maps ∙ ap g.D.Port.Port.maps_left c.in-Ok.ensures.port ∙ ap (λ o. left_found g.D.Port.Port.maps_left o) (sym got) in
     let out : HasCarriedOut t (over (left_at g.D.Port.Port.maps_left c.args.ports.now 0) (driver_kind g.D.Driver.ENTRIES g.D.Driver.is_planned g.D.Driver.OwnEntries g.D.Driver.Follows)) (sections_of c.args.script.now) c.new-first.result.view c.new-first.result.carried.told c.take_port.new.ports (texts_of c.in-Ok-carry_out.printed)
-    c.into_actor-actor.result.pass.view c.carry_out.new.first.carried.told c.carry_out.new.ports
+    c.into_actor-actor.result.pass.view c.carry_out.new.first.carried.told c.carry_out.new.first.carried.maps c.carry_out.new.ports
     = subst (λ (x : OneView × ℕ). HasCarriedOut t (over x.1 (driver_kind g.D.Driver.ENTRIES g.D.Driver.is_planned g.D.Driver.OwnEntries g.D.Driver.Follows)) (sections_of c.args.script.now) c.new-first.result.view c.new-first.result.carried.told c.take_port.new.ports (texts_of c.in-Ok-carry_out.printed)
-    x.0 c.carry_out.new.first.carried.told c.carry_out.new.ports) (λ i. (sym c.into_actor-actor.ensures.view i, left i)) c.in-Ok-carry_out.ensures.out in
+    x.0 c.carry_out.new.first.carried.told c.carry_out.new.first.carried.maps c.carry_out.new.ports) (λ i. (sym c.into_actor-actor.ensures.view i, left i)) c.in-Ok-carry_out.ensures.out in
     came t (over (left_at g.D.Port.Port.maps_left c.args.ports.now 0) (driver_kind g.D.Driver.ENTRIES g.D.Driver.is_planned g.D.Driver.OwnEntries g.D.Driver.Follows)) (sections_of c.args.script.now) c.args.ports.now c.take_port.new.ports c.carry_out.new.ports c.give_port.new.ports c.in-Some.port c.finish-machine.result.2 some
-    got c.take_port.ensures.left c.give_port.ensures c.requires.few_own c.new-first.result.view c.into_actor-actor.result.pass.view _ _ _ _
-    (c.new-first.ensures.view ∙ c.in-Ok.ensures.first ∙ ap (λ (n : ℕ). newcomer 0 n [] 1 [] []) c.cost.ensures) (c.new-first.ensures.told ∙ ap t c.in-Ok.ensures.port) (sym c.into_actor-actor.ensures.port ∙ ap t (sym f.port)) out (sym c.carry_out.ensures.ports_len) f.legal f.seen f.mine f.joined f.others
+    got c.take_port.ensures.left c.give_port.ensures g.D.Port.Port.maps g.D.Port.Port.maps_left c.requires.few_own c.new-first.result.view c.into_actor-actor.result.pass.view _ _ _ _ _
+    (c.new-first.ensures.view ∙ c.in-Ok.ensures.first ∙ ap (λ (n : ℕ). newcomer 0 n [] 1 [] []) c.cost.ensures) (c.new-first.ensures.told ∙ ap t c.in-Ok.ensures.port) (sym c.into_actor-actor.ensures.port ∙ ap t (sym f.port))
+    (sym c.into_actor-actor.ensures.maps ∙ ap (maps_of g.D.Port.Port.maps g.D.Port.Port.maps_left) (sym f.port)) out (sym c.carry_out.ensures.ports_len) f.legal f.seen f.mine f.joined f.others
 
 pub returns-in-Ok-carry_out-clause-there : goal.returns-in-Ok-carry_out-clause-there
 returns-in-Ok-carry_out-clause-there g c =
     let some : 0 < length c.args.ports.now = (let n = c.requires.ports.count in omega arith) in
     all_there g.D.Port.Port.told (over c.new-first.result.carried.maps.left (driver_kind g.D.Driver.ENTRIES g.D.Driver.is_planned g.D.Driver.OwnEntries g.D.Driver.Follows)) (sections_of c.args.script.now) c.args.ports.now c.take_port.new.ports c.carry_out.new.ports c.give_port.new.ports c.in-Some.port c.finish-machine.result.2 some
-    (c.take_port.ensures.taken ∙ ap Some c.in-Some.is) c.take_port.ensures.left c.give_port.ensures _ _ _ _ _ c.in-Ok-carry_out.ensures.out c.requires.ports
+    (c.take_port.ensures.taken ∙ ap Some c.in-Some.is) c.take_port.ensures.left c.give_port.ensures _ _ _ _ _ _ c.in-Ok-carry_out.ensures.out c.requires.ports
 
 pub returns-in-Ok-carry_out-clause-others : goal.returns-in-Ok-carry_out-clause-others
 returns-in-Ok-carry_out-clause-others g c =
