@@ -369,7 +369,7 @@ module _ (n : ℕ) where
           mapped_is = ap is_some (sym (unmapped_at at.call at.carried.maps at.so_far.bare));
           makes = (has_call at.carried.files what at.call at.calls, makes);
           few_own = omega arith;
-          may_own = record { quiet = tt; no_claims = tt; whole = tt };
+          may_own = record { quiet = tt; no_claims = tt };
           reply_is = refl;
           bytes_are = refl;
           port = port_asked (planning plain) n (op_asked at.carried.files what) (exchange what shut None (d ∷ []) d.entry.reply d.bytes) at.carried.told at.carried.told at.carried.maps (ap (λ (m : Maps). m.kept) at.so_far.bare) at.call refl
@@ -409,7 +409,7 @@ module _ (n : ℕ) where
           mapped_is = ap is_some (sym (unmapped_at call r.maps at.at.so_far.bare));
           makes = (is_there, open_one call (at.first.entry ∷ d.entry ∷ []) two.answer two.makes);
           few_own = omega arith;
-          may_own = record { quiet = tt; no_claims = tt; whole = tt };
+          may_own = record { quiet = tt; no_claims = tt };
           reply_is = refl;
           bytes_are = refl;
           port = port_asked (planning plain) n op (exchange what false two.answer (at.first ∷ d ∷ []) d.entry.reply d.bytes) r.told two.told r.maps (ap (λ (m : Maps). m.kept) at.at.so_far.bare) call refl
