@@ -77,10 +77,11 @@ pub two_words : {A B : Type 0} (form second : Form) (tail : Tail) (read : List �
     → tail_fault tail more.end more.words ≡ None
     → Says (followed (form ∷ second ∷ []) tail) (says (read (text_at 0 old.words)) (read_second (text_at 1 old.words))) old (Ok said)
 two_words {A} form second tail read read_second says old new more value other said so is is_second end =
-    let rest = one_word second tail read_second (says (Some value)) new more other said so is_second end in
-    (read_on form (second ∷ []) (tail_fault tail) read old new value is ∙ rest.0,
-    ap (λ (a : Option A). says a (read_second (text_at 1 old.words))) (first_says form read old new value is)
-    ∙ ap (λ (t : List ℕ). says (Some value) (read_second t)) (second_is form read old new value is) ∙ rest.1)
+    let rest = one_word second tail read_second (says (Some value)) new more other said so is_second end in (
+      read_on form (second ∷ []) (tail_fault tail) read old new value is ∙ rest.0,
+      ap (λ (a : Option A). says a (read_second (text_at 1 old.words))) (first_says form read old new value is)
+          ∙ ap (λ (t : List ℕ). says (Some value) (read_second t)) (second_is form read old new value is) ∙ rest.1,
+    )
 
 pub three_words : {A B C : Type 0} (form second third : Form) (tail : Tail) (read : List ℕ → Option A) (read_second : List ℕ → Option B) (read_third : List ℕ → Option C)
     (says : Option A → Option B → Option C → Option Said) (old new more last : Left) (value : A) (other : B) (further : C) (said : Said)
@@ -88,11 +89,12 @@ pub three_words : {A B C : Type 0} (form second third : Form) (tail : Tail) (rea
     → Reads third read_third more last (Ok further) → tail_fault tail last.end last.words ≡ None
     → Says (followed (form ∷ second ∷ third ∷ []) tail) (says (read (text_at 0 old.words)) (read_second (text_at 1 old.words)) (read_third (text_at 2 old.words))) old (Ok said)
 three_words {A} form second third tail read read_second read_third says old new more last value other further said so is is_second is_third end =
-    let rest = two_words second third tail read_second read_third (says (Some value)) new more last other further said so is_second is_third end in
-    (read_on form (second ∷ third ∷ []) (tail_fault tail) read old new value is ∙ rest.0,
-    ap (λ (a : Option A). says a (read_second (text_at 1 old.words)) (read_third (text_at 2 old.words))) (first_says form read old new value is)
-    ∙ ap (λ (t : List ℕ). says (Some value) (read_second t) (read_third (text_at 2 old.words))) (second_is form read old new value is)
-    ∙ ap (λ (t : List ℕ). says (Some value) (read_second (text_at 0 new.words)) (read_third t)) (third_is form read old new value is) ∙ rest.1)
+    let rest = two_words second third tail read_second read_third (says (Some value)) new more last other further said so is_second is_third end in (
+      read_on form (second ∷ third ∷ []) (tail_fault tail) read old new value is ∙ rest.0,
+      ap (λ (a : Option A). says a (read_second (text_at 1 old.words)) (read_third (text_at 2 old.words))) (first_says form read old new value is)
+          ∙ ap (λ (t : List ℕ). says (Some value) (read_second t) (read_third (text_at 2 old.words))) (second_is form read old new value is)
+          ∙ ap (λ (t : List ℕ). says (Some value) (read_second (text_at 0 new.words)) (read_third t)) (third_is form read old new value is) ∙ rest.1,
+    )
 
 pub four_words : {A B C D : Type 0} (form second third fourth : Form) (tail : Tail)
     (read : List ℕ → Option A) (read_second : List ℕ → Option B) (read_third : List ℕ → Option C) (read_fourth : List ℕ → Option D)
@@ -100,11 +102,12 @@ pub four_words : {A B C D : Type 0} (form second third fourth : Form) (tail : Ta
     → says (Some value) (Some other) (Some further) (Some final) ≡ Some said → Reads form read old new (Ok value) → Reads second read_second new more (Ok other)
     → Reads third read_third more later (Ok further) → Reads fourth read_fourth later last (Ok final) → tail_fault tail last.end last.words ≡ None
     → Says (followed (form ∷ second ∷ third ∷ fourth ∷ []) tail)
-        (says (read (text_at 0 old.words)) (read_second (text_at 1 old.words)) (read_third (text_at 2 old.words)) (read_fourth (text_at 3 old.words))) old (Ok said)
+    (says (read (text_at 0 old.words)) (read_second (text_at 1 old.words)) (read_third (text_at 2 old.words)) (read_fourth (text_at 3 old.words))) old (Ok said)
 four_words {A} form second third fourth tail read read_second read_third read_fourth says old new more later last value other further final said so is is_second is_third is_fourth end =
-    let rest = three_words second third fourth tail read_second read_third read_fourth (says (Some value)) new more later last other further final said so is_second is_third is_fourth end in
-    (read_on form (second ∷ third ∷ fourth ∷ []) (tail_fault tail) read old new value is ∙ rest.0,
-    ap (λ (a : Option A). says a (read_second (text_at 1 old.words)) (read_third (text_at 2 old.words)) (read_fourth (text_at 3 old.words))) (first_says form read old new value is)
-    ∙ ap (λ (t : List ℕ). says (Some value) (read_second t) (read_third (text_at 2 old.words)) (read_fourth (text_at 3 old.words))) (second_is form read old new value is)
-    ∙ ap (λ (t : List ℕ). says (Some value) (read_second (text_at 0 new.words)) (read_third t) (read_fourth (text_at 3 old.words))) (third_is form read old new value is)
-    ∙ ap (λ (t : List ℕ). says (Some value) (read_second (text_at 0 new.words)) (read_third (text_at 1 new.words)) (read_fourth t)) (fourth_is form read old new value is) ∙ rest.1)
+    let rest = three_words second third fourth tail read_second read_third read_fourth (says (Some value)) new more later last other further final said so is_second is_third is_fourth end in (
+      read_on form (second ∷ third ∷ fourth ∷ []) (tail_fault tail) read old new value is ∙ rest.0,
+      ap (λ (a : Option A). says a (read_second (text_at 1 old.words)) (read_third (text_at 2 old.words)) (read_fourth (text_at 3 old.words))) (first_says form read old new value is)
+          ∙ ap (λ (t : List ℕ). says (Some value) (read_second t) (read_third (text_at 2 old.words)) (read_fourth (text_at 3 old.words))) (second_is form read old new value is)
+          ∙ ap (λ (t : List ℕ). says (Some value) (read_second (text_at 0 new.words)) (read_third t) (read_fourth (text_at 3 old.words))) (third_is form read old new value is)
+          ∙ ap (λ (t : List ℕ). says (Some value) (read_second (text_at 0 new.words)) (read_third (text_at 1 new.words)) (read_fourth t)) (fourth_is form read old new value is) ∙ rest.1,
+    )
