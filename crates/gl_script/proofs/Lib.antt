@@ -2,6 +2,7 @@ pub mod Back
 pub mod Blaming
 pub mod Costing
 pub mod FirstBytes
+pub mod Forming
 pub mod Loads
 pub mod OneByOne
 pub mod Saying

@@ -29,20 +29,20 @@ use Rattle.gl_script.specs.Table.{is_in, keyword_in, keyword_of, only, only_in, 
 use Rattle.gl_script.proofs.TypedWords.{behind_first, made_there, path_there, text_there}
 
 -- a word that meets its form
-passes : (b : Bool) (x : Option Spot) (y : Spot) → (if b then x else Some y) ≡ None → (b ≡ true) × (x ≡ None)
+pub passes : (b : Bool) (x : Option Spot) (y : Spot) → (if b then x else Some y) ≡ None → (b ≡ true) × (x ≡ None)
 passes true x y n = (refl, n)
 passes false x y n = cc
 
-some_fault : (fault : Spot) → Some fault ≡ None → ⊥
+pub some_fault : (fault : Spot) → Some fault ≡ None → ⊥
 some_fault fault e = cc
 
 -- words that are missing no form meet their forms, one after the other
 module _ (tail : ℕ → List Span → Option Spot) where
-  met1 : (f : Form) (fs : List Form) (end : ℕ) (words : List Span) → forms_fault (f ∷ fs) tail end words ≡ None → meets f (text_at 0 words) ≡ true
+  pub met1 : (f : Form) (fs : List Form) (end : ℕ) (words : List Span) → forms_fault (f ∷ fs) tail end words ≡ None → meets f (text_at 0 words) ≡ true
   met1 f fs end [] n = cc
   met1 f fs end (word ∷ words) n = (passes (meets f word.text) (forms_fault fs tail (end_of word) words) _ n).0
 
-  met2 : (f g : Form) (fs : List Form) (end : ℕ) (words : List Span) → forms_fault (f ∷ g ∷ fs) tail end words ≡ None → meets g (text_at 1 words) ≡ true
+  pub met2 : (f g : Form) (fs : List Form) (end : ℕ) (words : List Span) → forms_fault (f ∷ g ∷ fs) tail end words ≡ None → meets g (text_at 1 words) ≡ true
   met2 f g fs end [] n = cc
   met2 f g fs end (word ∷ words) n = met1 g fs (end_of word) words (passes (meets f word.text) (forms_fault (g ∷ fs) tail (end_of word) words) _ n).1
 
@@ -59,7 +59,7 @@ module _ (tail : ℕ → List Span → Option Spot) where
   met5 f g h i j fs end (word ∷ words) n = met4 g h i j fs (end_of word) words (passes (meets f word.text) (forms_fault (g ∷ h ∷ i ∷ j ∷ fs) tail (end_of word) words) _ n).1
 
   -- what stands behind two words of their forms
-  behind2 : (f g : Form) (end : ℕ) (words : List Span) → forms_fault (f ∷ g ∷ []) tail end words ≡ None → (n : ℕ) × (tail n (behind_two words) ≡ None)
+  pub behind2 : (f g : Form) (end : ℕ) (words : List Span) → forms_fault (f ∷ g ∷ []) tail end words ≡ None → (n : ℕ) × (tail n (behind_two words) ≡ None)
   behind2 f g end [] n = cc
   behind2 f g end (word ∷ []) n = absurd (some_fault _ (passes (meets f word.text) (forms_fault (g ∷ []) tail (end_of word) []) _ n).1)
   behind2 f g end (word ∷ next ∷ words) n =
@@ -252,7 +252,7 @@ unfolding said_of
 stated version first words all said is e = ap (λ (ws : List Span). said_of ws) is ∙ said_in_version version (keyword_of first.text) first words said e
 
 -- what is said is spelled by its words
-same_said : (a b : Said) → Some a ≡ Some b → a ≡ b
+pub same_said : (a b : Said) → Some a ≡ Some b → a ≡ b
 same_said a b e = cc
 
 same_irq : (a b : IrqDo) → Some a ≡ Some b → a ≡ b

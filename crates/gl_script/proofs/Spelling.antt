@@ -20,7 +20,7 @@ use Rattle.gl_script.specs.Sentence.{Before, nothing, is_comment, is_counted, ki
 use Rattle.gl_script.specs.Spelled.{IsLine, counted, AreStatement, IsStatement, behind_header, AreHead, IsSections, IsHeaded, Spelled}
 
 -- neither of two faults is there
-neither : {X : Type 0} (a b : Option X) → option_or a b ≡ None → (a ≡ None) × (b ≡ None)
+pub neither : {X : Type 0} (a b : Option X) → option_or a b ≡ None → (a ≡ None) × (b ≡ None)
 neither None b e = (refl, e)
 neither (Some x) b e = cc
 

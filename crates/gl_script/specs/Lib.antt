@@ -5,6 +5,7 @@ pub mod Faults
 pub mod Forms
 pub mod Gen
 pub mod FirstBytes
+pub mod Formed
 pub mod Left
 pub mod Meaning
 pub mod Pieces

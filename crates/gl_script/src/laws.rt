@@ -2,6 +2,7 @@
 ghost use Rattle.std.specs.Prelude.{◌≡◌, ◌≤◌, ℕ, false, List};
 ghost use Rattle.gl_script.specs.Blame.{FaultsAreOfTheText};
 ghost use Rattle.gl_script.specs.Cost.{has_aggregate};
+ghost use Rattle.gl_script.specs.Formed.{StatementsAreFormed};
 ghost use Rattle.gl_script.specs.Gen.{IsSession, load_text};
 ghost use Rattle.gl_script.specs.Said.{SaidIsSpelled, StatementsAreSaid, VersionsAreSaid};
 ghost use Rattle.gl_script.specs.Section.{SaidSection};
@@ -50,11 +51,12 @@ pub fn statements_have_their_words()
 {}
 
 /// Words say something exactly where they have no fault as a statement, in a session of either version; and what they say is what they
-/// spell: no word is read as a default.
+/// spell: no word is read as a default. The words of a statement that stand for themselves are there, and of their forms.
 pub fn statements_are_said()
     ensures faultless { StatementsAreSaid }
     ensures versions { VersionsAreSaid }
     ensures spelled { SaidIsSpelled }
+    ensures formed { StatementsAreFormed }
 {}
 
 /// Lines that are accepted one after the other (`line_kind`) are together a session with its statements in `setup`, unless it is too

@@ -48,6 +48,7 @@ pub struct Section<'a> {
 
 impl<'a> Statement<'a> {
     ghost use Rattle.gl_base.specs.Words.{span, text_at};
+    ghost use Rattle.gl_script.specs.Formed.{AreFormed};
     ghost use Rattle.gl_script.specs.Meaning.{line_in};
     ghost use Rattle.gl_script.specs.Said.{Spells};
 
@@ -73,10 +74,11 @@ impl<'a> Statement<'a> {
         self.line
     }
 
-    /// What its words say.
+    /// What its words say. Those that stand for themselves are there, and of their forms.
     pub fn said(&self) -> Said
         ensures read { said_of (columns self.now.line.now) ≡ Some result }
         ensures spelled { Spells (columns self.now.line.now) result }
+        ensures formed { AreFormed result (columns self.now.line.now) }
     {
         self.said
     }

@@ -1,4 +1,7 @@
+pub mod Asking
 pub mod Continuing
+pub mod Copies
+pub mod FewNames
 pub mod FileNumbers
 pub mod Front
 pub mod InARow
@@ -7,6 +10,7 @@ pub mod OldSizes
 pub mod OpenedSlots
 pub mod OwnSlots
 pub mod Parts
+pub mod PiecesRead
 pub mod SlotOrder
 pub mod StatementCosts
 pub mod Staying

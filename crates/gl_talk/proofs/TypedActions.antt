@@ -1,5 +1,5 @@
 -- What a statement does by its words it does by what it says, with no default in a word's place.
-use Rattle.std.proofs.Common.{◌≡◌, ℕ, ◌*◌, ◌/◌, Bool, true, false, cond, ◌&&◌, List, [], map, Option, None, Some, refl, sym, ◌∙◌, ap, subst, arith}
+use Rattle.std.proofs.Common.{◌≡◌, ℕ, ◌*◌, ◌/◌, Bool, true, false, cond, ◌&&◌, List, map, Option, None, Some, refl, sym, ◌∙◌, ap, subst, arith}
 use Rattle.std.specs.List.{list_any}
 use Rattle.std.specs.Prelude.{◌==◌, if◌then◌else◌, is_some, length, not, nat_le, nat_lt, codes}
 use Rattle.std.specs.Str.{bytes_eq}
@@ -20,7 +20,6 @@ use Rattle.gl_base.specs.declared.operation.Got.{Got}
 use Rattle.gl_base.specs.declared.pin.PinDo.{PinDo}
 use Rattle.gl_base.specs.declared.pin.PinDo.TheVariants.{Range, Hold, Release}
 use Rattle.gl_client.specs.Program.{ask, done}
-use Rattle.gl_script.specs.Columns.{columns}
 use Rattle.gl_script.specs.Forms.{file_name_of, label_of, number_within, tree_path_of, within}
 use Rattle.gl_script.specs.Pieces.{made_by, named}
 use Rattle.gl_script.specs.Said.{ArePins, AreValues, Spells, chip_of, irq_name, keyword_said, pin_name, small_of}
@@ -44,19 +43,17 @@ use Rattle.gl_talk.specs.declared.files.TalkFileKind.{TalkFileKind}
 use Rattle.gl_script.specs.declared.limits.TheConstants.{JOINED_MAX}
 use Rattle.gl_talk.specs.declared.files.TalkFileKind.TheVariants.{Chip, Request, Old}
 use Rattle.gl_talk.specs.declared.paths.LineFile.{LineFile}
-use Rattle.gl_talk.specs.declared.tools.StatementKind.{StatementKind}
-use Rattle.gl_talk.specs.declared.tools.StatementKind.TheVariants.{Plain, Stepping}
 use Rattle.gl_talk.specs.Actions.{action_here, action_of, aggregates, closes, command_reply, files_named, ioctls, ioctls_bytes, is_out_of_place, lives, old_ioctls, old_ioctls_bytes, only_in_setup, opens, pin_said, polls, pulls, reads, reads_file, slots_of, small_word, takes_name, unplugs, writes, writes_line, writes_tree}
 use Rattle.gl_talk.specs.Doing.{Does, shows}
-use Rattle.gl_talk.specs.Formats.{Action, Nothing, Refuse, Ask, ResultFormat, Silent, Value, Level, Bytes, Edges, Infos, Ready, Opened, Closed, Made, OldBytes, OldEdges, OldMade}
+use Rattle.gl_talk.specs.Formats.{Action, Refuse, Ask, ResultFormat, Silent, Value, Level, Bytes, Edges, Infos, Ready, Opened, Closed, Made, OldBytes, OldEdges, OldMade}
 use Rattle.gl_talk.specs.Old.{kind_v1, made_kind, old_command_word, old_reply, old_structure_text, sent_new, sent_old, takes_old_name}
 use Rattle.gl_talk.specs.Open.{File, Names, file_in, file_of, is_chip, is_chip_file, is_old_event, is_request, with_file}
 use Rattle.gl_talk.specs.Paths.{line_file, live_device}
 use Rattle.gl_talk.specs.Replies.{fd_text, structure_text}
-use Rattle.gl_talk.specs.SaidActions.{StatementsAskWhatTheySay, action_said, aggregates_said, bytes_reply_said, closes_said, ioctls_bytes_said, ioctls_said, lives_said, old_bytes_reply_said, old_ioctls_bytes_said, old_ioctls_said, old_reply_said, opens_said, polls_said, pulls_said, reads_file_said, reads_said, reply_said, takes, writes_line_said, writes_said, writes_tree_said}
+use Rattle.gl_talk.specs.SaidActions.{StatementsAskWhatTheySay, action_said, action_said_here, aggregates_said, bytes_reply_said, closes_said, ioctls_bytes_said, ioctls_said, lives_said, old_bytes_reply_said, old_ioctls_bytes_said, old_ioctls_said, old_reply_said, opens_said, polls_said, pulls_said, reads_file_said, reads_said, reply_said, takes, writes_line_said, writes_said, writes_tree_said}
 use Rattle.gl_talk.specs.SaidTalk.{acts_said, file_said, replied_said_by, told_said}
 use Rattle.gl_talk.specs.Talk.{acts, does_by, replied_by, told}
-use Rattle.gl_talk.specs.ToolWords.{kind_of, name_said, names_tool, turns_said}
+use Rattle.gl_talk.specs.ToolWords.{kind_of, name_said, turns_said}
 use Rattle.gl_talk.specs.Words.{behind_two, behind_three, bytes_said, command_word, irq_word, live_word, made_name, name_behind_as, name_word, number_word, or_else, path_word, place_of, place_word, pull_word, turns_word}
 use Rattle.gl_talk.proofs.StatementCosts.{sent_cmd}
 use Rattle.gl_talk.proofs.WordReadings.{chip_word, file_name_is, file_name_word, label_is, label_word, live_device_is_read, tree_path_is, tree_path_word}
@@ -426,29 +423,29 @@ pub asks_what_it_says : (said : Said) (words : List Span) (files : List File) (n
 asks_what_it_says said words files names slot spelled =
     ap (λ o. acts (action_of o files slot words) names slot words) spelled.keyword ∙ row_is names slot words said files spelled.each
 
+-- in its section
+pub acts_here : (in_setup : Bool) (said : Said) (files : List File) (names : Names) (slot : ℕ) (words : List Span) → Spells words said
+    → acts (action_here in_setup files slot words) names slot words ≡ acts_said (action_said_here in_setup said files slot words) names slot words
+acts_here in_setup said files names slot words spelled =
+    ap (λ o. acts (only_in_setup in_setup o (action_of (keyword_of (text_at 0 words)) files slot words)) names slot words) spelled.keyword
+    ∙ same_if names slot words (is_out_of_place in_setup (Some (keyword_said said))) (Refuse Inval) (action_of (keyword_of (text_at 0 words)) files slot words) (SaidRefuse Inval)
+    (action_said said files slot words) refl (asks_what_it_says said words files names slot spelled)
+
 pub statements_ask_what_they_say : StatementsAskWhatTheySay
 statements_ask_what_they_say said words names slot spelled plain =
     ap (λ o. does_by (kind_of o) names slot words) spelled.keyword
     ∙ ap (λ kind. does_by kind names slot words) plain
-    ∙ ap (λ o. acts (only_in_setup names.in_setup o (action_of (keyword_of (text_at 0 words)) names.files slot words)) names slot words) spelled.keyword
-    ∙ same_if names slot words (is_out_of_place names.in_setup (Some (keyword_said said))) (Refuse Inval) (action_of (keyword_of (text_at 0 words)) names.files slot words) (SaidRefuse Inval)
-    (action_said said names.files slot words) refl (asks_what_it_says said words names.files names slot spelled)
+    ∙ acts_here names.in_setup said names.files names slot words spelled
 
 -- what a statement does by its words in its section is what an action does that it says
-pub as_said : (in_setup : Bool) (files items : List TalkFile) (action arm : SaidAction) (names : Names) (slot : ℕ) (words : List Span) → files ≡ items
-    → acts (action_here in_setup (map file_in files) slot words) names slot words ≡ acts_said action names slot words → action ≡ arm
-    → acts (action_here in_setup (map file_in items) slot words) names slot words ≡ acts_said arm names slot words
-as_said in_setup files items action arm names slot words same says is =
-    ap (λ (rows : List TalkFile). acts (action_here in_setup (map file_in rows) slot words) names slot words) (sym same)
-    ∙ says
-    ∙ ap (λ (a : SaidAction). acts_said a names slot words) is
-
--- no statement asks nothing
-pub nothing_asked : (line : List ℕ) (files : List File) (slot : ℕ) → line ≡ [] → action_of (keyword_of (text_at 0 (columns line))) files slot (columns line) ≡ Nothing
-nothing_asked line files slot none = subst (λ (l : List ℕ). action_of (keyword_of (text_at 0 (columns l))) files slot (columns l) ≡ Nothing) (sym none) refl
-
-pub plain_kind : (line : List ℕ) → line ≡ [] → kind_of (keyword_of (text_at 0 (columns line))) ≡ Plain
-plain_kind line none = subst (λ (l : List ℕ). kind_of (keyword_of (text_at 0 (columns l))) ≡ Plain) (sym none) refl
+pub as_said : (in_setup : Bool) (said : Said) (files items : List TalkFile) (action arm : SaidAction) (names : Names) (slot : ℕ) (words all : List Span) → Spells words said → files ≡ items → all ≡ words
+    → action ≡ action_said_here in_setup said (map file_in files) slot words → action ≡ arm
+    → acts (action_here in_setup (map file_in items) slot all) names slot all ≡ acts_said arm names slot all
+as_said in_setup said files items action arm names slot words all spelled same copied says is =
+    subst (λ (ws : List Span). acts (action_here in_setup (map file_in items) slot ws) names slot ws ≡ acts_said arm names slot ws) (sym copied)
+    (ap (λ (rows : List TalkFile). acts (action_here in_setup (map file_in rows) slot words) names slot words) (sym same)
+    ∙ acts_here in_setup said (map file_in files) names slot words spelled
+    ∙ ap (λ (a : SaidAction). acts_said a names slot words) (sym says ∙ is))
 
 pub kind_is : (words : List Span) (said : Said) → Spells words said → kind_of (keyword_of (text_at 0 words)) ≡ kind_of (Some (keyword_said said))
 kind_is words said spelled = ap (λ o. kind_of o) spelled.keyword
@@ -469,15 +466,3 @@ name_at said words name e is = cc
 
 pub name_is : (words : List Span) (said : Said) (name : List ℕ) → name_said said ≡ Some name → Spells words said → name ≡ text_at 1 words
 name_is words said name e spelled = name_at said words name e spelled.each
-
-not_named : (kind : StatementKind) → kind ≡ Plain → names_tool kind ≡ true → ⊥
-not_named kind is e = cc
-
-pub no_tool : (line : List ℕ) → line ≡ [] → names_tool (kind_of (keyword_of (text_at 0 (columns line)))) ≡ true → ⊥
-no_tool line none e = not_named (kind_of (keyword_of (text_at 0 (columns line)))) (plain_kind line none) e
-
-not_stepping : Plain ≡ Stepping → ⊥
-not_stepping e = cc
-
-pub no_step : (line : List ℕ) → line ≡ [] → kind_of (keyword_of (text_at 0 (columns line))) ≡ Stepping → ⊥
-no_step line none is = not_stepping (sym (plain_kind line none) ∙ is)

@@ -1,10 +1,13 @@
 -- The statement that is under way, in a copy of its own. This project's choice.
-use Rattle.std.specs.Prelude.{◌≡◌, ℕ, List, [], Option, None, Some}
+use Rattle.std.specs.Prelude.{List, [], Option, None, Some}
+use Rattle.gl_base.specs.Words.{Span}
 use Rattle.gl_script.specs.Columns.{columns}
-use Rattle.gl_script.specs.Said.{Spells}
-use Rattle.gl_script.specs.declared.said.Said.{Said}
+use Rattle.gl_talk.specs.declared.copied.CopiedStatement.{CopiedStatement}
 
--- the line of a statement spells what it says; where there is no statement it has no bytes
-abbrev pub IsCopied : Option Said → List ℕ → Type 0
-IsCopied None line = line ≡ []
-IsCopied (Some said) line = Spells (columns line) said
+abbrev pub words_of : CopiedStatement → List Span
+words_of copied = columns copied.line.items
+
+-- the words of the statement that is under way; where none is, there are none
+abbrev pub words_under_way : Option CopiedStatement → List Span
+words_under_way None = []
+words_under_way (Some copied) = words_of copied

@@ -18,4 +18,5 @@ pub mod SaidTalk
 pub mod Slots
 pub mod Talk
 pub mod ToolWords
+pub mod UnderWay
 pub mod Words

@@ -117,12 +117,6 @@ abbrev pub old_ioctls_said : Option File → ℕ → ℕ → Option (List ℕ) �
 old_ioctls_said None slot command made files bytes = Refuse BadF
 old_ioctls_said (Some file) slot command made files bytes = if takes made files then Refuse Exist else old_ioctls_bytes_said file slot command made bytes
 
--- a statement is a command, whose bytes are read from its pieces
-abbrev pub is_command : Said → Bool
-is_command (Ioctl command made) = true
-is_command (OldIoctl command made) = true
-is_command _ = false
-
 -- `events NAME N`, `events1 NAME N` and `changes NAME N`
 abbrev pub read_if_said : Bool → ℕ → ℕ → SaidFormat → SaidAction
 read_if_said can_be_read slot len reply = if can_be_read then Ask (DoReadFile slot len) reply else Refuse Inval

@@ -15,7 +15,6 @@ use Rattle.gl_lines.specs.Texts.{line}
 use Rattle.gl_monitor.specs.declared.monitor.Monitor.{Monitor}
 use Rattle.gl_monitor.specs.Monitor.{Watched, monitor_left, monitor_program, steps_held, watched_by}
 use Rattle.gl_monitor.specs.Monitor.{stops as stops_watching}
-use Rattle.gl_script.specs.Columns.{columns}
 use Rattle.gl_script.specs.Table.{keyword_of}
 use Rattle.gl_values.specs.Client.{tool_program, held_program, client_left}
 use Rattle.gl_values.specs.Set.{Held}
@@ -32,6 +31,7 @@ use Rattle.gl_talk.specs.Formats.{Action, Nothing, Refuse, Ask, ResultFormat, Si
 use Rattle.gl_talk.specs.Old.{made_kind, old_command_word, old_edges_text, old_structure_text}
 use Rattle.gl_talk.specs.Open.{File, Names, no_names, file_in, set_in, monitor_in, has_tool, held_of_name, watched_of_name, with_file, without_file, with_set, with_monitor, without_set, without_monitor, slots_in_order}
 use Rattle.gl_talk.specs.Actions.{action_here}
+use Rattle.gl_talk.specs.Copied.{words_under_way}
 use Rattle.gl_talk.specs.Replies.{number_of, text_of, level_text, ready_text, structure_text, fd_text, edges_text, infos_text}
 use Rattle.gl_talk.specs.SaidTalk.{replied_said}
 use Rattle.gl_talk.specs.ToolWords.{kind_of, usage_text, word_texts}
@@ -201,7 +201,7 @@ abbrev pub slot_in : Talk → ℕ
 slot_in t = 2 * t.begun
 
 abbrev pub words_in : Talk → List Span
-words_in t = columns t.line
+words_in t = words_under_way t.line
 
 abbrev pub left : Talk → Left Names
 left t = left_at t (names_in t) (slot_in t) (words_in t) t.stage

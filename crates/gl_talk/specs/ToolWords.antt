@@ -1,5 +1,6 @@
 -- The words of a tool's statement. This project's choice.
 use Rattle.std.specs.Prelude.{ℕ, Bool, true, false, List, ◌++◌, map, Option, Some, None, codes}
+use Rattle.gl_args.specs.Options.{SaidTool, SaidSet, SaidWatch, SaidNotify}
 use Rattle.gl_base.specs.Words.{Span}
 use Rattle.gl_lines.specs.Texts.{line}
 use Rattle.gl_script.specs.declared.table.Keyword.{Keyword}
@@ -37,6 +38,13 @@ name_said _ = None
 abbrev pub turns_said : Said → Option ℕ
 turns_said (SaidStep name turns) = Some turns
 turns_said _ = None
+
+-- a tool that goes on until it is stopped
+abbrev pub can_be_started : SaidTool → Bool
+can_be_started (SaidSet opts) = true
+can_be_started (SaidWatch opts) = true
+can_be_started (SaidNotify opts) = true
+can_be_started _ = false
 
 -- `TOOL: usage`
 abbrev pub usage_text : List ℕ → List ℕ

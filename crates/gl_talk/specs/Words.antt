@@ -12,6 +12,8 @@ use Rattle.gl_base.specs.Words.{Span}
 use Rattle.gl_base.specs.declared.irq.IrqDo.{IrqDo}
 use Rattle.gl_base.specs.declared.irq.IrqDo.TheVariants.{Lock, Unlock, Enable, Disable, Never}
 use Rattle.gl_base.specs.declared.limits.TheConstants.{PLACES}
+use Rattle.gl_script.specs.declared.said.Said.{Said}
+use Rattle.gl_script.specs.declared.said.Said.TheVariants.{Ioctl, Events, OldIoctl, OldEvents, Changes, Poll, Close}
 use Rattle.gl_script.specs.Cost.{or_zero}
 use Rattle.gl_script.specs.Forms.{number_within}
 pub use Rattle.gl_script.specs.Pieces.{behind_two, behind_three, name_behind_as}
@@ -67,6 +69,29 @@ live_word word = if bytes_eq word (codes "1") then Some true else if bytes_eq wo
 abbrev pub bytes_said : List Span → List ℕ
 bytes_said [] = []
 bytes_said (word ∷ words) = if bytes_eq word.text (codes "as") then [] else piece_bytes word.text ++ bytes_said words
+
+-- a statement is a command, whose bytes are read from its pieces
+abbrev pub is_command : Said → Bool
+is_command (Ioctl command made) = true
+is_command (OldIoctl command made) = true
+is_command _ = false
+
+-- it is on a file that is there, by its name
+abbrev pub is_on_file : Said → Bool
+is_on_file (Ioctl command made) = true
+is_on_file (Events len) = true
+is_on_file (OldIoctl command made) = true
+is_on_file (OldEvents len) = true
+is_on_file (Changes len) = true
+is_on_file Poll = true
+is_on_file Close = true
+is_on_file _ = false
+
+-- the bytes that a statement says in pieces
+abbrev pub bytes_in : Said → List Span → List ℕ
+bytes_in (Ioctl command made) words = bytes_said (behind_three words)
+bytes_in (OldIoctl command made) words = bytes_said (behind_three words)
+bytes_in _ words = []
 
 -- the name of the file that a command makes: the one after `as`, which stands after the statement's first three words (a file may have the name `as` too)
 abbrev pub made_name : List Span → List ℕ

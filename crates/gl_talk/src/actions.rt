@@ -3,29 +3,28 @@
 //! An action has some 600 bytes, and a function begins by zeroing each value of that size that any of its branches makes. So a branch
 //! that makes an action is a function.
 
-ghost use Rattle.std.specs.Prelude.{◌≡◌, ◌*◌, ◌/◌, ◌<◌, ◌≤◌, map, is_some, Some, Ok, option_map, option_copied, IfOk, IfSome, IsOkUnless, true, false};
+ghost use Rattle.std.specs.Prelude.{◌≡◌, ◌*◌, ◌/◌, ◌<◌, ◌≤◌, map, is_some, Some, option_map, option_copied, IfSome, true, false};
 ghost use Rattle.gl_base.specs.Words.{text_at};
-ghost use Rattle.gl_script.specs.Columns.{columns};
-ghost use Rattle.gl_script.specs.Table.{keyword_of};
-ghost use Rattle.gl_talk.specs.Open.{Names, file_in, file_of, is_chip, is_old_event, is_request};
+ghost use Rattle.gl_script.specs.Said.{keyword_said};
+ghost use Rattle.gl_talk.specs.Copied.{words_of};
+ghost use Rattle.gl_talk.specs.Open.{file_in, file_of, is_chip, is_old_event, is_request};
 ghost use Rattle.gl_talk.specs.Paths.{line_file, live_device};
-ghost use Rattle.gl_talk.specs.Actions.{action_here, action_of, is_out_of_place};
-ghost use Rattle.gl_talk.specs.SaidActions.{action_said, asks_for_said, bytes_reply_said, closes_said, command_reply_said, ioctls_bytes_said, ioctls_said, is_command, lives_said, old_ioctls_bytes_said, old_ioctls_said, old_reply_said, opens_said, polls_said, read_if_said, reads_file_said, reads_said, reply_said, takes, writes_line_said, writes_said, writes_tree_said};
-ghost use Rattle.gl_talk.specs.SaidTalk.{acts_said};
-ghost use Rattle.gl_talk.specs.Talk.{acts};
-ghost use Rattle.gl_talk.specs.Words.{behind_three, bytes_said};
+ghost use Rattle.gl_talk.specs.Actions.{is_out_of_place};
+ghost use Rattle.gl_talk.specs.SaidActions.{action_said, action_said_here, asks_for_said, bytes_reply_said, closes_said, command_reply_said, ioctls_bytes_said, ioctls_said, lives_said, old_ioctls_bytes_said, old_ioctls_said, old_reply_said, opens_said, polls_said, read_if_said, reads_file_said, reads_said, reply_said, takes, writes_line_said, writes_said, writes_tree_said};
+ghost use Rattle.gl_talk.specs.ToolWords.{kind_of};
+ghost use Rattle.gl_talk.specs.Words.{behind_three, bytes_said, is_command, is_on_file};
+ghost use Rattle.gl_talk.specs.declared.tools.StatementKind.TheVariants.{Plain};
 
 use crate::copied::CopiedStatement;
 use crate::files::{TalkFile, TalkFileKind, file_of, has_file, is_chip, is_old_event, is_request};
 use crate::joining::aggregates;
 use crate::old::{old_bytes_reply, old_reply, sent_new, sent_old};
 use crate::paths::{LineFile, line_file, live_device};
-use crate::words::{bytes_said, live_word, pull_word, word};
+use crate::words::{file_name, live_word, pull_word};
 use gl_base::command::{GET_CHIPINFO, GET_LINE, GET_LINEINFO, GET_LINEINFO_WATCH, LINE_GET_VALUES};
 use gl_base::{Do, Errno, IrqDo, Name, Path, PinDo};
 use gl_script::Said;
 use gl_v1::{KindV1, Sent};
-use std::alloc::Global;
 
 /// How the result of an operation is told. A refusal is told by the error's name.
 #[derive(Clone, Copy, PartialEq, Eq, Debug)]
@@ -66,7 +65,7 @@ pub enum SaidFormat {
 /// What a statement does first.
 #[derive(Clone, Copy, Debug)]
 pub enum SaidAction {
-    /// Nothing.
+    /// Nothing: so the definitions say it of a tool's own statements, which have no action here.
     Nothing,
     /// It is refused without a call.
     Refuse(Errno),
@@ -74,73 +73,35 @@ pub enum SaidAction {
     Ask(Do, SaidFormat),
 }
 
-/// What a statement does first in its section: with it the statement does what its words say. `slot` is a slot of its own.
+/// What a statement that is no tool's does first in its section. `slot` is a slot of its own.
 pub fn action_here(
-    alloc: Global,
     in_setup: bool,
     files: &[TalkFile],
     slot: u32,
     line: &CopiedStatement,
-) -> Result<SaidAction, Errno>
-    ensures ok { (names : Names) → IfOk result (λ what.
-        acts (action_here in_setup (map file_in files.now) slot (columns line.now)) names slot (columns line.now) ≡ acts_said what names slot (columns line.now)) }
-    ensures memory_alone { IsOkUnless result Errno.NoMemory }
+) -> SaidAction
+    requires { kind_of (Some (keyword_said line.now.said)) ≡ Plain }
+    ensures { result ≡ action_said_here in_setup line.now.said (map file_in files.now) slot (words_of line.now) }
 {
-    if is_out_of_place(in_setup, line) {
-        return refuses_command(Errno::Inval);
+    if is_out_of_place(in_setup, &line.said) {
+        return refuses(Errno::Inval);
     }
-    action_of(alloc, files, slot, line)
+    action_said(files, slot, line)
 }
 
 /// Whether a statement is an `aggregate` that stands in another section than `setup`.
-fn is_out_of_place(in_setup: bool, line: &CopiedStatement) -> bool
-    ensures { result ≡ is_out_of_place in_setup (keyword_of (text_at 0 (columns line.now))) }
+fn is_out_of_place(in_setup: bool, said: &Said) -> bool
+    ensures { result ≡ is_out_of_place in_setup (Some (keyword_said said.now)) }
 {
-    line.is_aggregate() && !in_setup
+    said.is_aggregate() && !in_setup
 }
 
-/// What a statement does first, wherever it stands: with it the statement does what its words say. `slot` is a slot of its own.
-fn action_of(
-    alloc: Global,
-    files: &[TalkFile],
-    slot: u32,
-    line: &CopiedStatement,
-) -> Result<SaidAction, Errno>
-    ensures ok { (names : Names) → IfOk result (λ what.
-        acts (action_of (keyword_of (text_at 0 (columns line.now))) (map file_in files.now) slot (columns line.now)) names slot (columns line.now)
-        ≡ acts_said what names slot (columns line.now)) }
-    ensures memory_alone { IsOkUnless result Errno.NoMemory }
+/// What a statement that is no tool's does first, wherever it stands: one row a statement.
+fn action_said(files: &[TalkFile], slot: u32, line: &CopiedStatement) -> SaidAction
+    requires { kind_of (Some (keyword_said line.now.said)) ≡ Plain }
+    ensures { result ≡ action_said line.now.said (map file_in files.now) slot (words_of line.now) }
 {
-    match line.said() {
-        Some(said) => action_said(alloc, &said, files, slot, line),
-        None => Ok(SaidAction::Nothing),
-    }
-}
-
-/// What a statement that says this does first.
-fn action_said(
-    alloc: Global,
-    said: &Said,
-    files: &[TalkFile],
-    slot: u32,
-    line: &CopiedStatement,
-) -> Result<SaidAction, Errno>
-    ensures ok { IfOk result (λ what. what ≡ action_said said.now (map file_in files.now) slot (columns line.now)) }
-    ensures memory_alone { IsOkUnless result Errno.NoMemory }
-{
-    match said {
-        Said::Ioctl { command, made } => commands(alloc, files, slot, *command, made, line),
-        Said::OldIoctl { command, made } => old_commands(alloc, files, slot, *command, made, line),
-        _ => Ok(row_said(said, files, slot, line)),
-    }
-}
-
-/// What a statement that is no command does first: one row a statement.
-fn row_said(said: &Said, files: &[TalkFile], slot: u32, line: &CopiedStatement) -> SaidAction
-    requires { is_command said.now ≡ false }
-    ensures { result ≡ action_said said.now (map file_in files.now) slot (columns line.now) }
-{
-    match said {
+    match &line.said {
         Said::Probe { label, lines } => probes(label, *lines),
         Said::Unplug { chip } => unplugs(*chip),
         Said::MakeDir { path } => makes_dir(path),
@@ -154,20 +115,29 @@ fn row_said(said: &Said, files: &[TalkFile], slot: u32, line: &CopiedStatement) 
         Said::Pin { chip, what } => pins(*chip, *what),
         Said::Irq { what, chip, offset } => irqs(*what, *chip, *offset),
         Said::Open { name, word } => opens(has_file(files, name.as_bytes()), slot, name, word),
-        Said::Events { len } => events(file_of(files, word(1, line)), *len),
-        Said::OldEvents { len } => old_events(file_of(files, word(1, line)), *len),
-        Said::Changes { len } => changes(file_of(files, word(1, line)), *len),
-        Said::Poll => polls(file_of(files, word(1, line))),
-        Said::Close => closes(file_of(files, word(1, line))),
+        Said::Ioctl { command, made } => commands(files, slot, *command, made, line),
+        Said::Events { len } => events(file_on(files, line), *len),
+        Said::OldIoctl { command, made } => old_commands(files, slot, *command, made, line),
+        Said::OldEvents { len } => old_events(file_on(files, line), *len),
+        Said::Changes { len } => changes(file_on(files, line), *len),
+        Said::Poll => polls(file_on(files, line)),
+        Said::Close => closes(file_on(files, line)),
         Said::Detect
         | Said::Info
         | Said::Get
         | Said::Set
         | Said::Start { .. }
         | Said::Step { .. }
-        | Said::Stop { .. } => SaidAction::Nothing,
-        Said::Ioctl { .. } | Said::OldIoctl { .. } => unreachable!(),
+        | Said::Stop { .. } => unreachable!(),
     }
+}
+
+/// The file that a statement is on, if there is one of its name.
+fn file_on(files: &[TalkFile], line: &CopiedStatement) -> Option<TalkFile>
+    requires { is_on_file line.now.said ≡ true }
+    ensures { option_map file_in result ≡ file_of (text_at 1 (words_of line.now)) (map file_in files.now) }
+{
+    file_of(files, file_name(line))
 }
 
 fn unplugs(chip: u8) -> SaidAction
@@ -384,31 +354,24 @@ fn bytes_reply(number: u32) -> SaidFormat
     }
 }
 
-fn refuses_command(errno: Errno) -> Result<SaidAction, Errno>
-    ensures { result ≡ Ok (SaidAction.Refuse errno) }
-{
-    Ok(SaidAction::Refuse(errno))
-}
-
 fn commands(
-    alloc: Global,
     files: &[TalkFile],
     slot: u32,
     command: u32,
     made: &Option<Name>,
     line: &CopiedStatement,
-) -> Result<SaidAction, Errno>
-    ensures ok { IfOk result (λ what. what ≡ ioctls_said (file_of (text_at 1 (columns line.now)) (map file_in files.now)) slot command made.now (map file_in files.now) (bytes_said (behind_three (columns line.now)))) }
-    ensures memory_alone { IsOkUnless result Errno.NoMemory }
+) -> SaidAction
+    requires file { is_on_file line.now.said ≡ true }
+    requires command { is_command line.now.said ≡ true }
+    ensures { result ≡ ioctls_said (file_of (text_at 1 (words_of line.now)) (map file_in files.now)) slot command made.now (map file_in files.now) (bytes_said (behind_three (words_of line.now))) }
 {
-    let Some(file) = file_of(files, word(1, line)) else {
-        return refuses_command(Errno::BadF);
+    let Some(file) = file_on(files, line) else {
+        return refuses(Errno::BadF);
     };
     if takes(made, files) {
-        return refuses_command(Errno::Exist);
+        return refuses(Errno::Exist);
     }
-    let bytes = bytes_said(alloc, line)?;
-    Ok(ioctls_bytes(&file, slot, command, made, &bytes))
+    ioctls_bytes(&file, slot, command, made, line.command_bytes())
 }
 
 fn ioctls_bytes(
@@ -442,24 +405,23 @@ fn asks_for(file: &TalkFile, slot: u32, sent: &Sent, reply: &SaidFormat) -> Said
 }
 
 fn old_commands(
-    alloc: Global,
     files: &[TalkFile],
     slot: u32,
     command: u32,
     made: &Option<Name>,
     line: &CopiedStatement,
-) -> Result<SaidAction, Errno>
-    ensures ok { IfOk result (λ what. what ≡ old_ioctls_said (file_of (text_at 1 (columns line.now)) (map file_in files.now)) slot command made.now (map file_in files.now) (bytes_said (behind_three (columns line.now)))) }
-    ensures memory_alone { IsOkUnless result Errno.NoMemory }
+) -> SaidAction
+    requires file { is_on_file line.now.said ≡ true }
+    requires command { is_command line.now.said ≡ true }
+    ensures { result ≡ old_ioctls_said (file_of (text_at 1 (words_of line.now)) (map file_in files.now)) slot command made.now (map file_in files.now) (bytes_said (behind_three (words_of line.now))) }
 {
-    let Some(file) = file_of(files, word(1, line)) else {
-        return refuses_command(Errno::BadF);
+    let Some(file) = file_on(files, line) else {
+        return refuses(Errno::BadF);
     };
     if takes(made, files) {
-        return refuses_command(Errno::Exist);
+        return refuses(Errno::Exist);
     }
-    let bytes = bytes_said(alloc, line)?;
-    Ok(old_ioctls_bytes(&file, slot, command, made, &bytes))
+    old_ioctls_bytes(&file, slot, command, made, line.command_bytes())
 }
 
 fn old_ioctls_bytes(

@@ -1,5 +1,5 @@
 //! The statements that start a tool, let it make a step, and stop it.
-ghost use Rattle.std.specs.Prelude.{vec_len, vec_capacity, ◌≡◌, ◌+◌, ◌*◌, ◌<◌, ◌≤◌, None, IfOk, OnOk, OnErr, IsOkUnless, option_copied};
+ghost use Rattle.std.specs.Prelude.{vec_len, vec_capacity, ◌≡◌, ◌+◌, ◌*◌, ◌<◌, ◌≤◌, true, None, IfOk, OnOk, OnErr, IsOkUnless, IsSome, option_copied};
 ghost use Rattle.gl_base.specs.Words.{text_at};
 ghost use Rattle.gl_args.specs.Options.{tool_in};
 ghost use Rattle.gl_client.specs.Program.{Goes, MatchNext, given, goes_on, done, then_left};
@@ -9,14 +9,14 @@ ghost use Rattle.gl_monitor.specs.Monitor.{watched_by};
 ghost use Rattle.gl_values.specs.Client.{client_left, held_by};
 ghost use Rattle.gl_talk.specs.Open.{has_tool, held_of_name, watched_of_name};
 ghost use Rattle.gl_talk.specs.Talk.{StaysBegun, StaysLeft, keeps_monitor, keeps_set, left, names_in, slot_in, some_left, some_watched, starts, starts_said, starts_tool, steps, stops, words_in};
-ghost use Rattle.gl_talk.specs.ToolWords.{kind_of, word_texts};
+ghost use Rattle.gl_talk.specs.ToolWords.{can_be_started, kind_of, word_texts};
 ghost use Rattle.gl_talk.specs.declared.tools.StatementKind.TheVariants.{Starting, Stepping, Stopping};
 ghost use Rattle.gl_talk.specs.Words.{behind_two};
 
 use crate::held::{MonitorRow, SetRow, has_monitor, has_set, row_name, take_monitor, take_set};
 use crate::talk::{Stage, Talk};
 use crate::tools::{started_tool_of, tool_name, turns_of, usage_text};
-use crate::words::word;
+use crate::words::{started_word, under_way};
 use gl_args::{ArgFault, Tool};
 use gl_base::{Errno, Got, Name};
 use gl_client::Next;
@@ -28,6 +28,7 @@ use std::mem;
 impl Talk {
     /// The first step of a `start`.
     pub(crate) fn start_held(&mut self, alloc: Global, step: &mut Next) -> Result<(), Errno>
+        requires line { IsSome self.old.line }
         requires begun { self.old.begun ≤ 2147483647 }
         requires kind { kind_of (keyword_of (text_at 0 (words_in self.old))) ≡ Starting }
         ensures goes { OnOk result (Goes (starts (has_tool (text_at 1 (words_in self.old)) (names_in self.old)) (names_in self.old) (slot_in self.old) (words_in self.old)) step.new (left self.new)) }
@@ -44,14 +45,17 @@ impl Talk {
 
     /// Whether a tool has the statement's name.
     fn has_tool(&self) -> bool
+        requires line { IsSome self.now.line }
+        requires kind { kind_of (keyword_of (text_at 0 (words_in self.now))) ≡ Starting }
         ensures { result ≡ has_tool (text_at 1 (words_in self.now)) (names_in self.now) }
     {
-        let name = word(1, &self.line);
-        has_set(&self.sets, name) || has_monitor(&self.monitors, name)
+        let name = tool_name(under_way(&self.line));
+        has_set(&self.sets, name.as_bytes()) || has_monitor(&self.monitors, name.as_bytes())
     }
 
     /// The first step of a `start` whose name is free.
     fn start_free(&mut self, alloc: Global, step: &mut Next) -> Result<(), Errno>
+        requires line { IsSome self.old.line }
         requires begun { self.old.begun ≤ 2147483647 }
         requires kind { kind_of (keyword_of (text_at 0 (words_in self.old))) ≡ Starting }
         ensures goes { OnOk result (Goes (starts_said (tool_said (word_texts (behind_two (words_in self.old)))) (names_in self.old) (slot_in self.old) (words_in self.old)) step.new (left self.new)) }
@@ -60,13 +64,13 @@ impl Talk {
         ensures kept { OnErr result (StaysBegun self.old self.new) }
         ensures memory_alone { IsOkUnless result Errno.NoMemory }
     {
-        match started_tool_of(alloc, &self.line) {
+        match started_tool_of(alloc, under_way(&self.line)) {
             Ok(tool) => {
                 self.start_said(alloc, tool, step)?;
                 Ok(())
             }
             Err(ArgFault::Usage) => {
-                let text = usage_text(alloc, word(2, &self.line))?;
+                let text = usage_text(alloc, started_word(under_way(&self.line)))?;
                 self.show(text, step);
                 Ok(())
             }
@@ -76,6 +80,8 @@ impl Talk {
 
     /// The first step of a tool that is started.
     fn start_said(&mut self, alloc: Global, tool: Tool, step: &mut Next) -> Result<(), Errno>
+        requires line { IsSome self.old.line }
+        requires tool { can_be_started (tool_in tool) ≡ true }
         requires begun { self.old.begun ≤ 2147483647 }
         requires kind { kind_of (keyword_of (text_at 0 (words_in self.old))) ≡ Starting }
         ensures goes { OnOk result (Goes (starts_tool (tool_in tool) (names_in self.old) (slot_in self.old) (text_at 1 (words_in self.old))) step.new (left self.new)) }
@@ -85,7 +91,7 @@ impl Talk {
         ensures memory_alone { IsOkUnless result Errno.NoMemory }
     {
         let base = 2 * self.begun;
-        let name = tool_name(&self.line);
+        let name = tool_name(under_way(&self.line));
         match tool {
             Tool::Set(opts) => {
                 self.client = Client::held(alloc, Tool::Set(opts), base);
@@ -99,27 +105,25 @@ impl Talk {
                 self.monitor = Some(Monitor::new(alloc, Tool::Notify(opts), base));
                 self.watch(alloc, &name, None, step)
             }
-            Tool::Detect(_) | Tool::Info(_) | Tool::Get(_) => {
-                self.end(step);
-                Ok(())
-            }
+            Tool::Detect(_) | Tool::Info(_) | Tool::Get(_) => unreachable!(),
         }
     }
 
     /// The first step of a `step`: a monitor makes its turns, and a gpioset has none.
     pub(crate) fn step_held(&mut self, alloc: Global, step: &mut Next) -> Result<(), Errno>
-        requires { kind_of (keyword_of (text_at 0 (words_in self.old))) ≡ Stepping }
+        requires line { IsSome self.old.line }
+        requires kind { kind_of (keyword_of (text_at 0 (words_in self.old))) ≡ Stepping }
         ensures goes { OnOk result (Goes (steps (watched_of_name (text_at 1 (words_in self.old)) (names_in self.old).monitors) (held_of_name (text_at 1 (words_in self.old)) (names_in self.old).sets) (names_in self.old) (words_in self.old)) step.new (left self.new)) }
         ensures rests { OnOk result (MatchNext step.new (Unit {0}) (left self.new ≡ goes_on (done (names_in self.new)))) }
         ensures counted { OnOk result (self.new.begun ≡ self.old.begun) }
         ensures kept { left self.old ≡ goes_on (steps (watched_of_name (text_at 1 (words_in self.old)) (names_in self.old).monitors) (held_of_name (text_at 1 (words_in self.old)) (names_in self.old).sets) (names_in self.old) (words_in self.old)) → OnErr result ((left self.new ≡ left self.old) × (self.new.begun ≡ self.old.begun)) }
         ensures memory_alone { IsOkUnless result Errno.NoMemory }
     {
-        let name = tool_name(&self.line);
+        let name = tool_name(under_way(&self.line));
         match take_monitor(&mut self.monitors, name.as_bytes()) {
             Some(monitor) => {
                 let mut monitor = monitor;
-                monitor.step(turns_of(&self.line));
+                monitor.step(turns_of(under_way(&self.line)));
                 self.monitor = Some(monitor);
                 self.stage = Stage::Watching(name);
                 self.watch(alloc, &name, None, step)?;
@@ -138,14 +142,15 @@ impl Talk {
 
     /// The first step of a `stop`.
     pub(crate) fn stop_held(&mut self, alloc: Global, step: &mut Next) -> Result<(), Errno>
-        requires { kind_of (keyword_of (text_at 0 (words_in self.old))) ≡ Stopping }
+        requires line { IsSome self.old.line }
+        requires kind { kind_of (keyword_of (text_at 0 (words_in self.old))) ≡ Stopping }
         ensures goes { OnOk result (Goes (stops (watched_of_name (text_at 1 (words_in self.old)) (names_in self.old).monitors) (held_of_name (text_at 1 (words_in self.old)) (names_in self.old).sets) (names_in self.old) (words_in self.old)) step.new (left self.new)) }
         ensures rests { OnOk result (MatchNext step.new (Unit {0}) (left self.new ≡ goes_on (done (names_in self.new)))) }
         ensures counted { OnOk result (self.new.begun ≡ self.old.begun) }
         ensures kept { left self.old ≡ goes_on (stops (watched_of_name (text_at 1 (words_in self.old)) (names_in self.old).monitors) (held_of_name (text_at 1 (words_in self.old)) (names_in self.old).sets) (names_in self.old) (words_in self.old)) → OnErr result ((left self.new ≡ left self.old) × (self.new.begun ≡ self.old.begun)) }
         ensures memory_alone { IsOkUnless result Errno.NoMemory }
     {
-        let name = tool_name(&self.line);
+        let name = tool_name(under_way(&self.line));
         match take_monitor(&mut self.monitors, name.as_bytes()) {
             Some(monitor) => {
                 let mut monitor = monitor;

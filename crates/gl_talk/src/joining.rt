@@ -1,12 +1,12 @@
 //! What an `aggregate` asks of the device.
 
-ghost use Rattle.std.specs.Prelude.{◌≡◌, ◌+◌, ◌<◌, ◌^◌, ◌++◌, ◌∷◌, ◌||◌, [], false, length, map, take, is_some, not, option_map};
+ghost use Rattle.std.specs.Prelude.{◌≡◌, ◌+◌, ◌<◌, ◌≤◌, ◌^◌, ◌++◌, ◌∷◌, ◌||◌, [], false, length, map, take, is_some, not, option_map};
 ghost use Rattle.std.specs.List.{list_any};
 ghost use Rattle.gl_base.specs.Padded.{IsPadded, padded};
 ghost use Rattle.gl_base.specs.Words.{words_at};
-ghost use Rattle.gl_script.specs.Columns.{columns};
 ghost use Rattle.gl_script.specs.declared.limits.TheConstants.{JOINED_MAX};
 ghost use Rattle.gl_talk.specs.Actions.{files_named, slots_of};
+ghost use Rattle.gl_talk.specs.Copied.{words_of};
 ghost use Rattle.gl_talk.specs.Open.{file_in, is_chip_file};
 ghost use Rattle.gl_talk.specs.SaidActions.{aggregates_said};
 ghost use Rattle.gl_talk.specs.Words.{behind_two};
@@ -16,7 +16,7 @@ use crate::copied::CopiedStatement;
 use crate::files::{TalkFile, file_of, is_chip};
 use crate::words::behind_two;
 use gl_base::{Do, Errno, Name, next_word};
-use gl_script::JOINED_MAX;
+use gl_script::{JOINED_MAX, Said};
 use std::marker::Model;
 
 /// The slots of requests, so many at most. Contracts see them as a list.
@@ -135,10 +135,11 @@ impl Named {
 
 /// What is asked for: a chip over the requests of the statement's names.
 pub fn aggregates(label: &Name, files: &[TalkFile], line: &CopiedStatement) -> SaidAction
-    ensures { result ≡ aggregates_said label.now (files_named JOINED_MAX (behind_two (columns line.now)) (map file_in files.now)) }
+    requires { line.now.said ≡ Said.Aggregate label.now }
+    ensures { result ≡ aggregates_said label.now (files_named JOINED_MAX (behind_two (words_of line.now)) (map file_in files.now)) }
 {
-    let names = behind_two(line.as_slice());
-    let named = first_named(files, names.at, names.line);
+    let names = behind_two(&line.line);
+    let named = all_named(files, names.at, names.line);
     if named.one_missing {
         return refuses(Errno::BadF);
     }
@@ -148,23 +149,19 @@ pub fn aggregates(label: &Name, files: &[TalkFile], line: &CopiedStatement) -> S
     named.slots.joined(label)
 }
 
-/// What the first names come to.
-fn first_named(files: &[TalkFile], at: usize, line: &[u8]) -> Named
-    requires { at + length line.now + 1 < 2 ^ 64 }
+/// What the names come to.
+fn all_named(files: &[TalkFile], at: usize, line: &[u8]) -> Named
+    requires long { at + length line.now + 1 < 2 ^ 64 }
+    requires few { length (words_at at line.now) ≤ JOINED_MAX }
     ensures missing { result.one_missing ≡ list_any (λ file. not (is_some file)) (files_named JOINED_MAX (words_at at line.now) (map file_in files.now)) }
     ensures chip { result.one_a_chip ≡ list_any is_chip_file (files_named JOINED_MAX (words_at at line.now) (map file_in files.now)) }
     ensures slots { result.slots ≡ slots_of (files_named JOINED_MAX (words_at at line.now) (map file_in files.now)) }
 {
     let mut named = Named::none();
-    let mut most = JOINED_MAX;
     let mut at = at;
     let mut rest = line;
     while let Some(found) = next_word(at, rest) {
-        if most == 0 {
-            return named;
-        }
         named.put(&file_of(files, found.word));
-        most -= 1;
         at = found.rest_at;
         rest = found.rest;
     }

@@ -1,20 +1,20 @@
 //! The statements of the first uAPI: which call of v2 each makes, and how its result goes back.
-ghost use Rattle.std.specs.Prelude.{◌≡◌, ◌+◌, ◌*◌, ◌/◌, ◌<◌, ◌≤◌, ◌++◌, length, IfSome, IsSome, IfOk, OnOk, IsOkUnless};
+ghost use Rattle.std.specs.Prelude.{◌≡◌, ◌+◌, ◌*◌, ◌/◌, ◌<◌, ◌≤◌, ◌++◌, length, IfSome, IsSome, true, IfOk, OnOk, IsOkUnless};
 ghost use Rattle.gl_base.specs.BytesText.{bytes_text};
-ghost use Rattle.gl_script.specs.Columns.{columns};
 ghost use Rattle.gl_uapi.specs.Fields.{stretch, zeros};
 ghost use Rattle.gl_v1.specs.Back.{back, events_back};
 ghost use Rattle.gl_v1.specs.Commands.{command_for, size_of};
 ghost use Rattle.gl_v1.specs.To.{without_bytes};
+ghost use Rattle.gl_talk.specs.Copied.{words_of};
 ghost use Rattle.gl_talk.specs.Old.{first_bytes, kind_v1, made_kind, old_edge_line, old_edge_lines, old_edge_word, old_edges_text, old_structure, old_structure_text, sent_new, sent_old};
 ghost use Rattle.gl_talk.specs.SaidActions.{old_bytes_reply_said, old_command_reply_said};
-ghost use Rattle.gl_talk.specs.Words.{behind_three, bytes_said};
+ghost use Rattle.gl_talk.specs.Words.{behind_three, bytes_said, is_command};
 
 use crate::actions::SaidFormat;
 use crate::copied::CopiedStatement;
 use crate::files::TalkFileKind;
 use crate::replies::line_of;
-use crate::words::{bytes_said, first_bytes};
+use crate::words::first_bytes;
 use gl_base::command::{GET_CHIPINFO, GET_LINE, GET_LINEINFO, LINE_GET_VALUES};
 use gl_base::{ByteList, Errno, Name, put_bytes, put_decimal};
 use gl_uapi::fields::{bytes_at, u32_at, u64_at};
@@ -121,11 +121,11 @@ pub fn old_structure_line(
     line: &CopiedStatement,
     got: &[u8],
 ) -> Result<ByteList, Errno>
-    ensures ok { IfOk result (λ printed. printed ≡ old_structure_text kind command (bytes_said (behind_three (columns line.now))) got.now) }
+    requires { is_command line.now.said ≡ true }
+    ensures ok { IfOk result (λ printed. printed ≡ old_structure_text kind command (bytes_said (behind_three (words_of line.now))) got.now) }
     ensures memory_alone { IsOkUnless result Errno.NoMemory }
 {
-    let said = bytes_said(alloc, line)?;
-    old_structure_text(alloc, kind, command, &said, got)
+    old_structure_text(alloc, kind, command, line.command_bytes(), got)
 }
 
 /// The bytes of a structure of the first uAPI, as a line.

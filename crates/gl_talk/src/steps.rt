@@ -1,5 +1,5 @@
 //! The steps of a talk.
-ghost use Rattle.std.specs.Prelude.{◌≡◌, ◌+◌, ◌*◌, ◌<◌, ◌≤◌, ◌++◌, ◌∷◌, [], true, false, IfOk, OnOk, OnErr, IsOkUnless, option_copied};
+ghost use Rattle.std.specs.Prelude.{◌≡◌, ◌+◌, ◌*◌, ◌<◌, ◌≤◌, ◌++◌, ◌∷◌, [], true, false, IfOk, OnOk, OnErr, IsOkUnless, IsSome, option_copied};
 ghost use Rattle.gl_base.specs.Operation.{refusal, bytes_of};
 ghost use Rattle.gl_base.specs.Words.{text_at};
 ghost use Rattle.gl_client.specs.Program.{Goes, MatchNext, given, goes_on, waits, done, ask, then_left};
@@ -10,7 +10,8 @@ ghost use Rattle.gl_talk.specs.Open.{with_file};
 ghost use Rattle.gl_talk.specs.Replies.{fd_text};
 ghost use Rattle.gl_talk.specs.SaidTalk.{file_said, replied_said, told_said};
 ghost use Rattle.gl_talk.specs.Talk.{StaysBegun, StaysLeft, closes_all, does, does_by, left, names_in, quits, refused, runs, shows, slot_in, words_in};
-ghost use Rattle.gl_talk.specs.ToolWords.{word_texts};
+ghost use Rattle.gl_talk.specs.ToolWords.{kind_of, word_texts};
+ghost use Rattle.gl_talk.specs.UnderWay.{is_there};
 
 use crate::actions::{SaidAction, SaidFormat, action_here};
 use crate::closing::slots_in_order;
@@ -22,7 +23,7 @@ use crate::replies::{
 };
 use crate::talk::{Stage, Talk};
 use crate::tools::{StatementKind, kind_of, tool_of, usage_text};
-use crate::words::word;
+use crate::words::{file_name, first_word, under_way};
 use gl_args::ArgFault;
 use gl_base::{ByteList, Do, Errno, Got, Name};
 use gl_client::Next;
@@ -71,6 +72,7 @@ impl Talk {
     /// The first step of the statement that was begun.
     #[tactic(auto, using(crate::proofs::Staying::begun_stays))]
     pub(crate) fn start(&mut self, alloc: Global, step: &mut Next) -> Result<(), Errno>
+        requires line { IsSome self.old.line }
         requires begun { self.old.begun ≤ 2147483647 }
         requires stage { self.old.stage ≡ Stage.Begun }
         ensures goes { OnOk result (Goes (does (names_in self.old) (slot_in self.old) (words_in self.old)) step.new (left self.new)) }
@@ -79,7 +81,7 @@ impl Talk {
         ensures kept { OnErr result ((left self.new ≡ left self.old) × (self.new.begun ≡ self.old.begun)) }
         ensures memory_alone { IsOkUnless result Errno.NoMemory }
     {
-        match kind_of(&self.line) {
+        match kind_of(under_way(&self.line)) {
             StatementKind::Plain => {
                 self.start_plain(alloc, step)?;
                 Ok(())
@@ -103,9 +105,11 @@ impl Talk {
         }
     }
 
-    /// The first step of a statement that asks for one operation at most.
+    /// The first step of a statement that is no tool's: it is refused, or asks for one operation.
     fn start_plain(&mut self, alloc: Global, step: &mut Next) -> Result<(), Errno>
-        requires { self.old.begun ≤ 2147483647 }
+        requires line { IsSome self.old.line }
+        requires begun { self.old.begun ≤ 2147483647 }
+        requires kind { kind_of (keyword_of (text_at 0 (words_in self.old))) ≡ StatementKind.Plain }
         ensures goes { OnOk result (Goes (does_by StatementKind.Plain (names_in self.old) (slot_in self.old) (words_in self.old)) step.new (left self.new)) }
         ensures rests { OnOk result (MatchNext step.new (Unit {0}) (left self.new ≡ goes_on (done (names_in self.new)))) }
         ensures counted { OnOk result (self.new.begun ≡ self.old.begun) }
@@ -113,12 +117,9 @@ impl Talk {
         ensures memory_alone { IsOkUnless result Errno.NoMemory }
     {
         let slot = 2 * self.begun;
-        let action = action_here(alloc, self.in_setup, &self.files, slot, &self.line)?;
+        let action = action_here(self.in_setup, &self.files, slot, under_way(&self.line));
         match &action {
-            SaidAction::Nothing => {
-                self.end(step);
-                Ok(())
-            }
+            SaidAction::Nothing => unreachable!(),
             SaidAction::Refuse(errno) => {
                 self.refuse(alloc, *errno, step)?;
                 Ok(())
@@ -133,20 +134,21 @@ impl Talk {
 
     /// The first step of a tool.
     fn start_tool(&mut self, alloc: Global, step: &mut Next) -> Result<(), Errno>
-        requires { self.old.begun ≤ 2147483647 }
+        requires line { IsSome self.old.line }
+        requires begun { self.old.begun ≤ 2147483647 }
         ensures goes { OnOk result (Goes (runs (tool_said (word_texts (words_in self.old))) (names_in self.old) (slot_in self.old) (words_in self.old)) step.new (left self.new)) }
         ensures rests { OnOk result (MatchNext step.new (Unit {0}) (left self.new ≡ goes_on (done (names_in self.new)))) }
         ensures counted { OnOk result (self.new.begun ≡ self.old.begun) }
         ensures kept { OnErr result (StaysBegun self.old self.new) }
         ensures memory_alone { IsOkUnless result Errno.NoMemory }
     {
-        match tool_of(alloc, &self.line) {
+        match tool_of(alloc, under_way(&self.line)) {
             Ok(tool) => {
                 self.client = Client::new(alloc, tool, 2 * self.begun);
                 self.run(alloc, None, step)
             }
             Err(ArgFault::Usage) => {
-                let text = usage_text(alloc, word(0, &self.line))?;
+                let text = usage_text(alloc, first_word(under_way(&self.line)))?;
                 self.show(text, step);
                 Ok(())
             }
@@ -192,7 +194,8 @@ impl Talk {
         got: Option<&Got>,
         step: &mut Next,
     ) -> Result<(), Errno>
-        requires { self.old.begun ≤ 2147483647 }
+        requires line { is_there (Stage.Waiting reply.now) self.old.line ≡ true }
+        requires begun { self.old.begun ≤ 2147483647 }
         ensures goes { OnOk result (Goes (given (waits (λ got. replied_said reply.now (names_in self.old) (slot_in self.old) (words_in self.old) got)) (option_copied got.entry)) step.new (left self.new)) }
         ensures rests { OnOk result (MatchNext step.new (Unit {0}) (left self.new ≡ goes_on (done (names_in self.new)))) }
         ensures counted { OnOk result (self.new.begun ≡ self.old.begun) }
@@ -218,7 +221,8 @@ impl Talk {
         got: &Got,
         step: &mut Next,
     ) -> Result<(), Errno>
-        requires { self.old.begun ≤ 2147483647 }
+        requires line { is_there (Stage.Waiting reply.now) self.old.line ≡ true }
+        requires begun { self.old.begun ≤ 2147483647 }
         ensures goes { OnOk result (Goes (told_said reply.now (names_in self.old) (slot_in self.old) (words_in self.old) got.now) step.new (left self.new)) }
         ensures rests { OnOk result (MatchNext step.new (Unit {0}) (left self.new ≡ goes_on (done (names_in self.new)))) }
         ensures counted { OnOk result (self.new.begun ≡ self.old.begun) }
@@ -232,7 +236,7 @@ impl Talk {
             }
             SaidFormat::Opened(name) => return self.opened(name, step),
             SaidFormat::Closed => {
-                remove_file(&mut self.files, word(1, &self.line));
+                remove_file(&mut self.files, file_name(under_way(&self.line)));
                 self.end(step);
                 return Ok(());
             }
@@ -246,7 +250,7 @@ impl Talk {
                 alloc,
                 *kind,
                 *command,
-                &self.line,
+                under_way(&self.line),
                 got.bytes(),
             )?,
             SaidFormat::OldEdges => old_edges_text(alloc, got.bytes())?,

@@ -1,10 +1,8 @@
 //! Statements one after the other.
-ghost use Rattle.std.specs.Prelude.{◌≡◌, ◌+◌, ◌*◌, ◌<◌, ◌≤◌, [], ◌∷◌, List, IfOk, OnOk, OnErr, IsOkUnless, option_copied};
+ghost use Rattle.std.specs.Prelude.{◌≡◌, ◌+◌, ◌*◌, ◌<◌, ◌≤◌, true, [], ◌∷◌, List, IfOk, OnOk, OnErr, IsOkUnless, option_copied};
 ghost use Rattle.gl_client.specs.Program.{Goes, MatchNext, given, goes_on, done, then_left};
 ghost use Rattle.gl_base.specs.Words.{Span};
-ghost use Rattle.gl_talk.specs.Open.{Names, file_of, is_chip_file, left_setup, no_names, setup_names};
-ghost use Rattle.gl_talk.specs.Over.{columns_in};
-ghost use Rattle.gl_talk.specs.Talk.{Does, does, left, names_in, quits, slot_behind, talk_left, talks};
+ghost use Rattle.gl_talk.specs.UnderWay.{is_there};
 
 use crate::actions::SaidFormat;
 use crate::copied::CopiedStatement;
@@ -42,8 +40,8 @@ pub enum Stage {
 /// of files and of started tools live from one to the next.
 #[derive(Drop)]
 pub struct Talk {
-    /// The statement that is under way.
-    pub line: CopiedStatement,
+    /// The statement that is under way, or the one before; none before the first.
+    pub line: Option<CopiedStatement>,
     /// The open files, in the order in which they were opened.
     pub files: Vec<TalkFile>,
     /// The gpiosets that were started and hold their requests.
@@ -62,9 +60,14 @@ pub struct Talk {
     pub monitor: Option<Monitor>,
     /// The slots that are still to be closed at the end.
     pub closing: Vec<u32>,
+    pub ghost under_way: { is_there stage line ≡ true },
 }
 
 impl Talk {
+    ghost use Rattle.gl_talk.specs.Open.{Names, file_of, is_chip_file, left_setup, no_names, setup_names};
+    ghost use Rattle.gl_talk.specs.Over.{columns_in};
+    ghost use Rattle.gl_talk.specs.Talk.{Does, does, left, names_in, quits, slot_behind, talk_left, talks};
+
     /// No statement was begun, and no file is open. Its statements are those of another section than `setup`.
     pub fn new(alloc: Global) -> Result<Talk, Errno>
         ensures ok { IfOk result (λ talk. (names_in talk ≡ no_names) × (talk.begun ≡ 0) × (left talk ≡ goes_on (done no_names))) }
@@ -86,7 +89,7 @@ impl Talk {
         ensures memory_alone { IsOkUnless result Errno.NoMemory }
     {
         Ok(Talk {
-            line: CopiedStatement::none(alloc),
+            line: None,
             files: Vec::new(alloc),
             sets: Vec::new(alloc),
             monitors: Vec::new(alloc),
@@ -121,7 +124,7 @@ impl Talk {
         ensures memory_alone { IsOkUnless result Errno.NoMemory }
     {
         let line = CopiedStatement::of(alloc, statement)?;
-        self.line = line;
+        self.line = Some(line);
         self.begun += 1;
         self.stage = Stage::Begun;
         Ok(())

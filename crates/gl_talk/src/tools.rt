@@ -4,10 +4,10 @@ ghost use Rattle.gl_args.specs.Items.{texts};
 ghost use Rattle.gl_args.specs.Options.{tool_in};
 ghost use Rattle.gl_args.specs.Tools.{tool_said};
 ghost use Rattle.gl_base.specs.Words.{text_at, words_at};
-ghost use Rattle.gl_script.specs.Columns.{columns};
 ghost use Rattle.gl_script.specs.Said.{keyword_said};
 ghost use Rattle.gl_script.specs.Table.{keyword_of};
-ghost use Rattle.gl_talk.specs.ToolWords.{kind_of, name_said, names_tool, turns_said, usage_text, word_texts};
+ghost use Rattle.gl_talk.specs.Copied.{words_of};
+ghost use Rattle.gl_talk.specs.ToolWords.{can_be_started, kind_of, name_said, names_tool, turns_said, usage_text, word_texts};
 ghost use Rattle.gl_talk.specs.Words.{behind_two, turns_word};
 
 use crate::copied::CopiedStatement;
@@ -34,12 +34,9 @@ pub enum StatementKind {
 
 /// The kind of a statement.
 pub fn kind_of(line: &CopiedStatement) -> StatementKind
-    ensures { result ≡ kind_of (keyword_of (text_at 0 (columns line.now))) }
+    ensures { result ≡ kind_of (keyword_of (text_at 0 (words_of line.now))) }
 {
-    match line.said() {
-        Some(said) => kind_said(&said),
-        None => StatementKind::Plain,
-    }
+    kind_said(&line.said)
 }
 
 /// The kind of what a statement says.
@@ -76,13 +73,10 @@ fn kind_said(said: &Said) -> StatementKind
 
 /// How many turns the tool of a `step` makes.
 pub fn turns_of(line: &CopiedStatement) -> u32
-    requires { kind_of (keyword_of (text_at 0 (columns line.now))) ≡ StatementKind.Stepping }
-    ensures { result ≡ turns_word (text_at 2 (columns line.now)) }
+    requires { kind_of (keyword_of (text_at 0 (words_of line.now))) ≡ StatementKind.Stepping }
+    ensures { result ≡ turns_word (text_at 2 (words_of line.now)) }
 {
-    match line.said() {
-        Some(said) => turns_said(&said),
-        None => unreachable!(),
-    }
+    turns_said(&line.said)
 }
 
 /// How many turns a step has.
@@ -98,13 +92,10 @@ fn turns_said(said: &Said) -> u32
 
 /// The name of the tool that a statement starts, lets make a step or stops.
 pub fn tool_name(line: &CopiedStatement) -> Name
-    requires { names_tool (kind_of (keyword_of (text_at 0 (columns line.now)))) ≡ true }
-    ensures { result ≡ text_at 1 (columns line.now) }
+    requires { names_tool (kind_of (keyword_of (text_at 0 (words_of line.now)))) ≡ true }
+    ensures { result ≡ text_at 1 (words_of line.now) }
 {
-    match line.said() {
-        Some(said) => name_said(&said),
-        None => unreachable!(),
-    }
+    name_said(&line.said)
 }
 
 /// The tool's name in what such a statement says.
@@ -134,8 +125,8 @@ pub fn usage_text(alloc: Global, tool: &[u8]) -> Result<ByteList, Errno>
 
 /// The tool that a line's words are.
 pub fn tool_of(alloc: Global, line: &CopiedStatement) -> Result<Tool, ArgFault>
-    ensures ok { IfOk result (λ tool. tool_said (word_texts (columns line.now)) ≡ Some (tool_in tool)) }
-    ensures usage { IsErrOf result ArgFault.Usage → tool_said (word_texts (columns line.now)) ≡ None }
+    ensures ok { IfOk result (λ tool. tool_said (word_texts (words_of line.now)) ≡ Some (tool_in tool)) }
+    ensures usage { IsErrOf result ArgFault.Usage → tool_said (word_texts (words_of line.now)) ≡ None }
 {
     match words_of(alloc, line) {
         Ok(words) => read_tool(alloc, &words),
@@ -143,10 +134,12 @@ pub fn tool_of(alloc: Global, line: &CopiedStatement) -> Result<Tool, ArgFault>
     }
 }
 
-/// The tool that the words of a `start` after its name are.
+/// The tool that the words of a `start` after its name are: one that can be started.
 pub fn started_tool_of(alloc: Global, line: &CopiedStatement) -> Result<Tool, ArgFault>
-    ensures ok { IfOk result (λ tool. tool_said (word_texts (behind_two (columns line.now))) ≡ Some (tool_in tool)) }
-    ensures usage { IsErrOf result ArgFault.Usage → tool_said (word_texts (behind_two (columns line.now))) ≡ None }
+    requires { kind_of (keyword_of (text_at 0 (words_of line.now))) ≡ StatementKind.Starting }
+    ensures ok { IfOk result (λ tool. tool_said (word_texts (behind_two (words_of line.now))) ≡ Some (tool_in tool)) }
+    ensures started { IfOk result (λ tool. can_be_started (tool_in tool) ≡ true) }
+    ensures usage { IsErrOf result ArgFault.Usage → tool_said (word_texts (behind_two (words_of line.now))) ≡ None }
 {
     match started_words(alloc, line) {
         Ok(words) => read_tool(alloc, &words),
@@ -156,18 +149,19 @@ pub fn started_tool_of(alloc: Global, line: &CopiedStatement) -> Result<Tool, Ar
 
 /// The words of a line.
 fn words_of(alloc: Global, line: &CopiedStatement) -> Result<Vec<&[u8]>, Errno>
-    ensures ok { IfOk result (λ words. texts words.items ≡ word_texts (columns line.now)) }
+    ensures ok { IfOk result (λ words. texts words.items ≡ word_texts (words_of line.now)) }
     ensures memory_alone { IsOkUnless result Errno.NoMemory }
 {
-    words_in(alloc, 1, line.as_slice())
+    words_in(alloc, 1, &line.line)
 }
 
 /// The words of a `start` after its name: the tool's.
 fn started_words(alloc: Global, line: &CopiedStatement) -> Result<Vec<&[u8]>, Errno>
-    ensures ok { IfOk result (λ words. texts words.items ≡ word_texts (behind_two (columns line.now))) }
+    requires { kind_of (keyword_of (text_at 0 (words_of line.now))) ≡ StatementKind.Starting }
+    ensures ok { IfOk result (λ words. texts words.items ≡ word_texts (behind_two (words_of line.now))) }
     ensures memory_alone { IsOkUnless result Errno.NoMemory }
 {
-    let rest = behind_two(line.as_slice());
+    let rest = behind_two(&line.line);
     words_in(alloc, rest.at, rest.line)
 }
 

@@ -1,3 +1,4 @@
+use Rattle.gl_script.proofs.Forming.{statements_are_formed}
 use Rattle.gl_script.proofs.Saying.{said_is_spelled, statements_are_said, versions_are_said}
 use Rattle.gl_script.proofs.laws.statements_are_said.Goals as goal
 
@@ -9,3 +10,6 @@ returns-clause-versions c = versions_are_said
 
 pub returns-clause-spelled : goal.returns-clause-spelled
 returns-clause-spelled c = said_is_spelled
+
+pub returns-clause-formed : goal.returns-clause-formed
+returns-clause-formed c = statements_are_formed

@@ -1,10 +1,10 @@
 use Rattle.std.proofs.Common.{sym, ◌∙◌}
-use Rattle.gl_script.specs.Columns.{columns}
-use Rattle.gl_talk.proofs.TypedActions.{kind_is, plain_kind}
+use Rattle.gl_talk.specs.Copied.{words_of}
+use Rattle.gl_talk.proofs.Copies.{spelled}
+use Rattle.gl_talk.proofs.TypedActions.{kind_is}
 use Rattle.gl_talk.proofs.tools.kind_of.Goals as goal
 
-pub returns-in-Some : goal.returns-in-Some
-returns-in-Some c = c.kind_said.ensures ∙ sym (kind_is (columns c.args.line.now) c.in-Some.said c.in-Some.ensures)
-
-pub returns-in-None : goal.returns-in-None
-returns-in-None c = sym (plain_kind c.args.line.now c.in-None.ensures)
+pub returns : goal.returns
+returns c =
+    let line = c.args.line.now in
+    c.kind_said.ensures ∙ sym (kind_is (words_of line) line.said (spelled line))
