@@ -1,24 +1,21 @@
-//! Open files as who carries operations out holds them: only the answer to a call of a device makes one.
+//! Open files as who carries operations out holds them: only the answer to a call of a device makes one, and a close uses it up.
 
-ghost use Rattle.std.specs.Prelude.{◌≡◌, ℕ, List};
-ghost use Rattle.gl_base.specs.declared.errno.Errno.{Errno as AnErrno};
-ghost use Rattle.gl_model.specs.declared.reply.Reply.TheVariants.{Done, Refused};
-ghost use Rattle.gl_asking.specs.declared.kinds.Asking.TheVariants.{Accepts, Plans};
-ghost use Rattle.gl_asking.specs.Asking.{asking, file_for, files_behind};
+ghost use Rattle.std.specs.Prelude.{◌≡◌, List};
+ghost use Rattle.gl_asking.specs.Asking.{file_for, files_behind};
 ghost use Rattle.gl_asking.specs.Changes.{IsChange, NamesMade, OpensWithin, changed};
 ghost use Rattle.gl_asking.specs.Files.{OpenFile};
 ghost use Rattle.gl_asking.specs.Rows.{IsSomeRow, file_of};
-ghost use Rattle.gl_chip.specs.Held.{IsCallOf};
+ghost use Rattle.gl_chip.specs.Held.{IsCallOf, row_in};
 
 use crate::orders::Order;
-use gl_asking::{Answered, Change, FileRow};
+use gl_asking::{Answered, Change, FileKind, FileRow};
 use gl_base::Do;
 use gl_model::Reply;
 use std::marker::Model;
 
 /// An open file of a device, as its holder has it: a row, which `files_behind` alone makes, of a device's answer. Who acts on a file by `Gpio::call`
-/// hands it in. Contracts see the row.
-#[derive(Clone, Copy)]
+/// lends it, and who closes it gives it up, as a handle. One that is let go of stays open in the device. Contracts see the row.
+#[derive(Drop)]
 pub struct HeldFile {
     row: FileRow,
 }
@@ -29,8 +26,6 @@ impl Model for HeldFile {
     ghost Value = { FileRow };
 
     ghost view = { λ file. file.row };
-
-    ghost inverse = { λ row. record { row = row } };
 }
 
 impl HeldFile {
@@ -44,21 +39,49 @@ impl HeldFile {
     }
 }
 
-/// The row of a file, where there is one.
-pub fn row_of(file: &Option<HeldFile>) -> Option<FileRow>
-    ensures { result ≡ file.now }
-{
-    match file {
-        Some(file) => Some(*file.row()),
-        None => None,
+/// What is handed in of the file that a call acts on.
+#[derive(Drop)]
+pub enum Handed<'f> {
+    /// Nothing: it acts on none.
+    Nothing,
+    /// The file is lent.
+    Lent(&'f HeldFile),
+    /// The file is given up, to a close.
+    GivenUp(HeldFile),
+}
+
+impl Handed<'_> {
+    ghost use Rattle.std.specs.Prelude.{◌≡◌};
+    ghost use Rattle.gl_chip.specs.Held.{kind_in, row_in};
+
+    /// The row of the file, where there is one.
+    pub fn row(&self) -> Option<FileRow>
+        ensures { result ≡ row_in self.now }
+    {
+        match self {
+            Handed::Nothing => None,
+            Handed::Lent(file) => Some(*file.row()),
+            Handed::GivenUp(file) => Some(*file.row()),
+        }
+    }
+
+    /// What the file is of; a chip where there is none.
+    pub(crate) fn kind(&self) -> FileKind
+        ensures { result ≡ kind_in self.now }
+    {
+        match self {
+            Handed::Nothing => FileKind::Chip,
+            Handed::Lent(file) => file.row().kind(),
+            Handed::GivenUp(file) => file.row().kind(),
+        }
     }
 }
 
-/// What a call of a device was answered, and which call that was. `Gpio::call` alone makes one.
-#[derive(Clone, Copy)]
+/// What a call of a device was answered, and which call that was, on which file. `Gpio::call` alone makes one.
+#[derive(Drop)]
 pub struct Answer<'o> {
-    /// The call.
-    pub(crate) order: &'o Order,
+    /// The call, with its file.
+    pub(crate) order: Order<'o>,
     /// The reply, and what goes with it.
     pub(crate) answered: Answered,
 }
@@ -81,33 +104,19 @@ impl Answer<'_> {
     }
 }
 
-/// What becomes of the open files by an operation on this file, whose call was answered so. A file that was to be closed is gone, whatever the
-/// reply; the lines of a new request are those that were asked for.
-pub fn files_behind(what: &Do, file: &Option<HeldFile>, answer: &Answer<'_>) -> Change<HeldFile>
-    requires asks { IsCallOf what.now file.now answer.now.order.now.call }
-    requires within { OpensWithin what.now answer.now.answered.reply }
-    requires named { NamesMade what.now file.now answer.now.answered }
-    requires row { IsSomeRow file.now }
+/// What becomes of the open files by an operation whose call was answered so. A file that was to be closed is gone, whatever the reply; the lines
+/// of a new request are those that were asked for. The answer is used up: it makes one file at most.
+pub fn files_behind(what: &Do, answer: Answer<'_>) -> Change<HeldFile>
+    requires asks { IsCallOf what.now (row_in answer.order.file) answer.order.call.now }
+    requires within { OpensWithin what.now answer.answered.reply }
+    requires named { NamesMade what.now (row_in answer.order.file) answer.answered }
+    requires row { IsSomeRow (row_in answer.order.file) }
     ensures row { IsChange result }
-    ensures told { (files : List OpenFile) → file_for what.now files ≡ file_of file.now → files_behind what.now answer.now.answered.reply files ≡ changed result files }
+    ensures told { (files : List OpenFile) → file_for what.now files ≡ file_of (row_in answer.entry.order.file) → files_behind what.now answer.entry.answered.reply files ≡ changed result files }
 {
-    match gl_asking::files_behind(what, row_of(file), &answer.answered) {
+    match gl_asking::files_behind(what, answer.order.file.row(), &answer.answered) {
         Change::Stays => Change::Stays,
         Change::Adds(row) => Change::Adds(HeldFile { row }),
         Change::Removes(slot) => Change::Removes(slot),
-    }
-}
-
-/// What becomes of the open files by an operation for which no call was made: it was refused, or it told the actor's port something. No file is
-/// opened so.
-pub fn files_uncalled(what: &Do) -> Change<HeldFile>
-    ensures row { IsChange result }
-    ensures refused { (errno : AnErrno) (files : List OpenFile) → files_behind what.now (Refused errno) files ≡ changed result files }
-    ensures planned { (nth : ℕ) (files : List OpenFile) → asking files what.now ≡ Plans nth → files_behind what.now Done files ≡ changed result files }
-    ensures accepted { (bits : ℕ) (files : List OpenFile) → asking files what.now ≡ Accepts bits → files_behind what.now Done files ≡ changed result files }
-{
-    match what {
-        Do::Close { slot } => Change::Removes(*slot),
-        _ => Change::Stays,
     }
 }

@@ -25,7 +25,7 @@ use crate::actor::Actor;
 use crate::bringing::brought_by;
 use crate::files::{ChipFd, LineFd};
 use crate::gpio::Gpio;
-use crate::orders::Order;
+use crate::orders::CallOn;
 use gl_asking::{Answered, FileKind, results};
 use gl_base::Errno;
 use gl_core::{Core, Gift, Reply};
@@ -97,9 +97,9 @@ impl<D: Driver<Core>> Gpio<D> {
         match brought_by(&command, alloc) {
             Err(errno) => Err(errno),
             Ok(mut gift) => {
-                let order = Order {
-                    call: DeviceCall::Commanding(command),
-                    on: FileKind::Chip,
+                let order = CallOn {
+                    call: &DeviceCall::Commanding(command),
+                    on: &FileKind::Chip,
                 };
                 match self.carry(rt, actor, &order, &mut gift, buf) {
                     Ok(answered) => {
@@ -146,9 +146,9 @@ impl<D: Driver<Core>> Gpio<D> {
             ConfiguresInOrder (Rises (D.Port.faults actor.old.port) (D.Port.faults actor.new.port)) result actor.new.pass.view c }
     {
         let command = fd.command(cmd, buf);
-        let order = Order {
-            call: DeviceCall::Commanding(command),
-            on: FileKind::Request(fd.lines()),
+        let order = CallOn {
+            call: &DeviceCall::Commanding(command),
+            on: &FileKind::Request(fd.lines()),
         };
         match self.carry(rt, actor, &order, &mut Gift::nothing(), buf) {
             Ok(answered) => results::done(answered.reply),

@@ -31,5 +31,5 @@ mod tree;
 pub use actor::Actor;
 pub use files::{ChipFd, LineFd};
 pub use gpio::Gpio;
-pub use held::{Answer, HeldFile, files_behind, files_uncalled, row_of};
+pub use held::{Answer, Handed, HeldFile, files_behind};
 pub use orders::Order;

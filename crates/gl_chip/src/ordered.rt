@@ -20,7 +20,7 @@ ghost use Rattle.gl_core.specs.Device.{core};
 
 use crate::actor::Actor;
 use crate::gpio::Gpio;
-use crate::orders::Order;
+use crate::orders::CallOn;
 use gl_asking::{FileKind, results};
 use gl_base::Errno;
 use gl_core::{Call, Core, Gift, Reply};
@@ -56,9 +56,9 @@ impl<D: Driver<Core>> Gpio<D> {
         ensures full { IfErr result (λ e. (e ≡ Full) × (out.new ≡ out.old)
             × FoundNoRoom core actor.old.pass.view actor.new.pass.view) }
     {
-        let order = Order {
-            call: DeviceCall::Once(*call),
-            on: FileKind::Chip,
+        let order = CallOn {
+            call: &DeviceCall::Once(*call),
+            on: &FileKind::Chip,
         };
         match self.carry(rt, actor, &order, gift, out) {
             Ok(answered) => Ok(answered.reply),
@@ -133,9 +133,9 @@ impl<D: Driver<Core>> Gpio<D> {
         ensures places { IfOk result (λ r. KnowsRemoved removal r actor.old.pass.view actor.new.pass.view) }
         ensures full { IfErr result (λ e. (e ≡ Full) × FoundNoRoom core actor.old.pass.view actor.new.pass.view) }
     {
-        let order = Order {
-            call: DeviceCall::Removing(removal),
-            on: FileKind::Chip,
+        let order = CallOn {
+            call: &DeviceCall::Removing(removal),
+            on: &FileKind::Chip,
         };
         match self.carry(rt, actor, &order, &mut Gift::nothing(), &mut []) {
             Ok(answered) => Ok(answered.reply),

@@ -10,10 +10,11 @@ ghost use Rattle.gl_model.specs.declared.reply.Reply.TheVariants.{Number, Refuse
 ghost use Rattle.gl_asking.specs.declared.kinds.FileKind.TheVariants.{Chip};
 ghost use Rattle.gl_asking.specs.Fitting.{FitsDevice};
 ghost use Rattle.gl_asking.specs.Handed.{command_in};
-ghost use Rattle.gl_asking.specs.Rows.{HasLines, IsOn, is_chip, kind_of};
+ghost use Rattle.gl_asking.specs.Rows.{HasLines, IsOn, is_chip};
 ghost use Rattle.gl_chip.specs.Called.{HasCalled};
 ghost use Rattle.gl_chip.specs.DriverCommands.{HasCommanded, IsOp};
 ghost use Rattle.gl_asking.specs.Driving.{op_for};
+ghost use Rattle.gl_chip.specs.Held.{is_close, is_given_up, kind_in, row_in};
 ghost use Rattle.gl_chip.specs.Orders.{AnswersOrder, Brings, CouldNot, EndsOrder, FitsOrder, GivesLines, GivesOn, HasDone, KnowsAfter, KnowsRemoved, WroteByForm, WroteTo, answered_of, lines_on, op_ordered};
 ghost use Rattle.gl_driver.specs.Told.{PortAfter};
 ghost use Rattle.gl_core.specs.Device.{tells_in};
@@ -24,9 +25,9 @@ ghost use Rattle.gl_core.specs.Device.{core};
 use crate::actor::Actor;
 use crate::bringing::brought;
 use crate::gpio::Gpio;
-use crate::held::{Answer, HeldFile, row_of};
+use crate::held::{Answer, Handed};
 use gl_asking::parts::first_call;
-use gl_asking::{Answered, FileKind, kind_of};
+use gl_asking::{Answered, FileKind};
 use gl_base::Errno;
 use gl_core::{Core, Gift, Reply};
 use gl_driver::Driver;
@@ -34,27 +35,35 @@ use gl_model::{CommandIn, DeviceCall, RemovalOf};
 use std::alloc::Global;
 use std::sync::Wait;
 
-/// A call of the device, and what the file is of that a command is on. For other calls that means nothing.
-#[derive(Clone, Copy)]
-pub struct Order {
+/// A call of the device, with what it has of the file that it acts on. It is made once: `Gpio::call` takes it.
+#[derive(Drop)]
+pub struct Order<'o> {
     /// The call.
-    pub(crate) call: DeviceCall,
-    /// What the command's file is of: of a request, its lines.
-    pub(crate) on: FileKind,
+    pub(crate) call: &'o DeviceCall,
+    /// What it has of its file.
+    pub(crate) file: Handed<'o>,
 }
 
-impl Order {
-    /// A call of the device, on this file where it is a command. The lines of a request are the file's.
-    pub fn of(call: DeviceCall, file: &Option<HeldFile>) -> Order
-        requires on { IsOn call file.now }
-        ensures call { result.call ≡ call }
-        ensures on { result.on ≡ kind_of file.now }
+impl<'o> Order<'o> {
+    /// A call of the device, on this file where it acts on one. A close wants its file given up, and every other call that acts on a file has it
+    /// lent. The lines of a request are the file's.
+    pub fn of(call: &'o DeviceCall, file: Handed<'o>) -> Order<'o>
+        requires on { IsOn call.now (row_in file) }
+        requires given_up { is_given_up file ≡ is_close call.now }
+        ensures call { result.call.now ≡ call.now }
+        ensures file { row_in result.file ≡ row_in file.entry }
     {
-        Order {
-            call,
-            on: kind_of(&row_of(file)),
-        }
+        Order { call, file }
     }
+}
+
+/// A call of the device, and what the file is of that a command is on. For other calls that means nothing.
+#[derive(Clone, Copy)]
+pub(crate) struct CallOn<'a> {
+    /// The call.
+    pub(crate) call: &'a DeviceCall,
+    /// What the command's file is of: of a request, its lines.
+    pub(crate) on: &'a FileKind,
 }
 
 /// A command, and what its file is of.
@@ -129,27 +138,27 @@ impl<D: Driver<Core>> Gpio<D> {
         &self,
         rt: &R,
         actor: &mut Actor<D>,
-        order: &Order,
+        order: &CallOn<'_>,
         gift: &mut Gift,
         out: &mut [u8],
     ) -> Result<Answered, Errno>
         requires actor { IsActorOf self.now actor.old }
-        requires fits { FitsOrder order.now.call order.now.on out.old }
-        requires brings { Brings order.now.call gift.old }
+        requires fits { FitsOrder order.now.call.now order.now.on.now out.old }
+        requires brings { Brings order.now.call.now gift.old }
         ensures actor { IsActorOf self.now actor.new }
         ensures same { IsSameActor actor.old.pass.view actor.new.pass.view }
-        ensures done { IfOk result (λ r. (bytes : List ℕ) × WroteTo order.now.call bytes out.old out.new
-            × HasDone D.Port.told D.Port.faults D.Port.maps D.Port.maps_left D.OwnEntries D.Follows D.ENTRIES order.now.call order.now.on actor.old r.reply bytes actor.new) }
-        ensures form { IfOk result (λ r. AnswersOrder order.now.call order.now.on r.reply) }
-        ensures lengths { IfOk result (λ r. WroteByForm order.now.call out.old out.new r.reply) }
-        ensures ended { IfOk result (λ r. EndsOrder order.now.call r.reply actor.old.pass.view actor.new.pass.view) }
-        ensures lines { IfOk result (GivesLines order.now.call order.now.on) }
+        ensures done { IfOk result (λ r. (bytes : List ℕ) × WroteTo order.now.call.now bytes out.old out.new
+            × HasDone D.Port.told D.Port.faults D.Port.maps D.Port.maps_left D.OwnEntries D.Follows D.ENTRIES order.now.call.now order.now.on.now actor.old r.reply bytes actor.new) }
+        ensures form { IfOk result (λ r. AnswersOrder order.now.call.now order.now.on.now r.reply) }
+        ensures lengths { IfOk result (λ r. WroteByForm order.now.call.now out.old out.new r.reply) }
+        ensures ended { IfOk result (λ r. EndsOrder order.now.call.now r.reply actor.old.pass.view actor.new.pass.view) }
+        ensures lines { IfOk result (GivesLines order.now.call.now order.now.on.now) }
         ensures counts { IfOk result (λ r. IfSome r.lines (λ lines. IsLineCount lines.count)) }
-        ensures places { KnowsAfter order.now.call result actor.old.pass.view actor.new.pass.view }
+        ensures places { KnowsAfter order.now.call.now result actor.old.pass.view actor.new.pass.view }
         ensures full { IfErr result (λ e. (e ≡ Full) × (out.new ≡ out.old) × (actor.new.port ≡ actor.old.port)
             × FoundNoRoom core actor.old.pass.view actor.new.pass.view) }
     {
-        match &order.call {
+        match order.call {
             DeviceCall::Once(call) => match self.once(rt, actor, call, gift, out) {
                 Ok(reply) => Ok(Answered::without_lines(reply)),
                 Err(errno) => Err(errno),
@@ -161,7 +170,7 @@ impl<D: Driver<Core>> Gpio<D> {
             DeviceCall::Commanding(command) => {
                 let order = OnFile {
                     command,
-                    on: &order.on,
+                    on: order.on,
                 };
                 self.order_command(rt, actor, &order, gift, out)
             }
@@ -181,32 +190,40 @@ impl<D: Driver<Core>> Gpio<D> {
         rt: &R,
         alloc: Global,
         actor: &mut Actor<D>,
-        order: &'o Order,
+        order: Order<'o>,
         out: &mut [u8],
     ) -> Result<Answer<'o>, Errno>
         requires actor { IsActorOf self.now actor.old }
-        requires fits { FitsOrder order.now.call order.now.on out.old }
+        requires fits { FitsOrder order.call.now (kind_in order.file) out.old }
         ensures actor { IsActorOf self.now actor.new }
-        ensures order { IfOk result (λ r. r.order.now ≡ order.now) }
+        ensures call { IfOk result (λ r. r.order.call.now ≡ order.entry.call.now) }
+        ensures file { IfOk result (λ r. row_in r.order.file ≡ row_in order.entry.file) }
         ensures same { IsSameActor actor.old.pass.view actor.new.pass.view }
-        ensures done { IfOk result (λ r. (bytes : List ℕ) × WroteTo order.now.call bytes out.old out.new
-            × HasDone D.Port.told D.Port.faults D.Port.maps D.Port.maps_left D.OwnEntries D.Follows D.ENTRIES order.now.call order.now.on actor.old r.answered.reply bytes actor.new) }
-        ensures port { D.ENTRIES ≡ 0 → IfOk result (λ r. (bytes : List ℕ) × WroteTo order.now.call bytes out.old out.new
-            × (called : HasCalled 0 actor.old.pass.view order.now.call r.answered.reply bytes actor.new.pass.view)
-            × PortAfter D.is_planned (op_ordered order.now.call order.now.on) (tells_in (entries_in called.did)) (D.Port.told actor.old.port) (D.Port.told actor.new.port)) }
-        ensures form { IfOk result (λ r. AnswersOrder order.now.call order.now.on r.answered.reply) }
-        ensures lines { IfOk result (λ r. GivesLines order.now.call order.now.on r.answered) }
-        ensures places { KnowsAfter order.now.call (answered_of result) actor.old.pass.view actor.new.pass.view }
+        ensures done { IfOk result (λ r. (bytes : List ℕ) × WroteTo order.entry.call.now bytes out.old out.new
+            × HasDone D.Port.told D.Port.faults D.Port.maps D.Port.maps_left D.OwnEntries D.Follows D.ENTRIES order.entry.call.now (kind_in order.entry.file) actor.old r.answered.reply bytes actor.new) }
+        ensures port { D.ENTRIES ≡ 0 → IfOk result (λ r. (bytes : List ℕ) × WroteTo order.entry.call.now bytes out.old out.new
+            × (called : HasCalled 0 actor.old.pass.view order.entry.call.now r.answered.reply bytes actor.new.pass.view)
+            × PortAfter D.is_planned (op_ordered order.entry.call.now (kind_in order.entry.file)) (tells_in (entries_in called.did)) (D.Port.told actor.old.port) (D.Port.told actor.new.port)) }
+        ensures form { IfOk result (λ r. AnswersOrder order.entry.call.now (kind_in order.entry.file) r.answered.reply) }
+        ensures lines { IfOk result (λ r. GivesLines order.entry.call.now (kind_in order.entry.file) r.answered) }
+        ensures places { KnowsAfter order.entry.call.now (answered_of result) actor.old.pass.view actor.new.pass.view }
         ensures not_full { IfOk result (λ r. r.answered.reply ≢ Refused Full) }
         ensures not_memory { IfOk result (λ r. r.answered.reply ≢ Refused NoMemory) }
         ensures could_not { IfErr result (λ e. CouldNot e actor.old actor.new × (out.new ≡ out.old)) }
     {
-        match brought(&order.call, alloc) {
+        match brought(order.call, alloc) {
             Err(errno) => Err(errno),
-            Ok(mut gift) => match self.carry(rt, actor, order, &mut gift, out) {
-                Ok(answered) => Ok(Answer { order, answered }),
-                Err(errno) => Err(errno),
-            },
+            Ok(mut gift) => {
+                let on = order.file.kind();
+                let ordered = CallOn {
+                    call: order.call,
+                    on: &on,
+                };
+                match self.carry(rt, actor, &ordered, &mut gift, out) {
+                    Ok(answered) => Ok(Answer { order, answered }),
+                    Err(errno) => Err(errno),
+                }
+            }
         }
     }
 }

@@ -9,10 +9,10 @@ use Rattle.gl_chip.proofs.OrderedCalls.{knows_commanded}
 use Rattle.gl_chip.proofs.gpio.Gpio.carry.Goals as goal
 
 pub once-requires-clause-single : goal.once-requires-clause-single
-once-requires-clause-single g c κs within = (subst (λ (x : DeviceCall). FitsOrder x c.args.order.now.on c.args.out.now) c.in-Once.is c.requires.fits).device.0
+once-requires-clause-single g c κs within = (subst (λ (x : DeviceCall). FitsOrder x c.args.order.now.on.now c.args.out.now) c.in-Once.is c.requires.fits).device.0
 
 pub once-requires-clause-fits : goal.once-requires-clause-fits
-once-requires-clause-fits g c κs within = let fits = subst (λ (x : DeviceCall). FitsOrder x c.args.order.now.on c.args.out.now) c.in-Once.is c.requires.fits in
+once-requires-clause-fits g c κs within = let fits = subst (λ (x : DeviceCall). FitsOrder x c.args.order.now.on.now c.args.out.now) c.in-Once.is c.requires.fits in
     record { fits_call = fits.device.1; brings = subst (λ (x : DeviceCall). Brings x c.args.gift.now) c.in-Once.is c.requires.brings; buffer_fits = fits.buffer }
 
 pub order_command-requires-clause-brings : goal.order_command-requires-clause-brings
@@ -42,10 +42,10 @@ returns-in-Ok-order_removal-clause-counts g c = subst (λ (lines : Option Lines)
 pub returns-in-Ok-clause-done : goal.returns-in-Ok-clause-done
 returns-in-Ok-clause-done g c = let h = c.in-Ok.ensures.called in
     subst (λ (x : DeviceCall × Reply). (bytes : List ℕ) × WroteTo x.0 bytes c.args.out.now c.once.new.out
-    × HasDone g.D.Port.Port.told g.D.Port.Port.faults g.D.Port.Port.maps g.D.Port.Port.maps_left g.D.Driver.OwnEntries g.D.Driver.Follows g.D.Driver.ENTRIES x.0 c.args.order.now.on c.args.actor.now x.1 bytes c.once.new.actor) (λ i. (sym c.in-Once.is i, sym c.without_lines.ensures.reply i)) (h.0, h.1, (h.2, c.once.ensures.port))
+    × HasDone g.D.Port.Port.told g.D.Port.Port.faults g.D.Port.Port.maps g.D.Port.Port.maps_left g.D.Driver.OwnEntries g.D.Driver.Follows g.D.Driver.ENTRIES x.0 c.args.order.now.on.now c.args.actor.now x.1 bytes c.once.new.actor) (λ i. (sym c.in-Once.is i, sym c.without_lines.ensures.reply i)) (h.0, h.1, (h.2, c.once.ensures.port))
 
 pub returns-in-Ok-clause-form : goal.returns-in-Ok-clause-form
-returns-in-Ok-clause-form g c = subst (λ (x : DeviceCall × Reply). AnswersOrder x.0 c.args.order.now.on x.1) (λ i. (sym c.in-Once.is i, sym c.without_lines.ensures.reply i)) c.in-Ok.ensures.form
+returns-in-Ok-clause-form g c = subst (λ (x : DeviceCall × Reply). AnswersOrder x.0 c.args.order.now.on.now x.1) (λ i. (sym c.in-Once.is i, sym c.without_lines.ensures.reply i)) c.in-Ok.ensures.form
 
 pub returns-in-Ok-clause-places : goal.returns-in-Ok-clause-places
 returns-in-Ok-clause-places g c = subst (λ (x : DeviceCall). KnowsAfter x (Ok c.without_lines.result) c.args.actor.now.pass.view c.once.new.actor.pass.view) (sym c.in-Once.is) c.once.ensures.places
@@ -53,10 +53,10 @@ returns-in-Ok-clause-places g c = subst (λ (x : DeviceCall). KnowsAfter x (Ok c
 pub returns-in-Ok-order_removal-clause-done : goal.returns-in-Ok-order_removal-clause-done
 returns-in-Ok-order_removal-clause-done g c = let h = c.in-Ok-order_removal.ensures.done in
     subst (λ (x : DeviceCall × Reply). (bytes : List ℕ) × WroteTo x.0 bytes c.args.out.now c.args.out.now
-    × HasDone g.D.Port.Port.told g.D.Port.Port.faults g.D.Port.Port.maps g.D.Port.Port.maps_left g.D.Driver.OwnEntries g.D.Driver.Follows g.D.Driver.ENTRIES x.0 c.args.order.now.on c.args.actor.now x.1 bytes c.order_removal.new.actor) (λ i. (sym c.in-Removing.is i, sym c.without_lines-in-Ok-order_removal.ensures.reply i)) (h.0, refl, h.1)
+    × HasDone g.D.Port.Port.told g.D.Port.Port.faults g.D.Port.Port.maps g.D.Port.Port.maps_left g.D.Driver.OwnEntries g.D.Driver.Follows g.D.Driver.ENTRIES x.0 c.args.order.now.on.now c.args.actor.now x.1 bytes c.order_removal.new.actor) (λ i. (sym c.in-Removing.is i, sym c.without_lines-in-Ok-order_removal.ensures.reply i)) (h.0, refl, h.1)
 
 pub returns-in-Ok-order_removal-clause-form : goal.returns-in-Ok-order_removal-clause-form
-returns-in-Ok-order_removal-clause-form g c = subst (λ (x : DeviceCall × Reply). AnswersOrder x.0 c.args.order.now.on x.1) (λ i. (sym c.in-Removing.is i, sym c.without_lines-in-Ok-order_removal.ensures.reply i)) c.in-Ok-order_removal.ensures.form
+returns-in-Ok-order_removal-clause-form g c = subst (λ (x : DeviceCall × Reply). AnswersOrder x.0 c.args.order.now.on.now x.1) (λ i. (sym c.in-Removing.is i, sym c.without_lines-in-Ok-order_removal.ensures.reply i)) c.in-Ok-order_removal.ensures.form
 
 pub returns-in-Ok-order_removal-clause-places : goal.returns-in-Ok-order_removal-clause-places
 returns-in-Ok-order_removal-clause-places g c =
@@ -65,4 +65,4 @@ returns-in-Ok-order_removal-clause-places g c =
 
 pub returns-in-Commanding-clause-places : goal.returns-in-Commanding-clause-places
 returns-in-Commanding-clause-places g c = subst (λ (x : DeviceCall). KnowsAfter x c.order_command.result c.args.actor.now.pass.view c.order_command.new.actor.pass.view) (sym c.in-Commanding.is)
-    (knows_commanded g.D.Port.Port.told g.D.Port.Port.faults g.D.Port.Port.maps g.D.Port.Port.maps_left g.D.Driver.OwnEntries g.D.Driver.Follows g.D.Driver.ENTRIES c.order_command.result (op_for (lines_on c.args.order.now.on c.in-Commanding.command) c.in-Commanding.command) c.args.actor.now c.order_command.new.actor c.in-Commanding.command c.args.out.now c.order_command.new.out c.order_command.ensures.commanded)
+    (knows_commanded g.D.Port.Port.told g.D.Port.Port.faults g.D.Port.Port.maps g.D.Port.Port.maps_left g.D.Driver.OwnEntries g.D.Driver.Follows g.D.Driver.ENTRIES c.order_command.result (op_for (lines_on c.args.order.now.on.now c.in-Commanding.command) c.in-Commanding.command) c.args.actor.now c.order_command.new.actor c.in-Commanding.command c.args.out.now c.order_command.new.out c.order_command.ensures.commanded)
