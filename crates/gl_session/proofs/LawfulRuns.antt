@@ -161,7 +161,7 @@ module _ (judges : MisfitIsNoneForMany) (back : HistoriesAreReadBack) (alone : H
 
 -- what a run of several actors printed is a lawful run
 pub runs_are_lawful : (driver : DriverOver) → RunsAreLawful driver
-runs_are_lawful driver is session sections before left text sentence several without run new within =
+runs_are_lawful driver is session sections before left m text sentence several without run new within =
     let played = played_plainly driver before left sections run.history (inr without) run.texts run.came.ports in record {
       session = session;
       sections = sections;
