@@ -1,62 +1,36 @@
--- What comes of an operation for a chip over requests, by what a player did of it; and every other one goes by the open files alone.
-use Rattle.std.proofs.Common.{◌≡◌, ◌≢◌, inl, ℕ, ◌≤◌, Bool, true, false, ◌||◌, List, [], ◌∷◌, ◌++◌, length, take, Option, Some, None, Result, Ok, Err, refl, sym, ◌∙◌, ap, subst}
-use Rattle.std.specs.Prelude.{◌-◌, ◌==◌, if◌then◌else◌, cond, replicate, IfOk, OnOk, IsOkUnless}
+-- A chip over requests: its place is new, and the port may learn its map.
+use Rattle.std.proofs.Common.{◌≡◌, ◌≢◌, ℕ, zero, suc, ◌≤◌, Bool, true, false, ◌||◌, List, [], ◌∷◌, ◌++◌, length, take, Option, Some, None, refl, sym, ◌∙◌, ap, subst, arith}
+use Rattle.std.specs.Prelude.{◌-◌, ◌==◌, if◌then◌else◌, cond, nat_eq, not, replicate}
 use Rattle.std.specs.List.{list_any}
 use Rattle.std.proofs.lemmas.Bool.{ne_eqb, eqb-false}
+use Rattle.gl_base.specs.Refusals.{first_of, when}
 use Rattle.gl_base.specs.Rows.{Each}
 use Rattle.gl_base.specs.declared.errno.Errno.{Errno}
-use Rattle.gl_base.specs.declared.errno.Errno.TheVariants.{NoMemory}
+use Rattle.gl_base.specs.declared.errno.Errno.TheVariants.{Inval, NoSpc}
 use Rattle.gl_base.specs.declared.kind.Kind.TheVariants.{Remote}
 use Rattle.gl_base.specs.declared.operation.Do.{Do}
-use Rattle.gl_base.specs.declared.operation.Do.TheVariants.{Probe as DoProbe, Unplug as DoUnplug, MakeDir as DoMakeDir, RemoveDir as DoRemoveDir, Write as DoWrite, Read as DoRead, Live as DoLive, Tick as DoTick, Pin as DoPin, Irq as DoIrq, Pull as DoPull, Level as DoLevel, OpenChip as DoOpenChip, Find as DoFind, Ioctl as DoIoctl, ReadFile, Poll, Close as DoClose, Plan, Accept, Aggregate}
-use Rattle.gl_base.specs.declared.operation.Got.{Got}
-use Rattle.gl_base.specs.declared.operation.Got.TheVariants.{Done as GotDone, Refused as GotRefused}
-use Rattle.gl_driver.specs.Told.{Told}
+use Rattle.gl_base.specs.declared.operation.Do.TheVariants.{Aggregate}
 use Rattle.gl_driver.specs.declared.map.Map.{Map}
 use Rattle.gl_driver.specs.declared.map.Target.{Target}
 use Rattle.gl_driver.specs.Maps.{FitsMap, FitsTarget, map_at}
 use Rattle.gl_model.specs.declared.call.Call.TheVariants.{Probe}
+use Rattle.gl_model.specs.declared.device_call.DeviceCall.{DeviceCall}
 use Rattle.gl_model.specs.declared.device_call.DeviceCall.TheVariants.{Once}
 use Rattle.gl_model.specs.declared.reply.Reply.{Reply}
-use Rattle.gl_model.specs.declared.reply.Reply.TheVariants.{Number, Refused as RefusedReply}
+use Rattle.gl_model.specs.declared.reply.Reply.TheVariants.{Number}
 use Rattle.gl_core.specs.Device.{OneEntry}
-use Rattle.gl_asking.specs.Asking.{got_of}
+use Rattle.gl_asking.specs.Asking.{has_lines}
 use Rattle.gl_asking.specs.Files.{OpenFile, file_in, is_in}
-use Rattle.gl_asking.specs.declared.kinds.Asking.TheVariants.{Refuses}
-use Rattle.gl_asking.specs.declared.kinds.FileKind.{FileKind}
+use Rattle.gl_asking.specs.declared.kinds.Asking.{Asking}
+use Rattle.gl_asking.specs.declared.kinds.Asking.TheVariants.{Calls}
+use Rattle.gl_chip.specs.Called.{HasCalled}
 use Rattle.gl_chip.specs.Values.{OneView}
-use Rattle.gl_check.specs.Drivers.{DriverKind}
-use Rattle.gl_check.specs.Joining.{joined_at, joining_fault, joins, learned, line_count, no_target, target_in, target_of, targets_in}
-use Rattle.gl_check.specs.Turns.{Carried}
-use Rattle.gl_session.specs.Performed.{GoesByFiles, MadeFor, Performs}
+use Rattle.gl_check.specs.Joining.{Maps, asking_with, is_joined, joined_at, joining_fault, joins, line_count, no_target, target_in, target_of, targets_in}
+use Rattle.gl_session.specs.Asked.{JoinsAt, MayJoin, MayLearn}
 use Rattle.gl_session.specs.Placed.{AreFilesPlaced, AreMapsPlaced, IsPlaced}
 use Rattle.gl_session.specs.Targets.{IsTarget, is_target_at}
-use Rattle.gl_session.proofs.Performing.{made_exchange, nothing_done}
-use Rattle.gl_session.proofs.Placing.{found_each}
+use Rattle.gl_session.proofs.Placing.{IsNewPlace, call_or, found_each, probed_new}
 use Rattle.gl_session.proofs.Targets.{take_seam}
-
-pub goes_by_files : (what : Do) → ((label slots : List ℕ) (count : ℕ) → what ≢ Aggregate label slots count) → GoesByFiles what
-goes_by_files (DoProbe label lines) other = record { asks = λ m files. refl; teaches_nothing = λ m files reply. refl }
-goes_by_files (DoUnplug place) other = record { asks = λ m files. refl; teaches_nothing = λ m files reply. refl }
-goes_by_files (DoMakeDir path) other = record { asks = λ m files. refl; teaches_nothing = λ m files reply. refl }
-goes_by_files (DoRemoveDir path) other = record { asks = λ m files. refl; teaches_nothing = λ m files reply. refl }
-goes_by_files (DoWrite path value) other = record { asks = λ m files. refl; teaches_nothing = λ m files reply. refl }
-goes_by_files (DoRead path) other = record { asks = λ m files. refl; teaches_nothing = λ m files reply. refl }
-goes_by_files (DoLive device up) other = record { asks = λ m files. refl; teaches_nothing = λ m files reply. refl }
-goes_by_files (DoTick mono real) other = record { asks = λ m files. refl; teaches_nothing = λ m files reply. refl }
-goes_by_files (DoPin place what) other = record { asks = λ m files. refl; teaches_nothing = λ m files reply. refl }
-goes_by_files (DoIrq place offset what) other = record { asks = λ m files. refl; teaches_nothing = λ m files reply. refl }
-goes_by_files (DoPull place offset up) other = record { asks = λ m files. refl; teaches_nothing = λ m files reply. refl }
-goes_by_files (DoLevel place offset pull) other = record { asks = λ m files. refl; teaches_nothing = λ m files reply. refl }
-goes_by_files (DoOpenChip slot word) other = record { asks = λ m files. refl; teaches_nothing = λ m files reply. refl }
-goes_by_files (DoFind slot name) other = record { asks = λ m files. refl; teaches_nothing = λ m files reply. refl }
-goes_by_files (DoIoctl slot cmd len bytes made) other = record { asks = λ m files. refl; teaches_nothing = λ m files reply. refl }
-goes_by_files (ReadFile slot len) other = record { asks = λ m files. refl; teaches_nothing = λ m files reply. refl }
-goes_by_files (Poll slot) other = record { asks = λ m files. refl; teaches_nothing = λ m files reply. refl }
-goes_by_files (DoClose slot) other = record { asks = λ m files. refl; teaches_nothing = λ m files reply. refl }
-goes_by_files (Plan nth) other = record { asks = λ m files. refl; teaches_nothing = λ m files reply. refl }
-goes_by_files (Accept bits) other = record { asks = λ m files. refl; teaches_nothing = λ m files reply. refl }
-goes_by_files (Aggregate label slots count) other = absurd (other label slots count refl)
 
 -- A map of targets that stand elsewhere may be kept.
 not_there : (place : ℕ) (test rest : Bool) → (test || rest) ≡ false → (test ≡ false) × (rest ≡ false)
@@ -101,29 +75,44 @@ module _ (seen : List OneEntry) (place : ℕ) (new : (other : ℕ) → IsPlaced 
       past : (b : Bool) → b ≡ false → map_at place kept ≡ None → cond b (Some map) (map_at place kept) ≡ None
       past b other rest = ap (λ (t : Bool). cond t (Some map) (map_at place kept)) other ∙ rest
 
-module _ (driver : DriverKind) (label slots : List ℕ) (count : ℕ) (v w : OneView) (s r : Carried) where
-  abbrev joined : List Target
-  joined = targets_in (take count slots) s.files
+-- what isn't refused has lines, and room
+none_first : (a b c : Bool) (x y z : Errno) → None ≡ first_of (when a x ∷ when b y ∷ when (not c) z ∷ []) → (b ≡ false) × (c ≡ true)
+none_first true b c x y z is = cc
+none_first false true c x y z is = cc
+none_first false false true x y z is = (refl, refl)
+none_first false false false x y z is = cc
 
-  -- it was refused, and nothing was done
-  pub refusal_joins : (errno : Errno) → joining_fault s.maps joined ≡ Some errno → w ≡ v → r ≡ s → Performs driver (Aggregate label slots count) (Ok (GotRefused errno)) v s w r
-  refusal_joins errno fault same stays = nothing_done driver (Aggregate label slots count) v w s r (Refuses errno) (RefusedReply errno) (GotRefused errno)
-      (ap (λ f. joins f label joined) (sym fault)) same (ap (λ (c : Carried). c.files) stays) (ap (λ (c : Carried). c.maps) stays) refl
-      (record { did = refl; reply_is = refl; bytes_are = refl }, ap (λ (c : Carried). c.told) stays)
+has_some : (targets : List Target) → has_lines (line_count targets) ≡ true → 1 ≤ length targets
+has_some [] is = cc
+has_some (target ∷ targets) is = omega arith
 
-  -- the chip was probed, and the port keeps what its reply teaches
-  pub probe_joins : (on : FileKind) (reply : Reply) (bytes : List ℕ) (got : Got) → joining_fault s.maps joined ≡ None
-      → MadeFor driver s.maps (Once (Probe label (line_count joined) Remote)) on v reply bytes w s.told r.told
-      → r.files ≡ s.files → r.maps ≡ learned reply joined s.maps → got ≡ got_of (Aggregate label slots count) reply bytes
-      → Performs driver (Aggregate label slots count) (Ok got) v s w r
-  probe_joins on reply bytes got none made files maps gets = made_exchange driver (Aggregate label slots count) v w s r w (Once (Probe label (line_count joined) Remote)) on reply bytes got
-      (ap (λ f. joins f label joined) (sym none)) refl gets files maps made
+has_room : (left : ℕ) → nat_eq left 0 ≡ false → 1 ≤ left
+has_room zero is = cc
+has_room (suc left) is = omega arith
 
-  -- and the port keeps the map of its chip, or was out of memory
-  pub keep_joins : (on : FileKind) (place : ℕ) (bytes : List ℕ) (result : Result Got Errno) (u : OneView) (m : Carried) → joining_fault s.maps joined ≡ None
-      → MadeFor driver s.maps (Once (Probe label (line_count joined) Remote)) on v (Number place) bytes u s.told m.told → w ≡ u → r.told ≡ m.told → r.files ≡ s.files
-      → IfOk result (λ got. got ≡ GotDone) → OnOk result (r.maps ≡ learned (Number place) joined s.maps) → IsOkUnless result NoMemory → Performs driver (Aggregate label slots count) result v s w r
-  keep_joins on place bytes (Ok got) u m none made same told files is maps memory =
-      probe_joins on (Number place) bytes got none
-      (subst (λ (x : OneView × Option Told). MadeFor driver s.maps (Once (Probe label (line_count joined) Remote)) on v (Number place) bytes x.0 s.told x.1) (λ i. (sym same i, sym told i)) made) files maps is
-  keep_joins on place bytes (Err errno) u m none made same told files is maps memory = inl memory
+-- So may the port of an actor learn what a reply to its call teaches.
+module _ (limit : ℕ) (v w : OneView) (m : Maps) (files : List OpenFile) (bytes : List ℕ) (placed : AreFilesPlaced v.seen files) (maps_placed : AreMapsPlaced v.seen m.kept) where
+  join_learned : (label slots : List ℕ) (call : DeviceCall) (place : ℕ) (fault : Option Errno) → fault ≡ joining_fault m (targets_in slots files) → Calls call ≡ joins fault label (targets_in slots files)
+      → HasCalled limit v call (Number place) bytes w → MayJoin place (targets_in slots files) m w.seen
+  join_learned label slots call place (Some errno) is asks called = cc
+  join_learned label slots call place None is asks called =
+      let targets : List Target = targets_in slots files in
+      let same : call ≡ Once (Probe label (line_count targets) Remote) = ap (λ (a : Asking). call_or call a) asks in
+      let new : IsNewPlace v w place = probed_new limit v w label (line_count targets) Remote place bytes (subst (λ (c : DeviceCall). HasCalled limit v c (Number place) bytes w) same called) in
+      let none = none_first (list_any (is_joined m.kept) targets) (nat_eq m.left 0) (has_lines (line_count targets)) Inval NoSpc Inval is in
+      record {
+        room = has_room m.left none.0;
+        some = has_some targets none.1;
+        within = new.within;
+        apart = targets_apart v.seen place new.unplaced files slots placed;
+        new = map_new v.seen place new.unplaced m.kept maps_placed;
+        placed = new.placed;
+      }
+
+  joins_at : (what : Do) (call : DeviceCall) (place : ℕ) → Calls call ≡ asking_with m files what → HasCalled limit v call (Number place) bytes w → JoinsAt place what files m w.seen
+  joins_at (Aggregate label slots count) call place asks called = join_learned label (take count slots) call place (joining_fault m (targets_in (take count slots) files)) refl asks called
+  joins_at what call place asks called = tt
+
+  pub may_learn : (what : Do) (call : DeviceCall) (reply : Reply) → Calls call ≡ asking_with m files what → HasCalled limit v call reply bytes w → MayLearn reply what files m w.seen
+  may_learn what call (Number place) asks called = joins_at what call place asks called
+  may_learn what call reply asks called = tt

@@ -24,6 +24,7 @@ pub mod OneCalls
 pub mod OneHistories
 pub mod OutsideSetup
 pub mod Performing
+pub mod Asked
 pub mod Placing
 pub mod Plays
 pub mod PortPlaces

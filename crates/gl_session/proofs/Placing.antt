@@ -51,9 +51,10 @@ use Rattle.gl_chip.proofs.OpenedChips.{opened_in}
 use Rattle.gl_asking.specs.declared.kinds.Asking.{Asking}
 use Rattle.gl_asking.specs.declared.kinds.Asking.TheVariants.{Calls, Plans, Accepts, Refuses}
 use Rattle.gl_asking.specs.declared.kinds.FileKind.{FileKind}
-use Rattle.gl_asking.specs.Asking.{asking, buffer_of, files_behind, lines_named, made_by, made_on, opened, with_request}
+use Rattle.gl_asking.specs.Asking.{buffer_of, files_behind, lines_named, made_by, made_on, opened, with_request}
 use Rattle.gl_asking.specs.Files.{OpenFile, chip_file, file_in, is_in, line_file, without_file}
 use Rattle.gl_asking.specs.Opened.{opened_of, place_named, place_or_first}
+use Rattle.gl_check.specs.Joining.{Maps, asking_with}
 use Rattle.gl_session.specs.Placed.{AreFilesPlaced, AreMapsPlaced, IsPlaced}
 use Rattle.gl_session.proofs.Mapped.{each_more}
 use Rattle.gl_session.proofs.OneHistories.{length_entries}
@@ -213,7 +214,7 @@ probed_new limit v w label lines kind place bytes c =
 
 -- Files behind an operation: those before it, or with one more that was opened just now, or that is on the chip of one of them.
 
-each_left : (P : OpenFile → Type 0) (slot : ℕ) (files : List OpenFile) → Each P files → Each P (without_file slot files)
+pub each_left : (P : OpenFile → Type 0) (slot : ℕ) (files : List OpenFile) → Each P files → Each P (without_file slot files)
 each_left P slot [] h = tt
 each_left P slot (x ∷ files) h = by (is_in slot x) (each_left P slot files h.1)
   where
@@ -278,22 +279,18 @@ opens_by limit v w word (Found p o n) bytes called form = cc
 opens_by limit v w word (Text t) bytes called form = cc
 opens_by limit v w word (Ready b) bytes called form = cc
 
-abbrev call_or : DeviceCall → Asking → DeviceCall
+abbrev pub call_or : DeviceCall → Asking → DeviceCall
 call_or d (Calls call) = call
 call_or d (Plans nth) = d
 call_or d (Accepts bits) = d
 call_or d (Refuses errno) = d
 
 -- so files are placed behind an operation that is a call
-pub call_placed : (limit : ℕ) (v w : OneView) (files : List OpenFile) (what : Do) (call : DeviceCall) (on : FileKind) (reply : Reply) (bytes : List ℕ) → Calls call ≡ asking files what → HasCalled limit v call reply bytes w → AnswersOrder call on reply
+pub call_placed : (limit : ℕ) (v w : OneView) (m : Maps) (files : List OpenFile) (what : Do) (call : DeviceCall) (on : FileKind) (reply : Reply) (bytes : List ℕ) → Calls call ≡ asking_with m files what → HasCalled limit v call reply bytes w → AnswersOrder call on reply
     → AreFilesPlaced w.seen files → AreFilesPlaced w.seen (files_behind what reply files)
-call_placed limit v w files what call on reply bytes asks called form placed = files_placed w.seen what reply files opens placed
+call_placed limit v w m files what call on reply bytes asks called form placed = files_placed w.seen what reply files opens placed
   where
     opens : (slot : ℕ) (word : List ℕ) → what ≡ DoOpenChip slot word → Opens w.seen word reply
     opens slot word is =
-        let same : call ≡ Once (OpenChip word) = ap (λ (a : Asking). call_or call a) (asks ∙ ap (λ (d : Do). asking files d) is) in
+        let same : call ≡ Once (OpenChip word) = ap (λ (a : Asking). call_or call a) (asks ∙ ap (λ (d : Do). asking_with m files d) is) in
         opens_by limit v w word reply bytes (subst (λ (c : DeviceCall). HasCalled limit v c reply bytes w) same called) (subst (λ (c : DeviceCall). AnswersOrder c on reply) same form)
-
--- and behind one that was refused
-pub refused_placed : (seen : List OneEntry) (what : Do) (errno : Errno) (files : List OpenFile) → AreFilesPlaced seen files → AreFilesPlaced seen (files_behind what (Refused errno) files)
-refused_placed seen what errno files placed = files_placed seen what (Refused errno) files (λ slot word opening. inr (errno, refl)) placed

@@ -10,6 +10,7 @@ use Rattle.gl_base.specs.declared.lines.Lines.{Lines}
 use Rattle.gl_base.specs.declared.op.Op.{Op}
 use Rattle.gl_base.specs.declared.operation.Do.{Do}
 use Rattle.gl_base.specs.declared.operation.Do.TheVariants.{Probe as DoProbe, Unplug as DoUnplug, MakeDir as DoMakeDir, RemoveDir as DoRemoveDir, Write as DoWrite, Read as DoRead, Live as DoLive, Tick as DoTick, Pin as DoPin, Irq as DoIrq, Pull as DoPull, Level as DoLevel, OpenChip as DoOpenChip, Find as DoFind, Ioctl as DoIoctl, ReadFile, Poll, Close as DoClose, Plan, Accept, Aggregate}
+use Rattle.gl_driver.specs.declared.map.Target.{Target}
 use Rattle.gl_uapi.specs.Command.{command_of, size_of}
 use Rattle.gl_uapi.specs.declared.commands.Command.{Command}
 use Rattle.gl_uapi.specs.declared.commands.Command.TheVariants.{GetLine}
@@ -21,7 +22,7 @@ use Rattle.gl_model.specs.declared.device_call.DeviceCall.{DeviceCall}
 use Rattle.gl_model.specs.declared.device_call.DeviceCall.TheVariants.{Commanding}
 use Rattle.gl_model.specs.declared.reply.Reply.{Reply}
 use Rattle.gl_model.specs.declared.reply.Reply.TheVariants.{Done, Number, Go, Found, Text, Ready, Refused}
-use Rattle.gl_asking.specs.Asking.{asking, buffer_of, file_for, finds, has_lines, lines_named, lives, on_file, once, polls, reads_from}
+use Rattle.gl_asking.specs.Asking.{buffer_of, file_for, finds, has_lines, lines_named, lives, on_file, once, polls, reads_from}
 use Rattle.gl_asking.specs.Changes.{IsFilled, NamesMade, OpensWithin}
 use Rattle.gl_asking.specs.Driving.{lines_by, op_asked, op_for, op_of, op_on, op_requested}
 use Rattle.gl_asking.specs.Files.{OpenFile, file_in}
@@ -39,6 +40,7 @@ use Rattle.gl_chip.specs.Orders.{AnswersOrder, FitsFile, FitsOut, GivesLines, Wr
 use Rattle.gl_chip.specs.Values.{OneView}
 use Rattle.gl_chip.proofs.OpenedChips.{named_within, opened_in}
 use Rattle.gl_check.specs.Buffers.{buffer_for}
+use Rattle.gl_check.specs.Joining.{Maps, asking_with, joining_fault, joins, targets_in}
 
 -- An operation suits its call, on a file of this kind: what the driver is asked for it, its buffer before the call and after it, and the
 -- files that it opens.
@@ -170,7 +172,12 @@ command_on slot cmd len made bytes (Some row) o is at =
 
 -- every operation
 
-module _ (files : List OpenFile) (row : Option FileRow) where
+-- a chip over requests is probed, where it isn't refused
+join_suits : (label slots label_of : List ℕ) (count : ℕ) (on : FileKind) (targets : List Target) (fault : Option Errno) → ForOp (Aggregate label slots count) None on (joins fault label_of targets)
+join_suits label slots label_of count on targets None = record { file = tt; buffer = tt; op = refl; filled = λ bytes new w. tt; opens = λ limit v w reply bytes called form. tt; named = λ row answered at gives. tt }
+join_suits label slots label_of count on targets (Some errno) = tt
+
+module _ (m : Maps) (files : List OpenFile) (row : Option FileRow) where
   open_suits : (slot : ℕ) (word : List ℕ) → ForOp (DoOpenChip slot word) None (kind_of row) (once (OpenChip word))
   open_suits slot word = record {
     file = tt;
@@ -181,7 +188,7 @@ module _ (files : List OpenFile) (row : Option FileRow) where
     named = λ row answered at gives. tt;
   }
 
-  suits : (what : Do) → IsSomeRow row → file_for what files ≡ file_of row → ForOp what (op_asked files what) (kind_of row) (asking files what)
+  suits : (what : Do) → IsSomeRow row → file_for what files ≡ file_of row → ForOp what (op_asked files what) (kind_of row) (asking_with m files what)
   suits (DoProbe label lines) is at = chosen (DoProbe label lines) _ _ _ (has_lines lines) (record { file = tt; buffer = tt; op = refl; filled = λ bytes new w. tt; opens = λ limit v w reply bytes called form. tt; named = λ row answered at gives. tt })
   suits (DoUnplug place) is at = chosen (DoUnplug place) _ _ _ (nat_lt place PLACES) (record { file = tt; buffer = tt; op = refl; filled = λ bytes new w. tt; opens = λ limit v w reply bytes called form. tt; named = λ row answered at gives. tt })
   suits (DoMakeDir path) is at = record { file = tt; buffer = tt; op = refl; filled = λ bytes new w. tt; opens = λ limit v w reply bytes called form. tt; named = λ row answered at gives. tt }
@@ -202,8 +209,8 @@ module _ (files : List OpenFile) (row : Option FileRow) where
   suits (DoClose slot) is at = close_on slot (kind_of row) (file_in slot files)
   suits (Plan nth) is at = tt
   suits (Accept bits) is at = tt
-  suits (Aggregate label slots count) is at = tt
+  suits (Aggregate label slots count) is at = let targets : List Target = targets_in (take count slots) files in join_suits label slots label count (kind_of row) targets (joining_fault m targets)
 
   -- of the call that an operation is
-  pub suits_call : (what : Do) (call : DeviceCall) → IsSomeRow row → file_for what files ≡ file_of row → Calls call ≡ asking files what → Suits what (op_asked files what) (kind_of row) call
+  pub suits_call : (what : Do) (call : DeviceCall) → IsSomeRow row → file_for what files ≡ file_of row → Calls call ≡ asking_with m files what → Suits what (op_asked files what) (kind_of row) call
   suits_call what call is at asks = subst (λ (a : Asking). ForOp what (op_asked files what) (kind_of row) a) (sym asks) (suits what is at)

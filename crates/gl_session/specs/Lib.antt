@@ -1,4 +1,5 @@
 pub mod Alone
+pub mod Asked
 pub mod Closings
 pub mod Figures
 pub mod Judged

@@ -18,10 +18,9 @@ use Rattle.gl_core.specs.Device.{OneDeed, OneEntry, core}
 use Rattle.gl_asking.specs.declared.kinds.Asking.{Asking}
 use Rattle.gl_asking.specs.declared.kinds.FileKind.{FileKind}
 use Rattle.gl_asking.specs.declared.kinds.Asking.TheVariants.{Calls, Plans, Accepts, Refuses}
-use Rattle.gl_asking.specs.Asking.{asking, got_of}
-use Rattle.gl_asking.specs.Files.{OpenFile}
+use Rattle.gl_asking.specs.Asking.{got_of}
 use Rattle.gl_check.specs.Drivers.{DriverKind}
-use Rattle.gl_check.specs.Joining.{Maps, asking_with, maps_behind}
+use Rattle.gl_check.specs.Joining.{Maps, asking_with}
 use Rattle.gl_check.specs.Turns.{AreSeen, Carried, Carries, Exchange, Follows, PortBy, Turn, WhereMapped, did_by, map_of, said_by, was_asked}
 
 -- An operation was carried out by the actor whose pass knew v and knows w then: it got this, and did just the deeds of the exchange.
@@ -46,11 +45,6 @@ pub record MadeFor (driver : DriverKind) (m : Maps) (call : DeviceCall) (on : Fi
   pub fewer : saw < length w.seen
   pub port : (what : Do) → PortBy driver v.number (was_asked call (entries_in called.did)) (map_of driver m call) (op_ordered call on)
       (exchange what (is_some (map_of driver m call)) called.closed called.answer called.own v.room saw called.did reply bytes) before after
-
--- the maps of a port mean nothing to the operation
-pub record GoesByFiles (what : Do) : Type 0 where
-  pub asks : (m : Maps) (files : List OpenFile) → asking_with m files what ≡ asking files what
-  pub teaches_nothing : (m : Maps) (files : List OpenFile) (reply : Reply) → maps_behind what reply files m ≡ m
 
 -- the operation is a call of the device
 abbrev pub IsCall : Asking → Type 0

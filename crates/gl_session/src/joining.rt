@@ -9,7 +9,6 @@ ghost use Rattle.gl_session.specs.Targets.{IsTarget};
 use crate::rows::Rows;
 use gl_asking::{FileKind, FileRow};
 use gl_base::{LINES_PER_REQUEST, Lines};
-use gl_chip::row_of;
 use gl_driver::{Map, Target};
 use std::marker::Model;
 
@@ -60,7 +59,7 @@ impl Targets {
         let mut targets = Targets::new();
         for n in 0..4u32 {
             if n < count {
-                targets.add(row_of(&rows.in_slot(slots[n as usize])));
+                targets.add(rows.in_slot(slots[n as usize]).row());
             }
         }
         targets

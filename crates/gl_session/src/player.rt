@@ -1,19 +1,23 @@
 //! Who carries the operations of talks out on a device.
 
-ghost use Rattle.std.specs.Prelude.{◌≡◌, List, false};
+ghost use Rattle.std.specs.Prelude.{◌≡◌, List, false, true};
 ghost use Rattle.std.specs.List.{list_any};
 ghost use Rattle.gl_model.specs.declared.reply.Reply.{Reply};
-ghost use Rattle.gl_asking.specs.Asking.{files_behind};
+ghost use Rattle.gl_asking.specs.Asking.{asking, file_for, files_behind};
+ghost use Rattle.gl_asking.specs.Changes.{IsChange, NamesMade, OpensWithin, changed};
 ghost use Rattle.gl_asking.specs.Files.{OpenFile};
-ghost use Rattle.gl_check.specs.Joining.{is_joined};
+ghost use Rattle.gl_asking.specs.Rows.{IsSomeRow, file_of};
+ghost use Rattle.gl_chip.specs.Held.{row_in};
+ghost use Rattle.gl_check.specs.Joining.{Maps, asking_with, is_joined};
+ghost use Rattle.gl_session.specs.Asked.{IsAsked, left_for};
 
 use crate::joining::Targets;
 use crate::rows::Rows;
-use gl_asking::{Asking, Change, asking_of, got_of};
+use gl_asking::{Asking, Change, FileRow, asking_of, got_of};
 use gl_base::command::GET_LINE;
 use gl_base::{Do, Errno, Got, Kind, LINES_MAX, Name};
 use gl_check::buffer_for;
-use gl_chip::{Actor, Answer, Gpio, HeldFile, Order, files_behind, files_uncalled, row_of};
+use gl_chip::{Actor, Answer, Gpio, HeldFile, Order, files_behind};
 use gl_core::Core;
 use gl_driver::{Driver, Map, Target};
 use gl_model::{Call, DeviceCall, Reply};
@@ -52,15 +56,32 @@ impl<'d, D: Driver<Core>> Model for Player<'d, D> {
         × AreFilesPlaced p.actor.pass.view.seen p.files × AreMapsPlaced p.actor.pass.view.seen p.maps.items };
 }
 
-/// Whether an operation opens or closes a file, where it isn't refused. No other changes the open files.
-fn opens_or_closes(what: &Do) -> bool
-    ensures stays { result ≡ false → (reply : Reply) (files : List OpenFile) → files_behind what.now reply files ≡ files }
+/// Whether an operation opens a file, where it isn't refused. No other has a file more, and a close has given its own up before its call.
+fn opens(what: &Do) -> bool
+    ensures stays { result ≡ false → (reply : Reply) (files : List OpenFile) → left_for what.now files ≡ files_behind what.now reply files }
+    ensures left { result ≡ true → (files : List OpenFile) → left_for what.now files ≡ files }
+    ensures asks { result ≡ true → (m : Maps) (files : List OpenFile) → asking_with m files what.now ≡ asking files what.now }
 {
     match what {
         Do::OpenChip { .. } => true,
         Do::Ioctl { cmd, .. } => *cmd == GET_LINE,
-        Do::Close { .. } => true,
         _ => false,
+    }
+}
+
+/// What becomes of the open files by the answer to an operation. The file of a close was taken out before.
+fn change_by(what: &Do, answer: Answer<'_>) -> Change<HeldFile>
+    requires asks { IsAsked what.now (row_in answer.order.file) answer.order.call.now }
+    requires within { OpensWithin what.now answer.answered.reply }
+    requires named { NamesMade what.now (row_in answer.order.file) answer.answered }
+    requires row { IsSomeRow (row_in answer.order.file) }
+    ensures row { IsChange result }
+    ensures told { (files : List OpenFile) → file_for what.now files ≡ file_of (row_in answer.entry.order.file) → changed result (left_for what.now files) ≡ files_behind what.now answer.entry.answered.reply files }
+{
+    if opens(what) {
+        files_behind(what, answer)
+    } else {
+        Change::Stays
     }
 }
 
@@ -77,33 +98,34 @@ fn is_any_joined<D: Driver<Core>>(actor: &Actor<D>, targets: &[Target]) -> bool
 }
 
 impl<'d, D: Driver<Core>> Player<'d, D> {
-    ghost use Rattle.std.specs.Prelude.{◌≡◌, ◌⊎◌, ◌++◌, ◌<◌, ◌≤◌, false, ℕ, List, [], length, None, IfOk, IfErr, OnOk, IsOkUnless};
+    ghost use Rattle.std.specs.Prelude.{◌≡◌, ◌⊎◌, ◌++◌, ◌≤◌, ℕ, List, [], Option, None, take, IfOk, IfErr, OnOk, IsOkUnless};
     ghost use Rattle.std.specs.List.{list_any};
-    ghost use Rattle.gl_base.specs.declared.errno.Errno.{Errno as AnErrno};
     ghost use Rattle.gl_base.specs.declared.errno.Errno.TheVariants.{Full, NoMemory};
-    ghost use Rattle.gl_model.specs.declared.reply.Reply.TheVariants.{Done, Refused};
     ghost use Rattle.gl_base.specs.declared.operation.Do.TheVariants.{Aggregate};
+    ghost use Rattle.gl_world.specs.History.{StartsWith};
     ghost use Rattle.gl_rule.specs.Turn.{NoStrangers};
     ghost use Rattle.gl_gate.specs.Calls.{HasItsOwn};
     ghost use Rattle.gl_driver.specs.Maps.{FitsMap, map_at};
     ghost use Rattle.gl_driver.specs.Told.{with_bits, with_plan};
     ghost use Rattle.gl_core.specs.Device.{core};
-    ghost use Rattle.gl_asking.specs.declared.kinds.Asking.TheVariants.{Accepts, Calls, Plans};
-    ghost use Rattle.gl_asking.specs.Asking.{asking, file_for, files_behind};
-    ghost use Rattle.gl_asking.specs.Changes.{IsChange, NamesMade, OpensWithin, changed};
-    ghost use Rattle.gl_asking.specs.Fitting.{FitsDevice};
-    ghost use Rattle.gl_asking.specs.Rows.{IsSomeRow, file_of, kind_of};
-    ghost use Rattle.gl_chip.specs.Held.{IsCallOf};
+    ghost use Rattle.gl_asking.specs.declared.kinds.Asking.TheVariants.{Calls};
+    ghost use Rattle.gl_asking.specs.declared.kinds.FileRow.{FileRow as RowOf};
+    ghost use Rattle.gl_asking.specs.Asking.{file_for, files_behind};
+    ghost use Rattle.gl_asking.specs.Changes.{IsChange, changed};
+    ghost use Rattle.gl_asking.specs.Files.{OpenFile};
+    ghost use Rattle.gl_asking.specs.Fitting.{FitsAsking, FitsDevice};
+    ghost use Rattle.gl_asking.specs.Rows.{AsksOn, IsSomeRow, file_of};
+    ghost use Rattle.gl_chip.specs.Held.{kind_in, row_in};
     ghost use Rattle.gl_chip.specs.Orders.{AnswersOrder, FitsOrder, GivesLines, WroteTo};
     ghost use Rattle.gl_chip.specs.Steps.{FoundNoRoom};
     ghost use Rattle.gl_chip.specs.Values.{IsActorOf};
+    ghost use Rattle.gl_check.specs.Buffers.{buffer_for};
     ghost use Rattle.gl_check.specs.Drivers.{driver_kind};
-    ghost use Rattle.gl_check.specs.Joining.{is_joined, joining_fault, learned, with_one};
-    ghost use Rattle.gl_base.specs.declared.limits.TheConstants.{PLACES};
-    ghost use Rattle.gl_session.specs.Performed.{GoesByFiles, MadeFor, Performs};
+    ghost use Rattle.gl_check.specs.Joining.{asking_with, is_joined, joining_fault, learned, maps_behind, targets_in, with_one};
+    ghost use Rattle.gl_session.specs.Asked.{AnswersSo, MayJoin, MayLearn, left_for, with_files};
+    ghost use Rattle.gl_session.specs.Performed.{MadeFor, Performs};
     ghost use Rattle.gl_session.specs.Placed.{AreFilesPlaced, AreMapsPlaced, IsPlaced};
     ghost use Rattle.gl_session.specs.Ports.{AreMaps, OwnsNothing, maps_of};
-    ghost use Rattle.gl_session.specs.Targets.{is_target_at};
 
     /// An actor of this device that has no file open and has printed nothing. Its port keeps no map.
     pub fn new(alloc: Global, device: &'d Gpio<D>, actor: Actor<D>) -> Player<'d, D>
@@ -180,6 +202,7 @@ impl<'d, D: Driver<Core>> Player<'d, D> {
     pub fn maps(&self) -> &[Map]
         ensures kept { result.now ≡ self.now.carried.maps.kept }
         ensures may_be_learned { AreMaps result.now }
+        ensures placed { AreMapsPlaced self.now.view.seen result.now }
     {
         &self.maps
     }
@@ -191,15 +214,6 @@ impl<'d, D: Driver<Core>> Player<'d, D> {
         ensures strangers { NoStrangers self.now.view self.now.view.seen }
     {
         self.actor.number()
-    }
-
-    /// The open files. At their places, and at those of its maps, chips were made, as far as it has seen.
-    fn files(&self) -> &Rows
-        ensures files { result.now ≡ self.now.carried.files }
-        ensures placed { AreFilesPlaced self.now.view.seen self.now.carried.files }
-        ensures maps_placed { AreMapsPlaced self.now.view.seen self.now.carried.maps.kept }
-    {
-        &self.files
     }
 
     /// Appends a piece of text.
@@ -249,49 +263,115 @@ impl<'d, D: Driver<Core>> Player<'d, D> {
         ensures text { self.new.text ≡ self.old.text }
         ensures performs { Performs (driver_kind D.ENTRIES D.is_planned D.OwnEntries D.Follows) what.now result self.old.view self.old.carried self.new.view self.new.carried }
     {
+        let mut files = self.change_files(Rows::new(alloc));
+        let result = self.perform_on(rt, alloc, what, &mut files);
+        let _none = self.change_files(files);
+        result
+    }
+
+    /// The same with the open files at hand: they aren't the player's, which can be called while one of them is lent.
+    fn perform_on<R: Wait>(
+        &mut self,
+        rt: &R,
+        alloc: Global,
+        what: &Do,
+        files: &mut Rows,
+    ) -> Result<Got, Errno>
+        requires none { OwnsNothing D.OwnEntries }
+        requires placed { AreFilesPlaced self.old.view.seen files.old }
+        ensures device { self.new.gate ≡ self.old.gate }
+        ensures text { self.new.text ≡ self.old.text }
+        ensures placed { AreFilesPlaced self.new.view.seen files.new }
+        ensures performs { Performs (driver_kind D.ENTRIES D.is_planned D.OwnEntries D.Follows) what.now result
+            self.old.view (with_files files.old self.old.carried) self.new.view (with_files files.new self.new.carried) }
+    {
+        let mut buffer = match buffer_for(alloc, what) {
+            Ok(buffer) => buffer,
+            Err(errno) => return Err(errno),
+        };
+        match self.ask(rt, alloc, what, files, &mut buffer) {
+            Ok((reply, change)) => match self.settle(what, reply, change, files) {
+                Ok(()) => Ok(got_of(what, &reply, buffer)),
+                Err(errno) => Err(errno),
+            },
+            Err(errno) => Err(errno),
+        }
+    }
+
+    /// What an operation is answered, by the machine, or without a call; and what becomes of the open files. The file of a close is taken out.
+    fn ask<R: Wait>(
+        &mut self,
+        rt: &R,
+        alloc: Global,
+        what: &Do,
+        files: &mut Rows,
+        out: &mut [u8],
+    ) -> Result<(Reply, Change<HeldFile>), Errno>
+        requires none { OwnsNothing D.OwnEntries }
+        requires placed { AreFilesPlaced self.old.view.seen files.old }
+        requires buffer { out.old ≡ buffer_for what.now }
+        ensures device { self.new.gate ≡ self.old.gate }
+        ensures text { self.new.text ≡ self.old.text }
+        ensures maps { self.new.carried.maps ≡ self.old.carried.maps }
+        ensures later { StartsWith self.new.view.seen self.old.view.seen }
+        ensures left { files.new ≡ left_for what.now files.old }
+        ensures change { IfOk result (λ asked. IsChange asked.1) }
+        ensures changed { IfOk result (λ asked. changed asked.1 files.new ≡ files_behind what.now asked.0 files.old) }
+        ensures placed { IfOk result (λ asked. AreFilesPlaced self.new.view.seen (files_behind what.now asked.0 files.old)) }
+        ensures may_learn { IfOk result (λ asked. MayLearn asked.0 what.now files.old self.old.carried.maps self.new.view.seen) }
+        ensures answers { AnswersSo (driver_kind D.ENTRIES D.is_planned D.OwnEntries D.Follows) what.now result
+            self.old.view (with_files files.old self.old.carried) out.new self.new.view self.new.carried.told }
+    {
+        let given = files.give_up(what);
+        let handed = files.handed(what, given);
+        let asking = self.asking(what, handed.row(), files);
+        match &asking {
+            Asking::Calls(call) => self.call(rt, alloc, what, Order::of(call, handed), out),
+            Asking::Plans(nth) => {
+                self.plan(*nth);
+                Ok((Reply::Done, Change::Stays))
+            }
+            Asking::Accepts(bits) => {
+                self.accept(*bits);
+                Ok((Reply::Done, Change::Stays))
+            }
+            Asking::Refuses(errno) => Ok((Reply::Refused(*errno), Change::Stays)),
+        }
+    }
+
+    /// What an operation is, by the row of the file that it names, the files that are open beside it, and the maps of the port.
+    fn asking(&self, what: &Do, row: Option<FileRow>, files: &Rows) -> Asking
+        requires row { IsSomeRow row }
+        ensures told { (all : List OpenFile) → files.now ≡ left_for what.now all → file_for what.now all ≡ file_of row → result ≡ asking_with self.now.carried.maps all what.now }
+        ensures on { (all : List OpenFile) → file_for what.now all ≡ file_of row → AsksOn row result }
+        ensures fits { FitsAsking result }
+    {
         match what {
             Do::Aggregate {
                 label,
                 slots,
                 count,
-            } => self.aggregate(rt, alloc, label, slots, *count),
-            _ => self.perform_plainly(rt, alloc, what),
+            } => self.joining(label, slots, *count, files),
+            _ => asking_of(what, row),
         }
     }
 
-    /// Makes a chip whose lines are those of requests, and has the port keep its map; or refuses to.
-    fn aggregate<R: Wait>(
-        &mut self,
-        rt: &R,
-        alloc: Global,
-        label: &Name,
-        slots: &[u32; 4],
-        count: u32,
-    ) -> Result<Got, Errno>
-        requires none { OwnsNothing D.OwnEntries }
-        ensures device { self.new.gate ≡ self.old.gate }
-        ensures text { self.new.text ≡ self.old.text }
-        ensures performs { Performs (driver_kind D.ENTRIES D.is_planned D.OwnEntries D.Follows) (Aggregate label.now slots.now count) result self.old.view self.old.carried self.new.view self.new.carried }
+    /// What a chip over the requests in these slots is: it is probed, or refused.
+    fn joining(&self, label: &Name, slots: &[u32; 4], count: u32, files: &Rows) -> Asking
+        ensures told { result ≡ asking_with self.now.carried.maps files.now (Aggregate label.now slots.now count) }
+        ensures on { (row : Option RowOf) → AsksOn row result }
+        ensures fits { FitsAsking result }
     {
         // That a name is one is known once it is read.
         let _name = label.as_bytes();
-        let targets = Targets::in_slots(self.files(), slots, count);
-        if let Some(errno) = self.joining_fault(&targets) {
-            return Ok(Got::Refused(errno));
-        }
-        let probe = DeviceCall::Once(Call::Probe {
-            label: *label,
-            lines: targets.line_count(),
-            kind: Kind::Remote,
-        });
-        let order = Order::of(probe, &None);
-        match self.make(rt, alloc, &order, &mut []) {
-            Ok(answer) => match answer.reply() {
-                Reply::Number(place) => self.keep_map(place, &targets),
-                Reply::Refused(errno) => Ok(Got::Refused(errno)),
-                _ => Ok(Got::Done),
-            },
-            Err(errno) => Err(errno),
+        let targets = Targets::in_slots(files, slots, count);
+        match self.joining_fault(&targets) {
+            Some(errno) => Asking::Refuses(errno),
+            None => Asking::Calls(DeviceCall::Once(Call::Probe {
+                label: *label,
+                lines: targets.line_count(),
+                kind: Kind::Remote,
+            })),
         }
     }
 
@@ -318,27 +398,132 @@ impl<'d, D: Driver<Core>> Player<'d, D> {
         is_any_joined(&self.actor, targets.as_slice())
     }
 
-    /// Has the port keep the map of a new chip, whose place no request and no map is of.
-    fn keep_map(&mut self, place: u64, targets: &Targets) -> Result<Got, Errno>
-        requires room { 1 ≤ self.old.carried.maps.left }
-        requires some { 1 ≤ length targets.now }
-        requires within { place < PLACES }
-        requires apart { list_any (is_target_at place) targets.now ≡ false }
-        requires new { map_at place self.old.carried.maps.kept ≡ None }
-        requires placed { IsPlaced self.old.view.seen place }
+    /// Makes the call of an operation, on the file of its order.
+    fn call<R: Wait>(
+        &mut self,
+        rt: &R,
+        alloc: Global,
+        what: &Do,
+        order: Order<'_>,
+        out: &mut [u8],
+    ) -> Result<(Reply, Change<HeldFile>), Errno>
+        requires none { OwnsNothing D.OwnEntries }
+        requires row { IsSomeRow (row_in order.file) }
+        requires fits { FitsDevice order.call.now }
+        requires asks { (all : List OpenFile) × (file_for what.now all ≡ file_of (row_in order.file)) × (Calls order.call.now ≡ asking_with self.old.carried.maps all what.now) }
+        requires buffer { out.old ≡ buffer_for what.now }
         ensures device { self.new.gate ≡ self.old.gate }
-        ensures view { self.new.view ≡ self.old.view }
-        ensures files { self.new.carried.files ≡ self.old.carried.files }
-        ensures told { self.new.carried.told ≡ self.old.carried.told }
         ensures text { self.new.text ≡ self.old.text }
-        ensures done { IfOk result (λ got. got ≡ Got.Done) }
-        ensures maps { OnOk result (self.new.carried.maps ≡ learned (Reply.Number place) targets.now self.old.carried.maps) }
-        ensures memory_alone { IsOkUnless result NoMemory }
+        ensures maps { self.new.carried.maps ≡ self.old.carried.maps }
+        ensures later { StartsWith self.new.view.seen self.old.view.seen }
+        ensures change { IfOk result (λ asked. IsChange asked.1) }
+        ensures changed { (all : List OpenFile) → file_for what.now all ≡ file_of (row_in order.entry.file) → IfOk result (λ asked. changed asked.1 (left_for what.now all) ≡ files_behind what.now asked.0 all) }
+        ensures placed { (all : List OpenFile) → Calls order.entry.call.now ≡ asking_with self.old.carried.maps all what.now → AreFilesPlaced self.old.view.seen all
+            → IfOk result (λ asked. AreFilesPlaced self.new.view.seen (files_behind what.now asked.0 all)) }
+        ensures may_learn { (all : List OpenFile) → Calls order.entry.call.now ≡ asking_with self.old.carried.maps all what.now → AreFilesPlaced self.old.view.seen all
+            → IfOk result (λ asked. MayLearn asked.0 what.now all self.old.carried.maps self.new.view.seen) }
+        ensures answers { (all : List OpenFile) → file_for what.now all ≡ file_of (row_in order.entry.file) → Calls order.entry.call.now ≡ asking_with self.old.carried.maps all what.now
+            → AnswersSo (driver_kind D.ENTRIES D.is_planned D.OwnEntries D.Follows) what.now result
+            self.old.view (with_files all self.old.carried) out.new self.new.view self.new.carried.told }
     {
-        match self.learn(targets.joined_at(place as u8)) {
-            Ok(()) => Ok(Got::Done),
+        // What is known of the maps is known once they are read.
+        let _maps = self.maps();
+        match self.make(rt, alloc, order, out) {
+            Ok(answer) => Ok((answer.reply(), change_by(what, answer))),
             Err(errno) => Err(errno),
         }
+    }
+
+    /// Makes a call of the device.
+    fn make<'o, R: Wait>(
+        &mut self,
+        rt: &R,
+        alloc: Global,
+        order: Order<'o>,
+        out: &mut [u8],
+    ) -> Result<Answer<'o>, Errno>
+        requires none { OwnsNothing D.OwnEntries }
+        requires fits { FitsOrder order.call.now (kind_in order.file) out.old }
+        ensures device { self.new.gate ≡ self.old.gate }
+        ensures text { self.new.text ≡ self.old.text }
+        ensures files { self.new.carried.files ≡ self.old.carried.files }
+        ensures made { IfOk result (λ r. (bytes : List ℕ) × WroteTo order.entry.call.now bytes out.old out.new
+            × MadeFor (driver_kind D.ENTRIES D.is_planned D.OwnEntries D.Follows) self.old.carried.maps order.entry.call.now (kind_in order.entry.file) self.old.view r.answered.reply bytes self.new.view
+            self.old.carried.told self.new.carried.told) }
+        ensures call { IfOk result (λ r. r.order.call.now ≡ order.entry.call.now) }
+        ensures file { IfOk result (λ r. row_in r.order.file ≡ row_in order.entry.file) }
+        ensures maps { self.new.carried.maps ≡ self.old.carried.maps }
+        ensures later { StartsWith self.new.view.seen self.old.view.seen }
+        ensures form { IfOk result (λ r. AnswersOrder order.entry.call.now (kind_in order.entry.file) r.answered.reply) }
+        ensures lines { IfOk result (λ r. GivesLines order.entry.call.now (kind_in order.entry.file) r.answered) }
+        ensures could_not { IfErr result (λ e. (e ≡ NoMemory) ⊎ ((e ≡ Full) × FoundNoRoom core self.old.view self.new.view)) }
+    {
+        self.device.call(rt, alloc, &mut self.actor, order, out)
+    }
+
+    /// Keeps what an answer says: what becomes of the open files, and a map that it teaches.
+    fn settle(
+        &mut self,
+        what: &Do,
+        reply: Reply,
+        change: Change<HeldFile>,
+        files: &mut Rows,
+    ) -> Result<(), Errno>
+        requires change { IsChange change }
+        requires placed { AreFilesPlaced self.old.view.seen files.old }
+        requires then_placed { AreFilesPlaced self.old.view.seen (changed change files.old) }
+        requires may_learn { MayLearn reply what.now (changed change files.old) self.old.carried.maps self.old.view.seen }
+        ensures device { self.new.gate ≡ self.old.gate }
+        ensures view { self.new.view ≡ self.old.view }
+        ensures told { self.new.carried.told ≡ self.old.carried.told }
+        ensures text { self.new.text ≡ self.old.text }
+        ensures placed { AreFilesPlaced self.new.view.seen files.new }
+        ensures files { OnOk result (files.new ≡ changed change files.old) }
+        ensures maps { OnOk result (self.new.carried.maps ≡ maps_behind what.now reply (changed change files.old) self.old.carried.maps) }
+        ensures memory_alone { IsOkUnless result NoMemory }
+    {
+        match files.change(change) {
+            Ok(()) => self.learn_behind(what, reply, files),
+            Err(errno) => Err(errno),
+        }
+    }
+
+    /// Has the port keep the map that a reply teaches, if it teaches one.
+    fn learn_behind(&mut self, what: &Do, reply: Reply, files: &Rows) -> Result<(), Errno>
+        requires may_learn { MayLearn reply what.now files.now self.old.carried.maps self.old.view.seen }
+        ensures device { self.new.gate ≡ self.old.gate }
+        ensures view { self.new.view ≡ self.old.view }
+        ensures told { self.new.carried.told ≡ self.old.carried.told }
+        ensures text { self.new.text ≡ self.old.text }
+        ensures maps { OnOk result (self.new.carried.maps ≡ maps_behind what.now reply files.now self.old.carried.maps) }
+        ensures memory_alone { IsOkUnless result NoMemory }
+    {
+        match (what, reply) {
+            (Do::Aggregate { slots, count, .. }, Reply::Number(place)) => {
+                self.learn_joined(place, slots, *count, files)
+            }
+            _ => Ok(()),
+        }
+    }
+
+    /// Has the port keep the map of a new chip over the requests in these slots.
+    fn learn_joined(
+        &mut self,
+        place: u64,
+        slots: &[u32; 4],
+        count: u32,
+        files: &Rows,
+    ) -> Result<(), Errno>
+        requires may_join { MayJoin place (targets_in (take count slots.now) files.now) self.old.carried.maps self.old.view.seen }
+        ensures device { self.new.gate ≡ self.old.gate }
+        ensures view { self.new.view ≡ self.old.view }
+        ensures told { self.new.carried.told ≡ self.old.carried.told }
+        ensures text { self.new.text ≡ self.old.text }
+        ensures maps { OnOk result (self.new.carried.maps ≡ learned (Reply.Number place) (targets_in (take count slots.now) files.now) self.old.carried.maps) }
+        ensures memory_alone { IsOkUnless result NoMemory }
+    {
+        let targets = Targets::in_slots(files, slots, count);
+        self.learn(targets.joined_at(place as u8))
     }
 
     /// Has the port keep a map more.
@@ -362,187 +547,6 @@ impl<'d, D: Driver<Core>> Player<'d, D> {
             }
             Err(_) => Err(Errno::NoMemory),
         }
-    }
-
-    /// Carries an operation out that the maps of the port mean nothing to.
-    fn perform_plainly<R: Wait>(&mut self, rt: &R, alloc: Global, what: &Do) -> Result<Got, Errno>
-        requires none { OwnsNothing D.OwnEntries }
-        requires plain { GoesByFiles what.now }
-        ensures device { self.new.gate ≡ self.old.gate }
-        ensures text { self.new.text ≡ self.old.text }
-        ensures performs { Performs (driver_kind D.ENTRIES D.is_planned D.OwnEntries D.Follows) what.now result self.old.view self.old.carried self.new.view self.new.carried }
-    {
-        let row = self.row_for(what);
-        let asking = asking_of(what, row_of(&row));
-        match &asking {
-            Asking::Calls(call) => {
-                let order = Order::of(*call, &row);
-                self.call(rt, alloc, what, &row, &order)
-            }
-            Asking::Plans(nth) => {
-                self.plan(*nth);
-                self.settle_uncalled(what)?;
-                Ok(Got::Done)
-            }
-            Asking::Accepts(bits) => {
-                self.accept(*bits);
-                self.settle_uncalled(what)?;
-                Ok(Got::Done)
-            }
-            Asking::Refuses(errno) => {
-                self.settle_uncalled(what)?;
-                Ok(Got::Refused(*errno))
-            }
-        }
-    }
-
-    /// Makes the call of an operation, on the file of this row.
-    fn call<R: Wait>(
-        &mut self,
-        rt: &R,
-        alloc: Global,
-        what: &Do,
-        row: &Option<HeldFile>,
-        order: &Order,
-    ) -> Result<Got, Errno>
-        requires none { OwnsNothing D.OwnEntries }
-        requires plain { GoesByFiles what.now }
-        requires row { IsSomeRow row.now }
-        requires found { file_for what.now self.old.carried.files ≡ file_of row.now }
-        requires fits { FitsDevice order.now.call }
-        requires on { order.now.on ≡ kind_of row.now }
-        requires asks { Calls order.now.call ≡ asking self.old.carried.files what.now }
-        ensures device { self.new.gate ≡ self.old.gate }
-        ensures text { self.new.text ≡ self.old.text }
-        ensures performs { Performs (driver_kind D.ENTRIES D.is_planned D.OwnEntries D.Follows) what.now result self.old.view self.old.carried self.new.view self.new.carried }
-    {
-        let mut buffer = match buffer_for(alloc, what) {
-            Ok(buffer) => buffer,
-            Err(errno) => return Err(errno),
-        };
-        match self.make(rt, alloc, order, &mut buffer) {
-            Ok(answer) => {
-                let _files = self.files();
-                self.settle(what, row, &answer)?;
-                Ok(got_of(what, &answer.reply(), buffer))
-            }
-            Err(errno) => Err(errno),
-        }
-    }
-
-    /// Makes a call of the device.
-    fn make<'o, R: Wait>(
-        &mut self,
-        rt: &R,
-        alloc: Global,
-        order: &'o Order,
-        out: &mut [u8],
-    ) -> Result<Answer<'o>, Errno>
-        requires none { OwnsNothing D.OwnEntries }
-        requires fits { FitsOrder order.now.call order.now.on out.old }
-        ensures device { self.new.gate ≡ self.old.gate }
-        ensures text { self.new.text ≡ self.old.text }
-        ensures files { self.new.carried.files ≡ self.old.carried.files }
-        ensures made { IfOk result (λ r. (bytes : List ℕ) × WroteTo order.now.call bytes out.old out.new
-            × MadeFor (driver_kind D.ENTRIES D.is_planned D.OwnEntries D.Follows) self.old.carried.maps order.now.call order.now.on self.old.view r.answered.reply bytes self.new.view
-            self.old.carried.told self.new.carried.told) }
-        ensures order { IfOk result (λ r. r.order.now ≡ order.now) }
-        ensures maps { self.new.carried.maps ≡ self.old.carried.maps }
-        ensures form { IfOk result (λ r. AnswersOrder order.now.call order.now.on r.answered.reply) }
-        ensures lines { IfOk result (λ r. GivesLines order.now.call order.now.on r.answered) }
-        ensures could_not { IfErr result (λ e. (e ≡ NoMemory) ⊎ ((e ≡ Full) × FoundNoRoom core self.old.view self.new.view)) }
-    {
-        self.device.call(rt, alloc, &mut self.actor, order, out)
-    }
-
-    /// Keeps what becomes of the open files by the answer.
-    fn settle(
-        &mut self,
-        what: &Do,
-        row: &Option<HeldFile>,
-        answer: &Answer<'_>,
-    ) -> Result<(), Errno>
-        requires row { IsSomeRow row.now }
-        requires found { file_for what.now self.old.carried.files ≡ file_of row.now }
-        requires asks { IsCallOf what.now row.now answer.now.order.now.call }
-        requires opens { OpensWithin what.now answer.now.answered.reply }
-        requires named { NamesMade what.now row.now answer.now.answered }
-        requires placed { AreFilesPlaced self.old.view.seen (files_behind what.now answer.now.answered.reply self.old.carried.files) }
-        ensures device { self.new.gate ≡ self.old.gate }
-        ensures view { self.new.view ≡ self.old.view }
-        ensures told { self.new.carried.told ≡ self.old.carried.told }
-        ensures maps { self.new.carried.maps ≡ self.old.carried.maps }
-        ensures text { self.new.text ≡ self.old.text }
-        ensures settled { OnOk result (self.new.carried.files ≡ files_behind what.now answer.now.answered.reply self.old.carried.files) }
-        ensures memory_alone { IsOkUnless result NoMemory }
-    {
-        if !opens_or_closes(what) {
-            return Ok(());
-        }
-        self.keep_behind(what, row, answer)
-    }
-
-    /// The same, of an operation that may open or close a file. It stands apart, so that no other has room for a change.
-    fn keep_behind(
-        &mut self,
-        what: &Do,
-        row: &Option<HeldFile>,
-        answer: &Answer<'_>,
-    ) -> Result<(), Errno>
-        requires row { IsSomeRow row.now }
-        requires found { file_for what.now self.old.carried.files ≡ file_of row.now }
-        requires asks { IsCallOf what.now row.now answer.now.order.now.call }
-        requires opens { OpensWithin what.now answer.now.answered.reply }
-        requires named { NamesMade what.now row.now answer.now.answered }
-        requires placed { AreFilesPlaced self.old.view.seen (files_behind what.now answer.now.answered.reply self.old.carried.files) }
-        ensures device { self.new.gate ≡ self.old.gate }
-        ensures view { self.new.view ≡ self.old.view }
-        ensures told { self.new.carried.told ≡ self.old.carried.told }
-        ensures maps { self.new.carried.maps ≡ self.old.carried.maps }
-        ensures text { self.new.text ≡ self.old.text }
-        ensures settled { OnOk result (self.new.carried.files ≡ files_behind what.now answer.now.answered.reply self.old.carried.files) }
-        ensures memory_alone { IsOkUnless result NoMemory }
-    {
-        self.keep(files_behind(what, row, answer))
-    }
-
-    /// Keeps what becomes of the open files by an operation that made no call.
-    fn settle_uncalled(&mut self, what: &Do) -> Result<(), Errno>
-        ensures device { self.new.gate ≡ self.old.gate }
-        ensures view { self.new.view ≡ self.old.view }
-        ensures told { self.new.carried.told ≡ self.old.carried.told }
-        ensures maps { self.new.carried.maps ≡ self.old.carried.maps }
-        ensures text { self.new.text ≡ self.old.text }
-        ensures refused { OnOk result ((errno : AnErrno) → self.new.carried.files ≡ files_behind what.now (Refused errno) self.old.carried.files) }
-        ensures planned { OnOk result ((nth : ℕ) → asking self.old.carried.files what.now ≡ Plans nth → self.new.carried.files ≡ files_behind what.now Done self.old.carried.files) }
-        ensures accepted { OnOk result ((bits : ℕ) → asking self.old.carried.files what.now ≡ Accepts bits → self.new.carried.files ≡ files_behind what.now Done self.old.carried.files) }
-        ensures memory_alone { IsOkUnless result NoMemory }
-    {
-        let _files = self.files();
-        self.keep(files_uncalled(what))
-    }
-
-    /// Makes a change in the open files.
-    fn keep(&mut self, change: Change<HeldFile>) -> Result<(), Errno>
-        requires change { IsChange change }
-        requires placed { AreFilesPlaced self.old.view.seen (changed change self.old.carried.files) }
-        ensures device { self.new.gate ≡ self.old.gate }
-        ensures view { self.new.view ≡ self.old.view }
-        ensures told { self.new.carried.told ≡ self.old.carried.told }
-        ensures maps { self.new.carried.maps ≡ self.old.carried.maps }
-        ensures text { self.new.text ≡ self.old.text }
-        ensures files { OnOk result (self.new.carried.files ≡ changed change self.old.carried.files) }
-        ensures memory_alone { IsOkUnless result NoMemory }
-    {
-        self.files.change(change)
-    }
-
-    /// The row of the file that an operation names, if it names one and it is open.
-    fn row_for(&self, what: &Do) -> Option<HeldFile>
-        ensures found { file_for what.now self.now.carried.files ≡ file_of result }
-        ensures row { IsSomeRow result }
-    {
-        self.files.named_by(what)
     }
 
     /// Plans that the `nth` driver call from now on fails, counted from 1; 0 takes a plan away.

@@ -3,18 +3,20 @@
 //! A row has the lines of its request, some 270 bytes in all. Each has memory of its own, so that where one is taken out the others
 //! stay where they are, and just their addresses move up.
 
-ghost use Rattle.std.specs.Prelude.{◌≡◌, [], map, OnOk, OnErr, IsOkUnless};
+ghost use Rattle.std.specs.Prelude.{◌≡◌, [], List, false, is_some, map, OnOk, OnErr, IsOkUnless};
 ghost use Rattle.std.specs.List.{position};
 ghost use Rattle.gl_asking.specs.Asking.{file_for};
 ghost use Rattle.gl_asking.specs.Changes.{IsChange, changed};
-ghost use Rattle.gl_asking.specs.Files.{file_in, without_file};
+ghost use Rattle.gl_asking.specs.Files.{OpenFile, file_in, without_file};
 ghost use Rattle.gl_asking.specs.Rows.{IsRow, IsSomeRow, file_of};
 ghost use Rattle.gl_base.specs.Rows.{Each};
+ghost use Rattle.gl_chip.specs.Held.{is_given_up, row_in};
+ghost use Rattle.gl_session.specs.Asked.{given_up_by, left_for};
 ghost use Rattle.gl_session.specs.Player.{IsBoxedRow, boxed_file, is_boxed_row};
 
 use gl_asking::{Change, slot_named};
 use gl_base::{Do, Errno};
-use gl_chip::HeldFile;
+use gl_chip::{Handed, HeldFile};
 use std::alloc::Global;
 use std::marker::Model;
 
@@ -47,18 +49,45 @@ impl Rows {
         }
     }
 
-    /// The file in a slot, if there is one.
-    pub fn in_slot(&self, slot: u32) -> Option<HeldFile>
-        ensures found { file_of result ≡ file_in slot self.now }
-        ensures row { IsSomeRow result }
+    /// Lends the file in a slot, if there is one.
+    pub fn in_slot(&self, slot: u32) -> Handed<'_>
+        ensures found { file_of (row_in result) ≡ file_in slot self.now }
+        ensures row { IsSomeRow (row_in result) }
+        ensures lent { is_given_up result ≡ false }
     {
         row_in(&self.rows, slot)
     }
 
-    /// The file that an operation names, if it names one and it is there.
-    pub fn named_by(&self, what: &Do) -> Option<HeldFile>
-        ensures found { file_for what.now self.now ≡ file_of result }
+    /// Takes out the file that an operation closes, if it closes one and it is there.
+    pub fn give_up(&mut self, what: &Do) -> Option<HeldFile>
+        ensures given { file_of result ≡ given_up_by what.now self.old }
         ensures row { IsSomeRow result }
+        ensures left { self.new ≡ left_for what.now self.old }
+    {
+        match what {
+            Do::Close { slot } => take(&mut self.rows, *slot),
+            _ => None,
+        }
+    }
+
+    /// The file that an operation names, as its call has it: given up where it was taken out for that, else lent, if it is there.
+    pub fn handed(&self, what: &Do, given: Option<HeldFile>) -> Handed<'_>
+        requires row { IsSomeRow given }
+        ensures found { (files : List OpenFile) → self.now ≡ left_for what.now files → file_of given ≡ given_up_by what.now files → file_for what.now files ≡ file_of (row_in result) }
+        ensures row { IsSomeRow (row_in result) }
+        ensures given_up { is_given_up result ≡ is_some given }
+    {
+        match given {
+            Some(file) => Handed::GivenUp(file),
+            None => self.lent(what),
+        }
+    }
+
+    /// Lends the file that an operation names, if it names one and it is there.
+    fn lent(&self, what: &Do) -> Handed<'_>
+        ensures found { file_for what.now self.now ≡ file_of (row_in result) }
+        ensures row { IsSomeRow (row_in result) }
+        ensures lent { is_given_up result ≡ false }
     {
         row_for(&self.rows, what)
     }
@@ -81,27 +110,29 @@ fn position_of(rows: &[Box<HeldFile>], slot: u32) -> Option<usize>
     rows.iter().position(|row| row.row().slot() == slot)
 }
 
-/// The file in a slot, if there is one.
-fn row_in(rows: &[Box<HeldFile>], slot: u32) -> Option<HeldFile>
+/// Lends the file in a slot, if there is one.
+fn row_in(rows: &[Box<HeldFile>], slot: u32) -> Handed<'_>
     requires { Each IsBoxedRow rows.now }
-    ensures found { file_of result ≡ file_in slot (map boxed_file rows.now) }
-    ensures row { IsSomeRow result }
+    ensures found { file_of (row_in result) ≡ file_in slot (map boxed_file rows.now) }
+    ensures row { IsSomeRow (row_in result) }
+    ensures lent { is_given_up result ≡ false }
 {
     match position_of(rows, slot) {
-        Some(at) => Some(*rows[at]),
-        None => None,
+        Some(at) => Handed::Lent(&*rows[at]),
+        None => Handed::Nothing,
     }
 }
 
-/// The row of the file that an operation names, if it names one and it is there.
-fn row_for(rows: &[Box<HeldFile>], what: &Do) -> Option<HeldFile>
+/// Lends the file that an operation names, if it names one and it is there.
+fn row_for<'r>(rows: &'r [Box<HeldFile>], what: &Do) -> Handed<'r>
     requires { Each IsBoxedRow rows.now }
-    ensures found { file_for what.now (map boxed_file rows.now) ≡ file_of result }
-    ensures row { IsSomeRow result }
+    ensures found { file_for what.now (map boxed_file rows.now) ≡ file_of (row_in result) }
+    ensures row { IsSomeRow (row_in result) }
+    ensures lent { is_given_up result ≡ false }
 {
     match slot_named(what) {
         Some(slot) => row_in(rows, slot),
-        None => None,
+        None => Handed::Nothing,
     }
 }
 
@@ -118,7 +149,7 @@ fn make(rows: &mut Vec<Box<HeldFile>>, change: Change<HeldFile>) -> Result<(), E
         Change::Stays => Ok(()),
         Change::Adds(row) => add(rows, row),
         Change::Removes(slot) => {
-            remove(rows, slot);
+            let _ = take(rows, slot);
             Ok(())
         }
     }
@@ -144,15 +175,15 @@ fn add(rows: &mut Vec<Box<HeldFile>>, row: HeldFile) -> Result<(), Errno>
 }
 
 /// Takes the file in a slot out, if there is one.
-fn remove(rows: &mut Vec<Box<HeldFile>>, slot: u32)
+fn take(rows: &mut Vec<Box<HeldFile>>, slot: u32) -> Option<HeldFile>
     requires rows { Each IsBoxedRow rows.old.items }
+    ensures taken { file_of result ≡ file_in slot (map boxed_file rows.old.items) }
+    ensures row { IsSomeRow result }
     ensures changed { map boxed_file rows.new.items ≡ without_file slot (map boxed_file rows.old.items) }
     ensures rows { Each IsBoxedRow rows.new.items }
 {
     match position_of(rows, slot) {
-        Some(at) => {
-            let _ = rows.remove(at);
-        }
-        None => {}
+        Some(at) => Some(Box::into_inner(rows.remove(at))),
+        None => None,
     }
 }

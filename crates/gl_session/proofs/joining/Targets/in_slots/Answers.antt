@@ -11,7 +11,7 @@ loop-n-preserved c =
     let four : length c.args.slots.now ≡ 4 = search rules in
     elim c.if-n-count.branch [
       | then-n-count w ↦ (
-        w.targets-is ∙ w.add.ensures.added ∙ (λ i. c.loop-n.invariant.0 i ++ target_in ((ap (λ (r : Option FileRow). file_of r) w.row_of.ensures ∙ w.in_slot.ensures.found) i))
+        w.targets-is ∙ w.add.ensures.added ∙ (λ i. c.loop-n.invariant.0 i ++ target_in ((ap (λ (r : Option FileRow). file_of r) w.row.ensures ∙ w.in_slot.ensures.found) i))
             ∙ sym (slot_more c.args.slots.now c.args.rows.now c.args.count c.loop-n.n 0 (omega (arith, c.loop-n-test.true)) (omega (arith, w.if-n-count))),
         (let one = w.add.ensures.one in let before = c.loop-n.invariant.1 in let same = ap (λ l. length l) w.targets-is in omega arith),
       )

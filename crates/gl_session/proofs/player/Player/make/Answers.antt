@@ -1,7 +1,9 @@
 use Rattle.std.proofs.Common.{◌≡◌, ◌⊎◌, ℕ, List, ap, sym, ◌∙◌, subst}
 use Rattle.std.specs.Prelude.{IfOk, IfErr}
 use Rattle.gl_base.specs.declared.errno.Errno.TheVariants.{Full, NoMemory}
+use Rattle.gl_world.specs.History.{StartsWith}
 use Rattle.gl_core.specs.Device.{core}
+use Rattle.gl_chip.specs.Held.{kind_in}
 use Rattle.gl_chip.specs.Orders.{WroteTo}
 use Rattle.gl_chip.specs.Steps.{FoundNoRoom}
 use Rattle.gl_chip.proofs.Telling.{FollowsPlan}
@@ -18,7 +20,7 @@ use Rattle.gl_session.proofs.player.Player.make.Goals as goal
 pub returns-clause-made : goal.returns-clause-made
 returns-clause-made g c =
     let law : FollowsPlan g.D.Driver.is_planned g.D.Driver.Follows = (g.met.D.Driver g.world.𝓛 g.world.𝓜 g.world.𝓡 ((λ s x. x), (λ x. x), (λ x. x), λ x. x)).follows_plan in
-    let call = c.args.order.now.call in let on = c.args.order.now.on in
+    let call = c.args.order.call.now in let on = kind_in c.args.order.file in
     subst (λ (p : Playing). IfOk c.call.result (λ r. (bytes : List ℕ) × WroteTo call bytes c.args.out.now c.call.new.out
     × MadeFor (driver_kind g.D.Driver.ENTRIES g.D.Driver.is_planned g.D.Driver.OwnEntries g.D.Driver.Follows) p.carried.maps call on p.view r.answered.reply bytes c.call.new.actor.pass.view p.carried.told (g.D.Port.Port.told c.call.new.actor.port)))
     c.self.view_is
@@ -32,9 +34,16 @@ returns-clause-made g c =
 pub returns-clause-maps : goal.returns-clause-maps
 returns-clause-maps g c =
     maps_stay (maps_of g.D.Port.Port.maps g.D.Port.Port.maps_left) c.call.result c.self.inside.actor c.call.new.actor _
-    (λ r h. done_maps g.D.Port.Port.told g.D.Port.Port.faults g.D.Port.Port.maps g.D.Port.Port.maps_left g.D.Driver.OwnEntries g.D.Driver.Follows g.D.Driver.ENTRIES c.args.order.now.call c.args.order.now.on c.self.inside.actor c.call.new.actor r.answered.reply h.0 h.2)
+    (λ r h. done_maps g.D.Port.Port.told g.D.Port.Port.faults g.D.Port.Port.maps g.D.Port.Port.maps_left g.D.Driver.OwnEntries g.D.Driver.Follows g.D.Driver.ENTRIES c.args.order.call.now (kind_in c.args.order.file) c.self.inside.actor c.call.new.actor r.answered.reply h.0 h.2)
     c.call.ensures.done _ _ c.call.ensures.could_not
     ∙ ap (λ (p : Playing). p.carried.maps) c.self.view_is
+
+pub returns-clause-later : goal.returns-clause-later
+returns-clause-later g c =
+    subst (λ (p : Playing). StartsWith c.call.new.actor.pass.view.seen p.view.seen) c.self.view_is
+    (seen_grows c.call.result c.self.inside.actor c.call.new.actor _
+    (λ r h. done_grew g.D.Port.Port.told g.D.Port.Port.faults g.D.Port.Port.maps g.D.Port.Port.maps_left g.D.Driver.OwnEntries g.D.Driver.Follows g.D.Driver.ENTRIES c.args.order.call.now (kind_in c.args.order.file) c.self.inside.actor c.call.new.actor r.answered.reply h.0 h.2)
+    c.call.ensures.done _ _ c.call.ensures.could_not)
 
 pub returns-clause-could_not : goal.returns-clause-could_not
 returns-clause-could_not g c =
@@ -44,13 +53,13 @@ returns-clause-could_not g c =
 pub invariant_of-self : goal.invariant_of-self
 invariant_of-self g c =
     let grew = seen_grows c.call.result c.self.inside.actor c.call.new.actor _
-    (λ r h. done_grew g.D.Port.Port.told g.D.Port.Port.faults g.D.Port.Port.maps g.D.Port.Port.maps_left g.D.Driver.OwnEntries g.D.Driver.Follows g.D.Driver.ENTRIES c.args.order.now.call c.args.order.now.on c.self.inside.actor c.call.new.actor r.answered.reply h.0 h.2)
+    (λ r h. done_grew g.D.Port.Port.told g.D.Port.Port.faults g.D.Port.Port.maps g.D.Port.Port.maps_left g.D.Driver.OwnEntries g.D.Driver.Follows g.D.Driver.ENTRIES c.args.order.call.now (kind_in c.args.order.file) c.self.inside.actor c.call.new.actor r.answered.reply h.0 h.2)
     c.call.ensures.done _ _ c.call.ensures.could_not in (
       c.call.ensures.actor,
       c.self.invariant.1,
       c.self.invariant.2
           ∙ sym (ap (λ (m : Maps). m.kept) (maps_stay (maps_of g.D.Port.Port.maps g.D.Port.Port.maps_left) c.call.result c.self.inside.actor c.call.new.actor _
-          (λ r h. done_maps g.D.Port.Port.told g.D.Port.Port.faults g.D.Port.Port.maps g.D.Port.Port.maps_left g.D.Driver.OwnEntries g.D.Driver.Follows g.D.Driver.ENTRIES c.args.order.now.call c.args.order.now.on c.self.inside.actor c.call.new.actor r.answered.reply h.0 h.2)
+          (λ r h. done_maps g.D.Port.Port.told g.D.Port.Port.faults g.D.Port.Port.maps g.D.Port.Port.maps_left g.D.Driver.OwnEntries g.D.Driver.Follows g.D.Driver.ENTRIES c.args.order.call.now (kind_in c.args.order.file) c.self.inside.actor c.call.new.actor r.answered.reply h.0 h.2)
           c.call.ensures.done _ _ c.call.ensures.could_not)),
       files_later _ _ _ grew c.self.invariant.3,
       maps_later _ _ _ grew c.self.invariant.4,

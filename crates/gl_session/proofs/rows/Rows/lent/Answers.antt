@@ -2,7 +2,7 @@ use Rattle.std.proofs.Common.{List, map, ◌∙◌, ap, sym}
 use Rattle.gl_asking.specs.Asking.{file_for}
 use Rattle.gl_asking.specs.Files.{OpenFile}
 use Rattle.gl_session.specs.Player.{boxed_file}
-use Rattle.gl_session.proofs.rows.Rows.named_by.Goals as goal
+use Rattle.gl_session.proofs.rows.Rows.lent.Goals as goal
 
 pub returns-clause-found : goal.returns-clause-found
 returns-clause-found c =
