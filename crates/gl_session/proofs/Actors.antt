@@ -1,5 +1,5 @@
 -- Actors of a session by their numbers, and the maps of their ports.
-use Rattle.std.proofs.Common.{◌≡◌, ℕ, ◌+◌, ◌<◌, ◌≤◌, false, List, [], ◌∷◌, length, Option, ap, subst, arith}
+use Rattle.std.proofs.Common.{◌≡◌, ℕ, ◌+◌, ◌<◌, ◌≤◌, false, List, [], ◌∷◌, length, Option, ap, refl, subst, arith}
 use mathlib.Core.Logic.{dite}
 use native.Mathlib.Decide.{ℕ_discrete}
 use Rattle.gl_driver.specs.Told.{Told}
@@ -38,30 +38,33 @@ module _ (driver : DriverOver) (before left : ℕ → Option Told) (sections : L
       actors_within m (n + 1) texts h.1,
     )
 
-    -- there was room for all, where the history has no more than this many
-    pub all_within : (texts : Texts) → AllPlayedBelow driver before left sections history most texts → AllPlayed driver before left sections history texts
-    all_within texts h = record {
-      legal = h.legal;
-      first = h.first;
-      middle = h.middle;
-      last = h.last;
-      is = h.is;
-      others_not_first = h.others_not_first;
-      zero_not_between = h.zero_not_between;
-      others_not_last = h.others_not_last;
-      names = h.names;
-      waiting = h.waiting;
-      setup = h.setup;
-      setup_within = seen_more (session_cost sections) most (session_cost sections) h.setup.turns less h.setup_within;
-      end = h.end;
-      behind = h.behind;
-      after = h.after;
-      after_within = seen_more (session_cost sections) most (session_cost sections) h.after.turns less h.after_within;
-      left_is = h.left_is;
-      actors = actors_within h.waiting.maps 1 texts.actors h.actors;
-      as_many = h.as_many;
-      nobody_else = h.nobody_else;
-    }
+    -- there was room for all, where the history has no more than this many; the same maps are left
+    pub all_within : (texts : Texts) (h : AllPlayedBelow driver before left sections history most texts) → (all : AllPlayed driver before left sections history texts) × (all.behind.maps ≡ h.behind.maps)
+    all_within texts h = (
+      record {
+        legal = h.legal;
+        first = h.first;
+        middle = h.middle;
+        last = h.last;
+        is = h.is;
+        others_not_first = h.others_not_first;
+        zero_not_between = h.zero_not_between;
+        others_not_last = h.others_not_last;
+        names = h.names;
+        waiting = h.waiting;
+        setup = h.setup;
+        setup_within = seen_more (session_cost sections) most (session_cost sections) h.setup.turns less h.setup_within;
+        end = h.end;
+        behind = h.behind;
+        after = h.after;
+        after_within = seen_more (session_cost sections) most (session_cost sections) h.after.turns less h.after_within;
+        left_is = h.left_is;
+        actors = actors_within h.waiting.maps 1 texts.actors h.actors;
+        as_many = h.as_many;
+        nobody_else = h.nobody_else;
+      },
+      refl,
+    )
 
   -- in a session without `aggregate` no port has a map behind `setup`
   pub none_waiting : (texts : Texts) (h : AllPlayedBelow driver before left sections history most texts) → has_aggregate sections ≡ false → h.waiting.maps.kept ≡ []

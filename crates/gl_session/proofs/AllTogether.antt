@@ -94,7 +94,7 @@ module _ {P : Type 0} (told : P → Option Told) (driver : DriverOver) (sections
         let long : length taken ≡ length ports = ap (λ l. length l) left_is ∙ length-set ports 0 None in
         let at_end : slice_get given 0 ≡ Some (Some port_then) = ap (λ l. slice_get l 0) given_is ∙ get_set ports_then 0 (Some port_then) (omega arith) in
         let end : told_at told given 0 ≡ told port_then = told_got told given 0 port_then at_end in
-        let played : AllPlayedBelow driver (told_at told ports) (told_at told given) sections history (length history) texts =
+        let whole : (all : AllPlayedBelow driver (told_at told ports) (told_at told given) sections history (length history) texts) × (all.behind.maps ≡ out.behind.maps) =
         all_played driver (told_at told ports) (told_at told given) sections (length (actor_sections sections)) (length (actor_sections sections)) v out.at_fork out.forked.between out.behind_fork w out.names out.end out.waiting out.behind texts.setup texts.last texts.actors history
         new
         (subst (λ t. PlaysOn driver.kind (setup_of sections) v (carried [] t (start_maps driver)) [] (done out.names) out.at_fork out.waiting texts.setup) (first_is ∙ sym start) out.setup)
@@ -102,9 +102,11 @@ module _ {P : Type 0} (told : P → Option Told) (driver : DriverOver) (sections
         (kept_as driver.kind out.waiting.maps (program_of sections) (told_at told out.ports_taught) (told_at told ports) (told_at told ports_then) (told_at told given) out.at_fork out.behind_fork 1 (map Ok texts.actors)
         (λ k far. out.told_same k ∙ same_before k far) same_then out.forked.kept)
         out.own out.last (out.left_is ∙ last_is ∙ sym end) legal begins mine all others (sym out.forked.as_many) out.forked.as_many
-        in let fits = within_cost driver limit (told_at told ports) (told_at told given) sections history (length history) texts played in
-        subst (λ (k : Maps). CameToMany driver sections (told_at told ports) (told_at told given) k history texts) (sym out.maps_are ∙ maps_is ∙ ap (maps_found kept takes) (sym at_end))
-        (came_to_many driver limit (told_at told ports) (told_at told given) sections history texts (all_within driver (told_at told ports) (told_at told given) sections history (length history) fits texts played))
+        in let played = whole.0 in
+        let fits = within_cost driver limit (told_at told ports) (told_at told given) sections history (length history) texts played in
+        let within = all_within driver (told_at told ports) (told_at told given) sections history (length history) fits texts played in
+        subst (λ (k : Maps). CameToMany driver sections (told_at told ports) (told_at told given) k history texts) (within.1 ∙ whole.1 ∙ sym out.maps_are ∙ maps_is ∙ ap (maps_found kept takes) (sym at_end))
+        (came_to_many driver limit (told_at told ports) (told_at told given) sections history texts within.0)
 
     behind_first : (n : ℕ) → 1 ≤ n → slice_get given n ≡ slice_get ports_then n
     behind_first n far = ap (λ l. slice_get l n) given_is ∙ get_other ports_then 0 n (Some port_then) (λ same. absurd (omega (arith, same)))

@@ -105,7 +105,7 @@ pub all_played : (driver : DriverOver) (before left : ℕ → Option Told) (sect
     → behind.told ≡ left 0
     → Legal core history → StartsWith history v4.seen → entries_of 0 history ≡ v4.mine → HasAllOf v4.joined history → ((n : ℕ) → v4.made ≤ n → entries_of n history ≡ [])
     → made_count ≡ length texts → length texts ≡ length (actor_sections sections)
-    → AllPlayedBelow driver before left sections history (length history) (record { setup = first_text; actors = texts; last = last_text })
+    → (all : AllPlayedBelow driver before left sections history (length history) (record { setup = first_text; actors = texts; last = last_text })) × (all.behind.maps ≡ behind.maps)
 all_played driver before left sections made_count joined_count v0 v1 v2 v3 v4 names end waiting behind first_text last_text texts history new setup split joined kept own3 after left_is legal begins mine all others split_all as_many =
     let results : List (Result (List ℕ) Errno) = map Ok texts in
     let as_results : length results ≡ length texts = length-map texts Ok in
@@ -135,38 +135,41 @@ all_played driver before left sections made_count joined_count v0 v1 v2 v3 v4 na
     let cut : deeds_of core 0 history ≡ deeds_of core 0 v3.seen ++ deeds_from core (fold core v3.seen) 0 last = ap (λ l. deeds_of core 0 l) begins3.1 ∙ deeds_append core core.opening 0 v3.seen last in
     let deeds2 : deeds_from core (fold core v3.seen) 0 last ≡ d2 = sym (append_cancel (deeds_of core 0 v3.seen) d2 (deeds_from core (fold core v3.seen) 0 last) (sym (to_v4 ∙ v4_is) ∙ cut)) in
     let no_number : (n : ℕ) → 1 + length texts ≤ n → entries_of n history ≡ [] = λ n far. others n (subst (λ k. k ≤ n) (sym made) far) in
-    let whole1 : history ≡ first ++ (middle ++ last) = begins3.1 ∙ (ap (λ l. l ++ last) whole3.1 ∙ append_assoc first middle last) in record {
-      legal = legal;
-      first = first;
-      middle = middle;
-      last = last;
-      is = begins3.1 ∙ ap (λ l. l ++ last) whole3.1;
-      others_not_first = λ n positive. ⊎_elim (λ near. (kept_at driver waiting.maps sections before left v1 v3 1 results kept n positive (let same = as_results in omega arith)).1.nothing_before)
-          (λ far. entries_none n first (middle ++ last) (ap (λ l. entries_of n l) (sym whole1) ∙ no_number n far)) (side n (1 + length texts));
-      zero_not_between = none_behind 0 first middle v1.mine (ap (λ l. entries_of 0 l) (sym whole3.1) ∙ own_third) own_first;
-      others_not_last = λ n positive. ⊎_elim (λ near. let k = kept_at driver waiting.maps sections before left v1 v3 1 results kept n positive (let same = as_results in omega arith) in kept_last driver waiting.maps sections before left v1 history v3 begins3 all3 room1 last begins3.1 n k.0 k.1)
-          (λ far. none_last n v3.seen last (ap (λ l. entries_of n l) (sym begins3.1) ∙ no_number n far)) (side n (1 + length texts));
-      names = names;
-      waiting = waiting;
-      setup = record {
-        turns = setup.turns;
-        follows = subst (λ k. Follows driver.kind k (setup_of sections) (carried [] (before 0) (start_maps driver)) setup.turns (done names) waiting) number0 setup.follows;
-        text_is = setup.text_is;
-        did_is = deeds1;
-      };
-      setup_within = subst (λ (room : ℕ). AreSeen room (length history) setup.turns) (ap (λ (v : OneView). v.room) new)
-          (seen_more v0.room (length v1.seen) (length history) setup.turns (no_shorter history v1.seen (middle ++ last, whole1)) setup.seen);
-      end = end;
-      behind = behind;
-      after = record {
-        turns = after.turns;
-        follows = subst (λ k. Follows driver.kind k (after_of sections names) waiting after.turns (done end) behind) number3 after.follows;
-        text_is = after.text_is;
-        did_is = ap (λ (l : List OneEntry). deeds_from core (fold core l) 0 last) (sym whole3.1) ∙ deeds2;
-      };
-      after_within = subst (λ (room : ℕ). AreSeen room (length history) after.turns) room3 (seen_more v3.room (length v4.seen) (length history) after.turns (no_shorter history v4.seen begins) after.seen);
-      left_is = left_is;
-      actors = kept_played driver waiting.maps sections before left v1 history v3 begins3 all3 room1 1 texts kept;
-      as_many = as_many;
-      nobody_else = λ n far. no_number n (let m = as_many in omega arith);
-    }
+    let whole1 : history ≡ first ++ (middle ++ last) = begins3.1 ∙ (ap (λ l. l ++ last) whole3.1 ∙ append_assoc first middle last) in (
+      record {
+        legal = legal;
+        first = first;
+        middle = middle;
+        last = last;
+        is = begins3.1 ∙ ap (λ l. l ++ last) whole3.1;
+        others_not_first = λ n positive. ⊎_elim (λ near. (kept_at driver waiting.maps sections before left v1 v3 1 results kept n positive (let same = as_results in omega arith)).1.nothing_before)
+            (λ far. entries_none n first (middle ++ last) (ap (λ l. entries_of n l) (sym whole1) ∙ no_number n far)) (side n (1 + length texts));
+        zero_not_between = none_behind 0 first middle v1.mine (ap (λ l. entries_of 0 l) (sym whole3.1) ∙ own_third) own_first;
+        others_not_last = λ n positive. ⊎_elim (λ near. let k = kept_at driver waiting.maps sections before left v1 v3 1 results kept n positive (let same = as_results in omega arith) in kept_last driver waiting.maps sections before left v1 history v3 begins3 all3 room1 last begins3.1 n k.0 k.1)
+            (λ far. none_last n v3.seen last (ap (λ l. entries_of n l) (sym begins3.1) ∙ no_number n far)) (side n (1 + length texts));
+        names = names;
+        waiting = waiting;
+        setup = record {
+          turns = setup.turns;
+          follows = subst (λ k. Follows driver.kind k (setup_of sections) (carried [] (before 0) (start_maps driver)) setup.turns (done names) waiting) number0 setup.follows;
+          text_is = setup.text_is;
+          did_is = deeds1;
+        };
+        setup_within = subst (λ (room : ℕ). AreSeen room (length history) setup.turns) (ap (λ (v : OneView). v.room) new)
+            (seen_more v0.room (length v1.seen) (length history) setup.turns (no_shorter history v1.seen (middle ++ last, whole1)) setup.seen);
+        end = end;
+        behind = behind;
+        after = record {
+          turns = after.turns;
+          follows = subst (λ k. Follows driver.kind k (after_of sections names) waiting after.turns (done end) behind) number3 after.follows;
+          text_is = after.text_is;
+          did_is = ap (λ (l : List OneEntry). deeds_from core (fold core l) 0 last) (sym whole3.1) ∙ deeds2;
+        };
+        after_within = subst (λ (room : ℕ). AreSeen room (length history) after.turns) room3 (seen_more v3.room (length v4.seen) (length history) after.turns (no_shorter history v4.seen begins) after.seen);
+        left_is = left_is;
+        actors = kept_played driver waiting.maps sections before left v1 history v3 begins3 all3 room1 1 texts kept;
+        as_many = as_many;
+        nobody_else = λ n far. no_number n (let m = as_many in omega arith);
+      },
+      refl,
+    )
