@@ -3,7 +3,7 @@ use Rattle.std.proofs.Common.{◌≡◌, ℕ, ◌<◌, ◌≤◌, List, [], ◌�
 use Rattle.std.specs.Prelude.{cond}
 use Rattle.std.proofs.lemmas.Bool.{true≢false}
 use Rattle.gl_base.specs.declared.op.Op.{Op}
-use Rattle.gl_driver.proofs.Backs.{call_is_own, one_after_another, refusal_is_none}
+use Rattle.gl_driver.proofs.Backs.{call_is_own, one_after_another, owes_at, refusal_is_none}
 use Rattle.gl_driver.specs.Calls.{IsBack}
 use Rattle.gl_driver.specs.OwnEntries.{made_deed}
 use Rattle.gl_driver.specs.Told.{Told, with_call}
@@ -74,6 +74,7 @@ module _ {M C R G : Type 0} (m : Ghosts M C R G) where
         ends_not = at.ends_not;
         grew = regrew m v place went w (made_deed m went ask reply a b w acts ∷ []) is (acts_are_deeds m went ask reply a b w acts same);
         inside = subst (λ l. 0 < times place l) (sym same.inside) inside;
+        asked_here = owes_at m v w (made_deed m went ask reply a b w acts) place (regrew m v place went w (made_deed m went ask reply a b w acts ∷ []) is (acts_are_deeds m went ask reply a b w acts same)).mine at.named;
         back_out = ap (λ l. without place l) same.inside ∙ back_out;
         no_turn = no_turn;
         owed = omega arith;

@@ -2,7 +2,7 @@
 use Rattle.std.specs.Prelude.{◌≡◌, ◌⊎◌, ℕ, ◌+◌, ◌≤◌, Bool, true, false, List, [], ◌∷◌, ◌++◌, length, drop, Option, Some, None}
 use Rattle.gl_base.specs.declared.op.Op.{Op}
 use Rattle.gl_base.specs.declared.op.Op.TheVariants.{Apply, Get, Set}
-use Rattle.gl_driver.specs.Calls.{Drives, FitsOp, IsBack}
+use Rattle.gl_driver.specs.Calls.{Drives, FitsOp, IsBack, OwesAt}
 use Rattle.gl_driver.specs.Maps.{map_for}
 use Rattle.gl_driver.specs.Told.{Told}
 use Rattle.gl_driver.specs.declared.map.Map.{Map}
@@ -61,6 +61,7 @@ module _ {M C R G : Type 0} (m : Ghosts M C R G) where
     pub ends_not : m.ends ask ≡ false
     pub grew : Grew m v (first ∷ []) w
     pub inside : IsInside w place
+    pub asked_here : OwesAt m w place
     pub back_out : without place w.inside ≡ v.inside
     pub no_turn : HoldsNoTurn w
     pub owed : owes m w ≡ owes m v + 1

@@ -3,7 +3,7 @@ ghost use Rattle.std.specs.Prelude.{◌≡◌, ◌≢◌, ◌≤◌, ◌-◌, le
 ghost use Rattle.gl_base.specs.Count.{Rises};
 ghost use Rattle.gl_base.specs.declared.limits.TheConstants.{PLACES};
 ghost use Rattle.gl_core.specs.Device.{core};
-ghost use Rattle.gl_driver.specs.Calls.{Drives, FitsOp, MayMakeEntries};
+ghost use Rattle.gl_driver.specs.Calls.{Drives, FitsOp, MayMakeEntries, OwesAt};
 ghost use Rattle.gl_driver.specs.Maps.{map_at};
 ghost use Rattle.gl_driver.specs.Told.{answer_of, faults_after};
 ghost use Rattle.gl_gate.specs.Calls.{HoldsNoTurn, IsInside};
@@ -88,6 +88,7 @@ impl<D: Driver<Core>> Driver<Core> for AggDriver<D> {
     ) -> Result<u64, DriverFault>
         requires gate { IsPassOf gate.now pass.old }
         requires inside { IsInside pass.old.view place }
+        requires asked_here { OwesAt core pass.old.view place }
         requires no_turn { HoldsNoTurn pass.old.view }
         requires op { FitsOp op.now }
         requires entries { ◌≢◌ {A = ℕ} 8 0 → MayMakeEntries core PLACES gate.now pass.old.view place }

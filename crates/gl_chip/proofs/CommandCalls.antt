@@ -6,7 +6,8 @@ use Rattle.gl_base.specs.Count.{Rises}
 use Rattle.gl_base.specs.declared.errno.Errno.{Errno}
 use Rattle.gl_base.specs.declared.errno.Errno.TheVariants.{Full, Io, NoDev}
 use Rattle.gl_driver.specs.declared.map.Map.{Map}
-use Rattle.gl_driver.specs.Calls.{Drives, FitsOp}
+use Rattle.gl_driver.proofs.Backs.{owes_at}
+use Rattle.gl_driver.specs.Calls.{Drives, FitsOp, OwesAt}
 use Rattle.gl_driver.specs.Maps.{map_for}
 use Rattle.gl_driver.specs.Told.{Told, faults_after}
 use Rattle.gl_base.specs.declared.op.Op.{Op}
@@ -69,6 +70,10 @@ named_inside v place fd cmd len bytes part inside = record {
   named = λ p at. subst (λ q. IsInside v q) (ap (place_or p) at) inside;
   refused = λ p at. absurd (none_not_some p at);
 }
+
+-- after the ask of a command its tell is owed at the place of its file
+pub asked_here : (v w : OneView) (c : CommandIn) (reply : Reply) (old new : List ℕ) → CalledOnce core v (in_ask c) reply old new w → OwesAt core w c.place
+asked_here v w c reply old new step = owes_at core v w (deed_of v.number (in_ask c) reply step.wrote) c.place step.grew.mine (λ p at. sym (ap (place_or p) at))
 
 -- a call that is known as a part of a command
 pub as_part : (v w : OneView) (call part : Call) (reply : Reply) (old new : List ℕ) → call ≡ part → CalledOnce core v call reply old new w → CalledOnce core v part reply old new w

@@ -24,6 +24,7 @@ use gl_base::{Errno, Lines};
 use gl_core::{Core, Gift, Reply};
 use gl_driver::Driver;
 use gl_model::{CommandIn, is_driver_asked};
+use std::mem;
 use std::sync::Wait;
 
 impl<D: Driver<Core>> Gpio<D> {
@@ -59,8 +60,12 @@ impl<D: Driver<Core>> Gpio<D> {
             };
         }
         let op = request_op(gift);
-        let asked = DriverCommand { command, op: &op };
-        match self.driven_command(rt, actor, &asked, gift, out) {
+        let mut asked = DriverCommand {
+            command,
+            op: &op,
+            gift: mem::replace(gift, Gift::nothing()),
+        };
+        match self.driven_command(rt, actor, &mut asked, out) {
             Ok(reply) => Ok(Answered {
                 reply,
                 lines: lines_for(&op),
@@ -95,8 +100,12 @@ impl<D: Driver<Core>> Gpio<D> {
             None => self.whole_command(rt, actor, command, out),
             Some(op) => {
                 let op = Some(op);
-                let asked = DriverCommand { command, op: &op };
-                self.driven_command(rt, actor, &asked, &mut Gift::nothing(), out)
+                let mut asked = DriverCommand {
+                    command,
+                    op: &op,
+                    gift: Gift::nothing(),
+                };
+                self.driven_command(rt, actor, &mut asked, out)
             }
         }
     }

@@ -9,7 +9,7 @@ ghost use Rattle.gl_world.specs.Removal.{AllQuiet};
 ghost use Rattle.gl_gate.specs.Values.{IsPassOf};
 ghost use Rattle.gl_gate.specs.Calls.{IsInside, MayName};
 ghost use Rattle.gl_driver.specs.declared.map.Map.{Map};
-ghost use Rattle.gl_driver.specs.Calls.{Drives, FitsOp};
+ghost use Rattle.gl_driver.specs.Calls.{Drives, FitsOp, OwesAt};
 ghost use Rattle.gl_driver.specs.Maps.{map_for};
 ghost use Rattle.gl_driver.specs.Told.{faults_after};
 ghost use Rattle.gl_chip.specs.Steps.{CalledOnce, IsAsk, IsTell, Owes, StoodFull};
@@ -73,6 +73,7 @@ pub(crate) fn drive<M: Machine, D: Driver<M>, R: Wait>(
     requires inside { IsInside pass.old.view asked.now.place }
     requires alone { (p : ℕ) → IsInside pass.old.view p → p ≡ asked.now.place }
     requires owes { Owes M.Machine pass.old.view 1 }
+    requires asked_here { OwesAt M.Machine pass.old.view asked.now.place }
     requires op { FitsOp asked.now.op.now }
     requires quiet { (map : Option Map) (own : List (Entry M M.Call M.Reply M.Gift)) → D.OwnEntries map asked.now.op.now own → AllQuiet M.Machine own }
     ensures gate { IsPassOf gate.now pass.new }

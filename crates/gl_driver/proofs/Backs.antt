@@ -1,12 +1,15 @@
--- How calls of the gate inside a driver's call leave a pass.
-use Rattle.std.proofs.Common.{◌≡◌, ℕ, ◌<◌, sym, refl, ap, ◌∙◌, subst, arith, Bool}
-use Rattle.std.specs.Prelude.{cond}
+-- How calls of the gate inside a driver's call leave a pass, and where a pass owes a second entry.
+use Rattle.std.proofs.Common.{◌≡◌, ℕ, ◌<◌, sym, refl, ap, ◌∙◌, subst, arith, Bool, true, List, [], ◌∷◌, ◌++◌, Option, Some, None}
+use Rattle.std.specs.Prelude.{cond, IfSome}
 use Rattle.gl_world.specs.declared.machine.Machine.{Ghosts}
+use Rattle.gl_world.specs.declared.history.Entry.{Entry}
+use Rattle.gl_world.specs.Deeds.{Deed, entries_in}
 use Rattle.gl_world.specs.History.{owed}
 use Rattle.gl_rule.specs.declared.view.View.{View}
 use Rattle.gl_rule.specs.Sums.{times}
 use Rattle.gl_gate.specs.Calls.{KnowsAsMuch}
 use Rattle.gl_gate.proofs.Grown.{acts_are_deeds, grows_on, moves_do_nothing, refusals_do_nothing}
+use Rattle.gl_driver.specs.Calls.{OwesAt, last_of}
 use Rattle.gl_driver.specs.OwnEntries.{CallIsOwn, NothingIsNone, OneAfterAnother, RefusalIsNone}
 
 module _ {M C R G : Type 0} where
@@ -55,3 +58,23 @@ module _ {M C R G : Type 0} (m : Ghosts M C R G) where
     owed = b.owed ∙ a.owed;
     knows = record { closed = λ p h. b.knows.closed p (a.knows.closed p h); drained = λ p h. b.knows.drained p (a.knows.drained p h) };
   }
+
+last_of_more : {A : Type 0} (xs : List A) (x : A) → last_of (xs ++ x ∷ []) ≡ Some x
+last_of_more [] x = refl
+last_of_more (y ∷ []) x = refl
+last_of_more (y ∷ z ∷ zs) x = last_of_more (z ∷ zs) x
+
+module _ {M C R G : Type 0} (m : Ghosts M C R G) where
+  abbrev OwedAt : ℕ → Entry M C R G → Type 0
+  OwedAt place e = m.begins e.call e.reply ≡ true → (p : ℕ) → m.place_of e.call ≡ Some p → p ≡ place
+
+  -- a pass whose last deed is a call at this place
+  pub owes_at : (v w : View M C R G) (d : Deed M C R G) (place : ℕ) → w.mine ≡ v.mine ++ entries_in (d ∷ []) → ((p : ℕ) → m.place_of d.entry.call ≡ Some p → p ≡ place) → OwesAt m w place
+  owes_at v w d place mine named = subst (λ (l : List (Entry M C R G)). IfSome (last_of l) (OwedAt place)) (sym mine) (subst (λ (o : Option (Entry M C R G)). IfSome o (OwedAt place)) (sym (last_of_more v.mine d.entry)) (λ begins. named))
+
+  -- a machine whose calls name no place
+  pub owes_nowhere : (v : View M C R G) (place : ℕ) → ((c : C) → m.place_of c ≡ None) → OwesAt m v place
+  owes_nowhere v place none = by (last_of v.mine) where
+    by : (o : Option (Entry M C R G)) → IfSome o (OwedAt place)
+    by None = tt
+    by (Some e) = λ begins p at. let n = none e.call in cc

@@ -1,5 +1,5 @@
 -- What a call of a driver needs of a pass, and what it leaves of it.
-use Rattle.std.specs.Prelude.{◌≡◌, ℕ, ◌≤◌, List, length, Option}
+use Rattle.std.specs.Prelude.{◌≡◌, ℕ, ◌≤◌, true, List, [], ◌∷◌, length, Option, Some, None, IfSome}
 use Rattle.gl_base.specs.Lines.{IsLineCount}
 use Rattle.gl_world.specs.declared.machine.Machine.{Ghosts}
 use Rattle.gl_world.specs.declared.history.Entry.{Entry}
@@ -21,12 +21,22 @@ FitsOp (Get lines) = IsLineCount lines.count
 FitsOp (Set lines mask bits) = IsLineCount lines.count
 FitsOp (Apply lines settings) = IsLineCount lines.count × (settings.count ≡ lines.count)
 
+-- the last of some entries
+abbrev pub last_of : {A : Type 0} → List A → Option A
+last_of [] = None
+last_of (x ∷ []) = Some x
+last_of (x ∷ y ∷ ys) = last_of (y ∷ ys)
+
 module _ {M C R G : Type 0} (m : Ghosts M C R G) where
   -- a driver that makes entries of its own needs a gate of so many places, and a pass that owes one second entry at most and is inside no other place
   pub record MayMakeEntries (places : ℕ) (gate : GateValue) (v : View M C R G) (place : ℕ) : Type 0 where
     pub all_places : gate.places ≡ places
     pub owed : owes m v ≤ 1
     pub inside : (p : ℕ) → IsInside v p → p ≡ place
+
+  -- a pass whose last entry owes a second one owes that at this place, if at any
+  abbrev pub OwesAt : View M C R G → ℕ → Type 0
+  OwesAt v place = IfSome (last_of v.mine) (λ e. m.begins e.call e.reply ≡ true → (p : ℕ) → m.place_of e.call ≡ Some p → p ≡ place)
 
   -- the pass after a call of a driver in which it did this
   pub record IsBack (v : View M C R G) (did : List (Deed M C R G)) (w : View M C R G) : Type 0 where

@@ -9,7 +9,7 @@ ghost use Rattle.gl_base.specs.declared.op.Op.{Op};
 ghost use Rattle.gl_driver.specs.declared.map.Map.{Map};
 ghost use Rattle.gl_driver.specs.Maps.{map_for};
 ghost use Rattle.gl_driver.specs.Told.{Told, answer_of, planned_for, faults_after};
-ghost use Rattle.gl_driver.specs.Calls.{FitsOp, MayMakeEntries, Drives};
+ghost use Rattle.gl_driver.specs.Calls.{FitsOp, MayMakeEntries, Drives, OwesAt};
 
 use crate::op::DriverFault;
 use crate::port::Port;
@@ -19,7 +19,7 @@ use gl_world::Machine;
 use std::sync::Wait;
 
 /// What stands for a chip's hardware. It is asked by a pass that is inside the chip's place and holds no turn,
-/// so that calls of several passes run side by side. The design of drivers is this project's choice.
+/// so that calls of several passes run side by side. A pass that owes the tell of an ask asks the driver where it asked. The design of drivers is this project's choice.
 pub trait Driver<M: Machine>: Sync + Drop {
     /// What an actor asks it through.
     type Port: Port;
@@ -58,6 +58,7 @@ pub trait Driver<M: Machine>: Sync + Drop {
     ) -> Result<u64, DriverFault>
         requires gate { IsPassOf gate.now pass.old }
         requires inside { IsInside pass.old.view place }
+        requires asked_here { OwesAt M.Machine pass.old.view place }
         requires no_turn { HoldsNoTurn pass.old.view }
         requires op { FitsOp op.now }
         requires entries { Self.ENTRIES ≢ 0 → MayMakeEntries M.Machine PLACES gate.now pass.old.view place }

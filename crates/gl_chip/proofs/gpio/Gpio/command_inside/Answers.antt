@@ -10,11 +10,11 @@ use Rattle.gl_model.specs.declared.call.Call.{Call}
 use Rattle.gl_model.specs.declared.call.Part.TheVariants.{Ask, Tell}
 use Rattle.gl_chip.specs.DriverCommands.{IsOp}
 use Rattle.gl_chip.specs.Steps.{IsAsk, IsTell, Owes}
-use Rattle.gl_chip.proofs.CommandCalls.{as_part, ask_is_ask, asked_and_told, fits_after_go, fits_ask, fits_tell, go_left_buffer, named_inside, never_go, not_asked, tell_is_tell}
+use Rattle.gl_chip.proofs.CommandCalls.{as_part, ask_is_ask, asked_and_told, asked_here, fits_after_go, fits_ask, fits_tell, go_left_buffer, named_inside, never_go, not_asked, tell_is_tell}
 use Rattle.gl_chip.proofs.gpio.Gpio.command_inside.Goals as goal
 
 pub ask-requires-clause-fits : goal.ask-requires-clause-fits
-ask-requires-clause-fits g c κs within = subst (λ (x : Call). Fits x c.args.gift.now c.args.out.now) (sym c.in_part-asking.ensures.part) (fits_ask c.args.asked.now.command.now c.args.out.now c.args.gift.now c.requires.place c.requires.handed c.requires.brings)
+ask-requires-clause-fits g c κs within = subst (λ (x : Call). Fits x c.args.asked.now.gift c.args.out.now) (sym c.in_part-asking.ensures.part) (fits_ask c.args.asked.now.command.now c.args.out.now c.args.asked.now.gift c.requires.place c.requires.handed c.requires.brings)
 
 pub ask-requires-clause-ask : goal.ask-requires-clause-ask
 ask-requires-clause-ask g c κs within = subst (λ (x : Call). IsAsk core x) (sym c.in_part-asking.ensures.part) (ask_is_ask c.args.asked.now.command.now)
@@ -55,6 +55,9 @@ pub tell-requires-clause-named : goal.tell-requires-clause-named
 tell-requires-clause-named g c κs within = let command = c.args.asked.now.command.now in
     subst (λ (x : Call). MayName core c.drive-answer.new.pass.view x) (sym c.in_part-telling.ensures.part) (named_inside c.drive-answer.new.pass.view command.place command.fd command.cmd command.len command.bytes (Tell c.drive-answer.result)
     (subst (λ (l : List ℕ). 0 < times command.place l) (sym (c.drive-answer.ensures.drives.back.inside ∙ c.in-Ok.ensures.called.same.inside)) c.requires.inside))
+
+pub drive-answer-requires-clause-asked_here : goal.drive-answer-requires-clause-asked_here
+drive-answer-requires-clause-asked_here g c κs within = asked_here c.args.pass.now.view c.ask.new.pass.view c.args.asked.now.command.now c.in-Ok.reply c.args.out.now c.ask.new.out (as_part c.args.pass.now.view c.ask.new.pass.view c.in_part-asking.result (in_ask c.args.asked.now.command.now) c.in-Ok.reply c.args.out.now c.ask.new.out c.in_part-asking.ensures.part c.in-Ok.ensures.called)
 
 pub drive-answer-requires-clause-owes : goal.drive-answer-requires-clause-owes
 drive-answer-requires-clause-owes g c κs within = subst (λ (b : Bool). Owes core c.ask.new.pass.view (cond b 1 0)) (sym c.if-not-is_go.ensures) (subst (λ (x : Call). Owes core c.ask.new.pass.view (cond (core.begins x c.in-Ok.reply) 1 0)) c.in_part-asking.ensures.part c.in-Ok.ensures.owes)

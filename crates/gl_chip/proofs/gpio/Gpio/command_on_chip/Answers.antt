@@ -4,6 +4,8 @@ use Rattle.gl_base.specs.declared.lines.Lines.{Lines}
 use Rattle.gl_uapi.specs.declared.layout.TheConstants.{LINE_REQUEST_SIZE}
 use Rattle.gl_asking.specs.declared.kinds.FileKind.TheVariants.{Chip}
 use Rattle.gl_asking.specs.Driving.{op_for}
+use Rattle.gl_model.specs.Fits.{HoldsRequest}
+use Rattle.gl_model.specs.declared.gift.Gift.{Gift}
 use Rattle.gl_model.specs.declared.reply.Reply.{Reply}
 use Rattle.gl_chip.specs.DriverCommands.{HasCommanded}
 use Rattle.gl_chip.specs.Orders.{lines_on}
@@ -18,7 +20,7 @@ pub driven_command-requires-clause-asked : goal.driven_command-requires-clause-a
 driven_command-requires-clause-asked g c κs within = sym c.if-not-is_driver_asked.ensures
 
 pub driven_command-requires-clause-brings : goal.driven_command-requires-clause-brings
-driven_command-requires-clause-brings g c κs within = λ _. c.requires.brings c.requires.chip (sym c.if-not-is_driver_asked.ensures)
+driven_command-requires-clause-brings g c κs within = λ _. subst (λ (gift : Gift). HoldsRequest (take LINE_REQUEST_SIZE c.args.command.now.bytes) gift) (sym c.replace.ensures.value) (c.requires.brings c.requires.chip (sym c.if-not-is_driver_asked.ensures))
 
 pub driven_command-requires-clause-op : goal.driven_command-requires-clause-op
 driven_command-requires-clause-op g c κs within = op_goes c.args.command.now c.request_op-op.result (gets_line c.args.command.now c.requires.chip (sym c.if-not-is_driver_asked.ensures))
