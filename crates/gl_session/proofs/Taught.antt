@@ -19,7 +19,7 @@ use Rattle.gl_check.specs.Drivers.{DriverKind, over}
 use Rattle.gl_check.specs.Joining.{Maps, joined_at, learned, maps, maps_behind, no_maps, targets_in, taught, with_one}
 use Rattle.gl_check.specs.Turns.{Carried, Did, Follows, Said, Takes, Turn}
 use Rattle.gl_session.specs.OneActor.{CameAloneWith}
-use Rattle.gl_session.specs.Ports.{AllHave, AreAllThere, AreMaps, HasLearned, HasLearnedThem, IsTaught, LearnAbove, left_at, left_found, maps_of, maps_at, maps_found}
+use Rattle.gl_session.specs.Ports.{AllHave, AreAllThere, AreMaps, HasLearned, HasLearnedThem, IsTaught, LearnAbove, left_at, left_found, TakeMaps, maps_of, maps_at, maps_found}
 use Rattle.gl_session.specs.Workers.{is_found, there_at, told_at, told_found}
 use Rattle.gl_session.proofs.Mapped.{also_has, each_more, others_have}
 use Rattle.gl_session.proofs.PortPlaces.{all_found, all_put_back, found_all, get_other, get_set, there_got, there_same, told_got}
@@ -133,6 +133,21 @@ pub taught_none : {P : Type 0} (kept : P → List Map) (left : P → ℕ) (told 
 taught_none kept left told faults them none None new h = h
 taught_none kept left told faults them none (Some None) new h = h
 taught_none kept left told faults them none (Some (Some old)) new (port, is, learned) = is ∙ ap (λ p. Some (Some p)) (learned.none_same none)
+
+-- a port that is there
+found_there : {P : Type 0} (port : Option (Option P)) → is_found port ≡ true → (there : P) × (port ≡ Some (Some there))
+found_there None found = cc
+found_there (Some None) found = cc
+found_there (Some (Some there)) found = (there, refl)
+
+-- the first port has the maps of one that no actor has, which has none without an `aggregate`
+pub first_bare : {P : Type 0} (kept : P → List Map) (left : P → ℕ) (told : P → Option Told) (faults : P → ℕ) (sections : List SaidSection) (old new : List (Option P)) → AreAllThere old → AreAllThere new → TakeMaps kept left old
+    → has_aggregate sections ≡ false → LearnAbove kept left told faults 0 sections (no_maps (left_at left old 0)) old new → maps_at kept left new 0 ≡ no_maps (left_at left old 0)
+first_bare kept left told faults sections old new were are bare without learn =
+    let long = are.count in let first = found_there (slice_get new 0) (all_found new are.there 0 (omega arith)) in
+    let longer = were.count in let second = found_there (slice_get old 1) (all_found old were.there 1 (omega arith)) in
+    ap (maps_found kept left) first.1 ∙ learn.all_have 0 first.0 first.1
+    ∙ (sym (learn.all_have 1 second.0 (learn.stay without 1 (omega arith) ∙ second.1)) ∙ bare 1 second.0 second.1)
 
 -- ports that are the same by their numbers
 same_ports : {P : Type 0} (ports others : List (Option P)) → ((n : ℕ) → slice_get ports n ≡ slice_get others n) → ports ≡ others

@@ -5,9 +5,10 @@ ghost use Rattle.gl_script.specs.Script.{sections_of};
 ghost use Rattle.gl_script.specs.Section.{SaidSection, statements_of};
 ghost use Rattle.gl_script.specs.Sentence.{Sentence};
 ghost use Rattle.gl_check.specs.Drivers.{driver_kind};
+ghost use Rattle.gl_check.specs.Joining.{no_maps};
 ghost use Rattle.gl_chip.specs.Values.{IsQuietDriver};
 ghost use Rattle.gl_session.specs.Figures.{CameToFigures, CameToLoad, figures, statement_count};
-ghost use Rattle.gl_session.specs.Ports.{AreAllThere, OwnsNothing, TakeMaps};
+ghost use Rattle.gl_session.specs.Ports.{AreAllThere, OwnsNothing, TakeMaps, left_at, maps_at};
 ghost use Rattle.gl_session.specs.Workers.{told_at};
 
 use crate::ports::run_alone;
@@ -91,6 +92,7 @@ fn carry_bytes<R: Wait, D: Driver<Core>>(
     requires ports { AreAllThere ports.old }
     ensures came { IfOk result (λ out. CameToFigures (driver_kind D.ENTRIES D.is_planned D.OwnEntries D.Follows) bytes.now (told_at D.Port.told ports.old 0) (told_at D.Port.told ports.new 0) out.items) }
     ensures there { IfOk result (λ _. AreAllThere ports.new) }
+    ensures bare { IfOk result (λ _. maps_at D.Port.maps D.Port.maps_left ports.new 0 ≡ no_maps (left_at D.Port.maps_left ports.old 0)) }
     ensures others { drop 1 ports.new ≡ drop 1 ports.old }
     ensures memory_alone { IsOkUnless result Errno.NoMemory }
 {
@@ -124,6 +126,7 @@ pub fn carry_load<R: Wait, D: Driver<Core>>(
     requires ports { AreAllThere ports.old }
     ensures came { IfOk result (λ out. CameToLoad (driver_kind D.ENTRIES D.is_planned D.OwnEntries D.Follows) turns (told_at D.Port.told ports.old 0) (told_at D.Port.told ports.new 0) out.items) }
     ensures there { IfOk result (λ _. AreAllThere ports.new) }
+    ensures bare { IfOk result (λ _. maps_at D.Port.maps D.Port.maps_left ports.new 0 ≡ no_maps (left_at D.Port.maps_left ports.old 0)) }
     ensures others { drop 1 ports.new ≡ drop 1 ports.old }
     ensures memory_alone { IsOkUnless result Errno.NoMemory }
 {

@@ -7,6 +7,7 @@ ghost use Rattle.gl_script.specs.Section.{SaidSection};
 ghost use Rattle.gl_script.specs.Sentence.{Sentence, first_fault};
 ghost use Rattle.gl_words.specs.Words.{asks, texts};
 ghost use Rattle.gl_check.specs.Drivers.{driver_kind, over};
+ghost use Rattle.gl_check.specs.Joining.{no_maps};
 ghost use Rattle.gl_chip.specs.Values.{IsQuietDriver};
 ghost use Rattle.gl_session.specs.Figures.{CameToLoad, HasWrittenLoad};
 ghost use Rattle.gl_session.specs.Ports.{AreAllThere, OthersLearn, OwnsNothing, TakeMaps, left_at, maps_at};
@@ -147,11 +148,13 @@ pub fn run<R: Threads + Wait + Sync, S: Source, K: Sink, D: Driver<Core>>(
         (result ≡ Status.Ran) ⊎ (result ≡ Status.NoMemory)) }
 
     // All ports are there again except when out of memory. Once a session ran all of them keep the same maps, those that an `aggregate` taught the
-    // first one. Those of numbers that no actor has learned these alone, and are as they were without an `aggregate`; and so are all where nothing ran.
+    // first one. Those of numbers that no actor has learned these alone, and are as they were without an `aggregate`; and so are all where nothing ran. A load teaches
+    // the first one none.
     ensures ports_there { result ≢ Status.NoMemory → AreAllThere ports.new }
     ensures other_ports { result ≢ Status.NoMemory → words.now ≡ [] → IfSome (S.left source.old) (λ input.
         (sections : List SaidSection) → Sentence input sections → OthersLearn D.Port.maps D.Port.maps_left D.Port.told D.Port.faults sections ports.old ports.new) }
     ensures load_ports { (n : ℕ) → asks (texts words.now) ≡ Some (Task.Load n) → drop 1 ports.new ≡ drop 1 ports.old }
+    ensures load_maps { result ≢ Status.NoMemory → (n : ℕ) → asks (texts words.now) ≡ Some (Task.Load n) → maps_at D.Port.maps D.Port.maps_left ports.new 0 ≡ no_maps (left_at D.Port.maps_left ports.old 0) }
     ensures check_ports { asks (texts words.now) ≡ Some Task.Check → ports.new ≡ ports.old }
     ensures usage_ports { asks (texts words.now) ≡ None → ports.new ≡ ports.old }
     ensures read_fault_ports { result ≡ Status.ReadFault → ports.new ≡ ports.old }
@@ -245,6 +248,7 @@ fn run_load<R: Wait, K: Sink, D: Driver<Core>>(
         × AppendsFront (K.held sink.old) (K.held sink.new) text }
     ensures no_memory { result ≡ Status.NoMemory → sink.new ≡ sink.old }
     ensures ports_there { result ≢ Status.NoMemory → AreAllThere ports.new }
+    ensures bare { result ≢ Status.NoMemory → maps_at D.Port.maps D.Port.maps_left ports.new 0 ≡ no_maps (left_at D.Port.maps_left ports.old 0) }
     ensures other_ports { drop 1 ports.new ≡ drop 1 ports.old }
 {
     match carry_load(rt, alloc, turns, driver, ports) {
