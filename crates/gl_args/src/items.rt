@@ -37,7 +37,7 @@ pub(crate) struct Step<'a> {
 }
 
 /// What a word is, before `--` and where no value is wanted.
-#[derive(Clone, Copy, Debug)]
+#[derive(Clone, Copy)]
 pub(crate) enum WordKind {
     /// `--`.
     Ends,

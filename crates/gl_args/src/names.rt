@@ -4,7 +4,7 @@ ghost use Rattle.std.specs.Prelude.{◌≡◌, find, option_copied};
 ghost use Rattle.gl_args.specs.Names.{tool_text, is_named, tool_named, is_tool_detect, finds_lines, requests_lines, prints_names, is_monitor, is_tool_get, is_tool_set, is_tool_watch, is_tool_notify, long_name, short_name, takes_value, has_option, is_long, is_short};
 
 /// A tool, by its name.
-#[derive(Clone, Copy, Debug)]
+#[derive(Clone, Copy)]
 pub enum ToolName {
     /// gpiodetect.
     Detect,
@@ -31,7 +31,7 @@ pub const TOOLS: [ToolName; 6] = [
 ];
 
 /// An option of a tool.
-#[derive(Clone, Copy, Debug)]
+#[derive(Clone, Copy)]
 pub enum OptionName {
     /// The chip.
     Chip,

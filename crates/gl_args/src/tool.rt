@@ -18,7 +18,7 @@ use gl_base::{ByteList, Name, flag};
 use std::alloc::Global;
 
 /// A tool with its options.
-#[derive(Drop, Debug)]
+#[derive(Drop)]
 pub enum Tool {
     /// gpiodetect with its chip words, 0 to 16.
     Detect(Vec<Name>),
@@ -35,7 +35,7 @@ pub enum Tool {
 }
 
 /// The options of a tool, each as it was given, or as it is where it isn't.
-#[derive(Drop, Debug)]
+#[derive(Drop)]
 pub struct Opts {
     /// The word of the chip.
     pub chip: Option<Name>,

@@ -5,7 +5,7 @@ ghost use Rattle.gl_bank.specs.Level.{flipped, lets_go, level, change_between, b
 use gl_base::{Settings, flag, has_bit};
 
 /// What drives a line, and how it is configured.
-#[derive(Clone, Copy, PartialEq, Eq, Debug)]
+#[derive(Clone, Copy, PartialEq, Eq)]
 pub struct Levels {
     /// A request or a hog holds the line.
     pub held: bool,
@@ -22,7 +22,7 @@ pub struct Levels {
 }
 
 /// A change of a line's physical level.
-#[derive(Clone, Copy, PartialEq, Eq, Debug)]
+#[derive(Clone, Copy, PartialEq, Eq)]
 pub struct Change {
     /// The level rose; else it fell.
     pub rose: bool,

@@ -2,7 +2,7 @@
 
 /// What a call does with the interrupt of a line (the kernel's document on GPIO drivers, locking of
 /// lines as interrupts). The refusals are this project's choice.
-#[derive(Clone, Copy, PartialEq, Eq, Debug)]
+#[derive(Clone, Copy, PartialEq, Eq)]
 pub enum IrqDo {
     /// Locks the line as an interrupt and enables it.
     Lock,

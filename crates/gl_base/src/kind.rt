@@ -1,7 +1,7 @@
 //! Whether a chip is simulated.
 
 /// What stands behind a chip.
-#[derive(Clone, Copy, PartialEq, Eq, Debug)]
+#[derive(Clone, Copy, PartialEq, Eq)]
 pub enum Kind {
     /// A chip of gpio-sim: its pulls are written by the user.
     Simulated,

@@ -7,7 +7,7 @@ use crate::limits::LINES_PER_REQUEST;
 ///
 /// `count` is from 1 to 64 wherever a call takes or gives a value of this type, and the lines are the
 /// first `count` of `offsets`. The others mean nothing.
-#[derive(Clone, Copy, PartialEq, Eq, Debug)]
+#[derive(Clone, Copy, PartialEq, Eq)]
 pub struct Lines {
     /// How many lines there are.
     pub count: u32,

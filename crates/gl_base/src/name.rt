@@ -12,7 +12,7 @@ use std::marker::Model;
 ///
 /// It is the text of a name field of `linux/gpio.h`, where a field has 32 bytes and ends with at least
 /// one 0.
-#[derive(Clone, Copy, Debug)]
+#[derive(Clone, Copy)]
 pub struct Name {
     len: u8,
     bytes: [u8; 32],

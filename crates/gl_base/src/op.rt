@@ -6,7 +6,7 @@ use crate::settings::Resolved;
 /// What a driver is asked to do with lines of its chip. Bit `i` of a mask and of bits is the `i`-th of the
 /// lines, counted from 0. These are the calls `get_multiple`, `set_multiple` and `set_config` of the
 /// kernel's GPIO drivers.
-#[derive(Clone, Copy, PartialEq, Eq, Debug)]
+#[derive(Clone, Copy, PartialEq, Eq)]
 pub enum Op {
     /// Tell the levels of lines. The answer is their bits.
     Get {

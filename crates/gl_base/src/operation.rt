@@ -11,7 +11,7 @@ use crate::pin::PinDo;
 
 /// What a client asks of the device. A client names an open file by a slot of its own choice; who carries the
 /// operations out keeps the files by their slots.
-#[derive(Clone, Copy, Debug)]
+#[derive(Clone, Copy)]
 pub enum Do {
     /// Makes a simulated chip of this label with so many lines, 1 to 512. Its result is the chip's place.
     Probe {
@@ -154,7 +154,7 @@ pub enum Do {
 }
 
 /// What an operation is answered.
-#[derive(Drop, Debug)]
+#[derive(Drop)]
 pub enum Got {
     /// It was done, and there is nothing to tell.
     Done,

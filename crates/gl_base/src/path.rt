@@ -9,7 +9,7 @@ use std::marker::Model;
 /// bytes.
 ///
 /// The length is this project's choice.
-#[derive(Clone, Copy, Debug)]
+#[derive(Clone, Copy)]
 pub struct Path {
     len: u8,
     bytes: [u8; 127],

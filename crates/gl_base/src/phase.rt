@@ -4,7 +4,7 @@
 ///
 /// The phases are this project's choice. They follow a chip of the kernel's GPIO drivers from its
 /// registration to the end of its removal.
-#[derive(Clone, Copy, PartialEq, Eq, Debug)]
+#[derive(Clone, Copy, PartialEq, Eq)]
 pub enum Phase {
     /// No chip was made at this place yet.
     Absent,

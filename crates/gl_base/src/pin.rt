@@ -2,7 +2,7 @@
 
 /// What a call does with the pins of a chip (the kernel's document on GPIO drivers, pin ranges). The
 /// refusals are this project's choice.
-#[derive(Clone, Copy, PartialEq, Eq, Debug)]
+#[derive(Clone, Copy, PartialEq, Eq)]
 pub enum PinDo {
     /// Maps `count` offsets from `offset` on to as many pins from `pin` on.
     Range {

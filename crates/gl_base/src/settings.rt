@@ -3,7 +3,7 @@
 use crate::limits::LINES_PER_REQUEST;
 
 /// How one line is configured.
-#[derive(Clone, Copy, PartialEq, Eq, Debug)]
+#[derive(Clone, Copy, PartialEq, Eq)]
 pub struct Settings {
     /// The line's flags (`linux/gpio.h`, `GPIO_V2_LINE_FLAG_*`).
     pub flags: u64,
@@ -17,7 +17,7 @@ pub struct Settings {
 ///
 /// `count` is from 1 to 64 wherever a call takes or gives a value of this type, and the settings are the
 /// first `count` of `lines`. The others mean nothing.
-#[derive(Clone, Copy, PartialEq, Eq, Debug)]
+#[derive(Clone, Copy, PartialEq, Eq)]
 pub struct Resolved {
     /// How many lines there are.
     pub count: u32,

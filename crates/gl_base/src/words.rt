@@ -18,7 +18,7 @@ pub fn split_first(bytes: &[u8], cut: u8) -> (&[u8], Option<&[u8]>)
 }
 
 /// A word of a line, and what is left of the line behind it.
-#[derive(Clone, Copy, Debug)]
+#[derive(Clone, Copy)]
 pub struct Found<'a> {
     /// Where the word begins.
     pub at: usize,

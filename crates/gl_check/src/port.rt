@@ -10,7 +10,7 @@ ghost use Rattle.gl_check.specs.Seating.{port_in};
 use gl_base::count_up;
 
 /// How many calls of the driver there were, the one that is to fail, by its number among them, counted from 1, and the accepted bits.
-#[derive(Clone, Copy, Debug)]
+#[derive(Clone, Copy)]
 pub struct Planned {
     /// How many there were.
     pub calls: u64,

@@ -3,7 +3,7 @@
 use gl_base::{ByteList, Do};
 
 /// What a client of the device does next. Which it is, is said by its program (`specs/Program`).
-#[derive(Drop, Debug)]
+#[derive(Drop)]
 pub enum Next {
     /// It asks for this operation, and waits for its result.
     Call(Do),

@@ -17,7 +17,7 @@ use gl_desc::Descs;
 use gl_model::Reply;
 
 /// Lines that were found: the first by place and offset, and how many there are.
-#[derive(Clone, Copy, PartialEq, Eq, Debug)]
+#[derive(Clone, Copy, PartialEq, Eq)]
 pub struct LinesFound {
     /// The first line.
     pub first: Option<(u8, u32)>,

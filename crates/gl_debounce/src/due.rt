@@ -6,7 +6,7 @@ ghost use Rattle.gl_debounce.specs.Order.{rank};
 use crate::timer::TABLE_SIZE;
 
 /// A line that is to settle.
-#[derive(Clone, Copy, PartialEq, Eq, Debug)]
+#[derive(Clone, Copy, PartialEq, Eq)]
 pub(crate) struct Due {
     /// When it is to settle, in nanoseconds of the monotonic clock.
     pub(crate) deadline: u64,

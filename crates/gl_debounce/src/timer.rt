@@ -10,7 +10,7 @@ use gl_base::{LINES_MAX, PLACES};
 pub(crate) const TABLE_SIZE: u32 = PLACES as u32 * LINES_MAX;
 
 /// What is kept of a line that is debounced.
-#[derive(Clone, Copy, PartialEq, Eq, Debug)]
+#[derive(Clone, Copy, PartialEq, Eq)]
 pub struct Timer {
     /// The line's level.
     pub raw: bool,
@@ -23,7 +23,7 @@ pub struct Timer {
 }
 
 /// The levels of a line that is debounced: its timer but for the deadline.
-#[derive(Clone, Copy, PartialEq, Eq, Debug)]
+#[derive(Clone, Copy, PartialEq, Eq)]
 pub(crate) struct TimerLevels {
     /// The line's level.
     pub(crate) raw: bool,
@@ -34,7 +34,7 @@ pub(crate) struct TimerLevels {
 }
 
 /// A line whose level has settled.
-#[derive(Clone, Copy, PartialEq, Eq, Debug)]
+#[derive(Clone, Copy, PartialEq, Eq)]
 pub struct Fired {
     /// The place of its chip.
     pub place: u8,

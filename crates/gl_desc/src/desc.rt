@@ -5,7 +5,7 @@ ghost use Rattle.gl_desc.specs.Desc.{is_free, settled_holder};
 use gl_base::Name;
 
 /// Who has a line.
-#[derive(Clone, Copy, PartialEq, Eq, Debug)]
+#[derive(Clone, Copy, PartialEq, Eq)]
 pub enum Holder {
     /// Nobody.
     Free,
@@ -18,7 +18,7 @@ pub enum Holder {
 }
 
 /// What is wrong with a line of a request.
-#[derive(Clone, Copy, PartialEq, Eq, Debug)]
+#[derive(Clone, Copy, PartialEq, Eq)]
 pub enum LineFault {
     /// The offset is at or past the number of lines.
     BadOffset,
@@ -27,7 +27,7 @@ pub enum LineFault {
 }
 
 /// One line: its name, and who has it.
-#[derive(Clone, Copy, PartialEq, Eq, Debug)]
+#[derive(Clone, Copy, PartialEq, Eq)]
 pub struct Desc {
     /// The line's name (`linux/gpio.h`, `struct gpio_v2_line_info`).
     pub name: Name,

@@ -3,7 +3,7 @@
 use gl_base::Name;
 
 /// How a hogged line is held (gpio-sim, `hog/direction`).
-#[derive(Clone, Copy, PartialEq, Eq, Debug)]
+#[derive(Clone, Copy, PartialEq, Eq)]
 pub enum HogWay {
     /// `input`
     Input,
@@ -14,7 +14,7 @@ pub enum HogWay {
 }
 
 /// A line that the board itself holds (gpio-sim, `hog`).
-#[derive(Clone, Copy, PartialEq, Eq, Debug)]
+#[derive(Clone, Copy, PartialEq, Eq)]
 pub struct Hog {
     /// The line's offset on its chip.
     pub offset: u32,

@@ -3,7 +3,7 @@
 use gl_base::Lines;
 
 /// A request at a place, with the lines that it holds there.
-#[derive(Clone, Copy, PartialEq, Eq, Debug)]
+#[derive(Clone, Copy, PartialEq, Eq)]
 pub struct Target {
     /// The place of its chip.
     pub place: u8,
@@ -15,7 +15,7 @@ pub struct Target {
 
 /// What the lines of the chip at a place stand for: those of its targets, joined in order. It has 1 to 4 targets, the first
 /// `count` of these.
-#[derive(Clone, Copy, PartialEq, Eq, Debug)]
+#[derive(Clone, Copy, PartialEq, Eq)]
 pub struct Map {
     /// The place of the chip.
     pub place: u8,

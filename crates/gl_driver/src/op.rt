@@ -3,11 +3,11 @@
 use gl_base::Op;
 
 /// The driver failed. Its port has counted the failure.
-#[derive(Clone, Copy, PartialEq, Eq, Debug)]
+#[derive(Clone, Copy, PartialEq, Eq)]
 pub struct DriverFault;
 
 /// One call of a driver.
-#[derive(Clone, Copy, PartialEq, Eq, Debug)]
+#[derive(Clone, Copy, PartialEq, Eq)]
 pub struct DriverCall {
     /// What it was asked.
     pub op: Op,

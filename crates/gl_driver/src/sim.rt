@@ -135,7 +135,7 @@ impl SimPort {
 
 /// A driver without hardware: it never waits, answers an `Apply` with its port's accepted bits and all else with 0, and
 /// fails as its port plans.
-#[derive(Clone, Copy, Debug)]
+#[derive(Clone, Copy)]
 pub struct SimDriver;
 
 impl SimDriver {

@@ -8,7 +8,7 @@ use bitflags::{Flag, Flags, bitflag_items};
 use gl_base::flag;
 
 /// A set of a line's flags: bit `N` of the word is the flag of that number in `gl_base::flag`.
-#[derive(Clone, Copy, PartialEq, Eq, Debug)]
+#[derive(Clone, Copy, PartialEq, Eq)]
 pub struct LineFlags(u64);
 
 bitflag_items! {

@@ -1,7 +1,7 @@
 //! Calls of the adder.
 
 /// A call alone, or the first or the second of two.
-#[derive(Copy, Clone, PartialEq, Eq, Debug)]
+#[derive(Copy, Clone, PartialEq, Eq)]
 pub enum AdderCall {
     Alone,
     First,

@@ -1,7 +1,7 @@
 //! Calls on the house.
 
 /// What a pass does at the house.
-#[derive(Copy, Clone, PartialEq, Eq, Debug)]
+#[derive(Copy, Clone, PartialEq, Eq)]
 pub enum Errand {
     /// Works inside.
     Work,
@@ -14,7 +14,7 @@ pub enum Errand {
 }
 
 /// What the house answers.
-#[derive(Copy, Clone, PartialEq, Eq, Debug)]
+#[derive(Copy, Clone, PartialEq, Eq)]
 pub enum Answer {
     Done,
     Busy,

@@ -5,7 +5,7 @@ ghost use Rattle.gl_irq.specs.Irq.{is_push_pull, refusal, done};
 use gl_base::{Errno, IrqDo};
 
 /// The interrupt of a line.
-#[derive(Clone, Copy, PartialEq, Eq, Debug)]
+#[derive(Clone, Copy, PartialEq, Eq)]
 pub struct Irq {
     /// The line has an interrupt.
     pub has: bool,
@@ -16,7 +16,7 @@ pub struct Irq {
 }
 
 /// How the line of an interrupt stands.
-#[derive(Clone, Copy, PartialEq, Eq, Debug)]
+#[derive(Clone, Copy, PartialEq, Eq)]
 pub struct IrqLine {
     /// A request that isn't finished has the line.
     pub claimed: bool,

@@ -16,7 +16,7 @@ use gl_client::Next;
 use std::alloc::Global;
 
 /// Where it stands.
-#[derive(Clone, Copy, Debug)]
+#[derive(Clone, Copy)]
 pub enum FinderStage {
     /// The chip that was named is being opened.
     OpeningNamed,
@@ -41,7 +41,7 @@ pub enum FinderStage {
 /// What finds the lines of a tool: the first part of gpioget, gpioset, gpiomon and gpionotify. At its end the tool's
 /// request is open in the slot `made`, or for gpionotify, which requests none, the chip in the slot `base`; or
 /// nothing is, where a refusal was printed.
-#[derive(Drop, Debug)]
+#[derive(Drop)]
 pub struct Finder {
     /// The tool.
     pub tool: ToolName,

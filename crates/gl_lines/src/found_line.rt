@@ -7,7 +7,7 @@ use gl_base::{Errno, Name};
 use std::alloc::Global;
 
 /// A line that a tool found.
-#[derive(Clone, Copy, Debug)]
+#[derive(Clone, Copy)]
 pub struct FoundLine {
     /// Its chip's place; 0 where the line was given by its offset on the chip that was named.
     pub place: u8,

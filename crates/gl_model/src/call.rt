@@ -6,7 +6,7 @@ use gl_base::{IrqDo, Kind, Name, Path, PinDo};
 /// after the driver's answer it is told. Every other command is whole.
 ///
 /// This is this project's choice.
-#[derive(Clone, Copy, PartialEq, Eq, Debug)]
+#[derive(Clone, Copy, PartialEq, Eq)]
 pub enum Part {
     /// The command needs no driver.
     Whole,

@@ -20,7 +20,7 @@ pub struct Place {
 }
 
 /// Where a chip comes from, and who takes it away.
-#[derive(Clone, Copy, PartialEq, Eq, Debug)]
+#[derive(Clone, Copy, PartialEq, Eq)]
 pub struct Origin {
     /// Whether the chip is simulated.
     pub kind: Kind,

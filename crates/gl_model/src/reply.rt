@@ -3,7 +3,7 @@
 use gl_base::{Errno, Name};
 
 /// The reply to a call.
-#[derive(Clone, Copy, PartialEq, Eq, Debug)]
+#[derive(Clone, Copy, PartialEq, Eq)]
 pub enum Reply {
     /// The call was done.
     Done,

@@ -8,7 +8,7 @@ use gl_uapi::{ChangedRef, Event, EventsRef};
 use std::alloc::Global;
 
 /// What a monitor prints: an edge of a line, or a change of one.
-#[derive(Clone, Copy, PartialEq, Eq, Debug)]
+#[derive(Clone, Copy, PartialEq, Eq)]
 pub struct Item {
     /// When it came, in nanoseconds.
     pub time: u64,

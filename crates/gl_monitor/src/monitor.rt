@@ -16,7 +16,7 @@ use gl_lines::{Finder, failed_line, info_sent};
 use std::alloc::Global;
 
 /// Where a monitor stands.
-#[derive(Clone, Copy, Debug)]
+#[derive(Clone, Copy)]
 pub enum MonitorStage {
     /// Before its beginning.
     Begin,
@@ -49,7 +49,7 @@ pub enum MonitorStage {
 }
 
 /// gpiomon or gpionotify, as a client of the device: its program is that of its tool.
-#[derive(Drop, Debug)]
+#[derive(Drop)]
 pub struct Monitor {
     /// What finds its lines.
     pub finder: Finder,

@@ -3,7 +3,7 @@ ghost use Rattle.std.specs.Prelude.{◌≡◌, ◌+◌, ◌^◌, ◌<◌, IsTrue
 ghost use Rattle.gl_pins.specs.PinRange.{is_among, has_pin, has_offset, offset_in, pin_in, stretches_overlap, overlap};
 
 /// A range maps `count` lines from `offset` on to as many pins from `pin` on, in order.
-#[derive(Clone, Copy, PartialEq, Eq, Debug)]
+#[derive(Clone, Copy, PartialEq, Eq)]
 pub struct PinRange {
     /// The first line's offset.
     pub offset: u32,

@@ -8,7 +8,7 @@ use std::alloc::Global;
 use std::marker::Model;
 
 /// One chip.
-#[derive(Clone, Copy, PartialEq, Eq, Debug)]
+#[derive(Clone, Copy, PartialEq, Eq)]
 pub struct Chip {
     /// What the chip is labelled (`linux/gpio.h`, `struct gpiochip_info`).
     pub label: Name,

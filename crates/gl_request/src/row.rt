@@ -10,7 +10,7 @@ use gl_uapi::Event;
 use gl_uapi::layout::{EVENT_FALLING, EVENT_RISING};
 
 /// What a request begins as.
-#[derive(Clone, Copy, PartialEq, Eq, Debug)]
+#[derive(Clone, Copy, PartialEq, Eq)]
 pub struct Claim {
     /// The number of the request's file.
     pub fd: u32,
@@ -25,7 +25,7 @@ pub struct Claim {
 }
 
 /// A request where it stands in the table, as a look-up found it. It stands there until a request is taken out.
-#[derive(Clone, Copy, PartialEq, Eq, Debug)]
+#[derive(Clone, Copy, PartialEq, Eq)]
 pub struct RequestAt {
     /// The number of the request's file.
     pub fd: u32,

@@ -19,7 +19,7 @@ use crate::table::Form;
 use gl_base::{Found, IrqDo, Name, Path, command_number, next_word};
 
 /// What is left of a statement's line.
-#[derive(Clone, Copy, Debug)]
+#[derive(Clone, Copy)]
 pub struct Cursor<'a> {
     /// Where the word before ends.
     pub end: usize,

@@ -14,7 +14,7 @@ use gl_base::{IrqDo, Name, Path, are_label_bytes, chip_number, command_number, r
 const CHIP_MAX: u64 = 63;
 
 /// What is done with the pins of a chip, by the word behind `pin`.
-#[derive(Clone, Copy, PartialEq, Eq, Debug)]
+#[derive(Clone, Copy, PartialEq, Eq)]
 pub enum PinWord {
     /// `range`.
     Range,

@@ -2,7 +2,7 @@
 ghost use Rattle.std.specs.Prelude.{◌≡◌};
 
 /// What is at fault in a text that is no session. The kinds are this project's choice.
-#[derive(Clone, Copy, PartialEq, Eq, Debug)]
+#[derive(Clone, Copy, PartialEq, Eq)]
 pub enum RefusalKind {
     /// The text has more than 1,048,576 bytes.
     TooLong,
@@ -52,7 +52,7 @@ impl RefusalKind {
 }
 
 /// A fault of a line: its column and what is at fault.
-#[derive(Clone, Copy, PartialEq, Eq, Debug)]
+#[derive(Clone, Copy, PartialEq, Eq)]
 pub struct Spot {
     /// The column, in bytes counted from 1.
     pub column: u32,
@@ -61,7 +61,7 @@ pub struct Spot {
 }
 
 /// The first fault of a text. Line and column are 0 where the whole text is at fault, and where memory is wanted.
-#[derive(Clone, Copy, PartialEq, Eq, Debug)]
+#[derive(Clone, Copy, PartialEq, Eq)]
 pub struct Refusal {
     /// The line, counted from 1.
     pub line: u32,

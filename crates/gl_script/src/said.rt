@@ -8,7 +8,7 @@ use gl_base::{IrqDo, Name, Path, PinDo};
 /// What a statement says, one variant a statement: each word that is given to the device, or that something is called by from then
 /// on, is here as what it means. The words of tools, the pieces of a command and the name of a file that is there already stand for
 /// themselves (`Statement::word`).
-#[derive(Clone, Copy, Debug)]
+#[derive(Clone, Copy)]
 pub enum Said {
     /// `probe LABEL N`.
     Probe {

@@ -8,7 +8,7 @@ use crate::said::Said;
 use gl_base::nth_word;
 
 /// The kind of a section.
-#[derive(Clone, Copy, PartialEq, Eq, Debug)]
+#[derive(Clone, Copy, PartialEq, Eq)]
 pub enum SectionKind {
     /// `setup`, which comes first.
     Setup,
@@ -19,7 +19,7 @@ pub enum SectionKind {
 }
 
 /// The head of a section.
-#[derive(Clone, Copy, Debug)]
+#[derive(Clone, Copy)]
 pub enum Head<'a> {
     /// `setup`.
     Setup,
@@ -30,7 +30,7 @@ pub enum Head<'a> {
 }
 
 /// A statement: the line of the source that it stands in, and what its words say, which were read once.
-#[derive(Clone, Copy, Debug)]
+#[derive(Clone, Copy)]
 pub struct Statement<'a> {
     pub(crate) at: usize,
     pub(crate) line: &'a [u8],

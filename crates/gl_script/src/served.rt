@@ -16,7 +16,7 @@ use crate::version::Version;
 use gl_base::{Found, next_word};
 
 /// How far such a session has come.
-#[derive(Clone, Copy, PartialEq, Eq, Debug)]
+#[derive(Clone, Copy, PartialEq, Eq)]
 pub enum Stage {
     /// `session 1` or `session 2` is still to come.
     Opening,
@@ -27,7 +27,7 @@ pub enum Stage {
 }
 
 /// What a line is.
-#[derive(Clone, Copy, Debug)]
+#[derive(Clone, Copy)]
 pub enum LineKind {
     /// It is passed over.
     Passed,

@@ -7,7 +7,7 @@ use crate::initials::beginning_with;
 use crate::version::Version;
 
 /// The form of a word.
-#[derive(Clone, Copy, PartialEq, Eq, Debug)]
+#[derive(Clone, Copy, PartialEq, Eq)]
 pub enum Form {
     /// NAME: 1 to 15 letters, digits, `_`, `-`, `.`.
     FileName,
@@ -34,7 +34,7 @@ pub enum Form {
 }
 
 /// The word that a statement begins with.
-#[derive(Clone, Copy, PartialEq, Eq, Debug)]
+#[derive(Clone, Copy, PartialEq, Eq)]
 pub enum Keyword {
     /// `probe`.
     Probe,

@@ -3,7 +3,7 @@
 use gl_script::Spot;
 
 /// What a line is answered.
-#[derive(Clone, Copy, PartialEq, Eq, Debug)]
+#[derive(Clone, Copy, PartialEq, Eq)]
 pub enum Answer {
     /// It is accepted, and prints a text.
     Text,

@@ -10,7 +10,7 @@ use gl_script::{LineKind, Spot, Stage};
 use std::alloc::Global;
 
 /// The question that a line is.
-#[derive(Clone, Copy, PartialEq, Eq, Debug)]
+#[derive(Clone, Copy, PartialEq, Eq)]
 pub enum Question {
     /// None: it is a line of the session.
     Nothing,

@@ -11,7 +11,7 @@ use std::alloc::Global;
 const CHUNK: usize = 4096;
 
 /// Why a source was not read through.
-#[derive(Clone, Copy, Debug, PartialEq, Eq)]
+#[derive(Clone, Copy, PartialEq, Eq)]
 pub enum ReadError {
     /// A read failed.
     Fault,

@@ -7,7 +7,7 @@ use gl_base::Errno;
 use gl_script::{Refusal, RefusalKind};
 
 /// What an input of a check is judged to be: the first of these that holds.
-#[derive(Clone, Copy, Debug, PartialEq, Eq)]
+#[derive(Clone, Copy, PartialEq, Eq)]
 pub enum Verdict {
     /// It has too many bytes.
     TooLong,

@@ -5,7 +5,7 @@ use gl_served::Served;
 use std::alloc::Global;
 
 /// How a line came to its answer.
-#[derive(Clone, Copy, Debug)]
+#[derive(Clone, Copy)]
 pub enum Given {
     /// At once.
     Once,

@@ -12,7 +12,7 @@ use std::sync::Wait;
 use std::thread::Threads;
 
 /// How a session runs whose actors meet in the driver.
-#[derive(Clone, Copy, Debug)]
+#[derive(Clone, Copy)]
 pub struct Meeting<'a> {
     /// How many calls of the driver are there before it answers the first.
     pub calls: u32,
@@ -23,7 +23,7 @@ pub struct Meeting<'a> {
 }
 
 /// What is told of what a run wrote.
-#[derive(Clone, Copy, Debug)]
+#[derive(Clone, Copy)]
 pub enum Front<'a> {
     /// So many bytes.
     Bytes(u32),

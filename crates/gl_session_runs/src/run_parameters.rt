@@ -4,7 +4,7 @@ ghost use Rattle.std.specs.Prelude.{◌<◌, IfSome};
 use gl_base::{read_decimal, split_first};
 
 /// How a run goes.
-#[derive(Clone, Copy, Debug)]
+#[derive(Clone, Copy)]
 pub struct RunParameters<'a> {
     /// How many bytes a call moves at most.
     pub piece: u32,

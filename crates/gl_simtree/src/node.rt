@@ -4,7 +4,7 @@ ghost use Rattle.std.specs.Prelude.{◌≡◌};
 use gl_base::Name;
 
 /// A directory of the tree, by the parts of its path.
-#[derive(Clone, Copy, PartialEq, Eq, Debug)]
+#[derive(Clone, Copy, PartialEq, Eq)]
 pub enum Directory {
     /// `DEV`: a device.
     Device { device: Name },
@@ -17,7 +17,7 @@ pub enum Directory {
 }
 
 /// A file of a directory.
-#[derive(Clone, Copy, PartialEq, Eq, Debug)]
+#[derive(Clone, Copy, PartialEq, Eq)]
 pub enum File {
     /// `live` of a device: whether its chips are there.
     Live,
@@ -36,7 +36,7 @@ pub enum File {
 }
 
 /// What a path names.
-#[derive(Clone, Copy, PartialEq, Eq, Debug)]
+#[derive(Clone, Copy, PartialEq, Eq)]
 pub enum Node {
     /// A directory.
     Directory(Directory),

@@ -6,7 +6,7 @@ use gl_base::Name;
 use gl_desc::HogWay;
 
 /// How far a device is.
-#[derive(Clone, Copy, PartialEq, Eq, Debug)]
+#[derive(Clone, Copy, PartialEq, Eq)]
 pub enum State {
     /// It has no chips.
     Off,
@@ -42,7 +42,7 @@ impl State {
 }
 
 /// A directory of the tree with its values.
-#[derive(Clone, Copy, PartialEq, Eq, Debug)]
+#[derive(Clone, Copy, PartialEq, Eq)]
 pub enum TreeRow {
     /// A device.
     Device {

@@ -27,7 +27,7 @@ use gl_script::Said;
 use gl_v1::{KindV1, Sent};
 
 /// How the result of an operation is told. A refusal is told by the error's name.
-#[derive(Clone, Copy, PartialEq, Eq, Debug)]
+#[derive(Clone, Copy, PartialEq, Eq)]
 pub enum SaidFormat {
     /// Nothing is printed.
     Silent,
@@ -63,7 +63,7 @@ pub enum SaidFormat {
 }
 
 /// What a statement does first.
-#[derive(Clone, Copy, Debug)]
+#[derive(Clone, Copy)]
 pub enum SaidAction {
     /// Nothing: so the definitions say it of a tool's own statements, which have no action here.
     Nothing,

@@ -8,7 +8,7 @@ use gl_base::Name;
 use gl_v1::KindV1;
 
 /// What kind of file it is.
-#[derive(Clone, Copy, PartialEq, Eq, Debug)]
+#[derive(Clone, Copy, PartialEq, Eq)]
 pub enum TalkFileKind {
     /// A chip's file.
     Chip,
@@ -51,7 +51,7 @@ pub fn is_old_event(kind: TalkFileKind) -> bool
 }
 
 /// An open file: its name, and the slot that its operations name.
-#[derive(Clone, Copy, Debug)]
+#[derive(Clone, Copy)]
 pub struct TalkFile {
     /// Its name.
     pub name: Name,

@@ -16,7 +16,7 @@ use gl_values::Client;
 use std::alloc::Global;
 
 /// Where a talk stands.
-#[derive(Clone, Copy, Debug)]
+#[derive(Clone, Copy)]
 pub enum Stage {
     /// No statement is under way.
     Idle,

@@ -89,7 +89,7 @@ pub fn live_word(word: &[u8]) -> Option<bool>
 }
 
 /// What is left of a line.
-#[derive(Clone, Copy, Debug)]
+#[derive(Clone, Copy)]
 pub struct Rest<'a> {
     /// Where it begins.
     pub at: usize,

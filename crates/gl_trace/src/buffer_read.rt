@@ -14,7 +14,7 @@ use gl_base::read_plain_decimal;
 use itoa::Buffer;
 
 /// A byte, how many zeros follow it of its run, and what is left of the text.
-#[derive(Clone, Copy, Debug)]
+#[derive(Clone, Copy)]
 struct Next<'a> {
     /// The byte.
     byte: u8,
@@ -138,7 +138,7 @@ fn unblank(text: &[u8]) -> &[u8]
 }
 
 /// What is left of bytes and of a text.
-#[derive(Clone, Copy, Debug)]
+#[derive(Clone, Copy)]
 struct Left<'a, 'b> {
     /// The bytes that are left.
     bytes: &'b [u8],

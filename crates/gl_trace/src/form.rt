@@ -1,7 +1,7 @@
 //! What a call may be answered in a text.
 
 /// What a call is answered that isn't refused.
-#[derive(Clone, Copy, PartialEq, Eq, Debug)]
+#[derive(Clone, Copy, PartialEq, Eq)]
 pub enum Form {
     /// That it was done.
     Nothing,

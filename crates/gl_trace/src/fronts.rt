@@ -5,7 +5,7 @@ ghost use Rattle.gl_trace.specs.Fronts.{fields, fields_of, four_of, front, front
 use crate::verb::Count;
 
 /// A word, and what stands after its blank.
-#[derive(Clone, Copy, Debug)]
+#[derive(Clone, Copy)]
 pub(crate) struct Front<'a> {
     /// The word.
     pub word: &'a [u8],
@@ -14,7 +14,7 @@ pub(crate) struct Front<'a> {
 }
 
 /// Up to four words, and what stands after them. Words that weren't asked for are empty.
-#[derive(Clone, Copy, Debug)]
+#[derive(Clone, Copy)]
 pub(crate) struct Fields<'a> {
     /// The first word.
     pub first: &'a [u8],

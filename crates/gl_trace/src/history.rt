@@ -29,7 +29,7 @@ pub struct OutputHistory<'a> {
 }
 
 /// Why an output has no history that could be read.
-#[derive(Clone, Copy, Debug, PartialEq, Eq)]
+#[derive(Clone, Copy, PartialEq, Eq)]
 pub enum NoHistory {
     /// The line of this number is at fault or missing, counted from 1, and none before it from the history's first on.
     Line(u64),

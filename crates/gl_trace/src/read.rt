@@ -37,7 +37,7 @@ struct Called<'a> {
 }
 
 /// The numbers of a command.
-#[derive(Clone, Copy, Debug)]
+#[derive(Clone, Copy)]
 struct Header {
     /// The place.
     place: u8,

@@ -3,7 +3,7 @@ ghost use Rattle.std.specs.Prelude.{◌≡◌, find, option_copied};
 ghost use Rattle.gl_trace.specs.Verbs.{asked_of, is_verb, verb_count, verb_of, verb_word};
 
 /// How many words stand after a verb, before the bytes of a command.
-#[derive(Clone, Copy, PartialEq, Eq, Debug)]
+#[derive(Clone, Copy, PartialEq, Eq)]
 pub enum Count {
     /// One.
     One,
@@ -16,7 +16,7 @@ pub enum Count {
 }
 
 /// The part of a command that a verb is of.
-#[derive(Clone, Copy, PartialEq, Eq, Debug)]
+#[derive(Clone, Copy, PartialEq, Eq)]
 pub enum CommandPart {
     /// A command that needs no driver.
     Whole,
@@ -63,7 +63,7 @@ pub const VERBS: [Verb; 32] = [
 ];
 
 /// The word with which the text of a call begins. The words are this project's choice.
-#[derive(Clone, Copy, PartialEq, Eq, Debug)]
+#[derive(Clone, Copy, PartialEq, Eq)]
 pub enum Verb {
     /// `probe`.
     Probe,

@@ -138,7 +138,7 @@ pub(crate) fn pair_byte(high: u8, low: u8) -> Option<u8>
 }
 
 /// A byte, and what stands after its pair.
-#[derive(Clone, Copy, Debug)]
+#[derive(Clone, Copy)]
 struct Pair<'a> {
     /// The byte.
     byte: u8,

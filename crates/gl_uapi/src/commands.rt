@@ -13,7 +13,7 @@ use gl_base::command::{
 };
 
 /// A command: the first five are those of a chip's file, the others those of a request's file.
-#[derive(Clone, Copy, PartialEq, Eq, Debug)]
+#[derive(Clone, Copy, PartialEq, Eq)]
 pub enum Command {
     /// Asks for the information on a chip.
     ChipInfo,

@@ -13,7 +13,7 @@ use crate::line_infos::{Info, InfoRef, write_line_info};
 use std::marker::Model;
 
 /// A change of a watched line.
-#[derive(Clone, Copy, PartialEq, Eq, Debug)]
+#[derive(Clone, Copy, PartialEq, Eq)]
 pub struct Changed {
     /// What is known of the line after the change.
     pub info: Info,

@@ -12,7 +12,7 @@ use crate::layout::{
 use std::marker::Model;
 
 /// An edge of a line.
-#[derive(Clone, Copy, PartialEq, Eq, Debug)]
+#[derive(Clone, Copy, PartialEq, Eq)]
 pub struct Event {
     /// When it came, in nanoseconds.
     pub timestamp: u64,

@@ -15,7 +15,7 @@ use gl_base::Name;
 use std::marker::Model;
 
 /// What is known of a line.
-#[derive(Clone, Copy, PartialEq, Eq, Debug)]
+#[derive(Clone, Copy, PartialEq, Eq)]
 pub struct Info {
     /// The line's name.
     pub name: Name,

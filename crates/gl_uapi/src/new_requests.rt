@@ -19,7 +19,7 @@ use crate::layout::{
 use gl_base::{LINES_PER_REQUEST, Name};
 
 /// What an attribute gives its lines.
-#[derive(Clone, Copy, PartialEq, Eq, Debug)]
+#[derive(Clone, Copy, PartialEq, Eq)]
 pub enum AttributeValue {
     /// These flags in place of the configuration's.
     Flags(u64),
@@ -30,7 +30,7 @@ pub enum AttributeValue {
 }
 
 /// An attribute, and the lines that get it.
-#[derive(Clone, Copy, PartialEq, Eq, Debug)]
+#[derive(Clone, Copy, PartialEq, Eq)]
 pub struct NewAttribute {
     /// What it gives them.
     pub value: AttributeValue,

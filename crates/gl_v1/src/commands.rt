@@ -26,7 +26,7 @@ pub const HANDLE_SET_VALUES: u32 = 0xC040_B409;
 pub const HANDLE_SET_CONFIG: u32 = 0xC054_B40A;
 
 /// What kind of file a command is made on.
-#[derive(Clone, Copy, PartialEq, Eq, Debug)]
+#[derive(Clone, Copy, PartialEq, Eq)]
 pub enum KindV1 {
     /// A chip's file.
     Chip,
@@ -37,7 +37,7 @@ pub enum KindV1 {
 }
 
 /// A command of the first uAPI.
-#[derive(Clone, Copy, PartialEq, Eq, Debug)]
+#[derive(Clone, Copy, PartialEq, Eq)]
 pub enum CommandV1 {
     /// Asks for the information on a chip: `GPIO_GET_CHIPINFO_IOCTL`, which v2 shares.
     ChipInfo,

@@ -14,7 +14,7 @@ use gl_base::flag::{
 pub const UNKNOWN: u32 = 63;
 
 /// A flag, by its bit in a word of the first uAPI and by its bit in one of v2.
-#[derive(Clone, Copy, PartialEq, Eq, Debug)]
+#[derive(Clone, Copy, PartialEq, Eq)]
 pub struct FlagPair {
     /// Its bit in the first uAPI.
     pub old: u32,

@@ -29,7 +29,7 @@ use gl_uapi::layout::{
 use gl_uapi::{AttributeValue, NewAttribute, write_config, write_values};
 
 /// A call of v2: a command, the length of its buffer, and the buffer's first bytes.
-#[derive(Clone, Copy, PartialEq, Eq, Debug)]
+#[derive(Clone, Copy, PartialEq, Eq)]
 pub struct Sent {
     /// The command's number; 0 is no command.
     pub cmd: u32,

@@ -9,7 +9,7 @@ use gl_uapi::ChipRef;
 use std::alloc::Global;
 
 /// A chip: what GET_CHIPINFO tells of it.
-#[derive(Clone, Copy, Debug)]
+#[derive(Clone, Copy)]
 pub struct Chip {
     /// Its name.
     pub name: Name,

@@ -15,7 +15,7 @@ use gl_client::Next;
 use std::alloc::Global;
 
 /// gpiodetect, gpioinfo, gpioget or gpioset, as a client of the device: its program is that of its tool.
-#[derive(Drop, Debug)]
+#[derive(Drop)]
 pub enum Client {
     /// gpiodetect.
     Detect(Detect),

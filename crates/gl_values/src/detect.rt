@@ -13,7 +13,7 @@ use gl_lines::failed_line;
 use std::alloc::Global;
 
 /// Where gpiodetect stands.
-#[derive(Clone, Copy, Debug)]
+#[derive(Clone, Copy)]
 pub enum DetectStage {
     /// Before a chip.
     Next,
@@ -32,7 +32,7 @@ pub enum DetectStage {
 }
 
 /// gpiodetect.
-#[derive(Drop, Debug)]
+#[derive(Drop)]
 pub struct Detect {
     /// Its chip words.
     pub words: Vec<Name>,

@@ -17,7 +17,7 @@ use gl_uapi::ValuesRef;
 use std::alloc::Global;
 
 /// Where gpioget stands.
-#[derive(Clone, Copy, Debug)]
+#[derive(Clone, Copy)]
 pub enum GetStage {
     /// Before its beginning.
     Begin,
@@ -36,7 +36,7 @@ pub enum GetStage {
 }
 
 /// gpioget.
-#[derive(Drop, Debug)]
+#[derive(Drop)]
 pub struct Get {
     /// What finds and requests its lines.
     pub finder: Finder,

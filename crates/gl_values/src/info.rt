@@ -17,7 +17,7 @@ use gl_uapi::{Info, InfoRef};
 use std::alloc::Global;
 
 /// Where gpioinfo stands.
-#[derive(Clone, Copy, Debug)]
+#[derive(Clone, Copy)]
 pub enum InfoStage {
     /// Before a chip.
     Next,
@@ -38,7 +38,7 @@ pub enum InfoStage {
 }
 
 /// gpioinfo.
-#[derive(Drop, Debug)]
+#[derive(Drop)]
 pub struct InfoTool {
     /// Its options.
     pub opts: Opts,

@@ -12,7 +12,7 @@ use gl_lines::{Finder, failed_line};
 use std::alloc::Global;
 
 /// What gpioset does with its request.
-#[derive(Clone, Copy, PartialEq, Eq, Debug)]
+#[derive(Clone, Copy, PartialEq, Eq)]
 pub enum Hold {
     /// It closes it at once.
     No,
@@ -21,7 +21,7 @@ pub enum Hold {
 }
 
 /// Where gpioset stands.
-#[derive(Clone, Copy, Debug)]
+#[derive(Clone, Copy)]
 pub enum SetStage {
     /// Before its beginning.
     Begin,
@@ -40,7 +40,7 @@ pub enum SetStage {
 }
 
 /// gpioset.
-#[derive(Drop, Debug)]
+#[derive(Drop)]
 pub struct Set {
     /// What finds and requests its lines.
     pub finder: Finder,

@@ -9,7 +9,7 @@ use gl_base::LINES_MAX;
 use gl_uapi::Changed;
 
 /// An open chip file where it stands among the files, as a look-up found it. It stands there until a file is closed.
-#[derive(Clone, Copy, PartialEq, Eq, Debug)]
+#[derive(Clone, Copy, PartialEq, Eq)]
 pub struct FileAt {
     /// The file's number.
     pub fd: u32,

@@ -13,7 +13,7 @@ use gl_script::TURNS_MAX;
 use std::alloc::{AllocError, Global};
 
 /// What the program's words ask for.
-#[derive(Clone, Copy, PartialEq, Eq, Debug)]
+#[derive(Clone, Copy, PartialEq, Eq)]
 pub enum Task {
     /// No words: a session on standard input.
     Session,
@@ -24,7 +24,7 @@ pub enum Task {
 }
 
 /// Why words ask for nothing.
-#[derive(Clone, Copy, PartialEq, Eq, Debug)]
+#[derive(Clone, Copy, PartialEq, Eq)]
 pub enum WordsFault {
     /// They are neither none nor those of a check or a load.
     Usage,

@@ -19,7 +19,7 @@ docs/FORMATS.md has it whole, under `Served line by line`.
 ";
 
 /// How the program ends.
-#[derive(Clone, Copy, Debug, PartialEq, Eq)]
+#[derive(Clone, Copy, PartialEq, Eq)]
 pub enum Status {
     /// The source came to its end, or the help was written.
     Ran,
