@@ -1,0 +1,279 @@
+"""Tries the wrong bodies of crates/NAME/wrong-bodies/: the prover has to refuse each. The last line is `N passed, M failed`.
+
+An edit has a line `refused by: FUNCTION` and then lines `file: PATH` and pairs of lines `old: TEXT`, `new: TEXT`, one line each: the old
+text stands in the file once. It is made in a copy of its crate, and the prover is asked for that function, over the libraries that `rt ci`
+proved. A function is proved over the contracts of those that it calls, so edits that don't reach each other's functions are made in one
+copy, and tried by one check. The check counts for nothing where a function that has no edit isn't proved.
+"""
+import os
+import re
+import shutil
+import signal
+import subprocess
+import sys
+import tempfile
+from concurrent.futures import ThreadPoolExecutor
+from dataclasses import dataclass
+from pathlib import Path
+from typing import Dict, Iterable, Iterator, List, Set, Tuple
+
+TOP = Path(__file__).resolve().parent.parent
+PARTS = ("src", "specs", "proofs")
+# what a check takes at most, in bytes: one of gl_session
+MEMORY_OF_A_CHECK = 4_000_000_000
+# what the prover says of a function that it refuses by itself; behind a further `;` stands what else it waits for
+REFUSED = re.compile(r"not proved|no proof: expected [^;]*; `search` did not prove ([^;]*)")
+# what it says of a text of src/ or specs/ that it can't read: an edit that makes a statement false reads well
+UNREAD = re.compile(
+    r"(?m)\berror\[[\w-]+\]|^(?:\./)?(?:src|specs)/\S+:\d+:\d+: error: "
+    r"(?:(?!`)|.*(?:is not in scope|has no field|is no name|operand is missing|expected the end|cannot continue))"
+)
+# what it says where it met a limit of its own
+LIMIT = re.compile(r"antt ran out of|outgrew the memory limit|stopped at the step limit|could not tell")
+# where an item begins, with its name where it is a function
+ITEM = re.compile(r"^\s*(?:#\[derive|(?:pub(?:\(\w+\))? )?(?:(?:const )?fn (\w+)|(?:const|static|struct|enum|trait|type|impl)\b))")
+# the lines of a function that aren't its code
+CLAUSE = re.compile(r"^\s*(?:requires|ensures|ghost|//)")
+
+
+class Stop(Exception):
+    """An edit or the check can't be made, and why."""
+
+
+@dataclass(frozen=True)
+class Change:
+    """A line of a file of a crate that an edit changes, and the function that it stands in, if it stands in one."""
+
+    file: str
+    old: str
+    new: str
+    function: str
+
+
+@dataclass(frozen=True)
+class Edit:
+    """A wrong body: the function that refuses it, and the lines that it changes."""
+
+    crate: str
+    name: str
+    function: str
+    changes: Tuple[Change, ...]
+
+    def last_name(self) -> str:
+        """The function's name without its path."""
+        return self.function.rpartition("::")[2]
+
+
+def function_at(text: str, old: str) -> str:
+    """The name of the function that a line of a file stands in; none where that is another item."""
+    front = text[:text.find(old) + len(old)]
+    names = [found[1] for line in front.splitlines() if (found := ITEM.match(line))]
+    return (names[-1] or "") if names else ""
+
+
+def changed(text: str, old: str, new: str) -> str:
+    """The text with a change. Stop where the line that it changes doesn't stand there once."""
+    if text.count(old) != 1:
+        raise Stop(f"this text stands there {text.count(old)} times, and not once: {old}")
+    return text.replace(old, new)
+
+
+def change_of(crate: Path, file: str, old: str, new: str) -> Change:
+    """A change of a file of the crate. Stop where it can't be made."""
+    path = Path(os.path.normpath(crate / file))
+    if not any(crate / part in path.parents for part in PARTS) or not path.is_file():
+        raise Stop(f"{file} is no file of {', '.join(PARTS)}")
+    text = path.read_text(encoding="utf-8")
+    changed(text, old, new)
+    return Change(file, old, new, function_at(text, old))
+
+
+def edit_of(path: Path) -> Edit:
+    """Reads an edit. Stop where it is none, or doesn't fit its crate."""
+    crate, function, file, old, changes = path.parent.parent, "", "", "", []
+    for line in path.read_text(encoding="utf-8").splitlines():
+        head, _, text = line.partition(": ")
+        if head == "refused by":
+            function = text
+        elif head == "file" and not old:
+            file = text
+        elif head == "old" and file and not old:
+            old = text
+        elif head == "new" and old:
+            changes.append(change_of(crate, file, old, text))
+            old = ""
+        else:
+            raise Stop(f"an edit has no such line here: {line}")
+    if not function or not changes or old:
+        raise Stop("it names no function, or changes nothing")
+    return Edit(crate.name, path.stem, function, tuple(changes))
+
+
+def reached(crate: str) -> Dict[str, Set[str]]:
+    """What each function of a crate reaches, itself among it, by names: all that its code names, and what that names."""
+    named: Dict[str, Set[str]] = {}
+    for path in sorted((TOP / "crates" / crate / "src").rglob("*.rt")):
+        function = ""
+        for line in path.read_text(encoding="utf-8").splitlines():
+            begins = ITEM.match(line)
+            function = (begins[1] or "") if begins else function
+            if function and not CLAUSE.match(line):
+                named.setdefault(function, {function}).update(re.findall(r"\w+", line))
+    found = {function: names & named.keys() for function, names in named.items()}
+    while True:
+        wider = {function: names.union(*(found[it] for it in names)) for function, names in found.items()}
+        if wider == found:
+            return found
+        found = wider
+
+
+def apart(one: Edit, other: Edit, reach: Dict[str, Set[str]]) -> bool:
+    """Whether each changes the code of functions that the function which refuses the other doesn't reach."""
+    pairs = [(it.function, to.last_name()) for edit, to in ((one, other), (other, one)) for it in edit.changes]
+    return all(function and function not in reach.get(name, {function}) for function, name in pairs)
+
+
+def rounds(edits: Iterable[Edit], reach: Dict[str, Set[str]]) -> List[List[Edit]]:
+    """The edits of a crate by the check that tries them."""
+    found: List[List[Edit]] = []
+    for edit in edits:
+        fitting = next((it for it in found if all(apart(edit, other, reach) for other in it)), None)
+        if fitting is None:
+            found.append([edit])
+        else:
+            fitting.append(edit)
+    return found
+
+
+def libraries() -> Dict[str, List[str]]:
+    """What each crate uses, by crates.txt."""
+    rows = [line.partition("#")[0].partition(":") for line in (TOP / "crates.txt").read_text(encoding="utf-8").splitlines()]
+    return {head.split()[0]: uses.split() for head, _, uses in rows if head.split()}
+
+
+def below(name: str, uses: Dict[str, List[str]]) -> Set[str]:
+    """The crates of the repository that a crate stands on."""
+    own = {it for it in uses[name] if it in uses}
+    return own.union(*(below(it, uses) for it in own))
+
+
+def kit() -> Path:
+    """The toolchain's folder."""
+    found = shutil.which("rt")
+    if not found:
+        raise Stop("there is no rt here")
+    return Path(found).resolve().parent.parent
+
+
+def library(name: str) -> Path:
+    """The folder of the library that `.ci/run` made of a crate. Stop where it made none."""
+    folder = TOP / "crates" / name / "out/rlib"
+    if not (folder / f"{name}.rlib").is_dir() or (folder / "stamp").is_file():
+        raise Stop(f"{name} isn't built, or by another command: run .ci/run")
+    return folder
+
+
+def command(name: str, uses: Dict[str, List[str]]) -> List[str]:
+    """The command that checks a crate in a folder of its sources."""
+    if name not in uses:
+        raise Stop(f"{name} is no crate of crates.txt")
+    home, own = kit(), {it: library(it) for it in below(name, uses)}
+    words = [str(home / "bin/rattle"), "check", "--crate-name", name, "--jobs", "1", "--links", f"{name}="]
+    words.append("src/main.rt" if (TOP / "crates" / name / "src/main.rt").is_file() else "src/lib.rt")
+    for it in dict.fromkeys(["std", *uses[name]]):
+        words += ["--extern", f"{it}={own.get(it, home / 'rlibs')}/{it}.rlib"]
+    for folder in [home / "rlibs", *own.values()]:
+        words += ["-L", f"dependency={folder}"]
+    return [*words, "--antt-project", str(home / "rattle/logic/antt-project.json"), "--logic-built", str(home / "logic_built")]
+
+
+def run(words: List[str], folder: Path) -> Tuple[int, str]:
+    """Runs a check: its status, and what it said. One that is killed, most likely for memory, is run once more."""
+    how = {"cwd": folder, "stdin": subprocess.DEVNULL, "stdout": subprocess.PIPE, "stderr": subprocess.STDOUT}
+    ran = subprocess.run(words, text=True, errors="replace", **how)
+    if ran.returncode == -signal.SIGKILL:
+        ran = subprocess.run(words, text=True, errors="replace", **how)
+    return ran.returncode, ran.stdout
+
+
+def said_of(words: List[str], edits: List[Edit]) -> Tuple[int, str]:
+    """Checks the functions of edits of one crate in a copy of it that has them all: the status, and what the prover said."""
+    own = TOP / "crates" / edits[0].crate
+    with tempfile.TemporaryDirectory(prefix="wrong-bodies-") as copy:
+        for part in PARTS:
+            if (own / part).is_dir():
+                shutil.copytree(own / part, Path(copy) / part)
+        for it in [it for edit in edits for it in edit.changes]:
+            path = Path(copy) / it.file
+            path.write_text(changed(path.read_text(encoding="utf-8"), it.old, it.new), encoding="utf-8")
+        return run([*words, *(word for edit in edits for word in ("--only", edit.function))], Path(copy))
+
+
+def tried(words: List[str], edits: List[Edit]) -> Iterator[Tuple[Edit, bool, str]]:
+    """Tries edits of one crate by one check: whether each is refused, and what of it isn't proved or is wrong."""
+    status, said = said_of(words, edits)
+    fates = re.findall(r"(?m)^fn (\S+): (.*)$", said)
+    wrong = [f"{name}: {fate}" for name, fate in fates if not fate.startswith("proved") and not any(name.endswith(f"::{it.function}") for it in edits)]
+    wrong += [found[0] for found in (LIMIT.search(said), UNREAD.search(said)) if found]
+    if status != 1 or wrong:
+        yield from ((edit, False, f"status {status} {wrong}\n{said[-2000:]}") for edit in edits)
+        return
+    for edit in edits:
+        own = [fate for name, fate in fates if name.endswith(f"::{edit.function}")]
+        refused = REFUSED.fullmatch(own[0]) if len(own) == 1 else None
+        yield edit, bool(refused), (refused[1] or "") if refused else f"{own}"
+
+
+def tried_in(words: List[str], edits: List[Edit]) -> List[Tuple[Edit, bool, str]]:
+    """Tries the edits of a crate. What one check proves of the functions that have no edit, the next one takes."""
+    results: List[Tuple[Edit, bool, str]] = []
+    with tempfile.TemporaryDirectory(prefix="wrong-bodies-kept-") as kept:
+        for some in rounds(edits, reached(edits[0].crate)):
+            results += tried([*words, "--incremental", kept], some)
+    return results
+
+
+def lanes() -> int:
+    """How many checks may run side by side: by the processors, and by the memory that is free."""
+    with open("/proc/meminfo", encoding="utf-8") as file:
+        free = next(int(line.split()[1]) * 1024 for line in file if line.startswith("MemAvailable"))
+    return max(1, min(len(os.sched_getaffinity(0)), int(0.85 * free) // MEMORY_OF_A_CHECK))
+
+
+def edits_of(names: List[str]) -> Dict[str, List[Edit]]:
+    """The edits of these crates, or of all, by crate. Stop where one can't be tried."""
+    found: Dict[str, List[Edit]] = {}
+    for path in sorted(TOP.glob("crates/*/wrong-bodies/*")):
+        crate = path.parent.parent.name
+        if not names or crate in names:
+            try:
+                found.setdefault(crate, []).append(edit_of(path))
+            except (Stop, OSError, UnicodeError) as why:
+                raise Stop(f"{path.relative_to(TOP)}: {why}") from why
+    lacking = [it for it in names if it not in found]
+    if lacking or not found:
+        raise Stop(f"there is no wrong body{' of ' * bool(lacking)}{', '.join(lacking)}")
+    return found
+
+
+def main() -> int:
+    try:
+        uses = libraries()
+        crates = [(command(crate, uses), edits) for crate, edits in edits_of(sys.argv[1:]).items()]
+    except Stop as why:
+        print(f"wrong-bodies: {why}\n0 passed, 1 failed")
+        return 1
+    # the largest crates stand on the most, and have the longest commands
+    crates.sort(key=lambda crate: -len(crate[0]))
+    passed = failed = 0
+    with ThreadPoolExecutor(lanes()) as pool:
+        for results in pool.map(lambda crate: tried_in(*crate), crates):
+            for edit, refused, told in results:
+                passed, failed = passed + refused, failed + (not refused)
+                print(f"{edit.crate}/{edit.name}: {'' if refused else 'NOT '}refused by {edit.function}{': ' if told else ''}{told}", flush=True)
+    print(f"{passed} passed, {failed} failed")
+    return 1 if failed else 0
+
+
+if __name__ == "__main__":
+    sys.exit(main())
