@@ -15,7 +15,7 @@ import tempfile
 from concurrent.futures import ThreadPoolExecutor
 from dataclasses import dataclass
 from pathlib import Path
-from typing import Dict, Iterable, Iterator, List, Set, Tuple
+from typing import Dict, Iterable, List, Set, Tuple
 
 TOP = Path(__file__).resolve().parent.parent
 PARTS = ("src", "specs", "proofs")
@@ -209,27 +209,19 @@ def said_of(words: List[str], edits: List[Edit]) -> Tuple[int, str]:
         return run([*words, *(word for edit in edits for word in ("--only", edit.function))], Path(copy))
 
 
-def tried(words: List[str], edits: List[Edit]) -> Iterator[Tuple[Edit, bool, str]]:
+def tried(words: List[str], edits: List[Edit]) -> List[Tuple[Edit, bool, str]]:
     """Tries edits of one crate by one check: whether each is refused, and what of it isn't proved or is wrong."""
     status, said = said_of(words, edits)
     fates = re.findall(r"(?m)^fn (\S+): (.*)$", said)
     wrong = [f"{name}: {fate}" for name, fate in fates if not fate.startswith("proved") and not any(name.endswith(f"::{it.function}") for it in edits)]
     wrong += [found[0] for found in (LIMIT.search(said), UNREAD.search(said)) if found]
     if status != 1 or wrong:
-        yield from ((edit, False, f"status {status} {wrong}\n{said[-2000:]}") for edit in edits)
-        return
+        return [(edit, False, f"status {status} {wrong}\n{said[-2000:]}") for edit in edits]
+    results = []
     for edit in edits:
         own = [fate for name, fate in fates if name.endswith(f"::{edit.function}")]
         refused = REFUSED.fullmatch(own[0]) if len(own) == 1 else None
-        yield edit, bool(refused), (refused[1] or "") if refused else f"{own}"
-
-
-def tried_in(words: List[str], edits: List[Edit]) -> List[Tuple[Edit, bool, str]]:
-    """Tries the edits of a crate. What one check proves of the functions that have no edit, the next one takes."""
-    results: List[Tuple[Edit, bool, str]] = []
-    with tempfile.TemporaryDirectory(prefix="wrong-bodies-kept-") as kept:
-        for some in rounds(edits, reached(edits[0].crate)):
-            results += tried([*words, "--incremental", kept], some)
+        results.append((edit, bool(refused), (refused[1] or "") if refused else f"{own}"))
     return results
 
 
@@ -259,15 +251,16 @@ def edits_of(names: List[str]) -> Dict[str, List[Edit]]:
 def main() -> int:
     try:
         uses = libraries()
-        crates = [(command(crate, uses), edits) for crate, edits in edits_of(sys.argv[1:]).items()]
+        found = edits_of(sys.argv[1:])
+        checks = [(command(crate, uses), some) for crate, edits in found.items() for some in rounds(edits, reached(crate))]
     except Stop as why:
         print(f"wrong-bodies: {why}\n0 passed, 1 failed")
         return 1
     # the largest crates stand on the most, and have the longest commands
-    crates.sort(key=lambda crate: -len(crate[0]))
+    checks.sort(key=lambda check: -len(check[0]))
     passed = failed = 0
     with ThreadPoolExecutor(lanes()) as pool:
-        for results in pool.map(lambda crate: tried_in(*crate), crates):
+        for results in pool.map(lambda check: tried(*check), checks):
             for edit, refused, told in results:
                 passed, failed = passed + refused, failed + (not refused)
                 print(f"{edit.crate}/{edit.name}: {'' if refused else 'NOT '}refused by {edit.function}{': ' if told else ''}{told}", flush=True)
