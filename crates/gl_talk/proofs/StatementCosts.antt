@@ -2,6 +2,7 @@
 use Rattle.std.proofs.Common.{◌≡◌, ◌≤◌, ◌+◌, ◌-◌, ℕ, suc, Bool, true, false, cond, List, [], ◌∷◌, length, Option, None, Some, refl, sym, subst, arith}
 use Rattle.std.specs.List.{list_any}
 use Rattle.std.specs.Prelude.{if◌then◌else◌, ◌==◌, nat_lt, is_some, not, sum_by}
+use Rattle.std.proofs.Math.Nat.{le_refl}
 use Rattle.std.proofs.lemmas.List.Sums.{sum_by-cons}
 use Rattle.gl_base.specs.CommandWord.{command_number_of}
 use Rattle.gl_base.specs.Operation.{refusal}
@@ -22,7 +23,7 @@ use Rattle.gl_script.specs.Cost.{cost, cost_by, start_cost, words_cost}
 use Rattle.gl_script.specs.Faults.{is_get_line}
 use Rattle.gl_script.specs.Table.{keyword_of}
 use Rattle.gl_script.specs.declared.table.Keyword.{Keyword}
-use Rattle.gl_script.specs.declared.table.Keyword.TheVariants.{Probe, Unplug, MakeDir, RemoveDir, Write, Read, Clock, Fault, Accept, Aggregate, Pin, Irq, Open, Ioctl, Events, OldIoctl, OldEvents, Changes, Poll, Close, Start, Step, Stop}
+use Rattle.gl_script.specs.declared.table.Keyword.TheVariants.{Probe, Unplug, MakeDir, RemoveDir, Write, Read, Clock, Fault, Accept, Aggregate, Pin, Irq, Open, Ioctl, Events, OldIoctl, OldEvents, Changes, Poll, Close, Detect, Info, Get, Set, Start, Step, Stop}
 use Rattle.gl_v1.specs.declared.commands.CommandV1.{CommandV1}
 use Rattle.gl_v1.specs.declared.commands.CommandV1.TheVariants.{ChipInfo, LineInfo, LineHandle, LineEvent, GetValues, SetValues, SetConfig}
 use Rattle.gl_v1.specs.declared.commands.KindV1.TheVariants.{Chip as OldChip, Handle, Event}
@@ -35,8 +36,7 @@ use Rattle.gl_talk.specs.declared.files.TalkFileKind.{TalkFileKind}
 use Rattle.gl_talk.specs.declared.files.TalkFileKind.TheVariants.{Chip, Request, Old}
 use Rattle.gl_talk.specs.declared.paths.LineFile.{LineFile}
 use Rattle.gl_talk.specs.Formats.{Action, Nothing, Refuse, Ask, ResultFormat, Silent, Value, Level, Bytes, Edges, Infos, Ready, Opened, Closed, Made, OldBytes, OldEdges, OldMade}
-use Rattle.gl_talk.specs.declared.tools.StatementKind.{StatementKind}
-use Rattle.gl_talk.specs.declared.tools.StatementKind.TheVariants.{Plain, ToolAlone, Starting, Stepping, Stopping}
+use Rattle.gl_talk.specs.declared.tools.StatementKind.TheVariants.{Plain}
 use Rattle.gl_talk.specs.Costs.{StatementsKeepWithinCost, TalksKeepWithinCost}
 use Rattle.gl_talk.specs.Old.{sent_new, sent_old, takes_old_name}
 use Rattle.gl_talk.specs.Open.{File, Names, file_of, has_tool, held_of_name, is_chip, is_chip_file, is_old_event, is_request, watched_of_name, slots_in_order, without_monitor, without_set}
@@ -45,7 +45,7 @@ use Rattle.gl_talk.specs.Actions.{aggregates, closes, files_named, ioctls, irqs,
 use Rattle.gl_talk.specs.Talk.{acts, closes_all, does, does_by, keeps_monitor, keeps_set, replied_by, runs, quits, says, slot_behind, starts, starts_said, starts_tool, steps, stops}
 use Rattle.gl_talk.specs.ToolWords.{kind_of, word_texts}
 use Rattle.gl_talk.specs.Words.{behind_three, behind_two, bytes_said, live_word, name_word, or_else, place_word, pull_word, turns_word}
-use Rattle.gl_talk.proofs.ToolParts.{started_cost, started_fits, tool_fits}
+use Rattle.gl_talk.proofs.ToolParts.{detect_said, get_said, info_said, set_said, started_cost, started_fits}
 use Rattle.gl_values.specs.Client.{held_program, tool_program}
 use Rattle.gl_values.specs.Costs.{held_cost, tool_cost}
 use Rattle.gl_values.specs.Set.{Held}
@@ -58,6 +58,12 @@ abbrev ActionCosts : ℕ → Action → Type 0
 ActionCosts n Nothing = Unit {0}
 ActionCosts n (Refuse errno) = Unit {0}
 ActionCosts n (Ask what reply) = entries_of what ≤ n
+
+one_of_two : 1 ≤ 2
+one_of_two = omega arith
+
+one_of_three : 1 ≤ 3
+one_of_three = omega arith
 
 action_if : (n : ℕ) (test : Bool) (a b : Action) → ActionCosts n a → ActionCosts n b → ActionCosts n (if test then a else b)
 action_if n true a b p q = p
@@ -86,28 +92,28 @@ acts_cost n (Refuse errno) names slot words h = tt
 acts_cost n (Ask what reply) names slot words h = (h, λ got. told_free (n - entries_of what) (refusal got) reply names slot words got)
 
 unplugs_cost : (place : ℕ) → ActionCosts 2 (unplugs place)
-unplugs_cost place = omega arith
+unplugs_cost place = le_refl 2
 
 pins_cost : (place : ℕ) (words : List Span) → ActionCosts 1 (pins place words)
-pins_cost place words = omega arith
+pins_cost place words = le_refl 1
 
 irqs_cost : (place : ℕ) (words : List Span) → ActionCosts 1 (irqs place words)
-irqs_cost place words = omega arith
+irqs_cost place words = le_refl 1
 
 reads_cost : (file : Option LineFile) (path : List ℕ) → ActionCosts 1 (reads file path)
-reads_cost None path = omega arith
-reads_cost (Some file) path = omega arith
+reads_cost None path = le_refl 1
+reads_cost (Some file) path = le_refl 1
 
 pulls_cost : (file : LineFile) (up : Option Bool) → ActionCosts 2 (pulls file up)
 pulls_cost file None = tt
-pulls_cost file (Some up) = omega arith
+pulls_cost file (Some up) = one_of_two
 
 lives_cost : (device : List ℕ) (up : Option Bool) → ActionCosts 2 (lives device up)
 lives_cost device None = tt
-lives_cost device (Some up) = omega arith
+lives_cost device (Some up) = le_refl 2
 
 tree_cost : (device : Option (List ℕ)) (path value : List ℕ) → ActionCosts 2 (writes_tree device path value)
-tree_cost None path value = omega arith
+tree_cost None path value = one_of_two
 tree_cost (Some device) path value = lives_cost device (live_word value)
 
 writes_cost : (file : Option LineFile) (path value : List ℕ) → ActionCosts 2 (writes file path value)
@@ -116,43 +122,43 @@ writes_cost (Some file) path value = action_if 2 file.is_pull _ _ (pulls_cost fi
 
 opens_cost : (taken : Bool) (slot : ℕ) (word : List ℕ) → ActionCosts 2 (opens taken slot word)
 opens_cost true slot word = tt
-opens_cost false slot word = omega arith
+opens_cost false slot word = le_refl 2
 
 aggregates_cost : (label : List ℕ) (named : List (Option File)) → ActionCosts 1 (aggregates label named)
 aggregates_cost label named =
-    action_if 1 (list_any (λ file. not (is_some file)) named) _ _ tt (action_if 1 (list_any is_chip_file named) _ _ tt (omega arith))
+    action_if 1 (list_any (λ file. not (is_some file)) named) _ _ tt (action_if 1 (list_any is_chip_file named) _ _ tt (le_refl 1))
 
 file_cost : (file : Option File) (can_be_read : TalkFileKind → Bool) (len : ℕ) (reply : ResultFormat) → ActionCosts 1 (reads_file file can_be_read len reply)
 file_cost None can_be_read len reply = tt
-file_cost (Some file) can_be_read len reply = action_if 1 (can_be_read file.kind) _ _ (omega arith) tt
+file_cost (Some file) can_be_read len reply = action_if 1 (can_be_read file.kind) _ _ (le_refl 1) tt
 
 polls_cost : (file : Option File) → ActionCosts 1 (polls file)
 polls_cost None = tt
-polls_cost (Some file) = omega arith
+polls_cost (Some file) = le_refl 1
 
 closes_cost : (file : Option File) → ActionCosts 0 (closes file)
 closes_cost None = tt
-closes_cost (Some file) = omega arith
+closes_cost (Some file) = le_refl 0
 
 -- a command's entries
 two_if : (a b c : Bool) → cond a 2 (cond b 2 (cond c 2 1)) ≤ 2
-two_if true b c = omega arith
-two_if false true c = omega arith
-two_if false false true = omega arith
-two_if false false false = omega arith
+two_if true b c = le_refl 2
+two_if false true c = le_refl 2
+two_if false false true = le_refl 2
+two_if false false false = one_of_two
 
 three_if : (get a b c : Bool) → cond get 3 (cond a 2 (cond b 2 (cond c 2 1))) ≤ cond get 3 2
-three_if true a b c = omega arith
+three_if true a b c = le_refl 3
 three_if false a b c = two_if a b c
 
 entries_fit : (number : Option ℕ) → command_entries (or_else 0 number) ≤ (if is_get_line number then 3 else 2)
-entries_fit None = omega arith
+entries_fit None = one_of_two
 entries_fit (Some number) = three_if (number == 0xC250B407) (number == 0xC110B40D) (number == 0xC010B40E) (number == 0xC010B40F)
 
 -- what is sent makes no more entries than the command that was said; no command makes one
 none_fits : (b : Bool) → 1 ≤ cond b 3 2
-none_fits true = omega arith
-none_fits false = omega arith
+none_fits true = one_of_three
+none_fits false = one_of_two
 
 two_fits : (b : Bool) (n : ℕ) → n ≤ 2 → n ≤ cond b 3 2
 two_fits true n h = omega (arith, h)
@@ -223,15 +229,15 @@ ioctls_cost None taken slot first words = tt
 ioctls_cost (Some file) taken slot first words = action_if (cost Ioctl words) taken _ _ tt (new_fits file.kind (command_number_of (text_at 1 words)) (bytes_said (behind_three (first ∷ words))))
 
 action_cost : (keyword : Keyword) (files : List File) (slot : ℕ) (first : Span) (words : List Span) → ActionCosts (cost keyword words) (action_of (Some keyword) files slot (first ∷ words))
-action_cost Probe files slot first words = omega arith
+action_cost Probe files slot first words = le_refl 1
 action_cost Unplug files slot first words = unplugs_cost (place_word (text_at 0 words))
-action_cost MakeDir files slot first words = omega arith
-action_cost RemoveDir files slot first words = omega arith
+action_cost MakeDir files slot first words = le_refl 1
+action_cost RemoveDir files slot first words = le_refl 1
 action_cost Write files slot first words = writes_cost (line_file (text_at 0 words)) (text_at 0 words) (text_at 1 words)
 action_cost Read files slot first words = reads_cost (line_file (text_at 0 words)) (text_at 0 words)
-action_cost Clock files slot first words = omega arith
-action_cost Fault files slot first words = omega arith
-action_cost Accept files slot first words = omega arith
+action_cost Clock files slot first words = le_refl 1
+action_cost Fault files slot first words = le_refl 0
+action_cost Accept files slot first words = le_refl 0
 action_cost Aggregate files slot first words = aggregates_cost (name_word (text_at 0 words)) (files_named JOINED_MAX (behind_two (first ∷ words)) files)
 action_cost Pin files slot first words = pins_cost (place_word (text_at 1 words)) (first ∷ words)
 action_cost Irq files slot first words = irqs_cost (place_word (text_at 1 words)) (first ∷ words)
@@ -246,11 +252,12 @@ action_cost Close files slot first words = closes_cost (file_of (text_at 0 words
 action_cost keyword files slot first words = tt
 
 -- a tool's statement
-runs_cost : (keyword : Keyword) (tool : Option SaidTool) (names : Names) (slot : ℕ) (first : Span) (words : List Span) → keyword_of first.text ≡ Some keyword → kind_of (Some keyword) ≡ ToolAlone
-    → tool_said (word_texts (first ∷ words)) ≡ tool → CostsAtMost (cost keyword words) (runs tool names slot (first ∷ words))
-runs_cost keyword None names slot first words k e s = tt
-runs_cost keyword (Some tool) names slot first words k e s =
-    costs_more (runs (Some tool) names slot (first ∷ words)) (tool_cost tool + 0) (cost keyword words) (omega (arith, tool_fits keyword first words tool k e s))
+runs_cost : (most : ℕ) (tool : Option SaidTool) (names : Names) (slot : ℕ) (first : Span) (words : List Span)
+    → ((said : SaidTool) → tool_said (word_texts (first ∷ words)) ≡ Some said → tool_cost said ≤ most) → tool_said (word_texts (first ∷ words)) ≡ tool
+    → CostsAtMost most (runs tool names slot (first ∷ words))
+runs_cost most None names slot first words fits s = tt
+runs_cost most (Some tool) names slot first words fits s =
+    costs_more (runs (Some tool) names slot (first ∷ words)) (tool_cost tool + 0) most (omega (arith, fits tool s))
     (costs_then (tool_program tool slot) (λ _. done names) (tool_cost tool) 0 (tool_within tool slot) (λ value. tt))
 
 -- a tool that is started
@@ -308,25 +315,33 @@ stops_cost None (Some held) names first words =
 stops_cost (Some watched) held names first words =
     costs_then (stops_watching watched) (keeps_monitor (text_at 0 words) (without_monitor (text_at 0 words) names)) 0 0 (watched_stops_within watched) (λ value. tt)
 
--- what a keyword begins, by its kind
-keyword_cost : (keyword : Keyword) (kind : StatementKind) (names : Names) (slot : ℕ) (first : Span) (words : List Span) → keyword_of first.text ≡ Some keyword → kind_of (Some keyword) ≡ kind
-    → CostsAtMost (cost keyword words) (does_by kind names slot (first ∷ words))
-keyword_cost keyword Plain names slot first words k e =
+-- what a keyword begins
+plain_cost : (keyword : Keyword) (names : Names) (slot : ℕ) (first : Span) (words : List Span) → keyword_of first.text ≡ Some keyword
+    → CostsAtMost (cost keyword words) (does_by Plain names slot (first ∷ words))
+plain_cost keyword names slot first words k =
     subst (λ o. CostsAtMost (cost keyword words) (acts (only_in_setup names.in_setup o (action_of o names.files slot (first ∷ words))) names slot (first ∷ words))) (sym k)
     (acts_cost (cost keyword words) (only_in_setup names.in_setup (Some keyword) (action_of (Some keyword) names.files slot (first ∷ words))) names slot (first ∷ words)
     (action_if (cost keyword words) (is_out_of_place names.in_setup (Some keyword)) _ _ tt (action_cost keyword names.files slot first words)))
-keyword_cost keyword ToolAlone names slot first words k e = runs_cost keyword (tool_said (word_texts (first ∷ words))) names slot first words k e refl
-keyword_cost Start Starting names slot first words k e = starts_cost (has_tool (text_at 0 words) names) names slot first words
-keyword_cost Step Stepping names slot first words k e =
-    steps_cost (watched_of_name (text_at 0 words) names.monitors) (held_of_name (text_at 0 words) names.sets) names first words
-keyword_cost Stop Stopping names slot first words k e =
-    stops_cost (watched_of_name (text_at 0 words) names.monitors) (held_of_name (text_at 0 words) names.sets) names first words
-keyword_cost keyword kind names slot first words k e = cc
+
+keyword_cost : (keyword : Keyword) (names : Names) (slot : ℕ) (first : Span) (words : List Span) → keyword_of first.text ≡ Some keyword
+    → CostsAtMost (cost keyword words) (does_by (kind_of (Some keyword)) names slot (first ∷ words))
+keyword_cost Detect names slot first words k =
+    runs_cost (cost Detect words) (tool_said (word_texts (first ∷ words))) names slot first words (λ tool h. detect_said first words tool k h) refl
+keyword_cost Info names slot first words k =
+    runs_cost (cost Info words) (tool_said (word_texts (first ∷ words))) names slot first words (λ tool h. info_said first words tool k h) refl
+keyword_cost Get names slot first words k =
+    runs_cost (cost Get words) (tool_said (word_texts (first ∷ words))) names slot first words (λ tool h. get_said first words tool k h) refl
+keyword_cost Set names slot first words k =
+    runs_cost (cost Set words) (tool_said (word_texts (first ∷ words))) names slot first words (λ tool h. set_said first words tool k h) refl
+keyword_cost Start names slot first words k = starts_cost (has_tool (text_at 0 words) names) names slot first words
+keyword_cost Step names slot first words k = steps_cost (watched_of_name (text_at 0 words) names.monitors) (held_of_name (text_at 0 words) names.sets) names first words
+keyword_cost Stop names slot first words k = stops_cost (watched_of_name (text_at 0 words) names.monitors) (held_of_name (text_at 0 words) names.sets) names first words
+keyword_cost keyword names slot first words k = plain_cost keyword names slot first words k
 
 some_keyword_cost : (keyword : Option Keyword) (names : Names) (slot : ℕ) (first : Span) (words : List Span) → keyword_of first.text ≡ keyword
     → CostsAtMost (cost_by keyword words) (does_by (kind_of keyword) names slot (first ∷ words))
 some_keyword_cost None names slot first words k = subst (λ o. CostsAtMost 0 (acts (only_in_setup names.in_setup o (action_of o names.files slot (first ∷ words))) names slot (first ∷ words))) (sym k) tt
-some_keyword_cost (Some keyword) names slot first words k = keyword_cost keyword (kind_of (Some keyword)) names slot first words k refl
+some_keyword_cost (Some keyword) names slot first words k = keyword_cost keyword names slot first words k
 
 pub statements_keep_within_cost : StatementsKeepWithinCost
 statements_keep_within_cost names slot [] = tt

@@ -26,8 +26,7 @@ use Rattle.gl_script.specs.Table.{is_keyword, keyword_name, keyword_of}
 use Rattle.gl_script.specs.declared.table.Keyword.{Keyword}
 use Rattle.gl_script.specs.declared.table.Keyword.TheVariants.{Detect, Info, Get, Set}
 use Rattle.gl_script.specs.declared.table.TheConstants.{KEYWORDS}
-use Rattle.gl_talk.specs.declared.tools.StatementKind.TheVariants.{ToolAlone}
-use Rattle.gl_talk.specs.ToolWords.{kind_of, word_texts}
+use Rattle.gl_talk.specs.ToolWords.{word_texts}
 
 -- the texts of words are as many, and are bare and have a chip's option where the words do
 texts_length : (words : List Span) → length (word_texts words) ≡ length words
@@ -114,13 +113,17 @@ tool_word : (text : List ℕ) (name : ToolName) → tool_named text ≡ Some nam
 tool_word text name e = sym ((bytes_eq-Decides (tool_text name) text).0 (found_passes (is_named text) TOOLS name e))
 
 -- a tool's statement costs what its words say
-pub tool_fits : (keyword : Keyword) (first : Span) (words : List Span) (tool : SaidTool) → keyword_of first.text ≡ Some keyword → kind_of (Some keyword) ≡ ToolAlone
-    → tool_said (word_texts (first ∷ words)) ≡ Some tool → tool_cost tool ≤ cost keyword words
-tool_fits Detect first words tool e t h = detect_fits first words tool _ (subst (λ text. tool_said (text ∷ word_texts words) ≡ Some tool) (keyword_word first.text Detect e) h) h
-tool_fits Info first words tool e t h = info_fits first words tool _ (subst (λ text. tool_said (text ∷ word_texts words) ≡ Some tool) (keyword_word first.text Info e) h) h
-tool_fits Get first words tool e t h = get_fits first words tool _ (subst (λ text. tool_said (text ∷ word_texts words) ≡ Some tool) (keyword_word first.text Get e) h) h
-tool_fits Set first words tool e t h = set_fits first words tool _ (subst (λ text. tool_said (text ∷ word_texts words) ≡ Some tool) (keyword_word first.text Set e) h) h
-tool_fits keyword first words tool e t h = cc
+pub detect_said : (first : Span) (words : List Span) (tool : SaidTool) → keyword_of first.text ≡ Some Detect → tool_said (word_texts (first ∷ words)) ≡ Some tool → tool_cost tool ≤ cost Detect words
+detect_said first words tool e h = detect_fits first words tool _ (subst (λ text. tool_said (text ∷ word_texts words) ≡ Some tool) (keyword_word first.text Detect e) h) h
+
+pub info_said : (first : Span) (words : List Span) (tool : SaidTool) → keyword_of first.text ≡ Some Info → tool_said (word_texts (first ∷ words)) ≡ Some tool → tool_cost tool ≤ cost Info words
+info_said first words tool e h = info_fits first words tool _ (subst (λ text. tool_said (text ∷ word_texts words) ≡ Some tool) (keyword_word first.text Info e) h) h
+
+pub get_said : (first : Span) (words : List Span) (tool : SaidTool) → keyword_of first.text ≡ Some Get → tool_said (word_texts (first ∷ words)) ≡ Some tool → tool_cost tool ≤ cost Get words
+get_said first words tool e h = get_fits first words tool _ (subst (λ text. tool_said (text ∷ word_texts words) ≡ Some tool) (keyword_word first.text Get e) h) h
+
+pub set_said : (first : Span) (words : List Span) (tool : SaidTool) → keyword_of first.text ≡ Some Set → tool_said (word_texts (first ∷ words)) ≡ Some tool → tool_cost tool ≤ cost Set words
+set_said first words tool e h = set_fits first words tool _ (subst (λ text. tool_said (text ∷ word_texts words) ≡ Some tool) (keyword_word first.text Set e) h) h
 
 -- a tool that is started costs what its words say: `first` is the tool's name, and `count` words stand after it
 module _ (text : List ℕ) (count : ℕ) where
