@@ -1,8 +1,9 @@
 //! A history of a session of several actors, judged.
-ghost use Rattle.std.specs.Prelude.{◌≡◌, ◌<◌, ◌^◌, ◌++◌, None, length, IfOk, OnErr, IsOkUnless, MatchOption};
+ghost use Rattle.std.specs.Prelude.{◌≡◌, ◌<◌, ◌^◌, ◌++◌, None, length, map, IfOk, OnErr, IsOkUnless, MatchOption};
 ghost use Rattle.gl_script.specs.Script.{sections_of};
-ghost use Rattle.gl_check.specs.Judging.{AreTaken};
-ghost use Rattle.gl_check.specs.Misfit.{IsMisfit, texts_of};
+ghost use Rattle.gl_talk.specs.Over.{columns_in};
+ghost use Rattle.gl_check.specs.Judging.{AreTaken, Judges, all_words, setup_words};
+ghost use Rattle.gl_check.specs.Misfit.{IsMisfit, beginning, texts_of};
 ghost use Rattle.gl_check.specs.Texts.{texts_text};
 
 use crate::judge::Judge;
@@ -10,7 +11,7 @@ use crate::sections::add_kind;
 use crate::texts::put_texts;
 use gl_base::Errno;
 use gl_core::Core;
-use gl_script::{Script, SectionKind};
+use gl_script::{Script, SectionKind, Statement};
 use gl_world::Entry;
 use std::alloc::Global;
 
@@ -34,10 +35,52 @@ pub fn replay(
     let mut all = Vec::new(alloc);
     add_kind(script, SectionKind::Setup, &mut all)?;
     add_kind(script, SectionKind::After, &mut all)?;
-    let mut judge = Judge::new(alloc, script, &setup, &all)?;
-    match judge.take_all(alloc, script, &setup, &all, history) {
+    replay_new(alloc, script, &setup, &all, history, out)
+}
+
+/// The same by a new judge, with the statements of `setup`, and those of `setup` and `after`.
+fn replay_new(
+    alloc: Global,
+    script: &Script<'_>,
+    setup: &[Statement<'_>],
+    all: &[Statement<'_>],
+    history: &[Entry<Core>],
+    out: &mut Vec<u8>,
+) -> Result<Option<u32>, Errno>
+    requires setup { map columns_in setup.now ≡ setup_words (sections_of script.now) }
+    requires all { map columns_in all.now ≡ all_words (sections_of script.now) }
+    requires few { length history.now < 2 ^ 32 }
+    ensures misfit { IfOk result (IsMisfit (sections_of script.now) history.now) }
+    ensures texts { IfOk result (λ misfit. MatchOption misfit (out.new.items ≡ out.old.items ++ texts_text (sections_of script.now) (texts_of (sections_of script.now) history.now)) (λ _. out.new ≡ out.old)) }
+    ensures kept { OnErr result (out.new.items ≡ out.old.items) }
+    ensures memory_alone { IsOkUnless result Errno.NoMemory }
+{
+    let mut judge = Judge::new(alloc, script, setup, all)?;
+    judge_all(alloc, script, setup, all, &mut judge, history, out)
+}
+
+/// The same by a judge that has seen no entry.
+fn judge_all(
+    alloc: Global,
+    script: &Script<'_>,
+    setup: &[Statement<'_>],
+    all: &[Statement<'_>],
+    judge: &mut Judge,
+    history: &[Entry<Core>],
+    out: &mut Vec<u8>,
+) -> Result<Option<u32>, Errno>
+    requires setup { map columns_in setup.now ≡ setup_words (sections_of script.now) }
+    requires all { map columns_in all.now ≡ all_words (sections_of script.now) }
+    requires few { length history.now < 2 ^ 32 }
+    requires beginning { Judges (sections_of script.now) judge.old (beginning (sections_of script.now)) }
+    ensures misfit { IfOk result (IsMisfit (sections_of script.now) history.now) }
+    ensures texts { IfOk result (λ misfit. MatchOption misfit (out.new.items ≡ out.old.items ++ texts_text (sections_of script.now) (texts_of (sections_of script.now) history.now)) (λ _. out.new ≡ out.old)) }
+    ensures kept { OnErr result (out.new.items ≡ out.old.items) }
+    ensures memory_alone { IsOkUnless result Errno.NoMemory }
+{
+    match judge.take_all(alloc, script, setup, all, history) {
         Ok(Some(index)) => Ok(Some(index)),
-        Ok(None) => conclude(alloc, script, &judge, history, out),
+        Ok(None) => conclude(alloc, script, judge, history, out),
         Err(errno) => Err(errno),
     }
 }
