@@ -55,6 +55,20 @@ fn finish_all(
     finish(alloc, talk, left, form, out)
 }
 
+/// Begins each statement of a talk and goes on to its end, over just these results.
+fn finish_over(
+    alloc: Global,
+    talk: &mut Talk,
+    statements: &[Statement<'_>],
+    results: &[Got],
+    form: Form,
+    out: &mut Vec<u8>,
+) -> Result<(), Errno> {
+    let mut left = results;
+    finish_all(alloc, talk, statements, &mut left, form, out)?;
+    all_taken(left)
+}
+
 /// Appends what statements ask and print over just these results, and what is closed at the end.
 fn talk_through(
     alloc: Global,
@@ -63,10 +77,10 @@ fn talk_through(
     form: Form,
     out: &mut Vec<u8>,
 ) -> Result<(), Errno> {
-    let mut talk = Talk::for_setup(alloc)?;
-    let mut left = results;
-    finish_all(alloc, &mut talk, statements, &mut left, form, out)?;
-    all_taken(left)
+    match Talk::for_setup(alloc) {
+        Ok(mut talk) => finish_over(alloc, &mut talk, statements, results, form, out),
+        Err(errno) => Err(errno),
+    }
 }
 
 /// The same for the statements of a session's first section.

@@ -69,14 +69,24 @@ fn put_state(client: &Client, out: &mut Vec<u8>) -> Result<(), Errno> {
     Ok(())
 }
 
-/// Appends what a started tool asks and prints over these results, and then over one more when it is stopped.
+/// Appends what a client that holds its request asks and prints over these results, and then over one more when it is stopped.
+fn put_stopped(
+    alloc: Global,
+    client: &mut Client,
+    results: &[Got],
+    out: &mut Vec<u8>,
+) -> Result<(), Errno> {
+    drive(alloc, client, results, out)?;
+    put_state(client, out)?;
+    client.stop();
+    drive(alloc, client, &[Got::Done], out)?;
+    put_state(client, out)
+}
+
+/// The same of a tool that is started.
 fn tell_held(alloc: Global, tool: Tool, results: &[Got], out: &mut Vec<u8>) -> Result<(), Errno> {
     let mut client = Client::held(alloc, tool, 4);
-    drive(alloc, &mut client, results, out)?;
-    put_state(&client, out)?;
-    client.stop();
-    drive(alloc, &mut client, &[Got::Done], out)?;
-    put_state(&client, out)
+    put_stopped(alloc, &mut client, results, out)
 }
 
 /// The same for the words of a statement and the results that a text tells.

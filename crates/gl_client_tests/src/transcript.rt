@@ -10,17 +10,21 @@ use std::alloc::Global;
 
 /// Appends an operation as a line of text.
 pub fn put_call(what: &Do, out: &mut Vec<u8>) -> Result<(), Errno> {
+    put_operation(what, out)?;
+    out.push(b'\n')?;
+    Ok(())
+}
+
+/// Appends an operation.
+fn put_operation(what: &Do, out: &mut Vec<u8>) -> Result<(), Errno> {
     match what {
         Do::OpenChip { slot, word } => {
             put_words(b"open ", *slot, out)?;
-            out.extend_from_slice(word.as_bytes())?;
+            put_texts(word.as_bytes(), b"", b"", out)
         }
         Do::Find { slot, name } => {
-            match slot {
-                Some(slot) => put_words(b"find ", *slot, out)?,
-                None => out.extend_from_slice(b"find - ")?,
-            }
-            out.extend_from_slice(name.as_bytes())?;
+            put_found_at(*slot, out)?;
+            put_label(b"", name, out)
         }
         Do::Ioctl {
             slot,
@@ -28,17 +32,23 @@ pub fn put_call(what: &Do, out: &mut Vec<u8>) -> Result<(), Errno> {
             len,
             bytes,
             made,
-        } => put_command(*slot, *cmd, *len, bytes, *made, out)?,
+        } => put_command(*slot, *cmd, *len, bytes, *made, out),
         Do::ReadFile { slot, len } => {
             put_words(b"read ", *slot, out)?;
-            put_decimal(u64::from(*len), out)?;
+            put_number(b"", u64::from(*len), out)
         }
-        Do::Poll { slot } => put_words(b"poll ", *slot, out)?,
-        Do::Close { slot } => put_words(b"close ", *slot, out)?,
-        _ => put_board_call(what, out)?,
+        Do::Poll { slot } => put_words(b"poll ", *slot, out),
+        Do::Close { slot } => put_words(b"close ", *slot, out),
+        _ => put_board_call(what, out),
     }
-    out.push(b'\n')?;
-    Ok(())
+}
+
+/// Appends where lines are looked for: on the chip of a slot, or on all.
+fn put_found_at(slot: Option<u32>, out: &mut Vec<u8>) -> Result<(), Errno> {
+    match slot {
+        Some(slot) => put_words(b"find ", slot, out),
+        None => put_texts(b"find - ", b"", b"", out),
+    }
 }
 
 /// Appends the slots of requests that a chip is made of.
@@ -54,79 +64,89 @@ fn put_slots(slots: &[u32; 4], count: u32, out: &mut Vec<u8>) -> Result<(), Errn
 fn put_board_call(what: &Do, out: &mut Vec<u8>) -> Result<(), Errno> {
     match what {
         Do::Probe { label, lines } => {
-            put_texts(b"probe ", label.as_bytes(), b" ", out)?;
-            put_decimal(u64::from(*lines), out)?;
+            put_label(b"probe ", label, out)?;
+            put_number(b" ", u64::from(*lines), out)
         }
-        Do::MakeDir(path) => put_texts(b"mkdir ", path.as_bytes(), b"", out)?,
-        Do::RemoveDir(path) => put_texts(b"rmdir ", path.as_bytes(), b"", out)?,
+        Do::MakeDir(path) => put_texts(b"mkdir ", path.as_bytes(), b"", out),
+        Do::RemoveDir(path) => put_texts(b"rmdir ", path.as_bytes(), b"", out),
         Do::Write { path, value } => {
             put_texts(b"write ", path.as_bytes(), b" ", out)?;
-            out.extend_from_slice(value.as_bytes())?;
+            put_label(b"", value, out)
         }
-        Do::Read(path) => put_texts(b"tree ", path.as_bytes(), b"", out)?,
+        Do::Read(path) => put_texts(b"tree ", path.as_bytes(), b"", out),
         Do::Live { device, up } => {
-            put_texts(b"live ", device.as_bytes(), b" ", out)?;
-            out.extend_from_slice(bit_text(*up))?;
-        }
-        Do::Tick { mono, real } => {
-            out.extend_from_slice(b"tick ")?;
-            put_decimal(*mono, out)?;
-            out.push(b' ')?;
-            put_decimal(*real, out)?;
-        }
-        Do::Plan { nth } => {
-            out.extend_from_slice(b"plan ")?;
-            put_decimal(u64::from(*nth), out)?;
-        }
-        Do::Accept { bits } => {
-            out.extend_from_slice(b"accept ")?;
-            put_decimal(*bits, out)?;
+            put_label(b"live ", device, out)?;
+            put_texts(b" ", bit_text(*up), b"", out)
         }
         Do::Aggregate {
             label,
             slots,
             count,
         } => {
-            out.extend_from_slice(b"aggregate ")?;
-            out.extend_from_slice(label.as_bytes())?;
-            put_slots(slots, *count, out)?;
+            put_label(b"aggregate ", label, out)?;
+            put_slots(slots, *count, out)
         }
-        _ => put_chip_call(what, out)?,
+        _ => put_setting(what, out),
     }
-    Ok(())
+}
+
+/// Appends an operation on the clock or on the driver.
+fn put_setting(what: &Do, out: &mut Vec<u8>) -> Result<(), Errno> {
+    match what {
+        Do::Tick { mono, real } => {
+            put_number(b"tick ", *mono, out)?;
+            put_number(b" ", *real, out)
+        }
+        Do::Plan { nth } => put_number(b"plan ", u64::from(*nth), out),
+        Do::Accept { bits } => put_number(b"accept ", *bits, out),
+        _ => put_chip_call(what, out),
+    }
 }
 
 /// Appends an operation on a chip that isn't opened.
 fn put_chip_call(what: &Do, out: &mut Vec<u8>) -> Result<(), Errno> {
     match what {
-        Do::Unplug { place } => put_words(b"unplug ", u32::from(*place), out)?,
-        Do::Pin { place, .. } => put_words(b"pin ", u32::from(*place), out)?,
+        Do::Unplug { place } => put_words(b"unplug ", u32::from(*place), out),
+        Do::Pin { place, .. } => put_words(b"pin ", u32::from(*place), out),
         Do::Irq {
             place,
             offset,
             what,
         } => {
             put_words(b"irq ", u32::from(*place), out)?;
-            put_decimal(u64::from(*offset), out)?;
-            out.extend_from_slice(irq_text(*what))?;
+            put_number(b"", u64::from(*offset), out)?;
+            put_texts(irq_text(*what), b"", b"", out)
         }
         Do::Pull { place, offset, up } => {
             put_words(b"pull ", u32::from(*place), out)?;
             put_words(b"", *offset, out)?;
-            out.extend_from_slice(bit_text(*up))?;
+            put_texts(bit_text(*up), b"", b"", out)
         }
         Do::Level {
             place,
             offset,
             pull,
         } => {
-            let word: &[u8] = if *pull { b"pullof " } else { b"level " };
-            put_words(word, u32::from(*place), out)?;
-            put_decimal(u64::from(*offset), out)?;
+            put_words(level_word(*pull), u32::from(*place), out)?;
+            put_number(b"", u64::from(*offset), out)
         }
-        _ => out.extend_from_slice(b"another")?,
+        _ => put_texts(b"another", b"", b"", out),
     }
-    Ok(())
+}
+
+fn level_word(pull: bool) -> &'static [u8] {
+    if pull { b"pullof " } else { b"level " }
+}
+
+/// Appends a word and a name.
+fn put_label(word: &[u8], name: &Name, out: &mut Vec<u8>) -> Result<(), Errno> {
+    put_texts(word, name.as_bytes(), b"", out)
+}
+
+/// Appends a word and a number.
+fn put_number(word: &[u8], number: u64, out: &mut Vec<u8>) -> Result<(), Errno> {
+    out.extend_from_slice(word)?;
+    put_decimal(number, out)
 }
 
 /// Appends three texts.
@@ -169,23 +189,32 @@ fn put_command(
     out: &mut Vec<u8>,
 ) -> Result<(), Errno> {
     put_words(command_word(cmd), slot, out)?;
-    put_decimal(u64::from(len), out)?;
-    if cmd == GET_LINE {
-        put_words(b" as ", made, out)?;
-        put_request(bytes, out)?;
-    }
-    if cmd == GET_LINEINFO || cmd == GET_LINEINFO_WATCH {
-        if let Some(info) = InfoRef::of(bytes) {
-            put_words(b" line ", info.offset(), out)?;
+    put_number(b"", u64::from(len), out)?;
+    match cmd {
+        GET_LINE => {
+            put_words(b" as ", made, out)?;
+            put_request(bytes, out)
         }
+        GET_LINEINFO | GET_LINEINFO_WATCH => put_line(bytes, out),
+        LINE_GET_VALUES => put_mask(bytes, out),
+        _ => Ok(()),
     }
-    if cmd == LINE_GET_VALUES {
-        if let Some(values) = ValuesRef::of(bytes) {
-            out.extend_from_slice(b" mask ")?;
-            put_decimal(values.mask(), out)?;
-        }
+}
+
+/// Appends the line that is asked about.
+fn put_line(bytes: &[u8], out: &mut Vec<u8>) -> Result<(), Errno> {
+    match InfoRef::of(bytes) {
+        Some(info) => put_words(b" line ", info.offset(), out),
+        None => Ok(()),
     }
-    Ok(())
+}
+
+/// Appends the mask of the lines that are got.
+fn put_mask(bytes: &[u8], out: &mut Vec<u8>) -> Result<(), Errno> {
+    match ValuesRef::of(bytes) {
+        Some(values) => put_number(b" mask ", values.mask(), out),
+        None => Ok(()),
+    }
 }
 
 fn command_word(cmd: u32) -> &'static [u8] {
@@ -201,25 +230,35 @@ fn command_word(cmd: u32) -> &'static [u8] {
 
 /// Appends a request's offsets, flags, consumer and first attribute.
 fn put_request(bytes: &[u8], out: &mut Vec<u8>) -> Result<(), Errno> {
-    if let Some(request) = RequestRef::of(bytes) {
-        for i in 0..request.num_lines().min(64) {
-            put_decimal(u64::from(request.offset(i)), out)?;
-            out.push(b' ')?;
+    match RequestRef::of(bytes) {
+        Some(request) => {
+            put_offsets(&request, out)?;
+            put_config(&request, out)
         }
-        let config = request.config();
-        out.extend_from_slice(b"flags ")?;
-        put_decimal(config.flags(), out)?;
-        out.extend_from_slice(b" by ")?;
-        out.extend_from_slice(Name::read(request.consumer()).as_bytes())?;
-        if config.num_attrs() > 0 {
-            let attribute = config.attr(0);
-            put_words(b" attribute ", attribute.id(), out)?;
-            put_decimal(attribute.value(), out)?;
-            out.push(b' ')?;
-            put_decimal(attribute.mask(), out)?;
-        }
+        None => Ok(()),
+    }
+}
+
+/// Appends a request's offsets.
+fn put_offsets(request: &RequestRef<'_>, out: &mut Vec<u8>) -> Result<(), Errno> {
+    for i in 0..request.num_lines().min(64) {
+        put_words(b"", request.offset(i), out)?;
     }
     Ok(())
+}
+
+/// Appends a request's flags, consumer and first attribute.
+fn put_config(request: &RequestRef<'_>, out: &mut Vec<u8>) -> Result<(), Errno> {
+    let config = request.config();
+    put_number(b"flags ", config.flags(), out)?;
+    put_label(b" by ", &Name::read(request.consumer()), out)?;
+    if config.num_attrs() == 0 {
+        return Ok(());
+    }
+    let attribute = config.attr(0);
+    put_words(b" attribute ", attribute.id(), out)?;
+    put_number(b"", attribute.value(), out)?;
+    put_number(b" ", attribute.mask(), out)
 }
 
 /// What is asked, in short.
@@ -252,12 +291,9 @@ fn call_of(what: &Do) -> (&'static str, u32) {
 /// Appends what is asked, in short.
 pub fn put_short(what: &Do, out: &mut Vec<u8>) -> Result<(), Errno> {
     let (name, number) = call_of(what);
-    out.push(b'(')?;
-    out.extend_from_slice(name.as_bytes())?;
-    out.push(b' ')?;
-    put_decimal(u64::from(number), out)?;
-    out.push(b')')?;
-    Ok(())
+    put_texts(b"(", name.as_bytes(), b" ", out)?;
+    put_number(b"", u64::from(number), out)?;
+    put_texts(b")", b"", b"", out)
 }
 
 /// The results that words tell, one a word: `ok`, `number:N`, `text:VALUE`, `found:PLACE:OFFSET:COUNT`, `chip:NAME:LABEL:LINES`,
@@ -274,34 +310,55 @@ pub fn results_of(alloc: Global, text: &[u8]) -> Result<Vec<Got>, Errno> {
 }
 
 fn result_of(alloc: Global, word: &[u8]) -> Result<Got, Errno> {
-    let kind = part(word, 0);
-    if kind == b"ok".as_slice() {
-        return Ok(Got::Done);
+    match plain_result_of(word) {
+        Some(got) => Ok(got),
+        None => match structures_of(alloc, word) {
+            Ok(bytes) => Ok(Got::Bytes(bytes)),
+            Err(errno) => Err(errno),
+        },
     }
-    if kind == b"found".as_slice() {
-        return Ok(Got::Found {
+}
+
+/// The result without bytes that a word tells, if it tells one.
+fn plain_result_of(word: &[u8]) -> Option<Got> {
+    let kind = part(word, 0);
+    match kind {
+        b"ok" => Some(Got::Done),
+        b"found" => Some(Got::Found {
             place: byte(word, 1),
             offset: number(word, 2),
             count: number(word, 3),
-        });
+        }),
+        b"ready" => Some(Got::Ready(byte(word, 1))),
+        b"number" => Some(Got::Number(u64::from(number(word, 1)))),
+        b"text" => Some(Got::Text(name(word, 1))),
+        _ => refusal_of(kind),
     }
-    if kind == b"ready".as_slice() {
-        return Ok(Got::Ready(byte(word, 1)));
+}
+
+/// The refusal of an error's name.
+fn refusal_of(name: &[u8]) -> Option<Got> {
+    match errno_of(name) {
+        Some(errno) => Some(Got::Refused(errno)),
+        None => None,
     }
-    if kind == b"number".as_slice() {
-        return Ok(Got::Number(u64::from(number(word, 1))));
-    }
-    if kind == b"text".as_slice() {
-        return Ok(Got::Text(name(word, 1)));
-    }
-    if let Some(errno) = errno_of(kind) {
-        return Ok(Got::Refused(errno));
-    }
+}
+
+/// The bytes of the structures that the pieces of a word tell.
+fn structures_of(alloc: Global, word: &[u8]) -> Result<ByteList, Errno> {
     let mut bytes = ByteList::new(alloc);
-    for piece in word.split(|byte| *byte == b'+') {
-        put_structure(piece, &mut bytes)?;
+    match put_structures(word, &mut bytes) {
+        Ok(()) => Ok(bytes),
+        Err(errno) => Err(errno),
     }
-    Ok(Got::Bytes(bytes))
+}
+
+/// Appends the structures that the pieces of a word tell.
+fn put_structures(word: &[u8], bytes: &mut ByteList) -> Result<(), Errno> {
+    for piece in word.split(|byte| *byte == b'+') {
+        put_structure(piece, bytes)?;
+    }
+    Ok(())
 }
 
 /// Appends the structure that a piece of a word tells.
