@@ -2,8 +2,9 @@
 
 An edit has a line `refused by: FUNCTION` and then lines `file: PATH` and pairs of lines `old: TEXT`, `new: TEXT`, one line each: the old
 text stands in the file once. It is made in a copy of its crate, and the prover is asked for that function, over the libraries that `rt ci`
-proved. A function is proved over the contracts of those that it calls, so edits that don't reach each other's functions are made in one
-copy, and tried by one check. The check counts for nothing where a function that has no edit isn't proved.
+proved. A function is proved over the contracts of those that it calls, so edits of different functions are made in one copy, and tried by one
+check: of a function that is well itself it says no more than that another one which it calls isn't proved. The check counts for nothing where
+it says more of a function that has no edit.
 """
 import os
 import re
@@ -21,8 +22,11 @@ TOP = Path(__file__).resolve().parent.parent
 PARTS = ("src", "specs", "proofs")
 # what a check takes at most, in bytes: one of gl_session
 MEMORY_OF_A_CHECK = 4_000_000_000
-# what the prover says of a function that it refuses by itself; behind a further `;` stands what else it waits for
-REFUSED = re.compile(r"not proved|no proof: expected [^;]*; `search` did not prove ([^;]*)")
+# what the prover says of a function that it refuses by itself, where it has a proof by hand without the goals; and behind that, that the
+# function calls one that isn't proved
+REFUSED = re.compile(r"(?:not proved|no proof: expected [^;]*; `search` did not prove (?P<goals>[^;]*))(?P<waits>; it calls [^;]*)?")
+# what it says of a function that is well itself
+WELL = re.compile(r"proved\b.*|no proof: it calls [^;]*, which (?:is|are) not proved")
 # what it says of a text of src/ or specs/ that it can't read: an edit that makes a statement false reads well
 UNREAD = re.compile(
     r"(?m)\berror\[[\w-]+\]|^(?:\./)?(?:src|specs)/\S+:\d+:\d+: error: "
@@ -32,8 +36,6 @@ UNREAD = re.compile(
 LIMIT = re.compile(r"antt ran out of|outgrew the memory limit|stopped at the step limit|could not tell")
 # where an item begins, with its name where it is a function
 ITEM = re.compile(r"^\s*(?:#\[derive|(?:pub(?:\(\w+\))? )?(?:(?:const )?fn (\w+)|(?:const|static|struct|enum|trait|type|impl)\b))")
-# the lines of a function that aren't its code
-CLAUSE = re.compile(r"^\s*(?:requires|ensures|ghost|//)")
 
 
 class Stop(Exception):
@@ -109,40 +111,24 @@ def edit_of(path: Path) -> Edit:
     return Edit(crate.name, path.stem, function, tuple(changes))
 
 
-def reached(crate: str) -> Dict[str, Set[str]]:
-    """What each function of a crate reaches, itself among it, by names: all that its code names, and what that names."""
-    named: Dict[str, Set[str]] = {}
-    for path in sorted((TOP / "crates" / crate / "src").rglob("*.rt")):
-        function = ""
-        for line in path.read_text(encoding="utf-8").splitlines():
-            begins = ITEM.match(line)
-            function = (begins[1] or "") if begins else function
-            if function and not CLAUSE.match(line):
-                named.setdefault(function, {function}).update(re.findall(r"\w+", line))
-    found = {function: names & named.keys() for function, names in named.items()}
-    while True:
-        wider = {function: names.union(*(found[it] for it in names)) for function, names in found.items()}
-        if wider == found:
-            return found
-        found = wider
+def touched(edit: Edit) -> Set[str]:
+    """The functions that an edit changes, and the one that refuses it; none where it changes another item, as a constant."""
+    names = {edit.last_name(), *(it.function for it in edit.changes)}
+    return names if all(names) else set()
 
 
-def apart(one: Edit, other: Edit, reach: Dict[str, Set[str]]) -> bool:
-    """Whether each changes the code of functions that the function which refuses the other doesn't reach."""
-    pairs = [(it.function, to.last_name()) for edit, to in ((one, other), (other, one)) for it in edit.changes]
-    return all(function and function not in reach.get(name, {function}) for function, name in pairs)
-
-
-def rounds(edits: Iterable[Edit], reach: Dict[str, Set[str]]) -> List[List[Edit]]:
-    """The edits of a crate by the check that tries them."""
-    found: List[List[Edit]] = []
+def rounds(edits: Iterable[Edit]) -> List[List[Edit]]:
+    """The edits of a crate by the check that tries them: those that touch no function twice have one check."""
+    found: List[Tuple[Set[str], List[Edit]]] = []
     for edit in edits:
-        fitting = next((it for it in found if all(apart(edit, other, reach) for other in it)), None)
+        own = touched(edit)
+        fitting = next((it for it in found if own and it[0] and own.isdisjoint(it[0])), None)
         if fitting is None:
-            found.append([edit])
+            found.append((own, [edit]))
         else:
-            fitting.append(edit)
-    return found
+            fitting[0].update(own)
+            fitting[1].append(edit)
+    return [some for _, some in found]
 
 
 def libraries() -> Dict[str, List[str]]:
@@ -210,18 +196,22 @@ def said_of(words: List[str], edits: List[Edit]) -> Tuple[int, str]:
 
 
 def tried(words: List[str], edits: List[Edit]) -> List[Tuple[Edit, bool, str]]:
-    """Tries edits of one crate by one check: whether each is refused, and what of it isn't proved or is wrong."""
+    """Tries edits of one crate by one check: whether each is refused, and what of it isn't proved or is wrong. Those of which the check of
+    several doesn't tell are tried by themselves."""
     status, said = said_of(words, edits)
     fates = re.findall(r"(?m)^fn (\S+): (.*)$", said)
-    wrong = [f"{name}: {fate}" for name, fate in fates if not fate.startswith("proved") and not any(name.endswith(f"::{it.function}") for it in edits)]
+    wrong = [f"{name}: {fate}" for name, fate in fates if not WELL.fullmatch(fate) and not any(name.endswith(f"::{it.function}") for it in edits)]
     wrong += [found[0] for found in (LIMIT.search(said), UNREAD.search(said)) if found]
-    if status != 1 or wrong:
-        return [(edit, False, f"status {status} {wrong}\n{said[-2000:]}") for edit in edits]
     results = []
     for edit in edits:
         own = [fate for name, fate in fates if name.endswith(f"::{edit.function}")]
-        refused = REFUSED.fullmatch(own[0]) if len(own) == 1 else None
-        results.append((edit, bool(refused), (refused[1] or "") if refused else f"{own}"))
+        refused = REFUSED.fullmatch(own[0]) if len(own) == 1 and status == 1 and not wrong else None
+        # where the function has a proof by hand and waits for another one too, it isn't told which goal wasn't proved
+        is_clear = refused is not None and (refused["goals"] or not refused["waits"])
+        if not is_clear and len(edits) > 1:
+            results += tried(words, [edit])
+        else:
+            results.append((edit, bool(is_clear), (refused["goals"] or "") if is_clear else f"status {status} {own} {wrong}\n{said[-2000:]}"))
     return results
 
 
@@ -252,7 +242,7 @@ def main() -> int:
     try:
         uses = libraries()
         found = edits_of(sys.argv[1:])
-        checks = [(command(crate, uses), some) for crate, edits in found.items() for some in rounds(edits, reached(crate))]
+        checks = [(command(crate, uses), some) for crate, edits in found.items() for some in rounds(edits)]
     except Stop as why:
         print(f"wrong-bodies: {why}\n0 passed, 1 failed")
         return 1
