@@ -4,7 +4,7 @@ An edit has a line `refused by: FUNCTION` and then lines `file: PATH` and pairs 
 text stands in the file once. It is made in a copy of its crate, and the prover is asked for that function, over the libraries that `rt ci`
 proved. A function is proved over the contracts of those that it calls, so edits of different functions are made in one copy, and tried by one
 check: of a function that is well itself it says no more than that another one which it calls isn't proved. The check counts for nothing where
-it says more of a function that has no edit.
+it says more of a function that has no edit. An edit that the check of several didn't refuse is tried again by itself.
 """
 import os
 import re
@@ -24,8 +24,8 @@ PARTS = ("src", "specs", "proofs")
 MEMORY_OF_A_CHECK = 4_000_000_000
 # what the prover says of a function that it refuses by itself, where it has a proof by hand without the goals; and behind that, that the
 # function calls one that isn't proved
-REFUSED = re.compile(r"(?:not proved|no proof: expected [^;]*; `search` did not prove (?P<goals>[^;]*))(?P<waits>; it calls [^;]*)?")
-# what it says of a function that is well itself
+REFUSED = re.compile(r"(?:not proved|no proof: expected [^;]*; `search` did not prove (?P<goals>[^;]*))(?:; it calls [^;]*)?")
+# what it says of a function that is well itself, by hand or not
 WELL = re.compile(r"proved\b.*|no proof: it calls [^;]*, which (?:is|are) not proved")
 # what it says of a text of src/ or specs/ that it can't read: an edit that makes a statement false reads well
 UNREAD = re.compile(
@@ -206,12 +206,11 @@ def tried(words: List[str], edits: List[Edit]) -> List[Tuple[Edit, bool, str]]:
     for edit in edits:
         own = [fate for name, fate in fates if name.endswith(f"::{edit.function}")]
         refused = REFUSED.fullmatch(own[0]) if len(own) == 1 and status == 1 and not wrong else None
-        # where the function has a proof by hand and waits for another one too, it isn't told which goal wasn't proved
-        is_clear = refused is not None and (refused["goals"] or not refused["waits"])
-        if not is_clear and len(edits) > 1:
+        if refused is None and len(edits) > 1:
             results += tried(words, [edit])
         else:
-            results.append((edit, bool(is_clear), (refused["goals"] or "") if is_clear else f"status {status} {own} {wrong}\n{said[-2000:]}"))
+            told = f"status {status} {own} {wrong}\n{said[-2000:]}" if refused is None else refused["goals"] or ""
+            results.append((edit, refused is not None, told))
     return results
 
 
