@@ -42,7 +42,7 @@ impl State {
 }
 
 /// A directory of the tree with its values.
-#[derive(Clone, Copy, PartialEq, Eq)]
+#[derive(Clone, Copy)]
 pub enum TreeRow {
     /// A device.
     Device {

@@ -1,10 +1,11 @@
 //! The tree and its calls.
-ghost use Rattle.std.specs.Prelude.{◌≡◌, ◌≤◌, [], IfOk, IsOkUnless, Some, slice_get, length};
+ghost use Rattle.std.specs.Prelude.{◌≡◌, ◌<◌, ◌≤◌, [], IfOk, IsOkUnless, None, Some, slice_get, length};
 ghost use Rattle.gl_simtree.specs.Nodes.{node_at};
 ghost use Rattle.gl_base.specs.Refusals.{answer, unless};
 ghost use Rattle.gl_simtree.specs.Calls.{mkdir_refusal, made, rmdir_refusal, removed, write_to, write_refusal, written, read_answer, live_refusal, remove_refusal, leaving_state};
 ghost use Rattle.gl_simtree.specs.Plans.{planned_label, planned_lines, planned_names, planned_hogs};
 ghost use Rattle.gl_base.specs.declared.limits.TheConstants.{LINES_MAX};
+ghost use Rattle.gl_simtree.specs.Formed.{IsFormedDirectory};
 ghost use Rattle.gl_simtree.specs.Room.{HasRoom};
 ghost use Rattle.gl_simtree.specs.Rows.{row_at, with_state, state_of, banks_of};
 
@@ -67,24 +68,25 @@ impl Tree {
         ensures answer { result ≡ answer (mkdir_refusal (node_at path.now) self.old) tt }
         ensures tree { self.new ≡ unless (mkdir_refusal (node_at path.now) self.old) (made (node_at path.now) self.old) self.old }
     {
-        let directory = match node_at(path) {
-            Some(Node::Directory(directory)) => directory,
-            Some(Node::File(..)) | None => return Err(Errno::Inval),
-        };
-        if !search::has_parent(&self.rows, &directory) {
-            return Err(Errno::NoEnt);
+        match node_at(path) {
+            Some(Node::Directory(directory)) => self.make(&directory),
+            Some(Node::File(..)) | None => Err(Errno::Inval),
         }
-        if search::is_busy(&self.rows, &directory) {
-            return Err(Errno::Busy);
+    }
+
+    /// Makes this directory.
+    fn make(&mut self, directory: &Directory) -> Result<(), Errno>
+        requires { IsFormedDirectory directory.now }
+        ensures answer { result ≡ answer (mkdir_refusal (Some (Node.Directory directory.now)) self.old) tt }
+        ensures tree { self.new ≡ unless (mkdir_refusal (Some (Node.Directory directory.now)) self.old) (made (Some (Node.Directory directory.now)) self.old) self.old }
+    {
+        match make_refusal(&self.rows, directory) {
+            Some(errno) => Err(errno),
+            None => {
+                push_within(&mut self.rows, TreeRow::new(directory));
+                Ok(())
+            }
         }
-        if search::has(&self.rows, &directory) {
-            return Err(Errno::Exist);
-        }
-        if self.rows.len() >= DIRECTORIES_MAX {
-            return Err(Errno::NoSpc);
-        }
-        push_within(&mut self.rows, TreeRow::new(&directory));
-        Ok(())
     }
 
     /// Removes a directory. The refusals, first case first: `Inval` where the path is of no directory's form,
@@ -93,18 +95,24 @@ impl Tree {
         ensures answer { result ≡ answer (rmdir_refusal (node_at path.now) self.old) tt }
         ensures tree { self.new ≡ unless (rmdir_refusal (node_at path.now) self.old) (removed (node_at path.now) self.old) self.old }
     {
-        let directory = match node_at(path) {
-            Some(Node::Directory(directory)) => directory,
-            Some(Node::File(..)) | None => return Err(Errno::Inval),
-        };
-        if !search::has(&self.rows, &directory) {
-            return Err(Errno::NoEnt);
+        match node_at(path) {
+            Some(Node::Directory(directory)) => self.remove(&directory),
+            Some(Node::File(..)) | None => Err(Errno::Inval),
         }
-        if search::is_busy(&self.rows, &directory) || search::has_inside(&self.rows, &directory) {
-            return Err(Errno::Busy);
+    }
+
+    /// Removes this directory.
+    fn remove(&mut self, directory: &Directory) -> Result<(), Errno>
+        ensures answer { result ≡ answer (rmdir_refusal (Some (Node.Directory directory.now)) self.old) tt }
+        ensures tree { self.new ≡ unless (rmdir_refusal (Some (Node.Directory directory.now)) self.old) (removed (Some (Node.Directory directory.now)) self.old) self.old }
+    {
+        match removal_refusal(&self.rows, directory) {
+            Some(errno) => Err(errno),
+            None => {
+                edit::remove(&mut self.rows, directory);
+                Ok(())
+            }
         }
-        edit::remove(&mut self.rows, &directory);
-        Ok(())
     }
 
     /// Writes a file. The refusals, first case first: `Inval` where the path is of no file's form, or names
@@ -247,5 +255,36 @@ impl Tree {
             Some(row) => plan.fill(&self.rows, row),
             None => plan.clear(),
         }
+    }
+}
+
+/// Why this directory can't be made, if it can't.
+fn make_refusal(rows: &[TreeRow], directory: &Directory) -> Option<Errno>
+    ensures refusal { result ≡ mkdir_refusal (Some (Node.Directory directory.now)) rows.now }
+    ensures room { result ≡ None → length rows.now < DIRECTORIES_MAX }
+{
+    if !search::has_parent(rows, directory) {
+        Some(Errno::NoEnt)
+    } else if search::is_busy(rows, directory) {
+        Some(Errno::Busy)
+    } else if search::has(rows, directory) {
+        Some(Errno::Exist)
+    } else if rows.len() >= DIRECTORIES_MAX {
+        Some(Errno::NoSpc)
+    } else {
+        None
+    }
+}
+
+/// Why this directory can't be removed, if it can't.
+fn removal_refusal(rows: &[TreeRow], directory: &Directory) -> Option<Errno>
+    ensures { result ≡ rmdir_refusal (Some (Node.Directory directory.now)) rows.now }
+{
+    if !search::has(rows, directory) {
+        Some(Errno::NoEnt)
+    } else if search::is_busy(rows, directory) || search::has_inside(rows, directory) {
+        Some(Errno::Busy)
+    } else {
+        None
     }
 }
