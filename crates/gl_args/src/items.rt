@@ -1,5 +1,5 @@
 //! The words of a tool as items: options with their values, and line words, in their order.
-ghost use Rattle.std.specs.Prelude.{◌≡◌, ◌++◌, None, Some, map, option_map, option_copied, is_some, MatchOption, OnOk, IfOk, IsErrOf, IsOkUnless};
+ghost use Rattle.std.specs.Prelude.{◌≡◌, ◌++◌, [], None, Some, map, option_map, option_copied, is_some, MatchOption, OnOk, IfOk, IsErrOf, IsOkUnless};
 ghost use Rattle.gl_args.specs.Cuts.{before, behind};
 ghost use Rattle.gl_args.specs.Names.{long_option, short_option};
 ghost use Rattle.gl_args.specs.Items.{texts, items_of, item_in, item_given, step_in, step_of, kind_step, to_list, is_value, text_of, begins_with_dash, looks_short, long_kind, short_kind, kind_of};
@@ -54,7 +54,6 @@ pub(crate) enum WordKind {
 }
 
 /// The items of a tool's words.
-#[tactic(auto, using(crate::proofs::Fronts::fronts))]
 pub(crate) fn items_of<'a>(
     alloc: Global,
     tool: ToolName,
@@ -64,12 +63,29 @@ pub(crate) fn items_of<'a>(
     ensures usage { IsErrOf result ArgFault.Usage → items_of tool (texts words.now) ≡ None }
 {
     let mut items = Vec::new(alloc);
+    match put_items(tool, words, &mut items) {
+        Ok(()) => Ok(items),
+        Err(fault) => Err(fault),
+    }
+}
+
+/// Puts the items of a tool's words into a list without any.
+#[tactic(auto, using(crate::proofs::Fronts::fronts))]
+fn put_items<'a>(
+    tool: ToolName,
+    words: &[&'a [u8]],
+    items: &mut Vec<Item<'a>>,
+) -> Result<(), ArgFault>
+    requires { items.old.items ≡ [] }
+    ensures ok { OnOk result (items_of tool (texts words.now) ≡ Some (map item_in items.new.items)) }
+    ensures usage { IsErrOf result ArgFault.Usage → items_of tool (texts words.now) ≡ None }
+{
     let mut ended = false;
     let mut wanted = None;
     for word in words {
         match step_at(tool, word, ended, wanted) {
             Some(step) => {
-                push_item(&mut items, step.item)?;
+                push_item(items, step.item)?;
                 ended = step.ended;
                 wanted = step.wanted;
             }
@@ -78,7 +94,7 @@ pub(crate) fn items_of<'a>(
     }
     match wanted {
         Some(_) => Err(ArgFault::Usage),
-        None => Ok(items),
+        None => Ok(()),
     }
 }
 

@@ -4,8 +4,9 @@ ghost use Rattle.std.specs.Prelude.{◌≡◌, ◌<◌, ◌≤◌, None, Some, I
 ghost use Rattle.gl_base.specs.Lines.{IsLineCount};
 ghost use Rattle.gl_base.specs.Positions.{table_from};
 ghost use Rattle.gl_base.specs.Settings.{no_settings};
-ghost use Rattle.std.specs.Option.{option_map};
+ghost use Rattle.std.specs.Option.{is_some, option_map};
 ghost use Rattle.gl_uapi.specs.LineConfig.{attribute_in};
+ghost use Rattle.gl_uapi.specs.declared.layout.TheConstants.{ATTRIBUTE_DEBOUNCE};
 ghost use Rattle.gl_attrs.specs.Setting.{attribute_for, flags_for, value_for, period_for, settings_for, resolved_for};
 ghost use Rattle.gl_attrs.specs.ConfigFault.{config_fault, line_fault};
 
@@ -80,13 +81,20 @@ fn line_fault(config: &ConfigRef<'_>, i: u32) -> Option<Errno>
     match check(line_flags(config, i)) {
         Err(errno) => Some(errno),
         Ok(flags) => {
-            let debounced = attribute_of(config, ATTRIBUTE_DEBOUNCE, i).is_some();
-            if debounced && !flags.has(flag::INPUT) {
+            if is_debounced(config, i) && !flags.has(flag::INPUT) {
                 return Some(Errno::Inval);
             }
             None
         }
     }
+}
+
+/// Whether the configuration gives the line at position `i` of the request a debounce period.
+fn is_debounced(config: &ConfigRef<'_>, i: u32) -> bool
+    requires { i < LINES_PER_REQUEST }
+    ensures { result ≡ is_some (attribute_for ATTRIBUTE_DEBOUNCE config.now i) }
+{
+    attribute_of(config, ATTRIBUTE_DEBOUNCE, i).is_some()
 }
 
 /// The settings that the configuration gives the line at position `i` of the request.

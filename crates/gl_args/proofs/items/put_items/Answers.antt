@@ -1,7 +1,7 @@
 use Rattle.std.proofs.Common.{◌+◌, [], map, drop, ap, sym, ◌∙◌, arith}
 use Rattle.gl_args.specs.Items.{item_in, item_given, to_list, with_front, reads, texts, step_in}
 use Rattle.gl_args.proofs.Fronts.{front_of_front, one_more}
-use Rattle.gl_args.proofs.items.items_of.Goals as goal
+use Rattle.gl_args.proofs.items.put_items.Goals as goal
 
 pub loop-word-preserved : goal.loop-word-preserved
 loop-word-preserved c =
