@@ -7,6 +7,7 @@ use Rattle.gl_model.specs.AskedLines.{asked_in, request_fault}
 use Rattle.gl_model.specs.Claiming.{claim_refusal, get_line_ask}
 use Rattle.gl_model.specs.Configuring.{set_config}
 use Rattle.gl_model.specs.OpenFiles.{in_parts, on_request}
+use Rattle.gl_model.specs.Fits.{Leaves}
 use Rattle.gl_model.specs.Outcome.{Outcome, refused_or}
 use Rattle.gl_model.specs.Step.{step}
 use Rattle.gl_model.specs.Values.{set_values}
@@ -14,6 +15,7 @@ use Rattle.gl_model.specs.World.{Request, World}
 use Rattle.gl_model.specs.declared.call.Call.{Call}
 use Rattle.gl_model.specs.declared.call.Part.{Part}
 use Rattle.gl_model.specs.declared.call.Part.TheVariants.{Whole, Ask, Tell}
+use Rattle.gl_model.specs.declared.gift.Gift.{Gift}
 use Rattle.gl_model.specs.declared.reply.Reply.{Reply}
 use Rattle.gl_core.specs.Kept.{Kept}
 use Rattle.gl_core.specs.Steps.{Steps, StepsInto}
@@ -34,6 +36,15 @@ pub step_told : (actor : ℕ) (given call : Call) (old new : Kept) (reply : Repl
     → StepsInto (λ w. step w actor given) old new reply out out
 step_told actor given call old new reply out is none steps =
     subst (λ call. StepsInto (λ w. step w actor call) old new reply out out) (sym is) (silent (λ w. step w actor call) old new reply out none steps)
+
+-- a call that is known, and writes to its buffer
+pub step_known : (actor : ℕ) (given call : Call) (old new : Kept) (reply : Reply) (before after : List ℕ) → given ≡ call → StepsInto (λ w. step w actor call) old new reply before after
+    → StepsInto (λ w. step w actor given) old new reply before after
+step_known actor given call old new reply before after is steps = subst (λ call. StepsInto (λ w. step w actor call) old new reply before after) (sym is) steps
+
+-- what a call leaves of its gift that is known
+pub leaves_known : (given call : Call) (reply : Reply) (old new : Gift) → given ≡ call → Leaves call reply old new → Leaves given reply old new
+leaves_known given call reply old new is left = subst (λ call. Leaves call reply old new) (sym is) left
 
 -- refused or silent
 

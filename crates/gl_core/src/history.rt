@@ -6,18 +6,16 @@ ghost use Rattle.gl_world.specs.Ranks.{IsClosing, IsNotGone, rank};
 ghost use Rattle.gl_model.specs.Chips.{phase_at};
 ghost use Rattle.gl_model.specs.World.{World, opening};
 ghost use Rattle.gl_core.specs.Kept.{StandsFor};
-ghost use Rattle.gl_model.specs.Fits.{FitsBuffer, FitsCall};
-ghost use Rattle.gl_model.specs.Machine.{bytes_of, world_after};
-ghost use Rattle.gl_model.specs.Step.{step};
+ghost use Rattle.gl_model.specs.Fits.{Fits, FitsBuffer, FitsCall};
+ghost use Rattle.gl_model.specs.Machine.{bytes_of, reply_of, world_after};
 ghost use Rattle.gl_core.specs.Legal.{FindsPlace, GoesOn, IsFirstBad};
-ghost use Rattle.gl_core.specs.Steps.{Steps};
 
 use crate::entries::{place_of, refused_at};
 use crate::fits::{buffer_size, fill, fits_call, gift_for};
 use crate::machine::Core;
 use crate::state::State;
 use gl_base::{Errno, Phase};
-use gl_model::{Call, Reply};
+use gl_model::{Call, Gift};
 use gl_world::{Entry, Machine};
 use std::alloc::Global;
 
@@ -31,11 +29,21 @@ pub fn first_bad(history: &[Entry<Core>], alloc: Global) -> Result<Option<u32>, 
     ensures memory_alone { IsOkUnless result Errno.NoMemory }
 {
     let mut core = Core::new(alloc)?;
-    let mut buffer = Vec::new(alloc);
-    core.first_bad(history, &mut buffer, alloc)
+    core.replay(history, alloc)
 }
 
 impl Core {
+    /// The first entry at which a history stops being legal, which is made again on this core, a new one, with a buffer of its own.
+    fn replay(&mut self, history: &[Entry<Core>], alloc: Global) -> Result<Option<u32>, Errno>
+        requires few { length history.now < 2 ^ 32 }
+        requires opens { StandsFor self.old opening }
+        ensures first { IfOk result (IsFirstBad StandsFor history.now) }
+        ensures memory_alone { IsOkUnless result Errno.NoMemory }
+    {
+        let mut buffer = Vec::new(alloc);
+        self.first_bad(history, &mut buffer, alloc)
+    }
+
     /// The first entry at which a history stops being legal, which is made again on this core, a new one.
     fn first_bad(
         &mut self,
@@ -75,9 +83,7 @@ impl Core {
         if !fits_call(&entry.call) || !self.state.finds_place(&entry.call) {
             return Ok(false);
         }
-        let mut gift = gift_for(&entry.call, alloc)?;
-        let reply = self.step(entry.actor, &entry.call, &mut gift, out);
-        Ok(reply == entry.reply)
+        self.make(entry, out, alloc)
     }
 
     /// Whether a history that led to the core may go on with an entry. If so, the core makes the entry's call.
@@ -94,28 +100,37 @@ impl Core {
         if !fits_call(&entry.call) || !self.state.finds_place(&entry.call) {
             return Ok(false);
         }
-        let reply = self.make(entry.actor, &entry.call, buffer, alloc)?;
-        Ok(reply == entry.reply)
-    }
-
-    /// Makes a call, with the memory and the buffer that it needs.
-    fn make(
-        &mut self,
-        actor: u8,
-        call: &Call,
-        buffer: &mut Vec<u8>,
-        alloc: Global,
-    ) -> Result<Reply, Errno>
-        requires { FitsCall call.now }
-        ensures made { IfOk result (λ reply. Steps (λ w. step w actor call.now) self.old self.new reply) }
-        ensures memory_alone { IsOkUnless result Errno.NoMemory }
-    {
-        let mut gift = gift_for(call, alloc)?;
-        let size = buffer_size(call);
+        let size = buffer_size(&entry.call);
         make_room(buffer, size)?;
         let out = &mut buffer[..size as usize];
-        fill(out, call);
-        Ok(self.step(actor, call, &mut gift, out))
+        fill(out, &entry.call);
+        self.make(entry, out, alloc)
+    }
+
+    /// Makes the call of an entry, with the memory that it needs, and tells whether it is answered as the entry says.
+    fn make(&mut self, entry: &Entry<Core>, out: &mut [u8], alloc: Global) -> Result<bool, Errno>
+        requires fits { FitsCall entry.now.call }
+        requires buffer { FitsBuffer entry.now.call out.old }
+        ensures replied { IfOk result (λ good. (w : World) → StandsFor self.old w → Decides good (entry.now.reply ≡ reply_of w entry.now.actor entry.now.call)) }
+        ensures world { IfOk result (λ _. (w : World) → StandsFor self.old w → StandsFor self.new (world_after w entry.now.actor entry.now.call)) }
+        ensures bytes { IfOk result (λ _. (w : World) → StandsFor self.old w
+            → let bytes = bytes_of w entry.now.actor entry.now.call in out.new ≡ bytes ++ drop (length bytes) out.old) }
+        ensures memory_alone { IsOkUnless result Errno.NoMemory }
+    {
+        let mut gift = gift_for(&entry.call, alloc)?;
+        Ok(self.answers_as(entry, &mut gift, out))
+    }
+
+    /// Makes the call of an entry, and tells whether it is answered as the entry says.
+    fn answers_as(&mut self, entry: &Entry<Core>, gift: &mut Gift, out: &mut [u8]) -> bool
+        requires { Fits entry.now.call gift.old out.old }
+        ensures replied { (w : World) → StandsFor self.old w → Decides result (entry.now.reply ≡ reply_of w entry.now.actor entry.now.call) }
+        ensures world { (w : World) → StandsFor self.old w → StandsFor self.new (world_after w entry.now.actor entry.now.call) }
+        ensures bytes { (w : World) → StandsFor self.old w
+            → let bytes = bytes_of w entry.now.actor entry.now.call in out.new ≡ bytes ++ drop (length bytes) out.old }
+    {
+        let reply = self.step(entry.actor, &entry.call, gift, out);
+        reply == entry.reply
     }
 }
 

@@ -23,6 +23,7 @@ ghost use Rattle.gl_core.specs.Shape.{AreNew, HasLine, HasPlace, with_irq_done, 
 
 use crate::pins::pin_at;
 use crate::prepared_bank::PreparedBank;
+use crate::state::both;
 use gl_bank::{Bank, Change, flip};
 use gl_base::{
     Errno, IrqDo, Kind, Lines, Name, PLACES, PinDo, Settings, flag, has_bit, push_within,
@@ -58,12 +59,17 @@ fn waiting_place(alloc: Global) -> Result<Place, Errno>
     ensures ok { IfOk result (λ place. place ≡ no_place) }
     ensures memory_alone { IsOkUnless result Errno.NoMemory }
 {
-    Ok(Place {
-        descs: Descs::new(alloc, 0)?,
-        bank: Bank::new(alloc, 0)?,
-        irqs: Irqs::new(alloc, 0)?,
-        pins: Pins::new(alloc)?,
-    })
+    let lines = both(Descs::new(alloc, 0), Bank::new(alloc, 0));
+    let rest = both(Irqs::new(alloc, 0), Pins::new(alloc));
+    match both(lines, rest) {
+        Err(errno) => Err(errno),
+        Ok(((descs, bank), (irqs, pins))) => Ok(Place {
+            descs,
+            bank,
+            irqs,
+            pins,
+        }),
+    }
 }
 
 /// The tables of all places, each of which waits for its chip.

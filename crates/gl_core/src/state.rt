@@ -1,6 +1,7 @@
 //! The state of the core: the tables that the calls of the machine work on.
 
-ghost use Rattle.std.specs.Prelude.{◌≡◌, IfOk, IsOkUnless};
+ghost use Rattle.std.specs.Prelude.{◌≡◌, [], Ok, vec_capacity, IfOk, IsOkUnless};
+ghost use Rattle.gl_base.specs.declared.limits.TheConstants.{PLACES};
 ghost use Rattle.gl_model.specs.Chips.{phase_at};
 ghost use Rattle.gl_model.specs.World.{World, opening};
 ghost use Rattle.gl_core.specs.Kept.{StandsFor};
@@ -49,33 +50,65 @@ impl Model for State {
     ghost invariant = { λ c. IsShaped c.chips c.origins.items c.places × IsWithin (vec_capacity c.origins) c.mono };
 }
 
+/// Two values, where both are there, or why one of them isn't.
+pub(crate) fn both<A: Drop, B: Drop>(
+    first: Result<A, Errno>,
+    second: Result<B, Errno>,
+) -> Result<(A, B), Errno>
+    ensures ok { IfOk result (λ them. (first ≡ Ok them.0) × (second ≡ Ok them.1)) }
+    ensures memory_alone { IsOkUnless first Errno.NoMemory → IsOkUnless second Errno.NoMemory → IsOkUnless result Errno.NoMemory }
+{
+    match first {
+        Err(errno) => Err(errno),
+        Ok(first) => match second {
+            Err(errno) => Err(errno),
+            Ok(second) => Ok((first, second)),
+        },
+    }
+}
+
+/// A table for the origins of all places. No place has one yet.
+fn no_origins(alloc: Global) -> Result<Vec<Origin>, Errno>
+    ensures none { IfOk result (λ origins. origins.items ≡ []) }
+    ensures capacity { IfOk result (λ origins. vec_capacity origins ≡ PLACES) }
+    ensures memory_alone { IsOkUnless result Errno.NoMemory }
+{
+    let origins = Vec::with_capacity(alloc, usize::from(PLACES))?;
+    Ok(origins)
+}
+
 impl State {
     /// The state of a machine as it opens: without a chip, an open file or a directory. It fails only when out of memory.
     pub(crate) fn new(alloc: Global) -> Result<State, Errno>
         ensures ok { IfOk result (λ state. StandsFor state opening) }
         ensures memory_alone { IsOkUnless result Errno.NoMemory }
     {
-        let origins = Vec::with_capacity(alloc, usize::from(PLACES))?;
-        let tree = Tree::new(alloc)?;
-        let chips = Registry::new(alloc)?;
-        let plan = PreparedBank::new(alloc)?;
-        let timers = Timers::new(alloc)?;
-        let files = Watches::new(alloc)?;
-        let requests = Requests::new(alloc)?;
-        let places = Places::new(alloc)?;
-        Ok(State {
-            chips,
-            origins,
-            places,
-            timers,
-            requests,
-            files,
-            tree,
-            plan,
-            next: 3,
-            mono: 0,
-            real: 0,
-        })
+        let boards = both(
+            both(no_origins(alloc), Tree::new(alloc)),
+            both(Registry::new(alloc), PreparedBank::new(alloc)),
+        );
+        let holds = both(
+            both(Timers::new(alloc), Watches::new(alloc)),
+            both(Requests::new(alloc), Places::new(alloc)),
+        );
+        match both(boards, holds) {
+            Err(errno) => Err(errno),
+            Ok((((origins, tree), (chips, plan)), ((timers, files), (requests, places)))) => {
+                Ok(State {
+                    chips,
+                    origins,
+                    places,
+                    timers,
+                    requests,
+                    files,
+                    tree,
+                    plan,
+                    next: 3,
+                    mono: 0,
+                    real: 0,
+                })
+            }
+        }
     }
 
     /// What the tables tell by themselves, at every moment. The call does nothing.
