@@ -15,7 +15,7 @@ use crate::gpio::Gpio;
 use crate::numbers;
 use gl_asking::results;
 use gl_base::{Errno, Kind, Name};
-use gl_core::{Call, Core, Gift};
+use gl_core::{Call, Core};
 use gl_driver::Driver;
 use std::sync::Wait;
 
@@ -40,8 +40,7 @@ impl<D: Driver<Core>> Gpio<D> {
         ensures places { KnowsTheSame actor.old.pass.view actor.new.pass.view }
         ensures called { ComesOut number_of result actor.old.pass.view (Once (ProbeCall label lines kind)) [] actor.new.pass.view }
     {
-        let mut gift = Gift::nothing();
-        match self.plain(rt, actor, &Call::Probe { label, lines, kind }, &mut gift) {
+        match self.bare(rt, actor, &Call::Probe { label, lines, kind }) {
             Ok(reply) => numbers::place(reply),
             Err(errno) => Err(errno),
         }
@@ -86,8 +85,7 @@ impl<D: Driver<Core>> Gpio<D> {
         ensures places { KnowsTheSame actor.old.pass.view actor.new.pass.view }
         ensures called { ComesOut found_of result actor.old.pass.view (Once (FindCall place name.now)) [] actor.new.pass.view }
     {
-        let mut gift = Gift::nothing();
-        match self.plain(rt, actor, &Call::Find { place, name: *name }, &mut gift) {
+        match self.bare(rt, actor, &Call::Find { place, name: *name }) {
             Ok(reply) => results::found(reply),
             Err(errno) => Err(errno),
         }

@@ -12,7 +12,7 @@ use crate::actor::Actor;
 use crate::gpio::Gpio;
 use gl_asking::results;
 use gl_base::{Errno, IrqDo, PinDo};
-use gl_core::{Call, Core, Gift};
+use gl_core::{Call, Core};
 use gl_driver::Driver;
 use std::sync::Wait;
 
@@ -102,7 +102,7 @@ impl<D: Driver<Core>> Gpio<D> {
             offset,
             pull,
         };
-        match self.plain(rt, actor, &call, &mut Gift::nothing()) {
+        match self.bare(rt, actor, &call) {
             Ok(reply) => results::level(reply),
             Err(errno) => Err(errno),
         }

@@ -32,12 +32,7 @@ impl<D: Driver<Core>> Gpio<D> {
         ensures called { ComesOut ready_of result actor.old.pass.view (Once (PollChipCall fd.now.place fd.now.fd)) [] actor.new.pass.view }
     {
         let (place, fd) = (fd.place, fd.fd);
-        match self.plain(
-            rt,
-            actor,
-            &Call::PollChip { place, fd },
-            &mut Gift::nothing(),
-        ) {
+        match self.bare(rt, actor, &Call::PollChip { place, fd }) {
             Ok(reply) => results::ready(reply),
             Err(errno) => Err(errno),
         }
@@ -56,12 +51,7 @@ impl<D: Driver<Core>> Gpio<D> {
         ensures called { ComesOut ready_of result actor.old.pass.view (Once (PollLineCall fd.now.place fd.now.fd)) [] actor.new.pass.view }
     {
         let (place, fd) = (fd.place, fd.fd);
-        match self.plain(
-            rt,
-            actor,
-            &Call::PollLine { place, fd },
-            &mut Gift::nothing(),
-        ) {
+        match self.bare(rt, actor, &Call::PollLine { place, fd }) {
             Ok(reply) => results::ready(reply),
             Err(errno) => Err(errno),
         }

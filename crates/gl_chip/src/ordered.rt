@@ -89,6 +89,29 @@ impl<D: Driver<Core>> Gpio<D> {
         self.one_call(rt, actor, call, gift, &mut [])
     }
 
+    /// Such a call without a buffer that brings nothing.
+    pub(crate) fn bare<R: Wait>(
+        &self,
+        rt: &R,
+        actor: &mut Actor<D>,
+        call: &Call,
+    ) -> Result<Reply, Errno>
+        requires actor { IsActorOf self.now actor.old }
+        requires single { is_single call.now ≡ true }
+        requires fits { Fits call.now (record { ring = None; queue = None; asked = None }) [] }
+        ensures actor { IsActorOf self.now actor.new }
+        ensures same { IsSameActor actor.old.pass.view actor.new.pass.view }
+        ensures port { actor.new.port ≡ actor.old.port }
+        ensures places { KnowsBy (guarded_place call.now) actor.old.pass.view actor.new.pass.view }
+        ensures called { IfOk result (λ r. HasCalled 0 actor.old.pass.view (Once call.now) r [] actor.new.pass.view) }
+        ensures form { IfOk result (Answers (guarded_place call.now) call.now) }
+        ensures not_full { IfOk result (λ r. r ≢ Refused Full) }
+        ensures full { IfErr result (λ e. (e ≡ Full) × FoundNoRoom core actor.old.pass.view actor.new.pass.view) }
+    {
+        let mut gift = Gift::nothing();
+        self.plain(rt, actor, call, &mut gift)
+    }
+
     /// Such a call that gives nothing.
     pub(crate) fn done_alone<R: Wait>(
         &self,
@@ -105,8 +128,7 @@ impl<D: Driver<Core>> Gpio<D> {
         ensures places { KnowsBy (guarded_place call.now) actor.old.pass.view actor.new.pass.view }
         ensures called { ComesOut done_of result actor.old.pass.view (Once call.now) [] actor.new.pass.view }
     {
-        let mut gift = Gift::nothing();
-        match self.plain(rt, actor, call, &mut gift) {
+        match self.bare(rt, actor, call) {
             Ok(reply) => results::done(reply),
             Err(errno) => Err(errno),
         }

@@ -17,7 +17,7 @@ ghost use Rattle.gl_chip.specs.Called.{HasCalled};
 ghost use Rattle.gl_chip.specs.Opened.{LastFinds};
 ghost use Rattle.gl_chip.specs.Removals.{AllDrained, HasBegun, HasDrained, HasEnded, RemovedBy, is_first_call, is_gone_outside, removal_of};
 ghost use Rattle.gl_chip.specs.Steps.{FoundNoRoom};
-ghost use Rattle.gl_chip.specs.Values.{IsActorOf, IsSameActor};
+ghost use Rattle.gl_chip.specs.Values.{IsActorOf, IsIdle, IsSameActor};
 ghost use Rattle.gl_core.specs.Device.{core};
 
 use crate::actor::Actor;
@@ -74,6 +74,7 @@ impl<D: Driver<Core>> Gpio<D> {
         first: &Call,
         from: u8,
         count: u8,
+        gift: &mut Gift,
     ) -> Reply
         requires gate { IsPassOf self.now pass.old }
         requires first { is_first_call first.now ≡ true }
@@ -86,13 +87,51 @@ impl<D: Driver<Core>> Gpio<D> {
         ensures ended { HasEnded from count first.now pass.old.view result pass.new.view }
     {
         close_all(rt, &self.gate, pass, from, count);
-        let mut gift = Gift::nothing();
-        match self
-            .gate
-            .act(rt, pass, last_call(first), &mut gift, &mut [])
-        {
+        match self.gate.act(rt, pass, last_call(first), gift, &mut []) {
             Ok(reply) => reply,
             Err(_) => unreachable!(),
+        }
+    }
+
+    /// A removal by a pass: its first entry and, where that is answered Done, its places closed and drained, and its last entry. No entry of
+    /// a removal takes anything from the gift.
+    fn remove_with<R: Wait>(
+        &self,
+        rt: &R,
+        pass: &mut Pass<Core>,
+        first: &Call,
+        gift: &mut Gift,
+    ) -> Result<Reply, Errno>
+        requires gate { IsPassOf self.now pass.old }
+        requires first { is_first_call first.now ≡ true }
+        requires fits { FitsCall first.now }
+        requires idle { IsIdle pass.old.view }
+        ensures gate { IsPassOf self.now pass.new }
+        ensures idle { IsIdle pass.new.view }
+        ensures same { IsSameActor pass.old.view pass.new.view }
+        ensures called { IfOk result (λ r. (bytes : List ℕ)
+            × (called : HasCalled 0 pass.old.view (Removing (removal_of first.now)) r bytes pass.new.view)
+            × AllDrained called.did pass.new.view) }
+        ensures refused { IfOk result (λ r. is_done r ≡ false → (errno : AnErrno) × (r ≡ Refused errno)) }
+        ensures ended { IfOk result (λ r. RemovedBy (removal_of first.now) r pass.old.view pass.new.view) }
+        ensures places { IfOk result (λ r. is_done r ≡ false → KnowsTheSame pass.old.view pass.new.view) }
+        ensures drained { IfOk result (λ r. is_done r ≡ true → (place : ℕ) → first.now ≡ UnplugCall place false
+            → KnowsClosed pass.new.view place × KnowsDrained pass.new.view place) }
+        ensures gone { IfOk result (λ r. (place : ℕ) → first.now ≡ UnplugCall place false
+            → ((r ≡ Refused NoDev) ↔ LastFinds (is_gone_outside place) pass.new.view.seen)) }
+        ensures full { IfErr result (λ e. (e ≡ Full) × FoundNoRoom core pass.old.view pass.new.view) }
+    {
+        // What holds of every pass is known once it has told its number.
+        let _number = pass.number();
+        let mut places = [0u8; 2];
+        match self.gate.act(rt, pass, *first, gift, &mut places) {
+            Err(errno) => Err(errno),
+            Ok(reply) => {
+                if !is_done(&reply) {
+                    return Ok(reply);
+                }
+                Ok(self.end_removal(rt, pass, first, places[0], places[1], gift))
+            }
         }
     }
 
@@ -121,21 +160,7 @@ impl<D: Driver<Core>> Gpio<D> {
             → ((r ≡ Refused NoDev) ↔ LastFinds (is_gone_outside place) actor.new.pass.view.seen)) }
         ensures full { IfErr result (λ e. (e ≡ Full) × FoundNoRoom core actor.old.pass.view actor.new.pass.view) }
     {
-        // What holds of every pass is known once it has told its number.
-        let _number = actor.pass.number();
-        let mut places = [0u8; 2];
         let mut gift = Gift::nothing();
-        let begun = self
-            .gate
-            .act(rt, &mut actor.pass, *first, &mut gift, &mut places);
-        match begun {
-            Err(errno) => Err(errno),
-            Ok(reply) => {
-                if !is_done(&reply) {
-                    return Ok(reply);
-                }
-                Ok(self.end_removal(rt, &mut actor.pass, first, places[0], places[1]))
-            }
-        }
+        self.remove_with(rt, &mut actor.pass, first, &mut gift)
     }
 }

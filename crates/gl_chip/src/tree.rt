@@ -12,7 +12,7 @@ use crate::actor::Actor;
 use crate::gpio::Gpio;
 use gl_asking::results;
 use gl_base::{Errno, Name, Path};
-use gl_core::{Call, Core, Gift};
+use gl_core::{Call, Core};
 use gl_driver::Driver;
 use std::sync::Wait;
 
@@ -88,8 +88,7 @@ impl<D: Driver<Core>> Gpio<D> {
         ensures places { KnowsTheSame actor.old.pass.view actor.new.pass.view }
         ensures called { ComesOut text_of result actor.old.pass.view (Once (ReadCall path.now)) [] actor.new.pass.view }
     {
-        let mut gift = Gift::nothing();
-        match self.plain(rt, actor, &Call::Read { path: *path }, &mut gift) {
+        match self.bare(rt, actor, &Call::Read { path: *path }) {
             Ok(reply) => results::text(reply),
             Err(errno) => Err(errno),
         }

@@ -8,7 +8,7 @@ pub close_all-requires-clause-places : goal.close_all-requires-clause-places
 close_all-requires-clause-places g c κs within p low high = subst (λ n. p < n) (sym c.self.invariant.0) (begun_within c.args.from c.args.count c.args.first.now c.args.pass.now.view c.requires.begun c.requires.legal p low high)
 
 pub act-requires-clause-fits : goal.act-requires-clause-fits
-act-requires-clause-fits g c κs within = subst (λ (k : Call). Fits k c.nothing-gift.result _) (sym c.last_call.ensures.last) (fits_last c.args.first.now c.requires.first c.requires.fits c.nothing-gift.result)
+act-requires-clause-fits g c κs within = subst (λ (k : Call). Fits k c.args.gift.now _) (sym c.last_call.ensures.last) (fits_last c.args.first.now c.requires.first c.requires.fits c.args.gift.now)
 
 pub returns-clause-free : goal.returns-clause-free
 returns-clause-free g c = let drained = c.close_all.ensures.drained in
