@@ -1,3 +1,4 @@
+pub mod AnyLeft
 pub mod Back
 pub mod Blaming
 pub mod Costing
@@ -5,8 +6,10 @@ pub mod FirstBytes
 pub mod Forming
 pub mod Loads
 pub mod OneByOne
+pub mod ReadWords
 pub mod Saying
 pub mod ServingLines
 pub mod Spelling
 pub mod Sums
+pub mod ThereWords
 pub mod TypedWords

@@ -8,6 +8,7 @@ ghost use Rattle.gl_script.specs.SaidCost.{cost_said};
 ghost use Rattle.gl_script.specs.Meaning.{line_in, said_in};
 
 use crate::faults::text_at;
+use crate::forms::is_text;
 use crate::said::Said;
 use crate::section::{Section, Statement};
 use gl_base::command::GET_LINE;
@@ -189,7 +190,7 @@ fn is_bare(at: usize, line: &[u8]) -> bool
 {
     match next_word(at, line) {
         Some(first) => {
-            if first.word == b"--".as_slice() {
+            if is_text(first.word, b"--") {
                 return has_no_word(first.rest_at, first.rest);
             }
             false
@@ -238,14 +239,14 @@ fn names_chip(at: usize, line: &[u8]) -> bool
 fn is_chip_option(word: &[u8]) -> bool
     ensures { result ≡ (bytes_eq word.now (codes "-c") || starts_with nat_eq word.now (codes "--chip")) }
 {
-    word == b"-c".as_slice() || word.starts_with(b"--chip")
+    is_text(word, b"-c") || word.starts_with(b"--chip")
 }
 
 fn start_cost(tool: &[u8], count: u64) -> u64
     requires { count ≤ OVER }
     ensures { result ≡ start_cost tool.now count }
 {
-    if tool == b"gpionotify".as_slice() {
+    if is_text(tool, b"gpionotify") {
         return 2 * count + 2;
     }
     count + 5

@@ -1,12 +1,12 @@
 //! The words of a statement, read one after the other, each once.
-ghost use Rattle.std.specs.Prelude.{◌≡◌, ◌+◌, ◌<◌, ◌≤◌, ◌^◌, [], ◌∷◌, length, IfOk, IfErr, OnOk, Some};
+ghost use Rattle.std.specs.Prelude.{◌≡◌, ℕ, ◌+◌, ◌<◌, ◌≤◌, ◌^◌, [], ◌∷◌, length, true, false, IfOk, IfErr, OnOk, MatchOption, Some, Ok, Err};
 ghost use Rattle.gl_base.specs.CommandWord.{command_number_of};
 ghost use Rattle.gl_base.specs.Path.{path_of};
 ghost use Rattle.gl_base.specs.Words.{span, words_at};
 ghost use Rattle.gl_v1.specs.Words.{old_number_of};
 ghost use Rattle.gl_script.specs.Faults.{spot};
-ghost use Rattle.gl_script.specs.Forms.{file_name_of, label_of, number_within, tree_path_of};
-ghost use Rattle.gl_script.specs.Left.{AreNames, ArePieces, IsEnd, IsShort, Reads, left_in, pin_word_of};
+ghost use Rattle.gl_script.specs.Forms.{file_name_of, label_of, meets, number_within, tree_path_of};
+ghost use Rattle.gl_script.specs.Left.{AreNames, ArePieces, IsEnd, IsShort, Reads, left_in, misread, pin_word_of};
 ghost use Rattle.gl_script.specs.Said.{chip_of, irq_of};
 
 use crate::faults::{bytes_read, names_fault, spot};
@@ -62,17 +62,29 @@ impl<'a> Cursor<'a> {
         }
     }
 
+    /// The next word, which is of a form; or its fault.
+    fn of_form(&mut self, form: Form) -> Result<&'a [u8], Spot>
+        requires { IsShort self.old }
+        ensures word { IfOk result (λ word. (at : ℕ) × ((left_in self.old).words ≡ span at word.now ∷ (left_in self.new).words) × (self.new.end ≡ at + length word.now) × (meets form word.now ≡ true)) }
+        ensures fault { IfErr result (λ fault. misread form (left_in self.old).end (left_in self.old).words ≡ Some fault) }
+        ensures short { OnOk result (IsShort self.new) }
+    {
+        match self.next() {
+            Ok(found) => formed(form, found.at, found.word),
+            Err(fault) => Err(fault),
+        }
+    }
+
     /// A word that stands for itself.
     pub fn text(&mut self, form: Form) -> Result<(), Spot>
         requires { IsShort self.old }
         ensures read { Reads form (λ word. Some tt) (left_in self.old) (left_in self.new) result }
         ensures short { OnOk result (IsShort self.new) }
     {
-        let found = self.next()?;
-        if !meets(form, found.word) {
-            return Err(spot(found.at, RefusalKind::Word));
+        match self.of_form(form) {
+            Ok(_word) => Ok(()),
+            Err(fault) => Err(fault),
         }
-        Ok(())
     }
 
     /// The name of a file or a tool.
@@ -81,11 +93,10 @@ impl<'a> Cursor<'a> {
         ensures read { Reads Form.FileName file_name_of (left_in self.old) (left_in self.new) result }
         ensures short { OnOk result (IsShort self.new) }
     {
-        let found = self.next()?;
-        if !meets(Form::FileName, found.word) {
-            return Err(spot(found.at, RefusalKind::Word));
+        match self.of_form(Form::FileName) {
+            Ok(word) => Ok(file_name(word)),
+            Err(fault) => Err(fault),
         }
-        Ok(file_name(found.word))
     }
 
     /// A label or a value.
@@ -94,11 +105,10 @@ impl<'a> Cursor<'a> {
         ensures read { Reads Form.Label label_of (left_in self.old) (left_in self.new) result }
         ensures short { OnOk result (IsShort self.new) }
     {
-        let found = self.next()?;
-        if !meets(Form::Label, found.word) {
-            return Err(spot(found.at, RefusalKind::Word));
+        match self.of_form(Form::Label) {
+            Ok(word) => Ok(label(word)),
+            Err(fault) => Err(fault),
         }
-        Ok(label(found.word))
     }
 
     /// A path of the tree.
@@ -107,11 +117,10 @@ impl<'a> Cursor<'a> {
         ensures read { Reads Form.Path tree_path_of (left_in self.old) (left_in self.new) result }
         ensures short { OnOk result (IsShort self.new) }
     {
-        let found = self.next()?;
-        if !meets(Form::Path, found.word) {
-            return Err(spot(found.at, RefusalKind::Word));
+        match self.of_form(Form::Path) {
+            Ok(word) => Ok(tree_path(word)),
+            Err(fault) => Err(fault),
         }
-        Ok(tree_path(found.word))
     }
 
     /// A word that names a chip.
@@ -120,11 +129,10 @@ impl<'a> Cursor<'a> {
         ensures read { Reads Form.Word path_of (left_in self.old) (left_in self.new) result }
         ensures short { OnOk result (IsShort self.new) }
     {
-        let found = self.next()?;
-        if !meets(Form::Word, found.word) {
-            return Err(spot(found.at, RefusalKind::Word));
+        match self.of_form(Form::Word) {
+            Ok(word) => Ok(chip_word(word)),
+            Err(fault) => Err(fault),
         }
-        Ok(chip_word(found.word))
     }
 
     /// A number from `low` to `high`.
@@ -133,10 +141,9 @@ impl<'a> Cursor<'a> {
         ensures read { Reads (Form.Number low high) (number_within low high) (left_in self.old) (left_in self.new) result }
         ensures short { OnOk result (IsShort self.new) }
     {
-        let found = self.next()?;
-        match number_within(low, high, found.word) {
-            Some(number) => Ok(number),
-            None => Err(spot(found.at, RefusalKind::Word)),
+        match self.next() {
+            Ok(found) => or_misread(found.at, number_within(low, high, found.word)),
+            Err(fault) => Err(fault),
         }
     }
 
@@ -146,8 +153,10 @@ impl<'a> Cursor<'a> {
         ensures read { Reads (Form.Number low high) (number_within low high) (left_in self.old) (left_in self.new) result }
         ensures short { OnOk result (IsShort self.new) }
     {
-        let number = self.number(u64::from(low), u64::from(high))?;
-        Ok(number as u32)
+        match self.number(u64::from(low), u64::from(high)) {
+            Ok(number) => Ok(number as u32),
+            Err(fault) => Err(fault),
+        }
     }
 
     /// A number of 16 bits.
@@ -156,8 +165,10 @@ impl<'a> Cursor<'a> {
         ensures read { Reads (Form.Number 0 high) (number_within 0 high) (left_in self.old) (left_in self.new) result }
         ensures short { OnOk result (IsShort self.new) }
     {
-        let number = self.number(0, u64::from(high))?;
-        Ok(number as u16)
+        match self.number(0, u64::from(high)) {
+            Ok(number) => Ok(number as u16),
+            Err(fault) => Err(fault),
+        }
     }
 
     /// The number of a chip.
@@ -166,10 +177,9 @@ impl<'a> Cursor<'a> {
         ensures read { Reads Form.Chip chip_of (left_in self.old) (left_in self.new) result }
         ensures short { OnOk result (IsShort self.new) }
     {
-        let found = self.next()?;
-        match chip_of(found.word) {
-            Some(chip) => Ok(chip),
-            None => Err(spot(found.at, RefusalKind::Word)),
+        match self.next() {
+            Ok(found) => or_misread(found.at, chip_of(found.word)),
+            Err(fault) => Err(fault),
         }
     }
 
@@ -179,10 +189,9 @@ impl<'a> Cursor<'a> {
         ensures read { Reads Form.Command command_number_of (left_in self.old) (left_in self.new) result }
         ensures short { OnOk result (IsShort self.new) }
     {
-        let found = self.next()?;
-        match command_number(found.word) {
-            Some(number) => Ok(number),
-            None => Err(spot(found.at, RefusalKind::Word)),
+        match self.next() {
+            Ok(found) => or_misread(found.at, command_number(found.word)),
+            Err(fault) => Err(fault),
         }
     }
 
@@ -192,10 +201,9 @@ impl<'a> Cursor<'a> {
         ensures read { Reads Form.OldCommand old_number_of (left_in self.old) (left_in self.new) result }
         ensures short { OnOk result (IsShort self.new) }
     {
-        let found = self.next()?;
-        match gl_v1::command_number(found.word) {
-            Some(number) => Ok(number),
-            None => Err(spot(found.at, RefusalKind::Word)),
+        match self.next() {
+            Ok(found) => or_misread(found.at, gl_v1::command_number(found.word)),
+            Err(fault) => Err(fault),
         }
     }
 
@@ -205,10 +213,9 @@ impl<'a> Cursor<'a> {
         ensures read { Reads Form.IrqWord irq_of (left_in self.old) (left_in self.new) result }
         ensures short { OnOk result (IsShort self.new) }
     {
-        let found = self.next()?;
-        match irq_of(found.word) {
-            Some(what) => Ok(what),
-            None => Err(spot(found.at, RefusalKind::Word)),
+        match self.next() {
+            Ok(found) => or_misread(found.at, irq_of(found.word)),
+            Err(fault) => Err(fault),
         }
     }
 
@@ -218,10 +225,9 @@ impl<'a> Cursor<'a> {
         ensures read { Reads Form.PinWord pin_word_of (left_in self.old) (left_in self.new) result }
         ensures short { OnOk result (IsShort self.new) }
     {
-        let found = self.next()?;
-        match pin_word_of(found.word) {
-            Some(what) => Ok(what),
-            None => Err(spot(found.at, RefusalKind::Word)),
+        match self.next() {
+            Ok(found) => or_misread(found.at, pin_word_of(found.word)),
+            Err(fault) => Err(fault),
         }
     }
 
@@ -253,5 +259,29 @@ impl<'a> Cursor<'a> {
         ensures { ArePieces makes (left_in self.now) result }
     {
         bytes_read(makes, self.end, self.at, self.rest)
+    }
+}
+
+/// A word of a form; or its fault.
+fn formed<'a>(form: Form, at: usize, word: &'a [u8]) -> Result<&'a [u8], Spot>
+    requires { at < 2 ^ 32 }
+    ensures ok { IfOk result (λ found. (meets form word.now ≡ true) × (found.now ≡ word.now)) }
+    ensures fault { IfErr result (λ fault. (meets form word.now ≡ false) × (fault ≡ spot at RefusalKind.Word)) }
+{
+    if meets(form, word) {
+        Ok(word)
+    } else {
+        Err(spot(at, RefusalKind::Word))
+    }
+}
+
+/// What a word is read as, if it is anything; or its fault.
+fn or_misread<A: Copy>(at: usize, value: Option<A>) -> Result<A, Spot>
+    requires { at < 2 ^ 32 }
+    ensures { MatchOption value (result ≡ Err (spot at RefusalKind.Word)) (λ value. result ≡ Ok value) }
+{
+    match value {
+        Some(value) => Ok(value),
+        None => Err(spot(at, RefusalKind::Word)),
     }
 }

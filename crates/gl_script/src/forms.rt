@@ -1,9 +1,10 @@
 //! The forms of words.
 ghost use Rattle.std.specs.Prelude.{◌≡◌, true, Some};
 ghost use Rattle.std.specs.List.{list_all};
+ghost use Rattle.std.specs.Str.{bytes_eq};
 ghost use Rattle.gl_base.specs.Label.{is_label_byte};
 ghost use Rattle.gl_base.specs.Path.{path_of};
-ghost use Rattle.gl_script.specs.Forms.{meets, is_one_of, is_of, is_path_byte, is_there, within, number_within, irq_words, file_name_of, label_of, tree_path_of};
+ghost use Rattle.gl_script.specs.Forms.{meets, is_one_of, is_of, is_path_byte, is_there, within, number_within, held_tools, file_name_of, label_of, tree_path_of};
 ghost use Rattle.gl_script.specs.Left.{pin_word_of};
 ghost use Rattle.gl_script.specs.Said.{chip_of, irq_of};
 
@@ -14,7 +15,7 @@ use gl_base::{IrqDo, Name, Path, are_label_bytes, chip_number, command_number, r
 const CHIP_MAX: u64 = 63;
 
 /// What is done with the pins of a chip, by the word behind `pin`.
-#[derive(Clone, Copy, PartialEq, Eq)]
+#[derive(Clone, Copy)]
 pub enum PinWord {
     /// `range`.
     Range,
@@ -37,15 +38,9 @@ pub fn meets(form: Form, word: &[u8]) -> bool
         Form::Word => word.len() <= 127,
         Form::Command => command_number(word).is_some(),
         Form::OldCommand => gl_v1::command_number(word).is_some(),
-        Form::PinWord => {
-            word == b"range".as_slice() || word == b"hold".as_slice() || word == b"drop".as_slice()
-        }
-        Form::IrqWord => is_irq_word(word),
-        Form::HeldTool => {
-            word == b"gpioset".as_slice()
-                || word == b"gpiomon".as_slice()
-                || word == b"gpionotify".as_slice()
-        }
+        Form::PinWord => pin_word_of(word).is_some(),
+        Form::IrqWord => irq_of(word).is_some(),
+        Form::HeldTool => is_held_tool(word),
     }
 }
 
@@ -133,15 +128,15 @@ fn chip_within(number: Option<u64>) -> Option<u8>
 pub fn irq_of(word: &[u8]) -> Option<IrqDo>
     ensures { result ≡ irq_of word.now }
 {
-    if word == b"lock".as_slice() {
+    if is_text(word, b"lock") {
         Some(IrqDo::Lock)
-    } else if word == b"unlock".as_slice() {
+    } else if is_text(word, b"unlock") {
         Some(IrqDo::Unlock)
-    } else if word == b"enable".as_slice() {
+    } else if is_text(word, b"enable") {
         Some(IrqDo::Enable)
-    } else if word == b"disable".as_slice() {
+    } else if is_text(word, b"disable") {
         Some(IrqDo::Disable)
-    } else if word == b"none".as_slice() {
+    } else if is_text(word, b"none") {
         Some(IrqDo::Never)
     } else {
         None
@@ -152,25 +147,29 @@ pub fn irq_of(word: &[u8]) -> Option<IrqDo>
 pub fn pin_word_of(word: &[u8]) -> Option<PinWord>
     ensures { result ≡ pin_word_of word.now }
 {
-    if word == b"range".as_slice() {
+    if is_text(word, b"range") {
         Some(PinWord::Range)
-    } else if word == b"hold".as_slice() {
+    } else if is_text(word, b"hold") {
         Some(PinWord::Hold)
-    } else if word == b"drop".as_slice() {
+    } else if is_text(word, b"drop") {
         Some(PinWord::Drop)
     } else {
         None
     }
 }
 
-fn is_irq_word(word: &[u8]) -> bool
-    ensures { result ≡ is_one_of irq_words word.now }
+/// Whether a word names a tool that may be started.
+fn is_held_tool(word: &[u8]) -> bool
+    ensures { result ≡ is_one_of held_tools word.now }
 {
-    word == b"lock".as_slice()
-        || word == b"unlock".as_slice()
-        || word == b"enable".as_slice()
-        || word == b"disable".as_slice()
-        || word == b"none".as_slice()
+    is_text(word, b"gpioset") || is_text(word, b"gpiomon") || is_text(word, b"gpionotify")
+}
+
+/// Whether a word is this text.
+pub fn is_text(word: &[u8], text: &[u8]) -> bool
+    ensures { result ≡ bytes_eq word.now text.now }
+{
+    word == text
 }
 
 fn is_label(word: &[u8], most: usize) -> bool

@@ -6,6 +6,7 @@ ghost use Rattle.gl_script.specs.Meaning.{said_in, head_in};
 ghost use Rattle.gl_script.specs.Section.{titled};
 ghost use Rattle.gl_script.specs.Sentence.{is_comment, kind_of, is_actor, is_after, is_named, version_of, version_said};
 
+use crate::forms::is_text;
 use crate::refusal::{Refusal, RefusalKind};
 use crate::section::{Head, Section, SectionKind};
 use crate::version::Version;
@@ -71,13 +72,13 @@ pub fn is_comment(word: &[u8]) -> bool
 pub fn kind_of(word: &[u8]) -> Option<SectionKind>
     ensures { result ≡ kind_of word.now }
 {
-    if word == b"setup".as_slice() {
+    if is_text(word, b"setup") {
         return Some(SectionKind::Setup);
     }
-    if word == b"actor".as_slice() {
+    if is_text(word, b"actor") {
         return Some(SectionKind::Actor);
     }
-    if word == b"after".as_slice() {
+    if is_text(word, b"after") {
         return Some(SectionKind::After);
     }
     None
@@ -91,7 +92,7 @@ pub fn version_of(first: &Found<'_>) -> Option<Version>
     let Some(version) = next_word(first.rest_at, first.rest) else {
         return None;
     };
-    if next_word(version.rest_at, version.rest).is_none() && first.word == b"session".as_slice() {
+    if next_word(version.rest_at, version.rest).is_none() && is_text(first.word, b"session") {
         return version_said(version.word);
     }
     None
@@ -101,10 +102,10 @@ pub fn version_of(first: &Found<'_>) -> Option<Version>
 fn version_said(word: &[u8]) -> Option<Version>
     ensures { result ≡ version_said word.now }
 {
-    if word == b"1".as_slice() {
+    if is_text(word, b"1") {
         return Some(Version::One);
     }
-    if word == b"2".as_slice() {
+    if is_text(word, b"2") {
         return Some(Version::Two);
     }
     None

@@ -23,7 +23,7 @@ use gl_base::{Errno, Found, next_word};
 use std::alloc::Global;
 
 /// Why a line is not taken in.
-#[derive(Clone, Copy, PartialEq, Eq)]
+#[derive(Clone, Copy)]
 pub enum Stop {
     /// Its first fault.
     Fault(Spot),

@@ -7,7 +7,7 @@ use crate::initials::beginning_with;
 use crate::version::Version;
 
 /// The form of a word.
-#[derive(Clone, Copy, PartialEq, Eq)]
+#[derive(Clone, Copy)]
 pub enum Form {
     /// NAME: 1 to 15 letters, digits, `_`, `-`, `.`.
     FileName,

@@ -1,0 +1,8 @@
+use Rattle.std.proofs.Common.{refl}
+use Rattle.gl_base.specs.Words.{span}
+use Rattle.gl_script.proofs.cursor.Cursor.text.Goals as goal
+
+pub returns-in-Ok-clause-read : goal.returns-in-Ok-clause-read
+returns-in-Ok-clause-read c =
+    let word = c.in-Ok.ensures.word in
+    (span word.0 c.in-Ok._word.now, word.1, word.2, word.3, refl)
