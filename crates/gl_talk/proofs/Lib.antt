@@ -22,4 +22,5 @@ pub mod TalkedSteps
 pub mod ToolParts
 pub mod Turns
 pub mod TypedActions
+pub mod Watching
 pub mod WordReadings

@@ -27,7 +27,7 @@ use gl_script::Said;
 use gl_v1::{KindV1, Sent};
 
 /// How the result of an operation is told. A refusal is told by the error's name.
-#[derive(Clone, Copy, PartialEq, Eq)]
+#[derive(Clone, Copy)]
 pub enum SaidFormat {
     /// Nothing is printed.
     Silent,

@@ -8,7 +8,7 @@ use gl_base::Name;
 use gl_v1::KindV1;
 
 /// What kind of file it is.
-#[derive(Clone, Copy, PartialEq, Eq)]
+#[derive(Clone, Copy)]
 pub enum TalkFileKind {
     /// A chip's file.
     Chip,

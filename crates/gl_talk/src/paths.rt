@@ -8,7 +8,7 @@ ghost use Rattle.gl_talk.specs.Paths.{chip_part, is_device, is_pull_part, line_f
 use gl_base::{Name, are_label_bytes, read_plain_decimal, split_first};
 
 /// The pull or the value of a line, as gpio-sim has it among a chip's files.
-#[derive(Clone, Copy, PartialEq, Eq)]
+#[derive(Clone, Copy)]
 pub struct LineFile {
     /// The chip's number, from 0 to 63.
     pub chip: u8,

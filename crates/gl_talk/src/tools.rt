@@ -18,7 +18,7 @@ use gl_script::Said;
 use std::alloc::Global;
 
 /// What kind of statement a word begins.
-#[derive(Clone, Copy, PartialEq, Eq)]
+#[derive(Clone, Copy)]
 pub enum StatementKind {
     /// It asks for one operation at most.
     Plain,
