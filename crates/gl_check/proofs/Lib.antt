@@ -16,8 +16,10 @@ pub mod SaidHere
 pub mod SameCalls
 pub mod Settling
 pub mod Silent
+pub mod Starting
 pub mod Through
 pub mod ThroughPort
+pub mod Turning
 pub mod Whole
 pub mod WholeSections
 pub mod Joined

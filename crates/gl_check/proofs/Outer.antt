@@ -1,6 +1,6 @@
 -- What ports tell of a driver that may make calls of its own: the answer of each call of an actor that asks the driver, and none of those that stand
 -- within another.
-use Rattle.std.proofs.Common.{◌≡◌, ℕ, zero, suc, ◌+◌, ◌<◌, ◌≤◌, Bool, true, false, List, [], ◌∷◌, ◌++◌, drop, length, Option, None, Some, refl, sym, ◌∙◌, ap, subst, arith}
+use Rattle.std.proofs.Common.{◌≡◌, ℕ, zero, suc, ◌+◌, ◌<◌, Bool, true, false, List, [], ◌∷◌, ◌++◌, drop, length, Option, None, Some, refl, sym, ◌∙◌, ap, subst, arith}
 use Rattle.std.proofs.lemmas.List.{append_assoc}
 use Rattle.gl_base.specs.Count.{counted_up}
 use Rattle.gl_base.specs.Planned.{planned_call}
@@ -8,7 +8,7 @@ use Rattle.gl_base.specs.declared.op.Op.{Op}
 use Rattle.gl_uapi.specs.Command.{command_of}
 use Rattle.gl_world.specs.Deeds.{entries_in}
 use Rattle.gl_world.specs.History.{ended_in, entry}
-use Rattle.gl_client.specs.Program.{Program, done}
+use Rattle.gl_client.specs.Program.{Program}
 use Rattle.gl_driver.specs.Told.{Told, counted_on, counts_for, with_bits, with_call_counting, with_plan}
 use Rattle.gl_driver.specs.declared.map.Map.{Map}
 use Rattle.gl_model.specs.Entries.{begins, last_call}
@@ -21,7 +21,6 @@ use Rattle.gl_model.specs.declared.device_call.DeviceCall.{DeviceCall}
 use Rattle.gl_model.specs.declared.device_call.DeviceCall.TheVariants.{Commanding, Once, Removing}
 use Rattle.gl_model.specs.declared.device_call.RemovalOf.{RemovalOf}
 use Rattle.gl_model.specs.declared.device_call.RemovalOf.TheVariants.{OfChip, OfDevice}
-use Rattle.gl_model.specs.declared.reply.Reply.{Reply}
 use Rattle.gl_script.specs.Section.{SaidSection}
 use Rattle.gl_core.specs.Device.{OneEntry, call_tells, core, tells_in}
 use Rattle.gl_asking.specs.declared.kinds.Asking.{Asking}
@@ -31,7 +30,7 @@ use Rattle.gl_check.specs.Drivers.{DriverKind, DriverOver}
 use Rattle.gl_check.specs.Joining.{Maps, asking_with}
 use Rattle.gl_check.specs.Many.{ActorsPlayed, AllPlayed, PortsTell, Texts, turns_among}
 use Rattle.gl_check.specs.Tells.{TellsAfter, answered_last, calls_after, last_or, outer_tells, without_own}
-use Rattle.gl_check.specs.Turns.{Carried, Did, Exchange, Follows, HasMade, IsDone, PortBy, Said, Turn, is_begun, map_of, was_asked}
+use Rattle.gl_check.specs.Turns.{Carried, Did, Exchange, Follows, IsDone, PortBy, Said, Turn, is_begun, map_of, was_asked}
 use Rattle.gl_check.proofs.Asked.{single_is}
 
 -- what stands behind the driver's own entries
