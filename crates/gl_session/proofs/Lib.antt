@@ -42,3 +42,4 @@ pub mod Told
 pub mod Whole
 pub mod WholeSections
 pub mod Within
+pub mod WordsAsked

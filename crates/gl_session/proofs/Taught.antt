@@ -1,5 +1,5 @@
 -- Maps that a port learns in a talk, and other ports that learn the same.
-use Rattle.std.proofs.Common.{◌≡◌, ◌<◌, ◌≤◌, ◌+◌, ℕ, zero, suc, Bool, true, false, List, [], ◌∷◌, ◌++◌, length, length-set, take, drop, set, get_or, Option, None, Some, refl, sym, ◌∙◌, ap, subst, arith}
+use Rattle.std.proofs.Common.{◌≡◌, ◌≢◌, ◌⊎◌, inl, inr, ◌<◌, ◌≤◌, ◌+◌, ℕ, zero, suc, Bool, true, false, List, [], ◌∷◌, ◌++◌, length, length-set, take, drop, set, get_or, Option, None, Some, refl, sym, ◌∙◌, ap, subst, arith}
 use Rattle.std.specs.Prelude.{cond, find, slice_get}
 use Rattle.std.proofs.lemmas.List.{append_assoc, append-nil}
 use Rattle.std.proofs.lemmas.Option.{slice_get-get_or}
@@ -10,6 +10,7 @@ use Rattle.gl_driver.specs.Told.{Told}
 use Rattle.gl_driver.specs.Maps.{FitsMap, is_map_of, left_behind, map_at, with_map}
 use Rattle.gl_driver.specs.declared.map.Map.{Map}
 use Rattle.gl_driver.specs.declared.map.Target.{Target}
+use Rattle.gl_model.proofs.Soundness.{split}
 use Rattle.gl_model.specs.declared.reply.Reply.{Reply}
 use Rattle.gl_model.specs.declared.reply.Reply.TheVariants.{Number}
 use Rattle.gl_asking.specs.Files.{OpenFile}
@@ -233,3 +234,16 @@ one_kept kept map are fits new = record { fit = each_more FitsMap kept map are.f
 pub keeps_one : (left : ℕ) (map : Map) (kept : List Map) → 1 ≤ left → with_map left map kept ≡ kept ++ map ∷ []
 keeps_one zero map kept room = absurd (omega arith)
 keeps_one (suc left) map kept room = refl
+
+-- the first ports have learned them, and one port more
+module _ {P : Type 0} (kept : P → List Map) (left : P → ℕ) (told : P → Option Told) (faults : P → ℕ) (them : List Map) (n : ℕ) (start old new : List (Option P)) where
+  pub taught_one_more : ((k : ℕ) → k < n → IsTaught kept left told faults them (slice_get start k) (slice_get old k)) → ((k : ℕ) → n ≤ k → slice_get old k ≡ slice_get start k)
+      → IsTaught kept left told faults them (slice_get old n) (slice_get new n) → ((k : ℕ) → k ≢ n → slice_get new k ≡ slice_get old k)
+      → (k : ℕ) → k < n + 1 → IsTaught kept left told faults them (slice_get start k) (slice_get new k)
+  taught_one_more first rest one others k lt = by_order (split k n)
+    where
+      by_order : (k < n) ⊎ (n ≤ k) → IsTaught kept left told faults them (slice_get start k) (slice_get new k)
+      by_order (inl before) = subst (λ at. IsTaught kept left told faults them (slice_get start k) at) (sym (others k (λ same. absurd (omega (arith, same, before))))) (first k before)
+      by_order (inr behind) =
+          let same : k ≡ n = omega (arith, lt, behind) in
+          subst (λ m. IsTaught kept left told faults them (slice_get start m) (slice_get new m)) (sym same) (subst (λ at. IsTaught kept left told faults them at (slice_get new n)) (rest n (omega arith)) one)

@@ -34,3 +34,6 @@ loop-done-preserved g c =
 
 pub returns-in-Err-clause-grows : goal.returns-in-Err-clause-grows
 returns-in-Err-clause-grows g c = begins_further _ _ _ c.join_one.ensures.grows c.loop-done.invariant.joined.joined.seen
+
+pub returns-clause-maps : goal.returns-clause-maps
+returns-clause-maps g c = λ m have each. (c.loop-done.invariant.maps m have each).1
