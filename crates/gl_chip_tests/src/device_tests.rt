@@ -1,14 +1,15 @@
 use gl_base::{Errno, Kind, Name, Path, flag};
+use gl_core::Core;
 use gl_device::Device;
-use gl_driver::{SimDriver, SimPort};
+use gl_driver::{Driver, SimDriver, SimPort};
 use std::alloc::Global;
 use std::sync::Wait;
 
 /// Opens a chip, requests its lines 0 and 3 as outputs, and sets the second. Whether each call is answered so, and the levels are these.
-fn sets_a_line<R: Wait>(
+fn sets_a_line<D: Driver<Core>, R: Wait>(
     rt: &R,
     alloc: Global,
-    device: &mut Device<SimDriver>,
+    device: &mut Device<D>,
     path: &Path,
 ) -> Result<[bool; 5], Errno> {
     let is_made = device.probe(rt, Name::empty(), 4, Kind::Simulated) == Ok(0);
@@ -25,10 +26,12 @@ fn sets_a_line<R: Wait>(
 
 /// The same on a new device.
 fn sets_a_line_of_new<R: Wait>(rt: &R, alloc: Global) -> Result<[bool; 5], Errno> {
-    let mut device = Device::new(alloc, SimDriver::new(), SimPort::new(), 100)?;
-    match Path::of(b"gpiochip0") {
-        Some(path) => sets_a_line(rt, alloc, &mut device, &path),
-        None => Err(Errno::Inval),
+    let Some(path) = Path::of(b"gpiochip0") else {
+        return Err(Errno::Inval);
+    };
+    match Device::new(alloc, SimDriver::new(), SimPort::new(), 100) {
+        Ok(mut device) => sets_a_line(rt, alloc, &mut device, &path),
+        Err(errno) => Err(errno),
     }
 }
 

@@ -7,31 +7,94 @@ use crate::on_requests::{OnRequest, call_on_request};
 use gl_base::command::LINE_SET_CONFIG;
 use gl_base::{Errno, Kind, Name, Path, flag};
 use gl_chip::{ChipFd, LineFd};
+use gl_core::Core;
 use gl_device::Device;
-use gl_driver::{SimDriver, SimPort};
+use gl_driver::{Driver, SimDriver, SimPort};
 use gl_uapi::layout::LINE_CONFIG_SIZE;
 use std::alloc::Global;
 use std::sync::Wait;
 
-/// A device with simulated chips of four lines at the places 0 and 1.
-fn with_two_chips<R: Wait>(rt: &R, alloc: Global, room: u32) -> Result<Device<SimDriver>, Errno> {
-    let mut device = Device::new(alloc, SimDriver::new(), SimPort::new(), room)?;
+/// Makes simulated chips of four lines at the places 0 and 1.
+fn add_two_chips<D: Driver<Core>, R: Wait>(rt: &R, device: &mut Device<D>) -> Result<(), Errno> {
     let chips = [
         device.probe(rt, Name::empty(), 4, Kind::Simulated),
         device.probe(rt, Name::empty(), 4, Kind::Simulated),
     ];
     if chips == [Ok(0), Ok(1)] {
-        Ok(device)
+        Ok(())
     } else {
         Err(Errno::Again)
     }
 }
 
-/// Whether all calls on a chip file and on a request are refused for this reason.
-fn refuse_both<R: Wait>(
+/// A new device over the simulated driver.
+fn new_device(alloc: Global, room: u32) -> Result<Device<SimDriver>, Errno> {
+    Device::new(alloc, SimDriver::new(), SimPort::new(), room)
+}
+
+/// A request of line 3 of a chip as an output.
+fn output<D: Driver<Core>, R: Wait>(
     rt: &R,
     alloc: Global,
-    device: &mut Device<SimDriver>,
+    device: &mut Device<D>,
+    file: &ChipFd,
+) -> Result<LineFd, Errno> {
+    device.request(rt, alloc, file, &[3], &Name::empty(), 1 << flag::OUTPUT)
+}
+
+/// A chip file, and a request of a line of its chip.
+#[derive(Drop)]
+struct Opened {
+    file: ChipFd,
+    line: LineFd,
+}
+
+/// Opens the chip that a word names, and requests its line 3 as an output.
+fn open_with_output<D: Driver<Core>, R: Wait>(
+    rt: &R,
+    alloc: Global,
+    device: &mut Device<D>,
+    word: &[u8],
+) -> Result<Opened, Errno> {
+    let file = open(rt, alloc, device, word)?;
+    match output(rt, alloc, device, &file) {
+        Ok(line) => Ok(Opened { file, line }),
+        Err(errno) => Err(errno),
+    }
+}
+
+/// The same after two chips were made.
+fn make_and_open<D: Driver<Core>, R: Wait>(
+    rt: &R,
+    alloc: Global,
+    device: &mut Device<D>,
+    word: &[u8],
+) -> Result<Opened, Errno> {
+    match add_two_chips(rt, device) {
+        Ok(()) => open_with_output(rt, alloc, device, word),
+        Err(errno) => Err(errno),
+    }
+}
+
+/// Makes two chips, and opens the second one twice, by its number.
+fn opened_twice<D: Driver<Core>, R: Wait>(
+    rt: &R,
+    alloc: Global,
+    device: &mut Device<D>,
+) -> Result<(ChipFd, ChipFd), Errno> {
+    add_two_chips(rt, device)?;
+    let third = open(rt, alloc, device, b"1")?;
+    match open(rt, alloc, device, b"1") {
+        Ok(fourth) => Ok((third, fourth)),
+        Err(errno) => Err(errno),
+    }
+}
+
+/// Whether all calls on a chip file and on a request are refused for this reason.
+fn refuse_both<D: Driver<Core>, R: Wait>(
+    rt: &R,
+    alloc: Global,
+    device: &mut Device<D>,
     file: &ChipFd,
     line: &LineFd,
     errno: Errno,
@@ -42,9 +105,9 @@ fn refuse_both<R: Wait>(
 }
 
 /// Closes the request of the number 4 and the chip file of the number 3 at place 1. Whether both are handed back for this reason.
-fn are_handed_back<R: Wait>(
+fn are_handed_back<D: Driver<Core>, R: Wait>(
     rt: &R,
-    device: &mut Device<SimDriver>,
+    device: &mut Device<D>,
     file: ChipFd,
     line: LineFd,
     errno: Errno,
@@ -64,11 +127,11 @@ fn are_handed_back<R: Wait>(
 }
 
 /// Calls each device with a file of the other one, which is of another kind there. Whether each call is refused.
-fn are_of_another_kind<R: Wait>(
+fn are_of_another_kind<D: Driver<Core>, R: Wait>(
     rt: &R,
     alloc: Global,
-    first: &mut Device<SimDriver>,
-    second: &mut Device<SimDriver>,
+    first: &mut Device<D>,
+    second: &mut Device<D>,
     line: &LineFd,
     fourth: &ChipFd,
 ) -> [bool; 2] {
@@ -78,43 +141,64 @@ fn are_of_another_kind<R: Wait>(
     ]
 }
 
+/// Calls two devices with files of each other, and the second one with closed ones. Whether the files have the same numbers on both, each
+/// call on a file of another kind is refused, both chip files of the second one are closed, each call on these numbers is refused, and their
+/// closes hand the files back, in this order.
+fn are_refused<D: Driver<Core>, R: Wait>(
+    rt: &R,
+    alloc: Global,
+    first: &mut Device<D>,
+    second: &mut Device<D>,
+    opened: Opened,
+    twice: (ChipFd, ChipFd),
+) -> [bool; 5] {
+    let Opened { file, line } = opened;
+    let (third, fourth) = twice;
+    let are_alike = [third.number(), fourth.number()] == [file.number(), line.number()];
+    let unlike = are_of_another_kind(rt, alloc, first, second, &line, &fourth);
+    let closed = [
+        close_chip(rt, second, third) == Ok(()),
+        close_chip(rt, second, fourth) == Ok(()),
+    ];
+    [
+        are_alike,
+        unlike == [true; 2],
+        closed == [true; 2],
+        refuse_both(rt, alloc, second, &file, &line, Errno::BadF),
+        are_handed_back(rt, second, file, line, Errno::BadF),
+    ]
+}
+
+/// The same of two new devices.
+fn are_refused_on_new<D: Driver<Core>, R: Wait>(
+    rt: &R,
+    alloc: Global,
+    first: &mut Device<D>,
+    second: &mut Device<D>,
+) -> Result<[bool; 5], Errno> {
+    let opened = make_and_open(rt, alloc, first, b"/dev/gpiochip1")?;
+    match opened_twice(rt, alloc, second) {
+        Ok(twice) => Ok(are_refused(rt, alloc, first, second, opened, twice)),
+        Err(errno) => Err(errno),
+    }
+}
+
 #[test]
 fn a_file_of_another_kind_is_refused_and_so_is_a_closed_one(rt: HostRuntime) {
-    let Ok(mut first) = with_two_chips(&rt, rt.alloc(), 100) else {
-        panic!(rt; "no chips")
+    let Ok(mut first) = new_device(rt.alloc(), 100) else {
+        panic!(rt; "no memory")
     };
-    let Ok(file) = open(&rt, rt.alloc(), &mut first, b"/dev/gpiochip1") else {
-        panic!(rt; "no file")
+    let Ok(mut second) = new_device(rt.alloc(), 100) else {
+        panic!(rt; "no memory")
     };
-    let Ok(line) = output(&rt, rt.alloc(), &mut first, &file) else {
-        panic!(rt; "no request")
-    };
-    let Ok(mut second) = with_two_chips(&rt, rt.alloc(), 100) else {
-        panic!(rt; "no chips")
-    };
-    let Ok(third) = open(&rt, rt.alloc(), &mut second, b"1") else {
-        panic!(rt; "no file")
-    };
-    let Ok(fourth) = open(&rt, rt.alloc(), &mut second, b"1") else {
-        panic!(rt; "no file")
-    };
-    let numbers = [file.number(), line.number()];
-    assert!(rt; [third.number(), fourth.number()] == numbers);
-    let unlike = are_of_another_kind(&rt, rt.alloc(), &mut first, &mut second, &line, &fourth);
-    assert!(rt; unlike == [true; 2]);
-    let closed = [
-        close_chip(&rt, &mut second, third) == Ok(()),
-        close_chip(&rt, &mut second, fourth) == Ok(()),
-    ];
-    assert!(rt; closed == [true; 2]);
-    assert!(rt; refuse_both(&rt, rt.alloc(), &mut second, &file, &line, Errno::BadF));
-    assert!(rt; are_handed_back(&rt, &mut second, file, line, Errno::BadF));
+    let refused = are_refused_on_new(&rt, rt.alloc(), &mut first, &mut second);
+    assert!(rt; refused == Ok([true; 5]));
 }
 
 /// Configures a request so that of its lines the ones of a mask are inputs and outputs, and the others inputs.
-fn set_faulty<R: Wait>(
+fn set_faulty<D: Driver<Core>, R: Wait>(
     rt: &R,
-    device: &mut Device<SimDriver>,
+    device: &mut Device<D>,
     line: &LineFd,
     mask: u8,
 ) -> Result<(), Errno> {
@@ -130,10 +214,10 @@ fn set_faulty<R: Wait>(
 
 /// Configures a request of two lines of the first device on both devices; its number is on the second one that of a request of one line.
 /// Whether each call is answered as by the latter, in this order: its second line doesn't count.
-fn are_of_one_line<R: Wait>(
+fn are_of_one_line<D: Driver<Core>, R: Wait>(
     rt: &R,
-    first: &mut Device<SimDriver>,
-    second: &mut Device<SimDriver>,
+    first: &mut Device<D>,
+    second: &mut Device<D>,
     line: &LineFd,
 ) -> [bool; 5] {
     [
@@ -145,21 +229,11 @@ fn are_of_one_line<R: Wait>(
     ]
 }
 
-/// A request of line 3 of a chip as an output.
-fn output<R: Wait>(
-    rt: &R,
-    alloc: Global,
-    device: &mut Device<SimDriver>,
-    file: &ChipFd,
-) -> Result<LineFd, Errno> {
-    device.request(rt, alloc, file, &[3], &Name::empty(), 1 << flag::OUTPUT)
-}
-
 /// A request of the first lines of the chip at place 1 as inputs.
-fn inputs<R: Wait>(
+fn inputs<D: Driver<Core>, R: Wait>(
     rt: &R,
     alloc: Global,
-    device: &mut Device<SimDriver>,
+    device: &mut Device<D>,
     offsets: &[u32],
 ) -> Result<LineFd, Errno>
     requires few { length offsets.now ≤ 64 }
@@ -170,26 +244,53 @@ fn inputs<R: Wait>(
     }
 }
 
+/// Makes two chips, and requests the first lines of the second one as inputs.
+fn inputs_of_new<D: Driver<Core>, R: Wait>(
+    rt: &R,
+    alloc: Global,
+    device: &mut Device<D>,
+    offsets: &[u32],
+) -> Result<LineFd, Errno>
+    requires few { length offsets.now ≤ 64 }
+{
+    match add_two_chips(rt, device) {
+        Ok(()) => inputs(rt, alloc, device, offsets),
+        Err(errno) => Err(errno),
+    }
+}
+
+/// Whether a request of two lines on one new device has the number of one of one line on the other, and is taken for that there, in this
+/// order.
+fn are_of_one_number<D: Driver<Core>, R: Wait>(
+    rt: &R,
+    alloc: Global,
+    first: &mut Device<D>,
+    second: &mut Device<D>,
+) -> Result<[bool; 2], Errno> {
+    let line = inputs_of_new(rt, alloc, first, &[0, 1])?;
+    match inputs_of_new(rt, alloc, second, &[0]) {
+        Ok(other) => Ok([
+            other.number() == line.number(),
+            are_of_one_line(rt, first, second, &line) == [true; 5],
+        ]),
+        Err(errno) => Err(errno),
+    }
+}
+
 #[test]
 fn a_file_of_another_device_is_the_one_of_its_number(rt: HostRuntime) {
-    let Ok(mut first) = with_two_chips(&rt, rt.alloc(), 100) else {
-        panic!(rt; "no chips")
+    let Ok(mut first) = new_device(rt.alloc(), 100) else {
+        panic!(rt; "no memory")
     };
-    let Ok(line) = inputs(&rt, rt.alloc(), &mut first, &[0, 1]) else {
-        panic!(rt; "no request")
+    let Ok(mut second) = new_device(rt.alloc(), 100) else {
+        panic!(rt; "no memory")
     };
-    let Ok(mut second) = with_two_chips(&rt, rt.alloc(), 100) else {
-        panic!(rt; "no chips")
-    };
-    let Ok(other) = inputs(&rt, rt.alloc(), &mut second, &[0]) else {
-        panic!(rt; "no request")
-    };
-    assert!(rt; other.number() == line.number());
-    assert!(rt; are_of_one_line(&rt, &mut first, &mut second, &line) == [true; 5]);
+    let numbers = are_of_one_number(&rt, rt.alloc(), &mut first, &mut second);
+    assert!(rt; numbers == Ok([true; 2]));
 }
 
 /// Which calls of the tree and the clock are refused for want of room, in this order.
-fn are_full_on_the_tree<R: Wait>(rt: &R, device: &mut Device<SimDriver>) -> [bool; 7] {
+fn are_full_on_the_tree<D: Driver<Core>, R: Wait>(rt: &R, device: &mut Device<D>) -> [bool; 7] {
     match (Path::of(b"d"), Path::of(b"d/b/label"), Path::of(b"d/live")) {
         (Some(made), Some(label), Some(live)) => are_full_at(rt, device, &made, &label, &live),
         _ => [false; 7],
@@ -197,9 +298,9 @@ fn are_full_on_the_tree<R: Wait>(rt: &R, device: &mut Device<SimDriver>) -> [boo
 }
 
 /// The same, of a device of the tree, its first bank's label, and whether it is live.
-fn are_full_at<R: Wait>(
+fn are_full_at<D: Driver<Core>, R: Wait>(
     rt: &R,
-    device: &mut Device<SimDriver>,
+    device: &mut Device<D>,
     made: &Path,
     label: &Path,
     live: &Path,
@@ -217,7 +318,11 @@ fn are_full_at<R: Wait>(
 }
 
 /// Which calls on chips are refused for want of room, in this order.
-fn are_full_on_chips<R: Wait>(rt: &R, alloc: Global, device: &mut Device<SimDriver>) -> [bool; 7] {
+fn are_full_on_chips<D: Driver<Core>, R: Wait>(
+    rt: &R,
+    alloc: Global,
+    device: &mut Device<D>,
+) -> [bool; 7] {
     let name = Name::filled(b"d");
     [
         device.probe(rt, name, 4, Kind::Simulated) == Err(Errno::Full),
@@ -230,28 +335,41 @@ fn are_full_on_chips<R: Wait>(rt: &R, alloc: Global, device: &mut Device<SimDriv
     ]
 }
 
+/// Whether all calls of the tree and the clock and all on chips that name no file are refused for want of room, in this order.
+fn are_full<D: Driver<Core>, R: Wait>(rt: &R, alloc: Global, device: &mut Device<D>) -> [bool; 2] {
+    [
+        are_full_on_the_tree(rt, device) == [true; 7],
+        are_full_on_chips(rt, alloc, device) == [true; 7],
+    ]
+}
+
+/// Fills a history of four entries up. Whether all calls are refused then, those that name no file and those that do, in this order.
+fn are_full_behind_four<D: Driver<Core>, R: Wait>(
+    rt: &R,
+    alloc: Global,
+    device: &mut Device<D>,
+) -> Result<[bool; 3], Errno> {
+    let Opened { file, line } = make_and_open(rt, alloc, device, b"gpiochip1")?;
+    Ok([
+        are_full(rt, alloc, device) == [true; 2],
+        refuse_both(rt, alloc, device, &file, &line, Errno::Full),
+        are_handed_back(rt, device, file, line, Errno::Full),
+    ])
+}
+
 #[test]
 fn a_full_history_refuses_every_call(rt: HostRuntime) {
-    let Ok(mut device) = with_two_chips(&rt, rt.alloc(), 4) else {
-        panic!(rt; "no chips")
+    let Ok(mut device) = new_device(rt.alloc(), 4) else {
+        panic!(rt; "no memory")
     };
-    let Ok(file) = open(&rt, rt.alloc(), &mut device, b"gpiochip1") else {
-        panic!(rt; "no file")
-    };
-    let Ok(line) = output(&rt, rt.alloc(), &mut device, &file) else {
-        panic!(rt; "no request")
-    };
-    assert!(rt; are_full_on_the_tree(&rt, &mut device) == [true; 7]);
-    assert!(rt; are_full_on_chips(&rt, rt.alloc(), &mut device) == [true; 7]);
-    assert!(rt; refuse_both(&rt, rt.alloc(), &mut device, &file, &line, Errno::Full));
-    assert!(rt; are_handed_back(&rt, &mut device, file, line, Errno::Full));
+    let full = are_full_behind_four(&rt, rt.alloc(), &mut device);
+    assert!(rt; full == Ok([true; 3]));
 }
 
 #[test]
 fn a_device_without_room_refuses_the_first_call(rt: HostRuntime) {
-    let Ok(mut device) = Device::new(rt.alloc(), SimDriver::new(), SimPort::new(), 0) else {
+    let Ok(mut device) = new_device(rt.alloc(), 0) else {
         panic!(rt; "no memory")
     };
-    assert!(rt; are_full_on_the_tree(&rt, &mut device) == [true; 7]);
-    assert!(rt; are_full_on_chips(&rt, rt.alloc(), &mut device) == [true; 7]);
+    assert!(rt; are_full(&rt, rt.alloc(), &mut device) == [true; 2]);
 }

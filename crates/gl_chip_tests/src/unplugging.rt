@@ -10,16 +10,13 @@ use gl_chip::{Actor, ChipFd, Gpio};
 use gl_core::Core;
 use gl_core::laws::first_bad;
 use gl_device::Device;
-use gl_driver::{Driver, Port, SimDriver, SimPort};
+use gl_driver::{Driver, Port};
 use gl_uapi::layout::LINE_REQUEST_SIZE;
 use gl_uapi::write_request;
 use gl_world::{Entry, Machine};
 use std::alloc::Global;
 use std::sync::Wait;
 use std::thread::{Threads, join};
-
-/// An actor that unplugged a chip, and what it was answered.
-type Unplugged = (Actor<SimDriver>, Result<(), Errno>);
 
 /// Unplugs the chip of place 0, by an actor that comes back, with what it was answered.
 pub fn unplug_once<D: Driver<Core>, R: Wait>(
@@ -36,12 +33,12 @@ pub fn unplug_once<D: Driver<Core>, R: Wait>(
 }
 
 /// Two actors unplug the chip of place 0, in two threads.
-fn unplug_in_two_threads<R: Threads + Wait + Sync>(
+fn unplug_in_two_threads<D: Driver<Core>, R: Threads + Wait + Sync>(
     rt: &R,
-    gpio: &Gpio<SimDriver>,
-    first: Actor<SimDriver>,
-    second: Actor<SimDriver>,
-) -> (Unplugged, Unplugged)
+    gpio: &Gpio<D>,
+    first: Actor<D>,
+    second: Actor<D>,
+) -> ((Actor<D>, Result<(), Errno>), (Actor<D>, Result<(), Errno>))
     requires first { IsActorOf gpio.now first }
     requires second { IsActorOf gpio.now second }
     ensures first { IsActorOf gpio.now result.0.0 }
@@ -51,12 +48,12 @@ fn unplug_in_two_threads<R: Threads + Wait + Sync>(
 {
     join(
         rt,
-        || -> Unplugged
+        || -> (Actor<D>, Result<(), Errno>)
             requires { IsActorOf gpio.now first }
             ensures actor { IsActorOf gpio.entry.now result.0 }
             ensures same { IsSame first.pass.view result.0.pass.view }
         { unplug_once(rt, gpio, first) },
-        || -> Unplugged
+        || -> (Actor<D>, Result<(), Errno>)
             requires { IsActorOf gpio.now second }
             ensures actor { IsActorOf gpio.entry.now result.0 }
             ensures same { IsSame second.pass.view result.0.pass.view }
@@ -115,11 +112,11 @@ pub fn has_no_bad_entry(history: &[Entry<Core>], alloc: Global) -> bool {
 }
 
 /// Requests line 0 as an input, while the first driver call fails.
-fn request_and_fail<R: Wait>(
+fn request_and_fail<D: Driver<Core>, R: Wait>(
     rt: &R,
     alloc: Global,
-    gpio: &Gpio<SimDriver>,
-    actor: &mut Actor<SimDriver>,
+    gpio: &Gpio<D>,
+    actor: &mut Actor<D>,
     file: &ChipFd,
 ) -> Result<(), Errno>
     requires actor { IsActorOf gpio.now actor.old }
@@ -135,15 +132,16 @@ fn request_and_fail<R: Wait>(
     }
 }
 
-/// A second actor requests a line in vain, both unplug the chip of place 0 at once, and the device ends.
-pub fn unplug_and_end<R: Threads + Wait + Sync>(
+/// A second actor, with this port, requests a line in vain, both unplug the chip of place 0 at once, and the device ends.
+pub fn unplug_and_end<D: Driver<Core>, R: Threads + Wait + Sync>(
     rt: &R,
     alloc: Global,
-    device: Device<SimDriver>,
+    device: Device<D>,
+    port: D::Port,
     file: &ChipFd,
 ) -> Ended {
     let (gpio, mut actor) = device.into_parts();
-    let mut other = gpio.split(&mut actor, SimPort::new());
+    let mut other = gpio.split(&mut actor, port);
     let numbers = [actor.number(), other.number()];
     let requested = request_and_fail(rt, alloc, &gpio, &mut other, file);
     let ((mut actor, first), (other, second)) = unplug_in_two_threads(rt, &gpio, actor, other);

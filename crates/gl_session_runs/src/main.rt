@@ -36,17 +36,25 @@ fn main(rt: HostRuntime) -> io::Result<()> {
 
 /// Plays what the lines of the standard input say.
 fn play_all<R: Threads + Wait + Sync>(rt: &R, host: &HostRuntime) -> io::Result<()> {
-    let mut out = host.stdout();
     let mut session = Session::new(host.alloc());
     for line in BufReader::new(host.alloc(), host.reader())?.lines(host.alloc()) {
-        let line = line?;
-        let mut text = Vec::new(host.alloc());
-        match told(rt, &mut session, line.as_str(), &mut text) {
-            Ok(()) => out.write_all(&text)?,
-            Err(errno) => out.write_all(errno.name().as_bytes())?,
-        }
+        tell(rt, host, &mut session, line?.as_str())?;
     }
     Ok(())
+}
+
+/// Writes what is told of a line.
+fn tell<R: Threads + Wait + Sync>(
+    rt: &R,
+    host: &HostRuntime,
+    session: &mut Session,
+    line: &str,
+) -> io::Result<()> {
+    let mut text = Vec::new(host.alloc());
+    match told(rt, session, line, &mut text) {
+        Ok(()) => host.stdout().write_all(&text),
+        Err(errno) => host.stdout().write_all(errno.name().as_bytes()),
+    }
 }
 
 /// Takes a line into the session, or plays the session as it says, and appends what is told of that.

@@ -1,13 +1,13 @@
 //! A session whose actors meet in the driver.
-ghost use Rattle.std.specs.Prelude.{◌≤◌, IfSome};
+ghost use Rattle.std.specs.Prelude.{◌<◌, ◌≤◌, IfSome};
 
 use crate::bells::{BellDriver, new_ports};
-use crate::play::Session;
+use crate::play::{Session, number_of_run};
 use crate::run_parameters::{RunParameters, word};
 use crate::same::put_same;
 use gl_base::{Errno, read_decimal, split_first};
-use gl_io::MemSink;
-use gl_session::run;
+use gl_io::{MemSink, MemSource};
+use std::alloc::Global;
 use std::sync::Wait;
 use std::thread::Threads;
 
@@ -89,7 +89,6 @@ impl Session {
     ) -> Result<(), Errno>
         requires { 1 ≤ meeting.now.calls }
     {
-        let alloc = *out.allocator();
         let parameters = RunParameters {
             piece: 64,
             room: meeting.room,
@@ -97,11 +96,26 @@ impl Session {
             write: None,
             words: [b"", b""],
         };
-        let mut source = self.source(alloc, &parameters)?;
-        let mut sink = MemSink::new(alloc, parameters.room, parameters.piece, Vec::new(alloc))?;
-        let (driver, mut ports) = (BellDriver::new(meeting.calls), new_ports());
-        let status = run(rt, alloc, &[], &mut source, &mut sink, driver, &mut ports);
-        self.put_judged(rt, status.number(), sink.as_slice(), meeting.told, out)
+        let mut source = self.source(*out.allocator(), &parameters)?;
+        self.put_meeting_from(rt, meeting, &parameters, &mut source, out)
+    }
+
+    /// The same from a source.
+    fn put_meeting_from<R: Threads + Wait + Sync>(
+        &self,
+        rt: &R,
+        meeting: &Meeting<'_>,
+        parameters: &RunParameters<'_>,
+        source: &mut MemSource,
+        out: &mut Vec<u8>,
+    ) -> Result<(), Errno>
+        requires calls { 1 ≤ meeting.now.calls }
+        requires piece { 0 < parameters.now.piece }
+    {
+        let alloc = *out.allocator();
+        let mut sink = parameters.sink(alloc)?;
+        let number = run_by_bells(rt, alloc, meeting.calls, source, &mut sink);
+        self.put_judged(rt, number, sink.as_slice(), meeting.told, out)
     }
 
     /// Appends the session's name, the number that its run ended with, what is told of what that wrote, and how all of it is judged.
@@ -144,4 +158,19 @@ impl Session {
         };
         printed.put_run(rt, &parameters, out)
     }
+}
+
+/// Runs a session from a source to a sink over a driver that keeps all calls before its `calls`-th one until that one is answered: the number
+/// of its status.
+fn run_by_bells<R: Threads + Wait + Sync>(
+    rt: &R,
+    alloc: Global,
+    calls: u32,
+    source: &mut MemSource,
+    sink: &mut MemSink,
+) -> u8
+    requires { 1 ≤ calls }
+{
+    let (driver, mut ports) = (BellDriver::new(calls), new_ports());
+    number_of_run(rt, alloc, &[], source, sink, driver, &mut ports)
 }

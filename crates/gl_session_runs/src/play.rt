@@ -1,14 +1,16 @@
 //! A session that is played in memory.
 ghost use Rattle.std.specs.Prelude.{◌<◌, ◌≤◌};
-ghost use Rattle.gl_session.specs.Ports.{AreAllThere, TakeMaps};
+ghost use Rattle.gl_chip.specs.Values.{IsQuietDriver};
+ghost use Rattle.gl_session.specs.Ports.{AreAllThere, OwnsNothing, TakeMaps};
 
 use crate::again::give_all;
 use crate::frames::put_texts;
-use crate::run_parameters::RunParameters;
+use crate::run_parameters::{RunParameters, only};
 use gl_aggregator::laws::own_entries_are_quiet;
 use gl_aggregator::{AggDriver, AggPort};
 use gl_base::{Errno, put_decimal};
-use gl_driver::{Port, SimDriver, SimPort};
+use gl_core::Core;
+use gl_driver::{Driver, Port, SimDriver, SimPort};
 use gl_io::{MemSink, MemSource};
 use gl_served::{Ended, Served, serve};
 use gl_session::run;
@@ -77,35 +79,32 @@ impl Session {
     ) -> Result<(), Errno>
         requires { 0 < parameters.now.piece }
     {
+        let mut source = self.source(*out.allocator(), parameters)?;
+        self.put_run_from(rt, parameters, &mut source, out)
+    }
+
+    /// The same from a source.
+    fn put_run_from<R: Threads + Wait + Sync>(
+        &self,
+        rt: &R,
+        parameters: &RunParameters<'_>,
+        source: &mut MemSource,
+        out: &mut Vec<u8>,
+    ) -> Result<(), Errno>
+        requires { 0 < parameters.now.piece }
+    {
         let alloc = *out.allocator();
-        let mut source = self.source(alloc, parameters)?;
-        let mut sink = MemSink::new(
-            alloc,
-            parameters.room,
-            parameters.piece,
-            only(parameters.write, alloc)?,
-        )?;
-        let (driver, mut ports) = (AggDriver::new(SimDriver::new()), new_ports());
-        own_entries_are_quiet();
-        let words = [text_of(parameters.words[0]), text_of(parameters.words[1])];
-        let count = count_words(&words);
-        let status = run(
-            rt,
-            alloc,
-            &words[..count],
-            &mut source,
-            &mut sink,
-            driver,
-            &mut ports,
-        );
-        self.put_ended(status.number(), sink.as_slice(), out)
+        let mut sink = parameters.sink(alloc)?;
+        let number = run_aggregated(rt, alloc, parameters, source, &mut sink);
+        self.put_ended(number, sink.as_slice(), out)
     }
 
     /// Serves the session as planned, line by line, and appends its name, its status and the frames that were written.
     pub fn put_frames(&self, parameters: &RunParameters<'_>, out: &mut Vec<u8>) -> Result<(), Errno>
         requires { 0 < parameters.now.piece }
     {
-        let (number, frames) = self.serve(*out.allocator(), parameters)?;
+        let mut frames = Vec::new(*out.allocator());
+        let number = self.serve(parameters, &mut frames)?;
         self.put_ended(number, &frames, out)
     }
 
@@ -113,38 +112,41 @@ impl Session {
     pub fn put_texts(&self, parameters: &RunParameters<'_>, out: &mut Vec<u8>) -> Result<(), Errno>
         requires { 0 < parameters.now.piece }
     {
-        let alloc = *out.allocator();
-        let (number, frames) = self.serve(alloc, parameters)?;
-        let mut texts = Vec::new(alloc);
-        put_texts(&frames, &mut texts)?;
+        let mut texts = Vec::new(*out.allocator());
+        let number = self.serve_texts(parameters, &mut texts)?;
         self.put_ended(number, &texts, out)
     }
 
     /// Gives the session's lines to a served session, each again where memory was refused to it, and appends its name, the
     /// number of how they came to their answers, and what they printed.
     pub fn put_again(&self, out: &mut Vec<u8>) -> Result<(), Errno> {
-        let alloc = *out.allocator();
-        let mut served = Served::new(alloc)?;
-        let mut texts = Vec::new(alloc);
-        let given = give_all(&mut served, &self.bytes, &mut texts);
+        let mut served = Served::new(*out.allocator())?;
+        self.put_again_by(&mut served, out)
+    }
+
+    /// The same by this served session.
+    fn put_again_by(&self, served: &mut Served, out: &mut Vec<u8>) -> Result<(), Errno> {
+        let mut texts = Vec::new(*out.allocator());
+        let given = give_all(served, &self.bytes, &mut texts);
         self.put_ended(given.number(), &texts, out)
     }
 
-    /// Serves the session as planned: the number of its end, and what was written.
-    fn serve(&self, alloc: Global, parameters: &RunParameters<'_>) -> Result<(u8, Vec<u8>), Errno>
+    /// Serves the session as planned, and appends what its frames hold: the number of its end.
+    fn serve_texts(&self, parameters: &RunParameters<'_>, texts: &mut Vec<u8>) -> Result<u8, Errno>
         requires { 0 < parameters.now.piece }
     {
-        let mut source = self.source(alloc, parameters)?;
-        let mut sink = MemSink::new(
-            alloc,
-            parameters.room,
-            parameters.piece,
-            only(parameters.write, alloc)?,
-        )?;
-        let ended = serve_new(alloc, &mut source, &mut sink)?;
-        let mut frames = Vec::new(alloc);
-        frames.extend_from_slice(sink.as_slice())?;
-        Ok((ended.number(), frames))
+        let mut frames = Vec::new(*texts.allocator());
+        let number = self.serve(parameters, &mut frames)?;
+        put_texts(&frames, texts)?;
+        Ok(number)
+    }
+
+    /// Serves the session as planned, and appends what was written: the number of its end.
+    fn serve(&self, parameters: &RunParameters<'_>, frames: &mut Vec<u8>) -> Result<u8, Errno>
+        requires { 0 < parameters.now.piece }
+    {
+        let mut source = self.source(*frames.allocator(), parameters)?;
+        serve_from(parameters, &mut source, frames)
     }
 
     /// The session's bytes as a source.
@@ -171,10 +173,67 @@ impl Session {
     }
 }
 
+/// Serves a new session from a source to a sink as planned, and appends what was written: the number of its end.
+fn serve_from(
+    parameters: &RunParameters<'_>,
+    source: &mut MemSource,
+    frames: &mut Vec<u8>,
+) -> Result<u8, Errno>
+    requires { 0 < parameters.now.piece }
+{
+    let mut sink = parameters.sink(*frames.allocator())?;
+    serve_between(source, &mut sink, frames)
+}
+
+/// The same to this sink.
+fn serve_between(
+    source: &mut MemSource,
+    sink: &mut MemSink,
+    frames: &mut Vec<u8>,
+) -> Result<u8, Errno> {
+    let ended = serve_new(*frames.allocator(), source, sink)?;
+    frames.extend_from_slice(sink.as_slice())?;
+    Ok(ended.number())
+}
+
 /// Serves a new session from a source to a sink.
 fn serve_new(alloc: Global, source: &mut MemSource, sink: &mut MemSink) -> Result<Ended, Errno> {
     let mut served = Served::new(alloc)?;
     Ok(serve(alloc, &mut served, source, sink))
+}
+
+/// Runs a session from a source to a sink over a new aggregator, with these words: the number of its status.
+fn run_aggregated<R: Threads + Wait + Sync>(
+    rt: &R,
+    alloc: Global,
+    parameters: &RunParameters<'_>,
+    source: &mut MemSource,
+    sink: &mut MemSink,
+) -> u8 {
+    own_entries_are_quiet();
+    let (driver, mut ports) = (AggDriver::new(SimDriver::new()), new_ports());
+    let words = [text_of(parameters.words[0]), text_of(parameters.words[1])];
+    let count = count_words(&words);
+    number_of_run(rt, alloc, &words[..count], source, sink, driver, &mut ports)
+}
+
+/// Runs a session from a source to a sink: the number of its status.
+pub fn number_of_run<R: Threads + Wait + Sync, D: Driver<Core>>(
+    rt: &R,
+    alloc: Global,
+    words: &[&str],
+    source: &mut MemSource,
+    sink: &mut MemSink,
+    driver: D,
+    ports: &mut [Option<D::Port>],
+) -> u8
+    requires none { OwnsNothing D.OwnEntries }
+    requires quiet { IsQuietDriver D.OwnEntries }
+    requires few_own { D.ENTRIES ≤ 8 }
+    requires bare { TakeMaps D.Port.maps D.Port.maps_left ports.old }
+    requires ports { AreAllThere ports.old }
+{
+    run(rt, alloc, words, source, sink, driver, ports).number()
 }
 
 /// A word as text.
@@ -201,13 +260,4 @@ fn new_ports() -> [Option<AggPort<SimPort>>; 17]
     ensures bare { TakeMaps (⟦<AggPort<SimPort> as Port>⟧.maps) (⟦<AggPort<SimPort> as Port>⟧.maps_left) result }
 {
     array::from_fn(|_| Some(AggPort::new(SimPort::new())))
-}
-
-/// The list of one number, or of none.
-fn only(number: Option<u64>, alloc: Global) -> Result<Vec<u64>, Errno> {
-    let mut list = Vec::new(alloc);
-    if let Some(number) = number {
-        list.push(number)?;
-    }
-    Ok(list)
 }

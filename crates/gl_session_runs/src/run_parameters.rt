@@ -1,7 +1,9 @@
 //! How a run goes.
 ghost use Rattle.std.specs.Prelude.{◌<◌, IfSome};
 
-use gl_base::{read_decimal, split_first};
+use gl_base::{Errno, read_decimal, split_first};
+use gl_io::MemSink;
+use std::alloc::Global;
 
 /// How a run goes.
 #[derive(Clone, Copy)]
@@ -37,6 +39,23 @@ impl<'a> RunParameters<'a> {
             words: [word(&mut rest), word(&mut rest)],
         })
     }
+
+    /// A sink with this room.
+    pub fn sink(&self, alloc: Global) -> Result<MemSink, Errno>
+        requires { 0 < self.now.piece }
+    {
+        let faults = only(self.write, alloc)?;
+        Ok(MemSink::new(alloc, self.room, self.piece, faults)?)
+    }
+}
+
+/// The list of one number, or of none.
+pub fn only(number: Option<u64>, alloc: Global) -> Result<Vec<u64>, Errno> {
+    let mut list = Vec::new(alloc);
+    if let Some(number) = number {
+        list.push(number)?;
+    }
+    Ok(list)
 }
 
 /// Takes the next word; the empty one after the last.
