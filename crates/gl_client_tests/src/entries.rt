@@ -2,7 +2,6 @@
 
 ghost use Rattle.gl_trace.specs.EntryText.{HasText};
 
-use crate::texts::put_word;
 use gl_base::{Errno, Kind, Name, Path};
 use gl_core::{Call, Core, Part, Reply};
 use gl_trace::{put_entry, read_entry};
@@ -12,16 +11,19 @@ use gl_world::Entry;
 pub fn put(line: &[u8], out: &mut Vec<u8>) -> Result<(), Errno> {
     match read_entry(line) {
         Some(got) => put_entry(got.0, &got.1, out),
-        None => put_word(b"none", out),
+        None => {
+            out.extend_from_slice(b"none")?;
+            Ok(())
+        }
     }
 }
 
 /// Appends three entries, with `|` behind the first two.
 pub fn put_made(out: &mut Vec<u8>) -> Result<(), Errno> {
     put_entry(0, &probe(), out)?;
-    put_word(b"|", out)?;
+    out.push(b'|')?;
     put_open(out)?;
-    put_word(b"|", out)?;
+    out.push(b'|')?;
     put_entry(10, &ask(), out)
 }
 

@@ -1,15 +1,14 @@
-//! Tells what texts, numbers, entries, sessions, structures and streams are: each is known from a header or a document, and the stored
-//! output has what it has to be.
+//! Tells what texts, numbers, sessions, structures and streams are: each is known from a header or a document, and the stored output has
+//! what it has to be.
 //!
 //! A line is a case, whose first word says its kind. The other words are a text, or after `of KIND` the pieces of bytes that a text is.
 //! `session PARTS` tells the cost of a session and 0 ok, or the line, the column and the kind of its first fault: PARTS are divided by `;`,
 //! each a number and the text that stands there so many times, in which `|` is the end of a line, `~` a tab and `^` the byte 7f. `load N`
-//! tells the same of a load, and `turns N` its text. `entry LINE` tells the line of a history as it was read and written again, `node PATH`
-//! what a path of the tree names, `words WORD..` what the program's words ask for. A case of one word is one that has all it needs here;
-//! where it tells digits, each is 1 where one more thing is as it has to be. What is told of a case ends with the end of a line.
+//! tells the same of a load, and `turns N` its text. `node PATH` tells what a path of the tree names, `words WORD..` what the program's
+//! words ask for. A case of one word is one that has all it needs here; where it tells digits, each is 1 where one more thing is as it has
+//! to be. What is told of a case ends with the end of a line.
 #![tactic(auto)]
 
-mod entries;
 mod names;
 mod nodes;
 mod requests;
@@ -59,7 +58,6 @@ fn put_case(alloc: Global, line: &[u8], out: &mut Vec<u8>) -> Result<(), Errno> 
         b"session" => sessions::put(alloc, rest, out),
         b"load" => sessions::put_load(alloc, rest, out),
         b"turns" => sessions::put_turns(rest, out),
-        b"entry" => entries::put(rest, out),
         b"node" => nodes::put(rest, out),
         b"words" => words::put(alloc, rest, out),
         _ => match rest.is_empty() {
@@ -89,7 +87,6 @@ fn put_known(alloc: Global, kind: &[u8], out: &mut Vec<u8>) -> Result<(), Errno>
     match kind {
         b"errors" => texts::put_errors(out),
         b"numbers" => texts::put_numbers(out),
-        b"entries" => entries::put_made(out),
         b"names" => put_bits(&names::checks(), out),
         b"answers" => put_bits(&names::answers(alloc)?, out),
         b"commands" => structures::put_commands(out),
