@@ -292,9 +292,14 @@ def answered_otherwise(chance: random.Random, output: Output) -> Optional[bytes]
 
 
 def dropped(chance: random.Random, output: Output) -> Optional[bytes]:
-    """One entry is missing, and the others are numbered anew."""
+    """One entry is missing, and the others are numbered anew. It stays where its actor's next one is a refusal: that names no call, so it may be
+    the refusal of the call which would be missing, and what is printed the same."""
     at = chance.randrange(len(output.entries))
-    return output.text(output.entries[:at] + output.entries[at + 1:]) if is_counted(output.entries[at]) else None
+    entry, behind = output.entries[at], output.entries[at + 1:]
+    following = next((other for other in behind if actor_of(other) == actor_of(entry)), None)
+    if not is_counted(entry) or (following is not None and is_guard(following)):
+        return None
+    return output.text(output.entries[:at] + behind)
 
 
 def doubled(chance: random.Random, output: Output) -> Optional[bytes]:
