@@ -1,7 +1,9 @@
 -- A step of a loop that writes a text, and of one that reads a source.
-use Rattle.std.proofs.Common.{◌≡◌, ◌+◌, ℕ, List, ◌++◌, take, drop, Option, None, Some, sym, ◌∙◌, ap, subst, append_assoc}
+use Rattle.std.proofs.Common.{◌≡◌, ◌+◌, ℕ, List, ◌++◌, Err, take, drop, Option, None, Result, Some, sym, ◌∙◌, ap, subst, append_assoc}
 use Rattle.std.proofs.Math.Seq.{take-add}
 use Rattle.std.specs.Io.KnownBytes.{Appends, Consumes}
+use Rattle.gl_session.specs.declared.streams.ReadError.{ReadError}
+use Rattle.gl_session.specs.declared.streams.ReadError.TheVariants.{Fault, NoMemory}
 
 appends_more : (a b c : Option (List ℕ)) (xs ys : List ℕ) → Appends a b xs → Appends b c ys → Appends a c (xs ++ ys)
 appends_more None b c xs ys p q = tt
@@ -22,3 +24,7 @@ consumes_more None b c xs ys p q = tt
 consumes_more (Some a) None c xs ys p q = absurd p
 consumes_more (Some a) (Some b) None xs ys p q = absurd q
 consumes_more (Some a) (Some b) (Some c) xs ys p q = p ∙ ap (λ l. xs ++ l) q ∙ sym (append_assoc xs ys c)
+
+-- being out of memory is no fault of reading
+pub full_is_no_fault : {T : Type 0} {result : Result T ReadError} → result ≡ Err NoMemory → result ≡ Err Fault → ⊥
+full_is_no_fault full fault = let both = sym full ∙ fault in cc

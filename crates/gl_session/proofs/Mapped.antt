@@ -1,6 +1,6 @@
 -- A call of the device through a port that may keep maps, over a driver that makes no entries of its own at a place without one: what was made for
 -- an operation; and the maps of ports, as they are taken out and put back.
-use Rattle.std.proofs.Common.{◌≡◌, ◌⊎◌, ⊎_elim, ℕ, zero, suc, Bool, true, false, List, [], ◌∷◌, ◌++◌, length, length-append, get_or, map, set, ◌<◌, ◌+◌, Option, None, Some, Result, Ok, Err, refl, sym, ◌∙◌, ap, subst, arith}
+use Rattle.std.proofs.Common.{◌≡◌, ⊎_elim, ℕ, zero, suc, Bool, true, false, List, [], ◌∷◌, ◌++◌, length, length-append, get_or, map, set, ◌<◌, Option, None, Some, Result, Ok, Err, refl, sym, ◌∙◌, ap, subst, arith}
 use Rattle.std.specs.Prelude.{IfOk, IfErr, IfSome, OnOk, OnErr, is_some, slice_get}
 use Rattle.std.proofs.lemmas.List.{append-nil}
 use Rattle.gl_world.specs.History.{StartsWith}
@@ -246,3 +246,8 @@ either_way (Err e) P new changed old is kept p q = subst P (sym kept) q
 pub on_err_weaker : {X E A B : Type 0} (r : Result X E) → (A → B) → OnErr r A → OnErr r B
 on_err_weaker (Ok x) f h = h
 on_err_weaker (Err e) f h = f h
+
+-- what holds whatever a result is
+pub on_ok_of : {X E : Type 0} (r : Result X E) (A : Type 0) → A → OnOk r A
+on_ok_of (Ok x) A a = a
+on_ok_of (Err e) A a = tt

@@ -1,5 +1,5 @@
 -- Talks that are carried out turn by turn: turns one after another, and one program after another.
-use Rattle.std.proofs.Common.{◌≡◌, ◌<◌, ◌+◌, ℕ, List, [], ◌∷◌, ◌++◌, length, map, drop, get_or, None, Some, refl, sym, ◌∙◌, ap, subst}
+use Rattle.std.proofs.Common.{◌≡◌, ◌<◌, ◌+◌, ℕ, true, false, List, [], ◌∷◌, ◌++◌, length, map, drop, get_or, None, Some, refl, sym, ◌∙◌, ap, subst}
 use Rattle.std.proofs.lemmas.List.{append_assoc, append-nil, drop_more}
 use Rattle.gl_base.specs.declared.operation.Do.{Do}
 use Rattle.gl_base.specs.declared.operation.Got.{Got}
@@ -19,6 +19,10 @@ use Rattle.gl_session.proofs.Performing.{unmoved}
 use Rattle.gl_session.proofs.Seen.{no_shorter, seen_append, seen_more}
 use Rattle.gl_check.specs.Drivers.{DriverKind}
 use Rattle.gl_check.specs.Turns.{AreSeen, Carried, Did, Follows, Said, Takes, Turn, carried, did_by, said_by}
+
+-- what goes on is not at its end
+pub goes_not_end : true ≡ false → ⊥
+goes_not_end ends = cc
 
 pub said_append : (first later : List Turn) → said_by (first ++ later) ≡ said_by first ++ said_by later
 said_append [] later = refl

@@ -1,10 +1,10 @@
 -- Words that ask for one thing ask for no other; and what a load ends with is nothing else.
-use Rattle.std.proofs.Common.{◌≡◌, ◌⊎◌, ℕ, List, [], Option, None, Some, inl, inr, refl, sym, ◌∙◌}
+use Rattle.std.proofs.Common.{◌≡◌, ◌⊎◌, ℕ, List, [], Option, None, Some, false, inl, inr, nat_eq, refl, subst, sym, ◌∙◌, arith}
 use Rattle.std.specs.Io.KnownBytes.{Consumes}
 use Rattle.gl_words.specs.declared.task.Task.{Task}
 use Rattle.gl_words.specs.declared.task.Task.TheVariants.{Check, Load, Session}
+use Rattle.gl_session.specs.Status.{status_number}
 use Rattle.gl_session.specs.declared.status.Status.{Status}
-use Rattle.gl_session.specs.declared.status.Status.TheVariants.{No, NoMemory, Ran, ReadFault, Refused, Usage, WriteFault}
 
 pub session_is_no_load : (asked : Option Task) (n : ℕ) → asked ≡ Some Session → asked ≡ Some (Load n) → ⊥
 session_is_no_load asked n is load = let both : Some Session ≡ Some (Load n) = sym is ∙ load in cc
@@ -42,29 +42,26 @@ none_is_no_check asked is check = check_is_some asked check is
 pub none_has_words : (asked : Option Task) → asked ≡ None → asked ≡ Some Session → ⊥
 none_has_words asked is session = session_is_some asked session is
 
--- what a load ends with
-abbrev EndsLoad : Status → Type 0
-EndsLoad status = (status ≡ Ran) ⊎ ((status ≡ WriteFault) ⊎ (status ≡ NoMemory))
+-- statuses are told apart by their numbers
+pub apart : {a b : Status} → nat_eq (status_number a) (status_number b) ≡ false → a ≡ b → ⊥
+apart {a} unlike is = differs (status_number a) (subst (λ s. nat_eq (status_number a) (status_number s) ≡ false) (sym is) unlike)
+  where
+    differs : (n : ℕ) → nat_eq n n ≡ false → ⊥
+    differs n unlike = grind (arith, unlike)
 
-pub no_usage : {status : Status} → EndsLoad status → status ≡ Usage → ⊥
-no_usage (inl ran) is = let both : Ran ≡ Usage = sym ran ∙ is in cc
-no_usage (inr (inl fault)) is = let both : WriteFault ≡ Usage = sym fault ∙ is in cc
-no_usage (inr (inr full)) is = let both : NoMemory ≡ Usage = sym full ∙ is in cc
+-- one of two is no third, and what a load ends with is nothing else
+pub no_third : {status a b other : Status} → (status ≡ a) ⊎ (status ≡ b) → nat_eq (status_number a) (status_number other) ≡ false → nat_eq (status_number b) (status_number other) ≡ false → status ≡ other → ⊥
+no_third (inl first) unlike _ is = apart unlike (sym first ∙ is)
+no_third (inr second) _ unlike is = apart unlike (sym second ∙ is)
 
-pub no_read_fault : {status : Status} → EndsLoad status → status ≡ ReadFault → ⊥
-no_read_fault (inl ran) is = let both : Ran ≡ ReadFault = sym ran ∙ is in cc
-no_read_fault (inr (inl fault)) is = let both : WriteFault ≡ ReadFault = sym fault ∙ is in cc
-no_read_fault (inr (inr full)) is = let both : NoMemory ≡ ReadFault = sym full ∙ is in cc
+pub no_other : {status a b c other : Status} → (status ≡ a) ⊎ ((status ≡ b) ⊎ (status ≡ c)) → nat_eq (status_number a) (status_number other) ≡ false
+    → nat_eq (status_number b) (status_number other) ≡ false → nat_eq (status_number c) (status_number other) ≡ false → status ≡ other → ⊥
+no_other (inl first) unlike _ _ is = apart unlike (sym first ∙ is)
+no_other (inr later) _ second third is = no_third later second third is
 
-pub no_refusal : {status : Status} → EndsLoad status → status ≡ Refused → ⊥
-no_refusal (inl ran) is = let both : Ran ≡ Refused = sym ran ∙ is in cc
-no_refusal (inr (inl fault)) is = let both : WriteFault ≡ Refused = sym fault ∙ is in cc
-no_refusal (inr (inr full)) is = let both : NoMemory ≡ Refused = sym full ∙ is in cc
-
-pub no_no : {status : Status} → EndsLoad status → status ≡ No → ⊥
-no_no (inl ran) is = let both : Ran ≡ No = sym ran ∙ is in cc
-no_no (inr (inl fault)) is = let both : WriteFault ≡ No = sym fault ∙ is in cc
-no_no (inr (inr full)) is = let both : NoMemory ≡ No = sym full ∙ is in cc
+-- what there is isn't missing
+pub some_is_no_none : {A : Type 0} {found : Option A} {x : A} → found ≡ Some x → found ≡ None → ⊥
+some_is_no_none {A} {found} {x} is none = let both : Some x ≡ None = sym is ∙ none in cc
 
 -- nothing was read
 pub consumes_none : (left : Option (List ℕ)) → Consumes left left []

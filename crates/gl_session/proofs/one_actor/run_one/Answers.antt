@@ -48,3 +48,12 @@ returns-in-Ok-play_session-clause-maps g c =
 pub returns-in-Ok-play_session-clause-without : goal.returns-in-Ok-play_session-clause-without
 returns-in-Ok-play_session-clause-without g c = λ without.
     c.into_parts-actor.ensures.kept ∙ ap (λ (m : Maps). m.kept) (c.in-Ok-play_session.ensures.without without ∙ c.new-player.ensures.maps) ∙ ap g.D.Port.Port.maps c.in-Ok.ensures.port ∙ c.requires.bare
+
+pub returns-in-Ok-play_session-clause-memory_alone : goal.returns-in-Ok-play_session-clause-memory_alone
+returns-in-Ok-play_session-clause-memory_alone g c = tt
+
+pub returns-in-Err-play_session-clause-memory_alone : goal.returns-in-Err-play_session-clause-memory_alone
+returns-in-Err-play_session-clause-memory_alone g c = c.in-Err-play_session.ensures.memory_alone
+
+pub play_session-requires-clause-first : goal.play_session-requires-clause-first
+play_session-requires-clause-first g c κs within = c.new-player.ensures.view ∙ c.in-Ok.ensures.first ∙ ap (λ (n : ℕ). newcomer 0 n [] 1 [] []) c.cost.ensures

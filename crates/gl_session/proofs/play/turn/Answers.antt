@@ -1,8 +1,8 @@
-use Rattle.std.proofs.Common.{rules, inl, inr, ⊎_elim}
+use Rattle.std.proofs.Common.{rules, sym, inl, inr, ⊎_elim}
 use Rattle.gl_client.specs.Program.{Goes, given}
 use Rattle.gl_client.specs.declared.next.Next.TheVariants.{Call, Print}
 use Rattle.gl_talk.specs.Talk.{left}
-use Rattle.gl_session.proofs.Plays.{did_turn, full_turn, printed_turn}
+use Rattle.gl_session.proofs.Plays.{did_turn, full_turn, goes_not_end, printed_turn}
 use Rattle.gl_session.proofs.play.turn.Goals as goal
 
 pub returns-in-Ok-perform-clause-taken : goal.returns-in-Ok-perform-clause-taken
@@ -19,3 +19,18 @@ pub returns-in-Ok-print-clause-taken : goal.returns-in-Ok-print-clause-taken
 returns-in-Ok-print-clause-taken g c = λ _.
     let goes : Goes (given (left c.args.talk.now) c.args.got.now) (Print c.in-Print.piece) (left c.put_next.new.self) = search rules in
     printed_turn _ _ _ _ _ c.in-Print.piece _ (left c.put_next.new.self) _ _ goes c.in-Ok-print.ensures.view c.in-Ok-print.ensures.carried (search rules)
+
+pub returns-in-Ok-perform-clause-ended : goal.returns-in-Ok-perform-clause-ended
+returns-in-Ok-perform-clause-ended g c = λ ends. absurd (goes_not_end ends)
+
+pub returns-in-Ok-print-clause-ended : goal.returns-in-Ok-print-clause-ended
+returns-in-Ok-print-clause-ended g c = λ ends. absurd (goes_not_end ends)
+
+pub returns-in-Err-print-clause-stopped : goal.returns-in-Err-print-clause-stopped
+returns-in-Err-print-clause-stopped g c = inl c.in-Err-print.ensures.memory_alone
+
+pub returns-in-Err-clause-stopped : goal.returns-in-Err-clause-stopped
+returns-in-Err-clause-stopped g c = inl c.in-Err.ensures.memory_alone
+
+pub returns-in-End-clause-taken : goal.returns-in-End-clause-taken
+returns-in-End-clause-taken g c = λ goes. absurd (goes_not_end (sym goes))

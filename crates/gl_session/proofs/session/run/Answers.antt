@@ -1,10 +1,10 @@
-use Rattle.std.proofs.Common.{ℕ, List, [], Err, Some, ap, inl, inr, refl, subst, ◌∙◌}
+use Rattle.std.proofs.Common.{ℕ, List, [], Err, Some, ap, inl, inr, refl, subst, ⊎_elim, ◌∙◌}
 use Rattle.gl_words.specs.Words.{asks, texts}
 use Rattle.gl_session.specs.Figures.{CameToLoad, HasWrittenLoad}
 use Rattle.gl_session.specs.Streams.{AppendsFront}
 use Rattle.gl_session.specs.Workers.{told_at}
 use Rattle.gl_session.proofs.Figures.{same_turns}
-use Rattle.gl_session.proofs.WordsAsked.{check_has_words, check_is_no_load, check_is_some, consumes_none, load_has_words, load_is_no_check, load_is_some, no_no, no_read_fault, no_refusal, no_usage, none_has_words, none_is_no_check, none_is_no_load, session_is_no_check, session_is_no_load, session_is_some}
+use Rattle.gl_session.proofs.WordsAsked.{apart, check_has_words, check_is_no_load, check_is_some, consumes_none, load_has_words, load_is_no_check, load_is_some, no_other, no_third, none_has_words, none_is_no_check, none_is_no_load, session_is_no_check, session_is_no_load, session_is_some}
 use Rattle.gl_session.proofs.session.run.Goals as goal
 use Rattle.gl_check.specs.Drivers.{driver_kind}
 
@@ -162,22 +162,22 @@ pub returns-in-Ok-Load-clause-usage : goal.returns-in-Ok-Load-clause-usage
 returns-in-Ok-Load-clause-usage g c = let asked = c.in-Ok-Load.ensures.ok ∙ ap Some c.in-Ok-Load.field-0-is in λ is. absurd (load_is_some _ _ asked is)
 
 pub returns-in-Ok-Load-clause-usage_only : goal.returns-in-Ok-Load-clause-usage_only
-returns-in-Ok-Load-clause-usage_only g c = λ used. absurd (no_usage c.run_load.ensures.ends used)
+returns-in-Ok-Load-clause-usage_only g c = λ used. absurd (no_other c.run_load.ensures.ends refl refl refl used)
 
 pub returns-in-Ok-Load-clause-usage_written : goal.returns-in-Ok-Load-clause-usage_written
-returns-in-Ok-Load-clause-usage_written g c = λ used. absurd (no_usage c.run_load.ensures.ends used)
+returns-in-Ok-Load-clause-usage_written g c = λ used. absurd (no_other c.run_load.ensures.ends refl refl refl used)
 
 pub returns-in-Ok-Load-clause-words_read_nothing : goal.returns-in-Ok-Load-clause-words_read_nothing
 returns-in-Ok-Load-clause-words_read_nothing g c = λ some other. refl
 
 pub returns-in-Ok-Load-clause-read_fault : goal.returns-in-Ok-Load-clause-read_fault
-returns-in-Ok-Load-clause-read_fault g c = λ fault. absurd (no_read_fault c.run_load.ensures.ends fault)
+returns-in-Ok-Load-clause-read_fault g c = λ fault. absurd (no_other c.run_load.ensures.ends refl refl refl fault)
 
 pub returns-in-Ok-Load-clause-read_fault_only : goal.returns-in-Ok-Load-clause-read_fault_only
-returns-in-Ok-Load-clause-read_fault_only g c = λ fault. absurd (no_read_fault c.run_load.ensures.ends fault)
+returns-in-Ok-Load-clause-read_fault_only g c = λ fault. absurd (no_other c.run_load.ensures.ends refl refl refl fault)
 
 pub returns-in-Ok-Load-clause-read_fault_writes_nothing : goal.returns-in-Ok-Load-clause-read_fault_writes_nothing
-returns-in-Ok-Load-clause-read_fault_writes_nothing g c = λ fault. absurd (no_read_fault c.run_load.ensures.ends fault)
+returns-in-Ok-Load-clause-read_fault_writes_nothing g c = λ fault. absurd (no_other c.run_load.ensures.ends refl refl refl fault)
 
 pub returns-in-Ok-Load-clause-read_front : goal.returns-in-Ok-Load-clause-read_front
 returns-in-Ok-Load-clause-read_front g c = ([], consumes_none (g.S.Source.left c.args.source.now))
@@ -186,7 +186,7 @@ pub returns-in-Ok-Load-clause-refused : goal.returns-in-Ok-Load-clause-refused
 returns-in-Ok-Load-clause-refused g c = let asked = c.in-Ok-Load.ensures.ok ∙ ap Some c.in-Ok-Load.field-0-is in λ none. absurd (load_has_words _ _ asked (ap (λ words. asks (texts words)) none))
 
 pub returns-in-Ok-Load-clause-refused_words : goal.returns-in-Ok-Load-clause-refused_words
-returns-in-Ok-Load-clause-refused_words g c = λ refused. absurd (no_refusal c.run_load.ensures.ends refused)
+returns-in-Ok-Load-clause-refused_words g c = λ refused. absurd (no_other c.run_load.ensures.ends refl refl refl refused)
 
 pub returns-in-Ok-Load-clause-refused_only : goal.returns-in-Ok-Load-clause-refused_only
 returns-in-Ok-Load-clause-refused_only g c = let asked = c.in-Ok-Load.ensures.ok ∙ ap Some c.in-Ok-Load.field-0-is in λ status none. absurd (load_has_words _ _ asked (ap (λ words. asks (texts words)) none))
@@ -195,7 +195,7 @@ pub returns-in-Ok-Load-clause-refused_read_through : goal.returns-in-Ok-Load-cla
 returns-in-Ok-Load-clause-refused_read_through g c = let asked = c.in-Ok-Load.ensures.ok ∙ ap Some c.in-Ok-Load.field-0-is in λ status none. absurd (load_has_words _ _ asked (ap (λ words. asks (texts words)) none))
 
 pub returns-in-Ok-Load-clause-refused_written : goal.returns-in-Ok-Load-clause-refused_written
-returns-in-Ok-Load-clause-refused_written g c = λ refused. absurd (no_refusal c.run_load.ensures.ends refused)
+returns-in-Ok-Load-clause-refused_written g c = λ refused. absurd (no_other c.run_load.ensures.ends refl refl refl refused)
 
 pub returns-in-Ok-Load-clause-write_fault : goal.returns-in-Ok-Load-clause-write_fault
 returns-in-Ok-Load-clause-write_fault g c = c.run_load.ensures.write_fault
@@ -228,7 +228,7 @@ pub returns-in-Ok-Load-clause-check_read_through : goal.returns-in-Ok-Load-claus
 returns-in-Ok-Load-clause-check_read_through g c = let asked = c.in-Ok-Load.ensures.ok ∙ ap Some c.in-Ok-Load.field-0-is in λ is. absurd (load_is_no_check _ _ asked is)
 
 pub returns-in-Ok-Load-clause-no_only : goal.returns-in-Ok-Load-clause-no_only
-returns-in-Ok-Load-clause-no_only g c = λ no. absurd (no_no c.run_load.ensures.ends no)
+returns-in-Ok-Load-clause-no_only g c = λ no. absurd (no_other c.run_load.ensures.ends refl refl refl no)
 
 pub returns-in-Ok-Load-clause-check_complete : goal.returns-in-Ok-Load-clause-check_complete
 returns-in-Ok-Load-clause-check_complete g c = let asked = c.in-Ok-Load.ensures.ok ∙ ap Some c.in-Ok-Load.field-0-is in λ is. absurd (load_is_no_check _ _ asked is)
@@ -258,10 +258,10 @@ pub returns-in-Ok-Load-clause-usage_ports : goal.returns-in-Ok-Load-clause-usage
 returns-in-Ok-Load-clause-usage_ports g c = let asked = c.in-Ok-Load.ensures.ok ∙ ap Some c.in-Ok-Load.field-0-is in λ is. absurd (load_is_some _ _ asked is)
 
 pub returns-in-Ok-Load-clause-read_fault_ports : goal.returns-in-Ok-Load-clause-read_fault_ports
-returns-in-Ok-Load-clause-read_fault_ports g c = λ fault. absurd (no_read_fault c.run_load.ensures.ends fault)
+returns-in-Ok-Load-clause-read_fault_ports g c = λ fault. absurd (no_other c.run_load.ensures.ends refl refl refl fault)
 
 pub returns-in-Ok-Load-clause-refused_ports : goal.returns-in-Ok-Load-clause-refused_ports
-returns-in-Ok-Load-clause-refused_ports g c = λ refused. absurd (no_refusal c.run_load.ensures.ends refused)
+returns-in-Ok-Load-clause-refused_ports g c = λ refused. absurd (no_other c.run_load.ensures.ends refl refl refl refused)
 
 pub returns-in-Ok-Load-clause-refused_bytes_ports : goal.returns-in-Ok-Load-clause-refused_bytes_ports
 returns-in-Ok-Load-clause-refused_bytes_ports g c = let asked = c.in-Ok-Load.ensures.ok ∙ ap Some c.in-Ok-Load.field-0-is in λ kept none. absurd (load_has_words _ _ asked (ap (λ words. asks (texts words)) none))
@@ -478,3 +478,48 @@ returns-in-Ok-Check-clause-refused_ports g c = λ refused. refl
 
 pub returns-in-Ok-Check-clause-refused_bytes_ports : goal.returns-in-Ok-Check-clause-refused_bytes_ports
 returns-in-Ok-Check-clause-refused_bytes_ports g c = let asked = c.in-Ok-Check.ensures.ok ∙ ap Some c.in-Ok-Check.field-0-is in λ kept none. absurd (check_has_words _ asked (ap (λ words. asks (texts words)) none))
+
+pub run_load-requires-clause-turns : goal.run_load-requires-clause-turns
+run_load-requires-clause-turns g c κs within = c.loads_are_within.ensures (texts c.args.words.now) _ (c.in-Ok-Load.ensures.ok ∙ ap Some c.in-Ok-Load.field-0-is)
+
+pub returns-in-Ok-Load-clause-load_complete : goal.returns-in-Ok-Load-clause-load_complete
+returns-in-Ok-Load-clause-load_complete g c = λ n is still. ⊎_elim (λ ran. inl ran) (⊎_elim (λ fault. absurd (still (c.run_load.ensures.write_fault fault))) (λ full. inr full)) c.run_load.ensures.ends
+
+pub returns-in-Err-Usage-clause-read_fault : goal.returns-in-Err-Usage-clause-read_fault
+returns-in-Err-Usage-clause-read_fault g c = λ fault. absurd (no_third c.finish.ensures.one refl refl fault)
+
+pub returns-in-Err-Usage-clause-read_fault_only : goal.returns-in-Err-Usage-clause-read_fault_only
+returns-in-Err-Usage-clause-read_fault_only g c = λ fault. absurd (no_third c.finish.ensures.one refl refl fault)
+
+pub returns-in-Err-Usage-clause-read_fault_writes_nothing : goal.returns-in-Err-Usage-clause-read_fault_writes_nothing
+returns-in-Err-Usage-clause-read_fault_writes_nothing g c = λ fault. absurd (no_third c.finish.ensures.one refl refl fault)
+
+pub returns-in-Err-Usage-clause-refused_words : goal.returns-in-Err-Usage-clause-refused_words
+returns-in-Err-Usage-clause-refused_words g c = λ refused. absurd (no_third c.finish.ensures.one refl refl refused)
+
+pub returns-in-Err-Usage-clause-refused_written : goal.returns-in-Err-Usage-clause-refused_written
+returns-in-Err-Usage-clause-refused_written g c = λ refused. absurd (no_third c.finish.ensures.one refl refl refused)
+
+pub returns-in-Err-Usage-clause-no_memory_writes_nothing : goal.returns-in-Err-Usage-clause-no_memory_writes_nothing
+returns-in-Err-Usage-clause-no_memory_writes_nothing g c = λ full. absurd (no_third c.finish.ensures.one refl refl full)
+
+pub returns-in-Err-Usage-clause-write_fault : goal.returns-in-Err-Usage-clause-write_fault
+returns-in-Err-Usage-clause-write_fault g c = c.finish.ensures.fault
+
+pub returns-in-Err-Usage-clause-usage_front : goal.returns-in-Err-Usage-clause-usage_front
+returns-in-Err-Usage-clause-usage_front g c = λ fault is. c.finish.ensures.front fault
+
+pub returns-clause-load : goal.returns-clause-load
+returns-clause-load g c = λ ran. absurd (apart refl ran)
+
+pub returns-clause-read_fault : goal.returns-clause-read_fault
+returns-clause-read_fault g c = λ fault. absurd (apart refl fault)
+
+pub returns-clause-write_fault : goal.returns-clause-write_fault
+returns-clause-write_fault g c = λ fault. absurd (apart refl fault)
+
+pub returns-clause-load_front : goal.returns-clause-load_front
+returns-clause-load_front g c = λ fault. absurd (apart refl fault)
+
+pub returns-clause-read_front : goal.returns-clause-read_front
+returns-clause-read_front g c = ([], consumes_none (g.S.Source.left c.args.source.now))

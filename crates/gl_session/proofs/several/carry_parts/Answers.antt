@@ -15,6 +15,7 @@ use Rattle.gl_check.specs.Turns.{carried}
 use Rattle.gl_session.specs.OneActor.{count_in_kind}
 use Rattle.gl_session.specs.Performed.{PlaysOn, StoppedFull}
 use Rattle.gl_session.specs.Ports.{AllHave, IsTaught}
+use Rattle.gl_session.proofs.AllTogether.{new_first}
 use Rattle.gl_session.proofs.NoRoom.{full_at_fork, full_in_after, full_in_setup}
 use Rattle.gl_session.proofs.Plays.{text_taken}
 use Rattle.gl_session.proofs.NoChips.{asks_none, turns_stay}
@@ -132,3 +133,25 @@ returns-in-Ok-play_to_end-clause-others g c =
       },
       ap (λ k. k.maps) c.take_text-last.ensures.carried ∙ (turns_stay _ _ _ _ c.in-Ok-play_to_end.ensures.played.turns _ _ after_none c.in-Ok-play_to_end.ensures.played.follows).1 ∙ c.fork.ensures.maps ∙ sym same,
     )
+
+pub returns-in-Ok-play_to_end-clause-ports_len : goal.returns-in-Ok-play_to_end-clause-ports_len
+returns-in-Ok-play_to_end-clause-ports_len g c = c.fork.ensures.ports_len ∙ c.teach_all.ensures.ports_len
+
+pub returns-in-Err-play_to_end-clause-ports_len : goal.returns-in-Err-play_to_end-clause-ports_len
+returns-in-Err-play_to_end-clause-ports_len g c = c.fork.ensures.ports_len ∙ c.teach_all.ensures.ports_len
+
+pub returns-in-Err-fork-clause-ports_len : goal.returns-in-Err-fork-clause-ports_len
+returns-in-Err-fork-clause-ports_len g c = c.fork.ensures.ports_len ∙ c.teach_all.ensures.ports_len
+
+pub returns-in-Ok-play_to_end-clause-device : goal.returns-in-Ok-play_to_end-clause-device
+returns-in-Ok-play_to_end-clause-device g c = c.take_text-last.ensures.device ∙ c.play_to_end.ensures.device ∙ c.fork.ensures.device ∙ c.take_text-setup.ensures.device ∙ c.play_kind.ensures.device
+
+pub returns-in-Err-play_to_end-clause-device : goal.returns-in-Err-play_to_end-clause-device
+returns-in-Err-play_to_end-clause-device g c = c.play_to_end.ensures.device ∙ c.fork.ensures.device ∙ c.take_text-setup.ensures.device ∙ c.play_kind.ensures.device
+
+pub returns-in-Err-fork-clause-device : goal.returns-in-Err-fork-clause-device
+returns-in-Err-fork-clause-device g c = c.fork.ensures.device ∙ c.take_text-setup.ensures.device ∙ c.play_kind.ensures.device
+
+pub fork-requires-clause-alone : goal.fork-requires-clause-alone
+fork-requires-clause-alone g c κs within =
+    let first = new_first _ _ c.requires.first in (ap (λ v. v.number) c.take_text-setup.ensures.view ∙ c.in-Ok.ensures.played.grew.number ∙ first.0, ap (λ v. v.made) c.take_text-setup.ensures.view ∙ c.in-Ok.ensures.played.grew.made ∙ first.1)

@@ -1,4 +1,4 @@
-use Rattle.std.proofs.Common.{rules, ◌≡◌, ◌<◌, ℕ, [], ◌∙◌, ⊎_elim, Some, ap, sym, subst, arith, length}
+use Rattle.std.proofs.Common.{rules, ◌≡◌, ◌<◌, ◌+◌, ℕ, [], ◌∙◌, ⊎_elim, Some, ap, sym, subst, arith, length}
 use Rattle.std.specs.Prelude.{slice_get}
 use Rattle.gl_base.specs.declared.errno.Errno.TheVariants.{NoMemory}
 use Rattle.gl_rule.specs.Views.{newcomer}
@@ -10,7 +10,7 @@ use Rattle.gl_check.specs.Many.{actor_sections}
 use Rattle.gl_session.specs.Ports.{AllHave, LearnAbove, left_at, left_found, maps_of}
 use Rattle.gl_session.proofs.Mapped.{others_have}
 use Rattle.gl_session.proofs.Taught.{bare_maps}
-use Rattle.gl_session.proofs.AllTogether.{all_there, came, first_there, others_learn, taken_there}
+use Rattle.gl_session.proofs.AllTogether.{all_joined, all_there, came, first_there, others_learn, taken_there}
 use Rattle.gl_session.proofs.several.run_several.Goals as goal
 use Rattle.gl_check.specs.Drivers.{driver_kind, over}
 use Rattle.gl_check.specs.Joining.{Maps, no_maps}
@@ -78,3 +78,43 @@ unreachable-requires g c =
 
 pub unreachable-requires-in-None : goal.unreachable-requires-in-None
 unreachable-requires-in-None g c = first_there c.args.ports.now c.requires.ports (c.take_port.ensures.taken ∙ ap Some c.in-None.is)
+
+pub carry_out-requires-clause-first : goal.carry_out-requires-clause-first
+carry_out-requires-clause-first g c κs within = c.new-first.ensures.view ∙ c.in-Ok.ensures.first ∙ ap (λ (n : ℕ). newcomer 0 n [] 1 [] []) c.cost.ensures
+
+-- all others were taken in before the end
+all_in : (g : _) (c : goal.After-into_actor-actor g) → (c.into_actor-actor.result.pass.view.number ≡ 0) × (length c.into_actor-actor.result.pass.view.joined + 1 ≡ c.into_actor-actor.result.pass.view.made)
+all_in g c =
+    subst (λ (w : OneView). (w.number ≡ 0) × (length w.joined + 1 ≡ w.made)) (sym c.into_actor-actor.ensures.view)
+    (all_joined g.D.Port.Port.told (over c.new-first.result.carried.maps.left (driver_kind g.D.Driver.ENTRIES g.D.Driver.is_planned g.D.Driver.OwnEntries g.D.Driver.Follows)) (sections_of c.args.script.now) _ _ _ _ _ _ _ _ _
+    (c.new-first.ensures.view ∙ c.in-Ok.ensures.first) c.in-Ok-carry_out.ensures.out)
+
+pub finish-machine-requires-clause-first : goal.finish-machine-requires-clause-first
+finish-machine-requires-clause-first g c κs within = (all_in g c).0
+
+pub finish-machine-requires-clause-all : goal.finish-machine-requires-clause-all
+finish-machine-requires-clause-all g c κs within = (all_in g c).1
+
+pub returns-in-Ok-carry_out-clause-memory_alone : goal.returns-in-Ok-carry_out-clause-memory_alone
+returns-in-Ok-carry_out-clause-memory_alone g c = tt
+
+pub returns-in-Err-NoMemory-clause-came : goal.returns-in-Err-NoMemory-clause-came
+returns-in-Err-NoMemory-clause-came g c = tt
+
+pub returns-in-Err-NoMemory-clause-there : goal.returns-in-Err-NoMemory-clause-there
+returns-in-Err-NoMemory-clause-there g c = tt
+
+pub returns-in-Err-NoMemory-clause-others : goal.returns-in-Err-NoMemory-clause-others
+returns-in-Err-NoMemory-clause-others g c = tt
+
+-- a session that wasn't carried out, and not for want of memory, comes to no end
+ended_full : (g : _) (c : goal.After-into_actor-actor-in-Err-carry_out g) → CannotEnd c.into_actor-actor-in-Err-carry_out.result.pass.view
+ended_full g c =
+    ⊎_elim (λ (wanted : c.in-Err-carry_out.field-0 ≡ NoMemory). search rules)
+    (λ cannot. subst (λ (w : OneView). CannotEnd w) (sym c.into_actor-actor-in-Err-carry_out.ensures.view) cannot) c.in-Err-carry_out.ensures.stopped
+
+pub finish-ended-requires-clause-first : goal.finish-ended-requires-clause-first
+finish-ended-requires-clause-first g c κs within = (ended_full g c).number
+
+pub finish-ended-requires-clause-all : goal.finish-ended-requires-clause-all
+finish-ended-requires-clause-all g c κs within = (ended_full g c).all_joined

@@ -97,3 +97,36 @@ pub returns-in-Ok-all_printed-clause-ports_maps : goal.returns-in-Ok-all_printed
 returns-in-Ok-all_printed-clause-ports_maps g c =
     let m = maps_of g.D.Port.Port.maps g.D.Port.Port.maps_left c.args.first.now.port in
     c.in-Ok-join_all.ensures.maps m (c.in-Ok.ensures.maps_left m c.requires.others) (c.in-Ok-work_all.ensures.maps m (c.in-Ok.ensures.maps m c.requires.others)) c.in-Ok-all_printed.texts.items c.in-Ok-all_printed.ensures.printed
+
+pub returns-in-Err-join_all-clause-port : goal.returns-in-Err-join_all-clause-port
+returns-in-Err-join_all-clause-port g c = c.join_all.ensures.port ∙ c.split_all.ensures.port
+
+pub returns-in-Err-join_all-clause-ports_len : goal.returns-in-Err-join_all-clause-ports_len
+returns-in-Err-join_all-clause-ports_len g c = c.join_all.ensures.ports_len ∙ c.split_all.ensures.ports_len
+
+pub returns-in-Err-join_all-clause-actor : goal.returns-in-Err-join_all-clause-actor
+returns-in-Err-join_all-clause-actor g c = c.join_all.ensures.actor
+
+pub returns-in-Ok-all_printed-clause-port : goal.returns-in-Ok-all_printed-clause-port
+returns-in-Ok-all_printed-clause-port g c = c.join_all.ensures.port ∙ c.split_all.ensures.port
+
+pub returns-in-Ok-all_printed-clause-ports_len : goal.returns-in-Ok-all_printed-clause-ports_len
+returns-in-Ok-all_printed-clause-ports_len g c = c.join_all.ensures.ports_len ∙ c.split_all.ensures.ports_len
+
+pub returns-in-Ok-all_printed-clause-actor : goal.returns-in-Ok-all_printed-clause-actor
+returns-in-Ok-all_printed-clause-actor g c = c.join_all.ensures.actor
+
+pub returns-in-Err-all_printed-clause-port : goal.returns-in-Err-all_printed-clause-port
+returns-in-Err-all_printed-clause-port g c = c.join_all.ensures.port ∙ c.split_all.ensures.port
+
+pub returns-in-Err-all_printed-clause-ports_len : goal.returns-in-Err-all_printed-clause-ports_len
+returns-in-Err-all_printed-clause-ports_len g c = c.join_all.ensures.ports_len ∙ c.split_all.ensures.ports_len
+
+pub returns-in-Err-all_printed-clause-actor : goal.returns-in-Err-all_printed-clause-actor
+returns-in-Err-all_printed-clause-actor g c = c.join_all.ensures.actor
+
+pub returns-in-Err-clause-stopped : goal.returns-in-Err-clause-stopped
+returns-in-Err-clause-stopped g c = inl c.in-Err.ensures.memory_alone
+
+pub returns-in-Err-join_all-clause-stopped : goal.returns-in-Err-join_all-clause-stopped
+returns-in-Err-join_all-clause-stopped g c = inl c.in-Err-join_all.ensures.memory_alone

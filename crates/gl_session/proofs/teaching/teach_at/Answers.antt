@@ -1,13 +1,8 @@
-use Rattle.std.proofs.Common.{◌∙◌, sym, ap, subst, arith}
+use Rattle.std.proofs.Common.{◌∙◌, sym, ap, subst}
 use Rattle.std.specs.Prelude.{slice_get}
 use Rattle.gl_session.specs.Ports.{IsTaught}
 use Rattle.gl_session.proofs.PortPlaces.{get_other, get_set}
 use Rattle.gl_session.proofs.teaching.teach_at.Goals as goal
-
-pub returns-in-Some-clause-taught : goal.returns-in-Some-clause-taught
-returns-in-Some-clause-taught g c =
-    subst (λ before. IsTaught g.D.Port.Port.maps g.D.Port.Port.maps_left g.D.Port.Port.told g.D.Port.Port.faults c.args.maps.now before (slice_get c.give_port.new.ports c.args.n)) (sym c.in-Some.ensures.taken)
-    (c.teach.new.port, ap (λ ports. slice_get ports c.args.n) c.give_port.ensures ∙ get_set c.take_port.new.ports c.args.n _ (omega (arith, c.requires.within, c.take_port.auto.ports)), c.teach.ensures)
 
 pub returns-in-Some-clause-others : goal.returns-in-Some-clause-others
 returns-in-Some-clause-others g c = λ k other.
