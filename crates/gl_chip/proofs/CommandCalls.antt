@@ -394,6 +394,11 @@ pub inside_after : (r : Result Reply Errno) (v w : OneView) (call : Call) (old n
 inside_after (Ok reply) v w call old new L step full = step.same.inside
 inside_after (Err errno) v w call old new L step full = full.2.same.inside
 
+-- the same of a call that brought a gift
+pub inside_after_gift : (r : Result Reply Errno) (v w : OneView) (call : Call) (old new : List ℕ) (Left Gift : Type 0) → IfOk r (λ reply. CalledOnce core v call reply old new w) → IfErr r (λ e. (e ≡ Full) × Left × Gift × StoodFull core v w) → w.inside ≡ v.inside
+inside_after_gift (Ok reply) v w call old new L G step full = step.same.inside
+inside_after_gift (Err errno) v w call old new L G step full = full.3.same.inside
+
 -- where it is after it has left a place
 pub left_place : (place : ℕ) (x y : OnePass) → y ≡ knowing x (without_inside x.view place) → y.view.inside ≡ without place x.view.inside
 left_place place x y is = ap (λ (z : OnePass). z.view.inside) is

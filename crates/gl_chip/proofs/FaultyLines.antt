@@ -211,11 +211,16 @@ module _ (w : World) (place fd len : ℕ) (bytes : List ℕ) (part : Part) (e : 
   abbrev doing : Request → ℕ → World → World
   doing request bits v = reconfigure place fd request.lines request.settings (resolved_for its request.lines.count) bits v
 
+  -- by the first of them at which it is refused
+  by_order : (request : Request) → InOrder (config_fault its request.lines.count) (first_fault (faults request) 0 request.lines.count) e ⊎ ((part ≡ Tell None) × (e ≡ Io)) → LinesRefused place request its e w ⊎ ((part ≡ Tell None) × (e ≡ Io))
+  by_order request (inl (inl early)) = inl (inl early)
+  by_order request (inl (inr late)) = inl (inr (late.0, first_is (faults request) request.lines.count e late.1))
+  by_order request (inr silent) = inr silent
+
   lines_told : (o : Option Request) (request : Request) → o ≡ Some request → (on_request (set_config place fd its part) o w).reply ≡ Refused e → LinesRefused place request its e w ⊎ ((part ≡ Tell None) × (e ≡ Io))
   lines_told o request is h =
       let count : ℕ = request.lines.count in
-      ⊎_elim (λ r. inl (⊎_elim (λ early. inl early) (λ q. inr (q.0, first_is (faults request) count e q.1)) r)) (λ r. inr r)
-      (lines_in_order (config_fault its count) (first_fault (faults request) 0 count) part (doing request) w e not_whole (subst (λ (x : Option Request). (on_request (set_config place fd its part) x w).reply ≡ Refused e) is h))
+      by_order request (lines_in_order (config_fault its count) (first_fault (faults request) 0 count) part (doing request) w e not_whole (subst (λ (x : Option Request). (on_request (set_config place fd its part) x w).reply ≡ Refused e) is h))
 
   told_lines : (o : Option Request) (request : Request) → o ≡ Some request → LinesRefused place request its e w → (on_request (set_config place fd its part) o w).reply ≡ Refused e
   told_lines o request is r =

@@ -1,9 +1,11 @@
 -- Actors between two calls.
-use Rattle.std.proofs.Common.{◌≡◌, ℕ, List, sym, refl, ap, ◌∙◌, subst}
+use Rattle.std.proofs.Common.{◌≡◌, ℕ, List, [], sym, refl, ap, ◌∙◌, subst}
 use Rattle.std.specs.Prelude.{◌↔◌}
 use Rattle.gl_world.specs.History.{fold, owed}
 use Rattle.gl_world.specs.Removal.{Removes}
-use Rattle.gl_rule.specs.Views.{with_one_more, taking_in}
+use Rattle.gl_rule.specs.Turn.{owes}
+use Rattle.gl_rule.specs.Views.{newcomer, with_one_more, taking_in}
+use Rattle.gl_gate.specs.Calls.{RemovesNothing}
 use Rattle.gl_gate.specs.Values.{PassValue, knowing}
 use Rattle.gl_core.specs.Kept.{Kept, StandsFor}
 use Rattle.gl_model.specs.declared.call.Call.{Call}
@@ -25,6 +27,13 @@ still_idle v w number mine inside removes idle = record {
     removes_nothing = λ p r. idle.free.removes_nothing p (removes p (subst (λ k. Removes core (fold core w.seen) k p) number r));
   };
   whole_calls = subst (λ (x : ℕ × List OneEntry). AreOfCalls StandsFor x.0 x.1) (λ i. (sym number i, sym mine i)) idle.whole_calls;
+}
+
+-- and so is one that has made nothing yet
+pub newcomer_idle : (v : OneView) (number room made : ℕ) (seen : List OneEntry) (closed drained : List ℕ) → v ≡ newcomer number room seen made closed drained → RemovesNothing core v → IsIdle v
+newcomer_idle v number room made seen closed drained is removes = record {
+  free = record { inside = ap (λ (x : OneView). x.inside) is; owes_nothing = ap (λ (x : OneView). owes core x) is; removes_nothing = removes };
+  whole_calls = subst (λ (x : OneView). AreOfCalls StandsFor x.number x.mine) (sym is) (record { calls = []; each = tt; are = refl });
 }
 
 pub split_idle : (x y : OnePass) → y ≡ knowing x (with_one_more x.view) → IsIdle x.view → IsIdle y.view

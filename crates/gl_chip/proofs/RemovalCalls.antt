@@ -9,7 +9,7 @@ use Rattle.gl_base.specs.declared.limits.TheConstants.{PLACES}
 use Rattle.gl_world.specs.History.{Legal, entries_of, entry, fold, owed}
 use Rattle.gl_world.specs.Removal.{AllQuiet, Removes}
 use Rattle.gl_world.proofs.Histories.{answered_prefix, placed_prefix, entries_append}
-use Rattle.gl_gate.specs.Calls.{Acts, HasItsOwn, KnowsClosed, KnowsDrained, MayEndRemoval, Refuses, SamePass}
+use Rattle.gl_gate.specs.Calls.{Acts, HasItsOwn, KnowsClosed, KnowsDrained, MayEndRemoval, MayName, Refuses, SamePass}
 use Rattle.gl_gate.specs.Grown.{Grew, IsFree, Moved}
 use Rattle.gl_gate.proofs.Grown.{acts_are_deeds, grows_on, moves_do_nothing, still_removes_nothing}
 use Rattle.gl_core.specs.Kept.{Kept, StandsFor}
@@ -111,6 +111,15 @@ last_ends call first = by_removal (λ call. ends (last_call call) ≡ true) at c
     at : (removal : RemovalOf) → ends (last_call (first_call removal)) ≡ true
     at (OfChip a) = refl
     at (OfDevice a) = refl
+
+-- it is at no guard, so a pass may make it wherever it is
+pub last_names_nothing : (first call : Call) (v : OneView) → is_first_call first ≡ true → call ≡ last_call first → MayName core v call
+last_names_nothing first call v is_first is = let none = last_needs_no_place first is_first in
+    record { named = λ p e. absurd (none_not_some p (sym none.0 ∙ (ap guarded_place (sym is) ∙ e))); refused = λ p e. absurd (none_not_some p (sym none.1 ∙ (ap refused_place (sym is) ∙ e))) }
+
+-- and it isn't refused for want of room
+pub last_has_room : (first call : Call) (v w : OneView) → is_first_call first ≡ true → call ≡ last_call first → Refuses core v call w → ⊥
+last_has_room first call v w is_first is refuses = true≢false (sym (last_ends first is_first) ∙ (ap ends (sym is) ∙ refuses.not_second))
 
 pub last_begins_not : (call : Call) → is_first_call call ≡ true → (reply : Reply) → begins (last_call call) reply ≡ false
 last_begins_not call first = by_removal (λ call. (reply : Reply) → begins (last_call call) reply ≡ false) at call first

@@ -1,18 +1,22 @@
 -- GET_LINE: what its bytes say, and the number that it is answered.
 use Rattle.std.proofs.Common.{◌≡◌, ℕ, ◌<◌, ◌^◌, List, [], ◌∷◌, ◌++◌, map, take, sym, refl, ap, ◌∙◌, subst, arith, Bool, true, false, Option, Some, None}
-use Rattle.std.specs.Prelude.{IfSome}
+use Rattle.std.specs.Prelude.{IfSome, nat_le}
 use Rattle.std.specs.Option.{option_and_then}
 use Rattle.std.proofs.lemmas.Bool.{true≢false}
+use Rattle.gl_attrs.specs.Setting.{resolved_for}
 use Rattle.gl_base.proofs.FirstRows.{Each-find}
+use Rattle.gl_base.specs.Lines.{IsLineCount}
 use Rattle.gl_base.specs.Rows.{Each}
 use Rattle.gl_base.specs.declared.errno.Errno.{Errno}
 use Rattle.gl_base.specs.declared.lines.Lines.{Lines}
 use Rattle.gl_driver.specs.Calls.{FitsOp}
 use Rattle.gl_base.specs.declared.op.Op.{Op}
+use Rattle.gl_base.specs.declared.op.Op.TheVariants.{Apply}
+use Rattle.gl_base.specs.declared.settings.Resolved.{Resolved}
 use Rattle.gl_uapi.specs.Command.{command_of, size_of}
 use Rattle.gl_uapi.specs.declared.commands.Command.{Command}
 use Rattle.gl_uapi.specs.declared.commands.Command.TheVariants.{ChipInfo, LineInfo, Watch, Unwatch, GetLine, SetConfig, GetValues, SetValues}
-use Rattle.gl_uapi.specs.declared.layout.TheConstants.{LINE_REQUEST_SIZE}
+use Rattle.gl_uapi.specs.declared.layout.TheConstants.{LINE_CONFIG_SIZE, LINE_REQUEST_SIZE}
 use Rattle.gl_watch.specs.declared.file.ChipFile.{ChipFile}
 use Rattle.gl_model.specs.declared.call.Call.TheVariants.{Ioctl}
 use Rattle.gl_model.specs.declared.call.Part.TheVariants.{Whole, Ask, Tell}
@@ -180,3 +184,13 @@ lines_are_named c op asked there = lines_by_fault (request_fault (take LINE_REQU
 -- memory was wanted for it
 pub takes_memory : (c : CommandIn) → c.of_chip ≡ true → is_driver_asked c.of_chip c.len (command_of c.cmd) ≡ true → request_fault (take LINE_REQUEST_SIZE c.bytes) ≡ None → TakesMemory c
 takes_memory c chip asks faultless = (asks, gets_line c chip asks, faultless)
+
+-- SET_CONFIG on a request with these lines applies to them what its bytes give them
+pub config_op : (lines : Lines) (command : Command) (len : ℕ) (bytes view : List ℕ) (settings : Resolved) → command ≡ SetConfig → nat_le (size_of command) len ≡ true → view ≡ take LINE_CONFIG_SIZE bytes → settings ≡ resolved_for view lines.count → IsLineCount lines.count
+    → (is_driver_asked false len (Some command) ≡ true) × (op_of lines (Some command) bytes ≡ Some (Apply lines settings)) × FitsOp (Apply lines settings)
+config_op lines command len bytes view settings is long first are few =
+    subst (λ k. (is_driver_asked false len (Some k) ≡ true) × (op_of lines (Some k) bytes ≡ Some (Apply lines settings)) × FitsOp (Apply lines settings)) (sym is) (
+    subst (λ k. nat_le (size_of k) len ≡ true) is long,
+    ap (λ s. Some (Apply lines s)) (ap (λ v. resolved_for v lines.count) (sym first) ∙ sym are),
+    (few, ap (λ s. s.count) are),
+    )

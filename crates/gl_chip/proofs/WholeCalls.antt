@@ -327,6 +327,9 @@ idle_guarded (Err errno) place poll v w call whole old new L one idle free c ful
 pub seen_from : {P : Type 0} (a b : ActorValue P) (Q : OneView → Type 0) → a ≡ b → Q a.pass.view → Q b.pass.view
 seen_from a b Q e = subst (λ x. Q x.pass.view) e
 
+pub port_from : {P : Type 0} (a b : ActorValue P) → a ≡ b → a.port ≡ b.port
+port_from a b e = ap (λ x. x.port) e
+
 abbrev is_some_entry : Option OneEntry → Bool
 is_some_entry (Some e) = true
 is_some_entry None = false

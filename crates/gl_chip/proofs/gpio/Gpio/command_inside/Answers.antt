@@ -71,3 +71,18 @@ returns-else-not-is_go-clause-called g c =
     asked_and_told g.D.Port.Port.told g.D.Port.Port.faults g.D.Port.Port.maps g.D.Port.Port.maps_left g.D.Driver.OwnEntries g.D.Driver.Follows g.D.Driver.ENTRIES c.args.asked.now.op.now c.in-Some.op c.args.pass.now.view c.ask.new.pass.view c.drive-answer.new.pass.view c.tell.new.pass.view
     c.args.port.now c.drive-answer.new.port c.args.asked.now.command.now c.in-Ok.reply c.drive-answer.result c.tell.result c.args.out.now c.ask.new.out c.tell.new.out
     (as_part c.args.pass.now.view c.ask.new.pass.view c.in_part-asking.result (in_ask c.args.asked.now.command.now) c.in-Ok.reply c.args.out.now c.ask.new.out c.in_part-asking.ensures.part c.in-Ok.ensures.called) (sym c.if-not-is_go.ensures) c.in-Some.is (subst (λ (o : Option Op). IsOp o) c.in-Some.is (fits_after_go c.args.pass.now.view c.ask.new.pass.view c.args.asked.now.command.now c.args.asked.now.op.now c.in-Ok.reply c.args.out.now c.ask.new.out (as_part c.args.pass.now.view c.ask.new.pass.view c.in_part-asking.result (in_ask c.args.asked.now.command.now) c.in-Ok.reply c.args.out.now c.ask.new.out c.in_part-asking.ensures.part c.in-Ok.ensures.called) (sym c.if-not-is_go.ensures) c.requires.op)) d (c.self.invariant.1 _ _ _ d.own) (as_part c.drive-answer.new.pass.view c.tell.new.pass.view c.in_part-telling.result (in_tell c.drive-answer.result c.args.asked.now.command.now) c.tell.result c.ask.new.out c.tell.new.out c.in_part-telling.ensures.part c.tell.ensures.called) c.drive-answer.ensures.maps c.drive-answer.ensures.maps_left c.drive-answer.ensures.never_falls c.drive-answer.ensures.fault c.drive-answer.ensures.counted
+
+pub returns-else-not-is_go-clause-owes : goal.returns-else-not-is_go-clause-owes
+returns-else-not-is_go-clause-owes g c = c.tell.ensures.owes
+
+pub drive-answer-requires-clause-alone : goal.drive-answer-requires-clause-alone
+drive-answer-requires-clause-alone g c κs within = λ p inside. c.requires.alone p (subst (λ (l : List ℕ). 0 < times p l) c.in-Ok.ensures.called.same.inside inside)
+
+pub drive-answer-requires-clause-inside : goal.drive-answer-requires-clause-inside
+drive-answer-requires-clause-inside g c κs within = subst (λ (l : List ℕ). 0 < times c.args.asked.now.command.now.place l) (sym c.in-Ok.ensures.called.same.inside) c.requires.inside
+
+pub tell-requires-clause-owes : goal.tell-requires-clause-owes
+tell-requires-clause-owes g c κs within = c.drive-answer.ensures.owes
+
+pub drive-answer-requires-clause-quiet : goal.drive-answer-requires-clause-quiet
+drive-answer-requires-clause-quiet g c κs within = λ map own its. (c.self.invariant.1 map c.in-Some.op own its).quiet

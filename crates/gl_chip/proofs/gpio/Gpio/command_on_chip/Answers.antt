@@ -9,7 +9,7 @@ use Rattle.gl_model.specs.declared.gift.Gift.{Gift}
 use Rattle.gl_model.specs.declared.reply.Reply.{Reply}
 use Rattle.gl_chip.specs.DriverCommands.{HasCommanded}
 use Rattle.gl_chip.specs.Orders.{lines_on}
-use Rattle.gl_chip.proofs.OrderedCalls.{as_ordered, number_ordered, whole_ordered}
+use Rattle.gl_chip.proofs.OrderedCalls.{as_ordered, number_ordered, whole_numbers, whole_ordered}
 use Rattle.gl_chip.proofs.RequestedLines.{gets_line, lines_are_named, op_goes, op_is_for, op_is_requested}
 use Rattle.gl_chip.proofs.gpio.Gpio.command_on_chip.Goals as goal
 
@@ -55,3 +55,6 @@ returns-in-Err-clause-full g c = let h = c.in-Err.ensures.full in (h.0, h.1, c.w
 
 pub returns-in-Ok-clause-counts : goal.returns-in-Ok-clause-counts
 returns-in-Ok-clause-counts g c = subst (λ (lines : Option Lines). IfSome lines (λ l. IsLineCount l.count)) (sym c.without_lines.ensures.lines) tt
+
+pub returns-in-Ok-clause-number : goal.returns-in-Ok-clause-number
+returns-in-Ok-clause-number g c = λ n is. whole_numbers (Ok c.in-Ok.reply) (op_for (lines_on Chip c.args.command.now) c.args.command.now) c.args.command.now c.in-Ok.ensures.form n (sym c.without_lines.ensures.reply ∙ is)

@@ -1,7 +1,7 @@
 use Rattle.std.proofs.Common.{◌<◌, sym, subst, ◌∙◌}
 use Rattle.gl_model.specs.declared.call.Call.{Call}
 use Rattle.gl_model.specs.Fits.{Fits}
-use Rattle.gl_chip.proofs.RemovalCalls.{acts_last, begun_still, begun_within, fits_last, has_ended, last_leaves_free}
+use Rattle.gl_chip.proofs.RemovalCalls.{acts_last, begun_still, begun_within, fits_last, has_ended, last_has_room, last_leaves_free, last_names_nothing, may_end}
 use Rattle.gl_chip.proofs.gpio.Gpio.end_removal.Goals as goal
 
 pub close_all-requires-clause-places : goal.close_all-requires-clause-places
@@ -18,3 +18,13 @@ returns-clause-free g c = let drained = c.close_all.ensures.drained in
 pub returns-clause-ended : goal.returns-clause-ended
 returns-clause-ended g c = has_ended c.args.from c.args.count c.args.first.now c.args.pass.now.view c.close_all.new.pass.view c.act.new.pass.view c.in-Ok.reply _ _ c.requires.first c.requires.begun c.close_all.ensures.drained c.in-Ok.ensures.same
     (acts_last c.close_all.new.pass.view c.act.new.pass.view c.args.first.now c.last_call.result c.in-Ok.reply _ _ c.last_call.ensures.last c.in-Ok.ensures.acts)
+
+pub act-requires-clause-named : goal.act-requires-clause-named
+act-requires-clause-named g c κs within = last_names_nothing c.args.first.now c.last_call.result c.close_all.new.pass.view c.requires.first c.last_call.ensures.last
+
+pub act-requires-clause-last : goal.act-requires-clause-last
+act-requires-clause-last g c κs within = let drained = c.close_all.ensures.drained in
+    may_end c.args.from c.args.count c.args.first.now c.last_call.result c.close_all.new.pass.view (begun_still c.args.from c.args.count c.args.first.now c.args.pass.now.view c.close_all.new.pass.view drained.moved c.requires.begun) drained.drained
+
+pub unreachable-requires : goal.unreachable-requires
+unreachable-requires g c = last_has_room c.args.first.now c.last_call.result c.close_all.new.pass.view c.act.new.pass.view c.requires.first c.last_call.ensures.last c.in-Err.ensures.refuses

@@ -1,4 +1,4 @@
-use Rattle.std.proofs.Common.{◌≡◌, ℕ, List, [], ◌++◌, length, drop, false, sym, ap, refl, subst, ◌∙◌}
+use Rattle.std.proofs.Common.{◌≡◌, ℕ, List, [], ◌++◌, length, drop, false, Err, sym, ap, refl, subst, ◌∙◌}
 use Rattle.std.proofs.lemmas.Bool.{true≢false}
 use Rattle.gl_base.specs.declared.lines.Lines.{Lines}
 use Rattle.gl_uapi.specs.Command.{command_of}
@@ -53,3 +53,6 @@ returns-in-Ok-clause-first_faulty g c = let h = subst (λ (p : CommandIn × Line
     (λ i. (c.command-command.ensures.told i, c.lines.ensures.lines i)) c.in-Ok.ensures.done in
     let command : CommandIn = command_in c.args.fd.now.place c.args.fd.now.fd false c.args.cmd c.args.buf.now in
     λ sets asks let_in. configures_in_order g.D.Port.Port.told g.D.Port.Port.faults g.D.Port.Port.maps g.D.Port.Port.maps_left g.D.Driver.OwnEntries g.D.Driver.Follows g.D.Driver.ENTRIES {X = Unit {0}} (λ _. tt) c.done.result (op_for c.args.fd.now.lines command) c.args.actor.now c.carry.new.actor command c.in-Ok.answered.reply h.0 h.2 c.done.ensures asks let_in.2 sets refl
+
+pub returns-clause-first_faulty : goal.returns-clause-first_faulty
+returns-clause-first_faulty g c = λ sets asks let_in. absurd (let_in.1 (ap Err c.in-Err.ensures.full.0))

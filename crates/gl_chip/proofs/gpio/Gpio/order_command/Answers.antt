@@ -7,7 +7,7 @@ use Rattle.gl_asking.specs.Driving.{op_for}
 use Rattle.gl_model.specs.declared.reply.Reply.{Reply}
 use Rattle.gl_chip.specs.DriverCommands.{HasCommanded}
 use Rattle.gl_chip.specs.Orders.{GivesOn, lines_on}
-use Rattle.gl_chip.proofs.OrderedCalls.{as_answered, as_ordered, number_as}
+use Rattle.gl_chip.proofs.OrderedCalls.{as_answered, as_ordered, number_as, number_ordered}
 use Rattle.gl_chip.proofs.gpio.Gpio.order_command.Goals as goal
 
 pub command_on_chip-requires-clause-chip : goal.command_on_chip-requires-clause-chip
@@ -40,3 +40,8 @@ returns-in-Ok-clause-commanded g c =
 
 pub returns-in-Ok-clause-counts : goal.returns-in-Ok-clause-counts
 returns-in-Ok-clause-counts g c = subst (λ (lines : Option Lines). IfSome lines (λ l. IsLineCount l.count)) (sym c.without_lines.ensures.lines) tt
+
+pub returns-in-Ok-clause-number : goal.returns-in-Ok-clause-number
+returns-in-Ok-clause-number g c = λ n is.
+    number_ordered (Ok c.in-Ok.reply) (op_for c.in-Request.lines c.args.order.now.command.now) (op_for (lines_on c.args.order.now.on.now c.args.order.now.command.now) c.args.order.now.command.now)
+    (ap (λ (k : FileKind). op_for (lines_on k c.args.order.now.command.now) c.args.order.now.command.now) c.in-Request.is) c.in-Ok.ensures.number n (sym c.without_lines.ensures.reply ∙ is)
