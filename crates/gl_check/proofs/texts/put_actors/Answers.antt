@@ -1,5 +1,7 @@
-use Rattle.std.proofs.Common.{◌<◌, ◌+◌, ◌++◌, ℕ, drop, length, map, arith, sym, ap, ◌∙◌}
+use Rattle.std.proofs.Common.{◌<◌, ◌≤◌, ◌+◌, ◌++◌, ℕ, List, drop, drop_of_length-le, length, map, arith, sym, ap, ◌∙◌}
+use Rattle.std.proofs.lemmas.List.{append-nil}
 use Rattle.gl_script.specs.Script.{sections_of}
+use Rattle.gl_script.specs.Section.{SaidSection}
 use Rattle.gl_check.specs.Many.{actor_sections}
 use Rattle.gl_check.specs.Seating.{text_in}
 use Rattle.gl_check.specs.Texts.{actors_text}
@@ -29,3 +31,16 @@ loop-section-preserved c =
             as_many = omega arith;
           }
     ]
+
+pub bounds-seats-at : goal.bounds-seats-at
+bounds-seats-at c =
+    let there : c.loop-section.section < length (sections_of c.args.script.now) = (let e = c.sections-section-end.ensures in let l = c.loop-section-test.true in omega arith) in
+    let fewer = one_fewer (sections_of c.args.script.now) c.args.seats.now c.loop-section.section c.loop-section.at there c.in-Some.ensures.0 c.loop-section.invariant.as_many in
+    omega (arith, fewer)
+
+pub returns-clause-ok : goal.returns-clause-ok
+returns-clause-ok c =
+    let most : length (sections_of c.args.script.now) ≤ c.loop-section.section = (let e = c.sections-section-end.ensures in let l = c.loop-section-test.false in omega arith) in
+    sym (append-nil c.loop-section.out.items)
+    ∙ ap (λ (l : List SaidSection). c.loop-section.out.items ++ actors_text (actor_sections l) (drop c.loop-section.at (map text_in c.args.seats.now))) (sym (drop_of_length-le (sections_of c.args.script.now) most))
+    ∙ c.loop-section.invariant.whole
