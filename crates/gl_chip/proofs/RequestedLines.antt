@@ -190,7 +190,7 @@ pub config_op : (lines : Lines) (command : Command) (len : ℕ) (bytes view : Li
     → (is_driver_asked false len (Some command) ≡ true) × (op_of lines (Some command) bytes ≡ Some (Apply lines settings)) × FitsOp (Apply lines settings)
 config_op lines command len bytes view settings is long first are few =
     subst (λ k. (is_driver_asked false len (Some k) ≡ true) × (op_of lines (Some k) bytes ≡ Some (Apply lines settings)) × FitsOp (Apply lines settings)) (sym is) (
-    subst (λ k. nat_le (size_of k) len ≡ true) is long,
-    ap (λ s. Some (Apply lines s)) (ap (λ v. resolved_for v lines.count) (sym first) ∙ sym are),
-    (few, ap (λ s. s.count) are),
+      subst (λ k. nat_le (size_of k) len ≡ true) is long,
+      ap (λ s. Some (Apply lines s)) (ap (λ v. resolved_for v lines.count) (sym first) ∙ sym are),
+      (few, ap (λ s. s.count) are),
     )

@@ -21,8 +21,12 @@ pub returns-clause-full : goal.returns-clause-full
 returns-clause-full g c =
     let entered = came_in core c.args.guard.place c.args.pass.now c.enter.new.pass (c.enter.ensures.entered c.if-not-enter.false) in
     let out = went_out core c.args.guard.place c.alone-answer.new.pass c.leave.new.pass c.leave.ensures in
-    if_err c.alone-answer.result _ _ (λ e full. (full.0, full.1, no_room_left core c.args.pass.now.view c.alone-answer.new.pass.view c.leave.new.pass.view
-    (no_room core c.args.pass.now.view c.enter.new.pass.view c.alone-answer.new.pass.view entered c.enter.ensures.knows full.3) out.0 out.1 out.2)) c.alone-answer.ensures.full
+    if_err c.alone-answer.result _ _ (λ e full. (
+      full.0,
+      full.1,
+      no_room_left core c.args.pass.now.view c.alone-answer.new.pass.view c.leave.new.pass.view
+          (no_room core c.args.pass.now.view c.enter.new.pass.view c.alone-answer.new.pass.view entered c.enter.ensures.knows full.3) out.0 out.1 out.2,
+    )) c.alone-answer.ensures.full
 
 pub leave-requires-clause-inside : goal.leave-requires-clause-inside
 leave-requires-clause-inside g c κs = let alone = c.alone-answer.ensures in

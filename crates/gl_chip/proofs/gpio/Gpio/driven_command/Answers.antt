@@ -63,16 +63,26 @@ returns-clause-number g c = if_ok c.command_inside-answer.result _ _ (λ r did. 
 pub returns-then-not-enter-clause-full : goal.returns-then-not-enter-clause-full
 returns-then-not-enter-clause-full g c =
     let found = found_closed core c.args.asked.now.command.now.place c.actor.inside.pass c.enter.new.pass (c.enter.ensures.refused c.if-not-enter.true) in
-    if_err c.refused_at.result _ _ (λ e full. (full.0, full.1, port_from _ _ c.actor.view_is, seen_from _ _ (λ v. FoundNoRoom core v c.refused_at.new.pass.view) c.actor.view_is
-    (no_room core c.actor.inside.pass.view c.enter.new.pass.view c.refused_at.new.pass.view found.0 c.enter.ensures.knows full.2))) c.refused_at.ensures.full
+    if_err c.refused_at.result _ _ (λ e full. (
+      full.0,
+      full.1,
+      port_from _ _ c.actor.view_is,
+      seen_from _ _ (λ v. FoundNoRoom core v c.refused_at.new.pass.view) c.actor.view_is
+          (no_room core c.actor.inside.pass.view c.enter.new.pass.view c.refused_at.new.pass.view found.0 c.enter.ensures.knows full.2),
+    )) c.refused_at.ensures.full
 
 pub returns-clause-full : goal.returns-clause-full
 returns-clause-full g c =
     let entered = came_in core c.args.asked.now.command.now.place c.actor.inside.pass c.enter.new.pass (c.enter.ensures.entered c.if-not-enter.false) in
     let out = went_out core c.args.asked.now.command.now.place c.command_inside-answer.new.pass c.leave.new.pass c.leave.ensures in
-    if_err c.command_inside-answer.result _ _ (λ e full. (full.0, full.1, full.2 ∙ port_from _ _ c.actor.view_is, seen_from _ _ (λ v. FoundNoRoom core v c.leave.new.pass.view) c.actor.view_is
-    (no_room_left core c.actor.inside.pass.view c.command_inside-answer.new.pass.view c.leave.new.pass.view
-    (no_room core c.actor.inside.pass.view c.enter.new.pass.view c.command_inside-answer.new.pass.view entered c.enter.ensures.knows full.3) out.0 out.1 out.2))) c.command_inside-answer.ensures.full
+    if_err c.command_inside-answer.result _ _ (λ e full. (
+      full.0,
+      full.1,
+      full.2 ∙ port_from _ _ c.actor.view_is,
+      seen_from _ _ (λ v. FoundNoRoom core v c.leave.new.pass.view) c.actor.view_is
+          (no_room_left core c.actor.inside.pass.view c.command_inside-answer.new.pass.view c.leave.new.pass.view
+          (no_room core c.actor.inside.pass.view c.enter.new.pass.view c.command_inside-answer.new.pass.view entered c.enter.ensures.knows full.3) out.0 out.1 out.2),
+    )) c.command_inside-answer.ensures.full
 
 pub returns-then-not-enter-clause-same : goal.returns-then-not-enter-clause-same
 returns-then-not-enter-clause-same g c = either c.refused_at.result _ _ (IsSameActor c.args.actor.now.pass.view c.refused_at.new.pass.view) (returns-then-not-enter-clause-commanded g c) (returns-then-not-enter-clause-full g c)
