@@ -3,7 +3,7 @@
 # proved is linked into the lanes of the crates above it and into crates/NAME/out, so a proof that is cut off goes on where it was.
 . "$top/launcher/times.sh"
 built=$top/crates/gpiosess/out
-declare -A uses behind sum_of state lane_of number_of jobs_of shown
+declare -A uses behind sum_of state lane_of number_of jobs_of began_at shown
 crates=()
 begun=0
 holds=()
@@ -119,6 +119,7 @@ begin() {
   set +m
   lane_of[$name]=$lane
   jobs_of[$name]=$jobs
+  began_at[$name]=$SECONDS
   pid_of[$lane]=$!
   begun=$((begun + 1))
   number_of[$name]=$begun
@@ -194,7 +195,7 @@ put_back() {
   fi
 }
 
-# Keeps what was proved.
+# Keeps what was proved, and says how long it took.
 finish() {
   local name=$1 from=${lane_of[$1]}/crates/$1/out to=$top/crates/$1/out
   put_back "$name"
@@ -207,7 +208,7 @@ finish() {
     cp -al "$from/rlib" "$to/"
     echo "${sum_of[$name]}" >"$to/proved.sum"
   fi
-  show "$name" "proved"
+  show "$name" "proved, $((SECONDS - began_at[$name])) seconds"
 }
 
 # Says which crate and which functions were not proved.

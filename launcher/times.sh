@@ -1,4 +1,4 @@
-# How long an unproved run and a proof take on this machine. The seconds of processor time of each crate are those of docs/PROOFS.md.
+# How long an unproved run and a proof take on this machine.
 
 # How many checks fit beside each other here: one a processor, and 3 GB of memory for each.
 checks_at_once() {
@@ -10,12 +10,13 @@ checks_at_once() {
   echo $((processors > 0 ? processors : 1))
 }
 
-# Prints a line for each crate that the program stands on, and for the program, lowest first: its name, the seconds of its proof, and what
-# it uses of the others.
+# Prints a line for each crate that the program stands on, and for the program, lowest first: its name, the seconds of its proof (those of
+# seconds.txt), and what it uses of the others.
 crates_of_program() {
-  awk -F'|' '
-    FILENAME == ARGV[1] { if ($2 ~ /^ `[a-z_]+` $/ && $3 ~ /^ [0-9]+ $/) seconds[substr($2, 3, length($2) - 4)] = $3 + 0; next }
-    { sub(/#.*/, ""); at = index($0, ":"); if (at) { split(substr($0, 1, at - 1), head, " "); uses[head[1]] = substr($0, at + 1) } }
+  awk '
+    { sub(/#.*/, "") }
+    FILENAME == ARGV[1] { seconds[$1] = $2 + 0; next }
+    { at = index($0, ":"); if (at) { split(substr($0, 1, at - 1), head, " "); uses[head[1]] = substr($0, at + 1) } }
     function visit(name, parts, count, i, own) {
       if (name in seen) return
       seen[name] = 1
@@ -24,7 +25,7 @@ crates_of_program() {
       print name " " (name in seconds ? seconds[name] : 40) own
     }
     END { visit("gpiosess") }
-  ' "$top/docs/PROOFS.md" "$top/crates.txt"
+  ' "$top/launcher/seconds.txt" "$top/crates.txt"
 }
 
 # Prints how long it takes to prove all from nothing, in words.
