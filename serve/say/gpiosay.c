@@ -22,6 +22,7 @@ static const char help[] =
     "  --folder FOLDER   the folder that gpioserve was given by --folder; else that of the variable GPIOSERVE, which\n"
     "                    the command has that gpioserve runs\n"
     "  -h, --help        prints this\n"
+    "      --version     prints the version\n"
     "\n"
     "Status 0; 1 where a statement was refused or answered by an error; 2 where there is nobody to say it to.\n"
     "docs/FORMATS.md lists the statements.\n";
@@ -93,6 +94,10 @@ int main(int count, char **arguments) {
     int first = 1;
     if (count > 1 && (strcmp(arguments[1], "--help") == 0 || strcmp(arguments[1], "-h") == 0)) {
         fputs(help, stdout);
+        return DONE;
+    }
+    if (count > 1 && strcmp(arguments[1], "--version") == 0) {
+        puts("gpiosay " GPIOSERVE_VERSION);
         return DONE;
     }
     if (count > 2 && strcmp(arguments[1], "--folder") == 0) {
