@@ -22,7 +22,7 @@ enum wire_op {
     WIRE_OPEN = 1, /* opens the chip `command`; its file comes with the answer */
     WIRE_IOCTL,    /* the command `command` on the file `ino`, with the structure's bytes */
     WIRE_READ,     /* reads at most `command` bytes of the file `ino` */
-    WIRE_SAY,      /* a statement; its text is the answer's bytes */
+    WIRE_SAY,      /* a statement; what it printed are the answer's bytes */
     WIRE_WHOSE     /* is the file `ino` one of the broker's? */
 };
 
@@ -35,7 +35,7 @@ struct question {
 };
 
 struct answer {
-    int32_t found;    /* 0, or -1: the file is none of the broker's */
+    int32_t found;    /* 0, or -1: the file is none of the broker's; what was said is no statement */
     int32_t error;    /* the error's number, or 0 */
     uint32_t in_file; /* 1: the bytes are those of the file that came with this answer; `length` counts them */
     uint32_t fd_at;   /* where in the bytes the number of the file that came has to stand */

@@ -57,6 +57,7 @@ struct client *clients_accept(struct clients *clients) {
         return NULL;
     }
     client->watch = (struct watch){WATCH_CLIENT, number, client};
+    client->asker = asker_of(number);
     client->next = clients->first;
     clients->first = client;
     clients->count++;

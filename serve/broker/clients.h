@@ -6,6 +6,7 @@
 #include <stddef.h>
 
 #include "../wire.h"
+#include "record.h"
 #include "watch.h"
 
 /* Connections at a time, at most. */
@@ -14,6 +15,7 @@
 struct client {
     struct watch watch;
     struct client *next;
+    struct asker asker; /* the process that made the connection */
 };
 
 struct clients {

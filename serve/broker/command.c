@@ -4,7 +4,6 @@
 #include <errno.h>
 #include <fcntl.h>
 #include <limits.h>
-#include <stdbool.h>
 #include <stdio.h>
 #include <stdlib.h>
 #include <string.h>
@@ -131,9 +130,36 @@ static bool has_name(const char *variable, const char *name) {
     return strncmp(variable, name, length) == 0 && variable[length] == '=';
 }
 
-/* The environment of the command: this one, with both variables set, whose texts the caller has. The caller frees the
+/* The variables by which a program finds the chips, each as `NAME=VALUE`. */
+struct variables {
+    char *preload, *folder;
+};
+
+static void variables_free(struct variables *variables) {
+    free(variables->preload);
+    free(variables->folder);
+}
+
+/* Makes the variables, which variables_free frees: what LD_PRELOAD names already stays in front of the library. False,
+ * and reported, where memory is short. */
+static bool variables_make(struct variables *variables, const char *library, const char *folder) {
+    const char *before = getenv("LD_PRELOAD");
+    memset(variables, 0, sizeof *variables);
+    if (asprintf(
+            &variables->preload, "LD_PRELOAD=%s%s%s", before ? before : "", before && *before ? ":" : "", library) < 0)
+        variables->preload = NULL;
+    else if (asprintf(&variables->folder, WIRE_VARIABLE "=%s", folder) < 0)
+        variables->folder = NULL;
+    if (variables->folder)
+        return true;
+    report("out of memory");
+    variables_free(variables);
+    return false;
+}
+
+/* The environment of the command: this one, with the variables set, whose texts the caller has. The caller frees the
  * list alone. */
-static char **environment_with(char *preload, char *folder) {
+static char **environment_with(const struct variables *variables) {
     size_t count = 0, kept = 0;
     while (environ[count])
         count++;
@@ -141,8 +167,8 @@ static char **environment_with(char *preload, char *folder) {
     for (size_t i = 0; i < count; i++)
         if (!has_name(environ[i], "LD_PRELOAD") && !has_name(environ[i], WIRE_VARIABLE))
             made[kept++] = environ[i];
-    made[kept++] = preload;
-    made[kept] = folder;
+    made[kept++] = variables->preload;
+    made[kept] = variables->folder;
     return made;
 }
 
@@ -153,21 +179,42 @@ static int not_started(const char *word, int error) {
 }
 
 int command_start(pid_t *pid, char *const *words, const char *library, const char *folder) {
-    char path[PATH_MAX], *preload = NULL, *home = NULL;
-    const char *before = getenv("LD_PRELOAD");
+    char path[PATH_MAX];
+    struct variables variables;
     if (!find_program(words[0], path))
         return not_started(words[0], ENOENT);
     if (!can_preload(path, 0))
         return STATUS_NOT_RUN;
-    if (asprintf(&preload, "LD_PRELOAD=%s%s%s", before ? before : "", before && *before ? ":" : "", library) < 0 ||
-        asprintf(&home, WIRE_VARIABLE "=%s", folder) < 0) {
-        report("out of memory");
-        return STATUS_OWN; /* (the broker ends now, and with it what was taken) */
-    }
-    char **environment = environment_with(preload, home);
+    if (!variables_make(&variables, library, folder))
+        return STATUS_OWN;
+    char **environment = environment_with(&variables);
     int error = process_start(pid, words, -1, -1, environment);
     free(environment);
-    free(preload);
-    free(home);
+    variables_free(&variables);
     return error ? not_started(words[0], error) : 0;
+}
+
+/* Puts nothing in the place of the standard output: its number mustn't become that of another file. */
+static bool close_output(void) {
+    int nothing = open("/dev/null", O_WRONLY | O_CLOEXEC);
+    bool closed = nothing >= 0 && dup2(nothing, STDOUT_FILENO) >= 0;
+    if (nothing >= 0)
+        close(nothing);
+    return closed;
+}
+
+bool command_print_variables(const char *library, const char *folder) {
+    struct variables variables;
+    if (!variables_make(&variables, library, folder))
+        return false;
+    bool has_end = strchr(variables.preload, '\n') || strchr(variables.folder, '\n');
+    bool printed = !has_end && printf("%s\n%s\n\n", variables.preload, variables.folder) >= 0 && fflush(stdout) == 0 &&
+                   close_output();
+    if (has_end)
+        report("a folder whose name has a line end can't stand in a variable's line: set TMPDIR, or name one by "
+               "--folder");
+    else if (!printed)
+        report("the variables can't be printed: %s", strerror(errno));
+    variables_free(&variables);
+    return printed;
 }

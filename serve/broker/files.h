@@ -11,11 +11,13 @@
 #include <stdint.h>
 
 #include "../uapi.h"
+#include "record.h"
 #include "watch.h"
 
 struct file {
     struct watch watch; /* of the writing end; its number is -1 once the chip is gone */
     struct file *next;
+    struct asker asker; /* who asked for it: its closing is recorded as that process's */
     uint64_t ino;
     enum file_kind kind;
     unsigned chip;

@@ -14,14 +14,15 @@
 
 /* What is taken at one look. */
 #define MOST_SHOWN 64
+#define MOST_INPUT 4096
 
 struct loop {
     struct broker *broker;
-    struct watch signals, served, ends;
-    pid_t command;
-    bool command_ended;
-    int status; /* of the command, as waitpid gives it */
-    bool alive; /* the served program answers */
+    struct watch signals, served, ends, input;
+    pid_t command; /* or 0, where it is the input's end that is waited for */
+    bool ended;    /* the command, or the input */
+    int status;    /* to end with, once it has ended */
+    bool alive;    /* the served program answers */
 };
 
 bool loop_take_signals(sigset_t *signals) {
@@ -39,23 +40,42 @@ bool loop_take_signals(sigset_t *signals) {
     return false;
 }
 
-static void take_child(struct loop *loop) {
-    int status;
-    if (!loop->command_ended && waitpid(loop->command, &status, WNOHANG) == loop->command) {
-        loop->command_ended = true;
-        loop->status = status;
-    }
+static void end_with(struct loop *loop, int status) {
+    loop->ended = true;
+    loop->status = status;
 }
 
-/* Hands a signal on, unless a terminal sent it, which the command has got as well. */
+/* A status of the command, as waitpid gives it. */
+static int status_of(int status) {
+    return WIFEXITED(status) ? WEXITSTATUS(status) : STATUS_SIGNAL + WTERMSIG(status);
+}
+
+static void take_child(struct loop *loop) {
+    int status;
+    if (loop->command && !loop->ended && waitpid(loop->command, &status, WNOHANG) == loop->command)
+        end_with(loop, status_of(status));
+}
+
+/* Hands a signal on, unless a terminal sent it, which the command has got as well. Without a command it ends the loop.
+ */
 static void take_signals(struct loop *loop) {
     struct signalfd_siginfo signal;
     while (read(loop->signals.number, &signal, sizeof signal) == (ssize_t)sizeof signal) {
         if (signal.ssi_signo == SIGCHLD)
             take_child(loop);
-        else if (signal.ssi_code != SI_KERNEL && !loop->command_ended)
+        else if (!loop->command)
+            end_with(loop, STATUS_SIGNAL + (int)signal.ssi_signo);
+        else if (signal.ssi_code != SI_KERNEL && !loop->ended)
             kill(loop->command, (int)signal.ssi_signo);
     }
+}
+
+/* Passes over what comes as input, up to its end. */
+static void take_input(struct loop *loop) {
+    char bytes[MOST_INPUT];
+    ssize_t got = read(loop->input.number, bytes, sizeof bytes);
+    if (got == 0 || (got < 0 && errno != EINTR && errno != EAGAIN))
+        end_with(loop, 0);
 }
 
 static void take_connection(struct broker *broker) {
@@ -77,6 +97,9 @@ static void take_event(struct loop *loop, struct watch *watch) {
     switch (watch->kind) {
     case WATCH_SIGNALS:
         take_signals(loop);
+        break;
+    case WATCH_INPUT:
+        take_input(loop);
         break;
     case WATCH_LISTENER:
         take_connection(loop->broker);
@@ -116,45 +139,44 @@ static bool prepare(struct loop *loop, const sigset_t *signals) {
     loop->signals = (struct watch){WATCH_SIGNALS, number, NULL};
     loop->served = (struct watch){WATCH_SERVED, broker->machine.from, NULL};
     loop->ends = (struct watch){WATCH_ENDS, broker->ends, NULL};
+    loop->input = (struct watch){WATCH_INPUT, STDIN_FILENO, NULL};
     return number >= 0 && watch_by(broker->poller, &loop->signals, EPOLLIN) &&
            watch_by(broker->poller, &loop->served, 0) && watch_by(broker->poller, &loop->ends, EPOLLIN) &&
-           watch_by(broker->poller, &broker->clients.listener, EPOLLIN);
+           watch_by(broker->poller, &broker->clients.listener, EPOLLIN) &&
+           (loop->command || watch_by(broker->poller, &loop->input, EPOLLIN));
 }
 
 /* Ends a command that has nobody any more who answers. */
 static void end_command(struct loop *loop) {
     const struct timespec pause = {0, 10 * 1000 * 1000};
-    for (int turn = 0; turn < 200 && !loop->command_ended; turn++) {
+    int status = 0;
+    for (int turn = 0; turn < 200 && !loop->ended; turn++) {
         if (turn == 0)
             kill(loop->command, SIGTERM);
         nanosleep(&pause, NULL);
         take_child(loop);
     }
-    if (loop->command_ended)
+    if (loop->ended)
         return;
     kill(loop->command, SIGKILL);
-    while (waitpid(loop->command, &loop->status, 0) < 0 && errno == EINTR)
+    while (waitpid(loop->command, &status, 0) < 0 && errno == EINTR)
         continue;
-    loop->command_ended = true;
-}
-
-static int status_of(const struct loop *loop) {
-    return WIFEXITED(loop->status) ? WEXITSTATUS(loop->status) : 128 + WTERMSIG(loop->status);
+    end_with(loop, status_of(status));
 }
 
 int loop_run(struct broker *broker, const sigset_t *signals, pid_t command) {
     struct loop loop = {.broker = broker, .command = command, .alive = true};
     bool good = prepare(&loop, signals);
     take_child(&loop);
-    while (good && loop.alive && !loop.command_ended)
+    while (good && loop.alive && !loop.ended)
         good = wait_once(&loop);
     if (!good)
         report("nothing can be waited for: %s", strerror(errno));
-    if (!loop.command_ended)
+    if (command && !loop.ended)
         end_command(&loop);
     if (loop.signals.number >= 0)
         close(loop.signals.number);
     if (!good)
         return STATUS_OWN;
-    return loop.alive && !broker->machine.ended ? status_of(&loop) : STATUS_SERVED_DIED;
+    return loop.alive && !broker->machine.ended ? loop.status : STATUS_SERVED_DIED;
 }

@@ -10,7 +10,8 @@
  * on. False, and reported, where they can't be. */
 bool loop_take_signals(sigset_t *signals);
 
-/* Answers questions until the command ends, or the served program. The status to end with. */
+/* Answers questions until the command ends, or the served program. A command of 0 is none: then questions are answered
+ * until the standard input ends, or a signal comes. The status to end with. */
 int loop_run(struct broker *broker, const sigset_t *signals, pid_t command);
 
 #endif

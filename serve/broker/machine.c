@@ -176,17 +176,31 @@ static const struct {
     {"EOPNOTSUPP", EOPNOTSUPP},
 };
 
+/* The number of the error whose name is this line of so many bytes, its end included; 0 where it is none. */
+static int error_named(const char *line, size_t length) {
+    for (size_t i = 0; i < sizeof errors / sizeof *errors; i++)
+        if (length == strlen(errors[i].name) + 1 && memcmp(line, errors[i].name, length - 1) == 0)
+            return errors[i].number;
+    return 0;
+}
+
 int machine_error(const struct machine *machine) {
     if (machine->ended)
         return ENODEV;
-    if (machine->refused)
-        return EINVAL;
-    for (size_t i = 0; i < sizeof errors / sizeof *errors; i++) {
-        size_t length = strlen(errors[i].name);
-        if (machine->length == length + 1 && memcmp(machine->text, errors[i].name, length) == 0)
-            return errors[i].number;
-    }
-    return 0;
+    return machine->refused ? EINVAL : error_named(machine->text, machine->length);
+}
+
+int machine_error_of_statement(const struct machine *machine) {
+    static const char tools[] = "gpio", divider[] = ": ", usage[] = "usage\n";
+    int error = machine_error(machine);
+    if (error || strncmp(machine->text, tools, strlen(tools)) != 0)
+        return error;
+    const char *rest = strstr(machine->text, divider);
+    if (!rest)
+        return 0;
+    rest += strlen(divider);
+    size_t length = machine->length - (size_t)(rest - machine->text);
+    return length == strlen(usage) && memcmp(rest, usage, length) == 0 ? EINVAL : error_named(rest, length);
 }
 
 int machine_end(struct machine *machine) {

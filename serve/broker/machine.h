@@ -50,6 +50,10 @@ bool machine_take(struct machine *machine);
 /* The number of the error that the last text is, 0 where it is none; EINVAL for a refused line. */
 int machine_error(const struct machine *machine);
 
+/* The same for the text of any statement: also where all of it is a tool's line `TOOL: ERROR` or `TOOL: usage`, which
+ * counts as EINVAL. */
+int machine_error_of_statement(const struct machine *machine);
+
 /* Ends the input, waits for the program's end, and frees all. The program's status as waitpid gives it. */
 int machine_end(struct machine *machine);
 

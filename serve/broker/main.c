@@ -5,6 +5,7 @@
 #include <stdlib.h>
 #include <string.h>
 #include <sys/epoll.h>
+#include <sys/stat.h>
 #include <sys/wait.h>
 #include <time.h>
 #include <unistd.h>
@@ -83,18 +84,24 @@ static bool find_library(const struct broker *broker, char path[PATH_MAX]) {
     return false;
 }
 
-/* Runs the command, once all is there that it needs. */
+/* Starts the command, or prints the variables for those who start programs themselves, and answers questions. */
+static int serve(struct broker *broker, const struct options *options, const sigset_t *signals, const char *library) {
+    pid_t command = 0;
+    if (options->environment)
+        return command_print_variables(library, broker->home.path) ? loop_run(broker, signals, 0) : STATUS_OWN;
+    int status = command_start(&command, options->command, library, broker->home.path);
+    return status ? status : loop_run(broker, signals, command);
+}
+
+/* Serves, once all is there that this needs. */
 static int run_command(struct broker *broker, const struct options *options, const sigset_t *signals) {
     char library[PATH_MAX];
-    pid_t command;
     int status = STATUS_OWN;
     if (!board_hand_in(broker, options->board))
         return STATUS_OWN;
     if (clients_listen(&broker->clients, broker->home.path) && turn_tick(broker) && find_library(broker, library)) {
         waves_begin(&broker->waves, broker->now);
-        status = command_start(&command, options->command, library, broker->home.path);
-        if (status == 0)
-            status = loop_run(broker, signals, command);
+        status = serve(broker, options, signals, library);
     }
     clients_end(&broker->clients);
     return status;
@@ -114,9 +121,18 @@ static const char *meaning(int status) {
     }
 }
 
-/* Says how the served program ended, where that was its own doing. `begun`: the command ran. */
-static void report_served(const struct machine *machine, int status, bool begun) {
-    const char *rest = begun ? "before the command, which was ended with it" : "before the command began";
+/* Whether the input's end can be waited for; else it is reported that it can't. */
+static bool can_await_input(void) {
+    struct stat status;
+    bool waits = fstat(STDIN_FILENO, &status) == 0 &&
+                 (S_ISFIFO(status.st_mode) || S_ISSOCK(status.st_mode) || isatty(STDIN_FILENO));
+    if (!waits)
+        report("--env serves until its input ends: let that be a pipe, a socket or a terminal");
+    return waits;
+}
+
+/* Says how the served program ended, where that was its own doing, and `rest`: before what. */
+static void report_served(const struct machine *machine, int status, const char *rest) {
     if (machine->garbled)
         report("what the served program wrote is no answer: is it gpioserved? It ended %s", rest);
     else if (machine->ended && WIFSIGNALED(status))
@@ -134,7 +150,10 @@ static int run_broker(struct broker *broker, const struct options *options, cons
     int status = run_command(broker, options, signals);
     if (status == STATUS_SERVED_DIED)
         broker->machine.ended = true;
-    report_served(&broker->machine, machine_end(&broker->machine), status != STATUS_OWN);
+    report_served(&broker->machine, machine_end(&broker->machine),
+        status == STATUS_OWN   ? "before the command began"
+        : options->environment ? "before the input"
+                               : "before the command, which was ended with it");
     return status;
 }
 
@@ -150,6 +169,8 @@ int main(int count, char **arguments) {
     case OPTIONS_RUN:
         break;
     }
+    if (options.environment && !can_await_input())
+        return STATUS_OWN;
     broker.manual = options.manual;
     broker.poller = epoll_create1(EPOLL_CLOEXEC);
     broker.ends = epoll_create1(EPOLL_CLOEXEC);

@@ -8,6 +8,7 @@
 
 static const char help[] =
     "gpioserve [OPTIONS] -- COMMAND [ARGUMENT ..]\n"
+    "gpioserve [OPTIONS] --env\n"
     "\n"
     "Runs COMMAND so that it, and what it starts, finds simulated GPIO chips at /dev/gpiochip0 and on.\n"
     "\n"
@@ -17,6 +18,8 @@ static const char help[] =
     "  -a, --answers FILE      gets all that the statements printed: what gpiosess prints for that session\n"
     "  -w, --waves FILE        gets the lines' levels over time, as a value change dump\n"
     "      --clock manual      time passes by `gpiosay \"clock MONOTONIC REAL\"` alone (system: as it does)\n"
+    "      --env               runs no command: prints the variables that a program needs to find the chips, a line\n"
+    "                          each, then an empty line, and serves until its standard input ends\n"
     "      --folder FOLDER     the folder of the socket and of the names; a new one in TMPDIR where none is given\n"
     "      --served PROGRAM    the served program; else that of the variable GPIOSERVED, else that of this repository\n"
     "  -h, --help              prints this\n"
@@ -31,12 +34,23 @@ static bool take_clock(struct options *options, const char *word) {
     return options->manual || strcmp(word, "system") == 0;
 }
 
+/* Whether there is a command, or `--env` in its place. What is wrong is reported. */
+static enum options_next take_command(struct options *options, char **words) {
+    bool is_there = *words != NULL;
+    if (is_there && options->environment)
+        report("--env runs no command: leave out %s", *words);
+    else if (!is_there && !options->environment)
+        report("there is no command to run: gpioserve [OPTIONS] -- COMMAND ..; --help says more");
+    options->command = is_there ? words : NULL;
+    return is_there != options->environment ? OPTIONS_RUN : OPTIONS_WRONG;
+}
+
 enum options_next options_read(struct options *options, int count, char **words) {
     static const struct option names[] = {{"board", required_argument, NULL, 'b'},
         {"transcript", required_argument, NULL, 't'}, {"answers", required_argument, NULL, 'a'},
         {"waves", required_argument, NULL, 'w'}, {"clock", required_argument, NULL, 'c'},
-        {"folder", required_argument, NULL, 'f'}, {"served", required_argument, NULL, 's'},
-        {"help", no_argument, NULL, 'h'}, {NULL, 0, NULL, 0}};
+        {"env", no_argument, NULL, 'e'}, {"folder", required_argument, NULL, 'f'},
+        {"served", required_argument, NULL, 's'}, {"help", no_argument, NULL, 'h'}, {NULL, 0, NULL, 0}};
     const char **places[] = {['a'] = &options->answers,
         ['b'] = &options->board,
         ['f'] = &options->folder,
@@ -52,17 +66,14 @@ enum options_next options_read(struct options *options, int count, char **words)
         }
         if (option == '?')
             return OPTIONS_WRONG;
-        if (option != 'c') {
+        if (option == 'e') {
+            options->environment = true;
+        } else if (option != 'c') {
             *places[option] = optarg;
         } else if (!take_clock(options, optarg)) {
             report("--clock is `system` or `manual`");
             return OPTIONS_WRONG;
         }
     }
-    if (optind < count) {
-        options->command = words + optind;
-        return OPTIONS_RUN;
-    }
-    report("there is no command to run: gpioserve [OPTIONS] -- COMMAND ..; --help says more");
-    return OPTIONS_WRONG;
+    return take_command(options, words + optind);
 }

@@ -7,7 +7,8 @@
 struct options {
     const char *board, *transcript, *answers, *waves, *folder, *served; /* or NULL */
     bool manual;
-    char **command; /* and its arguments */
+    bool environment; /* no command: the variables are printed */
+    char **command;   /* and its arguments; NULL with `environment` */
 };
 
 /* What to do after the arguments were read. */

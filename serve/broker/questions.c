@@ -26,6 +26,8 @@ static void reply_error(struct client *client, int error) {
 /* Makes a file whose end is waited for; `*reader` is the caller's to close. NULL, with errno, where that can't be. */
 static struct file *make_file(struct broker *broker, enum file_kind kind, unsigned chip, int *reader) {
     struct file *file = files_make(&broker->files, kind, chip, reader);
+    if (file)
+        file->asker = broker->record.asker;
     if (!file || watch_by(broker->ends, &file->watch, 0))
         return file;
     int error = errno;
@@ -249,7 +251,7 @@ static bool answer_say(struct broker *broker, struct client *client) {
     size_t length = broker->packet.question.length;
     const char *refusal = statement_read(&statement, line, length, broker->manual);
     if (refusal) {
-        struct answer answer = {.error = EINVAL, .length = (uint32_t)strlen(refusal)};
+        struct answer answer = {.found = -1, .error = EINVAL, .length = (uint32_t)strlen(refusal)};
         clients_reply(client, &answer, refusal, -1);
         return true;
     }
@@ -260,7 +262,9 @@ static bool answer_say(struct broker *broker, struct client *client) {
     if (!turn_say(broker, line, length, statement.kept))
         return false;
     /* (what follows the statement takes the place of its text) */
-    struct answer answer = {.error = machine_error(&broker->machine), .length = (uint32_t)broker->machine.length};
+    struct answer answer = {.found = broker->machine.refused ? -1 : 0,
+        .error = machine_error_of_statement(&broker->machine),
+        .length = (uint32_t)broker->machine.length};
     char *text = strdup(broker->machine.text);
     if (statement.clock && answer.error == 0)
         broker->now = statement.now;
@@ -294,6 +298,7 @@ static bool answer_for_file(struct broker *broker, struct client *client) {
 }
 
 bool questions_answer(struct broker *broker, struct client *client) {
+    broker->record.asker = client->asker;
     switch (broker->packet.question.op) {
     case WIRE_OPEN:
         return answer_open(broker, client);

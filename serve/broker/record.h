@@ -5,16 +5,32 @@
 #include <stdbool.h>
 #include <stddef.h>
 #include <stdio.h>
+#include <sys/types.h>
+
+/* The bytes of a program's name, as the kernel keeps it, its end included. */
+#define ASKER_NAME 16
+
+/* Who asked for a line: a process, and its program's name, which is printable ASCII. A process of 0 is none. */
+struct asker {
+    pid_t pid;
+    char name[ASKER_NAME];
+};
 
 struct record {
-    FILE *transcript; /* or NULL */
-    FILE *answers;    /* or NULL */
+    FILE *transcript;   /* or NULL */
+    FILE *answers;      /* or NULL */
+    struct asker asker; /* of the lines that are added from now on */
+    struct asker shown; /* the one whose comment stands last in the transcript */
 };
 
 /* Opens the files that are named; NULL names none. False, and reported, where one can't be opened. */
 bool record_open(struct record *record, const char *transcript, const char *answers);
 
-/* Adds an accepted line, and what a line printed. */
+/* The process at the other end of a connected socket, and its name at this moment: `?` where it can't be had. */
+struct asker asker_of(int connection);
+
+/* Adds an accepted line, before it the comment `# PID NAME` where another process asks than before; and what a line
+ * printed. */
 void record_line(struct record *record, const char *line, size_t length);
 void record_text(struct record *record, const char *text, size_t length);
 

@@ -6,7 +6,8 @@ enum status {
     STATUS_SERVED_DIED = 124, /* the served program ended before the command */
     STATUS_OWN = 125,         /* the broker couldn't begin: arguments, board, folder, served program */
     STATUS_NOT_RUN = 126,     /* the command can't be run, or not with the library */
-    STATUS_NOT_FOUND = 127    /* there is no such command */
+    STATUS_NOT_FOUND = 127,   /* there is no such command */
+    STATUS_SIGNAL = 128       /* and a signal's number: that signal ended it */
 };
 
 /* Prints `gpioserve: ` and the text in a line of its own. */

@@ -135,6 +135,7 @@ static bool close_file(struct broker *broker, struct file *file) {
         waves_touch(&broker->waves, &broker->machine, broker->now, file->chip, file->lines[i]);
     int length = snprintf(line, sizeof line, "close %s", file->name);
     bool watched = file->kind != FILE_CHIP;
+    broker->record.asker = file->asker;
     files_drop(&broker->files, file);
     return turn_say(broker, line, (size_t)length, true) && turn_settle(broker, watched ? TURN_EVENTS : TURN_NOTHING);
 }

@@ -10,7 +10,8 @@
 #include "../wire.h"
 #include "say.h"
 
-enum { DONE = 0, REFUSED = 1, NO_BROKER = 2 };
+/* The worst of several statements decides; nobody to say it to is worse than all. */
+enum status { DONE = 0, REFUSED = 1, NO_BROKER = 2, NO_STATEMENT = 3 };
 
 static const char help[] =
     "gpiosay [--folder FOLDER] [STATEMENT ..]\n"
@@ -24,7 +25,8 @@ static const char help[] =
     "  -h, --help        prints this\n"
     "      --version     prints the version\n"
     "\n"
-    "Status 0; 1 where a statement was refused or answered by an error; 2 where there is nobody to say it to.\n"
+    "Status 0; 1 where the machine refused a statement, as by EBUSY; 2 where there is nobody to say it to; 3 where a\n"
+    "STATEMENT is none, or none that can be said here.\n"
     "docs/FORMATS.md lists the statements.\n";
 
 /* Explains a line that was refused. */
@@ -40,51 +42,45 @@ static void explain(const char *statement, const char *text) {
         fprintf(stderr, "  %s\n  %*s^\n", statement, (int)column - 1, "");
 }
 
-/* Whether a tool's text is one line that says why it was refused, as `gpioget: EBUSY`. */
-static bool tool_failed(const char *text) {
-    const char *tool = strncmp(text, "gpio", 4) == 0 ? strchr(text, ':') : NULL;
-    const char *end = tool ? strchr(tool, '\n') : NULL;
-    return end && end[1] == 0 && (strcmp(tool, ": usage\n") == 0 || strncmp(tool, ": E", 3) == 0);
-}
-
-static int say_one(struct say *say, const char *statement) {
+static enum status say_one(struct say *say, const char *statement) {
     int error = say_statement(say, statement);
     if (error < 0) {
         fprintf(stderr, "gpiosay: gpioserve no longer answers\n");
         return NO_BROKER;
     }
-    if (error == EINVAL && strncmp(say->text, "refused", 7) == 0) {
+    if (say->is_none) {
         explain(statement, say->text);
-        return REFUSED;
+        return NO_STATEMENT;
     }
     fwrite(say->text, 1, say->length, stdout);
-    return error || tool_failed(say->text) ? REFUSED : DONE;
+    return error ? REFUSED : DONE;
 }
 
-static int say_lines(struct say *say) {
+static enum status worse(enum status one, enum status other) {
+    if (one == NO_BROKER || other == NO_BROKER)
+        return NO_BROKER;
+    return one > other ? one : other;
+}
+
+static enum status say_lines(struct say *say) {
     char *line = NULL;
     size_t room = 0;
     ssize_t length;
-    int status = DONE;
+    enum status status = DONE;
     while (status != NO_BROKER && (length = getline(&line, &room, stdin)) >= 0) {
         if (length > 0 && line[length - 1] == '\n')
             line[length - 1] = 0;
-        int said = say_one(say, line);
-        if (said > status)
-            status = said;
+        status = worse(status, say_one(say, line));
         fflush(stdout);
     }
     free(line);
     return status;
 }
 
-static int say_all(struct say *say, int count, char **statements) {
-    int status = DONE;
-    for (int i = 0; i < count && status != NO_BROKER; i++) {
-        int said = say_one(say, statements[i]);
-        if (said > status)
-            status = said;
-    }
+static enum status say_all(struct say *say, int count, char **statements) {
+    enum status status = DONE;
+    for (int i = 0; i < count && status != NO_BROKER; i++)
+        status = worse(status, say_one(say, statements[i]));
     return status;
 }
 
@@ -115,7 +111,7 @@ int main(int count, char **arguments) {
             strerror(error));
         return NO_BROKER;
     }
-    int status = first < count ? say_all(&say, count - first, arguments + first) : say_lines(&say);
+    enum status status = first < count ? say_all(&say, count - first, arguments + first) : say_lines(&say);
     say_close(&say);
     if (fflush(stdout) && status == DONE)
         status = REFUSED;

@@ -111,6 +111,7 @@ int say_statement(struct say *say, const char *statement) {
         take_answer(say, &answer))
         return -1;
     say->text[say->length] = 0;
+    say->is_none = answer.found < 0;
     return answer.error;
 }
 

@@ -2,20 +2,22 @@
 #ifndef SAY_H
 #define SAY_H
 
+#include <stdbool.h>
 #include <stddef.h>
 
 struct say {
     int connection;
     char *text; /* what the last statement printed, ended by a zero; valid up to the next one */
     size_t length, room;
+    bool is_none; /* what was said last is no statement; the text says why */
 };
 
 /* Connects to the broker of that folder; NULL: that of the environment. 0, or the error's number: ENOENT where no
  * broker is named. */
 int say_open(struct say *say, const char *folder);
 
-/* Says a statement. 0 where it was done; the error's number where it was answered by one, with its text; -1 where
- * nobody answers. */
+/* Says a statement. 0 where it was done; the error's number where it was answered by one, with its text, or is none,
+ * which counts as EINVAL; -1 where nobody answers. */
 int say_statement(struct say *say, const char *statement);
 
 /* Ends the connection, and frees the text. */

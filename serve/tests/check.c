@@ -71,6 +71,10 @@ const char *said(void) {
     return broker.text ? broker.text : "";
 }
 
+bool said_none(void) {
+    return broker.is_none;
+}
+
 bool pull(unsigned line, bool up) {
     return say("write gpiochip0/sim_gpio%u/pull %s", line, up ? "pull-up" : "pull-down");
 }

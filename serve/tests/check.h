@@ -24,6 +24,8 @@ bool test_end(void);
 /* Says a statement: whether it was done. What it printed is valid up to the next one. */
 bool say(const char *form, ...) __attribute__((format(printf, 1, 2)));
 const char *said(void);
+/* Whether what was said last is no statement. */
+bool said_none(void);
 
 /* Pulls a line of chip 0. */
 bool pull(unsigned line, bool up);
@@ -64,6 +66,7 @@ void test_processes(const char *own);
 void test_threads(void);
 void test_removal(void);
 void test_hostile(void);
+void test_saying(void);
 /* Of which no short transcript can be kept. */
 void test_killed_midway(void);
 /* With the clock moved by statements. */

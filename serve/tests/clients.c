@@ -28,6 +28,7 @@ int main(int count, char **arguments) {
     test_events();
     test_processes(arguments[0]);
     test_threads();
+    test_saying();
     test_hostile();
     test_removal();
     return !test_end();
