@@ -44,6 +44,7 @@ struct uapi_command {
     enum uapi_effect effect;
     enum file_kind makes; /* of UAPI_REQUESTS */
     uint32_t fd_at;       /* where the new file's number stands */
+    uint32_t consumer_at; /* and the consumer */
 };
 
 /* The command with that number on a file of that kind, or NULL. */

@@ -10,6 +10,7 @@
 #include "home.h"
 #include "machine.h"
 #include "record.h"
+#include "waits.h"
 #include "waves.h"
 
 struct broker {
@@ -18,6 +19,7 @@ struct broker {
     struct home home;
     struct files files;
     struct clients clients;
+    struct counts counts;
     struct waves waves;
     int poller;   /* what the loop waits on: all except files, and `ends` */
     int ends;     /* shows the files that no client has any more */

@@ -58,6 +58,7 @@ struct client *clients_accept(struct clients *clients) {
     }
     client->watch = (struct watch){WATCH_CLIENT, number, client};
     client->asker = asker_of(number);
+    client->wait.kind = WAIT_NOTHING;
     client->next = clients->first;
     clients->first = client;
     clients->count++;
@@ -145,6 +146,8 @@ void clients_drop(struct clients *clients, struct client *client) {
     if (*at)
         *at = client->next;
     clients->count--;
+    if (client->wait.kind != WAIT_NOTHING)
+        clients->waiting--;
     close(client->watch.number);
     free(client);
 }

@@ -7,6 +7,7 @@
 
 #include "../wire.h"
 #include "record.h"
+#include "wait.h"
 #include "watch.h"
 
 /* Connections at a time, at most. */
@@ -16,13 +17,14 @@ struct client {
     struct watch watch;
     struct client *next;
     struct asker asker; /* the process that made the connection */
+    struct wait wait;   /* what it waits for; its requests aren't read meanwhile */
 };
 
 struct clients {
     struct watch listener;
     int spare; /* a file for which there is no use but its number */
     struct client *first;
-    size_t count;
+    size_t count, waiting;
 };
 
 /* A question as it came: its bytes are ended by a zero, which isn't counted. */

@@ -11,6 +11,7 @@
 #include <stdint.h>
 
 #include "../uapi.h"
+#include "consumer.h"
 #include "record.h"
 #include "watch.h"
 
@@ -25,6 +26,7 @@ struct file {
     char name[16];
     size_t line_count; /* of a request */
     uint32_t lines[UAPI_LINES];
+    char consumer[CONSUMER_ROOM];
 };
 
 struct files {

@@ -84,9 +84,10 @@ static void take_connection(struct broker *broker) {
         clients_drop(&broker->clients, client);
 }
 
-/* Answers a question, once all files are closed that were so before it. */
+/* Answers a question, once all files are closed that were so before it. Of a client that waits nothing is shown but
+ * that it has gone. */
 static bool take_question(struct broker *broker, struct client *client) {
-    int got = clients_read(client, &broker->packet);
+    int got = client->wait.kind == WAIT_NOTHING ? clients_read(client, &broker->packet) : -1;
     if (got < 0)
         clients_drop(&broker->clients, client);
     return got <= 0 || (turn_close_ended(broker) && questions_answer(broker, client));
@@ -118,17 +119,24 @@ static void take_event(struct loop *loop, struct watch *watch) {
     }
 }
 
+/* How long nothing has to be done: milliseconds, or -1. */
+static int idle_time(const struct broker *broker) {
+    int turn = turn_wait(broker), waits = waits_time(broker);
+    return turn < 0 || (waits >= 0 && waits < turn) ? waits : turn;
+}
+
 /* One turn of the loop. */
 static bool wait_once(struct loop *loop) {
     static struct epoll_event events[MOST_SHOWN];
     struct broker *broker = loop->broker;
-    int count = epoll_wait(broker->poller, events, MOST_SHOWN, turn_wait(broker));
+    int count = epoll_wait(broker->poller, events, MOST_SHOWN, idle_time(broker));
     if (count < 0)
         return errno == EINTR;
     for (int i = 0; i < count && loop->alive; i++)
         take_event(loop, events[i].data.ptr);
     if (loop->alive && turn_wait(broker) == 0)
         loop->alive = turn_tick(broker);
+    loop->alive = loop->alive && waits_expire(broker);
     record_flush(&broker->record);
     return true;
 }

@@ -55,6 +55,8 @@ static bool answer_open(struct broker *broker, struct client *client) {
     struct answer answer = {.error = machine_error(&broker->machine), .chip = chip + 1};
     if (answer.error)
         files_drop(&broker->files, file);
+    else
+        broker->counts.opened[chip]++;
     alive = alive && turn_settle(broker, TURN_NOTHING);
     clients_reply(client, &answer, NULL, answer.error ? -1 : reader);
     close(reader);
@@ -111,6 +113,7 @@ static enum turn_effect take_effect(
         return TURN_NOTHING;
     case UAPI_REQUESTS:
         made->line_count = uapi_lines(command, packet->data, made->lines);
+        consumer_write(made->consumer, packet->data + command->consumer_at);
         made->awaits = made->kind == FILE_EVENT1 || (made->kind == FILE_LINES && uapi_wants_edges(packet->data + 288));
         return TURN_EVENTS;
     case UAPI_CHANGES:
@@ -223,6 +226,16 @@ static int read_events1(struct broker *broker, const struct file *file, const ch
     return error;
 }
 
+/* Counts the events of a file that were read, so many bytes of them, by their lines. */
+static void count_events(struct counts *counts, const struct file *file, const unsigned char *bytes, uint32_t length) {
+    if (file->kind == FILE_LINES)
+        for (uint32_t at = 0; at + UAPI_EVENT <= length; at += UAPI_EVENT)
+            waits_count_read(counts, file->chip, uapi_u32(bytes + at, 12));
+    else if (file->kind == FILE_EVENT1)
+        for (uint32_t at = 0; at + UAPI_EVENT1 <= length; at += UAPI_EVENT1)
+            waits_count_read(counts, file->chip, file->lines[0]);
+}
+
 static bool answer_read(struct broker *broker, struct client *client, struct file *file) {
     static unsigned char bytes[MOST_EVENTS];
     uint32_t room = broker->packet.question.command, most;
@@ -234,6 +247,7 @@ static bool answer_read(struct broker *broker, struct client *client, struct fil
         answer.error = read_data(broker, file, word, room, bytes, &answer.length);
     else
         answer.error = read_events1(broker, file, word, room, bytes, &answer.length);
+    count_events(&broker->counts, file, bytes, answer.length);
     bool alive = !broker->machine.ended;
     if (alive && files_shows(file)) {
         machine_putf(&broker->machine, "poll %s", file->name);
@@ -249,6 +263,8 @@ static bool answer_say(struct broker *broker, struct client *client) {
     struct statement statement;
     const char *line = (const char *)broker->packet.data;
     size_t length = broker->packet.question.length;
+    if (wait_is(line) && strlen(line) == length)
+        return waits_begin(broker, client, line);
     const char *refusal = statement_read(&statement, line, length, broker->manual);
     if (refusal) {
         struct answer answer = {.found = -1, .error = EINVAL, .length = (uint32_t)strlen(refusal)};

@@ -93,6 +93,8 @@ static bool name_chips(struct broker *broker) {
             present[chip] = true;
     }
     home_name_chips(&broker->home, present);
+    for (unsigned chip = 0; chip < WIRE_CHIPS; chip++)
+        broker->counts.known[chip] = broker->counts.known[chip] || present[chip];
     return waves_take_chips(&broker->waves, &broker->machine, broker->now, present);
 }
 
@@ -114,7 +116,7 @@ bool turn_settle(struct broker *broker, enum turn_effect effect) {
         return false;
     if (effect >= TURN_EVENTS && !broker->manual && !ask_due(broker))
         return false;
-    return waves_sample(&broker->waves, &broker->machine, broker->now);
+    return waves_sample(&broker->waves, &broker->machine, broker->now) && waits_look(broker);
 }
 
 bool turn_tick(struct broker *broker) {

@@ -16,4 +16,7 @@ struct watch {
  * where that can't be. */
 bool watch_by(int poller, struct watch *watch, unsigned events);
 
+/* Waits for other events from now on. */
+bool watch_change(int poller, struct watch *watch, unsigned events);
+
 #endif

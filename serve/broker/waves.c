@@ -6,17 +6,16 @@
 #include <stdlib.h>
 #include <string.h>
 
+#include "consumer.h"
 #include "pieces.h"
 #include "report.h"
 #include "room.h"
 
-/* A consumer's bytes as they are written: up to four signs for each. */
-#define HOLDER (4 * UAPI_NAME + 1)
 #define INFO_LENGTH 256
 
 struct state {
     char level; /* 0, 1 or x */
-    char holder[HOLDER];
+    char holder[CONSUMER_ROOM];
 };
 
 struct wave {
@@ -61,18 +60,6 @@ static void take_name(struct wave *wave, const unsigned char *bytes) {
     wave->name[length] = 0;
 }
 
-/* Writes a consumer: a byte that no text can have, and the backslash, as `\xHH`. */
-static void take_holder(char *holder, const unsigned char *bytes) {
-    size_t length = strnlen((const char *)bytes, UAPI_NAME - 1), out = 0;
-    for (size_t i = 0; i < length; i++) {
-        if (bytes[i] < '!' || bytes[i] > '~' || bytes[i] == '\\')
-            out += (size_t)sprintf(holder + out, "\\x%02x", bytes[i]);
-        else
-            holder[out++] = (char)bytes[i];
-    }
-    holder[out] = 0;
-}
-
 /* Puts the two statements that tell a line's state. */
 static void put_questions(struct machine *machine, const struct wave *wave) {
     machine_putf(machine, "ioctl waves.%u GET_LINEINFO 00*64 %02x%02x%02x%02x 00*188", wave->chip, wave->offset & 0xff,
@@ -88,7 +75,7 @@ static bool take_state(struct machine *machine, struct wave *wave, struct state 
         return false;
     if (machine_error(machine) == 0 && pieces_read(machine->text, info, sizeof info) == INFO_LENGTH) {
         take_name(wave, info);
-        take_holder(state->holder, info + UAPI_NAME);
+        consumer_write(state->holder, info + UAPI_NAME);
         if ((uapi_u64(info, 72) & 1) && !state->holder[0])
             strcpy(state->holder, "?");
     }

@@ -10,8 +10,8 @@
 #include "../wire.h"
 #include "say.h"
 
-/* The worst of several statements decides; nobody to say it to is worse than all. */
-enum status { DONE = 0, REFUSED = 1, NO_BROKER = 2, NO_STATEMENT = 3 };
+/* NO_BROKER and WAIT_FAILED end all; else the highest of several statements decides. */
+enum status { DONE = 0, REFUSED = 1, NO_BROKER = 2, NO_STATEMENT = 3, WAIT_FAILED = 4 };
 
 static const char help[] =
     "gpiosay [--folder FOLDER] [STATEMENT ..]\n"
@@ -25,8 +25,15 @@ static const char help[] =
     "  -h, --help        prints this\n"
     "      --version     prints the version\n"
     "\n"
+    "A STATEMENT may be a wait. It leaves nothing in the transcript, and fails after its TIME, 30s where none is given:\n"
+    "  wait held CHIP LINE [by CONSUMER] [within TIME]   until a program holds the line; prints the consumer\n"
+    "  wait released CHIP LINE [within TIME]             until no program holds it\n"
+    "  wait level CHIP LINE LEVEL [within TIME]          until it has the level 0 or 1\n"
+    "  wait read CHIP LINE [COUNT] [within TIME]         until so many of its events were read; prints how many\n"
+    "  wait opened CHIP [COUNT] [within TIME]            until the chip was opened so often; prints how often\n"
+    "\n"
     "Status 0; 1 where the machine refused a statement, as by EBUSY; 2 where there is nobody to say it to; 3 where a\n"
-    "STATEMENT is none, or none that can be said here.\n"
+    "STATEMENT is none, or none that can be said here; 4 where a wait failed, after which nothing more is said.\n"
     "docs/FORMATS.md lists the statements.\n";
 
 /* Explains a line that was refused. */
@@ -42,8 +49,10 @@ static void explain(const char *statement, const char *text) {
         fprintf(stderr, "  %s\n  %*s^\n", statement, (int)column - 1, "");
 }
 
+/* Says a statement. What others printed comes before what is wrong with this one. */
 static enum status say_one(struct say *say, const char *statement) {
     int error = say_statement(say, statement);
+    fflush(stdout);
     if (error < 0) {
         fprintf(stderr, "gpiosay: gpioserve no longer answers\n");
         return NO_BROKER;
@@ -52,14 +61,21 @@ static enum status say_one(struct say *say, const char *statement) {
         explain(statement, say->text);
         return NO_STATEMENT;
     }
+    if (error && say_waits(statement)) {
+        fprintf(stderr, "gpiosay: %s: %s", statement, say->text);
+        return WAIT_FAILED;
+    }
     fwrite(say->text, 1, say->length, stdout);
     return error ? REFUSED : DONE;
 }
 
-static enum status worse(enum status one, enum status other) {
-    if (one == NO_BROKER || other == NO_BROKER)
-        return NO_BROKER;
-    return one > other ? one : other;
+static bool ends_all(enum status status) {
+    return status == NO_BROKER || status == WAIT_FAILED;
+}
+
+/* The status of statements before, and of one more. */
+static enum status worse(enum status before, enum status said) {
+    return ends_all(said) || said > before ? said : before;
 }
 
 static enum status say_lines(struct say *say) {
@@ -67,7 +83,7 @@ static enum status say_lines(struct say *say) {
     size_t room = 0;
     ssize_t length;
     enum status status = DONE;
-    while (status != NO_BROKER && (length = getline(&line, &room, stdin)) >= 0) {
+    while (!ends_all(status) && (length = getline(&line, &room, stdin)) >= 0) {
         if (length > 0 && line[length - 1] == '\n')
             line[length - 1] = 0;
         status = worse(status, say_one(say, line));
@@ -79,7 +95,7 @@ static enum status say_lines(struct say *say) {
 
 static enum status say_all(struct say *say, int count, char **statements) {
     enum status status = DONE;
-    for (int i = 0; i < count && status != NO_BROKER; i++)
+    for (int i = 0; i < count && !ends_all(status); i++)
         status = worse(status, say_one(say, statements[i]));
     return status;
 }

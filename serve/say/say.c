@@ -115,6 +115,12 @@ int say_statement(struct say *say, const char *statement) {
     return answer.error;
 }
 
+bool say_waits(const char *statement) {
+    static const char word[] = "wait";
+    statement += strspn(statement, " ");
+    return strncmp(statement, word, strlen(word)) == 0 && strchr(" ", statement[strlen(word)]);
+}
+
 void say_close(struct say *say) {
     if (say->connection >= 0)
         close(say->connection);

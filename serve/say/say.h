@@ -20,6 +20,9 @@ int say_open(struct say *say, const char *folder);
  * which counts as EINVAL; -1 where nobody answers. */
 int say_statement(struct say *say, const char *statement);
 
+/* Whether a statement is a request to wait, as `wait held gpiochip0 3`. */
+bool say_waits(const char *statement);
+
 /* Ends the connection, and frees the text. */
 void say_close(struct say *say);
 

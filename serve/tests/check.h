@@ -67,6 +67,8 @@ void test_threads(void);
 void test_removal(void);
 void test_hostile(void);
 void test_saying(void);
+void test_waits(void);
+void test_waits_for_chips(void);
 /* Of which no short transcript can be kept. */
 void test_killed_midway(void);
 /* With the clock moved by statements. */

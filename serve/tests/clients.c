@@ -30,6 +30,8 @@ int main(int count, char **arguments) {
     test_threads();
     test_saying();
     test_hostile();
+    test_waits();
     test_removal();
+    test_waits_for_chips();
     return !test_end();
 }
