@@ -1,13 +1,20 @@
 #include "board.h"
 
 #include <errno.h>
+#include <fcntl.h>
 #include <stdio.h>
 #include <stdlib.h>
 #include <string.h>
+#include <unistd.h>
 
 #include "../faults.h"
 #include "report.h"
+#include "room.h"
 #include "statement.h"
+
+/* The file is read in pieces of at least so many bytes, and has at most so many. */
+#define LEAST_READ 4096
+#define MOST_LENGTH (64u << 20)
 
 /* What to do about a line with a fault at `at`. */
 static const char *remedy(const char *line, const char *at) {
@@ -102,41 +109,68 @@ static bool hand_in(struct broker *broker, const char *path, unsigned number, co
     return true;
 }
 
-static bool hand_in_all(struct broker *broker, const char *path, FILE *file) {
+/* Hands in all lines. The board's text stays as it is: each line is copied. */
+static bool hand_in_all(struct broker *broker, const struct board *board) {
     char *line = NULL;
     size_t room = 0;
-    ssize_t length;
     unsigned number = 0, heads = 0; /* of `session 1` and `setup`, how many stood there */
     bool good = true;
-    while (good && (length = getline(&line, &room, file)) >= 0) {
+    for (size_t at = 0, length; good && at < board->length; at += length + 1) {
+        const char *end = memchr(board->text + at, '\n', board->length - at);
+        length = end ? (size_t)(end - board->text) - at : board->length - at;
+        room_for(&line, &room, length + 1);
+        memcpy(line, board->text + at, length);
+        line[length] = 0;
         number++;
-        if (length > 0 && line[length - 1] == '\n')
-            line[--length] = 0;
         if ((heads == 0 && has_words(line, "session", "1")) || (heads == 1 && has_words(line, "setup", NULL))) {
             heads++;
             continue;
         }
         if (!is_blank(line) && heads == 0)
             heads = 2;
-        good = hand_in(broker, path, number, line, (size_t)length);
+        good = hand_in(broker, board->path, number, line, length);
     }
     free(line);
-    if (good && ferror(file)) {
-        report("%s can't be read: %s", path, strerror(errno));
-        good = false;
-    }
     return good;
 }
 
-bool board_hand_in(struct broker *broker, const char *path) {
-    FILE *file = path ? fopen(path, "re") : NULL;
-    if (path && !file) {
+/* Reads all of a file. False, with errno, where that fails. */
+static bool read_all(struct board *board, int file) {
+    size_t room = 0;
+    ssize_t got;
+    do {
+        room_for(&board->text, &room, board->length + LEAST_READ);
+        got = read(file, board->text + board->length, room - board->length - 1);
+        board->length += got > 0 ? (size_t)got : 0;
+        if (board->length > MOST_LENGTH) {
+            errno = EFBIG;
+            return false;
+        }
+    } while (got > 0 || (got < 0 && errno == EINTR));
+    board->text[board->length] = 0;
+    return got == 0;
+}
+
+bool board_read(struct board *board, const char *path) {
+    *board = (struct board){.path = path};
+    if (!path)
+        return true;
+    int file = open(path, O_RDONLY | O_CLOEXEC);
+    bool good = file >= 0 && read_all(board, file);
+    if (!good) {
         report("the board %s can't be read: %s", path, strerror(errno));
-        report("a board is a file of statements, as `probe demo 4` for a chip with 4 lines; serve/README.md has more");
-        return false;
+        report("a board is a file of statements, as `probe demo 4` for a chip with 4 lines; docs/FORMATS.md has more");
     }
-    bool good = begin(broker) && (!file || hand_in_all(broker, path, file));
-    if (file)
-        fclose(file);
-    return good && turn_settle(broker, TURN_CHIPS);
+    if (file >= 0)
+        close(file);
+    return good;
+}
+
+void board_free(struct board *board) {
+    free(board->text);
+    board->text = NULL;
+}
+
+bool board_hand_in(struct broker *broker, const struct board *board) {
+    return begin(broker) && hand_in_all(broker, board) && turn_settle(broker, TURN_CHIPS);
 }

@@ -9,11 +9,15 @@
 #include "files.h"
 #include "home.h"
 #include "machine.h"
+#include "patience.h"
 #include "record.h"
+#include "signals.h"
 #include "waits.h"
 #include "waves.h"
 
 struct broker {
+    struct signals signals;
+    struct patience patience; /* for the served program, and for those who read what is written */
     struct record record;
     struct machine machine;
     struct home home;

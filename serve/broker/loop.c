@@ -3,10 +3,7 @@
 #include <errno.h>
 #include <string.h>
 #include <sys/epoll.h>
-#include <sys/signalfd.h>
 #include <sys/wait.h>
-#include <time.h>
-#include <unistd.h>
 
 #include "questions.h"
 #include "report.h"
@@ -19,63 +16,16 @@
 struct loop {
     struct broker *broker;
     struct watch signals, served, ends, input;
-    pid_t command; /* or 0, where it is the input's end that is waited for */
-    bool ended;    /* the command, or the input */
-    int status;    /* to end with, once it has ended */
-    bool alive;    /* the served program answers */
+    bool input_ended;
+    bool alive; /* the served program answers */
 };
-
-bool loop_take_signals(sigset_t *signals) {
-    static const int taken[] = {SIGCHLD, SIGINT, SIGTERM, SIGHUP, SIGQUIT};
-    sigemptyset(signals);
-    for (size_t i = 0; i < sizeof taken / sizeof *taken; i++) {
-        struct sigaction now;
-        if (sigaction(taken[i], NULL, &now) == 0 && (now.sa_handler != SIG_IGN || taken[i] == SIGCHLD))
-            sigaddset(signals, taken[i]);
-    }
-    if (signal(SIGPIPE, SIG_IGN) != SIG_ERR && signal(SIGCHLD, SIG_DFL) != SIG_ERR &&
-        sigprocmask(SIG_BLOCK, signals, NULL) == 0)
-        return true;
-    report("signals can't be taken: %s", strerror(errno));
-    return false;
-}
-
-static void end_with(struct loop *loop, int status) {
-    loop->ended = true;
-    loop->status = status;
-}
-
-/* A status of the command, as waitpid gives it. */
-static int status_of(int status) {
-    return WIFEXITED(status) ? WEXITSTATUS(status) : STATUS_SIGNAL + WTERMSIG(status);
-}
-
-static void take_child(struct loop *loop) {
-    int status;
-    if (loop->command && !loop->ended && waitpid(loop->command, &status, WNOHANG) == loop->command)
-        end_with(loop, status_of(status));
-}
-
-/* Hands a signal on, unless a terminal sent it, which the command has got as well. Without a command it ends the loop.
- */
-static void take_signals(struct loop *loop) {
-    struct signalfd_siginfo signal;
-    while (read(loop->signals.number, &signal, sizeof signal) == (ssize_t)sizeof signal) {
-        if (signal.ssi_signo == SIGCHLD)
-            take_child(loop);
-        else if (!loop->command)
-            end_with(loop, STATUS_SIGNAL + (int)signal.ssi_signo);
-        else if (signal.ssi_code != SI_KERNEL && !loop->ended)
-            kill(loop->command, (int)signal.ssi_signo);
-    }
-}
 
 /* Passes over what comes as input, up to its end. */
 static void take_input(struct loop *loop) {
     char bytes[MOST_INPUT];
     ssize_t got = read(loop->input.number, bytes, sizeof bytes);
     if (got == 0 || (got < 0 && errno != EINTR && errno != EAGAIN))
-        end_with(loop, 0);
+        loop->input_ended = true;
 }
 
 static void take_connection(struct broker *broker) {
@@ -97,7 +47,7 @@ static bool take_question(struct broker *broker, struct client *client) {
 static void take_event(struct loop *loop, struct watch *watch) {
     switch (watch->kind) {
     case WATCH_SIGNALS:
-        take_signals(loop);
+        signals_receive(&loop->broker->signals);
         break;
     case WATCH_INPUT:
         take_input(loop);
@@ -141,50 +91,49 @@ static bool wait_once(struct loop *loop) {
     return true;
 }
 
-static bool prepare(struct loop *loop, const sigset_t *signals) {
+static bool prepare(struct loop *loop) {
     struct broker *broker = loop->broker;
-    int number = signalfd(-1, signals, SFD_CLOEXEC | SFD_NONBLOCK);
-    loop->signals = (struct watch){WATCH_SIGNALS, number, NULL};
+    loop->signals = (struct watch){WATCH_SIGNALS, broker->signals.number, NULL};
     loop->served = (struct watch){WATCH_SERVED, broker->machine.from, NULL};
     loop->ends = (struct watch){WATCH_ENDS, broker->ends, NULL};
     loop->input = (struct watch){WATCH_INPUT, STDIN_FILENO, NULL};
-    return number >= 0 && watch_by(broker->poller, &loop->signals, EPOLLIN) &&
-           watch_by(broker->poller, &loop->served, 0) && watch_by(broker->poller, &loop->ends, EPOLLIN) &&
+    return watch_by(broker->poller, &loop->signals, EPOLLIN) && watch_by(broker->poller, &loop->served, 0) &&
+           watch_by(broker->poller, &loop->ends, EPOLLIN) &&
            watch_by(broker->poller, &broker->clients.listener, EPOLLIN) &&
-           (loop->command || watch_by(broker->poller, &loop->input, EPOLLIN));
+           (broker->signals.command || watch_by(broker->poller, &loop->input, EPOLLIN));
 }
 
-/* Ends a command that has nobody any more who answers. */
-static void end_command(struct loop *loop) {
-    const struct timespec pause = {0, 10 * 1000 * 1000};
-    int status = 0;
-    for (int turn = 0; turn < 200 && !loop->ended; turn++) {
-        if (turn == 0)
-            kill(loop->command, SIGTERM);
-        nanosleep(&pause, NULL);
-        take_child(loop);
-    }
-    if (loop->ended)
-        return;
-    kill(loop->command, SIGKILL);
-    while (waitpid(loop->command, &status, 0) < 0 && errno == EINTR)
-        continue;
-    end_with(loop, status_of(status));
+/* Whether the command has ended; without one, whether the input has, or a signal came. */
+static bool is_over(const struct loop *loop) {
+    const struct signals *signals = &loop->broker->signals;
+    return signals->command ? signals->ended : loop->input_ended || signals->received > 0;
 }
 
-int loop_run(struct broker *broker, const sigset_t *signals, pid_t command) {
-    struct loop loop = {.broker = broker, .command = command, .alive = true};
-    bool good = prepare(&loop, signals);
-    take_child(&loop);
-    while (good && loop.alive && !loop.ended)
+/* Ends a command that has nobody any more who answers. What it asks or waits for fails first, since a program that
+ * waits for an answer receives no signal. */
+static void end_command(struct broker *broker) {
+    clients_end(&broker->clients);
+    files_free(&broker->files);
+    signals_end_command(&broker->signals);
+}
+
+/* The status of a loop that is over. */
+static int status_of(const struct signals *signals) {
+    if (signals->command == 0)
+        return signals->received > 0 ? STATUS_SIGNAL + signals->last : 0;
+    return WIFEXITED(signals->status) ? WEXITSTATUS(signals->status) : STATUS_SIGNAL + WTERMSIG(signals->status);
+}
+
+int loop_run(struct broker *broker) {
+    struct loop loop = {.broker = broker, .alive = true};
+    bool good = prepare(&loop);
+    while (good && loop.alive && !is_over(&loop))
         good = wait_once(&loop);
     if (!good)
         report("nothing can be waited for: %s", strerror(errno));
-    if (command && !loop.ended)
-        end_command(&loop);
-    if (loop.signals.number >= 0)
-        close(loop.signals.number);
+    if (!is_over(&loop))
+        end_command(broker);
     if (!good)
         return STATUS_OWN;
-    return loop.alive && !broker->machine.ended ? loop.status : STATUS_SERVED_DIED;
+    return loop.alive && !broker->machine.ended ? status_of(&broker->signals) : STATUS_SERVED_DIED;
 }

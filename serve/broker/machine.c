@@ -1,6 +1,7 @@
 #include "machine.h"
 
 #include <errno.h>
+#include <fcntl.h>
 #include <stdarg.h>
 #include <stdint.h>
 #include <stdio.h>
@@ -17,16 +18,29 @@
 #define MOST_TEXT (64u << 20)
 /* The longest head of an answer. */
 #define MOST_HEAD 32
+/* Output is read in pieces of at least so many bytes. */
+#define LEAST_READ 4096
 
-bool machine_start(struct machine *machine, char *const *words, struct record *record) {
+/* Reading and writing a file never waits from now on. */
+static int set_nonblocking(int file) {
+    return fcntl(file, F_SETFL, O_NONBLOCK) ? errno : 0;
+}
+
+bool machine_start(
+    struct machine *machine, char *const *words, struct record *record, const struct patience *patience) {
     int in[2], out[2], error;
     memset(machine, 0, sizeof *machine);
     machine->record = record;
+    machine->patience = patience;
     if (!process_pipes(in, out)) {
         report("no pipe for the served program: %s", strerror(errno));
         return false;
     }
-    error = process_start(&machine->pid, words, in[0], out[1], NULL);
+    error = set_nonblocking(in[1]);
+    if (error == 0)
+        error = set_nonblocking(out[0]);
+    if (error == 0)
+        error = process_start(&machine->pid, words, in[0], out[1], NULL);
     close(in[0]);
     close(out[1]);
     machine->to = in[1];
@@ -45,7 +59,7 @@ void machine_put(struct machine *machine, const char *line, size_t length, bool 
     if (machine->put == MACHINE_WAITING)
         abort();
     room_for(&machine->lines, &machine->lines_room, machine->lines_length + length + 1);
-    machine->waiting[machine->put++] = (struct machine_line){machine->lines_length, length, kept};
+    machine->unanswered[machine->put++] = (struct machine_line){machine->lines_length, length, kept};
     memcpy(machine->lines + machine->lines_length, line, length);
     machine->lines_length += length;
     machine->lines[machine->lines_length++] = '\n';
@@ -69,34 +83,54 @@ static bool end_of(struct machine *machine) {
     return false;
 }
 
+/* Reads what is there of the program's output, for which it takes memory that machine_end frees. Whether something was
+ * there; where the output is at its end, the program has ended. */
+static bool read_some(struct machine *machine) {
+    if (machine->input_at == machine->input_length)
+        machine->input_at = machine->input_length = 0;
+    room_for(&machine->input, &machine->input_room, machine->input_length + LEAST_READ);
+    ssize_t got =
+        read(machine->from, machine->input + machine->input_length, machine->input_room - machine->input_length);
+    if (got > 0)
+        machine->input_length += (size_t)got;
+    else if (got == 0 || (errno != EAGAIN && errno != EINTR))
+        end_of(machine);
+    return got > 0;
+}
+
+/* Waits for output, or with `sends` until the program takes more of its input too. False where the program has ended,
+ * or the time has. */
+static bool wait_for(struct machine *machine, bool sends) {
+    const struct pollfd files[] = {{.fd = machine->from, .events = POLLIN}, {.fd = machine->to, .events = POLLOUT}};
+    machine->hung = patience_wait(machine->patience, files, sends ? 2 : 1);
+    return machine->hung == PATIENCE_READY || end_of(machine);
+}
+
+static bool read_more(struct machine *machine) {
+    while (!machine->ended)
+        if (!wait_for(machine, false) || read_some(machine))
+            break;
+    return !machine->ended;
+}
+
+/* Sends the lines that were put. A program that takes no more of them may have to be rid of its answers first. */
 static bool send_lines(struct machine *machine) {
     while (machine->lines_sent < machine->lines_length) {
         const char *rest = machine->lines + machine->lines_sent;
         ssize_t sent = write(machine->to, rest, machine->lines_length - machine->lines_sent);
-        if (sent < 0 && errno == EINTR)
+        if (sent >= 0) {
+            machine->lines_sent += (size_t)sent;
             continue;
-        if (sent < 0)
+        }
+        if (errno != EAGAIN && errno != EINTR)
             return end_of(machine);
-        machine->lines_sent += (size_t)sent;
+        if (!wait_for(machine, true))
+            return false;
+        read_some(machine);
+        if (machine->ended)
+            return false;
     }
     return true;
-}
-
-/* Reads more of the program's output, for which it takes memory that machine_end frees. */
-static bool read_more(struct machine *machine) {
-    if (machine->input_at == machine->input_length)
-        machine->input_at = machine->input_length = 0;
-    room_for(&machine->input, &machine->input_room, machine->input_length + 4096);
-    for (;;) {
-        ssize_t got =
-            read(machine->from, machine->input + machine->input_length, machine->input_room - machine->input_length);
-        if (got < 0 && errno == EINTR)
-            continue;
-        if (got <= 0)
-            return end_of(machine);
-        machine->input_length += (size_t)got;
-        return true;
-    }
 }
 
 /* The end of a head in what was read, or NULL where it isn't whole yet. */
@@ -137,7 +171,7 @@ static bool take_text(struct machine *machine, size_t length) {
 }
 
 bool machine_take(struct machine *machine) {
-    const struct machine_line *line = &machine->waiting[machine->taken];
+    const struct machine_line *line = &machine->unanswered[machine->taken];
     if (machine->ended || machine->taken == machine->put)
         return end_of(machine);
     machine->taken++;
@@ -205,7 +239,7 @@ int machine_error_of_statement(const struct machine *machine) {
 
 int machine_end(struct machine *machine) {
     close(machine->to);
-    int status = process_wait(machine->pid);
+    int status = process_wait(machine->pid, machine->hung == PATIENCE_READY);
     close(machine->from);
     free(machine->lines);
     free(machine->input);

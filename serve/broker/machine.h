@@ -6,6 +6,7 @@
 #include <stddef.h>
 #include <sys/types.h>
 
+#include "patience.h"
 #include "record.h"
 
 /* The longest line that is answered. */
@@ -21,30 +22,33 @@ struct machine_line {
 struct machine {
     pid_t pid;
     int to, from;
+    const struct patience *patience;
     struct record *record;
     char *lines; /* those that were put since all were answered */
     size_t lines_length, lines_room, lines_sent;
-    struct machine_line waiting[MACHINE_WAITING];
+    struct machine_line unanswered[MACHINE_WAITING];
     size_t put, taken;
     char *input; /* what was read and isn't taken yet */
     size_t input_at, input_length, input_room;
     char *text; /* the last answer, ended by a zero */
     size_t length, text_room;
-    bool refused; /* the last line was no statement; the text is `refused LINE COLUMN KIND` */
-    bool ended;   /* nobody answers any more */
-    bool garbled; /* what came last is no answer */
+    bool refused;           /* the last line was no statement; the text is `refused LINE COLUMN KIND` */
+    bool ended;             /* nobody answers any more */
+    bool garbled;           /* what came last is no answer */
+    enum patience_end hung; /* why its answer was no longer waited for; else PATIENCE_READY */
 };
 
-/* Starts the program with these words. False, and reported, where it can't be started. */
-bool machine_start(struct machine *machine, char *const *words, struct record *record);
+/* Starts the program with these words. What is waited for it is bounded by `patience`, which stays the caller's, as
+ * `record` does. False, and reported, where it can't be started. */
+bool machine_start(struct machine *machine, char *const *words, struct record *record, const struct patience *patience);
 
 /* Puts a line, which is copied; it has no line end. With `kept`, the record gets it where it is accepted, and its text.
  * At most MACHINE_WAITING lines may wait. */
 void machine_put(struct machine *machine, const char *line, size_t length, bool kept);
 void machine_putf(struct machine *machine, const char *form, ...) __attribute__((format(printf, 2, 3)));
 
-/* Sends what was put, and takes the answer to the earliest line that waits. False where the program has ended. The text
- * is valid up to the next call. */
+/* Sends what was put, and takes the answer to the earliest line that waits. False where the program has ended, or does
+ * not answer in time. The text is valid up to the next call. */
 bool machine_take(struct machine *machine);
 
 /* The number of the error that the last text is, 0 where it is none; EINVAL for a refused line. */
@@ -54,7 +58,8 @@ int machine_error(const struct machine *machine);
  * counts as EINVAL. */
 int machine_error_of_statement(const struct machine *machine);
 
-/* Ends the input, waits for the program's end, and frees all. The program's status as waitpid gives it. */
+/* Ends the input, waits for the program's end, and frees all. A program that hangs is killed. Its status as waitpid
+ * gives it. */
 int machine_end(struct machine *machine);
 
 #endif

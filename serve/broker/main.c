@@ -84,24 +84,31 @@ static bool find_library(const struct broker *broker, char path[PATH_MAX]) {
     return false;
 }
 
+/* Whether a signal has come already that ends programs: then nothing is begun, which is reported. */
+static bool is_interrupted(const struct broker *broker) {
+    if (broker->signals.received > 0)
+        report("a signal came before the command began");
+    return broker->signals.received > 0;
+}
+
 /* Starts the command, or prints the variables for those who start programs themselves, and answers questions. */
-static int serve(struct broker *broker, const struct options *options, const sigset_t *signals, const char *library) {
-    pid_t command = 0;
+static int serve(struct broker *broker, const struct options *options, const char *library) {
     if (options->environment)
-        return command_print_variables(library, broker->home.path) ? loop_run(broker, signals, 0) : STATUS_OWN;
-    int status = command_start(&command, options->command, library, broker->home.path);
-    return status ? status : loop_run(broker, signals, command);
+        return command_print_variables(library, broker->home.path) ? loop_run(broker) : STATUS_OWN;
+    int status = command_start(&broker->signals.command, options->command, library, broker->home.path);
+    return status ? status : loop_run(broker);
 }
 
 /* Serves, once all is there that this needs. */
-static int run_command(struct broker *broker, const struct options *options, const sigset_t *signals) {
+static int run_command(struct broker *broker, const struct options *options, const struct board *board) {
     char library[PATH_MAX];
     int status = STATUS_OWN;
-    if (!board_hand_in(broker, options->board))
+    if (!board_hand_in(broker, board))
         return STATUS_OWN;
-    if (clients_listen(&broker->clients, broker->home.path) && turn_tick(broker) && find_library(broker, library)) {
+    if (clients_listen(&broker->clients, broker->home.path) && turn_tick(broker) && find_library(broker, library) &&
+        !is_interrupted(broker)) {
         waves_begin(&broker->waves, broker->now);
-        status = serve(broker, options, signals, library);
+        status = serve(broker, options, library);
     }
     clients_end(&broker->clients);
     return status;
@@ -133,7 +140,12 @@ static bool can_await_input(void) {
 
 /* Says how the served program ended, where that was its own doing, and `rest`: before what. */
 static void report_served(const struct machine *machine, int status, const char *rest) {
-    if (machine->garbled)
+    if (machine->hung == PATIENCE_LIMIT)
+        report("the served program hangs: it did not answer for %u seconds, and was ended %s", machine->patience->limit,
+            rest);
+    else if (machine->hung == PATIENCE_INTERRUPTED)
+        report("the served program hangs: it did not answer when a signal came, and was ended %s", rest);
+    else if (machine->garbled)
         report("what the served program wrote is no answer: is it gpioserved? It ended %s", rest);
     else if (machine->ended && WIFSIGNALED(status))
         report("the served program was ended by signal %d %s", WTERMSIG(status), rest);
@@ -143,11 +155,12 @@ static void report_served(const struct machine *machine, int status, const char 
         report("the served program did not end well: status %d", status);
 }
 
-static int run_broker(struct broker *broker, const struct options *options, const sigset_t *signals) {
+static int run_broker(struct broker *broker, const struct options *options, const struct board *board) {
     char room[PATH_MAX], *words[MOST_WORDS + 1];
-    if (!served_words(options->served, room, words) || !machine_start(&broker->machine, words, &broker->record))
+    if (!served_words(options->served, room, words) ||
+        !machine_start(&broker->machine, words, &broker->record, &broker->patience))
         return STATUS_OWN;
-    int status = run_command(broker, options, signals);
+    int status = run_command(broker, options, board);
     if (status == STATUS_SERVED_DIED)
         broker->machine.ended = true;
     report_served(&broker->machine, machine_end(&broker->machine),
@@ -157,10 +170,29 @@ static int run_broker(struct broker *broker, const struct options *options, cons
     return status;
 }
 
+/* Opens what the user named. This may wait for others, as for the writer of a pipe: no signal is blocked yet. */
+static bool open_named(struct broker *broker, const struct options *options, struct board *board) {
+    return board_read(board, options->board) &&
+           record_open(&broker->record, options->transcript, options->answers, &broker->patience) &&
+           waves_open(&broker->waves, options->waves, options->manual ? 1 : 1000, &broker->patience);
+}
+
+/* Opens what the broker waits by. */
+static bool open_own(struct broker *broker) {
+    if (!signals_open(&broker->signals))
+        return false;
+    broker->poller = epoll_create1(EPOLL_CLOEXEC);
+    broker->ends = epoll_create1(EPOLL_CLOEXEC);
+    if (broker->poller >= 0 && broker->ends >= 0)
+        return true;
+    report("nothing can be waited for: %s", strerror(errno));
+    return false;
+}
+
 int main(int count, char **arguments) {
-    static struct broker broker;
+    static struct broker broker = {.poller = -1, .ends = -1, .signals.number = -1};
     struct options options;
-    sigset_t signals;
+    struct board board;
     switch (options_read(&options, count, arguments)) {
     case OPTIONS_HELP:
         return 0;
@@ -172,21 +204,17 @@ int main(int count, char **arguments) {
     if (options.environment && !can_await_input())
         return STATUS_OWN;
     broker.manual = options.manual;
-    broker.poller = epoll_create1(EPOLL_CLOEXEC);
-    broker.ends = epoll_create1(EPOLL_CLOEXEC);
-    if (broker.poller < 0 || broker.ends < 0 || !loop_take_signals(&signals)) {
-        report("nothing can be waited for: %s", strerror(errno));
-        return STATUS_OWN;
-    }
+    broker.patience = (struct patience){&broker.signals, options.limit};
     int status = STATUS_OWN;
-    if (record_open(&broker.record, options.transcript, options.answers) &&
-        waves_open(&broker.waves, options.waves, options.manual ? 1 : 1000) && home_make(&broker.home, options.folder))
-        status = run_broker(&broker, &options, &signals);
+    if (open_named(&broker, &options, &board) && open_own(&broker) && home_make(&broker.home, options.folder))
+        status = run_broker(&broker, &options, &board);
+    board_free(&board);
     home_remove(&broker.home);
     files_free(&broker.files);
     bool written = waves_close(&broker.waves, broker.now);
     written = record_close(&broker.record) && written;
     close(broker.poller);
     close(broker.ends);
+    signals_close(&broker.signals);
     return written || status != 0 ? status : STATUS_OWN;
 }

@@ -2,9 +2,14 @@
 
 #include <getopt.h>
 #include <stdio.h>
+#include <stdlib.h>
 #include <string.h>
 
 #include "report.h"
+
+/* Seconds in which the served program has to answer, where no others are named; and the digits of a number of them. */
+#define LIMIT 60
+#define MOST_DIGITS 6
 
 static const char help[] =
     "gpioserve [OPTIONS] -- COMMAND [ARGUMENT ..]\n"
@@ -21,17 +26,76 @@ static const char help[] =
     "      --env               runs no command: prints the variables that a program needs to find the chips, a line\n"
     "                          each, then an empty line, and serves until its standard input ends\n"
     "      --folder FOLDER     the folder of the socket and of the names; a new one in TMPDIR where none is given\n"
+    "      --answer-timeout SECONDS\n"
+    "                          how long an answer of the served program, or a reader of FILE, is waited for (60);\n"
+    "                          0 is without end\n"
     "      --served PROGRAM    the served program; else that of the variable GPIOSERVED, else that of this repository\n"
     "  -h, --help              prints this\n"
     "\n"
     "The status is the command's, 128 and the number of the signal that ended it; 124: the served program ended\n"
-    "before the command; 125: gpioserve couldn't begin; 126: the command can't be run; 127: there is none.\n"
+    "before the command, or hung; 125: gpioserve couldn't begin; 126: the command can't be run; 127: there is none.\n"
     "While it runs, `gpiosay STATEMENT` moves the outside world: `gpiosay \"write gpiochip0/sim_gpio3/pull "
     "pull-up\"`.\n";
 
 static bool take_clock(struct options *options, const char *word) {
     options->manual = strcmp(word, "manual") == 0;
-    return options->manual || strcmp(word, "system") == 0;
+    if (options->manual || strcmp(word, "system") == 0)
+        return true;
+    report("--clock is `system` or `manual`");
+    return false;
+}
+
+static bool take_limit(struct options *options, const char *word) {
+    size_t length = strlen(word);
+    if (length > 0 && length <= MOST_DIGITS && strspn(word, "0123456789") == length) {
+        options->limit = (unsigned)strtoul(word, NULL, 10);
+        return true;
+    }
+    report("--answer-timeout is a number of seconds, with at most %d digits", MOST_DIGITS);
+    return false;
+}
+
+/* The options without a letter. */
+enum { CLOCK = 256, ENVIRONMENT, FOLDER, SERVED, ANSWER_TIMEOUT };
+
+/* Where an option's word is kept as it is; NULL for an option that is read. */
+static const char **place_of(struct options *options, int option) {
+    switch (option) {
+    case 'a':
+        return &options->answers;
+    case 'b':
+        return &options->board;
+    case 't':
+        return &options->transcript;
+    case 'w':
+        return &options->waves;
+    case FOLDER:
+        return &options->folder;
+    case SERVED:
+        return &options->served;
+    default:
+        return NULL;
+    }
+}
+
+/* Takes one option. False where it is wrong, which is reported. */
+static bool take(struct options *options, int option, const char *word) {
+    const char **place = place_of(options, option);
+    if (place) {
+        *place = word;
+        return true;
+    }
+    switch (option) {
+    case CLOCK:
+        return take_clock(options, word);
+    case ENVIRONMENT:
+        options->environment = true;
+        return true;
+    case ANSWER_TIMEOUT:
+        return take_limit(options, word);
+    default:
+        return false; /* (getopt has reported it) */
+    }
 }
 
 /* Whether there is a command, or `--env` in its place. What is wrong is reported. */
@@ -48,32 +112,19 @@ static enum options_next take_command(struct options *options, char **words) {
 enum options_next options_read(struct options *options, int count, char **words) {
     static const struct option names[] = {{"board", required_argument, NULL, 'b'},
         {"transcript", required_argument, NULL, 't'}, {"answers", required_argument, NULL, 'a'},
-        {"waves", required_argument, NULL, 'w'}, {"clock", required_argument, NULL, 'c'},
-        {"env", no_argument, NULL, 'e'}, {"folder", required_argument, NULL, 'f'},
-        {"served", required_argument, NULL, 's'}, {"help", no_argument, NULL, 'h'}, {NULL, 0, NULL, 0}};
-    const char **places[] = {['a'] = &options->answers,
-        ['b'] = &options->board,
-        ['f'] = &options->folder,
-        ['s'] = &options->served,
-        ['t'] = &options->transcript,
-        ['w'] = &options->waves};
+        {"waves", required_argument, NULL, 'w'}, {"clock", required_argument, NULL, CLOCK},
+        {"env", no_argument, NULL, ENVIRONMENT}, {"folder", required_argument, NULL, FOLDER},
+        {"served", required_argument, NULL, SERVED}, {"answer-timeout", required_argument, NULL, ANSWER_TIMEOUT},
+        {"help", no_argument, NULL, 'h'}, {NULL, 0, NULL, 0}};
     int option;
-    memset(options, 0, sizeof *options);
+    *options = (struct options){.limit = LIMIT};
     while ((option = getopt_long(count, words, "+b:t:a:w:h", names, NULL)) != -1) {
         if (option == 'h') {
             fputs(help, stdout);
             return OPTIONS_HELP;
         }
-        if (option == '?')
+        if (!take(options, option, optarg))
             return OPTIONS_WRONG;
-        if (option == 'e') {
-            options->environment = true;
-        } else if (option != 'c') {
-            *places[option] = optarg;
-        } else if (!take_clock(options, optarg)) {
-            report("--clock is `system` or `manual`");
-            return OPTIONS_WRONG;
-        }
     }
     return take_command(options, words + optind);
 }

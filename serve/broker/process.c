@@ -60,16 +60,16 @@ int process_start(pid_t *pid, char *const *words, int in, int out, char *const *
     return error;
 }
 
-int process_wait(pid_t pid) {
+int process_wait(pid_t pid, bool patient) {
     const struct timespec pause = {0, 5 * 1000 * 1000};
     int status = 0;
-    for (int turn = 0; turn < 1000; turn++) {
+    for (int turn = 0; patient && turn < 1000; turn++) {
         pid_t ended = waitpid(pid, &status, WNOHANG);
         if (ended == pid || (ended < 0 && errno != EINTR))
             return status;
         nanosleep(&pause, NULL);
     }
-    kill(pid, SIGKILL);
+    kill(-pid, SIGKILL);
     while (waitpid(pid, &status, 0) < 0 && errno == EINTR)
         continue;
     return status;

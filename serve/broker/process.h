@@ -14,7 +14,8 @@ bool process_pipes(int in[2], int out[2]);
  * and the process, or the error's number. */
 int process_start(pid_t *pid, char *const *words, int in, int out, char *const *environment);
 
-/* Waits for a program's end: at most five seconds, after which it is killed. Its status as waitpid gives it. */
-int process_wait(pid_t pid);
+/* Waits for the end of a program with a session of its own: with `patient` for at most five seconds. A program that has
+ * not ended by then is killed, with its process group. Its status as waitpid gives it. */
+int process_wait(pid_t pid, bool patient);
 
 #endif

@@ -92,7 +92,7 @@ static void touch_lines(struct broker *broker, const struct file *file, const st
     uint32_t asked[UAPI_LINES];
     size_t count = file->line_count;
     const uint32_t *lines = file->lines;
-    if (!broker->waves.path || packet->question.length < command->length)
+    if (!broker->waves.dump.file || packet->question.length < command->length)
         return;
     if (command->effect == UAPI_REQUESTS) {
         count = uapi_lines(command, packet->data, asked);
@@ -188,7 +188,7 @@ static const char *read_word(enum file_kind kind, uint32_t *most) {
 /* Keeps a `data` that was said as the `events` or `changes` that it stands for, and what those print. */
 static void record_data(struct broker *broker, const struct file *file, const char *line, size_t length, bool read,
     const unsigned char *bytes, size_t count) {
-    FILE *answers = broker->record.answers;
+    FILE *answers = broker->record.answers.file;
     record_line(&broker->record, line, length);
     if (!read)
         record_text(&broker->record, broker->machine.text, broker->machine.length);

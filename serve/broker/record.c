@@ -1,24 +1,11 @@
 #include "record.h"
 
-#include <errno.h>
 #include <string.h>
 #include <sys/socket.h>
 
-#include "report.h"
-
-static bool open_one(FILE **file, const char *path) {
-    *file = NULL;
-    if (!path)
-        return true;
-    *file = fopen(path, "we");
-    if (!*file)
-        report("%s can't be written: %s", path, strerror(errno));
-    return *file != NULL;
-}
-
-bool record_open(struct record *record, const char *transcript, const char *answers) {
+bool record_open(struct record *record, const char *transcript, const char *answers, const struct patience *patience) {
     memset(record, 0, sizeof *record);
-    return open_one(&record->transcript, transcript) && open_one(&record->answers, answers);
+    return output_open(&record->transcript, transcript, patience) && output_open(&record->answers, answers, patience);
 }
 
 /* Reads the name of a process's program. A session has printable ASCII alone, in comments too, and a program may have
@@ -56,42 +43,30 @@ static void show_asker(struct record *record) {
     const struct asker *asker = &record->asker;
     if (asker->pid == 0 || (asker->pid == record->shown.pid && strcmp(asker->name, record->shown.name) == 0))
         return;
-    fprintf(record->transcript, "# %ld %s\n", (long)asker->pid, asker->name);
+    fprintf(record->transcript.file, "# %ld %s\n", (long)asker->pid, asker->name);
     record->shown = *asker;
 }
 
 void record_line(struct record *record, const char *line, size_t length) {
-    if (!record->transcript)
+    FILE *file = record->transcript.file;
+    if (!file)
         return;
     show_asker(record);
-    fwrite(line, 1, length, record->transcript);
-    fputc('\n', record->transcript);
+    fwrite(line, 1, length, file);
+    fputc('\n', file);
 }
 
 void record_text(struct record *record, const char *text, size_t length) {
-    if (record->answers)
-        fwrite(text, 1, length, record->answers);
+    if (record->answers.file)
+        fwrite(text, 1, length, record->answers.file);
 }
 
 void record_flush(struct record *record) {
-    if (record->transcript)
-        fflush(record->transcript);
-    if (record->answers)
-        fflush(record->answers);
-}
-
-static bool close_one(FILE **file, const char *what) {
-    if (!*file)
-        return true;
-    bool bad = ferror(*file) != 0;
-    bad = fclose(*file) != 0 || bad;
-    *file = NULL;
-    if (bad)
-        report("the %s could not be written whole: is the disk full?", what);
-    return !bad;
+    output_flush(&record->transcript);
+    output_flush(&record->answers);
 }
 
 bool record_close(struct record *record) {
-    bool good = close_one(&record->transcript, "transcript");
-    return close_one(&record->answers, "answers") && good;
+    bool good = output_close(&record->transcript);
+    return output_close(&record->answers) && good;
 }

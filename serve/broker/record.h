@@ -4,8 +4,9 @@
 
 #include <stdbool.h>
 #include <stddef.h>
-#include <stdio.h>
 #include <sys/types.h>
+
+#include "output.h"
 
 /* The bytes of a program's name, as the kernel keeps it, its end included. */
 #define ASKER_NAME 16
@@ -17,14 +18,14 @@ struct asker {
 };
 
 struct record {
-    FILE *transcript;   /* or NULL */
-    FILE *answers;      /* or NULL */
+    struct output transcript, answers;
     struct asker asker; /* of the lines that are added from now on */
     struct asker shown; /* the one whose comment stands last in the transcript */
 };
 
-/* Opens the files that are named; NULL names none. False, and reported, where one can't be opened. */
-bool record_open(struct record *record, const char *transcript, const char *answers);
+/* Opens the files that are named; NULL names none. False, and reported, where one can't be opened; record_close frees
+ * what was taken. */
+bool record_open(struct record *record, const char *transcript, const char *answers, const struct patience *patience);
 
 /* The process at the other end of a connected socket, and its name at this moment: `?` where it can't be had. */
 struct asker asker_of(int connection);
@@ -37,7 +38,7 @@ void record_text(struct record *record, const char *text, size_t length);
 /* Hands on to the files what was added, so that others can read it. */
 void record_flush(struct record *record);
 
-/* Closes the files. False, and reported, where something could not be written. */
+/* Closes the files. False where something could not be written. */
 bool record_close(struct record *record);
 
 #endif

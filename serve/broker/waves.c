@@ -27,22 +27,17 @@ struct wave {
     struct state first, now;
 };
 
-bool waves_open(struct waves *waves, const char *path, uint64_t unit) {
+bool waves_open(struct waves *waves, const char *path, uint64_t unit, const struct patience *patience) {
     memset(waves, 0, sizeof *waves);
     if (!path)
         return true;
-    FILE *made = fopen(path, "we");
-    if (!made) {
-        report("%s can't be written: %s", path, strerror(errno));
+    if (!output_open(&waves->dump, path, patience))
         return false;
-    }
-    fclose(made);
     waves->changes = tmpfile();
     if (!waves->changes || fcntl(fileno(waves->changes), F_SETFD, FD_CLOEXEC)) {
         report("no temporary file for the waves: %s", strerror(errno));
         return false;
     }
-    waves->path = path;
     waves->unit = unit;
     return true;
 }
@@ -138,7 +133,7 @@ static void add(struct waves *waves, struct wave *wave) {
 
 void waves_touch(struct waves *waves, struct machine *machine, uint64_t now, unsigned chip, uint32_t offset) {
     struct state state;
-    if (!waves->path || chip >= WIRE_CHIPS)
+    if (!waves->dump.file || chip >= WIRE_CHIPS)
         return;
     struct wave *wave = find(waves, chip, offset);
     if (wave) {
@@ -191,7 +186,7 @@ static bool lose_chip(struct waves *waves, struct machine *machine, uint64_t now
 }
 
 bool waves_take_chips(struct waves *waves, struct machine *machine, uint64_t now, const bool present[WIRE_CHIPS]) {
-    for (unsigned chip = 0; waves->path && chip < WIRE_CHIPS; chip++) {
+    for (unsigned chip = 0; waves->dump.file && chip < WIRE_CHIPS; chip++) {
         if (present[chip] && !waves->known[chip]) {
             waves->known[chip] = true;
             waves->late[chip] = waves->begun;
@@ -234,23 +229,21 @@ static void write_changes(const struct waves *waves, FILE *out, uint64_t now) {
 }
 
 bool waves_close(struct waves *waves, uint64_t now) {
-    if (!waves->path)
-        return true;
-    FILE *out = fopen(waves->path, "we");
-    bool good = out != NULL;
-    if (out) {
+    FILE *out = waves->dump.file;
+    bool good = true;
+    if (out && waves->changes) {
         write_header(waves, out);
         write_changes(waves, out, now);
-        good = !ferror(out) && !ferror(waves->changes);
-        good = fclose(out) == 0 && good;
+        good = !ferror(waves->changes);
+        if (!good)
+            report("the temporary file for the waves could not be written: is the disk full?");
     }
-    if (!good)
-        report("%s could not be written whole: %s", waves->path, strerror(errno));
-    fclose(waves->changes);
+    if (waves->changes)
+        fclose(waves->changes);
     while (waves->first) {
         struct wave *next = waves->first->next;
         free(waves->first);
         waves->first = next;
     }
-    return good;
+    return output_close(&waves->dump) && good;
 }

@@ -9,12 +9,13 @@
 #include "../uapi.h"
 #include "../wire.h"
 #include "machine.h"
+#include "output.h"
 
 struct wave;
 
 struct waves {
-    const char *path; /* NULL: nothing is kept, and the calls below do nothing */
-    FILE *changes;    /* after the first values; a file without a name */
+    struct output dump; /* where none was named, nothing is kept, and the calls below do nothing */
+    FILE *changes;      /* after the first values; a file without a name */
     struct wave *first;
     unsigned count;
     uint64_t start, last;                     /* in nanoseconds, and in units since then */
@@ -24,9 +25,9 @@ struct waves {
     bool open[WIRE_CHIPS];                    /* chips with a file by which their lines are asked for */
 };
 
-/* Keeps levels for a dump at that path, which is the caller's and stays; NULL keeps none. `unit` is that of times, in
- * nanoseconds. False, and reported, where there is no file for them. */
-bool waves_open(struct waves *waves, const char *path, uint64_t unit);
+/* Keeps levels for a dump at that path, which is the caller's and stays, as `patience` does; NULL keeps none. `unit` is
+ * that of times, in nanoseconds. False, and reported, where there is no file for them. */
+bool waves_open(struct waves *waves, const char *path, uint64_t unit, const struct patience *patience);
 
 /* Time 0 of the dump. */
 void waves_begin(struct waves *waves, uint64_t now);

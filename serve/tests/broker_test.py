@@ -1,0 +1,201 @@
+"""Tests of what gpioserve does when others hang, die or get in its way. They need serve/out/gpioserve and a gpioserved."""
+
+import fcntl
+import os
+import shlex
+import signal
+import struct
+import subprocess
+import sys
+import tempfile
+import termios
+import time
+import unittest
+from pathlib import Path
+from typing import Callable, List, Optional
+
+HERE = Path(__file__).resolve().parent
+TOP = HERE.parent.parent
+OUT = HERE.parent / "out"
+BOARD = HERE / "board"
+# Seconds that anything may take: a machine may be busy.
+LIMIT = 120
+# Bytes of a page, which is the least that a pipe has.
+PAGE = os.sysconf("SC_PAGE_SIZE")
+
+# A command that asks the chip's name again and again. SIGTERM ends it with status 5, once it has printed so.
+ASKS = r"""
+import fcntl, os, signal, sys
+def terminated(number, frame):
+    os.write(1, b"terminated\n")
+    os._exit(5)
+signal.signal(signal.SIGTERM, terminated)
+chip = os.open("/dev/gpiochip0", os.O_RDWR)
+os.write(1, b"begun\n")
+while True:
+    try:
+        fcntl.ioctl(chip, 0x8044B401, bytes(68))
+    except OSError as error:
+        os.write(1, b"error %d\n" % error.errno)
+        signal.pause()
+"""
+
+
+def served() -> str:
+    """The program that serves, as one path."""
+    named = os.environ.get("GPIOSERVED")
+    return shlex.split(named)[0] if named else str(TOP / "crates/gpioserved/out/gpioserved")
+
+
+def waiting_in(pipe: int) -> int:
+    """How many bytes wait in a pipe."""
+    (count,) = struct.unpack("=i", fcntl.ioctl(pipe, termios.FIONREAD, bytes(4)))
+    return int(count)
+
+
+def wait_until(holds: Callable[[], bool]) -> bool:
+    """Waits until something holds; whether it did within the limit."""
+    end = time.monotonic() + LIMIT
+    while time.monotonic() < end:
+        if holds():
+            return True
+        time.sleep(0.01)
+    return False
+
+
+class BrokerTest(unittest.TestCase):
+    """Runs of gpioserve, each with a folder of its own."""
+
+    def setUp(self) -> None:
+        self.room = tempfile.TemporaryDirectory()
+        self.addCleanup(self.room.cleanup)
+        self.folder = Path(self.room.name)
+        (self.folder / "tmp").mkdir()
+        self.environment = {**os.environ, "TMPDIR": str(self.folder / "tmp")}
+
+    def start(self, *words: str, command: Optional[List[str]] = None) -> "subprocess.Popen[str]":
+        """Starts gpioserve with these options, and a command that asks where no other is named."""
+        said = open(self.folder / "said", "w")
+        self.addCleanup(said.close)
+        broker = subprocess.Popen(
+            [str(OUT / "gpioserve"), "-b", str(BOARD), *words, "--", *(command or [sys.executable, "-c", ASKS])],
+            stdin=subprocess.DEVNULL,
+            stdout=said,
+            stderr=subprocess.STDOUT,
+            env=self.environment,
+            text=True,
+        )
+        self.addCleanup(self.end, broker)
+        return broker
+
+    def end(self, broker: "subprocess.Popen[str]") -> None:
+        """Kills what a test left running."""
+        if broker.poll() is None:
+            broker.kill()
+            broker.wait()
+
+    def said(self) -> str:
+        """What gpioserve and the command printed so far."""
+        return (self.folder / "said").read_text()
+
+    def begun(self) -> None:
+        """Waits until the command has begun."""
+        self.assertTrue(wait_until(lambda: "begun\n" in self.said()), self.said())
+
+    def status(self, broker: "subprocess.Popen[str]") -> int:
+        """The status that gpioserve ends with. Nothing of it is left behind."""
+        try:
+            status = broker.wait(LIMIT)
+        except subprocess.TimeoutExpired:
+            self.fail(f"gpioserve does not end; it said {self.said()!r}")
+        self.assertEqual(list((self.folder / "tmp").iterdir()), [])
+        return status
+
+    def stoppable(self) -> List[str]:
+        """Options by which the process number of the served program is known, which `number` gives."""
+        script = self.folder / "served"
+        script.write_text(f"#!/bin/sh\necho $$ >{self.folder}/number\nexec {shlex.quote(served())}\n")
+        script.chmod(0o755)
+        return ["--served", str(script)]
+
+    def number(self) -> int:
+        """The process number of the served program, once the command has begun."""
+        return int((self.folder / "number").read_text())
+
+
+class HangingTest(BrokerTest):
+    """Others that neither end nor go on."""
+
+    def test_a_served_program_that_hangs_ends_the_run_in_time(self) -> None:
+        broker = self.start(*self.stoppable(), "--answer-timeout", "2")
+        self.begun()
+        os.kill(self.number(), signal.SIGSTOP)
+        self.assertEqual(self.status(broker), 124)
+        self.assertIn("the served program hangs: it did not answer for 2 seconds, and was ended", self.said())
+        self.assertIn("terminated\n", self.said())
+
+    def test_a_served_program_that_hangs_before_the_command_begins(self) -> None:
+        script = self.folder / "served"
+        script.write_text("#!/bin/sh\nexec sleep 1000\n")
+        script.chmod(0o755)
+        broker = self.start("--served", str(script), "--answer-timeout", "1")
+        self.assertEqual(self.status(broker), 125)
+        self.assertIn("hangs: it did not answer for 1 seconds, and was ended before the command began", self.said())
+
+    def test_sigterm_ends_a_run_whose_served_program_hangs(self) -> None:
+        broker = self.start(*self.stoppable(), "--answer-timeout", "0")
+        self.begun()
+        os.kill(self.number(), signal.SIGSTOP)
+        broker.terminate()
+        self.assertEqual(self.status(broker), 124)
+        self.assertIn("the served program hangs: it did not answer when a signal came", self.said())
+        self.assertIn("terminated\n", self.said())
+
+    def test_a_served_program_that_was_stopped_for_a_while_goes_on(self) -> None:
+        broker = self.start(*self.stoppable(), "--answer-timeout", "100")
+        self.begun()
+        os.kill(self.number(), signal.SIGSTOP)
+        time.sleep(1.5)
+        os.kill(self.number(), signal.SIGCONT)
+        broker.terminate()
+        self.assertEqual(self.status(broker), 5)
+        self.assertEqual(self.said(), "begun\nterminated\n")
+
+    def unread(self) -> int:
+        """Makes a pipe of one page at `pipe`, which nobody reads: its reading end."""
+        os.mkfifo(self.folder / "pipe")
+        reader = os.open(self.folder / "pipe", os.O_RDONLY | os.O_NONBLOCK)
+        self.addCleanup(os.close, reader)
+        fcntl.fcntl(reader, fcntl.F_SETPIPE_SZ, PAGE)
+        return reader
+
+    def test_sigterm_while_nobody_reads_the_transcript(self) -> None:
+        reader, pipe = self.unread(), self.folder / "pipe"
+        broker = self.start("-t", str(pipe), "--answer-timeout", "0")
+        self.begun()
+        self.assertTrue(wait_until(lambda: waiting_in(reader) > PAGE - 300))
+        time.sleep(0.5)
+        broker.terminate()
+        self.assertIn(self.status(broker), (5, 125))
+        self.assertIn(f"nobody reads {pipe}: from here on it isn't written", self.said())
+        self.assertIn("terminated\n", self.said())
+
+    def test_nobody_reads_the_transcript_for_too_long(self) -> None:
+        self.unread()
+        pipe = self.folder / "pipe"
+        broker = self.start("-a", str(pipe), "--answer-timeout", "1", command=[str(OUT / "latency"), "5000"])
+        self.assertEqual(self.status(broker), 125)
+        self.assertIn(f"nobody reads {pipe}: from here on it isn't written", self.said())
+
+    def test_sigterm_while_a_pipe_is_opened(self) -> None:
+        for option in ("-t", "-w", "-b"):
+            pipe = self.folder / f"pipe{option}"
+            os.mkfifo(pipe)
+            broker = self.start(option, str(pipe))
+            time.sleep(0.2)
+            broker.terminate()
+            self.assertEqual(self.status(broker), -signal.SIGTERM)
+
+
+if __name__ == "__main__":
+    unittest.main()
