@@ -4,7 +4,7 @@
 #include <fcntl.h>
 #include <pthread.h>
 #include <signal.h>
-#include <stdio.h>
+#include <stdint.h>
 #include <stdlib.h>
 #include <string.h>
 #include <sys/socket.h>
@@ -13,47 +13,89 @@
 #include <sys/un.h>
 #include <unistd.h>
 
+#include "lock.h"
+#include "process.h"
+
 /* The connection's number is at least this, out of the way of numbers that programs count on. */
 #define LEAST_NUMBER 700
 
-/* All of this is used by whoever has the turn. System calls are made directly: none of them may be a point at which a
- * thread is cancelled, or end in a function that this library takes over. */
-static pthread_mutex_t turn = PTHREAD_MUTEX_INITIALIZER;
-static int connection = -1;
-static ino_t connection_ino; /* so that it is known again where the program has closed it and opened another file */
-static pid_t connection_owner;
-static bool broker_gone;
+/* System calls are made directly here: none of them may be a point at which a thread is cancelled, or end in a function
+ * that this library takes over. */
+
+/* The socket that was connected, so that it is known again where the program has closed its number and opened another
+ * file by it. Used by whoever holds the lock of the process. In a child that has memory of its own it is the parent's
+ * until the child asks. */
+static struct {
+    int number;
+    dev_t device;
+    ino_t ino;
+} connection = {.number = -1};
+
+/* One question, and where its answer goes. */
+struct exchange {
+    const struct question *question;
+    const void *sent;
+    struct answer *answer;
+    void *got;
+    size_t room;
+    int file; /* that came, or -1 */
+    bool cloexec;
+};
+
+/* The broker's folder: a copy, as programs write over their environment. */
+static char home[sizeof((struct sockaddr_un *)0)->sun_path - sizeof "/" WIRE_SOCKET];
+static bool has_home, has_looked;
+
+/* Whoever looks at once with another one writes the same bytes. */
+static void find_home(void) {
+    const char *found = getenv(WIRE_VARIABLE);
+    if (found && *found == '/' && strlen(found) < sizeof home) {
+        strcpy(home, found);
+        __atomic_store_n(&has_home, true, __ATOMIC_RELAXED);
+    }
+    __atomic_store_n(&has_looked, true, __ATOMIC_RELEASE);
+}
 
 const char *ask_home(void) {
-    static const char *home;
-    static bool looked;
-    if (!__atomic_load_n(&looked, __ATOMIC_ACQUIRE)) {
-        const char *found = getenv(WIRE_VARIABLE);
-        __atomic_store_n(&home, found && *found == '/' ? found : NULL, __ATOMIC_RELAXED);
-        __atomic_store_n(&looked, true, __ATOMIC_RELEASE);
-    }
-    return __atomic_load_n(&home, __ATOMIC_RELAXED);
+    if (!__atomic_load_n(&has_looked, __ATOMIC_ACQUIRE))
+        find_home();
+    return __atomic_load_n(&has_home, __ATOMIC_RELAXED) ? home : NULL;
 }
 
-static void before_fork(void) {
-    pthread_mutex_lock(&turn);
+static bool is_connection(void) {
+    struct stat status;
+    return connection.number >= 0 && syscall(SYS_newfstatat, connection.number, "", &status, AT_EMPTY_PATH) == 0 &&
+           status.st_ino == connection.ino && status.st_dev == connection.device;
 }
 
-static void after_fork(void) {
-    pthread_mutex_unlock(&turn);
+static void lose_connection(void) {
+    if (is_connection())
+        syscall(SYS_close, connection.number);
+    connection.number = -1;
+}
+
+/* Makes this process the owner, and closes its copy of its parent's connection. */
+static void become_owner(struct process *process) {
+    if (__atomic_load_n(&process->owner, __ATOMIC_RELAXED) != 0)
+        return;
+    lose_connection();
+    __atomic_store_n(&process->owner, getpid(), __ATOMIC_RELEASE);
+}
+
+/* (no lock: a child that fork has made has one thread, and its lock is free) */
+static void in_child(void) {
+    struct process *process = process_own();
+    int kept = errno;
+    if (process)
+        become_owner(process);
+    errno = kept;
 }
 
 __attribute__((constructor)) static void at_start(void) {
-    ask_home();
-    pthread_atfork(before_fork, after_fork, after_fork);
-}
-
-static bool ino_of(int file, ino_t *ino) {
-    struct stat status;
-    if (syscall(SYS_newfstatat, file, "", &status, AT_EMPTY_PATH))
-        return false;
-    *ino = status.st_ino;
-    return true;
+    if (!ask_home())
+        return;
+    in_child();
+    pthread_atfork(NULL, NULL, in_child);
 }
 
 /* Moves a file to a high number, where there is one. */
@@ -65,50 +107,51 @@ static int move_high(int file) {
     return high;
 }
 
-static bool connect_anew(void) {
+/* Connects: a new file, or -1; `*gone` where nobody listens. */
+static int connect_socket(bool *gone) {
     struct sockaddr_un address = {.sun_family = AF_UNIX};
-    int length = snprintf(address.sun_path, sizeof address.sun_path, "%s/" WIRE_SOCKET, ask_home());
-    if (length < 0 || (size_t)length >= sizeof address.sun_path)
-        return false;
+    size_t length = strlen(home);
+    memcpy(address.sun_path, home, length);
+    memcpy(address.sun_path + length, "/" WIRE_SOCKET, sizeof "/" WIRE_SOCKET);
     int file = (int)syscall(SYS_socket, AF_UNIX, SOCK_SEQPACKET | SOCK_CLOEXEC, 0);
     if (file < 0)
-        return false;
+        return -1;
     if (syscall(SYS_connect, file, &address, sizeof address)) {
-        broker_gone = errno == ENOENT || errno == ECONNREFUSED;
+        *gone = errno == ENOENT || errno == ECONNREFUSED;
+        syscall(SYS_close, file);
+        return -1;
+    }
+    return file;
+}
+
+/* Sees to it that there is a connection. */
+static bool is_connected(struct process *process) {
+    struct stat status;
+    if (is_connection())
+        return true;
+    connection.number = -1;
+    int file = process->broker_gone ? -1 : connect_socket(&process->broker_gone);
+    if (file < 0)
+        return false;
+    file = move_high(file);
+    if (syscall(SYS_newfstatat, file, "", &status, AT_EMPTY_PATH)) {
         syscall(SYS_close, file);
         return false;
     }
-    connection = move_high(file);
-    connection_owner = getpid();
-    return ino_of(connection, &connection_ino);
+    connection.device = status.st_dev;
+    connection.ino = status.st_ino;
+    connection.number = file;
+    return true;
 }
 
-/* Each process has a connection of its own. */
-static bool is_connected(void) {
-    ino_t ino;
-    bool same = connection >= 0 && ino_of(connection, &ino) && ino == connection_ino;
-    if (same && connection_owner == getpid())
-        return true;
-    if (same)
-        syscall(SYS_close, connection);
-    connection = -1;
-    return !broker_gone && ask_home() && connect_anew();
-}
-
-static void lose_connection(void) {
-    syscall(SYS_close, connection);
-    connection = -1;
-}
-
-static int send_question(const struct question *question, const void *sent) {
-    struct iovec parts[] = {{(void *)question, sizeof *question}, {(void *)sent, question->length}};
-    struct msghdr message = {.msg_iov = parts, .msg_iovlen = question->length > 0 ? 2 : 1};
-    if (syscall(SYS_sendmsg, connection, &message, MSG_NOSIGNAL) >= 0)
+/* The error's number: EFAULT, or ENODEV where the connection is of no more use; else 0. */
+static int send_question(int socket, const struct exchange *exchange) {
+    size_t length = exchange->question->length;
+    struct iovec parts[] = {{(void *)exchange->question, sizeof *exchange->question}, {(void *)exchange->sent, length}};
+    struct msghdr message = {.msg_iov = parts, .msg_iovlen = length > 0 ? 2 : 1};
+    if (syscall(SYS_sendmsg, socket, &message, MSG_NOSIGNAL) >= 0)
         return 0;
-    if (errno == EFAULT)
-        return EFAULT;
-    lose_connection();
-    return ENODEV;
+    return errno == EFAULT ? EFAULT : ENODEV;
 }
 
 /* Takes the file that came with a message; -1 where none did. */
@@ -121,48 +164,74 @@ static int file_of(struct msghdr *message) {
     return file;
 }
 
-static int receive_answer(struct answer *answer, void *got, size_t room, int *file, bool cloexec) {
+/* The same of the answer; EMFILE where a file came for which this process has no number left. */
+static int receive_answer(int socket, struct exchange *exchange) {
     union {
         char bytes[CMSG_SPACE(sizeof(int))];
         struct cmsghdr aligned;
     } control;
-    struct iovec parts[] = {{answer, sizeof *answer}, {got, room}};
+    struct iovec parts[] = {{exchange->answer, sizeof *exchange->answer}, {exchange->got, exchange->room}};
     struct msghdr message = {.msg_iov = parts,
-        .msg_iovlen = room > 0 ? 2 : 1,
+        .msg_iovlen = exchange->room > 0 ? 2 : 1,
         .msg_control = control.bytes,
         .msg_controllen = sizeof control.bytes};
     long length;
     do
-        length = syscall(SYS_recvmsg, connection, &message, cloexec ? MSG_CMSG_CLOEXEC : 0);
+        length = syscall(SYS_recvmsg, socket, &message, exchange->cloexec ? MSG_CMSG_CLOEXEC : 0);
     while (length < 0 && errno == EINTR);
     if (length < 0 && errno == EFAULT)
         return EFAULT;
-    if (length < (long)sizeof *answer) {
-        lose_connection();
+    if (length < (long)sizeof *exchange->answer)
         return ENODEV;
-    }
-    *file = file_of(&message);
-    return 0;
+    exchange->file = file_of(&message);
+    return message.msg_flags & MSG_CTRUNC ? EMFILE : 0;
+}
+
+static int ask_over(int socket, struct exchange *exchange) {
+    int error = send_question(socket, exchange);
+    return error ? error : receive_answer(socket, exchange);
+}
+
+static int ask_as(struct process *process, struct exchange *exchange) {
+    int error = ENODEV;
+    lock_take(&process->lock);
+    become_owner(process);
+    if (is_connected(process))
+        error = ask_over(connection.number, exchange);
+    if (error == ENODEV)
+        lose_connection();
+    lock_release(&process->lock);
+    return error;
+}
+
+/* Asks over a connection that is made for this alone. */
+static int ask_once(struct exchange *exchange) {
+    bool gone = false;
+    int socket = connect_socket(&gone);
+    if (socket < 0)
+        return ENODEV;
+    int error = ask_over(socket, exchange);
+    syscall(SYS_close, socket);
+    return error;
 }
 
 int ask(const struct question *question, const void *sent, struct answer *answer, void *got, size_t room, int *file,
     bool cloexec) {
-    int kept = errno, error = ENODEV, came = -1;
-    sigset_t all, before;
-    sigfillset(&all);
-    pthread_sigmask(SIG_BLOCK, &all, &before);
-    pthread_mutex_lock(&turn);
-    if (is_connected()) {
-        error = send_question(question, sent);
-        if (error == 0)
-            error = receive_answer(answer, got, room, &came, cloexec);
+    const uint64_t all = UINT64_MAX; /* (those too that the C library keeps for itself) */
+    uint64_t before;
+    struct exchange exchange = {question, sent, answer, got, room, -1, cloexec};
+    int kept = errno, error = ENODEV;
+    if (!ask_home())
+        return ENODEV;
+    if (syscall(SYS_rt_sigprocmask, SIG_SETMASK, &all, &before, sizeof all) == 0) {
+        struct process *process = process_own();
+        error = process ? ask_as(process, &exchange) : ask_once(&exchange);
+        syscall(SYS_rt_sigprocmask, SIG_SETMASK, &before, NULL, sizeof before);
     }
-    pthread_mutex_unlock(&turn);
-    pthread_sigmask(SIG_SETMASK, &before, NULL);
     if (file)
-        *file = came;
-    else if (came >= 0)
-        syscall(SYS_close, came);
+        *file = exchange.file;
+    else if (exchange.file >= 0)
+        syscall(SYS_close, exchange.file);
     errno = kept;
     return error;
 }

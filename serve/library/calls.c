@@ -43,6 +43,8 @@ static int command(const struct known *known, uint32_t number, void *structure) 
         return 1;
     if (answer.error)
         return fail(answer.error);
+    if (answer.fd_at > 0 && made < 0)
+        return fail(ENODEV);
     if (made >= 0)
         give_number(made, &answer, length, structure);
     return 0;

@@ -2,8 +2,10 @@
 
 #include <errno.h>
 #include <fcntl.h>
+#include <linux/magic.h>
 #include <stdint.h>
 #include <sys/stat.h>
+#include <sys/statfs.h>
 #include <sys/syscall.h>
 #include <unistd.h>
 
@@ -38,11 +40,25 @@ static unsigned ask_for(ino_t ino) {
     return what;
 }
 
+/* Whether a FIFO stands where pipes do, and not in a file system by a name: its number says nothing then. All pipes
+ * have one device number, which is kept once it is known. */
+static bool is_unnamed(int file, dev_t device) {
+    static dev_t of_pipes;
+    struct statfs system;
+    if (device == __atomic_load_n(&of_pipes, __ATOMIC_RELAXED))
+        return true;
+    if (syscall(SYS_fstatfs, file, &system) || system.f_type != PIPEFS_MAGIC)
+        return false;
+    __atomic_store_n(&of_pipes, device, __ATOMIC_RELAXED);
+    return true;
+}
+
 /* The number of the pipe that a file is; 0 where it is none. */
 static ino_t pipe_of(int file) {
     struct stat status;
     int kept = errno;
-    bool is_pipe = syscall(SYS_newfstatat, file, "", &status, AT_EMPTY_PATH) == 0 && S_ISFIFO(status.st_mode);
+    bool is_pipe = syscall(SYS_newfstatat, file, "", &status, AT_EMPTY_PATH) == 0 && S_ISFIFO(status.st_mode) &&
+                   is_unnamed(file, status.st_dev);
     errno = kept;
     return is_pipe ? status.st_ino : 0;
 }

@@ -20,7 +20,7 @@ static int open_chip(int chip, int flags) {
     if (error == 0)
         error = answer.error;
     if (error == 0 && file < 0)
-        error = EMFILE; /* there was no number left to receive it by */
+        error = ENODEV;
     if (error) {
         errno = error;
         return -1;

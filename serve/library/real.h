@@ -2,22 +2,21 @@
 #ifndef REAL_H
 #define REAL_H
 
-#include <dlfcn.h>
-
 /* Marks a function that takes the place of the C library's. */
 #define TAKES_OVER __attribute__((visibility("default")))
 
-/* The function of that name that comes after this library's. The symbol is looked up at the first call; threads that do
- * so at once come to the same. */
-#define REAL(name)                                                                                                     \
-    __extension__({                                                                                                    \
-        static __typeof__(&(name)) real_##name;                                                                        \
-        __typeof__(&(name)) found_##name = __atomic_load_n(&real_##name, __ATOMIC_ACQUIRE);                            \
-        if (!found_##name) {                                                                                           \
-            found_##name = (__typeof__(&(name)))dlsym(RTLD_NEXT, #name);                                               \
-            __atomic_store_n(&real_##name, found_##name, __ATOMIC_RELEASE);                                            \
-        }                                                                                                              \
-        found_##name;                                                                                                  \
-    })
+/* All functions that REAL may name. */
+#define REAL_NAMES(each)                                                                                               \
+    each(openat) each(fopen) each(fopen64) each(ioctl) each(poll) each(ppoll) each(read) each(readv) each(access)      \
+        each(faccessat) each(euidaccess) each(eaccess) each(getxattr) each(lgetxattr) each(listxattr) each(llistxattr) \
+            each(realpath) each(opendir) each(scandir) each(scandir64) each(readdir) each(glob)
+
+#define REAL_NUMBER(name) REAL_##name,
+enum real_number { REAL_NAMES(REAL_NUMBER) REAL_COUNT };
+
+/* The function of that name that comes after this library's. All are looked up when the library is loaded, so that a
+ * call in a signal handler, or in a child that was made beside threads, waits for no lock of the dynamic linker. */
+#define REAL(name) ((__typeof__(&(name)))real_function(REAL_##name))
+void *real_function(enum real_number number);
 
 #endif

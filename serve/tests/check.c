@@ -3,6 +3,7 @@
 #include <errno.h>
 #include <fcntl.h>
 #include <poll.h>
+#include <signal.h>
 #include <stdarg.h>
 #include <stdio.h>
 #include <string.h>
@@ -161,4 +162,17 @@ pid_t run_child(int (*work)(int), int argument) {
 int end_of(pid_t child) {
     int status;
     return waitpid(child, &status, 0) == child && WIFEXITED(status) ? WEXITSTATUS(status) : -1;
+}
+
+int end_within(pid_t child, unsigned seconds) {
+    int status;
+    for (unsigned turn = 0; turn < 100 * seconds; turn++) {
+        pid_t ended = waitpid(child, &status, WNOHANG);
+        if (ended != 0)
+            return ended == child && WIFEXITED(status) ? WEXITSTATUS(status) : -1;
+        pause_for(10);
+    }
+    kill(child, SIGKILL);
+    end_of(child);
+    return -1;
 }

@@ -56,6 +56,8 @@ void pause_for(unsigned milliseconds);
 pid_t run_child(int (*work)(int), int argument);
 /* Waits for a child: its status, or -1. */
 int end_of(pid_t child);
+/* The same within so many seconds, after which the child is killed. */
+int end_within(pid_t child, unsigned seconds);
 
 /* The groups of tests. */
 void test_files(void);
@@ -71,6 +73,7 @@ void test_waits(void);
 void test_waits_for_chips(void);
 /* Of which no short transcript can be kept. */
 void test_killed_midway(void);
+void test_forks(void);
 /* With the clock moved by statements. */
 void test_manual(void);
 /* With few numbers of files. */

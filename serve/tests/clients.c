@@ -8,7 +8,8 @@
 static const struct {
     const char *argument;
     void (*run)(void);
-} alone[] = {{"--manual", test_manual}, {"--killed", test_killed_midway}, {"--crowd", test_crowd}};
+} alone[] = {
+    {"--manual", test_manual}, {"--killed", test_killed_midway}, {"--forks", test_forks}, {"--crowd", test_crowd}};
 
 int main(int count, char **arguments) {
     const char *argument = count > 1 ? arguments[1] : "";

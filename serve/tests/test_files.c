@@ -8,6 +8,7 @@
 #include <stdlib.h>
 #include <string.h>
 #include <sys/ioctl.h>
+#include <sys/resource.h>
 #include <sys/stat.h>
 #include <sys/sysmacros.h>
 #include <sys/xattr.h>
@@ -145,6 +146,36 @@ static void test_refusals(void) {
     close(chip);
 }
 
+/* Asks for a line by each command that makes a file, where the table of files is full. */
+static int ask_without_number(int chip) {
+    const struct rlimit few = {64, 64};
+    struct gpiochip_info info;
+    struct gpio_v2_line_request lines = {
+        .offsets = {6}, .num_lines = 1, .config.flags = GPIO_V2_LINE_FLAG_INPUT, .fd = 4711};
+    struct gpiohandle_request handle = {.lineoffsets = {6}, .lines = 1, .flags = GPIOHANDLE_REQUEST_INPUT, .fd = 4711};
+    struct gpioevent_request event = {.lineoffset = 6, .handleflags = GPIOHANDLE_REQUEST_INPUT, .fd = 4711};
+    event.eventflags = GPIOEVENT_REQUEST_BOTH_EDGES;
+    if (setrlimit(RLIMIT_NOFILE, &few) || ioctl(chip, GPIO_GET_CHIPINFO_IOCTL, &info))
+        return 1;
+    while (dup(chip) >= 0)
+        continue;
+    const bool refused = ioctl(chip, GPIO_V2_GET_LINE_IOCTL, &lines) == -1 && errno == EMFILE &&
+                         ioctl(chip, GPIO_GET_LINEHANDLE_IOCTL, &handle) == -1 && errno == EMFILE &&
+                         ioctl(chip, GPIO_GET_LINEEVENT_IOCTL, &event) == -1 && errno == EMFILE && open_chip(0) == -1 &&
+                         errno == EMFILE;
+    return !(refused && lines.fd == 4711 && handle.fd == 4711 && event.fd == 4711);
+}
+
+static void test_full_table(void) {
+    int chip = open_chip(0);
+    test("a request for which a program has no number left is EMFILE, and takes no line");
+    CHECK(end_of(run_child(ask_without_number, chip)) == 0);
+    int held = request(6, GPIO_V2_LINE_FLAG_INPUT);
+    CHECK(held >= 0);
+    close(held);
+    close(chip);
+}
+
 void test_files(void) {
     test_status();
     test_folders();
@@ -154,4 +185,5 @@ void test_files(void) {
     test_flags();
     test_info();
     test_refusals();
+    test_full_table();
 }

@@ -5,10 +5,11 @@
 
 #include "../broker/items.h"
 #include "../broker/pieces.h"
+#include "units.h"
 
 static unsigned passed, failed;
 
-static void count(int good, const char *name) {
+void count(int good, const char *name) {
     printf("%s %s\n", good ? "ok" : "FAILED", name);
     *(good ? &passed : &failed) += 1;
 }
@@ -107,6 +108,7 @@ int main(void) {
     test_refused();
     test_round_trip();
     test_items();
+    test_known();
     printf("%u passed, %u failed\n", passed, failed);
     return failed != 0;
 }
