@@ -4,7 +4,7 @@ static const struct uapi_command commands[] = {
     {0x8044b401, 68, "GET_CHIPINFO", .of_chip = true, .gives = true},
     {0xc100b405, 256, "GET_LINEINFO", .of_chip = true, .gives = true},
     {0xc100b406, 256, "WATCH", .of_chip = true, .gives = true, .effect = UAPI_WATCHES},
-    {0xc004b40c, 4, "UNWATCH", .of_chip = true},
+    {0xc004b40c, 4, "UNWATCH", .of_chip = true, .effect = UAPI_UNWATCHES},
     {0xc250b407, 592, "GET_LINE", .of_chip = true, .effect = UAPI_REQUESTS, .makes = FILE_LINES, .fd_at = 588,
         .consumer_at = 256},
     {0xc110b40d, 272, "SET_CONFIG", .effect = UAPI_CHANGES},
@@ -49,15 +49,42 @@ uint64_t uapi_u64(const unsigned char *bytes, size_t at) {
     return uapi_u32(bytes, at) | (uint64_t)uapi_u32(bytes, at + 4) << 32;
 }
 
-/* Flags stand at the configuration's start, and in attributes of 24 bytes with the id 1. */
-bool uapi_wants_edges(const unsigned char *config) {
-    const uint64_t edges = 1 << 4 | 1 << 5;
-    size_t count = uapi_u32(config, 8);
-    bool wants = uapi_u64(config, 0) & edges;
-    for (size_t i = 0; i < count && i < UAPI_ATTRIBUTES; i++) {
-        const unsigned char *attribute = config + 32 + 24 * i;
-        wants = wants || (uapi_u32(attribute, 0) == 1 && uapi_u64(attribute, 8) & edges);
+/* Where a configuration has its flags, the count of its attributes, and these; and what an attribute has where. */
+#define CONFIG_FLAGS 0
+#define CONFIG_COUNT 8
+#define CONFIG_ATTRIBUTES 32
+#define ATTRIBUTE_LENGTH 24
+#define ATTRIBUTE_ID 0
+#define ATTRIBUTE_VALUE 8
+/* The ids of an attribute, and the flags of both edges. */
+#define ID_FLAGS 1
+#define ID_DEBOUNCE 3
+#define FLAGS_EDGES (1 << 4 | 1 << 5)
+
+/* The next attribute with that id, from the one of that number on, which is moved past it; NULL where there is none. */
+static const unsigned char *next_attribute(const unsigned char *config, uint32_t id, size_t *number) {
+    size_t count = uapi_u32(config, CONFIG_COUNT);
+    while (*number < count && *number < UAPI_ATTRIBUTES) {
+        const unsigned char *attribute = config + CONFIG_ATTRIBUTES + ATTRIBUTE_LENGTH * (*number)++;
+        if (uapi_u32(attribute, ATTRIBUTE_ID) == id)
+            return attribute;
     }
+    return NULL;
+}
+
+bool uapi_wants_edges(const unsigned char *config) {
+    const unsigned char *attribute;
+    bool wants = uapi_u64(config, CONFIG_FLAGS) & FLAGS_EDGES;
+    for (size_t at = 0; (attribute = next_attribute(config, ID_FLAGS, &at));)
+        wants = wants || (uapi_u64(attribute, ATTRIBUTE_VALUE) & FLAGS_EDGES);
+    return wants;
+}
+
+bool uapi_wants_debounce(const unsigned char *config) {
+    const unsigned char *attribute;
+    bool wants = false;
+    for (size_t at = 0; (attribute = next_attribute(config, ID_DEBOUNCE, &at));)
+        wants = wants || uapi_u32(attribute, ATTRIBUTE_VALUE) > 0;
     return wants;
 }
 

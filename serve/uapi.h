@@ -10,8 +10,9 @@
 #define UAPI_TYPE(number) ((number) >> 8 & 0xff)
 #define UAPI_GPIO 0xb4
 
-/* Lines of one request, at most. */
+/* Lines of one request, at most, and of one chip. */
 #define UAPI_LINES 64
+#define UAPI_CHIP_LINES 512
 /* Attributes of one configuration, at most. */
 #define UAPI_ATTRIBUTES 10
 /* Bytes of a name or a consumer. */
@@ -27,11 +28,12 @@ enum file_kind { FILE_CHIP, FILE_LINES, FILE_HANDLE1, FILE_EVENT1 };
 
 /* What a command may bring about besides its answer. */
 enum uapi_effect {
-    UAPI_ASKS,     /* nothing */
-    UAPI_SETS,     /* other levels */
-    UAPI_WATCHES,  /* later changes of a line, to be read */
-    UAPI_REQUESTS, /* a file of its own, and changes for those who watch */
-    UAPI_CHANGES   /* changes for those who watch */
+    UAPI_ASKS,      /* nothing */
+    UAPI_SETS,      /* other levels */
+    UAPI_WATCHES,   /* later changes of a line, to be read */
+    UAPI_UNWATCHES, /* no such changes any more */
+    UAPI_REQUESTS,  /* a file of its own, and changes for those who watch */
+    UAPI_CHANGES    /* changes for those who watch */
 };
 
 struct uapi_command {
@@ -57,8 +59,9 @@ size_t uapi_length(uint32_t number);
 uint32_t uapi_u32(const unsigned char *bytes, size_t at);
 uint64_t uapi_u64(const unsigned char *bytes, size_t at);
 
-/* Whether a line configuration of 272 bytes asks for edges of any line. */
+/* Whether a line configuration of 272 bytes asks for edges of any line, and for a debounce period. */
 bool uapi_wants_edges(const unsigned char *config);
+bool uapi_wants_debounce(const unsigned char *config);
 
 /* The lines that a request's structure asks for: how many, and their offsets. */
 size_t uapi_lines(const struct uapi_command *command, const unsigned char *bytes, uint32_t *offsets);

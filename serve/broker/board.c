@@ -11,6 +11,7 @@
 #include "report.h"
 #include "room.h"
 #include "statement.h"
+#include "turn.h"
 
 /* The file is read in pieces of at least so many bytes, and has at most so many. */
 #define LEAST_READ 4096
@@ -172,5 +173,5 @@ void board_free(struct board *board) {
 }
 
 bool board_hand_in(struct broker *broker, const struct board *board) {
-    return begin(broker) && hand_in_all(broker, board) && turn_settle(broker, TURN_CHIPS);
+    return begin(broker) && hand_in_all(broker, board) && turn_settle(broker, true);
 }

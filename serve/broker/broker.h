@@ -15,6 +15,19 @@
 #include "waits.h"
 #include "waves.h"
 
+/* Files whose state is asked for in one write: with the clock, a statement and the deadline. */
+#define LOOKS_MOST (MACHINE_WAITING - 3)
+
+/* What was asked for behind a statement, in the same write, and isn't taken yet. */
+struct looks {
+    struct {
+        struct file *file;
+        enum file_look look;
+    } asked[LOOKS_MOST];
+    size_t count; /* of states of files */
+    bool due;     /* the next deadline as well */
+};
+
 struct broker {
     struct signals signals;
     struct patience patience; /* for the served program, and for those who read what is written */
@@ -25,13 +38,14 @@ struct broker {
     struct clients clients;
     struct counts counts;
     struct waves waves;
-    int poller;   /* what the loop waits on: all except files, and `ends` */
-    int ends;     /* shows the files that no client has any more */
-    bool manual;  /* the clock is moved by statements alone */
-    uint64_t now; /* the machine's monotonic clock, as it was last set */
-    bool has_due; /* a deadline is set in the machine, */
-    uint64_t due; /* at this time of that clock */
-    bool was_due; /* it has passed since the files were last looked at */
+    int poller;    /* what the loop waits on: all except files, and `ends` */
+    int ends;      /* shows the files that no client has any more */
+    bool manual;   /* the clock is moved by statements alone */
+    uint64_t now;  /* the machine's monotonic clock, as it was last set */
+    bool has_due;  /* a deadline is set in the machine, */
+    uint64_t due;  /* at this time of that clock */
+    bool asks_due; /* the deadline may be another one by now */
+    struct looks looks;
     struct packet packet;
 };
 

@@ -99,8 +99,15 @@ static void close_end(struct files *files, struct file *file) {
     files->open--;
 }
 
+static void forget_look(struct files *files, struct file *file) {
+    if (file->look != LOOK_NONE)
+        files->touched--;
+    file->look = LOOK_NONE;
+}
+
 void files_drop(struct files *files, struct file *file) {
     struct file **at = &files->first;
+    forget_look(files, file);
     while (*at && *at != file)
         at = &(*at)->next;
     if (*at)
@@ -113,8 +120,33 @@ void files_hang_up(struct files *files, struct file *file) {
     if (files_is_gone(file))
         return;
     files_show(file, false, false);
+    forget_look(files, file);
     close_end(files, file);
     file->awaits = false;
+}
+
+void files_watch(struct file *file, uint32_t line, bool watched) {
+    if (line >= UAPI_CHIP_LINES)
+        return;
+    if (watched)
+        file->watched[line / 64] |= UINT64_C(1) << line % 64;
+    else
+        file->watched[line / 64] &= ~(UINT64_C(1) << line % 64);
+}
+
+bool files_is_watched(const struct file *file, uint32_t line) {
+    return line < UAPI_CHIP_LINES && (file->watched[line / 64] >> line % 64 & 1);
+}
+
+struct file *files_next_touched(struct files *files, enum file_look *look) {
+    struct file *file = files->touched > 0 ? files->first : NULL;
+    while (file && file->look == LOOK_NONE)
+        file = file->next;
+    if (!file)
+        return NULL;
+    *look = file->look;
+    forget_look(files, file);
+    return file;
 }
 
 static int marks_of(const struct file *file) {

@@ -15,6 +15,13 @@
 #include "record.h"
 #include "watch.h"
 
+/* Whether a file has to be looked at, and what that is to do. */
+enum file_look {
+    LOOK_NONE,
+    LOOK_TAKES, /* after a read: takes the bytes out where nothing is left */
+    LOOK_WAKES  /* after something may have come: wakes an edge-triggered reader too */
+};
+
 struct file {
     struct watch watch; /* of the writing end; its number is -1 once the chip is gone */
     struct file *next;
@@ -22,17 +29,21 @@ struct file {
     uint64_t ino;
     enum file_kind kind;
     unsigned chip;
-    bool awaits; /* something may come to be read: edges, or a watch */
+    bool awaits;    /* something may come to be read: edges, or a watch */
+    bool debounces; /* and that when a deadline passes */
+    enum file_look look;
     char name[16];
     size_t line_count; /* of a request */
     uint32_t lines[UAPI_LINES];
     char consumer[CONSUMER_ROOM];
+    uint64_t watched[UAPI_CHIP_LINES / 64]; /* of a chip's file: a bit for each line */
 };
 
 struct files {
     struct file *first;
     unsigned made; /* the number of the last name */
     size_t open;
+    size_t touched; /* files that have to be looked at */
 };
 
 /* Makes a file. `reader` gets the reading end, which the caller owns. NULL, with errno, where there is no pipe for it.
@@ -51,6 +62,13 @@ void files_drop(struct files *files, struct file *file);
 /* Shows its readers that the chip is gone. The file stays, so that its questions are answered. */
 void files_hang_up(struct files *files, struct file *file);
 bool files_is_gone(const struct file *file);
+
+/* Begins or ends the watch of a line by a chip's file. */
+void files_watch(struct file *file, uint32_t line, bool watched);
+bool files_is_watched(const struct file *file, uint32_t line);
+
+/* The next file that has to be looked at, and for what; from now on it hasn't. NULL where there is none. */
+struct file *files_next_touched(struct files *files, enum file_look *look);
 
 /* Shows its readers that there is something to read, or that there is nothing. `again`: more may have come since the
  * last time, which an edge-triggered reader has to see. */

@@ -10,6 +10,7 @@
 #include "items.h"
 #include "pieces.h"
 #include "statement.h"
+#include "touch.h"
 #include "turn.h"
 
 /* The most bytes that a statement gives to a command, and that `events` and `changes` read. */
@@ -57,7 +58,7 @@ static bool answer_open(struct broker *broker, struct client *client) {
         files_drop(&broker->files, file);
     else
         broker->counts.opened[chip]++;
-    alive = alive && turn_settle(broker, TURN_NOTHING);
+    alive = alive && turn_settle(broker, false);
     clients_reply(client, &answer, NULL, answer.error ? -1 : reader);
     close(reader);
     return alive;
@@ -86,13 +87,13 @@ static size_t write_ioctl(char *line, const struct file *file, const struct uapi
     return length;
 }
 
-/* Marks the lines whose level or holder a command may change. */
-static void touch_lines(struct broker *broker, const struct file *file, const struct uapi_command *command) {
+/* Before a command is said: marks the lines whose level or holder it may change, and what it can bring about. */
+static void expect(struct broker *broker, const struct file *file, const struct uapi_command *command) {
     const struct packet *packet = &broker->packet;
     uint32_t asked[UAPI_LINES];
     size_t count = file->line_count;
     const uint32_t *lines = file->lines;
-    if (!broker->waves.dump.file || packet->question.length < command->length)
+    if (packet->question.length < command->length)
         return;
     if (command->effect == UAPI_REQUESTS) {
         count = uapi_lines(command, packet->data, asked);
@@ -102,25 +103,44 @@ static void touch_lines(struct broker *broker, const struct file *file, const st
     }
     for (size_t i = 0; i < count; i++)
         waves_touch(&broker->waves, &broker->machine, broker->now, file->chip, lines[i]);
+    if (command->effect != UAPI_SETS)
+        turn_requests(broker, file->chip, lines, count);
 }
 
-/* Keeps what a command that was done has changed of its files. What it may have brought about. */
-static enum turn_effect take_effect(
+/* Where a request of lines has its configuration, and the information on a line its number. */
+#define CONFIG_AT 288
+#define INFO_LINE_AT 64
+
+/* What comes to be read from a file of that configuration on. */
+static void take_config(struct file *file, const unsigned char *config) {
+    file->awaits = file->awaits || uapi_wants_edges(config);
+    file->debounces = file->debounces || uapi_wants_debounce(config);
+}
+
+/* Keeps what a command that was done has changed of its files. */
+static void take_effect(
     struct file *file, struct file *made, const struct uapi_command *command, const struct packet *packet) {
     switch (command->effect) {
     case UAPI_WATCHES:
         file->awaits = true;
-        return TURN_NOTHING;
+        files_watch(file, uapi_u32(packet->data, INFO_LINE_AT), true);
+        break;
+    case UAPI_UNWATCHES:
+        files_watch(file, uapi_u32(packet->data, 0), false);
+        break;
     case UAPI_REQUESTS:
         made->line_count = uapi_lines(command, packet->data, made->lines);
         consumer_write(made->consumer, packet->data + command->consumer_at);
-        made->awaits = made->kind == FILE_EVENT1 || (made->kind == FILE_LINES && uapi_wants_edges(packet->data + 288));
-        return TURN_EVENTS;
+        made->awaits = made->kind == FILE_EVENT1;
+        if (made->kind == FILE_LINES)
+            take_config(made, packet->data + CONFIG_AT);
+        break;
     case UAPI_CHANGES:
-        file->awaits = file->awaits || (file->kind == FILE_LINES && uapi_wants_edges(packet->data));
-        return TURN_EVENTS;
+        if (file->kind == FILE_LINES)
+            take_config(file, packet->data);
+        break;
     default:
-        return TURN_NOTHING;
+        break;
     }
 }
 
@@ -130,7 +150,6 @@ static bool finish_ioctl(struct broker *broker, struct client *client, struct fi
     const struct uapi_command *command) {
     unsigned char bytes[MOST_BYTES];
     struct answer answer = {.error = machine_error(&broker->machine)};
-    enum turn_effect effect = TURN_NOTHING;
     bool done = answer.error == 0 && command && broker->packet.question.length >= command->length;
     if (done && command->gives) {
         if (pieces_read(broker->machine.text, bytes, command->length) == (long)command->length)
@@ -139,12 +158,12 @@ static bool finish_ioctl(struct broker *broker, struct client *client, struct fi
             answer.error = EIO;
     }
     if (done)
-        effect = take_effect(file, made, command, &broker->packet);
+        take_effect(file, made, command, &broker->packet);
     if (made && done)
         answer.fd_at = command->fd_at;
     else if (made)
         files_drop(&broker->files, made);
-    bool alive = turn_settle(broker, effect);
+    bool alive = turn_settle(broker, false);
     clients_reply(client, &answer, bytes, made && done ? reader : -1);
     return alive;
 }
@@ -162,7 +181,7 @@ static bool answer_ioctl(struct broker *broker, struct client *client, struct fi
         }
     }
     if (command)
-        touch_lines(broker, file, command);
+        expect(broker, file, command);
     size_t length = write_ioctl(line, file, command, &broker->packet, made);
     bool alive = turn_say(broker, line, length, true) && finish_ioctl(broker, client, file, made, reader, command);
     if (reader >= 0)
@@ -243,18 +262,14 @@ static bool answer_read(struct broker *broker, struct client *client, struct fil
     struct answer answer = {0};
     if (room > most)
         room = most;
+    touch_read(&broker->files, file);
     if (file->kind == FILE_CHIP || file->kind == FILE_LINES)
         answer.error = read_data(broker, file, word, room, bytes, &answer.length);
     else
         answer.error = read_events1(broker, file, word, room, bytes, &answer.length);
     count_events(&broker->counts, file, bytes, answer.length);
     bool alive = !broker->machine.ended;
-    if (alive && files_shows(file)) {
-        machine_putf(&broker->machine, "poll %s", file->name);
-        alive = machine_take(&broker->machine);
-        files_show(file, alive && broker->machine.text[0] == 'I', false);
-    }
-    alive = alive && turn_settle(broker, TURN_NOTHING);
+    alive = alive && turn_settle(broker, false);
     clients_reply(client, &answer, bytes, -1);
     return alive;
 }
@@ -275,6 +290,10 @@ static bool answer_say(struct broker *broker, struct client *client) {
         waves_touch(&broker->waves, &broker->machine, broker->now, statement.chip, statement.offset);
     if (statement.tool)
         waves_touch_all(&broker->waves);
+    if (statement.pulls)
+        turn_pulls(broker, statement.chip, statement.offset);
+    else if (statement.effect == STATEMENT_ACTS)
+        turn_does_any(broker);
     if (!turn_say(broker, line, length, statement.kept))
         return false;
     /* (what follows the statement takes the place of its text) */
@@ -284,7 +303,7 @@ static bool answer_say(struct broker *broker, struct client *client) {
     char *text = strdup(broker->machine.text);
     if (statement.clock && answer.error == 0)
         broker->now = statement.now;
-    bool alive = turn_settle(broker, statement.effect);
+    bool alive = turn_settle(broker, statement.effect == STATEMENT_CHIPS);
     if (text)
         clients_reply(client, &answer, text, -1);
     else

@@ -5,6 +5,7 @@
 #include <string.h>
 
 #include "files.h"
+#include "machine.h"
 #include "words.h"
 
 /* The text of a number that a macro names. */
@@ -34,19 +35,19 @@ static const char *fault_of(const char *line, size_t length, bool manual) {
     return NULL;
 }
 
-static enum turn_effect effect_of(struct word first, struct word second) {
+static enum statement_effect effect_of(struct word first, struct word second) {
     static const char *const nothing[] = {
         "", "due", "fault", "gpiodetect", "gpioinfo", "irq", "mkdir", "pin", "poll", "read", "rmdir", NULL};
     static const char *const chips[] = {"probe", "unplug", NULL};
     static const char live[] = "/live";
     if (words_is_one_of(first, nothing) || first.at[0] == '#')
-        return TURN_NOTHING;
+        return STATEMENT_ASKS;
     if (words_is_one_of(first, chips))
-        return TURN_CHIPS;
+        return STATEMENT_CHIPS;
     if (words_is(first, "write") && second.length > strlen(live) &&
         memcmp(second.at + second.length - strlen(live), live, strlen(live)) == 0)
-        return TURN_CHIPS;
-    return TURN_EVENTS;
+        return STATEMENT_CHIPS;
+    return STATEMENT_ACTS;
 }
 
 const char *statement_read(struct statement *statement, const char *line, size_t length, bool manual) {

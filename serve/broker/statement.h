@@ -6,10 +6,15 @@
 #include <stddef.h>
 #include <stdint.h>
 
-#include "turn.h"
+/* What a statement may bring about, each with what stands before it. */
+enum statement_effect {
+    STATEMENT_ASKS, /* nothing */
+    STATEMENT_ACTS, /* events, changes and deadlines */
+    STATEMENT_CHIPS /* chips that come or go */
+};
 
 struct statement {
-    enum turn_effect effect;
+    enum statement_effect effect;
     bool kept;  /* it stands in a session; `due` doesn't */
     bool tool;  /* it may request lines that it doesn't name by their offsets */
     bool pulls; /* it pulls this line */

@@ -7,6 +7,8 @@
 #include <sys/epoll.h>
 #include <time.h>
 
+#include "touch.h"
+
 static uint64_t clock_of(clockid_t which) {
     struct timespec time;
     if (clock_gettime(which, &time))
@@ -17,20 +19,35 @@ static uint64_t clock_of(clockid_t which) {
 static void put_clock(struct broker *broker) {
     broker->now = clock_of(CLOCK_MONOTONIC);
     machine_putf(&broker->machine, "clock %" PRIu64 " %" PRIu64, broker->now, clock_of(CLOCK_REALTIME));
-    if (broker->has_due && broker->due <= broker->now)
-        broker->was_due = true;
+    if (!broker->has_due || broker->due > broker->now)
+        return;
+    touch_debounced(&broker->files);
+    broker->asks_due = true;
 }
 
-bool turn_say(struct broker *broker, const char *line, size_t length, bool kept) {
-    struct machine *machine = &broker->machine;
-    if (!broker->manual)
-        put_clock(broker);
-    machine_put(machine, line, length, kept);
-    return (broker->manual || machine_take(machine)) && machine_take(machine);
+/* Puts questions for the states of the files that have to be looked at, as many as one write takes, and for the next
+ * deadline where it may be another one. */
+static void put_looks(struct broker *broker) {
+    struct looks *looks = &broker->looks;
+    looks->count = 0;
+    while (looks->count < LOOKS_MOST && broker->files.touched > 0) {
+        enum file_look look;
+        struct file *file = files_next_touched(&broker->files, &look);
+        machine_putf(&broker->machine, "poll %s", file->name);
+        looks->asked[looks->count].file = file;
+        looks->asked[looks->count++].look = look;
+    }
+    looks->due = broker->asks_due && !broker->manual && broker->files.touched == 0;
+    if (looks->due)
+        machine_put(&broker->machine, "due", strlen("due"), false);
 }
 
-static bool begins(const struct machine *machine, char sign) {
-    return machine->length > 0 && machine->text[0] == sign;
+static bool take_due(struct broker *broker) {
+    if (!machine_take(&broker->machine))
+        return false;
+    broker->has_due = sscanf(broker->machine.text, "%" SCNu64, &broker->due) == 1;
+    broker->asks_due = false;
+    return true;
 }
 
 /* Closes in the machine the file of a chip that is gone, and shows that to its readers. */
@@ -42,40 +59,52 @@ static bool hang_up(struct broker *broker, struct file *file) {
     return true;
 }
 
-/* Asks for the state of so many files, and shows it to their readers. */
-static bool look_at(struct broker *broker, struct file *const *files, size_t count) {
-    char states[MACHINE_WAITING];
-    for (size_t i = 0; i < count; i++)
-        machine_putf(&broker->machine, "poll %s", files[i]->name);
+/* Takes what put_looks asked for, and shows it to the files' readers. */
+static bool take_looks(struct broker *broker) {
+    struct looks *looks = &broker->looks;
+    size_t count = looks->count, gone = 0;
     for (size_t i = 0; i < count; i++) {
+        struct file *file = looks->asked[i].file;
         if (!machine_take(&broker->machine))
             return false;
-        states[i] = begins(&broker->machine, 'H') ? 'H' : begins(&broker->machine, 'I') ? 'I' : '-';
+        char state = broker->machine.length > 0 ? broker->machine.text[0] : '-';
+        if (state == 'H')
+            looks->asked[gone++].file = file;
+        else
+            files_show(file, state == 'I', looks->asked[i].look == LOOK_WAKES);
     }
-    for (size_t i = 0; i < count; i++) {
-        if (states[i] != 'H')
-            files_show(files[i], states[i] == 'I', true);
-        else if (!hang_up(broker, files[i]))
+    if (looks->due && !take_due(broker))
+        return false;
+    looks->count = 0;
+    looks->due = false;
+    for (size_t i = 0; i < gone; i++)
+        if (!hang_up(broker, looks->asked[i].file))
             return false;
-    }
     return true;
 }
 
-/* Looks at the files that await something, or at all. */
-static bool look(struct broker *broker, bool all) {
-    struct file *files[MACHINE_WAITING];
-    size_t count = 0;
-    for (struct file *file = broker->files.first; file; file = file->next) {
-        if (files_is_gone(file) || !(all || file->awaits))
-            continue;
-        files[count++] = file;
-        if (count < MACHINE_WAITING)
-            continue;
-        if (!look_at(broker, files, count))
-            return false;
-        count = 0;
-    }
-    return look_at(broker, files, count);
+bool turn_say(struct broker *broker, const char *line, size_t length, bool kept) {
+    struct machine *machine = &broker->machine;
+    if (!broker->manual)
+        put_clock(broker);
+    machine_put(machine, line, length, kept);
+    put_looks(broker);
+    return (broker->manual || machine_take(machine)) && machine_take(machine);
+}
+
+void turn_pulls(struct broker *broker, unsigned chip, uint32_t line) {
+    touch_edges(&broker->files, chip, line);
+    broker->asks_due = true;
+}
+
+void turn_requests(struct broker *broker, unsigned chip, const uint32_t *lines, size_t count) {
+    touch_watches(&broker->files, chip, lines, count);
+    broker->asks_due = true;
+}
+
+void turn_does_any(struct broker *broker) {
+    touch_waiting(&broker->files);
+    broker->asks_due = true;
 }
 
 /* Gives names to the chips that gpiodetect lists. Where it is refused (no file is left to open a chip by), they stay as
@@ -98,23 +127,19 @@ static bool name_chips(struct broker *broker) {
     return waves_take_chips(&broker->waves, &broker->machine, broker->now, present);
 }
 
-static bool ask_due(struct broker *broker) {
-    machine_put(&broker->machine, "due", 3, false);
-    if (!machine_take(&broker->machine))
+bool turn_settle(struct broker *broker, bool chips) {
+    if (!take_looks(broker))
         return false;
-    broker->has_due = sscanf(broker->machine.text, "%" SCNu64, &broker->due) == 1;
-    return true;
-}
-
-bool turn_settle(struct broker *broker, enum turn_effect effect) {
-    if (broker->was_due && effect < TURN_EVENTS)
-        effect = TURN_EVENTS;
-    broker->was_due = false;
-    if (effect >= TURN_EVENTS && !look(broker, effect == TURN_CHIPS))
-        return false;
-    if (effect == TURN_CHIPS && !name_chips(broker))
-        return false;
-    if (effect >= TURN_EVENTS && !broker->manual && !ask_due(broker))
+    if (chips) {
+        touch_all(&broker->files);
+        broker->asks_due = true;
+    }
+    while (broker->files.touched > 0 || (broker->asks_due && !broker->manual)) {
+        put_looks(broker);
+        if (!take_looks(broker))
+            return false;
+    }
+    if (chips && !name_chips(broker))
         return false;
     return waves_sample(&broker->waves, &broker->machine, broker->now) && waits_look(broker);
 }
@@ -123,7 +148,8 @@ bool turn_tick(struct broker *broker) {
     if (broker->manual)
         return true;
     put_clock(broker);
-    return machine_take(&broker->machine) && turn_settle(broker, TURN_NOTHING);
+    put_looks(broker);
+    return machine_take(&broker->machine) && turn_settle(broker, false);
 }
 
 /* Closes a file that no client has any more, and frees it. */
@@ -136,10 +162,11 @@ static bool close_file(struct broker *broker, struct file *file) {
     for (size_t i = 0; i < file->line_count; i++)
         waves_touch(&broker->waves, &broker->machine, broker->now, file->chip, file->lines[i]);
     int length = snprintf(line, sizeof line, "close %s", file->name);
-    bool watched = file->kind != FILE_CHIP;
+    if (file->kind != FILE_CHIP)
+        turn_requests(broker, file->chip, file->lines, file->line_count);
     broker->record.asker = file->asker;
     files_drop(&broker->files, file);
-    return turn_say(broker, line, (size_t)length, true) && turn_settle(broker, watched ? TURN_EVENTS : TURN_NOTHING);
+    return turn_say(broker, line, (size_t)length, true) && turn_settle(broker, false);
 }
 
 bool turn_close_ended(struct broker *broker) {

@@ -4,19 +4,19 @@
 
 #include "broker.h"
 
-/* What a statement may bring about, each with what stands before it. */
-enum turn_effect {
-    TURN_NOTHING,
-    TURN_EVENTS, /* events, changes and deadlines */
-    TURN_CHIPS   /* chips that come or go */
-};
+/* What the next statement does, so that the files that it can touch are looked at with it: it changes the level of a
+ * line; it requests, releases or configures lines; or it is one of which not more is known. */
+void turn_pulls(struct broker *broker, unsigned chip, uint32_t line);
+void turn_requests(struct broker *broker, unsigned chip, const uint32_t *lines, size_t count);
+void turn_does_any(struct broker *broker);
 
 /* Says a line, after the clock where that is the system's. The machine has the answer. False where the served program
- * has ended, as for all functions here. */
+ * has ended, as for all functions here. turn_settle has to come after it, and before anything else is asked. */
 bool turn_say(struct broker *broker, const char *line, size_t length, bool kept);
 
-/* Looks which files have something to read, which are hung up, which chips there are and what is due next. */
-bool turn_settle(struct broker *broker, enum turn_effect effect);
+/* Looks which files have something to read, and what is due next. With `chips`, chips may have come or gone: which
+ * files are hung up, and which chips there are. */
+bool turn_settle(struct broker *broker, bool chips);
 
 /* Sets the clock alone, and settles what came of it. */
 bool turn_tick(struct broker *broker);

@@ -40,6 +40,34 @@ while True:
         signal.pause()
 """
 
+# What a command in Python needs to request lines and to say statements: `edges LINE`, `watch LINE`, `say TEXT`.
+ASKING = r"""
+import fcntl, os, signal, socket, struct, sys, time
+connection = socket.socket(socket.AF_UNIX, socket.SOCK_SEQPACKET)
+connection.connect(os.environ["GPIOSERVE"] + "/socket")
+chip = os.open("/dev/gpiochip0", os.O_RDWR)
+def say(text):
+    connection.send(struct.pack("=IIQII", 4, 0, 0, len(text), 0) + text.encode())
+    answer = connection.recv(65560)
+    assert struct.unpack_from("=ii", answer) == (0, 0), (text, answer)
+    return answer[24:].decode()
+def pull(line, up):
+    say(f"write gpiochip0/sim_gpio{line}/pull " + ("pull-up" if up else "pull-down"))
+def edges(line):
+    asked = bytearray(592)
+    struct.pack_into("=I", asked, 0, line)
+    struct.pack_into("=Q", asked, 288, 4 | 16 | 32)
+    struct.pack_into("=I", asked, 560, 1)
+    fcntl.ioctl(chip, 0xC250B407, asked)
+    return struct.unpack_from("=i", asked, 588)[0]
+def watch(line):
+    file = os.open("/dev/gpiochip0", os.O_RDWR)
+    asked = bytearray(256)
+    struct.pack_into("=I", asked, 64, line)
+    fcntl.ioctl(file, 0xC100B406, asked)
+    return file
+"""
+
 
 def served() -> str:
     """The program that serves, as one path."""
@@ -195,6 +223,47 @@ class HangingTest(BrokerTest):
             time.sleep(0.2)
             broker.terminate()
             self.assertEqual(self.status(broker), -signal.SIGTERM)
+
+
+class LookingTest(BrokerTest):
+    """Which files are looked at after a statement."""
+
+    def polls(self, script: str) -> List[str]:
+        """The looks that stand in the transcript of a command, since it printed a line `looks`."""
+        (self.folder / "board").write_text("probe big 256\n")
+        transcript = self.folder / "transcript"
+        broker = self.start(
+            "-b", str(self.folder / "board"), "-t", str(transcript), command=[sys.executable, "-c", ASKING + script]
+        )
+        self.assertEqual(self.status(broker), 0, self.said())
+        lines = transcript.read_text().split("\n")
+        return [line for line in lines[lines.index("# looks") :] if line.startswith("poll ")]
+
+    def test_a_pull_looks_at_the_requests_of_its_line(self) -> None:
+        looked = self.polls(
+            """
+files = [edges(line) for line in range(240)]
+say("# looks")
+for turn in range(10):
+    pull(7, turn % 2 == 0)
+assert len(os.read(files[7], 4800)) == 480
+"""
+        )
+        self.assertEqual(len(set(looked)), 1)
+        self.assertLessEqual(len(looked), 12)
+
+    def test_a_request_looks_at_the_watches_of_its_line(self) -> None:
+        looked = self.polls(
+            """
+files = [watch(line) for line in range(60)] + [edges(line) for line in range(100, 200)]
+say("# looks")
+held = edges(7)
+os.close(held)
+assert len(os.read(files[7], 288 * 4)) == 288 * 2
+"""
+        )
+        self.assertEqual(len(set(looked)), 1)
+        self.assertLessEqual(len(looked), 4)
 
 
 if __name__ == "__main__":
