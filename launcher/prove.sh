@@ -1,8 +1,8 @@
-# Proves and builds the program, as many crates side by side as processors and memory allow. ./gpiosess reads this file for --prove.
+# Proves and builds the programs, as many crates side by side as processors and memory allow. The launchers read this file for --prove.
 # Each crate is checked in a lane, a copy of the sources, since rt lets one command alone work over a crate and those below it. What was
 # proved is linked into the lanes of the crates above it and into crates/NAME/out, so a proof that is cut off goes on where it was.
 . "$top/launcher/times.sh"
-built=$top/crates/gpiosess/out
+lanes_in=$top/crates/gpiosess/out
 declare -A uses behind sum_of state lane_of number_of jobs_of began_at shown
 crates=()
 begun=0
@@ -10,22 +10,32 @@ holds=()
 
 # Waits until no other --prove works here.
 take_turn() {
-  mkdir -p "$built"
+  mkdir -p "$lanes_in" || fail "$lanes_in can't be written to"
   command -v flock >/dev/null || return
-  exec 8>"$built/proving"
+  exec 8>"$lanes_in/proving"
   flock -n 8 && return
-  say "waiting for another ./gpiosess --prove to end"
+  say "waiting for another --prove to end"
   flock 8
 }
 
-# Reads which crates the program stands on, lowest first, and how much stands behind each, in seconds.
+# Whether the crate is done already: a library that was proved with its present sum, or a program of the present sources.
+is_done() {
+  if is_program "$1"; then
+    choose_program "$1" proved
+    is_current
+  else
+    [ -d "$top/crates/$1/out/rlib" ] && [ "$(cat "$top/crates/$1/out/proved.sum" 2>/dev/null)" = "${sum_of[$1]}" ]
+  fi
+}
+
+# Reads which crates the programs stand on, lowest first, and how much stands behind each, in seconds.
 read_crates() {
   local line name seconds rest at
   while read -r name seconds rest; do
     crates+=("$name")
     uses[$name]=$rest
     behind[$name]=$seconds
-  done < <(crates_of_program)
+  done < <(crates_of_programs)
   local -A above
   for ((at = ${#crates[@]} - 1; at >= 0; at--)); do
     name=${crates[at]}
@@ -62,8 +72,7 @@ find_done() {
       grep "^${name}[ :]" "$lanes/1/crates.txt"
     } | sha256sum)
     state[$name]=waits
-    if [ "$name" != gpiosess ] && [ -d "$top/crates/$name/out/rlib" ] &&
-      [ "$(cat "$top/crates/$name/out/proved.sum" 2>/dev/null)" = "${sum_of[$name]}" ]; then
+    if is_done "$name"; then
       state[$name]=proved
       begun=$((begun + 1))
     fi
@@ -87,17 +96,17 @@ take_folders() {
 link_below() {
   local name to
   for name in "${crates[@]}"; do
-    [ "${state[$name]}" = proved ] || continue
+    [ "${state[$name]}" = proved ] && ! is_program "$name" || continue
     to=$1/crates/$name/out
     [ -d "$to/rlib" ] || cp -al "$top/crates/$name/out/rlib" "$to/"
   done
 }
 
-# Checks a crate in its lane, and builds its library or the program.
+# Checks a crate in its lane, and builds its library or its program.
 work_on() {
   cd "$1/crates/$2" || return
   rt check --jobs "$3" || return
-  if [ "$2" = gpiosess ]; then
+  if is_program "$2"; then
     rt run --jobs "$3" <<<"session 1"
   else
     rt lib --jobs "$3"
@@ -200,9 +209,11 @@ finish() {
   local name=$1 from=${lane_of[$1]}/crates/$1/out to=$top/crates/$1/out
   put_back "$name"
   state[$name]=proved
-  if [ "$name" = gpiosess ]; then
+  if is_program "$name"; then
+    choose_program "$name" proved
     rm -f "$record"
-    mv -f "$from/gpiosess" "$program"
+    mv -f "$from/$name" "$program"
+    note_build "$sources" "$toolchain" || fail "the sources changed while $name was proved: call it again"
   else
     rm -rf "$to/rlib"
     cp -al "$from/rlib" "$to/"
@@ -217,7 +228,7 @@ tell_failure() {
   [ ! -t 2 ] || echo >&2
   functions=$(sed -nE 's/^fn ([^ ]+): (not proved|no proof).*/\1/p' "$said" | sort -u | paste -sd , | sed 's/,/, /g')
   grep -aEv ': proved$|^(statements|library|logic|by-macro:|crate|checked|ahead) |^only=|^so far: |^rt: chose' "$said" | tail -n 30 >&2
-  fail "crate $1 was not proved${functions:+: fn $functions}; the last lines of the prover stand above. The program was not built"
+  fail "crate $1 was not proved${functions:+: fn $functions}; the last lines of the prover stand above. No program was built of it"
 }
 
 # Looks which crates have ended, and counts the processors that are used.
@@ -260,8 +271,8 @@ let_go() {
 # Makes a lane for each check that fits beside the others.
 make_lanes() {
   local number
-  rm -rf "$built"/lanes.*
-  lanes=$(mktemp -d "$built/lanes.XXXXXX") || fail "there is no room for a folder in $built"
+  rm -rf "$lanes_in"/lanes.*
+  lanes=$(mktemp -d "$lanes_in/lanes.XXXXXX") || fail "there is no space for a folder in $lanes_in"
   trap end_lanes EXIT
   trap 'exit 130' INT
   trap 'exit 143' TERM HUP
@@ -271,35 +282,52 @@ make_lanes() {
   done
 }
 
-# Proves and builds the program, where it isn't that of the present sources.
+# Whether all programs are those of the present sources.
+all_current() {
+  local name
+  for name in "${PROGRAMS[@]}"; do
+    choose_program "$name" proved
+    is_current || return
+  done
+}
+
+# Whether all crates are proved.
+all_proved() {
+  local name
+  for name in "${crates[@]}"; do
+    [ "${state[$name]}" = proved ] || return
+  done
+}
+
+# Proves and builds the programs that aren't those of the present sources.
 prove() {
-  local sources at_once used=0 next=0
+  local sources toolchain at_once used=0 next=0
   need_toolchain
   take_turn
-  if is_current; then
-    say "the program is proved and built from the present sources"
+  if all_current; then
+    say "${PROGRAMS[*]}: proved and built from the present sources"
     let_go
     return
   fi
   declare -gA pid_of=()
   at_once=$(checks_at_once)
-  say "proving and building the program: $(proving_time)"
+  say "proving and building ${PROGRAMS[*]}: $(proving_time)"
   read_crates
   sources=$(sum_of_sources)
+  toolchain=$(rt version)
   make_lanes
   find_done
   take_folders
   [ "$begun" -eq 0 ] || say "$begun of the ${#crates[@]} crates were proved before"
-  while [ "${state[gpiosess]}" != proved ]; do
+  while ! all_proved; do
     begin_ready $((at_once - used))
     sleep 0.5
     collect
     show_all
   done
   [ ! -t 2 ] || echo >&2
-  note_build "$sources" || fail "the sources changed while the program was proved: call it again"
   end_lanes
   trap - EXIT INT TERM HUP
   let_go
-  say "proved and built: ./gpiosess < FILE runs it from now on"
+  say "proved and built: ./gpiosess and ./gpioserve run these programs from now on"
 }

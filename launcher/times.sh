@@ -10,10 +10,10 @@ checks_at_once() {
   echo $((processors > 0 ? processors : 1))
 }
 
-# Prints a line for each crate that the program stands on, and for the program, lowest first: its name, the seconds of its proof (those of
-# seconds.txt), and what it uses of the others.
-crates_of_program() {
-  awk '
+# Prints a line for each program and each crate that it stands on, lowest first: its name, the seconds of its proof (those of seconds.txt),
+# and what it uses of the others.
+crates_of_programs() {
+  awk -v programs="${PROGRAMS[*]}" '
     { sub(/#.*/, "") }
     FILENAME == ARGV[1] { seconds[$1] = $2 + 0; next }
     { at = index($0, ":"); if (at) { split(substr($0, 1, at - 1), head, " "); uses[head[1]] = substr($0, at + 1) } }
@@ -24,7 +24,7 @@ crates_of_program() {
       for (i = 1; i <= count; i++) if (parts[i] in uses) { visit(parts[i]); own = own " " parts[i] }
       print name " " (name in seconds ? seconds[name] : 40) own
     }
-    END { visit("gpiosess") }
+    END { count_of = split(programs, names, " "); for (at_name = 1; at_name <= count_of; at_name++) visit(names[at_name]) }
   ' "$top/launcher/seconds.txt" "$top/crates.txt"
 }
 
@@ -32,7 +32,7 @@ crates_of_program() {
 proving_time() {
   local at_once
   at_once=$(checks_at_once)
-  crates_of_program | awk -v lanes="$at_once" '
+  crates_of_programs | awk -v lanes="$at_once" '
     { total += $2; longest[$1] = $2; for (i = 3; i <= NF; i++) if (longest[$i] + $2 > longest[$1]) longest[$1] = longest[$i] + $2
       if (longest[$1] > chain) chain = longest[$1] }
     END { took = total / lanes; if (took < chain) took = chain

@@ -5,7 +5,7 @@
         served.say("probe demo 4")
         print(served.say("gpiodetect"), end="")     # gpiochip0 [demo] (4 lines)
 
-The program is the one that GPIOSERVED names, with its arguments, or else the one that this repository builds.
+The program is the one that GPIOSERVED names, with its arguments, or else that of the repository's present sources.
 """
 import os
 import re
@@ -17,7 +17,8 @@ from pathlib import Path
 from types import TracebackType
 from typing import IO, List, Optional, Sequence, Type, TypeVar
 
-PROGRAM = Path(__file__).resolve().parent.parent / "crates/gpioserved/out/gpioserved"
+# Prints the path of a program of the repository's present sources. Where there is none it makes one, in about a minute.
+FINDER = Path(__file__).resolve().parent.parent / "launcher/program"
 HEAD_MAX = 32
 # How many bytes a line has at most.
 LINE_MAX = 8192
@@ -47,16 +48,19 @@ class Answer:
 
 
 def program() -> List[str]:
-    """The command that serves: the words of GPIOSERVED, or the program that was built here. NotServed where there is neither."""
+    """The command that serves: the words of GPIOSERVED, or the program of the present sources. NotServed where there is neither."""
     named = os.environ.get("GPIOSERVED")
     if named:
         words = shlex.split(named)
         if shutil.which(words[0]) is None:
             raise NotServed(f"{words[0]} isn't there, which GPIOSERVED names")
         return words
-    if not os.access(PROGRAM, os.X_OK):
-        raise NotServed(f"{PROGRAM} isn't there: name a served program in GPIOSERVED")
-    return [str(PROGRAM)]
+    if not os.access(FINDER, os.X_OK):
+        raise NotServed("there is no served program: name one in GPIOSERVED")
+    found = subprocess.run([str(FINDER), "gpioserved"], stdout=subprocess.PIPE, text=True, check=False)
+    if found.returncode != 0:
+        raise NotServed("there is no served program: what stands above says why. Or name one in GPIOSERVED")
+    return [found.stdout.removesuffix("\n")]
 
 
 class Served:

@@ -17,11 +17,10 @@
 #include "options.h"
 #include "report.h"
 #include "turn.h"
+#include "version.h"
 
 #define LIBRARY "libgpioserve.so"
 #define SERVED "gpioserved"
-/* Where the repository builds the served program, seen from the folder of this one. */
-#define SERVED_BUILT "../../crates/gpioserved/out/gpioserved"
 /* Words of the served program and its arguments. */
 #define MOST_WORDS 16
 
@@ -39,7 +38,7 @@ static bool beside(char path[PATH_MAX], const char *name) {
 }
 
 /* The words of the served program: the path or the words, divided by blanks, that are named, or the program beside this
- * one, or the one that the repository builds. `room` keeps their text. False, and reported, where there is none. */
+ * one. `room` keeps their text. False, and reported, where there is none. */
 static bool served_words(const char *named, char room[PATH_MAX], char *words[MOST_WORDS + 1]) {
     size_t count = 0;
     if (!named)
@@ -47,10 +46,11 @@ static bool served_words(const char *named, char room[PATH_MAX], char *words[MOS
     if (!named || !*named) {
         words[0] = room;
         words[1] = NULL;
-        if ((beside(room, SERVED) && access(room, X_OK) == 0) ||
-            (beside(room, SERVED_BUILT) && access(room, X_OK) == 0))
+        if (beside(room, SERVED) && access(room, X_OK) == 0)
             return true;
-        report("gpioserved isn't built: run `rt run` in crates/gpioserved, or name a program by --served");
+        report("there is no gpioserved beside gpioserve: in the repository call ./gpioserve at the top, which makes "
+               "one, or "
+               "name one by --served");
         return false;
     }
     if (snprintf(room, PATH_MAX, "%s", named) >= PATH_MAX) {
@@ -170,6 +170,13 @@ static int run_broker(struct broker *broker, const struct options *options, cons
     return status;
 }
 
+/* Prints the version: its status. */
+static int print_version(const struct options *options) {
+    char room[PATH_MAX], *words[MOST_WORDS + 1];
+    version_print(served_words(options->served, room, words) ? words[0] : NULL);
+    return fflush(stdout) == 0 ? 0 : STATUS_OWN;
+}
+
 /* Opens what the user named. This may wait for others, as for the writer of a pipe: no signal is blocked yet. */
 static bool open_named(struct broker *broker, const struct options *options, struct board *board) {
     return board_read(board, options->board) &&
@@ -196,6 +203,8 @@ int main(int count, char **arguments) {
     switch (options_read(&options, count, arguments)) {
     case OPTIONS_HELP:
         return 0;
+    case OPTIONS_VERSION:
+        return print_version(&options);
     case OPTIONS_WRONG:
         return STATUS_OWN;
     case OPTIONS_RUN:

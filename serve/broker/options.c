@@ -29,8 +29,10 @@ static const char help[] =
     "      --answer-timeout SECONDS\n"
     "                          how long an answer of the served program, or a reader of FILE, is waited for (60);\n"
     "                          0 is without end\n"
-    "      --served PROGRAM    the served program; else that of the variable GPIOSERVED, else that of this repository\n"
+    "      --served PROGRAM    the served program; else that of the variable GPIOSERVED, else `gpioserved` beside\n"
+    "                          gpioserve. In the repository ./gpioserve at the top makes one\n"
     "  -h, --help              prints this\n"
+    "      --version           prints the version, and whether the served program is proved\n"
     "\n"
     "The status is the command's, 128 and the number of the signal that ended it; 124: the served program ended\n"
     "before the command, or hung; 125: gpioserve couldn't begin; 126: the command can't be run; 127: there is none.\n"
@@ -56,7 +58,7 @@ static bool take_limit(struct options *options, const char *word) {
 }
 
 /* The options without a letter. */
-enum { CLOCK = 256, ENVIRONMENT, FOLDER, SERVED, ANSWER_TIMEOUT };
+enum { CLOCK = 256, ENVIRONMENT, FOLDER, SERVED, ANSWER_TIMEOUT, VERSION };
 
 /* Where an option's word is kept as it is; NULL for an option that is read. */
 static const char **place_of(struct options *options, int option) {
@@ -115,7 +117,7 @@ enum options_next options_read(struct options *options, int count, char **words)
         {"waves", required_argument, NULL, 'w'}, {"clock", required_argument, NULL, CLOCK},
         {"env", no_argument, NULL, ENVIRONMENT}, {"folder", required_argument, NULL, FOLDER},
         {"served", required_argument, NULL, SERVED}, {"answer-timeout", required_argument, NULL, ANSWER_TIMEOUT},
-        {"help", no_argument, NULL, 'h'}, {NULL, 0, NULL, 0}};
+        {"help", no_argument, NULL, 'h'}, {"version", no_argument, NULL, VERSION}, {NULL, 0, NULL, 0}};
     int option;
     *options = (struct options){.limit = LIMIT};
     while ((option = getopt_long(count, words, "+b:t:a:w:h", names, NULL)) != -1) {
@@ -123,6 +125,8 @@ enum options_next options_read(struct options *options, int count, char **words)
             fputs(help, stdout);
             return OPTIONS_HELP;
         }
+        if (option == VERSION)
+            return OPTIONS_VERSION;
         if (!take(options, option, optarg))
             return OPTIONS_WRONG;
     }

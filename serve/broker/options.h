@@ -13,7 +13,7 @@ struct options {
 };
 
 /* What to do after the arguments were read. */
-enum options_next { OPTIONS_RUN, OPTIONS_HELP, OPTIONS_WRONG };
+enum options_next { OPTIONS_RUN, OPTIONS_HELP, OPTIONS_VERSION, OPTIONS_WRONG };
 
 /* Reads the arguments, which the options refer to. What is wrong is reported; help is printed. */
 enum options_next options_read(struct options *options, int count, char **words);
