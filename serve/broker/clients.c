@@ -11,12 +11,12 @@
 #include <unistd.h>
 
 #include "report.h"
+#include "spare.h"
 
 bool clients_listen(struct clients *clients, const char *folder) {
     struct sockaddr_un address = {.sun_family = AF_UNIX};
     memset(clients, 0, sizeof *clients);
     clients->listener = (struct watch){WATCH_LISTENER, -1, NULL};
-    clients->spare = open("/dev/null", O_RDONLY | O_CLOEXEC);
     int length = snprintf(address.sun_path, sizeof address.sun_path, "%s/%s", folder, WIRE_SOCKET);
     if (length < 0 || (size_t)length >= sizeof address.sun_path) {
         report("the path %s/%s is too long for a socket", folder, WIRE_SOCKET);
@@ -34,20 +34,19 @@ bool clients_listen(struct clients *clients, const char *folder) {
     return false;
 }
 
-/* Takes a connection for which there is no number left by that of the spare file, and ends it: the listener would show
- * it without end. */
-static void turn_away(struct clients *clients) {
-    if (clients->spare >= 0)
-        close(clients->spare);
+/* Takes a connection for which there is no number left by the spare one, and ends it: the listener would show it
+ * without end. */
+static void turn_away(const struct clients *clients) {
+    spare_lend();
     int number = accept4(clients->listener.number, NULL, NULL, SOCK_CLOEXEC | SOCK_NONBLOCK);
     if (number >= 0)
         close(number);
-    clients->spare = open("/dev/null", O_RDONLY | O_CLOEXEC);
+    spare_take();
 }
 
 struct client *clients_accept(struct clients *clients) {
     int number = accept4(clients->listener.number, NULL, NULL, SOCK_CLOEXEC | SOCK_NONBLOCK);
-    if (number < 0 && (errno == EMFILE || errno == ENFILE))
+    if (number < 0 && spare_is_wanted(errno))
         turn_away(clients);
     if (number < 0)
         return NULL;
@@ -158,7 +157,4 @@ void clients_end(struct clients *clients) {
     if (clients->listener.number >= 0)
         close(clients->listener.number);
     clients->listener.number = -1;
-    if (clients->spare >= 0)
-        close(clients->spare);
-    clients->spare = -1;
 }

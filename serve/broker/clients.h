@@ -22,7 +22,6 @@ struct client {
 
 struct clients {
     struct watch listener;
-    int spare; /* a file for which there is no use but its number */
     struct client *first;
     size_t count, waiting;
 };

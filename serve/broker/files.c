@@ -10,6 +10,7 @@
 #include <unistd.h>
 
 #include "room.h"
+#include "spare.h"
 
 /* Bytes that stand in a pipe at most. */
 #define MOST_MARKS 1024
@@ -154,20 +155,31 @@ static int marks_of(const struct file *file) {
     return ioctl(file->watch.number, FIONREAD, &marks) ? 0 : marks;
 }
 
-/* Takes bytes out of the pipe, by a reading end of its own for that moment. */
-static void take_marks(const struct file *file, int marks) {
+/* Takes bytes out of the pipe by a reading end of its own for that moment. Whether there could be one. */
+static bool take_by_end(const struct file *file, int marks) {
     char path[64], bytes[MOST_MARKS];
     snprintf(path, sizeof path, "/proc/self/fd/%d", file->watch.number);
     int end = open(path, O_RDONLY | O_NONBLOCK | O_CLOEXEC);
     if (end < 0)
-        return;
+        return false;
     while (marks > 0) {
-        ssize_t got = read(end, bytes, sizeof bytes);
+        ssize_t got = read(end, bytes, (size_t)marks < sizeof bytes ? (size_t)marks : sizeof bytes);
         if (got <= 0)
             break;
         marks -= (int)got;
     }
     close(end);
+    return true;
+}
+
+/* Takes so many bytes out of the pipe, by the spare number where no other one is left: a reader would find the file
+ * ready and nothing to read, again and again. */
+static void take_marks(const struct file *file, int marks) {
+    if (take_by_end(file, marks) || !spare_is_wanted(errno))
+        return;
+    spare_lend();
+    take_by_end(file, marks);
+    spare_take();
 }
 
 void files_show(struct file *file, bool readable, bool again) {
@@ -176,7 +188,11 @@ void files_show(struct file *file, bool readable, bool again) {
     int marks = marks_of(file);
     if (!readable && marks > 0)
         take_marks(file, marks);
-    else if (readable && (marks == 0 || (again && marks < MOST_MARKS)) && write(file->watch.number, "!", 1) < 0)
+    if (!readable || (marks > 0 && !again))
+        return;
+    if (marks >= MOST_MARKS)
+        take_marks(file, marks - 1); /* (never all: the file is to show something all the time) */
+    if (write(file->watch.number, "!", 1) < 0)
         return; /* the pipe is full, or its readers are gone, which the loop sees */
 }
 

@@ -16,6 +16,7 @@
 #include "loop.h"
 #include "options.h"
 #include "report.h"
+#include "spare.h"
 #include "turn.h"
 #include "version.h"
 
@@ -188,6 +189,7 @@ static bool open_named(struct broker *broker, const struct options *options, str
 static bool open_own(struct broker *broker) {
     if (!signals_open(&broker->signals))
         return false;
+    spare_take();
     broker->poller = epoll_create1(EPOLL_CLOEXEC);
     broker->ends = epoll_create1(EPOLL_CLOEXEC);
     if (broker->poller >= 0 && broker->ends >= 0)

@@ -252,6 +252,27 @@ assert len(os.read(files[7], 4800)) == 480
         self.assertEqual(len(set(looked)), 1)
         self.assertLessEqual(len(looked), 12)
 
+    def test_an_edge_triggered_reader_that_never_reads_is_woken_by_each_event(self) -> None:
+        broker = self.start(
+            command=[
+                sys.executable,
+                "-c",
+                ASKING
+                + """
+import select
+waiter, held = select.epoll(), edges(1)
+waiter.register(held, select.EPOLLIN | select.EPOLLET)
+woken = 0
+for turn in range(2500):
+    pull(1, turn % 2 == 0)
+    woken += len(waiter.poll(0))
+print(woken, len(os.read(held, 48000)), len(waiter.poll(0)))
+""",
+            ]
+        )
+        self.assertEqual(self.status(broker), 0)
+        self.assertEqual(self.said(), f"2500 {16 * 48} 0\n")
+
     def test_a_request_looks_at_the_watches_of_its_line(self) -> None:
         looked = self.polls(
             """

@@ -198,10 +198,18 @@ void test_hostile(void) {
     CHECK(before > 0 && count_of_broker() == before);
 }
 
+/* Reads an event of a line by a request that shows it, and then nothing. */
+static void check_event(int held, bool up) {
+    struct gpio_v2_line_event event;
+    CHECK(polled(held, 0) == 0 && pull(1, up) && polled(held, 10000) == POLLIN);
+    CHECK(read(held, &event, sizeof event) == sizeof event && polled(held, 0) == 0);
+}
+
 /* Where the broker has few numbers of files. */
 void test_crowd(void) {
-    int files[MANY_FILES], connections[2], opened = 0;
+    int files[MANY_FILES], connections[2], opened = 0, held = request_edges(1);
     test("where the broker has no number left, files are refused and connections ended");
+    check_event(held, true);
     while (opened < MANY_FILES && (files[opened] = open_chip(0)) >= 0)
         opened++;
     CHECK(opened > 5 && errno == EMFILE);
@@ -209,6 +217,9 @@ void test_crowd(void) {
     for (int i = 0; i < 2; i++)
         CHECK((connections[i] = raw_connect()) >= 0);
     CHECK(raw_ask(connections[1], WIRE_WHOSE, 0) == -1);
+    test("a file that was read shows nothing, also where the broker has no number left");
+    check_event(held, false);
+    close(held);
     for (int i = 0; i < opened; i++)
         close(files[i]);
     close(connections[1]);
