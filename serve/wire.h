@@ -14,6 +14,7 @@
 
 /* The device number that chips show: WIRE_MAJOR, and the chip's number as the minor one. */
 #define WIRE_MAJOR 254
+#define WIRE_MAJOR_TEXT "254"
 
 /* Chips have numbers below this one. */
 #define WIRE_CHIPS 64
@@ -23,7 +24,14 @@ enum wire_op {
     WIRE_IOCTL,    /* the command `command` on the file `ino`, with the structure's bytes */
     WIRE_READ,     /* reads at most `command` bytes of the file `ino` */
     WIRE_SAY,      /* a statement; what it printed are the answer's bytes */
-    WIRE_WHOSE     /* is the file `ino` one of the broker's? */
+    WIRE_WHOSE,    /* is the file `ino` one of the broker's? */
+    WIRE_TREE      /* shows gpio-sim's file system, where it isn't shown yet; `command`: one of wire_tree */
+};
+
+/* Why a program needs gpio-sim's file system. */
+enum wire_tree {
+    WIRE_TREE_SEARCHES, /* it looks whether there is one: a list of mounts */
+    WIRE_TREE_USES      /* it uses a name of it; where it can't be shown, the broker says why, once */
 };
 
 struct question {

@@ -105,6 +105,7 @@ static bool hand_in(struct broker *broker, const char *path, unsigned number, co
         report("%s: line %u: `%s` was answered %s", path, number, line, broker->machine.text);
         return false;
     }
+    tree_note_statement(&broker->tree, line);
     if (statement.clock)
         broker->now = statement.now;
     return true;

@@ -11,7 +11,9 @@
 #include "machine.h"
 #include "patience.h"
 #include "record.h"
+#include "show/show.h"
 #include "signals.h"
+#include "tree/tree.h"
 #include "waits.h"
 #include "waves.h"
 
@@ -38,6 +40,8 @@ struct broker {
     struct clients clients;
     struct counts counts;
     struct waves waves;
+    struct tree tree;
+    struct show show;
     int poller;    /* what the loop waits on: all except files, and `ends` */
     int ends;      /* shows the files that no client has any more */
     bool manual;   /* the clock is moved by statements alone */

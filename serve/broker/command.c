@@ -14,6 +14,7 @@
 #include "process.h"
 #include "report.h"
 #include "room.h"
+#include "show/module.h"
 
 extern char **environ;
 
@@ -125,50 +126,69 @@ static bool can_preload(char path[PATH_MAX], int deep) {
     return true;
 }
 
-static bool has_name(const char *variable, const char *name) {
-    size_t length = strlen(name);
-    return strncmp(variable, name, length) == 0 && variable[length] == '=';
-}
-
 /* The variables by which a program finds the chips, each as `NAME=VALUE`. */
 struct variables {
     char *preload, *folder;
+    struct module_variables module; /* NULL where there is no tree */
 };
+
+/* The most variables of these. */
+#define MOST_VARIABLES 4
 
 static void variables_free(struct variables *variables) {
     free(variables->preload);
     free(variables->folder);
+    module_free(&variables->module);
 }
 
 /* Makes the variables, which variables_free frees: what LD_PRELOAD names already stays in front of the library. False,
  * and reported, where memory is short. */
-static bool variables_make(struct variables *variables, const char *library, const char *folder) {
+static bool variables_make(struct variables *variables, const struct command_view *view) {
     const char *before = getenv("LD_PRELOAD");
     memset(variables, 0, sizeof *variables);
-    if (asprintf(
-            &variables->preload, "LD_PRELOAD=%s%s%s", before ? before : "", before && *before ? ":" : "", library) < 0)
+    if (asprintf(&variables->preload, "LD_PRELOAD=%s%s%s", before ? before : "", before && *before ? ":" : "",
+            view->library) < 0)
         variables->preload = NULL;
-    else if (asprintf(&variables->folder, WIRE_VARIABLE "=%s", folder) < 0)
+    if (asprintf(&variables->folder, WIRE_VARIABLE "=%s", view->folder) < 0)
         variables->folder = NULL;
-    if (variables->folder)
+    if (variables->preload && variables->folder && (!view->has_tree || module_make(&variables->module, view->folder)))
         return true;
     report("out of memory");
     variables_free(variables);
     return false;
 }
 
+/* The texts of the variables: how many there are. */
+static size_t variables_list(const struct variables *variables, char *texts[MOST_VARIABLES]) {
+    size_t count = 0;
+    texts[count++] = variables->preload;
+    texts[count++] = variables->folder;
+    if (variables->module.options)
+        texts[count++] = variables->module.options;
+    if (variables->module.path)
+        texts[count++] = variables->module.path;
+    return count;
+}
+
+static bool is_set_by(const char *variable, char *const *texts, size_t count) {
+    for (size_t i = 0; i < count; i++)
+        if (strncmp(variable, texts[i], strcspn(texts[i], "=") + 1) == 0)
+            return true;
+    return false;
+}
+
 /* The environment of the command: this one, with the variables set, whose texts the caller has. The caller frees the
  * list alone. */
 static char **environment_with(const struct variables *variables) {
-    size_t count = 0, kept = 0;
+    char *texts[MOST_VARIABLES];
+    size_t count = 0, kept = 0, set = variables_list(variables, texts);
     while (environ[count])
         count++;
-    char **made = room_new((count + 3) * sizeof *made);
+    char **made = room_new((count + set + 1) * sizeof *made);
     for (size_t i = 0; i < count; i++)
-        if (!has_name(environ[i], "LD_PRELOAD") && !has_name(environ[i], WIRE_VARIABLE))
+        if (!is_set_by(environ[i], texts, set))
             made[kept++] = environ[i];
-    made[kept++] = variables->preload;
-    made[kept] = variables->folder;
+    memcpy(made + kept, texts, set * sizeof *texts);
     return made;
 }
 
@@ -178,14 +198,14 @@ static int not_started(const char *word, int error) {
     return error == ENOENT ? STATUS_NOT_FOUND : STATUS_NOT_RUN;
 }
 
-int command_start(pid_t *pid, char *const *words, const char *library, const char *folder) {
+int command_start(pid_t *pid, char *const *words, const struct command_view *view) {
     char path[PATH_MAX];
     struct variables variables;
     if (!find_program(words[0], path))
         return not_started(words[0], ENOENT);
     if (!can_preload(path, 0))
         return STATUS_NOT_RUN;
-    if (!variables_make(&variables, library, folder))
+    if (!variables_make(&variables, view))
         return STATUS_OWN;
     char **environment = environment_with(&variables);
     int error = process_start(pid, words, -1, -1, environment);
@@ -203,13 +223,18 @@ static bool close_output(void) {
     return closed;
 }
 
-bool command_print_variables(const char *library, const char *folder) {
+bool command_print_variables(const struct command_view *view) {
     struct variables variables;
-    if (!variables_make(&variables, library, folder))
+    if (!variables_make(&variables, view))
         return false;
-    bool has_end = strchr(variables.preload, '\n') || strchr(variables.folder, '\n');
-    bool printed = !has_end && printf("%s\n%s\n\n", variables.preload, variables.folder) >= 0 && fflush(stdout) == 0 &&
-                   close_output();
+    char *texts[MOST_VARIABLES];
+    size_t count = variables_list(&variables, texts);
+    bool has_end = false, printed = true;
+    for (size_t i = 0; i < count; i++)
+        has_end = has_end || strchr(texts[i], '\n');
+    for (size_t i = 0; i < count && !has_end; i++)
+        printed = printed && printf("%s\n", texts[i]) >= 0;
+    printed = !has_end && printed && printf("\n") >= 0 && fflush(stdout) == 0 && close_output();
     if (has_end)
         report("a folder whose name has a line end can't stand in a variable's line: set TMPDIR, or name one by "
                "--folder");

@@ -61,7 +61,7 @@ static bool link_devices(const struct home *home) {
 
 static bool make_root(const struct home *home) {
     static const char *const folders[] = {ROOT, ROOT "/dev", ROOT "/sys", ROOT "/sys/bus", ROOT "/sys/bus/gpio",
-        ROOT "/sys/bus/gpio/devices", ROOT "/sys/dev", ROOT "/sys/dev/char", ROOT "/sys/devices", DEVICES};
+        ROOT "/sys/bus/gpio/devices", ROOT "/sys/dev", ROOT "/sys/dev/char", ROOT "/sys/devices", DEVICES, "view"};
     for (size_t i = 0; i < sizeof folders / sizeof *folders; i++)
         if (!make_folder(home, folders[i]))
             return false;

@@ -64,6 +64,9 @@ static void take_event(struct loop *loop, struct watch *watch) {
     case WATCH_SERVED:
         loop->alive = false;
         break;
+    case WATCH_TREE:
+        loop->alive = show_answer(loop->broker);
+        break;
     case WATCH_FILE:
         break;
     }

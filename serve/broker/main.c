@@ -94,9 +94,10 @@ static bool is_interrupted(const struct broker *broker) {
 
 /* Starts the command, or prints the variables for those who start programs themselves, and answers questions. */
 static int serve(struct broker *broker, const struct options *options, const char *library) {
+    struct command_view view = {library, broker->home.path, !broker->show.missing};
     if (options->environment)
-        return command_print_variables(library, broker->home.path) ? loop_run(broker) : STATUS_OWN;
-    int status = command_start(&broker->signals.command, options->command, library, broker->home.path);
+        return command_print_variables(&view) ? loop_run(broker) : STATUS_OWN;
+    int status = command_start(&broker->signals.command, options->command, &view);
     return status ? status : loop_run(broker);
 }
 
@@ -109,9 +110,12 @@ static int run_command(struct broker *broker, const struct options *options, con
     if (clients_listen(&broker->clients, broker->home.path) && turn_tick(broker) && find_library(broker, library) &&
         !is_interrupted(broker)) {
         waves_begin(&broker->waves, broker->now);
+        show_prepare(broker, !options->environment);
         status = serve(broker, options, library);
     }
     clients_end(&broker->clients);
+    show_end(broker);
+    tree_free(&broker->tree);
     return status;
 }
 

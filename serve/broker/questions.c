@@ -303,6 +303,8 @@ static bool answer_say(struct broker *broker, struct client *client) {
     char *text = strdup(broker->machine.text);
     if (statement.clock && answer.error == 0)
         broker->now = statement.now;
+    if (answer.error == 0)
+        tree_note_statement(&broker->tree, line);
     bool alive = turn_settle(broker, statement.effect == STATEMENT_CHIPS);
     if (text)
         clients_reply(client, &answer, text, -1);
@@ -343,6 +345,9 @@ bool questions_answer(struct broker *broker, struct client *client) {
         return answer_for_file(broker, client);
     case WIRE_SAY:
         return answer_say(broker, client);
+    case WIRE_TREE:
+        reply_error(client, show_begin(broker, broker->packet.question.command) ? 0 : ENOENT);
+        return true;
     default:
         reply_error(client, EINVAL);
         return true;

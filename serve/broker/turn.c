@@ -122,6 +122,7 @@ static bool name_chips(struct broker *broker) {
             present[chip] = true;
     }
     home_name_chips(&broker->home, present);
+    tree_note_chips(&broker->tree, broker->machine.text);
     for (unsigned chip = 0; chip < WIRE_CHIPS; chip++)
         broker->counts.known[chip] = broker->counts.known[chip] || present[chip];
     return waves_take_chips(&broker->waves, &broker->machine, broker->now, present);

@@ -4,7 +4,16 @@
 
 #include <stdbool.h>
 
-enum watch_kind { WATCH_INPUT, WATCH_LISTENER, WATCH_SIGNALS, WATCH_SERVED, WATCH_ENDS, WATCH_FILE, WATCH_CLIENT };
+enum watch_kind {
+    WATCH_INPUT,
+    WATCH_LISTENER,
+    WATCH_SIGNALS,
+    WATCH_SERVED,
+    WATCH_ENDS,
+    WATCH_FILE,
+    WATCH_CLIENT,
+    WATCH_TREE
+};
 
 struct watch {
     enum watch_kind kind;

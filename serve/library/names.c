@@ -10,12 +10,14 @@
 
 #include "../wire.h"
 #include "ask.h"
+#include "tree.h"
 
 #define TEXT(number) #number
 #define NUMBER(number) TEXT(number)
 
-/* Where names stand in the broker's folder. */
+/* Where names stand in the broker's folder: all, and those below /sys where gpio-sim's file system is shown. */
 #define ROOT "/root"
+#define VIEW "/view"
 
 /* Names that stand there, with all below them. */
 static const char *const moved[] = {"/sys/bus/gpio", "/sys/devices/gpioserve"};
@@ -81,9 +83,32 @@ static const char *name_in_dev(const char *path) {
     return begins(path, "/dev/") ? path + strlen("/dev/") : NULL;
 }
 
+/* Whether the working directory is one of the system's own below /sys, or /sys itself: relative names may lead on from
+ * there into the broker's folder. */
+static bool works_in_sys;
+
+void names_note_folder(void) {
+    char folder[PATH_MAX];
+    int kept = errno;
+    bool is_there = ask_home() && syscall(SYS_getcwd, folder, sizeof folder) > 0 &&
+                    (strcmp(folder, "/sys") == 0 || begins(folder, "/sys/"));
+    __atomic_store_n(&works_in_sys, is_there, __ATOMIC_RELAXED);
+    errno = kept;
+}
+
+__attribute__((constructor)) static void at_start(void) {
+    names_note_folder();
+}
+
+static bool is_in_sys(void) {
+    return __atomic_load_n(&works_in_sys, __ATOMIC_RELAXED);
+}
+
 bool names_concern(const char *path) {
     if (!path || !ask_home())
         return false;
+    if (*path != '/' && *path && is_in_sys())
+        return true;
     const char *last = strrchr(path, '/');
     return begins(last ? last + 1 : path, "gpiochip") || begins(path, "/dev") || begins(path, "/sys") ||
            begins(path, "//") || begins(path, "/./");
@@ -120,7 +145,8 @@ int names_linked_chip(int from, const char *path) {
 
 /* Writes the broker's folder and a path. False where there is no room. */
 static bool in_home(const char *path, char room[PATH_MAX]) {
-    int length = snprintf(room, PATH_MAX, "%s" ROOT "%s", ask_home(), path);
+    const char *folder = begins(path, "/sys") && tree_is_shown() ? VIEW : ROOT;
+    int length = snprintf(room, PATH_MAX, "%s%s%s", ask_home(), folder, path);
     return length >= 0 && length < PATH_MAX;
 }
 
@@ -134,12 +160,25 @@ void names_node(int chip, char room[PATH_MAX]) {
 /* Whether a name stands in the broker's folder. */
 static bool is_moved(const char *flat) {
     const char *name = name_in_dev(flat);
+    if (tree_has(flat))
+        return tree_uses();
     for (size_t i = 0; i < sizeof moved / sizeof *moved; i++) {
         size_t length = strlen(moved[i]);
         if (begins(flat, moved[i]) && (flat[length] == 0 || flat[length] == '/'))
             return true;
     }
     return begins(flat, by_number) || (name && begins(name, "gpiochip"));
+}
+
+/* Writes a path from the root, flat; a relative one where the working directory is below /sys. False for the others. */
+static bool whole_path(int from, const char *path, char flat[PATH_MAX]) {
+    char folder[PATH_MAX], whole[PATH_MAX];
+    if (*path == '/')
+        return flatten(path, flat);
+    if (from != AT_FDCWD || !is_in_sys() || !folder_path(from, folder))
+        return false;
+    int length = snprintf(whole, sizeof whole, "%s/%s", folder, path);
+    return length >= 0 && length < PATH_MAX && flatten(whole, flat);
 }
 
 const char *names_moved(int from, const char *path, char room[PATH_MAX]) {
@@ -149,9 +188,22 @@ const char *names_moved(int from, const char *path, char room[PATH_MAX]) {
         names_node(chip, room);
         return room;
     }
-    if (!names_concern(path) || *path != '/')
+    if (!names_concern(path) || !whole_path(from, path, flat))
         return path;
-    return flatten(path, flat) && is_moved(flat) && in_home(flat, room) ? room : path;
+    return is_moved(flat) && in_home(flat, room) ? room : path;
+}
+
+/* A folder of chips has more in it where gpio-sim's file system is shown: it is asked for before one is entered. */
+static void show_chip_folder(const char *flat) {
+    if (tree_shares(flat))
+        tree_searches();
+}
+
+const char *names_moved_entered(const char *path, char room[PATH_MAX]) {
+    char flat[PATH_MAX];
+    if (names_concern(path) && *path == '/' && flatten(path, flat))
+        show_chip_folder(flat);
+    return names_moved(AT_FDCWD, path, room);
 }
 
 const char *names_moved_folder(const char *path, char room[PATH_MAX]) {
@@ -163,13 +215,15 @@ const char *names_moved_folder(const char *path, char room[PATH_MAX]) {
         return path;
     if ((strcmp(flat, "/dev") == 0 || strcmp(flat, "/dev/") == 0) && in_home("/dev", room))
         return room;
+    show_chip_folder(flat);
     return is_here ? path : names_moved(AT_FDCWD, path, room);
 }
 
 void names_move_back(char *path) {
     const char *home = ask_home();
     size_t length = home ? strlen(home) : 0;
-    if (!home || strncmp(path, home, length) != 0 || !begins(path + length, ROOT "/"))
+    if (!home || strncmp(path, home, length) != 0 ||
+        !(begins(path + length, ROOT "/") || begins(path + length, VIEW "/")))
         return;
     const char *rest = path + length + strlen(ROOT);
     memmove(path, rest, strlen(rest) + 1);

@@ -23,8 +23,14 @@ const char *names_moved(int from, const char *path, char room[PATH_MAX]);
 /* The same of a folder that is to be listed, where /dev is one of them, also as the working directory. */
 const char *names_moved_folder(const char *path, char room[PATH_MAX]);
 
+/* The same of a folder that becomes the working directory. */
+const char *names_moved_entered(const char *path, char room[PATH_MAX]);
+
 /* Takes the broker's folder off the front of a path, in place, so that it is the one that the program knows. */
 void names_move_back(char *path);
+
+/* To be called once the working directory may be another one. */
+void names_note_folder(void);
 
 /* Writes the path of a chip's file in the broker's folder. */
 void names_node(int chip, char room[PATH_MAX]);

@@ -8,6 +8,7 @@
 
 #include "ask.h"
 #include "known.h"
+#include "mounts.h"
 #include "names.h"
 #include "real.h"
 
@@ -43,6 +44,9 @@ static __attribute__((noinline)) int open_concerned(int from, const char *path, 
 
 /* Opens any name. */
 static int open_any(int from, const char *path, int flags, mode_t mode) {
+    int list = (flags & (O_ACCMODE | O_PATH | O_DIRECTORY)) == O_RDONLY ? mounts_open(path, flags & O_CLOEXEC) : -1;
+    if (list >= 0)
+        return list;
     int file = names_concern(path) ? open_concerned(from, path, flags, mode) : REAL(openat)(from, path, flags, mode);
     if (file >= 0 || errno != ENOENT)
         return file;
@@ -109,10 +113,16 @@ TAKES_OVER int __openat64_2(int from, const char *path, int flags) {
 
 TAKES_OVER FILE *fopen(const char *path, const char *mode) {
     char room[PATH_MAX];
+    FILE *list = mounts_open_stream(path, mode);
+    if (list)
+        return list;
     return REAL(fopen)(names_moved(AT_FDCWD, path, room), mode);
 }
 
 TAKES_OVER FILE *fopen64(const char *path, const char *mode) {
     char room[PATH_MAX];
+    FILE *list = mounts_open_stream(path, mode);
+    if (list)
+        return list;
     return REAL(fopen64)(names_moved(AT_FDCWD, path, room), mode);
 }

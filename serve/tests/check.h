@@ -78,6 +78,8 @@ void test_forks(void);
 void test_manual(void);
 /* With few numbers of files. */
 void test_crowd(void);
+/* Where gpio-sim's file system can be shown. */
+void test_tree(void);
 /* A program that waits for an event. */
 int test_waiting(void);
 /* The other end of a test of exec. */
