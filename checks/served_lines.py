@@ -9,7 +9,9 @@ import unittest
 from pathlib import Path
 from typing import IO, Iterator, List, Tuple
 
-from served import LINE_MAX, Refused, Served, program
+from gpioserve import Refused, Served
+from gpioserve.programs import served as program
+from gpioserve.served import LINE_MAX
 
 TOP = Path(__file__).resolve().parent.parent
 FOLDERS = ("examples", "checks/rows")

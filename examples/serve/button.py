@@ -4,8 +4,8 @@ import sys
 import unittest
 from pathlib import Path
 
-sys.path.insert(0, str(Path(__file__).resolve().parents[2] / "serve"))
-from served import Served  # noqa: E402
+sys.path.insert(0, str(Path(__file__).resolve().parents[2] / "serve/python"))
+from gpioserve import Served  # noqa: E402
 
 
 class Bench(Served):

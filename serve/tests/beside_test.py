@@ -1,4 +1,4 @@
-"""Tests of serve/served.py and serve/beside: over a small program that answers as it is told, and over the one that serves."""
+"""Tests of gpioserve.served and serve/beside: over a small program that answers as it is told, and over the one that serves."""
 import os
 import subprocess
 import sys
@@ -9,8 +9,9 @@ from typing import List, Optional
 
 HERE = Path(__file__).resolve().parent
 TOP = HERE.parent.parent
-sys.path.insert(0, str(HERE.parent))
-import served  # noqa: E402
+sys.path.insert(0, str(HERE.parent / "python"))
+import gpioserve  # noqa: E402
+from gpioserve import programs, served  # noqa: E402
 
 # Answers `say TEXT` with TEXT, in which `/` stands for a line end and `>` for a tab; refuses `no`; writes what comes after `raw` as it is;
 # ends at `end`; and prints nothing for every other line.
@@ -56,7 +57,7 @@ class ServedTest(unittest.TestCase):
 
     def test_a_refused_line_raises_and_the_next_is_answered(self) -> None:
         with served.Served(told()) as machine:
-            with self.assertRaises(served.Refused) as caught:
+            with self.assertRaises(gpioserve.Refused) as caught:
                 machine.say("no tea")
             self.assertEqual((caught.exception.line, caught.exception.column, caught.exception.kind), (1, 4, "word"))
             self.assertEqual(machine.answer(b"no"), served.Answer(False, b"refused 2 4 word\n"))
@@ -68,16 +69,16 @@ class ServedTest(unittest.TestCase):
     def test_an_end_before_an_answer_is_said(self) -> None:
         for line in ("end", "raw = 5/abc/"):
             with served.Served([sys.executable, "-c", TOLD.replace("flush()", "flush()\n    if word == b'raw': sys.exit(6)")]) as machine:
-                with self.assertRaisesRegex(served.NotServed, "ended with status 6"):
+                with self.assertRaisesRegex(gpioserve.NotServed, "ended with status 6"):
                     machine.say(line)
 
     def test_what_is_no_answer_is_shown(self) -> None:
         for text in ("hello/", "= x/", "? 0/", "= -1/", "= 00000000000000000000000000000000000"):
-            with served.Served(told()) as machine, self.assertRaisesRegex(served.NotServed, "begins no answer"):
+            with served.Served(told()) as machine, self.assertRaisesRegex(gpioserve.NotServed, "begins no answer"):
                 machine.say("raw " + text)
 
     def test_a_program_that_is_missing_is_named(self) -> None:
-        with self.assertRaisesRegex(served.NotServed, "/no/such can't be started"):
+        with self.assertRaisesRegex(gpioserve.NotServed, "/no/such can't be started"):
             served.Served(["/no/such"])
 
     def test_a_line_end_inside_a_line_is_no_line(self) -> None:
@@ -149,8 +150,8 @@ class MachineTest(unittest.TestCase):
 
     def setUp(self) -> None:
         try:
-            served.program()
-        except served.NotServed as fault:
+            programs.served()
+        except gpioserve.NotServed as fault:
             self.skipTest(str(fault))
 
     def test_answers_of_a_session_are_its_output(self) -> None:

@@ -11,9 +11,9 @@ from typing import Dict, List, Tuple
 
 HERE = Path(__file__).resolve().parent
 OUT = HERE.parent / "out"
-sys.path.insert(0, str(HERE.parent))
-import served  # noqa: E402
+sys.path[:0] = [str(HERE.parent), str(HERE.parent / "python")]
 import waves  # noqa: E402
+from gpioserve import NotServed, programs  # noqa: E402
 
 BOARD = ["clock 5000 0", "probe plain 2", "mkdir panel", "mkdir panel/soc", "write panel/soc/num_lines 3", "mkdir panel/soc/line0",
          "write panel/soc/line0/name POWER", "mkdir panel/soc/line2", "write panel/soc/line2/name LED", "write panel/live 1"]
@@ -44,8 +44,8 @@ def rows(text: str) -> Dict[Tuple[str, str], List[Tuple[int, str]]]:
 class DumpTest(unittest.TestCase):
     def setUp(self) -> None:
         try:
-            served.program()
-        except served.NotServed as fault:
+            programs.served()
+        except NotServed as fault:
             self.skipTest(str(fault))
         if not os.access(OUT / "gpioserve", os.X_OK):
             self.skipTest("serve/ isn't built")

@@ -4,39 +4,22 @@
         served.begin()
         served.say("probe demo 4")
         print(served.say("gpiodetect"), end="")     # gpiochip0 [demo] (4 lines)
-
-The program is the one that GPIOSERVED names, with its arguments, or else that of the repository's present sources.
 """
-import os
-import re
-import shlex
-import shutil
+
+from __future__ import annotations
+
 import subprocess
 from dataclasses import dataclass
-from pathlib import Path
 from types import TracebackType
-from typing import IO, List, Optional, Sequence, Type, TypeVar
+from typing import IO, Optional, Sequence, Type, TypeVar
 
-# Prints the path of a program of the repository's present sources. Where there is none it makes one, in about a minute.
-FINDER = Path(__file__).resolve().parent.parent / "launcher/program"
+from . import programs
+from .errors import NotServed, Refused
+
 HEAD_MAX = 32
 # How many bytes a line has at most.
 LINE_MAX = 8192
 Self = TypeVar("Self", bound="Served")
-
-
-class NotServed(Exception):
-    """There is no gpioserved to start, or it ended, or it wrote what is no answer."""
-
-
-class Refused(Exception):
-    """A line that is no statement here. It counts as not given."""
-
-    def __init__(self, line: int, column: int, kind: str, text: str) -> None:
-        super().__init__(f"refused {line} {column} {kind}: {text}")
-        self.line = line
-        self.column = column
-        self.kind = kind
 
 
 @dataclass(frozen=True)
@@ -47,27 +30,12 @@ class Answer:
     text: bytes
 
 
-def program() -> List[str]:
-    """The command that serves: the words of GPIOSERVED, or the program of the present sources. NotServed where there is neither."""
-    named = os.environ.get("GPIOSERVED")
-    if named:
-        words = shlex.split(named)
-        if shutil.which(words[0]) is None:
-            raise NotServed(f"{words[0]} isn't there, which GPIOSERVED names")
-        return words
-    if not os.access(FINDER, os.X_OK):
-        raise NotServed("there is no served program: name one in GPIOSERVED")
-    found = subprocess.run([str(FINDER), "gpioserved"], stdout=subprocess.PIPE, text=True, check=False)
-    if found.returncode != 0:
-        raise NotServed("there is no served program: what stands above says why. Or name one in GPIOSERVED")
-    return [found.stdout.removesuffix("\n")]
-
-
 class Served:
     """A running gpioserved. Each line is answered before the next is given."""
 
     def __init__(self, command: Optional[Sequence[str]] = None) -> None:
-        words = list(command) if command else program()
+        """Starts `command`, or what GPIOSERVED names, or the program that is found. NotServed where it can't start."""
+        words = list(command) if command else programs.served()
         try:
             self._process = subprocess.Popen(words, stdin=subprocess.PIPE, stdout=subprocess.PIPE)
         except OSError as fault:
@@ -76,7 +44,9 @@ class Served:
     def __enter__(self: Self) -> Self:
         return self
 
-    def __exit__(self, kind: Optional[Type[BaseException]], fault: Optional[BaseException], trace: Optional[TracebackType]) -> None:
+    def __exit__(
+        self, kind: Optional[Type[BaseException]], fault: Optional[BaseException], trace: Optional[TracebackType]
+    ) -> None:
         self.close()
 
     def begin(self) -> None:
@@ -85,15 +55,15 @@ class Served:
         self.say("setup")
 
     def say(self, line: str) -> str:
-        """What a line prints. Refused where it is no statement; NotServed where nobody answers."""
+        """What a line prints, also the name of an error. Refused where it is no statement; NotServed where nobody answers."""
         answer = self.answer(line.encode())
         text = answer.text.decode("utf-8", "backslashreplace")
         if answer.accepted:
             return text
-        found = re.fullmatch("refused ([0-9]+) ([0-9]+) ([a-z-]+)\n", text)
-        if not found:
+        refused = Refused(line, text)
+        if refused.line is None:
             raise NotServed(f"gpioserved wrote {text!r}, which is no refusal")
-        raise Refused(int(found[1]), int(found[2]), found[3], line)
+        raise refused
 
     def answer(self, line: bytes) -> Answer:
         """The answer to one line, which has no line end in it."""
