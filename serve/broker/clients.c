@@ -5,13 +5,16 @@
 #include <stdio.h>
 #include <stdlib.h>
 #include <string.h>
-#include <sys/mman.h>
 #include <sys/socket.h>
 #include <sys/un.h>
 #include <unistd.h>
 
+#include "clock.h"
 #include "report.h"
 #include "spare.h"
+
+/* Nanoseconds from which on an answer is costly. */
+#define COSTLY (2 * CLOCK_MILLISECOND)
 
 bool clients_listen(struct clients *clients, const char *folder) {
     struct sockaddr_un address = {.sun_family = AF_UNIX};
@@ -44,24 +47,76 @@ static void turn_away(const struct clients *clients) {
     spare_take();
 }
 
-struct client *clients_accept(struct clients *clients) {
+/* Whether a question stands there that was not read. */
+static bool has_question(const struct client *client) {
+    char byte;
+    return recv(client->watch.number, &byte, sizeof byte, MSG_PEEK | MSG_DONTWAIT) > 0;
+}
+
+/* Ends the oldest connection by which was asked nothing but whose files are. Whether there was one. */
+static bool end_idle(struct clients *clients) {
+    struct client *oldest = NULL;
+    for (struct client *client = clients->first; client; client = client->next)
+        if (!client->asks && !has_question(client))
+            oldest = client;
+    if (oldest)
+        clients_drop(clients, oldest);
+    return oldest != NULL;
+}
+
+/* The number of a new connection, or -1. */
+static int accept_number(struct clients *clients) {
     int number = accept4(clients->listener.number, NULL, NULL, SOCK_CLOEXEC | SOCK_NONBLOCK);
-    if (number < 0 && spare_is_wanted(errno))
+    if (number < 0 && spare_is_wanted(errno)) {
+        if (end_idle(clients))
+            return accept4(clients->listener.number, NULL, NULL, SOCK_CLOEXEC | SOCK_NONBLOCK);
         turn_away(clients);
+    }
+    return number;
+}
+
+/* A client of the same process, or NULL. */
+static const struct client *sibling_of(const struct clients *clients, pid_t pid) {
+    for (const struct client *client = clients->first; client; client = client->next)
+        if (client->asker.pid == pid)
+            return client;
+    return NULL;
+}
+
+struct client *clients_accept(struct clients *clients) {
+    int number = accept_number(clients);
     if (number < 0)
         return NULL;
-    struct client *client = clients->count < CLIENTS_MOST ? malloc(sizeof *client) : NULL;
+    struct client *client = clients->count < CLIENTS_MOST || end_idle(clients) ? calloc(1, sizeof *client) : NULL;
     if (!client) {
         close(number);
         return NULL;
     }
     client->watch = (struct watch){WATCH_CLIENT, number, client};
+    client->all = clients;
     client->asker = asker_of(number);
     client->wait.kind = WAIT_NOTHING;
+    client->large.file = -1;
+    const struct client *sibling = sibling_of(clients, client->asker.pid);
+    client->costly = sibling && sibling->costly;
+    client->served = sibling ? sibling->served : 0;
     client->next = clients->first;
     clients->first = client;
     clients->count++;
     return client;
+}
+
+void clients_charge(struct client *client, uint64_t nanoseconds) {
+    bool costly = nanoseconds >= COSTLY;
+    if (!costly && !client->costly)
+        return;
+    client->all->served += costly;
+    for (struct client *other = client->all->first; other; other = other->next) {
+        if (other->asker.pid != client->asker.pid)
+            continue;
+        other->costly = costly;
+        other->served = client->all->served;
+    }
 }
 
 int clients_read(struct client *client, struct packet *packet) {
@@ -74,10 +129,11 @@ int clients_read(struct client *client, struct packet *packet) {
         packet->question.length != (size_t)got - sizeof packet->question)
         return -1;
     packet->data[packet->question.length] = 0;
+    client->asks = client->asks || packet->question.op != WIRE_WHOSE;
     return 1;
 }
 
-static bool send_packet(int number, struct answer *answer, const void *data, size_t length, int file) {
+bool clients_send(struct client *client, struct answer *answer, const void *data, size_t length, int file) {
     union {
         char bytes[CMSG_SPACE(sizeof(int))];
         struct cmsghdr aligned;
@@ -94,48 +150,21 @@ static bool send_packet(int number, struct answer *answer, const void *data, siz
         head->cmsg_len = CMSG_LEN(sizeof file);
         memcpy(CMSG_DATA(head), &file, sizeof file);
     }
-    return sendmsg(number, &message, MSG_NOSIGNAL | MSG_DONTWAIT) == (ssize_t)(sizeof *answer + length);
-}
-
-/* A file without a name that has these bytes, read from its start, for the caller to close; -1 where there can be none.
- */
-static int file_with(const char *data, size_t length) {
-    int file = memfd_create("answer", MFD_CLOEXEC);
-    while (file >= 0 && length > 0) {
-        ssize_t written = write(file, data, length);
-        if (written < 0 && errno == EINTR)
-            continue;
-        if (written <= 0) {
-            close(file);
-            return -1;
-        }
-        data += written;
-        length -= (size_t)written;
-    }
-    if (file >= 0 && lseek(file, 0, SEEK_SET) != 0) {
-        close(file);
-        return -1;
-    }
-    return file;
-}
-
-/* Sends an answer whose bytes a packet has no room for. */
-static bool send_in_file(int number, struct answer *answer, const void *data) {
-    int whole = file_with(data, answer->length);
-    if (whole < 0)
-        return false;
-    answer->in_file = 1;
-    bool sent = send_packet(number, answer, NULL, 0, whole);
-    close(whole);
-    return sent;
+    return sendmsg(client->watch.number, &message, MSG_NOSIGNAL | MSG_DONTWAIT) == (ssize_t)(sizeof *answer + length);
 }
 
 void clients_reply(struct client *client, struct answer *answer, const void *data, int file) {
-    int number = client->watch.number;
-    bool sent = answer->length <= WIRE_DATA ? send_packet(number, answer, data, answer->length, file)
-                                            : send_in_file(number, answer, data);
-    if (!sent)
-        shutdown(number, SHUT_RDWR);
+    int error = 0;
+    if (answer->length > WIRE_DATA)
+        error = large_send(client->all, client, answer, data);
+    else if (!clients_send(client, answer, data, answer->length, file))
+        error = EAGAIN;
+    if (error == ENOMEM) {
+        struct answer none = {.error = ENOMEM};
+        error = clients_send(client, &none, NULL, 0, -1) ? 0 : EAGAIN;
+    }
+    if (error)
+        shutdown(client->watch.number, SHUT_RDWR);
 }
 
 void clients_drop(struct clients *clients, struct client *client) {
@@ -147,13 +176,25 @@ void clients_drop(struct clients *clients, struct client *client) {
     clients->count--;
     if (client->wait.kind != WAIT_NOTHING)
         clients->waiting--;
+    large_forget(clients, client);
     close(client->watch.number);
-    free(client);
+    client->watch.number = -1;
+    client->next = clients->ended;
+    clients->ended = client;
+}
+
+void clients_bury(struct clients *clients) {
+    while (clients->ended) {
+        struct client *next = clients->ended->next;
+        free(clients->ended);
+        clients->ended = next;
+    }
 }
 
 void clients_end(struct clients *clients) {
     while (clients->first)
         clients_drop(clients, clients->first);
+    clients_bury(clients);
     if (clients->listener.number >= 0)
         close(clients->listener.number);
     clients->listener.number = -1;

@@ -5,12 +5,13 @@
 #include <sys/epoll.h>
 #include <sys/wait.h>
 
+#include "clock.h"
 #include "questions.h"
 #include "report.h"
 #include "turn.h"
 
-/* What is taken at one look. */
-#define MOST_SHOWN 64
+/* What is taken at one look: all connections, and what else is waited for. */
+#define MOST_SHOWN (CLIENTS_MOST + 64)
 #define MOST_INPUT 4096
 
 struct loop {
@@ -28,7 +29,14 @@ static void take_input(struct loop *loop) {
         loop->input_ended = true;
 }
 
-static void take_connection(struct broker *broker) {
+/* Takes a connection, where one was shown: after those that have ended, of which there may be as many as there can be.
+ */
+static void take_connection(struct broker *broker, const struct epoll_event *events, int count) {
+    int shown = 0;
+    while (shown < count && events[shown].data.ptr != &broker->clients.listener)
+        shown++;
+    if (shown == count)
+        return;
     struct client *client = clients_accept(&broker->clients);
     if (client && !watch_by(broker->poller, &client->watch, EPOLLIN))
         clients_drop(&broker->clients, client);
@@ -37,26 +45,25 @@ static void take_connection(struct broker *broker) {
 /* Answers a question, once all files are closed that were so before it. Of a client that waits nothing is shown but
  * that it has gone. */
 static bool take_question(struct broker *broker, struct client *client) {
+    uint64_t begin = clock_monotonic();
     int got = client->wait.kind == WAIT_NOTHING ? clients_read(client, &broker->packet) : -1;
     if (got < 0)
         clients_drop(&broker->clients, client);
-    return got <= 0 || (turn_close_ended(broker) && questions_answer(broker, client));
+    if (got <= 0)
+        return true;
+    bool alive = turn_close_ended(broker) && questions_answer(broker, client);
+    clients_charge(client, clock_monotonic() - begin);
+    return alive;
 }
 
-/* Takes what was shown. */
-static void take_event(struct loop *loop, struct watch *watch) {
+/* Takes what was shown, except questions and new connections. */
+static void take_event(struct loop *loop, const struct watch *watch) {
     switch (watch->kind) {
     case WATCH_SIGNALS:
         signals_receive(&loop->broker->signals);
         break;
     case WATCH_INPUT:
         take_input(loop);
-        break;
-    case WATCH_LISTENER:
-        take_connection(loop->broker);
-        break;
-    case WATCH_CLIENT:
-        loop->alive = take_question(loop->broker, watch->owner);
         break;
     case WATCH_ENDS:
         loop->alive = turn_close_ended(loop->broker);
@@ -67,9 +74,32 @@ static void take_event(struct loop *loop, struct watch *watch) {
     case WATCH_TREE:
         loop->alive = show_answer(loop->broker);
         break;
+    case WATCH_LISTENER:
+    case WATCH_CLIENT:
     case WATCH_FILE:
         break;
     }
+}
+
+/* The client that was shown, or NULL: it was no client, or its connection was ended since then. */
+static struct client *client_of(const struct epoll_event *event) {
+    const struct watch *watch = event->data.ptr;
+    return watch->kind == WATCH_CLIENT && watch->number >= 0 ? watch->owner : NULL;
+}
+
+/* Takes a question of each client that was shown. Of the processes whose answers take long, only the one that was
+ * answered longest ago is answered: whoever asks then waits for one such answer, however many were asked for. */
+static void take_questions(struct loop *loop, const struct epoll_event *events, int count) {
+    struct client *costly = NULL;
+    for (int i = 0; i < count && loop->alive; i++) {
+        struct client *client = client_of(&events[i]);
+        if (client && !client->costly)
+            loop->alive = take_question(loop->broker, client);
+        else if (client && (!costly || client->served < costly->served))
+            costly = client;
+    }
+    if (costly && costly->watch.number >= 0 && loop->alive)
+        loop->alive = take_question(loop->broker, costly);
 }
 
 /* How long nothing has to be done: milliseconds, or -1. */
@@ -87,6 +117,10 @@ static bool wait_once(struct loop *loop) {
         return errno == EINTR;
     for (int i = 0; i < count && loop->alive; i++)
         take_event(loop, events[i].data.ptr);
+    take_questions(loop, events, count);
+    if (loop->alive)
+        take_connection(broker, events, count);
+    clients_bury(&broker->clients);
     if (loop->alive && turn_wait(broker) == 0)
         loop->alive = turn_tick(broker);
     loop->alive = loop->alive && waits_expire(broker);

@@ -2,23 +2,15 @@
 
 #include <inttypes.h>
 #include <stdio.h>
-#include <stdlib.h>
 #include <string.h>
 #include <sys/epoll.h>
-#include <time.h>
 
+#include "clock.h"
 #include "touch.h"
 
-static uint64_t clock_of(clockid_t which) {
-    struct timespec time;
-    if (clock_gettime(which, &time))
-        abort();
-    return (uint64_t)time.tv_sec * 1000000000u + (uint64_t)time.tv_nsec;
-}
-
 static void put_clock(struct broker *broker) {
-    broker->now = clock_of(CLOCK_MONOTONIC);
-    machine_putf(&broker->machine, "clock %" PRIu64 " %" PRIu64, broker->now, clock_of(CLOCK_REALTIME));
+    broker->now = clock_monotonic();
+    machine_putf(&broker->machine, "clock %" PRIu64 " %" PRIu64, broker->now, clock_real());
     if (!broker->has_due || broker->due > broker->now)
         return;
     touch_debounced(&broker->files);
@@ -186,7 +178,7 @@ bool turn_close_ended(struct broker *broker) {
 int turn_wait(const struct broker *broker) {
     if (broker->manual || !broker->has_due)
         return -1;
-    uint64_t now = clock_of(CLOCK_MONOTONIC);
-    uint64_t left = broker->due > now ? (broker->due - now + 999999) / 1000000 : 0;
+    uint64_t now = clock_monotonic();
+    uint64_t left = broker->due > now ? (broker->due - now + CLOCK_MILLISECOND - 1) / CLOCK_MILLISECOND : 0;
     return left > 60000 ? 60000 : (int)left;
 }

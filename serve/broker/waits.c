@@ -8,11 +8,9 @@
 #include <string.h>
 #include <sys/epoll.h>
 #include <sys/socket.h>
-#include <time.h>
 
 #include "broker.h"
-
-#define NANOSECONDS_IN_MS 1000000u
+#include "clock.h"
 
 /* What a wait has come to: the error's number, 0 where it is met, WAITS_ON where it goes on; and a line of text: what
  * is told where it is met, or what stands in its way. */
@@ -22,13 +20,6 @@ struct outcome {
 };
 
 #define WAITS_ON (-1)
-
-static uint64_t now(void) {
-    struct timespec time;
-    if (clock_gettime(CLOCK_MONOTONIC, &time))
-        return 0;
-    return (uint64_t)time.tv_sec * 1000 * NANOSECONDS_IN_MS + (uint64_t)time.tv_nsec;
-}
 
 void waits_count_read(struct counts *counts, unsigned chip, uint32_t line) {
     if (chip < WIRE_CHIPS && line < WAIT_LINES)
@@ -177,7 +168,7 @@ bool waits_begin(struct broker *broker, struct client *client, const char *line)
         alive = look_at(broker, wait, &outcome);
     if (alive && outcome.error == WAITS_ON && wait->limit == 0)
         time_out(wait, &outcome);
-    wait->until = now() + wait->limit * NANOSECONDS_IN_MS;
+    wait->until = clock_monotonic() + wait->limit * CLOCK_MILLISECOND;
     if (alive && outcome.error == WAITS_ON && watch_change(broker->poller, &client->watch, 0)) {
         broker->clients.waiting++;
         return true;
@@ -209,7 +200,7 @@ bool waits_expire(struct broker *broker) {
     if (broker->clients.waiting == 0)
         return true;
     for (struct client *client = broker->clients.first; client; client = client->next) {
-        if (client->wait.kind == WAIT_NOTHING || client->wait.until > now())
+        if (client->wait.kind == WAIT_NOTHING || client->wait.until > clock_monotonic())
             continue;
         if (!look_at(broker, &client->wait, &outcome))
             return false;
@@ -221,12 +212,12 @@ bool waits_expire(struct broker *broker) {
 }
 
 int waits_time(const struct broker *broker) {
-    uint64_t soonest = UINT64_MAX, time = now();
+    uint64_t soonest = UINT64_MAX, time = clock_monotonic();
     if (broker->clients.waiting == 0)
         return -1;
     for (const struct client *client = broker->clients.first; client; client = client->next)
         if (client->wait.kind != WAIT_NOTHING && client->wait.until < soonest)
             soonest = client->wait.until;
-    uint64_t left = soonest > time ? (soonest - time + NANOSECONDS_IN_MS - 1) / NANOSECONDS_IN_MS : 0;
+    uint64_t left = soonest > time ? (soonest - time + CLOCK_MILLISECOND - 1) / CLOCK_MILLISECOND : 0;
     return left > INT_MAX ? INT_MAX : (int)left;
 }

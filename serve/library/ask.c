@@ -19,6 +19,11 @@
 /* The connection's number is at least this, out of the way of numbers that programs count on. */
 #define LEAST_NUMBER 700
 
+/* The broker ends connections that are of little use where it has too many. A question that it had not read by then is
+ * asked again, so often at most. */
+#define UNREAD (-1)
+#define MOST_TURNS 4
+
 /* System calls are made directly here: none of them may be a point at which a thread is cancelled, or end in a function
  * that this library takes over. */
 
@@ -151,7 +156,7 @@ static int send_question(int socket, const struct exchange *exchange) {
     struct msghdr message = {.msg_iov = parts, .msg_iovlen = length > 0 ? 2 : 1};
     if (syscall(SYS_sendmsg, socket, &message, MSG_NOSIGNAL) >= 0)
         return 0;
-    return errno == EFAULT ? EFAULT : ENODEV;
+    return errno == EFAULT ? EFAULT : errno == EPIPE || errno == ECONNRESET ? UNREAD : ENODEV;
 }
 
 /* Takes the file that came with a message; -1 where none did. */
@@ -181,6 +186,8 @@ static int receive_answer(int socket, struct exchange *exchange) {
     while (length < 0 && errno == EINTR);
     if (length < 0 && errno == EFAULT)
         return EFAULT;
+    if (length < 0 && errno == ECONNRESET)
+        return UNREAD;
     if (length < (long)sizeof *exchange->answer)
         return ENODEV;
     exchange->file = file_of(&message);
@@ -193,15 +200,16 @@ static int ask_over(int socket, struct exchange *exchange) {
 }
 
 static int ask_as(struct process *process, struct exchange *exchange) {
-    int error = ENODEV;
+    int error = UNREAD;
     lock_take(&process->lock);
     become_owner(process);
-    if (is_connected(process))
+    for (int turn = 0; turn < MOST_TURNS && error == UNREAD && is_connected(process); turn++) {
         error = ask_over(connection.number, exchange);
-    if (error == ENODEV)
-        lose_connection();
+        if (error == ENODEV || error == UNREAD)
+            lose_connection();
+    }
     lock_release(&process->lock);
-    return error;
+    return error == UNREAD ? ENODEV : error;
 }
 
 /* Asks over a connection that is made for this alone. */
@@ -212,7 +220,7 @@ static int ask_once(struct exchange *exchange) {
         return ENODEV;
     int error = ask_over(socket, exchange);
     syscall(SYS_close, socket);
-    return error;
+    return error == UNREAD ? ENODEV : error;
 }
 
 int ask(const struct question *question, const void *sent, struct answer *answer, void *got, size_t room, int *file,

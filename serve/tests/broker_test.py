@@ -287,5 +287,106 @@ assert len(os.read(files[7], 288 * 4)) == 288 * 2
         self.assertLessEqual(len(looked), 4)
 
 
+# A machine with 30,720 lines, of which `gpioinfo` prints a megabyte.
+FULL = "".join(f"probe x{chip} 512\n" for chip in range(60))
+# What a command needs for answers of which a packet has no room: `connect()`, `send(CONNECTION, TEXT)`, `take(CONNECTION)`.
+LARGE = """
+def connect():
+    made = socket.socket(socket.AF_UNIX, socket.SOCK_SEQPACKET)
+    made.connect(os.environ["GPIOSERVE"] + "/socket")
+    return made
+def send(connection, text):
+    connection.send(struct.pack("=IIQII", 4, 0, 0, len(text), 0) + text.encode())
+def take(connection):
+    "The error's number, the length that the answer says, and that of the file; None at the connection's end."
+    try:
+        answer, files, _, _ = socket.recv_fds(connection, 65560, 1)
+    except ConnectionResetError:
+        return None
+    if not answer:
+        return None
+    size = os.fstat(files[0]).st_size if files else 0
+    for file in files:
+        os.close(file)
+    return struct.unpack_from("=i", answer, 4)[0], struct.unpack_from("=I", answer, 16)[0], size
+"""
+
+
+class GreedyTest(BrokerTest):
+    """Clients that ask for more than others leave them."""
+
+    def run_full(self, script: str, *words: str) -> str:
+        """What a script prints that is run as a command on the full machine."""
+        (self.folder / "board").write_text(FULL)
+        broker = self.start(
+            "-b", str(self.folder / "board"), *words, command=[sys.executable, "-c", ASKING + LARGE + script]
+        )
+        self.assertEqual(self.status(broker), 0, self.said())
+        return self.said()
+
+    def test_a_large_answer_that_is_not_taken_is_the_last(self) -> None:
+        said = self.run_full(
+            """
+whole = connect()
+for turn in range(3):
+    send(whole, "gpioinfo")
+    error, length, size = take(whole)
+    assert error == 0 and length == size > 1000000
+greedy = connect()
+for turn in range(3):
+    send(greedy, "gpioinfo")
+say("gpiodetect")
+answers = [take(greedy) for turn in range(2)]
+print(answers[0][2], answers[1])
+"""
+        )
+        self.assertEqual(said, "0 None\n")
+
+    def test_large_answers_that_nobody_takes_have_a_limit(self) -> None:
+        said = self.run_full(
+            """
+greedy = [connect() for turn in range(80)]
+for one in greedy:
+    send(one, "gpioinfo")
+last = None
+while last is None or last[0] == 0:
+    last = take(greedy.pop())
+kept = greedy[:5]
+for one in greedy[5:]:
+    one.close()
+say("gpiodetect")
+again = connect()
+send(again, "gpioinfo")
+print(last, take(again)[0], [take(one)[0] for one in kept])
+"""
+        )
+        self.assertEqual(said, "(12, 0, 0) 0 [0, 0, 0, 0, 0]\n")
+
+    def test_nobody_waits_for_more_than_one_large_answer(self) -> None:
+        transcript = self.folder / "transcript"
+        self.run_full(
+            """
+held, child = edges(1), os.fork()
+if child == 0:
+    greedy = [connect() for turn in range(12)]
+    for turn in range(4):
+        for one in greedy:
+            send(one, "gpioinfo")
+        for one in greedy:
+            assert take(one)[0] == 0
+    os._exit(0)
+while os.waitpid(child, os.WNOHANG)[0] == 0:
+    fcntl.ioctl(chip, 0x8044B401, bytes(68))
+""",
+            "-t",
+            str(transcript),
+        )
+        lines = [line for line in transcript.read_text().split("\n") if line[:8] in ("gpioinfo", "ioctl ch")]
+        between = "".join("i" if line == "gpioinfo" else "." for line in lines).strip(".").split(".")
+        waits = sorted(len(part) for part in between if part)
+        self.assertGreater(len(waits), 20)
+        self.assertEqual(waits[len(waits) // 2], 1)
+
+
 if __name__ == "__main__":
     unittest.main()

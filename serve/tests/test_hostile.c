@@ -159,14 +159,70 @@ static void test_many_files(void) {
 
 static void test_many_connections(void) {
     int connections[MANY_CONNECTIONS];
-    test("600 connections: as many as are taken, and the others are ended");
-    for (int i = 0; i < MANY_CONNECTIONS; i++)
+    test("600 connections that ask: as many as are taken, and the others are ended");
+    for (int i = 0; i < MANY_CONNECTIONS; i++) {
         CHECK((connections[i] = raw_connect()) >= 0);
+        CHECK(raw_ask(connections[i], WIRE_READ, 0) == (i < 500 ? 0 : -1) || (i >= 500 && i < 520));
+    }
     CHECK(raw_ask(connections[0], WIRE_WHOSE, 0) == 0 && raw_ask(connections[400], WIRE_WHOSE, 0) == 0);
-    CHECK(raw_ask(connections[MANY_CONNECTIONS - 1], WIRE_WHOSE, 0) == -1);
     check_free(6);
     for (int i = 0; i < MANY_CONNECTIONS; i++)
         close(connections[i]);
+}
+
+static void test_idle_connections(void) {
+    int connections[MANY_CONNECTIONS];
+    test("of 600 connections that only asked whose a file is, the oldest make room");
+    for (int i = 0; i < MANY_CONNECTIONS; i++) {
+        CHECK((connections[i] = raw_connect()) >= 0);
+        CHECK(raw_ask(connections[i], WIRE_WHOSE, 0) == 0);
+    }
+    CHECK(raw_ask(connections[0], WIRE_WHOSE, 0) == -1);
+    CHECK(raw_ask(connections[MANY_CONNECTIONS - 1], WIRE_WHOSE, 0) == 0);
+    check_free(6);
+    for (int i = 0; i < MANY_CONNECTIONS; i++)
+        close(connections[i]);
+}
+
+/* Reads from a pipe of its own, of which the library asks whose it is; and then from another one, up to its end. */
+static int read_own_pipe(int last) {
+    char byte;
+    int own[2];
+    return !(pipe(own) == 0 && write(own[1], "a", 1) == 1 && read(own[0], &byte, 1) == 1 && read(last, &byte, 1) == 0);
+}
+
+static int work_beside(int chip) {
+    struct gpiochip_info info;
+    check_free(6);
+    return ioctl(chip, GPIO_GET_CHIPINFO_IOCTL, &info) != 0;
+}
+
+/* A child that does without the end of a pipe that its parent keeps. */
+static pid_t run_without(int end, int (*work)(int), int argument) {
+    fflush(stdout);
+    pid_t child = fork();
+    if (child == 0) {
+        close(end);
+        _exit(work(argument));
+    }
+    return child;
+}
+
+static void test_many_readers(void) {
+    pid_t readers[MANY_CONNECTIONS];
+    int last[2], chip = open_chip(0);
+    test("600 processes that read a pipe of their own leave room for one that asks");
+    CHECK(pipe(last) == 0);
+    for (int i = 0; i < MANY_CONNECTIONS; i++)
+        CHECK((readers[i] = run_without(last[1], read_own_pipe, last[0])) > 0);
+    for (int i = 0; i < 20; i++)
+        CHECK(end_of(run_child(work_beside, chip)) == 0);
+    close(last[1]);
+    for (int i = 0; i < MANY_CONNECTIONS; i++)
+        CHECK(end_of(readers[i]) == 0);
+    CHECK(end_of(run_child(work_beside, chip)) == 0);
+    close(last[0]);
+    close(chip);
 }
 
 /* How many files the broker has; -1 where that can't be seen. */
@@ -194,6 +250,8 @@ void test_hostile(void) {
     test_deaf();
     test_many_files();
     test_many_connections();
+    test_idle_connections();
+    test_many_readers();
     test("nothing of all that is left behind");
     CHECK(before > 0 && count_of_broker() == before);
 }
@@ -214,8 +272,10 @@ void test_crowd(void) {
         opened++;
     CHECK(opened > 5 && errno == EMFILE);
     /* (a file takes two for a moment, so one may be left) */
-    for (int i = 0; i < 2; i++)
+    for (int i = 0; i < 2; i++) {
         CHECK((connections[i] = raw_connect()) >= 0);
+        CHECK(raw_ask(connections[i], WIRE_READ, 0) == 0 || i > 0);
+    }
     CHECK(raw_ask(connections[1], WIRE_WHOSE, 0) == -1);
     test("a file that was read shows nothing, also where the broker has no number left");
     check_event(held, false);
