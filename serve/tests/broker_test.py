@@ -291,6 +291,7 @@ assert len(os.read(files[7], 288 * 4)) == 288 * 2
 FULL = "".join(f"probe x{chip} 512\n" for chip in range(60))
 # What a command needs for answers of which a packet has no room: `connect()`, `send(CONNECTION, TEXT)`, `take(CONNECTION)`.
 LARGE = """
+import select
 def connect():
     made = socket.socket(socket.AF_UNIX, socket.SOCK_SEQPACKET)
     made.connect(os.environ["GPIOSERVE"] + "/socket")
@@ -335,7 +336,9 @@ for turn in range(3):
 greedy = connect()
 for turn in range(3):
     send(greedy, "gpioinfo")
-say("gpiodetect")
+ended = select.poll()
+ended.register(greedy, 0)
+assert ended.poll()
 answers = [take(greedy) for turn in range(2)]
 print(answers[0][2], answers[1])
 """
