@@ -163,8 +163,10 @@ void clients_reply(struct client *client, struct answer *answer, const void *dat
         struct answer none = {.error = ENOMEM};
         error = clients_send(client, &none, NULL, 0, -1) ? 0 : EAGAIN;
     }
-    if (error)
-        shutdown(client->watch.number, SHUT_RDWR);
+    if (error == 0)
+        return;
+    large_forget(client->all, client);
+    shutdown(client->watch.number, SHUT_RDWR);
 }
 
 void clients_drop(struct clients *clients, struct client *client) {

@@ -149,6 +149,7 @@ static bool is_over(const struct loop *loop) {
 /* Ends a command that has nobody any more who answers. What it asks or waits for fails first, since a program that
  * waits for an answer receives no signal. */
 static void end_command(struct broker *broker) {
+    show_end(broker);
     clients_end(&broker->clients);
     files_free(&broker->files);
     signals_end_command(&broker->signals);
