@@ -6,7 +6,6 @@
 #include <stdarg.h>
 #include <stdint.h>
 #include <stdlib.h>
-#include <string.h>
 #include <sys/ioctl.h>
 #include <sys/syscall.h>
 #include <sys/uio.h>
@@ -14,7 +13,10 @@
 
 #include "../uapi.h"
 #include "ask.h"
+#include "flags.h"
+#include "hardware.h"
 #include "known.h"
+#include "memory.h"
 #include "real.h"
 
 static int fail(int error) {
@@ -22,11 +24,18 @@ static int fail(int error) {
     return -1;
 }
 
-/* Writes the number of a file that came to its place in the program's structure. */
-static void give_number(int file, const struct answer *answer, size_t length, void *structure) {
+/* Writes the number of a file that came to its place in the program's structure, or closes it. */
+static int give_number(int file, const struct answer *answer, size_t length, void *structure) {
+    int error = answer->fd_at + sizeof file <= length ? 0 : EIO;
+    if (error == 0)
+        error = memory_write((char *)structure + answer->fd_at, &file, sizeof file);
+    if (error) {
+        syscall(SYS_close, file);
+        return fail(error);
+    }
+    flags_keep(file, O_RDONLY);
     known_keep(file, -1);
-    if (answer->fd_at + sizeof file <= length)
-        memcpy((char *)structure + answer->fd_at, &file, sizeof file);
+    return 0;
 }
 
 /* A command on a file of the broker's. 1: the file turned out to be another one. */
@@ -43,11 +52,19 @@ static int command(const struct known *known, uint32_t number, void *structure) 
         return 1;
     if (answer.error)
         return fail(answer.error);
-    if (answer.fd_at > 0 && made < 0)
-        return fail(ENODEV);
     if (made >= 0)
-        give_number(made, &answer, length, structure);
-    return 0;
+        return give_number(made, &answer, length, structure);
+    return answer.fd_at > 0 ? fail(ENODEV) : 0;
+}
+
+/* A GPIO command on any file. 1: the system answers it, since the file is no GPIO device. */
+static int gpio_command(int file, uint32_t number, void *structure) {
+    struct known known = known_file(file);
+    int done = known.ours ? command(&known, number, structure) : 1;
+    if (done <= 0 || !ask_home() || !hardware_is(file))
+        return done;
+    hardware_refuse(file, number);
+    return fail(EPERM);
 }
 
 TAKES_OVER int ioctl(int file, unsigned long number, ...) {
@@ -56,11 +73,13 @@ TAKES_OVER int ioctl(int file, unsigned long number, ...) {
     void *structure = va_arg(values, void *);
     va_end(values);
     if (UAPI_TYPE(number) == UAPI_GPIO) {
-        struct known known = known_file(file);
-        int done = known.ours ? command(&known, (uint32_t)number, structure) : 1;
+        int done = gpio_command(file, (uint32_t)number, structure);
         if (done <= 0)
             return done;
     }
+    /* (how many bytes wait is no command of a chip; of its pipe it would be) */
+    if (number == FIONREAD && known_file(file).ours)
+        return fail(EINVAL);
     return REAL(ioctl)(file, number, structure);
 }
 
@@ -82,7 +101,7 @@ static ssize_t read_ours(int file, const struct known *known, void *bytes, size_
         if (answer.found < 0)
             return -2;
         if (answer.error == 0)
-            return answer.length;
+            return answer.length <= question.command ? (ssize_t)answer.length : fail(EIO);
         int flags = answer.error == EAGAIN ? fcntl(file, F_GETFL) : O_NONBLOCK;
         if (flags < 0 || (flags & O_NONBLOCK))
             return fail(answer.error);
@@ -104,30 +123,22 @@ TAKES_OVER ssize_t __read_chk(int file, void *bytes, size_t room, size_t size) {
     return read(file, bytes, room);
 }
 
-/* Gives out bytes over a list of places. */
-static void scatter(const struct iovec *parts, int count, const char *bytes, size_t length) {
-    for (int i = 0; i < count && length > 0; i++) {
-        size_t part = parts[i].iov_len < length ? parts[i].iov_len : length;
-        memcpy(parts[i].iov_base, bytes, part);
-        bytes += part;
-        length -= part;
-    }
-}
-
+/* Reads into one place after another, as the kernel does, until one isn't filled. -2: the file turned out to be another
+ * one. */
 static ssize_t readv_ours(int file, const struct known *known, const struct iovec *parts, int count) {
-    size_t room = 0;
-    for (int i = 0; i < count; i++)
-        room += parts[i].iov_len < WIRE_DATA ? parts[i].iov_len : WIRE_DATA;
-    if (room > WIRE_DATA)
-        room = WIRE_DATA;
-    char *bytes = malloc(room + 1);
-    if (!bytes)
-        return fail(ENOMEM);
-    ssize_t got = read_ours(file, known, bytes, room);
-    if (got > 0)
-        scatter(parts, count, bytes, (size_t)got);
-    free(bytes);
-    return got;
+    ssize_t sum = 0;
+    if (!memory_is_readable(parts, (size_t)count * sizeof *parts))
+        return fail(EFAULT);
+    for (int i = 0; i < count; i++) {
+        size_t room = parts[i].iov_len;
+        ssize_t got = room > 0 ? read_ours(file, known, parts[i].iov_base, room) : 0;
+        if (got < 0)
+            return sum > 0 ? sum : got;
+        sum += got;
+        if ((size_t)got < room)
+            break;
+    }
+    return sum;
 }
 
 TAKES_OVER ssize_t readv(int file, const struct iovec *parts, int count) {

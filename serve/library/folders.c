@@ -11,48 +11,49 @@
 #include "real.h"
 
 TAKES_OVER int mkdir(const char *path, mode_t mode) {
-    char room[PATH_MAX];
+    char room[NAMES_ROOM];
     return REAL(mkdir)(names_moved(AT_FDCWD, path, room), mode);
 }
 
 TAKES_OVER int mkdirat(int from, const char *path, mode_t mode) {
-    char room[PATH_MAX];
+    char room[NAMES_ROOM];
     return REAL(mkdirat)(from, names_moved(from, path, room), mode);
 }
 
 TAKES_OVER int rmdir(const char *path) {
-    char room[PATH_MAX];
+    char room[NAMES_ROOM];
     return REAL(rmdir)(names_moved(AT_FDCWD, path, room));
 }
 
 TAKES_OVER int unlink(const char *path) {
-    char room[PATH_MAX];
+    char room[NAMES_ROOM];
     return REAL(unlink)(names_moved(AT_FDCWD, path, room));
 }
 
 TAKES_OVER int unlinkat(int from, const char *path, int flags) {
-    char room[PATH_MAX];
+    char room[NAMES_ROOM];
     return REAL(unlinkat)(from, names_moved(from, path, room), flags);
 }
 
 TAKES_OVER int remove(const char *path) {
-    char room[PATH_MAX];
+    char room[NAMES_ROOM];
     return REAL(remove)(names_moved(AT_FDCWD, path, room));
 }
 
 TAKES_OVER int truncate(const char *path, off_t length) {
-    char room[PATH_MAX];
+    char room[NAMES_ROOM];
     return REAL(truncate)(names_moved(AT_FDCWD, path, room), length);
 }
 
 TAKES_OVER int truncate64(const char *path, off64_t length) {
-    char room[PATH_MAX];
+    char room[NAMES_ROOM];
     return REAL(truncate64)(names_moved(AT_FDCWD, path, room), length);
 }
 
 TAKES_OVER int chdir(const char *path) {
-    char room[PATH_MAX];
-    int result = REAL(chdir)(names_moved_entered(path, room));
+    char room[NAMES_ROOM];
+    names_enter(AT_FDCWD, path);
+    int result = REAL(chdir)(names_moved(AT_FDCWD, path, room));
     if (result == 0)
         names_note_folder();
     return result;

@@ -10,6 +10,7 @@
 #include <unistd.h>
 
 #include "ask.h"
+#include "flags.h"
 
 /* What is known of pipes, each at the place of its number. An entry is one word, so that threads need no lock: the
  * pipe's number, and in the last byte 0 for nothing, 1 for a pipe of others, 2 for a request, and from 3 on a chip's
@@ -28,11 +29,12 @@ static unsigned look_up(ino_t ino) {
     return entry >> 8 == ino ? entry & 0xff : UNKNOWN;
 }
 
-static unsigned ask_for(ino_t ino) {
+/* (a file of the broker's stays so where nobody answers: what stands in its pipe is nothing for the program) */
+static unsigned ask_for(int file, ino_t ino) {
     struct question question = {.op = WIRE_WHOSE, .ino = ino};
     struct answer answer;
     if (ask(&question, NULL, &answer, NULL, 0, NULL, true))
-        return OTHERS;
+        return flags_are_kept(file) ? REQUEST : OTHERS;
     unsigned what = answer.found < 0                               ? OTHERS
                     : answer.chip == 0 || answer.chip > WIRE_CHIPS ? REQUEST
                                                                    : CHIP + answer.chip - 1;
@@ -72,7 +74,7 @@ struct known known_file(int file) {
         return known;
     unsigned what = look_up(known.ino);
     if (what == UNKNOWN)
-        what = ask_for(known.ino);
+        what = ask_for(file, known.ino);
     known.ours = what != OTHERS;
     known.chip = what >= CHIP ? (int)(what - CHIP) : -1;
     return known;

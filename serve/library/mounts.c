@@ -8,6 +8,7 @@
 #include <unistd.h>
 
 #include "ask.h"
+#include "memory.h"
 #include "real.h"
 #include "tree.h"
 
@@ -20,7 +21,7 @@ static const char short_line[] = "configfs " PLACE " configfs rw,nosuid,nodev,no
 /* The line that is added to a list; NULL where the path names none. */
 static const char *line_for(const char *path) {
     static const char *const lists[] = {"/proc/self/mountinfo", "/proc/self/mounts", "/proc/mounts", "/etc/mtab"};
-    if (!path || (strncmp(path, "/proc/", 6) != 0 && strncmp(path, "/etc/", 5) != 0))
+    if (memory_text_length(path) <= 0 || (strncmp(path, "/proc/", 6) != 0 && strncmp(path, "/etc/", 5) != 0))
         return NULL;
     for (size_t i = 0; i < sizeof lists / sizeof *lists; i++)
         if (strcmp(path, lists[i]) == 0)
@@ -43,7 +44,7 @@ static bool write_all(int file, const char *bytes, size_t length) {
 
 /* Copies a file to another one. */
 static bool copy_all(int from, int to) {
-    char bytes[4096];
+    char bytes[512];
     for (;;) {
         long got = syscall(SYS_read, from, bytes, sizeof bytes);
         if (got < 0 && errno == EINTR)

@@ -2,14 +2,13 @@
 
 #include <errno.h>
 #include <fcntl.h>
-#include <stdbool.h>
-#include <stdio.h>
 #include <string.h>
 #include <sys/syscall.h>
 #include <unistd.h>
 
 #include "../wire.h"
 #include "ask.h"
+#include "memory.h"
 #include "tree.h"
 
 #define TEXT(number) #number
@@ -18,14 +17,24 @@
 /* Where names stand in the broker's folder: all, and those below /sys where gpio-sim's file system is shown. */
 #define ROOT "/root"
 #define VIEW "/view"
+/* How the names of chips begin. */
+#define CHIP "gpiochip"
+/* Links that lead to links are followed so far, as the kernel does. */
+#define MOST_LINKS 40
 
-/* Names that stand there, with all below them. */
-static const char *const moved[] = {"/sys/bus/gpio", "/sys/devices/gpioserve"};
+/* Names that stand there, with all below them. In /sys/class/gpio there is nothing: lines of the machine itself would
+ * be driven there. */
+static const char *const moved[] = {"/sys/bus/gpio", "/sys/devices/gpioserve", "/sys/class/gpio"};
 /* How the names of chips by their device numbers begin. */
 static const char by_number[] = "/sys/dev/char/" NUMBER(WIRE_MAJOR) ":";
 
 static bool begins(const char *path, const char *front) {
     return strncmp(path, front, strlen(front)) == 0;
+}
+
+static const char *last_part(const char *path) {
+    const char *last = strrchr(path, '/');
+    return last ? last + 1 : path;
 }
 
 /* A chip's number at the end of a name: decimal, without leading zeros; -1 where it is none. */
@@ -41,8 +50,34 @@ static int number_of(const char *text) {
     return number < WIRE_CHIPS ? number : -1;
 }
 
+/* Adds a text at the end of another one. False where there is no room. */
+static bool add(char room[NAMES_ROOM], const char *text) {
+    size_t before = strlen(room), length = strlen(text);
+    if (before + length >= NAMES_ROOM)
+        return false;
+    memcpy(room + before, text, length + 1);
+    return true;
+}
+
+/* Writes the broker's folder and a path. False where there is no room. */
+static bool in_home(const char *path, char room[NAMES_ROOM]) {
+    const char *folder = begins(path, "/sys") && tree_is_shown() ? VIEW : ROOT;
+    room[0] = 0;
+    return add(room, ask_home()) && add(room, folder) && add(room, path);
+}
+
+void names_node(int chip, char room[NAMES_ROOM]) {
+    const char digits[] = {(char)('0' + chip / 10), (char)('0' + chip % 10), 0};
+    if (!in_home("/dev/" CHIP, room) || !add(room, chip < 10 ? digits + 1 : digits))
+        room[0] = 0;
+}
+
+bool names_dev(char room[NAMES_ROOM]) {
+    return ask_home() && in_home("/dev", room);
+}
+
 /* Copies a path without what says nothing in it: slashes in a row, and `.` as a part. False where there is no room. */
-static bool flatten(const char *path, char room[PATH_MAX]) {
+static bool flatten(const char *path, char room[NAMES_ROOM]) {
     size_t length = 0;
     for (const char *at = path; *at; at++) {
         if (*at == '/' && at[1] == '/')
@@ -51,7 +86,7 @@ static bool flatten(const char *path, char room[PATH_MAX]) {
             at++;
             continue;
         }
-        if (length == PATH_MAX - 1)
+        if (length == NAMES_ROOM - 1)
             return false;
         room[length++] = *at;
     }
@@ -59,28 +94,37 @@ static bool flatten(const char *path, char room[PATH_MAX]) {
     return true;
 }
 
-/* The path of an open folder, or of the working directory. False where it has none. */
-static bool folder_path(int from, char room[PATH_MAX]) {
-    char link[64];
-    int kept = errno;
-    long length;
-    if (from == AT_FDCWD) {
-        length = syscall(SYS_getcwd, room, PATH_MAX) - 1;
-    } else {
-        snprintf(link, sizeof link, "/proc/self/fd/%d", from);
-        length = syscall(SYS_readlinkat, AT_FDCWD, link, room, PATH_MAX - 1);
-    }
-    errno = kept;
-    if (length <= 0)
-        return false;
-    room[length] = 0;
-    names_move_back(room);
-    return true;
+static bool is_same(const struct stat *one, const struct stat *other) {
+    return one->st_ino == other->st_ino && one->st_dev == other->st_dev;
 }
 
-/* Whether a path is that of a name right in /dev, and that name. */
-static const char *name_in_dev(const char *path) {
-    return begins(path, "/dev/") ? path + strlen("/dev/") : NULL;
+static bool look_at(int from, const char *path, struct stat *status) {
+    return syscall(SYS_newfstatat, from, path, status, AT_EMPTY_PATH) == 0;
+}
+
+bool names_is_dev(const struct stat *status) {
+    struct stat dev;
+    int kept = errno;
+    bool is = ask_home() && S_ISDIR(status->st_mode) && look_at(AT_FDCWD, "/dev", &dev) && is_same(status, &dev);
+    errno = kept;
+    return is;
+}
+
+/* Whether the first so many bytes of a path are the name of /dev, or of the folder that is listed in its place. */
+static bool is_dev(int from, const char *path, size_t length) {
+    char room[NAMES_ROOM];
+    struct stat folder, listed;
+    int kept = errno;
+    if (length >= sizeof room)
+        return false;
+    memcpy(room, path, length);
+    room[length] = 0;
+    bool is = strcmp(room, "/dev/") == 0;
+    if (!is && look_at(from, length > 0 || from != AT_FDCWD ? room : ".", &folder))
+        is =
+            names_is_dev(&folder) || (names_dev(room) && look_at(AT_FDCWD, room, &listed) && is_same(&folder, &listed));
+    errno = kept;
+    return is;
 }
 
 /* Whether the working directory is one of the system's own below /sys, or /sys itself: relative names may lead on from
@@ -88,7 +132,7 @@ static const char *name_in_dev(const char *path) {
 static bool works_in_sys;
 
 void names_note_folder(void) {
-    char folder[PATH_MAX];
+    char folder[NAMES_ROOM];
     int kept = errno;
     bool is_there = ask_home() && syscall(SYS_getcwd, folder, sizeof folder) > 0 &&
                     (strcmp(folder, "/sys") == 0 || begins(folder, "/sys/"));
@@ -104,62 +148,23 @@ static bool is_in_sys(void) {
     return __atomic_load_n(&works_in_sys, __ATOMIC_RELAXED);
 }
 
-bool names_concern(const char *path) {
-    if (!path || !ask_home())
-        return false;
-    if (*path != '/' && *path && is_in_sys())
-        return true;
-    const char *last = strrchr(path, '/');
-    return begins(last ? last + 1 : path, "gpiochip") || begins(path, "/dev") || begins(path, "/sys") ||
-           begins(path, "//") || begins(path, "/./");
+/* Whether a name may be a chip's or stand in the broker's folder, at a quick look. Of all other names the calls below
+ * have nothing to say. */
+static bool may_concern(const char *path) {
+    return ask_home() && memory_text_length(path) > 0 &&
+           (begins(last_part(path), CHIP) || begins(path, "/dev") || begins(path, "/sys") || begins(path, "//") ||
+               begins(path, "/./") || (*path != '/' && is_in_sys()));
 }
 
-int names_chip(int from, const char *path) {
-    char folder[PATH_MAX], flat[PATH_MAX];
-    if (!path || !ask_home())
-        return -1;
-    const char *last = strrchr(path, '/');
-    last = last ? last + 1 : path;
-    if (!begins(last, "gpiochip") || !flatten(path, flat))
-        return -1;
-    if (*path != '/') {
-        /* (only a bare name can be one in the folder /dev itself) */
-        if (!folder_path(from, folder) || strcmp(folder, "/dev") != 0 || strchr(flat, '/'))
-            return -1;
-        return number_of(flat + strlen("gpiochip"));
-    }
-    const char *name = name_in_dev(flat);
-    return name && begins(name, "gpiochip") ? number_of(name + strlen("gpiochip")) : -1;
-}
-
-int names_linked_chip(int from, const char *path) {
-    char to[64]; /* (what is longer leads to no chip) */
-    int kept = errno;
-    long length = path && ask_home() ? syscall(SYS_readlinkat, from, path, to, sizeof to - 1) : -1;
-    errno = kept;
-    if (length <= 0 || length == sizeof to - 1)
-        return -1;
-    to[length] = 0;
-    return *to == '/' ? names_chip(AT_FDCWD, to) : -1;
-}
-
-/* Writes the broker's folder and a path. False where there is no room. */
-static bool in_home(const char *path, char room[PATH_MAX]) {
-    const char *folder = begins(path, "/sys") && tree_is_shown() ? VIEW : ROOT;
-    int length = snprintf(room, PATH_MAX, "%s%s%s", ask_home(), folder, path);
-    return length >= 0 && length < PATH_MAX;
-}
-
-void names_node(int chip, char room[PATH_MAX]) {
-    char path[32];
-    snprintf(path, sizeof path, "/dev/gpiochip%d", chip);
-    if (!in_home(path, room))
-        room[0] = 0;
+/* The number of the chip that a name is the name of, or -1. */
+static int chip_of(int from, const char *path) {
+    const char *last = last_part(path);
+    int chip = begins(last, CHIP) ? number_of(last + strlen(CHIP)) : -1;
+    return chip >= 0 && is_dev(from, path, (size_t)(last - path)) ? chip : -1;
 }
 
 /* Whether a name stands in the broker's folder. */
 static bool is_moved(const char *flat) {
-    const char *name = name_in_dev(flat);
     if (tree_has(flat))
         return tree_uses();
     for (size_t i = 0; i < sizeof moved / sizeof *moved; i++) {
@@ -167,56 +172,93 @@ static bool is_moved(const char *flat) {
         if (begins(flat, moved[i]) && (flat[length] == 0 || flat[length] == '/'))
             return true;
     }
-    return begins(flat, by_number) || (name && begins(name, "gpiochip"));
+    return begins(flat, by_number) || begins(flat, "/dev/" CHIP);
 }
 
 /* Writes a path from the root, flat; a relative one where the working directory is below /sys. False for the others. */
-static bool whole_path(int from, const char *path, char flat[PATH_MAX]) {
-    char folder[PATH_MAX], whole[PATH_MAX];
+static bool whole_path(int from, const char *path, char flat[NAMES_ROOM]) {
+    char whole[NAMES_ROOM];
     if (*path == '/')
         return flatten(path, flat);
-    if (from != AT_FDCWD || !is_in_sys() || !folder_path(from, folder))
-        return false;
-    int length = snprintf(whole, sizeof whole, "%s/%s", folder, path);
-    return length >= 0 && length < PATH_MAX && flatten(whole, flat);
-}
-
-const char *names_moved(int from, const char *path, char room[PATH_MAX]) {
-    char flat[PATH_MAX];
-    int chip = names_concern(path) ? names_chip(from, path) : -1;
-    if (chip >= 0) {
-        names_node(chip, room);
-        return room;
-    }
-    if (!names_concern(path) || !whole_path(from, path, flat))
-        return path;
-    return is_moved(flat) && in_home(flat, room) ? room : path;
+    int kept = errno;
+    bool is_below = from == AT_FDCWD && is_in_sys() && syscall(SYS_getcwd, whole, sizeof whole) > 0;
+    errno = kept;
+    return is_below && add(whole, "/") && add(whole, path) && flatten(whole, flat);
 }
 
 /* A folder of chips has more in it where gpio-sim's file system is shown: it is asked for before one is entered. */
-static void show_chip_folder(const char *flat) {
-    if (tree_shares(flat))
+void names_enter(int from, const char *path) {
+    char flat[NAMES_ROOM];
+    if (may_concern(path) && whole_path(from, path, flat) && tree_shares(flat))
         tree_searches();
 }
 
-const char *names_moved_entered(const char *path, char room[PATH_MAX]) {
-    char flat[PATH_MAX];
-    if (names_concern(path) && *path == '/' && flatten(path, flat))
-        show_chip_folder(flat);
-    return names_moved(AT_FDCWD, path, room);
+/* What a name that may concern the broker is looked at by. */
+static __attribute__((noinline)) const char *look_up(int from, const char *path, char room[NAMES_ROOM], int *chip) {
+    char flat[NAMES_ROOM];
+    *chip = chip_of(from, path);
+    if (*chip >= 0) {
+        names_node(*chip, room);
+        return room;
+    }
+    return whole_path(from, path, flat) && is_moved(flat) && in_home(flat, room) ? room : path;
 }
 
-const char *names_moved_folder(const char *path, char room[PATH_MAX]) {
-    char flat[PATH_MAX];
-    if (!path || !ask_home())
-        return path;
-    bool is_here = strcmp(path, ".") == 0;
-    if (is_here ? !folder_path(AT_FDCWD, flat) : *path != '/' || !flatten(path, flat))
-        return path;
-    if ((strcmp(flat, "/dev") == 0 || strcmp(flat, "/dev/") == 0) && in_home("/dev", room))
+const char *names_seen(int from, const char *path, char room[NAMES_ROOM], int *chip) {
+    *chip = -1;
+    return may_concern(path) ? look_up(from, path, room, chip) : path;
+}
+
+const char *names_moved(int from, const char *path, char room[NAMES_ROOM]) {
+    int chip;
+    return names_seen(from, path, room, &chip);
+}
+
+const char *names_moved_folder(int from, const char *path, char room[NAMES_ROOM]) {
+    long length = ask_home() ? memory_text_length(path) : -1;
+    if (length > 0 && is_dev(from, path, (size_t)length) && names_dev(room))
         return room;
-    show_chip_folder(flat);
-    return is_here ? path : names_moved(AT_FDCWD, path, room);
+    names_enter(from, path);
+    return names_moved(from, path, room);
+}
+
+/* Puts what a link says in the place of its own name. False where there is no room. */
+static bool follow(char path[NAMES_ROOM], const char *to) {
+    path[*to == '/' ? 0 : last_part(path) - path] = 0;
+    return add(path, to);
+}
+
+int names_linked_chip(int from, const char *path) {
+    char at[NAMES_ROOM], to[NAMES_ROOM];
+    int kept = errno, chip = -1, links = 0;
+    at[0] = 0;
+    bool more = ask_home() && memory_text_length(path) > 0 && add(at, path);
+    while (more && chip < 0 && links++ < MOST_LINKS) {
+        long length = syscall(SYS_readlinkat, from, at, to, sizeof to - 1);
+        more = length > 0 && length < (long)sizeof to - 1;
+        to[more ? length : 0] = 0;
+        more = more && follow(at, to);
+        chip = more ? chip_of(from, at) : -1;
+    }
+    errno = kept;
+    return chip;
+}
+
+int names_behind(int from, const char *path) {
+    switch (errno) {
+    case ENOENT:
+    case EACCES:
+    case EPERM:
+    case ENXIO:
+    case ENODEV:
+        return names_linked_chip(from, path);
+    default:
+        return -1;
+    }
+}
+
+bool names_is_empty(const char *path) {
+    return !path || memory_text_length(path) == 0;
 }
 
 void names_move_back(char *path) {

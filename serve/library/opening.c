@@ -4,9 +4,13 @@
 #include <stdarg.h>
 #include <stdbool.h>
 #include <stdio.h>
+#include <sys/stat.h>
+#include <sys/syscall.h>
 #include <unistd.h>
 
 #include "ask.h"
+#include "flags.h"
+#include "hardware.h"
 #include "known.h"
 #include "mounts.h"
 #include "names.h"
@@ -26,32 +30,65 @@ static int open_chip(int chip, int flags) {
         errno = error;
         return -1;
     }
-    if (flags & O_NONBLOCK)
-        fcntl(file, F_SETFL, O_NONBLOCK);
+    flags_keep(file, flags);
     known_keep(file, chip);
     return file;
 }
 
-/* Opens a name that may be a chip's or stand in the broker's folder. */
-static __attribute__((noinline)) int open_concerned(int from, const char *path, int flags, mode_t mode) {
-    char room[PATH_MAX];
-    int chip = names_chip(from, path);
-    if (chip >= 0 && !(flags & (O_PATH | O_DIRECTORY)))
+/* Opens a chip by its name, which isn't to be there yet where the flags say so. */
+static __attribute__((noinline)) int open_named_chip(int chip, const char *node, int flags) {
+    bool is_new = (flags & O_CREAT) && (flags & O_EXCL);
+    if (!is_new || syscall(SYS_faccessat, AT_FDCWD, node, F_OK))
         return open_chip(chip, flags);
-    const char *moved = flags & O_DIRECTORY ? names_moved_folder(path, room) : names_moved(from, path, room);
-    return REAL(openat)(from, moved, flags, mode);
+    errno = EEXIST;
+    return -1;
 }
 
-/* Opens any name. */
+/* Opens what is listed in the place of /dev, in the place of `file`. */
+static __attribute__((noinline)) int open_dev(int file, int flags) {
+    char room[NAMES_ROOM];
+    if (!names_dev(room))
+        return file;
+    syscall(SYS_close, file);
+    return REAL(openat)(AT_FDCWD, room, flags, 0);
+}
+
+/* Looks at what the system has opened. A chip of the machine itself is one of the broker's instead, whatever its name
+ * was, and so is the folder /dev. */
+static int replace_opened(int file, int flags) {
+    struct stat status;
+    if (!ask_home() || (flags & O_PATH) || syscall(SYS_newfstatat, file, "", &status, AT_EMPTY_PATH))
+        return file;
+    if (S_ISDIR(status.st_mode))
+        return names_is_dev(&status) ? open_dev(file, flags) : file;
+    int chip = S_ISCHR(status.st_mode) ? hardware_chip(status.st_rdev) : -1;
+    if (chip < 0)
+        return file;
+    syscall(SYS_close, file);
+    return open_chip(chip, flags);
+}
+
+/* Opens any name. A link to a chip that isn't there would make a file. */
 static int open_any(int from, const char *path, int flags, mode_t mode) {
-    int list = (flags & (O_ACCMODE | O_PATH | O_DIRECTORY)) == O_RDONLY ? mounts_open(path, flags & O_CLOEXEC) : -1;
+    char room[NAMES_ROOM];
+    const int reads = (flags & (O_ACCMODE | O_PATH | O_DIRECTORY)) == O_RDONLY;
+    int chip, list = reads ? mounts_open(path, flags & O_CLOEXEC) : -1;
     if (list >= 0)
         return list;
-    int file = names_concern(path) ? open_concerned(from, path, flags, mode) : REAL(openat)(from, path, flags, mode);
-    if (file >= 0 || errno != ENOENT)
-        return file;
-    int chip = names_linked_chip(from, path);
-    return chip >= 0 ? open_chip(chip, flags) : file;
+    if (flags & O_DIRECTORY)
+        names_enter(from, path);
+    const char *seen = names_seen(from, path, room, &chip);
+    if (chip >= 0 && !(flags & (O_PATH | O_DIRECTORY)))
+        return open_named_chip(chip, seen, flags);
+    bool follows = !(flags & O_NOFOLLOW) && !(flags & O_EXCL);
+    chip = follows && (flags & O_CREAT) ? names_linked_chip(from, path) : -1;
+    if (chip >= 0)
+        return open_chip(chip, flags);
+    int file = REAL(openat)(from, seen, flags, mode);
+    if (file >= 0)
+        return replace_opened(file, flags);
+    chip = follows ? names_behind(from, path) : -1;
+    return chip >= 0 && !(flags & (O_PATH | O_DIRECTORY)) ? open_chip(chip, flags) : file;
 }
 
 /* The mode that stands after the flags, where they say that there is one. */
@@ -91,6 +128,14 @@ TAKES_OVER int openat64(int from, const char *path, int flags, ...) {
     return open_any(from, path, flags | O_LARGEFILE, mode);
 }
 
+TAKES_OVER int creat(const char *path, mode_t mode) {
+    return open_any(AT_FDCWD, path, O_CREAT | O_WRONLY | O_TRUNC, mode);
+}
+
+TAKES_OVER int creat64(const char *path, mode_t mode) {
+    return open_any(AT_FDCWD, path, O_CREAT | O_WRONLY | O_TRUNC | O_LARGEFILE, mode);
+}
+
 int __open_2(const char *path, int flags);
 TAKES_OVER int __open_2(const char *path, int flags) {
     return open_any(AT_FDCWD, path, flags, 0);
@@ -112,7 +157,7 @@ TAKES_OVER int __openat64_2(int from, const char *path, int flags) {
 }
 
 TAKES_OVER FILE *fopen(const char *path, const char *mode) {
-    char room[PATH_MAX];
+    char room[NAMES_ROOM];
     FILE *list = mounts_open_stream(path, mode);
     if (list)
         return list;
@@ -120,7 +165,7 @@ TAKES_OVER FILE *fopen(const char *path, const char *mode) {
 }
 
 TAKES_OVER FILE *fopen64(const char *path, const char *mode) {
-    char room[PATH_MAX];
+    char room[NAMES_ROOM];
     FILE *list = mounts_open_stream(path, mode);
     if (list)
         return list;

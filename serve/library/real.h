@@ -7,11 +7,11 @@
 
 /* All functions that REAL may name. */
 #define REAL_NAMES(each)                                                                                               \
-    each(openat) each(fopen) each(fopen64) each(ioctl) each(poll) each(ppoll) each(read) each(readv) each(access)      \
-        each(faccessat) each(euidaccess) each(eaccess) each(getxattr) each(lgetxattr) each(listxattr) each(llistxattr) \
-            each(realpath) each(opendir) each(scandir) each(scandir64) each(readdir) each(glob) each(mkdir)            \
-                each(mkdirat) each(rmdir) each(unlink) each(unlinkat) each(remove) each(truncate) each(truncate64)     \
-                    each(chdir) each(fchdir) each(getcwd) each(get_current_dir_name) each(setmntent)
+    each(openat) each(fopen) each(fopen64) each(ioctl) each(fcntl) each(poll) each(ppoll) each(read) each(readv)       \
+        each(access) each(faccessat) each(euidaccess) each(getxattr) each(lgetxattr) each(listxattr) each(llistxattr)  \
+            each(realpath) each(scandirat) each(scandirat64) each(readdir) each(glob) each(mkdir) each(mkdirat)        \
+                each(rmdir) each(unlink) each(unlinkat) each(remove) each(truncate) each(truncate64) each(chdir)       \
+                    each(fchdir) each(getcwd) each(get_current_dir_name) each(setmntent)
 
 #define REAL_NUMBER(name) REAL_##name,
 enum real_number { REAL_NAMES(REAL_NUMBER) REAL_COUNT };

@@ -61,6 +61,8 @@ int end_within(pid_t child, unsigned seconds);
 
 /* The groups of tests. */
 void test_files(void);
+void test_chip_names(void);
+void test_memory(void);
 void test_values(void);
 void test_version1(void);
 void test_events(void);
@@ -76,6 +78,8 @@ void test_killed_midway(void);
 void test_forks(void);
 /* With the clock moved by statements. */
 void test_manual(void);
+/* Where a device of the machine is a GPIO chip. */
+void test_hardware(void);
 /* With few numbers of files. */
 void test_crowd(void);
 /* Where gpio-sim's file system can be shown. */

@@ -8,8 +8,8 @@
 static const struct {
     const char *argument;
     void (*run)(void);
-} alone[] = {
-    {"--manual", test_manual}, {"--killed", test_killed_midway}, {"--forks", test_forks}, {"--crowd", test_crowd}, {"--tree", test_tree}};
+} alone[] = {{"--manual", test_manual}, {"--killed", test_killed_midway}, {"--forks", test_forks},
+    {"--crowd", test_crowd}, {"--tree", test_tree}, {"--hardware", test_hardware}};
 
 int main(int count, char **arguments) {
     const char *argument = count > 1 ? arguments[1] : "";
@@ -24,6 +24,8 @@ int main(int count, char **arguments) {
         }
     }
     test_files();
+    test_chip_names();
+    test_memory();
     test_values();
     test_version1();
     test_events();

@@ -109,6 +109,7 @@ int main(void) {
     test_round_trip();
     test_items();
     test_known();
+    test_names_of_hardware();
     printf("%u passed, %u failed\n", passed, failed);
     return failed != 0;
 }

@@ -7,5 +7,6 @@ void count(int good, const char *name);
 
 /* Tests that stand in files of their own. */
 void test_known(void);
+void test_names_of_hardware(void);
 
 #endif
