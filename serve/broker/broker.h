@@ -11,6 +11,7 @@
 #include "machine.h"
 #include "patience.h"
 #include "record.h"
+#include "renewal.h"
 #include "show/show.h"
 #include "signals.h"
 #include "tree/tree.h"
@@ -42,13 +43,15 @@ struct broker {
     struct waves waves;
     struct tree tree;
     struct show show;
-    int poller;    /* what the loop waits on: all except files, and `ends` */
-    int ends;      /* shows the files that no client has any more */
-    bool manual;   /* the clock is moved by statements alone */
-    uint64_t now;  /* the machine's monotonic clock, as it was last set */
-    bool has_due;  /* a deadline is set in the machine, */
-    uint64_t due;  /* at this time of that clock */
-    bool asks_due; /* the deadline may be another one by now */
+    struct renewal renewal;
+    struct watch served; /* the served program's end */
+    int poller;          /* what the loop waits on: all except files, and `ends` */
+    int ends;            /* shows the files that no client has any more */
+    bool manual;         /* the clock is moved by statements alone */
+    uint64_t now;        /* the machine's monotonic clock, as it was last set */
+    bool has_due;        /* a deadline is set in the machine, */
+    uint64_t due;        /* at this time of that clock */
+    bool asks_due;       /* the deadline may be another one by now */
     struct looks looks;
     struct packet packet;
 };

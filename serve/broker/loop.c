@@ -16,7 +16,7 @@
 
 struct loop {
     struct broker *broker;
-    struct watch signals, served, ends, input;
+    struct watch signals, ends, input;
     bool input_ended;
     bool alive; /* the served program answers */
 };
@@ -123,7 +123,7 @@ static bool wait_once(struct loop *loop) {
     clients_bury(&broker->clients);
     if (loop->alive && turn_wait(broker) == 0)
         loop->alive = turn_tick(broker);
-    loop->alive = loop->alive && waits_expire(broker);
+    loop->alive = loop->alive && waits_expire(broker) && renewal_look(broker);
     record_flush(&broker->record);
     return true;
 }
@@ -131,10 +131,10 @@ static bool wait_once(struct loop *loop) {
 static bool prepare(struct loop *loop) {
     struct broker *broker = loop->broker;
     loop->signals = (struct watch){WATCH_SIGNALS, broker->signals.number, NULL};
-    loop->served = (struct watch){WATCH_SERVED, broker->machine.from, NULL};
+    broker->served = (struct watch){WATCH_SERVED, broker->machine.from, NULL};
     loop->ends = (struct watch){WATCH_ENDS, broker->ends, NULL};
     loop->input = (struct watch){WATCH_INPUT, STDIN_FILENO, NULL};
-    return watch_by(broker->poller, &loop->signals, EPOLLIN) && watch_by(broker->poller, &loop->served, 0) &&
+    return watch_by(broker->poller, &loop->signals, EPOLLIN) && watch_by(broker->poller, &broker->served, 0) &&
            watch_by(broker->poller, &loop->ends, EPOLLIN) &&
            watch_by(broker->poller, &broker->clients.listener, EPOLLIN) &&
            (broker->signals.command || watch_by(broker->poller, &loop->input, EPOLLIN));

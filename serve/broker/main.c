@@ -165,7 +165,10 @@ static int run_broker(struct broker *broker, const struct options *options, cons
     if (!served_words(options->served, room, words) ||
         !machine_start(&broker->machine, words, &broker->record, &broker->patience))
         return STATUS_OWN;
+    renewal_prepare(broker, words, board, options);
     int status = run_command(broker, options, board);
+    if (broker->renewal.has_failed)
+        return STATUS_SERVED_DIED;
     if (status == STATUS_SERVED_DIED)
         broker->machine.ended = true;
     report_served(&broker->machine, machine_end(&broker->machine),
@@ -227,7 +230,7 @@ int main(int count, char **arguments) {
     home_remove(&broker.home);
     files_free(&broker.files);
     bool written = waves_close(&broker.waves, broker.now);
-    written = record_close(&broker.record) && written;
+    written = record_close(&broker.record) && written && !broker.renewal.is_unwritten;
     close(broker.poller);
     close(broker.ends);
     signals_close(&broker.signals);

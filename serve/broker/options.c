@@ -23,6 +23,9 @@ static const char help[] =
     "  -a, --answers FILE      gets all that the statements printed: what gpiosess prints for that session\n"
     "  -w, --waves FILE        gets the lines' levels over time, as a value change dump\n"
     "      --clock manual      time passes by `gpiosay \"clock MONOTONIC REAL\"` alone (system: as it does)\n"
+    "      --each              begins a new machine, and a session of its own, whenever all chips and devices have "
+    "gone:\n"
+    "                          the next chip is gpiochip0 again, and FILE.2, FILE.3 .. get what FILE got before\n"
     "      --env               runs no command: prints the variables that a program needs to find the chips, a line\n"
     "                          each, then an empty line, and serves until its standard input ends\n"
     "      --folder FOLDER     the folder of the socket and of the names; a new one in TMPDIR where none is given\n"
@@ -58,7 +61,7 @@ static bool take_limit(struct options *options, const char *word) {
 }
 
 /* The options without a letter. */
-enum { CLOCK = 256, ENVIRONMENT, FOLDER, SERVED, ANSWER_TIMEOUT, VERSION };
+enum { CLOCK = 256, EACH, ENVIRONMENT, FOLDER, SERVED, ANSWER_TIMEOUT, VERSION };
 
 /* Where an option's word is kept as it is; NULL for an option that is read. */
 static const char **place_of(struct options *options, int option) {
@@ -90,6 +93,9 @@ static bool take(struct options *options, int option, const char *word) {
     switch (option) {
     case CLOCK:
         return take_clock(options, word);
+    case EACH:
+        options->each = true;
+        return true;
     case ENVIRONMENT:
         options->environment = true;
         return true;
@@ -115,9 +121,10 @@ enum options_next options_read(struct options *options, int count, char **words)
     static const struct option names[] = {{"board", required_argument, NULL, 'b'},
         {"transcript", required_argument, NULL, 't'}, {"answers", required_argument, NULL, 'a'},
         {"waves", required_argument, NULL, 'w'}, {"clock", required_argument, NULL, CLOCK},
-        {"env", no_argument, NULL, ENVIRONMENT}, {"folder", required_argument, NULL, FOLDER},
-        {"served", required_argument, NULL, SERVED}, {"answer-timeout", required_argument, NULL, ANSWER_TIMEOUT},
-        {"help", no_argument, NULL, 'h'}, {"version", no_argument, NULL, VERSION}, {NULL, 0, NULL, 0}};
+        {"each", no_argument, NULL, EACH}, {"env", no_argument, NULL, ENVIRONMENT},
+        {"folder", required_argument, NULL, FOLDER}, {"served", required_argument, NULL, SERVED},
+        {"answer-timeout", required_argument, NULL, ANSWER_TIMEOUT}, {"help", no_argument, NULL, 'h'},
+        {"version", no_argument, NULL, VERSION}, {NULL, 0, NULL, 0}};
     int option;
     *options = (struct options){.limit = LIMIT};
     while ((option = getopt_long(count, words, "+b:t:a:w:h", names, NULL)) != -1) {

@@ -7,6 +7,7 @@
 struct options {
     const char *board, *transcript, *answers, *waves, *folder, *served; /* or NULL */
     bool manual;
+    bool each;        /* a new machine begins when all has gone */
     unsigned limit;   /* seconds in which the served program has to answer; 0: none */
     bool environment; /* no command: the variables are printed */
     char **command;   /* and its arguments; NULL with `environment` */

@@ -60,10 +60,15 @@ int process_start(pid_t *pid, char *const *words, int in, int out, char *const *
     return error;
 }
 
+/* Pauses that are short, since a program whose input has ended is soon at its end; the others are of 5 ms. */
+#define SHORT_PAUSES 25
+
 int process_wait(pid_t pid, bool patient) {
-    const struct timespec pause = {0, 5 * 1000 * 1000};
+    struct timespec pause = {0, 200 * 1000};
     int status = 0;
     for (int turn = 0; patient && turn < 1000; turn++) {
+        if (turn == SHORT_PAUSES)
+            pause.tv_nsec = 5 * 1000 * 1000;
         pid_t ended = waitpid(pid, &status, WNOHANG);
         if (ended == pid || (ended < 0 && errno != EINTR))
             return status;

@@ -9,6 +9,7 @@
 
 #include "items.h"
 #include "pieces.h"
+#include "saying.h"
 #include "statement.h"
 #include "touch.h"
 #include "turn.h"
@@ -46,6 +47,8 @@ static bool answer_open(struct broker *broker, struct client *client) {
         reply_error(client, ENOENT);
         return true;
     }
+    if (!renewal_before_statement(broker))
+        return false;
     struct file *file = make_file(broker, FILE_CHIP, chip, &reader);
     if (!file) {
         reply_error(client, errno);
@@ -274,27 +277,30 @@ static bool answer_read(struct broker *broker, struct client *client, struct fil
     return alive;
 }
 
+/* Begins a new machine, which is no statement of any session. */
+static bool answer_reset(struct broker *broker, struct client *client) {
+    bool alive = renewal_begin(broker);
+    reply_error(client, alive ? 0 : ENODEV);
+    return alive;
+}
+
 static bool answer_say(struct broker *broker, struct client *client) {
     struct statement statement;
     const char *line = (const char *)broker->packet.data;
     size_t length = broker->packet.question.length;
     if (wait_is(line) && strlen(line) == length)
         return waits_begin(broker, client, line);
+    if (strcmp(line, "reset") == 0 && strlen(line) == length)
+        return answer_reset(broker, client);
+    if (!renewal_before_statement(broker))
+        return false;
     const char *refusal = statement_read(&statement, line, length, broker->manual);
     if (refusal) {
         struct answer answer = {.found = -1, .error = EINVAL, .length = (uint32_t)strlen(refusal)};
         clients_reply(client, &answer, refusal, -1);
         return true;
     }
-    if (statement.pulls)
-        waves_touch(&broker->waves, &broker->machine, broker->now, statement.chip, statement.offset);
-    if (statement.tool)
-        waves_touch_all(&broker->waves);
-    if (statement.pulls)
-        turn_pulls(broker, statement.chip, statement.offset);
-    else if (statement.effect == STATEMENT_ACTS)
-        turn_does_any(broker);
-    if (!turn_say(broker, line, length, statement.kept))
+    if (!saying_say(broker, &statement, line, length))
         return false;
     /* (what follows the statement takes the place of its text) */
     struct answer answer = {.found = broker->machine.refused ? -1 : 0,
@@ -305,7 +311,7 @@ static bool answer_say(struct broker *broker, struct client *client) {
         broker->now = statement.now;
     if (answer.error == 0)
         tree_note_statement(&broker->tree, line);
-    bool alive = turn_settle(broker, statement.effect == STATEMENT_CHIPS);
+    bool alive = saying_settle(broker, &statement) && renewal_look(broker);
     if (text)
         clients_reply(client, &answer, text, -1);
     else

@@ -27,14 +27,18 @@ static void read_name(pid_t pid, char name[ASKER_NAME]) {
         strcpy(name, "?");
 }
 
+struct asker asker_of_process(pid_t pid) {
+    struct asker asker = {.pid = pid};
+    read_name(pid, asker.name);
+    return asker;
+}
+
 struct asker asker_of(int connection) {
     struct ucred peer;
     socklen_t length = sizeof peer;
     struct asker asker = {.pid = 0};
-    if (getsockopt(connection, SOL_SOCKET, SO_PEERCRED, &peer, &length) == 0) {
-        asker.pid = peer.pid;
-        read_name(peer.pid, asker.name);
-    }
+    if (getsockopt(connection, SOL_SOCKET, SO_PEERCRED, &peer, &length) == 0)
+        asker = asker_of_process(peer.pid);
     return asker;
 }
 

@@ -29,6 +29,8 @@ bool record_open(struct record *record, const char *transcript, const char *answ
 
 /* The process at the other end of a connected socket, and its name at this moment: `?` where it can't be had. */
 struct asker asker_of(int connection);
+/* The same of a process. */
+struct asker asker_of_process(pid_t pid);
 
 /* Adds an accepted line, before it the comment `# PID NAME` where another process asks than before; and what a line
  * printed. */

@@ -25,6 +25,7 @@ static const char help[] =
     "  -h, --help        prints this\n"
     "      --version     prints the version\n"
     "\n"
+    "`reset` begins a new machine with the board, at once: see docs/SERVING.md.\n"
     "A STATEMENT may be a wait. It fails after its TIME, 30s where none is given, and leaves nothing in the\n"
     "transcript:\n"
     "  wait held CHIP LINE [by CONSUMER] [within TIME]   until a program holds the line; prints the consumer\n"

@@ -12,7 +12,7 @@
 #include <string.h>
 #include <unistd.h>
 
-#include "../tree/tree.h"
+#include "../broker.h"
 #include "mount.h"
 
 /* A file that a program has open: its text, as it was when it was last read from the start. */
@@ -50,8 +50,14 @@ static int call_mkdir(const char *path, mode_t mode) {
     return -tree_mkdir(broker_of_call(), path);
 }
 
+/* After a call by which the last chip or device may have gone: where a new machine begins at once, it is there before
+ * the program goes on. */
+static int end_call(int result) {
+    return renewal_look(broker_of_call()) ? result : -ENODEV;
+}
+
 static int call_rmdir(const char *path) {
-    return -tree_rmdir(broker_of_call(), path);
+    return end_call(-tree_rmdir(broker_of_call(), path));
 }
 
 /* No file is made, removed, moved or given another mode, owner or time in configfs and sysfs. */
@@ -150,7 +156,7 @@ static int call_write(const char *path, const char *bytes, size_t length, off_t 
     if (length > TREE_TEXT - 1)
         length = TREE_TEXT - 1;
     int error = tree_write(broker_of_call(), path, bytes, length);
-    return error ? -error : (int)length;
+    return end_call(error ? -error : (int)length);
 }
 
 struct listing {
@@ -235,6 +241,10 @@ bool mount_answer(struct broker *broker) {
     if (got > 0)
         fuse_session_process_buf(session, &buffer);
     return !fuse_session_exited(session);
+}
+
+pid_t mount_process(void) {
+    return fuse_get_context()->pid;
 }
 
 void mount_end(void) {

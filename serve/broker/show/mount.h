@@ -3,6 +3,7 @@
 #define MOUNT_H
 
 #include <stdbool.h>
+#include <sys/types.h>
 
 struct broker;
 
@@ -15,6 +16,9 @@ int mount_begin(struct broker *broker, const char *folder, const char **why);
 
 /* Reads one request, and answers it. False where it is no longer mounted. */
 bool mount_answer(struct broker *broker);
+
+/* The process whose request is being answered. */
+pid_t mount_process(void);
 
 /* Unmounts it, and frees all. */
 void mount_end(void);

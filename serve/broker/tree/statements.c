@@ -4,9 +4,8 @@
 #include <stdio.h>
 #include <string.h>
 
-#include "../broker.h"
-#include "../statement.h"
-#include "../turn.h"
+#include "../saying.h"
+#include "../show/mount.h"
 #include "texts.h"
 
 /* The longest path of a place in the served program, with its zero. */
@@ -64,22 +63,18 @@ static int error_of(const struct machine *machine, const char *verb, enum place_
 static int say_line(
     struct broker *broker, const char *line, const char *verb, enum place_kind kind, char text[TREE_TEXT]) {
     struct statement statement;
-    if (broker->machine.ended)
+    if (broker->machine.ended || !renewal_before_statement(broker))
         return ENODEV;
     if (statement_read(&statement, line, strlen(line), broker->manual))
         return EINVAL;
-    if (statement.pulls)
-        waves_touch(&broker->waves, &broker->machine, broker->now, statement.chip, statement.offset);
-    if (statement.pulls)
-        turn_pulls(broker, statement.chip, statement.offset);
-    else if (statement.effect == STATEMENT_ACTS)
-        turn_does_any(broker);
-    if (!turn_say(broker, line, strlen(line), statement.kept))
+    if (broker->record.transcript.file)
+        broker->record.asker = asker_of_process(mount_process());
+    if (!saying_say(broker, &statement, line, strlen(line)))
         return ENODEV;
     int error = error_of(&broker->machine, verb, kind);
     if (text)
         snprintf(text, TREE_TEXT, "%s", broker->machine.text);
-    return turn_settle(broker, statement.effect == STATEMENT_CHIPS) ? error : ENODEV;
+    return saying_settle(broker, &statement) ? error : ENODEV;
 }
 
 int statements_say(struct broker *broker, const char *verb, const struct place *place, char text[TREE_TEXT]) {

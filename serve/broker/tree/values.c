@@ -94,6 +94,8 @@ static int bring_up(struct broker *broker, const struct place *place) {
         error = bank->many ? ENXIO : 0;
     if (error == 0)
         error = statements_write(broker, place, "1");
+    if (error == ENOSPC)
+        renewal_report_full(broker);
     if (error == 0)
         nodes_set_live(device, true);
     return error;
