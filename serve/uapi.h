@@ -43,6 +43,7 @@ struct uapi_command {
     bool version1;    /* said by `ioctl1` */
     bool of_chip;     /* else of a request */
     bool gives;       /* its answer has bytes */
+    bool drives;      /* the driver is asked for it */
     enum uapi_effect effect;
     enum file_kind makes; /* of UAPI_REQUESTS */
     uint32_t fd_at;       /* where the new file's number stands */

@@ -106,8 +106,10 @@ static bool hand_in(struct broker *broker, const char *path, unsigned number, co
         return false;
     }
     tree_note_statement(&broker->tree, line);
-    if (statement.clock)
+    if (statement.clock) {
         broker->now = statement.now;
+        broker->real = statement.real;
+    }
     return true;
 }
 

@@ -5,6 +5,7 @@
 #include <stdbool.h>
 #include <stdint.h>
 
+#include "calls.h"
 #include "clients.h"
 #include "files.h"
 #include "home.h"
@@ -40,6 +41,7 @@ struct broker {
     struct files files;
     struct clients clients;
     struct counts counts;
+    struct calls calls;
     struct waves waves;
     struct tree tree;
     struct show show;
@@ -48,7 +50,8 @@ struct broker {
     int poller;          /* what the loop waits on: all except files, and `ends` */
     int ends;            /* shows the files that no client has any more */
     bool manual;         /* the clock is moved by statements alone */
-    uint64_t now;        /* the machine's monotonic clock, as it was last set */
+    uint64_t now;        /* the machine's monotonic clock, as it was last set, */
+    uint64_t real;       /* and its real clock, where statements alone set it */
     bool has_due;        /* a deadline is set in the machine, */
     uint64_t due;        /* at this time of that clock */
     bool asks_due;       /* the deadline may be another one by now */

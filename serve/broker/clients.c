@@ -155,6 +155,7 @@ bool clients_send(struct client *client, struct answer *answer, const void *data
 
 void clients_reply(struct client *client, struct answer *answer, const void *data, int file) {
     int error = 0;
+    client->error = answer->error;
     if (answer->length > WIRE_DATA)
         error = large_send(client->all, client, answer, data);
     else if (!clients_send(client, answer, data, answer->length, file))

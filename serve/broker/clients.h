@@ -22,6 +22,7 @@ struct client {
     struct asker asker; /* the process that made the connection */
     struct wait wait;   /* what it waits for; its requests aren't read meanwhile */
     struct large large; /* an answer that it may not have taken */
+    int error;          /* the error's number of the last answer */
     bool asks;          /* it has asked more than whose a file is */
     bool costly;        /* the last answer to its process took long, */
     uint64_t served;    /* and this many such answers had been given by then */

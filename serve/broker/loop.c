@@ -104,8 +104,12 @@ static void take_questions(struct loop *loop, const struct epoll_event *events, 
 
 /* How long nothing has to be done: milliseconds, or -1. */
 static int idle_time(const struct broker *broker) {
-    int turn = turn_wait(broker), waits = waits_time(broker);
-    return turn < 0 || (waits >= 0 && waits < turn) ? waits : turn;
+    const int times[] = {turn_wait(broker), waits_time(broker), calls_time(broker)};
+    int least = -1;
+    for (size_t i = 0; i < sizeof times / sizeof *times; i++)
+        if (times[i] >= 0 && (least < 0 || times[i] < least))
+            least = times[i];
+    return least;
 }
 
 /* One turn of the loop. */
@@ -123,8 +127,9 @@ static bool wait_once(struct loop *loop) {
     clients_bury(&broker->clients);
     if (loop->alive && turn_wait(broker) == 0)
         loop->alive = turn_tick(broker);
-    loop->alive = loop->alive && waits_expire(broker) && renewal_look(broker);
+    loop->alive = loop->alive && waits_expire(broker) && calls_tick(broker) && renewal_look(broker);
     record_flush(&broker->record);
+    output_flush(&broker->calls.log);
     return true;
 }
 
@@ -173,5 +178,6 @@ int loop_run(struct broker *broker) {
         end_command(broker);
     if (!good)
         return STATUS_OWN;
-    return loop.alive && !broker->machine.ended ? status_of(&broker->signals) : STATUS_SERVED_DIED;
+    broker->machine.ended = broker->machine.ended || !loop.alive;
+    return broker->machine.ended ? STATUS_SERVED_DIED : status_of(&broker->signals);
 }

@@ -210,6 +210,13 @@ static const struct {
     {"EOPNOTSUPP", EOPNOTSUPP},
 };
 
+const char *machine_error_name(int error) {
+    for (size_t i = 0; i < sizeof errors / sizeof *errors; i++)
+        if (errors[i].number == error)
+            return errors[i].name;
+    return "?";
+}
+
 /* The number of the error whose name is this line of so many bytes, its end included; 0 where it is none. */
 static int error_named(const char *line, size_t length) {
     for (size_t i = 0; i < sizeof errors / sizeof *errors; i++)

@@ -51,6 +51,9 @@ void machine_putf(struct machine *machine, const char *form, ...) __attribute__(
  * not answer in time. The text is valid up to the next call. */
 bool machine_take(struct machine *machine);
 
+/* The name of an error that the machine answers, as `ENODEV`; `?` of any other. */
+const char *machine_error_name(int error);
+
 /* The number of the error that the last text is, 0 where it is none; EINVAL for a refused line. */
 int machine_error(const struct machine *machine);
 

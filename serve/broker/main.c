@@ -169,8 +169,6 @@ static int run_broker(struct broker *broker, const struct options *options, cons
     int status = run_command(broker, options, board);
     if (broker->renewal.has_failed)
         return STATUS_SERVED_DIED;
-    if (status == STATUS_SERVED_DIED)
-        broker->machine.ended = true;
     report_served(&broker->machine, machine_end(&broker->machine),
         status == STATUS_OWN   ? "before the command began"
         : options->environment ? "before the input"
@@ -189,6 +187,7 @@ static int print_version(const struct options *options) {
 static bool open_named(struct broker *broker, const struct options *options, struct board *board) {
     return board_read(board, options->board) &&
            record_open(&broker->record, options->transcript, options->answers, &broker->patience) &&
+           output_open(&broker->calls.log, options->calls, &broker->patience) &&
            waves_open(&broker->waves, options->waves, options->manual ? 1 : 1000, &broker->patience);
 }
 
@@ -222,6 +221,7 @@ int main(int count, char **arguments) {
     if (options.environment && !can_await_input())
         return STATUS_OWN;
     broker.manual = options.manual;
+    broker.calls = options.plan;
     broker.patience = (struct patience){&broker.signals, options.limit};
     int status = STATUS_OWN;
     if (open_named(&broker, &options, &board) && open_own(&broker) && home_make(&broker.home, options.folder))
@@ -231,6 +231,7 @@ int main(int count, char **arguments) {
     files_free(&broker.files);
     bool written = waves_close(&broker.waves, broker.now);
     written = record_close(&broker.record) && written && !broker.renewal.is_unwritten;
+    written = output_close(&broker.calls.log) && written;
     close(broker.poller);
     close(broker.ends);
     signals_close(&broker.signals);

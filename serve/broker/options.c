@@ -26,6 +26,12 @@ static const char help[] =
     "      --each              begins a new machine, and a session of its own, whenever all chips and devices have "
     "gone:\n"
     "                          the next chip is gpiochip0 again, and FILE.2, FILE.3 .. get what FILE got before\n"
+    "      --at CALL STATEMENT     says the statement before the programs' call of that number: 12, or 12+ before "
+    "each\n"
+    "                          from the 12th on, or 12:500ms half a second later\n"
+    "      --after CALL STATEMENT  the same, once the call is answered\n"
+    "      --at-fault N        the N-th call of the driver fails with EIO; N+ from the N-th on\n"
+    "      --calls FILE        gets a line for each call: its number, the driver's, who made it, what came of it\n"
     "      --env               runs no command: prints the variables that a program needs to find the chips, a line\n"
     "                          each, then an empty line, and serves until its standard input ends\n"
     "      --folder FOLDER     the folder of the socket and of the names; a new one in TMPDIR where none is given\n"
@@ -61,7 +67,7 @@ static bool take_limit(struct options *options, const char *word) {
 }
 
 /* The options without a letter. */
-enum { CLOCK = 256, EACH, ENVIRONMENT, FOLDER, SERVED, ANSWER_TIMEOUT, VERSION };
+enum { CLOCK = 256, EACH, ENVIRONMENT, FOLDER, SERVED, ANSWER_TIMEOUT, AT, AFTER, AT_FAULT, CALLS, VERSION };
 
 /* Where an option's word is kept as it is; NULL for an option that is read. */
 static const char **place_of(struct options *options, int option) {
@@ -78,9 +84,19 @@ static const char **place_of(struct options *options, int option) {
         return &options->folder;
     case SERVED:
         return &options->served;
+    case CALLS:
+        return &options->calls;
     default:
         return NULL;
     }
+}
+
+/* Takes `--at CALL STATEMENT` or `--after CALL STATEMENT`, whose statement is the next word. */
+static bool take_planned(struct options *options, int option, const char *call, char **words) {
+    const char *statement = words[optind];
+    if (statement)
+        optind++;
+    return calls_plan(&options->plan, option == AT ? CALLS_BEFORE : CALLS_AFTER, call, statement);
 }
 
 /* Takes one option. False where it is wrong, which is reported. */
@@ -101,6 +117,8 @@ static bool take(struct options *options, int option, const char *word) {
         return true;
     case ANSWER_TIMEOUT:
         return take_limit(options, word);
+    case AT_FAULT:
+        return calls_plan_fault(&options->plan, word);
     default:
         return false; /* (getopt has reported it) */
     }
@@ -123,7 +141,9 @@ enum options_next options_read(struct options *options, int count, char **words)
         {"waves", required_argument, NULL, 'w'}, {"clock", required_argument, NULL, CLOCK},
         {"each", no_argument, NULL, EACH}, {"env", no_argument, NULL, ENVIRONMENT},
         {"folder", required_argument, NULL, FOLDER}, {"served", required_argument, NULL, SERVED},
-        {"answer-timeout", required_argument, NULL, ANSWER_TIMEOUT}, {"help", no_argument, NULL, 'h'},
+        {"answer-timeout", required_argument, NULL, ANSWER_TIMEOUT}, {"at", required_argument, NULL, AT},
+        {"after", required_argument, NULL, AFTER}, {"at-fault", required_argument, NULL, AT_FAULT},
+        {"calls", required_argument, NULL, CALLS}, {"help", no_argument, NULL, 'h'},
         {"version", no_argument, NULL, VERSION}, {NULL, 0, NULL, 0}};
     int option;
     *options = (struct options){.limit = LIMIT};
@@ -134,7 +154,8 @@ enum options_next options_read(struct options *options, int count, char **words)
         }
         if (option == VERSION)
             return OPTIONS_VERSION;
-        if (!take(options, option, optarg))
+        bool planned = option == AT || option == AFTER;
+        if (!(planned ? take_planned(options, option, optarg, words) : take(options, option, optarg)))
             return OPTIONS_WRONG;
     }
     return take_command(options, words + optind);

@@ -4,13 +4,16 @@
 
 #include <stdbool.h>
 
+#include "calls.h"
+
 struct options {
-    const char *board, *transcript, *answers, *waves, *folder, *served; /* or NULL */
+    const char *board, *transcript, *answers, *waves, *folder, *served, *calls; /* or NULL */
     bool manual;
-    bool each;        /* a new machine begins when all has gone */
-    unsigned limit;   /* seconds in which the served program has to answer; 0: none */
-    bool environment; /* no command: the variables are printed */
-    char **command;   /* and its arguments; NULL with `environment` */
+    struct calls plan; /* what is said at the programs' calls */
+    bool each;         /* a new machine begins when all has gone */
+    unsigned limit;    /* seconds in which the served program has to answer; 0: none */
+    bool environment;  /* no command: the variables are printed */
+    char **command;    /* and its arguments; NULL with `environment` */
 };
 
 /* What to do after the arguments were read. */

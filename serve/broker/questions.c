@@ -8,9 +8,8 @@
 #include <unistd.h>
 
 #include "items.h"
+#include "outside.h"
 #include "pieces.h"
-#include "saying.h"
-#include "statement.h"
 #include "touch.h"
 #include "turn.h"
 
@@ -285,7 +284,7 @@ static bool answer_reset(struct broker *broker, struct client *client) {
 }
 
 static bool answer_say(struct broker *broker, struct client *client) {
-    struct statement statement;
+    struct said said;
     const char *line = (const char *)broker->packet.data;
     size_t length = broker->packet.question.length;
     if (wait_is(line) && strlen(line) == length)
@@ -294,29 +293,17 @@ static bool answer_say(struct broker *broker, struct client *client) {
         return answer_reset(broker, client);
     if (!renewal_before_statement(broker))
         return false;
-    const char *refusal = statement_read(&statement, line, length, broker->manual);
-    if (refusal) {
-        struct answer answer = {.found = -1, .error = EINVAL, .length = (uint32_t)strlen(refusal)};
-        clients_reply(client, &answer, refusal, -1);
-        return true;
-    }
-    if (!saying_say(broker, &statement, line, length))
+    if (!outside_say(broker, line, length, &said)) {
+        said_free(&said);
         return false;
-    /* (what follows the statement takes the place of its text) */
-    struct answer answer = {.found = broker->machine.refused ? -1 : 0,
-        .error = machine_error_of_statement(&broker->machine),
-        .length = (uint32_t)broker->machine.length};
-    char *text = strdup(broker->machine.text);
-    if (statement.clock && answer.error == 0)
-        broker->now = statement.now;
-    if (answer.error == 0)
-        tree_note_statement(&broker->tree, line);
-    bool alive = saying_settle(broker, &statement) && renewal_look(broker);
-    if (text)
-        clients_reply(client, &answer, text, -1);
+    }
+    struct answer answer = {.found = said.is_none ? -1 : 0, .error = said.error, .length = (uint32_t)said.length};
+    bool alive = renewal_look(broker);
+    if (said.text)
+        clients_reply(client, &answer, said.text, -1);
     else
         reply_error(client, ENOMEM);
-    free(text);
+    said_free(&said);
     return alive;
 }
 
@@ -340,8 +327,8 @@ static bool answer_for_file(struct broker *broker, struct client *client) {
     return true;
 }
 
-bool questions_answer(struct broker *broker, struct client *client) {
-    broker->record.asker = client->asker;
+/* Answers by the question's operation. */
+static bool answer(struct broker *broker, struct client *client) {
     switch (broker->packet.question.op) {
     case WIRE_OPEN:
         return answer_open(broker, client);
@@ -358,4 +345,9 @@ bool questions_answer(struct broker *broker, struct client *client) {
         reply_error(client, EINVAL);
         return true;
     }
+}
+
+bool questions_answer(struct broker *broker, struct client *client) {
+    broker->record.asker = client->asker;
+    return calls_begin(broker) && answer(broker, client) && calls_end(broker, client->error);
 }

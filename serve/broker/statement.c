@@ -63,6 +63,7 @@ const char *statement_read(struct statement *statement, const char *line, size_t
     statement->tool = words_is_one_of(first, tools);
     statement->pulls = words_is(first, "write") && sscanf(second.at, "gpiochip%u/sim_gpio%" SCNu32 "/pull ",
                                                        &statement->chip, &statement->offset) == 2;
-    statement->clock = words_is(first, "clock") && sscanf(second.at, "%" SCNu64, &statement->now) == 1;
+    statement->clock =
+        words_is(first, "clock") && sscanf(second.at, "%" SCNu64 " %" SCNu64, &statement->now, &statement->real) == 2;
     return NULL;
 }

@@ -20,8 +20,8 @@ struct statement {
     bool pulls; /* it pulls this line */
     unsigned chip;
     uint32_t offset;
-    bool clock; /* it sets the monotonic clock to this */
-    uint64_t now;
+    bool clock; /* it sets both clocks to these */
+    uint64_t now, real;
 };
 
 /* Reads a statement of `length` bytes, ended by a zero. NULL, or why it may not be said, as the text of a refusal. */

@@ -5,9 +5,8 @@
 #include "../wire.h"
 #include "words.h"
 
-/* A limit, in milliseconds: where none is given, and the longest one. */
+/* A limit, in milliseconds, where none is given. */
 #define LIMIT_GIVEN 30000
-#define LIMIT_MOST (24 * 3600 * 1000u)
 
 static const char refusal[] =
     "refused: wait held CHIP LINE [by CONSUMER], wait released CHIP LINE, wait level CHIP LINE 0 or 1, wait read CHIP "
@@ -44,20 +43,6 @@ static bool read_line(struct word word, uint32_t *line) {
     return true;
 }
 
-/* A time as `500ms` or `5s`, in milliseconds. */
-static bool read_time(struct word word, uint64_t *time) {
-    size_t digits = 0;
-    while (digits < word.length && word.at[digits] >= '0' && word.at[digits] <= '9')
-        digits++;
-    struct word number = {word.at, digits}, unit = {word.at + digits, word.length - digits};
-    if (words_is(unit, "ms"))
-        return words_number(number, LIMIT_MOST, time);
-    if (!words_is(unit, "s") || !words_number(number, LIMIT_MOST / 1000, time))
-        return false;
-    *time *= 1000;
-    return true;
-}
-
 /* Reads what follows the line or the chip, and takes it off. Of a level the number has to be there. */
 static bool read_rest(struct wait *wait, struct word *word) {
     struct word next = words_after(*word);
@@ -90,7 +75,7 @@ static bool read_limit(struct wait *wait, struct word last) {
     wait->limit = LIMIT_GIVEN;
     if (within.length == 0)
         return true;
-    return words_is(within, "within") && read_time(time, &wait->limit) && words_after(time).length == 0;
+    return words_is(within, "within") && words_time(time, &wait->limit) && words_after(time).length == 0;
 }
 
 const char *wait_read(struct wait *wait, const char *line) {

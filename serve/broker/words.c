@@ -33,3 +33,16 @@ bool words_number(struct word word, uint64_t most, uint64_t *number) {
     *number = sum;
     return word.length > 0;
 }
+
+bool words_time(struct word word, uint64_t *time) {
+    size_t digits = 0;
+    while (digits < word.length && word.at[digits] >= '0' && word.at[digits] <= '9')
+        digits++;
+    struct word number = {word.at, digits}, unit = {word.at + digits, word.length - digits};
+    if (words_is(unit, "ms"))
+        return words_number(number, WORDS_TIME_MOST, time);
+    if (!words_is(unit, "s") || !words_number(number, WORDS_TIME_MOST / 1000, time))
+        return false;
+    *time *= 1000;
+    return true;
+}

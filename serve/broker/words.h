@@ -23,4 +23,10 @@ bool words_is_one_of(struct word word, const char *const *texts);
 /* Reads a word of decimal digits. False where it isn't one, or above `most`. */
 bool words_number(struct word word, uint64_t most, uint64_t *number);
 
+/* The longest time that a word says, in milliseconds: a day. */
+#define WORDS_TIME_MOST (24 * 3600 * 1000u)
+
+/* Reads a time as `500ms` or `5s`, in milliseconds. False where the word is none, or above WORDS_TIME_MOST. */
+bool words_time(struct word word, uint64_t *time);
+
 #endif

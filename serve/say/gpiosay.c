@@ -34,6 +34,10 @@ static const char help[] =
     "  wait read CHIP LINE [COUNT] [within TIME]         until so many of its events were read; prints how many\n"
     "  wait opened CHIP [COUNT] [within TIME]            until the chip was opened so often; prints how often\n"
     "\n"
+    "Or it stands for several statements, or for one whose numbers gpioserve knows:\n"
+    "  burst COUNT   each line whose edges a program awaits changes so many times\n"
+    "  pass TIME     the manual clock goes on by TIME, as 10ms or 2s\n"
+    "\n"
     "Status 0; 1 where the machine refused a statement, as by EBUSY; 2 where there is nobody to say it to; 3 where a\n"
     "STATEMENT is none, or none that can be said here; 4 where a wait failed, after which nothing more is said.\n"
     "docs/FORMATS.md lists the statements.\n";
