@@ -1,5 +1,6 @@
 """What `check` says of printed runs. The last line is `N passed, M failed`: of inputs, of runs, and of outputs with one thing wrong, each of
 which has to be told by a line of its kind."""
+import os
 import random
 import subprocess
 import sys
@@ -7,7 +8,7 @@ from pathlib import Path
 from typing import Callable, Dict, Iterator, List, NamedTuple, Optional, Tuple
 
 TOP = Path(__file__).resolve().parent.parent
-PROGRAM = TOP / "crates/gpiosess/out/gpiosess"
+PROGRAM = os.environ.get("GPIOSESS") or TOP / "crates/gpiosess/out/gpiosess"
 RUNS = 200
 # how many spoilt outputs there are at least
 SPOILT = 2000

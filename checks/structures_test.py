@@ -1,5 +1,6 @@
 """Tests of examples/structures.py: against the pieces of examples/raw-ioctls, the C compiler's layout, and the program."""
 import importlib.util
+import os
 import shutil
 import subprocess
 import tempfile
@@ -7,7 +8,7 @@ import unittest
 from pathlib import Path
 
 TOP = Path(__file__).resolve().parent.parent
-PROGRAM = TOP / "crates/gpiosess/out/gpiosess"
+PROGRAM = Path(os.environ.get("GPIOSESS") or TOP / "crates/gpiosess/out/gpiosess")
 _SPEC = importlib.util.spec_from_file_location("structures", TOP / "examples/structures.py")
 structures = importlib.util.module_from_spec(_SPEC)
 _SPEC.loader.exec_module(structures)
