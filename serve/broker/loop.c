@@ -145,10 +145,10 @@ static bool prepare(struct loop *loop) {
            (broker->signals.command || watch_by(broker->poller, &loop->input, EPOLLIN));
 }
 
-/* Whether the command has ended; without one, whether the input has, or a signal came. */
+/* Whether the command has ended, with what it has left; without one, whether the input has, or a signal came. */
 static bool is_over(const struct loop *loop) {
     const struct signals *signals = &loop->broker->signals;
-    return signals->command ? signals->ended : loop->input_ended || signals->received > 0;
+    return signals->command ? signals_are_over(signals) : loop->input_ended || signals->received > 0;
 }
 
 /* Ends a command that has nobody any more who answers. What it asks or waits for fails first, since a program that

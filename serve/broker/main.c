@@ -97,6 +97,8 @@ static int serve(struct broker *broker, const struct options *options, const cha
     struct command_view view = {library, broker->home.path, !broker->show.missing};
     if (options->environment)
         return command_print_variables(&view) ? loop_run(broker) : STATUS_OWN;
+    if (options->daemons && !descendants_adopt(&broker->signals.descendants))
+        return STATUS_OWN;
     int status = command_start(&broker->signals.command, options->command, &view);
     return status ? status : loop_run(broker);
 }

@@ -23,6 +23,7 @@ static const char help[] =
     "  -a, --answers FILE      gets all that the statements printed: what gpiosess prints for that session\n"
     "  -w, --waves FILE        gets the lines' levels over time, as a value change dump\n"
     "      --clock manual      time passes by `gpiosay \"clock MONOTONIC REAL\"` alone (system: as it does)\n"
+    "      --daemons           serves on after COMMAND, until the daemons that it left have ended as well\n"
     "      --each              begins a new machine, and a session of its own, whenever all chips and devices have "
     "gone:\n"
     "                          the next chip is gpiochip0 again, and FILE.2, FILE.3 .. get what FILE got before\n"
@@ -67,7 +68,7 @@ static bool take_limit(struct options *options, const char *word) {
 }
 
 /* The options without a letter. */
-enum { CLOCK = 256, EACH, ENVIRONMENT, FOLDER, SERVED, ANSWER_TIMEOUT, AT, AFTER, AT_FAULT, CALLS, VERSION };
+enum { CLOCK = 256, DAEMONS, EACH, ENVIRONMENT, FOLDER, SERVED, ANSWER_TIMEOUT, AT, AFTER, AT_FAULT, CALLS, VERSION };
 
 /* Where an option's word is kept as it is; NULL for an option that is read. */
 static const char **place_of(struct options *options, int option) {
@@ -109,6 +110,9 @@ static bool take(struct options *options, int option, const char *word) {
     switch (option) {
     case CLOCK:
         return take_clock(options, word);
+    case DAEMONS:
+        options->daemons = true;
+        return true;
     case EACH:
         options->each = true;
         return true;
@@ -127,24 +131,27 @@ static bool take(struct options *options, int option, const char *word) {
 /* Whether there is a command, or `--env` in its place. What is wrong is reported. */
 static enum options_next take_command(struct options *options, char **words) {
     bool is_there = *words != NULL;
-    if (is_there && options->environment)
+    if (options->environment && options->daemons)
+        report("--env runs no command, so --daemons has nothing to wait for: leave it out");
+    else if (is_there && options->environment)
         report("--env runs no command: leave out %s", *words);
     else if (!is_there && !options->environment)
         report("there is no command to run: gpioserve [OPTIONS] -- COMMAND ..; --help says more");
     options->command = is_there ? words : NULL;
-    return is_there != options->environment ? OPTIONS_RUN : OPTIONS_WRONG;
+    return is_there != options->environment && !(options->environment && options->daemons) ? OPTIONS_RUN
+                                                                                           : OPTIONS_WRONG;
 }
 
 enum options_next options_read(struct options *options, int count, char **words) {
     static const struct option names[] = {{"board", required_argument, NULL, 'b'},
         {"transcript", required_argument, NULL, 't'}, {"answers", required_argument, NULL, 'a'},
         {"waves", required_argument, NULL, 'w'}, {"clock", required_argument, NULL, CLOCK},
-        {"each", no_argument, NULL, EACH}, {"env", no_argument, NULL, ENVIRONMENT},
-        {"folder", required_argument, NULL, FOLDER}, {"served", required_argument, NULL, SERVED},
-        {"answer-timeout", required_argument, NULL, ANSWER_TIMEOUT}, {"at", required_argument, NULL, AT},
-        {"after", required_argument, NULL, AFTER}, {"at-fault", required_argument, NULL, AT_FAULT},
-        {"calls", required_argument, NULL, CALLS}, {"help", no_argument, NULL, 'h'},
-        {"version", no_argument, NULL, VERSION}, {NULL, 0, NULL, 0}};
+        {"daemons", no_argument, NULL, DAEMONS}, {"each", no_argument, NULL, EACH},
+        {"env", no_argument, NULL, ENVIRONMENT}, {"folder", required_argument, NULL, FOLDER},
+        {"served", required_argument, NULL, SERVED}, {"answer-timeout", required_argument, NULL, ANSWER_TIMEOUT},
+        {"at", required_argument, NULL, AT}, {"after", required_argument, NULL, AFTER},
+        {"at-fault", required_argument, NULL, AT_FAULT}, {"calls", required_argument, NULL, CALLS},
+        {"help", no_argument, NULL, 'h'}, {"version", no_argument, NULL, VERSION}, {NULL, 0, NULL, 0}};
     int option;
     *options = (struct options){.limit = LIMIT};
     while ((option = getopt_long(count, words, "+b:t:a:w:h", names, NULL)) != -1) {

@@ -12,6 +12,7 @@ struct options {
     struct calls plan; /* what is said at the programs' calls */
     bool each;         /* a new machine begins when all has gone */
     unsigned limit;    /* seconds in which the served program has to answer; 0: none */
+    bool daemons;      /* what the command leaves behind is waited for */
     bool environment;  /* no command: the variables are printed */
     char **command;    /* and its arguments; NULL with `environment` */
 };

@@ -77,6 +77,7 @@ static void forget(struct broker *broker) {
 
 bool renewal_begin(struct broker *broker) {
     struct renewal *renewal = &broker->renewal;
+    pid_t before = broker->machine.pid;
     forget(broker);
     renewal->is_used = renewal->is_awaited = false;
     bool good = open_files(broker);
@@ -85,6 +86,7 @@ bool renewal_begin(struct broker *broker) {
         broker->machine.ended = true;
         return false;
     }
+    descendants_replace(&broker->signals.descendants, before, broker->machine.pid);
     broker->served = (struct watch){WATCH_SERVED, broker->machine.from, NULL};
     if (!good || !watch_by(broker->poller, &broker->served, 0) || !board_hand_in(broker, renewal->board)) {
         report("there is no new machine");

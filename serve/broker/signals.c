@@ -44,47 +44,56 @@ void signals_close(struct signals *signals) {
     signals->number = -1;
 }
 
-/* Whether there is a command to send signals to. */
-static bool has_command(const struct signals *signals) {
-    return signals->command > 0 && !signals->ended;
+bool signals_are_over(const struct signals *signals) {
+    return signals->command == 0 || (signals->ended && !signals->left);
 }
 
-static void reap_command(struct signals *signals) {
+/* Takes the ends of children. */
+static void reap(struct signals *signals) {
     int status;
-    if (has_command(signals) && waitpid(signals->command, &status, WNOHANG) == signals->command) {
+    bool runs = signals->command > 0 && !signals->ended;
+    if (runs && waitpid(signals->command, &status, WNOHANG) == signals->command) {
         signals->ended = true;
         signals->status = status;
     }
+    signals->left = descendants_are_left(&signals->descendants, signals->command);
+}
+
+/* Hands a signal on. What a terminal sends reaches the command as well, but not what it has left. */
+static void hand_on(const struct signals *signals, const struct signalfd_siginfo *signal) {
+    if (signals->ended)
+        descendants_signal(&signals->descendants, (int)signal->ssi_signo);
+    else if (signals->command > 0 && signal->ssi_code != SI_KERNEL)
+        kill(signals->command, (int)signal->ssi_signo);
 }
 
 void signals_receive(struct signals *signals) {
     struct signalfd_siginfo signal;
     while (read(signals->number, &signal, sizeof signal) == (ssize_t)sizeof signal) {
         if (signal.ssi_signo == SIGCHLD) {
-            reap_command(signals);
+            reap(signals);
             continue;
         }
         signals->received++;
         signals->last = (int)signal.ssi_signo;
-        /* (what a terminal sends reaches the command as well) */
-        if (signal.ssi_code != SI_KERNEL && has_command(signals))
-            kill(signals->command, (int)signal.ssi_signo);
+        hand_on(signals, &signal);
     }
+}
+
+/* Sends a signal to the command, and to what was left. */
+static void send_all(const struct signals *signals, int number) {
+    descendants_signal(&signals->descendants, number);
+    if (!signals->descendants.adopted && !signals->ended)
+        kill(signals->command, number);
 }
 
 void signals_end_command(struct signals *signals) {
     const struct timespec pause = {0, PAUSE};
-    if (!has_command(signals))
-        return;
-    kill(signals->command, SIGTERM);
-    for (int look = 0; look < LOOKS && !signals->ended; look++) {
+    /* (a program of another user, or one that the kernel holds, does not end by SIGKILL either) */
+    for (int look = 0; look < 2 * LOOKS && !signals_are_over(signals); look++) {
+        if (look % LOOKS == 0)
+            send_all(signals, look == 0 ? SIGTERM : SIGKILL);
         nanosleep(&pause, NULL);
-        reap_command(signals);
+        reap(signals);
     }
-    if (signals->ended)
-        return;
-    kill(signals->command, SIGKILL);
-    while (waitpid(signals->command, &signals->status, 0) < 0 && errno == EINTR)
-        continue;
-    signals->ended = true;
 }

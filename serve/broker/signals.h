@@ -5,11 +5,15 @@
 #include <stdbool.h>
 #include <sys/types.h>
 
+#include "descendants.h"
+
 struct signals {
-    int number;        /* of the file that shows them */
-    pid_t command;     /* 0 while none was started */
-    bool ended;        /* the command has ended, */
-    int status;        /* with this status of waitpid */
+    int number;    /* of the file that shows them */
+    pid_t command; /* 0 while none was started */
+    bool ended;    /* the command has ended, */
+    int status;    /* with this status of waitpid */
+    bool left;     /* of what it has left, where that is adopted, something still runs */
+    struct descendants descendants;
     unsigned received; /* how many have come that end programs, */
     int last;          /* and which one was the last */
 };
@@ -19,10 +23,14 @@ struct signals {
 bool signals_open(struct signals *signals);
 void signals_close(struct signals *signals);
 
-/* Takes the signals that have come: hands them on to the command, and sees whether it has ended. */
+/* Takes the signals that have come: hands them on to the command, or where it has ended to what it has left, and sees
+ * whether these have ended. */
 void signals_receive(struct signals *signals);
 
-/* Ends the command with SIGTERM, and where it does not end within some seconds with SIGKILL. */
+/* Whether the command has ended, and what it has left. */
+bool signals_are_over(const struct signals *signals);
+
+/* Ends the command and what it has left with SIGTERM, and what does not end within some seconds with SIGKILL. */
 void signals_end_command(struct signals *signals);
 
 #endif

@@ -287,6 +287,102 @@ assert len(os.read(files[7], 288 * 4)) == 288 * 2
         self.assertLessEqual(len(looked), 4)
 
 
+# A command that leaves a daemon behind, in a session of its own and without the files that the command has, and ends with
+# status 3. The daemon requests line 3; it ends once it has read an event, or by SIGTERM, and says so in a file.
+LEAVES = """
+def say_end(how):
+    with open(sys.argv[1], "a") as end:
+        end.write(how + "\\n")
+    os._exit(0)
+if os.fork() != 0:
+    os._exit(3)
+os.setsid()
+if os.fork() != 0:
+    os._exit(0)
+for number in range(3, 256):
+    try:
+        os.close(number)
+    except OSError:
+        pass
+signal.signal(signal.SIGTERM, lambda number, frame: say_end("terminated"))
+time.sleep(0.3)
+try:
+    chip = os.open("/dev/gpiochip0", os.O_RDWR)
+    os.read(edges(3), 48)
+    say_end("an event")
+except OSError as error:
+    say_end(f"error {error.errno}")
+"""
+
+
+class DaemonsTest(BrokerTest):
+    """What the command leaves behind."""
+
+    def leave(self, *words: str) -> "subprocess.Popen[str]":
+        """Runs the command that leaves a daemon."""
+        return self.start(
+            "--folder",
+            str(self.folder / "run"),
+            *words,
+            command=[sys.executable, "-c", ASKING + LEAVES, str(self.folder / "end")],
+        )
+
+    def say(self, text: str) -> int:
+        """The status of gpiosay."""
+        words = [str(OUT / "gpiosay"), "--folder", str(self.folder / "run"), text]
+        return subprocess.run(words, capture_output=True).returncode
+
+    def daemon_end(self) -> str:
+        """How the daemon ended."""
+        end = self.folder / "end"
+        self.assertTrue(wait_until(lambda: end.exists() and end.read_text().endswith("\n")))
+        return end.read_text()
+
+    def is_held(self) -> bool:
+        """Whether the daemon holds its line."""
+        return self.say("wait held gpiochip0 3 within 100ms") == 0
+
+    def test_a_run_goes_on_until_the_daemon_has_ended(self) -> None:
+        broker = self.leave("--daemons", "-t", str(self.folder / "transcript"))
+        self.assertTrue(wait_until(self.is_held))
+        self.assertIsNone(broker.poll())
+        self.assertEqual(self.say("write gpiochip0/sim_gpio3/pull pull-up"), 0)
+        self.assertEqual(self.status(broker), 3)
+        self.assertEqual(self.daemon_end(), "an event\n")
+        self.assertIn("close lines.", (self.folder / "transcript").read_text())
+
+    def test_a_new_machine_is_no_daemon(self) -> None:
+        (self.folder / "empty").write_text("")
+        script = """
+for turn in range(2):
+    say("probe some 4")
+    say("unplug gpiochip0")
+"""
+        asking = ASKING.replace('chip = os.open("/dev/gpiochip0", os.O_RDWR)', "")
+        words = ["-b", str(self.folder / "empty"), "--each", "--daemons"]
+        broker = self.start(*words, command=[sys.executable, "-c", asking + script])
+        self.assertEqual(self.status(broker), 0, self.said())
+
+    def test_sigterm_ends_the_daemon_that_the_command_left(self) -> None:
+        broker = self.leave("--daemons")
+        self.assertTrue(wait_until(self.is_held))
+        broker.terminate()
+        self.assertEqual(self.status(broker), 3)
+        self.assertEqual(self.daemon_end(), "terminated\n")
+
+    def test_a_daemon_is_ended_with_the_served_program(self) -> None:
+        broker = self.leave("--daemons", *self.stoppable())
+        self.assertTrue(wait_until(self.is_held))
+        os.kill(self.number(), signal.SIGKILL)
+        self.assertEqual(self.status(broker), 124)
+        self.assertIn(self.daemon_end(), ("terminated\n", "error 19\n"))
+
+    def test_without_the_option_the_run_ends_with_the_command(self) -> None:
+        broker = self.leave()
+        self.assertEqual(self.status(broker), 3)
+        self.assertEqual(self.daemon_end(), "error 19\n")
+
+
 # A machine with 30,720 lines, of which `gpioinfo` prints a megabyte.
 FULL = "".join(f"probe x{chip} 512\n" for chip in range(60))
 # What a command needs for answers of which a packet has no room: `connect()`, `send(CONNECTION, TEXT)`, `take(CONNECTION)`.
