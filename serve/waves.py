@@ -482,6 +482,13 @@ def time_of(text: str) -> int:
     return (int(found[1]) * 10 ** 15 + int(digits)) * 10 ** UNITS[found[3]] // 10 ** 15
 
 
+def version() -> str:
+    """The version number, which stands beside this program where it is installed, or at the repository's top."""
+    here = Path(__file__).resolve().parent
+    files = [path for path in (here / "VERSION", here.parent / "VERSION") if path.is_file()]
+    return files[0].read_text(encoding="ascii").strip() if files else "unknown"
+
+
 def arguments(words: Sequence[str]) -> argparse.Namespace:
     """The arguments of the command line."""
     parser = argparse.ArgumentParser(prog="waves.py", description=__doc__, formatter_class=argparse.RawDescriptionHelpFormatter)
@@ -489,6 +496,7 @@ def arguments(words: Sequence[str]) -> argparse.Namespace:
     parser.add_argument("-o", "--output", metavar="FILE.svg", help="the picture; - for standard output (the dump's name with .svg)")
     parser.add_argument("--from", dest="begin", type=time_of, metavar="TIME", help="the first time that is drawn, as 1.5ms (the dump's)")
     parser.add_argument("--to", dest="end", type=time_of, metavar="TIME", help="the last one (the dump's)")
+    parser.add_argument("--version", action="version", version=f"waves.py {version()}", help="prints the version")
     parser.add_argument("--width", type=int, default=960, metavar="N", help="pixels, 300 to 20000 (960)")
     asked = parser.parse_args(words)
     if not 300 <= asked.width <= 20000:

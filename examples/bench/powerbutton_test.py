@@ -127,6 +127,7 @@ class PowerButtonTest(unittest.TestCase):
         bench.clock(1_000_000)
         bench.press()
         self.assertEqual(bench.line(), "LED is on")
+        bench.clock(1_000)  # (so that the LED is on for a while, however late the daemon was)
         self.assertEqual(bench.stop(), 0)
         return bench
 

@@ -183,11 +183,12 @@ def test_chips_in_the_process_of_pytest(pytester: pytest.Pytester) -> None:
             with Connection() as world:
                 assert f"{names[0]} [" in world.say("gpiodetect") and f"({lines} lines)" in world.say("gpiodetect")
 
+        @pytest.mark.skipif("GPIOSERVE" not in os.environ, reason="these are the machine's own chips")
         def test_what_was_made_is_gone():
             assert [name for name in os.listdir("/dev") if name.startswith("gpiochip")] == ["gpiochip0"]
         """
     )
-    expect(pytester.runpytest_subprocess(), skipped=2, failed=1)
+    expect(pytester.runpytest_subprocess(), skipped=3)
     pytester.makefile("", board="probe first 1\n")
     command = [programs.find("gpioserve"), "-b", "board", "--", sys.executable, "-m", "pytest"]
     result = pytester.run(*command)

@@ -5,6 +5,7 @@ from __future__ import annotations
 import os
 import shutil
 import subprocess
+from functools import lru_cache
 from pathlib import Path
 from typing import List
 
@@ -37,8 +38,9 @@ def find(name: str) -> str:
     raise NotServed(f"{name} is neither in {', nor in '.join(map(str, FOLDERS))}, nor on the PATH")
 
 
+@lru_cache(maxsize=None)
 def _made(name: str) -> str:
-    """The path of a program of the present sources, which is made where there is none."""
+    """The path of a program of the present sources, which is made where there is none. It is asked for once."""
     done = subprocess.run([str(MAKER), name], stdout=subprocess.PIPE, text=True, check=False)
     if done.returncode != 0:
         raise NotServed(f"there is no {name}: what stands above says why. Or name a program in GPIOSERVED")

@@ -80,7 +80,7 @@ def gpio(request: pytest.FixtureRequest, tmp_path: Path, gpio_board: Union[str, 
 def gpio_chip() -> Iterator[Callable[..., str]]:
     """Makes a chip in pytest's own process, which runs under gpioserve: a function of its number of lines, to its name.
 
-    A run has 64 such chips at most.
+    A machine has 64 such chips at most. With `gpioserve --each` a new one begins whenever all have gone.
     """
     try:
         connection = Connection()
