@@ -3,11 +3,17 @@
 #ifndef WIRE_H
 #define WIRE_H
 
+#include <fcntl.h>
 #include <stdint.h>
 
 /* The environment variable that names the broker's folder, and the socket's name in it. */
 #define WIRE_VARIABLE "GPIOSERVE"
 #define WIRE_SOCKET "socket"
+
+/* Flags of the reading end of a file's pipe, which mean nothing there: the file was opened for reading, and for
+ * writing. Each file has at least one of them, by which it is told from pipes of others. */
+#define WIRE_READS O_APPEND
+#define WIRE_WRITES O_DIRECT
 
 /* The most bytes that follow a head. */
 #define WIRE_DATA 65536

@@ -9,6 +9,7 @@
 #include <sys/stat.h>
 #include <unistd.h>
 
+#include "../wire.h"
 #include "room.h"
 #include "spare.h"
 
@@ -35,7 +36,8 @@ static bool make_pipe(int ends[2], uint64_t *ino) {
     struct stat status;
     if (pipe2(ends, O_CLOEXEC))
         return false;
-    if (fstat(ends[0], &status) == 0 && fcntl(ends[1], F_SETFL, O_NONBLOCK) == 0) {
+    if (fstat(ends[0], &status) == 0 && fcntl(ends[0], F_SETFL, WIRE_READS) == 0 &&
+        fcntl(ends[1], F_SETFL, O_NONBLOCK) == 0) {
         *ino = status.st_ino;
         return true;
     }

@@ -1,6 +1,5 @@
-/* How a chip was opened belongs to the open file, which several processes may have. It stands in two flags of the
- * pipe's reading end that mean nothing there: O_APPEND for reading, O_DIRECT for writing. So each file of the broker's
- * has at least one of them. */
+/* How a chip was opened belongs to the open file, which several processes may have. So it stands in flags of the pipe's
+ * reading end. */
 #include "flags.h"
 
 #include <errno.h>
@@ -9,10 +8,11 @@
 #include <sys/syscall.h>
 #include <unistd.h>
 
+#include "../wire.h"
 #include "known.h"
 #include "real.h"
 
-#define MARKS (O_APPEND | O_DIRECT)
+#define MARKS (WIRE_READS | WIRE_WRITES)
 
 static int raw_flags(int file) {
     return (int)syscall(SYS_fcntl, file, F_GETFL);
@@ -20,11 +20,11 @@ static int raw_flags(int file) {
 
 static int marks_of(int flags) {
     int access = flags & O_ACCMODE;
-    return (access != O_WRONLY ? O_APPEND : 0) | (access != O_RDONLY ? O_DIRECT : 0);
+    return (access != O_WRONLY ? WIRE_READS : 0) | (access != O_RDONLY ? WIRE_WRITES : 0);
 }
 
 static int access_of(int raw) {
-    return !(raw & O_DIRECT) ? O_RDONLY : raw & O_APPEND ? O_RDWR : O_WRONLY;
+    return !(raw & WIRE_WRITES) ? O_RDONLY : raw & WIRE_READS ? O_RDWR : O_WRONLY;
 }
 
 void flags_keep(int file, int flags) {

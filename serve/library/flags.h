@@ -7,7 +7,7 @@
 /* Gives a file that just came from the broker the flags of `open`. */
 void flags_keep(int file, int flags);
 
-/* Whether a pipe is one that flags_keep has marked: then it is the broker's, whoever can't be asked. */
+/* Whether a pipe has a mark, as all of the broker's have from their beginning, and hardly another one. */
 bool flags_are_kept(int file);
 
 #endif

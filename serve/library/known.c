@@ -29,12 +29,13 @@ static unsigned look_up(ino_t ino) {
     return entry >> 8 == ino ? entry & 0xff : UNKNOWN;
 }
 
-/* (a file of the broker's stays so where nobody answers: what stands in its pipe is nothing for the program) */
+/* Pipes of others have no mark, and are never asked about. (One with a mark is taken for the broker's where nobody
+ * answers: what stands in its pipe is nothing for the program.) */
 static unsigned ask_for(int file, ino_t ino) {
     struct question question = {.op = WIRE_WHOSE, .ino = ino};
-    struct answer answer;
-    if (ask(&question, NULL, &answer, NULL, 0, NULL, true))
-        return flags_are_kept(file) ? REQUEST : OTHERS;
+    struct answer answer = {.found = -1};
+    if (flags_are_kept(file) && ask(&question, NULL, &answer, NULL, 0, NULL, true))
+        return REQUEST;
     unsigned what = answer.found < 0                               ? OTHERS
                     : answer.chip == 0 || answer.chip > WIRE_CHIPS ? REQUEST
                                                                    : CHIP + answer.chip - 1;

@@ -12,7 +12,7 @@ struct known {
     int chip; /* of a chip's file, else -1 */
 };
 
-/* What the file with that number is. A pipe that isn't known is asked for once. errno stays as it was. */
+/* What the file with that number is. A pipe with a mark is asked about once. errno stays as it was. */
 struct known known_file(int file);
 
 /* Keeps what a file is that just came from the broker. */

@@ -158,7 +158,21 @@ static void test_title(void) {
     CHECK(end_of(run_child(set_title, 1)) == 0);
 }
 
+/* Reads from a pipe of its own. */
+static int read_own_pipe(int number) {
+    int ends[2], before = count_files();
+    char byte;
+    return number || pipe(ends) || write(ends[1], "a", 1) != 1 || read(ends[0], &byte, 1) != 1 || before <= 0 ||
+           count_files() != before + 2;
+}
+
+static void test_own_pipe(void) {
+    test("a process that reads pipes of its own has no connection");
+    CHECK(end_of(run_child(read_own_pipe, 0)) == 0);
+}
+
 void test_forks(void) {
+    test_own_pipe();
     test_signals();
     test_clone();
     test_vfork();

@@ -2,6 +2,8 @@
  * that of GPIO chips, so that /dev/null is chip 3. */
 #include <errno.h>
 #include <fcntl.h>
+#include <stdio.h>
+#include <stdlib.h>
 #include <string.h>
 #include <sys/ioctl.h>
 #include <sys/stat.h>
@@ -30,6 +32,30 @@ static void test_opened(void) {
     close(chip);
 }
 
+static bool is_demo(int chip) {
+    struct gpiochip_info info;
+    return chip >= 0 && ioctl(chip, GPIO_GET_CHIPINFO_IOCTL, &info) == 0 && strcmp(info.label, "demo") == 0;
+}
+
+/* (nothing can be made in /dev here, so that a fault leaves no file there) */
+static void test_made(void) {
+    char folder[] = "/tmp/gpioserve-test.XXXXXX", path[64];
+    test("opening a chip with O_CREAT makes no file");
+    CHECK(mkdtemp(folder) != NULL);
+    snprintf(path, sizeof path, "%s/link", folder);
+    CHECK(symlink("/dev/gpiochip0", path) == 0);
+    const int chips[] = {open(path, O_RDWR | O_CREAT, 0600), open("/dev/gpiochip0", O_RDWR | O_CREAT, 0600),
+        open("/dev/../dev/gpiochip0", O_RDWR | O_CREAT, 0600), creat("/dev/gpiochip0", 0600), creat(path, 0600)};
+    for (size_t i = 0; i < sizeof chips / sizeof *chips; i++) {
+        CHECK(is_demo(chips[i]));
+        close(chips[i]);
+    }
+    CHECK_ERROR(open("/dev/gpiochip0", O_RDWR | O_CREAT | O_EXCL, 0600), EEXIST);
+    CHECK_ERROR(creat("/dev/gpiochip7", 0600), ENOENT);
+    unlink(path);
+    rmdir(folder);
+}
+
 /* What a refused command says goes to a pipe in the place of standard error. */
 static void test_refused(void) {
     struct gpiochip_info info;
@@ -55,6 +81,7 @@ static void test_refused(void) {
 }
 
 void test_hardware(void) {
+    test_made();
     test_opened();
     test_refused();
 }

@@ -64,11 +64,8 @@ static void test_links(void) {
         check_name(path);
     }
     snprintf(path, sizeof path, "%s/absolute", folder);
-    int chip = open(path, O_RDWR | O_CREAT, 0600);
-    CHECK(is_demo(chip));
     CHECK_ERROR(open(path, O_RDWR | O_CREAT | O_EXCL, 0600), EEXIST);
     CHECK_ERROR(open(path, O_RDWR | O_NOFOLLOW), ELOOP);
-    close(chip);
     for (size_t i = 0; i < LINKS; i++) {
         snprintf(path, sizeof path, "%s/%s", folder, links[i].name);
         unlink(path);
@@ -142,9 +139,6 @@ static void test_other_calls(void) {
     CHECK(old_stat && old_stat(1, AT_FDCWD, "/dev/gpiochip0", &status, 0) == 0 && S_ISCHR(status.st_mode));
     CHECK(fortified && fortified(AT_FDCWD, "/sys/bus/gpio/devices/gpiochip0", text, sizeof text, sizeof text) > 0);
     CHECK(strcmp(text, "/sys/devices/gpioserve/gpiochip0") == 0);
-    int chip = creat("/dev/gpiochip0", 0600);
-    CHECK(is_demo(chip));
-    close(chip);
 }
 
 static int has_flags(int chip) {
@@ -166,7 +160,6 @@ static void test_flags(void) {
     CHECK(end_of(run_child(has_flags, chip)) == 0);
     CHECK((fcntl(held, F_GETFL) & shown) == O_RDONLY);
     CHECK(pipe(ends) == 0 && fcntl(ends[0], F_SETFL, O_DIRECT) == 0 && (fcntl(ends[0], F_GETFL) & shown) == O_DIRECT);
-    CHECK_ERROR(open("/dev/gpiochip0", O_RDWR | O_CREAT | O_EXCL, 0600), EEXIST);
     close(ends[0]);
     close(ends[1]);
     close(held);

@@ -11,6 +11,7 @@
 #include "units.h"
 
 static unsigned asked;
+static bool marked;
 
 const char *ask_home(void) {
     return "/nowhere";
@@ -25,26 +26,31 @@ int ask(const struct question *question, const void *sent, struct answer *answer
 }
 
 bool flags_are_kept(int file) {
-    return file < 0;
+    (void)file;
+    return marked;
 }
 
 void test_known(void) {
     char folder[] = "/tmp/gpioserve-units.XXXXXX", path[64];
-    int ends[2];
-    if (!mkdtemp(folder) || pipe(ends)) {
+    int ends[2], others[2];
+    if (!mkdtemp(folder) || pipe(ends) || pipe(others)) {
         count(0, "a folder and a pipe");
         return;
     }
     snprintf(path, sizeof path, "%s/fifo", folder);
     int named = mkfifo(path, 0600) ? -1 : open(path, O_RDONLY | O_NONBLOCK);
     count(named >= 0 && !known_file(named).ours && asked == 0, "a FIFO that has a name is nobody's chip");
+    count(!known_file(others[0]).ours && asked == 0, "a pipe without a mark is nobody's chip, and not asked about");
+    marked = true;
     struct known known = known_file(ends[0]);
-    count(known.ours && known.chip == 0 && asked == 1, "a pipe is what the broker says");
+    count(known.ours && known.chip == 0 && asked == 1, "a pipe with a mark is what the broker says");
     known_file(ends[0]);
     count(!known_file(named).ours && asked == 1, "and is asked for once");
     close(named);
     close(ends[0]);
     close(ends[1]);
+    close(others[0]);
+    close(others[1]);
     unlink(path);
     rmdir(folder);
 }
