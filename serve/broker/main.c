@@ -1,5 +1,6 @@
 /* gpioserve: runs a command that finds simulated GPIO chips in /dev. */
 #include <errno.h>
+#include <fcntl.h>
 #include <limits.h>
 #include <stdio.h>
 #include <stdlib.h>
@@ -21,6 +22,8 @@
 #include "version.h"
 
 #define LIBRARY "libgpioserve.so"
+/* What divides the paths in LD_PRELOAD. */
+#define DIVIDERS " :"
 #define SERVED "gpioserved"
 /* Words of the served program and its arguments. */
 #define MOST_WORDS 16
@@ -76,12 +79,24 @@ static bool find_library(const struct broker *broker, char path[PATH_MAX]) {
         report("%s isn't beside gpioserve: run make in serve/", LIBRARY);
         return false;
     }
-    if (!strpbrk(path, " :"))
+    if (!strpbrk(path, DIVIDERS))
         return true;
     snprintf(real, sizeof real, "%s", path);
     if (snprintf(path, PATH_MAX, "%s/%s", broker->home.path, LIBRARY) < PATH_MAX && symlink(real, path) == 0)
         return true;
     report("%s can't be linked to in %s: %s", real, broker->home.path, strerror(errno));
+    return false;
+}
+
+/* The same, where the path can stand in LD_PRELOAD: of two paths with a blank or a colon none can. */
+static bool find_preload(const struct broker *broker, char path[PATH_MAX]) {
+    if (!find_library(broker, path))
+        return false;
+    if (!strpbrk(path, DIVIDERS))
+        return true;
+    report("the library can't be preloaded, since its folder and %s both have a blank or a colon: set TMPDIR to a "
+           "folder without, as TMPDIR=/tmp, or name one by --folder",
+        broker->home.path);
     return false;
 }
 
@@ -109,7 +124,7 @@ static int run_command(struct broker *broker, const struct options *options, con
     int status = STATUS_OWN;
     if (!board_hand_in(broker, board))
         return STATUS_OWN;
-    if (clients_listen(&broker->clients, broker->home.path) && turn_tick(broker) && find_library(broker, library) &&
+    if (clients_listen(&broker->clients, broker->home.path) && turn_tick(broker) && find_preload(broker, library) &&
         !is_interrupted(broker)) {
         waves_begin(&broker->waves, broker->now);
         show_prepare(broker, !options->environment);
@@ -206,10 +221,32 @@ static bool open_own(struct broker *broker) {
     return false;
 }
 
+/* Takes the numbers of the standard streams that are closed: a file of ours that got one would be written to by
+ * reports. The command finds them closed as they were. False where that can't be. */
+static bool hold_streams(void) {
+    for (int stream = STDIN_FILENO; stream <= STDERR_FILENO; stream++)
+        if (fcntl(stream, F_GETFD) < 0 && open("/dev/null", O_RDWR | O_CLOEXEC) != stream)
+            return false;
+    return true;
+}
+
+/* Closes the files that the user named. The status to end with: that of the run, if all could be written. */
+static int close_named(struct broker *broker, int status) {
+    bool written = waves_close(&broker->waves, broker->now);
+    written = record_close(&broker->record) && written && !broker->renewal.is_unwritten;
+    written = output_close(&broker->calls.log) && written;
+    if (written || status == STATUS_SERVED_DIED || status == STATUS_OWN)
+        return status;
+    report("the status is %d, since not all was written; that of the command was %d", STATUS_OWN, status);
+    return STATUS_OWN;
+}
+
 int main(int count, char **arguments) {
     static struct broker broker = {.poller = -1, .ends = -1, .signals.number = -1};
     struct options options;
     struct board board;
+    if (!hold_streams())
+        return STATUS_OWN;
     switch (options_read(&options, count, arguments)) {
     case OPTIONS_HELP:
         return 0;
@@ -231,11 +268,9 @@ int main(int count, char **arguments) {
     board_free(&board);
     home_remove(&broker.home);
     files_free(&broker.files);
-    bool written = waves_close(&broker.waves, broker.now);
-    written = record_close(&broker.record) && written && !broker.renewal.is_unwritten;
-    written = output_close(&broker.calls.log) && written;
+    status = close_named(&broker, status);
     close(broker.poller);
     close(broker.ends);
     signals_close(&broker.signals);
-    return written || status != 0 ? status : STATUS_OWN;
+    return status;
 }

@@ -204,7 +204,7 @@ class HangingTest(BrokerTest):
         self.assertTrue(wait_until(lambda: waiting_in(reader) > PAGE - 300))
         time.sleep(0.5)
         broker.terminate()
-        self.assertIn(self.status(broker), (5, 125))
+        self.assertEqual(self.status(broker), 125)
         self.assertIn(f"nobody reads {pipe}: from here on it isn't written", self.said())
         self.assertIn("terminated\n", self.said())
 
@@ -381,6 +381,40 @@ for turn in range(2):
         broker = self.leave()
         self.assertEqual(self.status(broker), 3)
         self.assertEqual(self.daemon_end(), "error 19\n")
+
+
+class StatusTest(BrokerTest):
+    """What gpioserve says and ends with where something is wrong."""
+
+    def test_a_full_disk_is_seen_whatever_the_status_of_the_command(self) -> None:
+        for status in (0, 3):
+            broker = self.start("-t", "/dev/full", command=["sh", "-c", f"exit {status}"])
+            self.assertEqual(self.status(broker), 125)
+            self.assertIn("/dev/full can't be written from here on: No space left on device", self.said())
+            self.assertIn(f"that of the command was {status}", self.said())
+
+    def test_a_report_goes_to_no_file_where_standard_error_is_closed(self) -> None:
+        transcript = self.folder / "transcript"
+        words = f"-b {shlex.quote(str(BOARD))} -t {transcript} -w {self.folder}/none/waves"
+        run = ["sh", "-c", f"exec {shlex.quote(str(OUT / 'gpioserve'))} {words} -- true 2>&- <&-"]
+        self.assertEqual(subprocess.run(run, env=self.environment).returncode, 125)
+        self.assertNotIn("gpioserve:", transcript.read_text())
+
+    def test_the_command_finds_a_stream_closed_that_was(self) -> None:
+        ask = f"exec {shlex.quote(str(OUT / 'gpioserve'))} -- sh -c 'test ! -e /proc/self/fd/0' <&-"
+        self.assertEqual(subprocess.run(["sh", "-c", ask], env=self.environment).returncode, 0)
+
+    def test_blanks_in_both_folders_are_refused(self) -> None:
+        beside, other = self.folder / "a b", self.folder / "c d"
+        beside.mkdir()
+        other.mkdir()
+        for name in ("gpioserve", "libgpioserve.so"):
+            (beside / name).write_bytes((OUT / name).read_bytes())
+            (beside / name).chmod(0o755)
+        words = [str(beside / "gpioserve"), "--served", served(), "-b", str(BOARD), "--", "ls", "/dev/gpiochip0"]
+        run = subprocess.run(words, env={**self.environment, "TMPDIR": str(other)}, capture_output=True, text=True)
+        self.assertEqual(run.returncode, 125, run.stdout)
+        self.assertIn("the library can't be preloaded, since its folder and", run.stderr)
 
 
 # A machine with 30,720 lines, of which `gpioinfo` prints a megabyte.
