@@ -11,6 +11,8 @@ static const struct uapi_command commands[] = {
     {0xc010b40e, 16, "GET_VALUES", .drives = true, .gives = true},
     {0xc010b40f, 16, "SET_VALUES", .drives = true, .effect = UAPI_SETS},
     {0xc048b402, 72, "LINEINFO", .version1 = true, .of_chip = true, .gives = true},
+    /* (sessions have no watch of version 1: the broker says that of version 2 before this) */
+    {0xc048b40b, 72, "LINEINFO", .version1 = true, .of_chip = true, .gives = true, .effect = UAPI_WATCHES},
     {0xc16cb403, 364, "LINEHANDLE", .drives = true, .version1 = true, .of_chip = true, .effect = UAPI_REQUESTS,
         .makes = FILE_HANDLE1, .fd_at = 360, .consumer_at = 324},
     {0xc030b404, 48, "LINEEVENT", .drives = true, .version1 = true, .of_chip = true, .effect = UAPI_REQUESTS,

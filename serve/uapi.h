@@ -21,6 +21,7 @@
 /* Lengths of what a read gives. */
 #define UAPI_EVENT 48
 #define UAPI_CHANGE 288
+#define UAPI_CHANGE1 104
 #define UAPI_EVENT1 16
 
 /* What a file is: a chip, a request of version 2, or one of the two requests of version 1. */

@@ -36,6 +36,7 @@ struct file {
     size_t line_count; /* of a request */
     uint32_t lines[UAPI_LINES];
     char consumer[CONSUMER_ROOM];
+    unsigned version;                       /* of a chip's file: of the uAPI of its first watch, or 0 */
     uint64_t watched[UAPI_CHIP_LINES / 64]; /* of a chip's file: a bit for each line */
 };
 

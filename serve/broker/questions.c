@@ -125,7 +125,8 @@ static void take_effect(
     switch (command->effect) {
     case UAPI_WATCHES:
         file->awaits = true;
-        files_watch(file, uapi_u32(packet->data, INFO_LINE_AT), true);
+        file->version = command->version1 ? 1 : 2;
+        files_watch(file, uapi_u32(packet->data, command->version1 ? 0 : INFO_LINE_AT), true);
         break;
     case UAPI_UNWATCHES:
         files_watch(file, uapi_u32(packet->data, 0), false);
@@ -170,6 +171,36 @@ static bool finish_ioctl(struct broker *broker, struct client *client, struct fi
     return alive;
 }
 
+/* Says a statement by itself. The error's number, ENODEV where the served program has ended. */
+static int say_alone(struct broker *broker, const char *line, size_t length) {
+    if (!turn_say(broker, line, length, true))
+        return ENODEV;
+    int error = machine_error(&broker->machine);
+    return turn_settle(broker, false) ? error : ENODEV;
+}
+
+/* The number of the command that a watch of version 2 is without the watch. */
+#define GET_LINEINFO 0xc100b405
+
+/* Before a line is watched: what stands in the way, as the error's number, or 0. A file has the version of the uAPI of
+ * its first watch, and the other one's is EPERM where nothing else is wrong with it. The machine has the watch of
+ * version 2 alone, which stands here for that of version 1. */
+static int begin_watch(struct broker *broker, struct file *file, const struct uapi_command *command) {
+    char line[PIECES_ROOM(MOST_BYTES) + 128];
+    const unsigned char *at = broker->packet.data;
+    bool other = file->version != 0 && file->version != (command->version1 ? 1u : 2u);
+    if (other) {
+        const struct uapi_command *look = command->version1 ? command : uapi_find(FILE_CHIP, GET_LINEINFO);
+        int error = say_alone(broker, line, write_ioctl(line, file, look, &broker->packet, NULL));
+        return error ? error : EPERM;
+    }
+    if (!command->version1)
+        return 0;
+    int length = snprintf(
+        line, sizeof line, "ioctl %s WATCH 00*64 %02x%02x%02x%02x 00*188", file->name, at[0], at[1], at[2], at[3]);
+    return say_alone(broker, line, (size_t)length);
+}
+
 static bool answer_ioctl(struct broker *broker, struct client *client, struct file *file) {
     char line[PIECES_ROOM(MOST_BYTES) + 128];
     const struct uapi_command *command = uapi_find(file->kind, broker->packet.question.command);
@@ -184,6 +215,13 @@ static bool answer_ioctl(struct broker *broker, struct client *client, struct fi
     }
     if (command)
         expect(broker, file, command);
+    if (command && command->effect == UAPI_WATCHES && broker->packet.question.length >= command->length) {
+        int error = begin_watch(broker, file, command);
+        if (error) {
+            reply_error(client, error);
+            return !broker->machine.ended;
+        }
+    }
     size_t length = write_ioctl(line, file, command, &broker->packet, made);
     bool alive = turn_say(broker, line, length, true) && finish_ioctl(broker, client, file, made, reader, command);
     if (reader >= 0)
@@ -262,6 +300,9 @@ static bool answer_read(struct broker *broker, struct client *client, struct fil
     uint32_t room = broker->packet.question.command, most;
     const char *word = read_word(file->kind, &most);
     struct answer answer = {0};
+    bool is_version1 = file->kind == FILE_CHIP && file->version == 1;
+    if (is_version1)
+        room = (uint32_t)items_room_for_changes1(room < WIRE_DATA ? room : WIRE_DATA);
     if (room > most)
         room = most;
     touch_read(&broker->files, file);
@@ -270,6 +311,8 @@ static bool answer_read(struct broker *broker, struct client *client, struct fil
     else
         answer.error = read_events1(broker, file, word, room, bytes, &answer.length);
     count_events(&broker->counts, file, bytes, answer.length);
+    if (is_version1)
+        answer.length = (uint32_t)items_make_changes1(bytes, answer.length);
     bool alive = !broker->machine.ended;
     alive = alive && turn_settle(broker, false);
     clients_reply(client, &answer, bytes, -1);

@@ -396,7 +396,7 @@ class StatusTest(BrokerTest):
     def test_a_report_goes_to_no_file_where_standard_error_is_closed(self) -> None:
         transcript = self.folder / "transcript"
         words = f"-b {shlex.quote(str(BOARD))} -t {transcript} -w {self.folder}/none/waves"
-        run = ["sh", "-c", f"exec {shlex.quote(str(OUT / 'gpioserve'))} {words} -- true 2>&- <&-"]
+        run = ["sh", "-c", f"exec {shlex.quote(str(OUT / 'gpioserve'))} {words} -- true <&- >&- 2>&-"]
         self.assertEqual(subprocess.run(run, env=self.environment).returncode, 125)
         self.assertNotIn("gpioserve:", transcript.read_text())
 

@@ -14,8 +14,8 @@
 #define FILES 64
 
 static const uint32_t commands[] = {0x8044b401, 0xc100b405, 0xc100b406, 0xc004b40c, 0xc250b407, 0xc110b40d, 0xc010b40e,
-    0xc010b40f, 0xc048b402, 0xc16cb403, 0xc030b404, 0xc040b408, 0xc040b409, 0xc054b40a};
-static const uint32_t lengths[] = {68, 256, 256, 4, 592, 272, 16, 16, 72, 364, 48, 64, 64, 84};
+    0xc010b40f, 0xc048b402, 0xc16cb403, 0xc030b404, 0xc040b408, 0xc040b409, 0xc054b40a, 0xc048b40b};
+static const uint32_t lengths[] = {68, 256, 256, 4, 592, 272, 16, 16, 72, 364, 48, 64, 64, 84, 72};
 
 static const char *const statements[] = {"write gpiochip0/sim_gpio1/pull pull-up",
     "write gpiochip0/sim_gpio1/pull pull-down", "read gpiochip0/sim_gpio1/value", "gpioinfo -c 0", "gpioget -c 0 5",

@@ -1,5 +1,6 @@
 /* Version 1 of linux/gpio.h. */
 #include <errno.h>
+#include <poll.h>
 #include <string.h>
 #include <sys/ioctl.h>
 #include <unistd.h>
@@ -41,7 +42,67 @@ static void test_event(void) {
     close(chip);
 }
 
+static void test_watch(void) {
+    struct gpioline_info info = {.line_offset = 2}, none = {.line_offset = 8};
+    struct gpio_v2_line_info other = {.offset = 3}, no_line = {.offset = 8};
+    int chip = open_chip(0), newer = open_chip(0);
+    test("version 1: a watch shows the line, and a file has the version of its first one");
+    int held = request(2, GPIO_V2_LINE_FLAG_OUTPUT | GPIO_V2_LINE_FLAG_ACTIVE_LOW);
+    CHECK_ERROR(ioctl(chip, GPIO_GET_LINEINFO_WATCH_IOCTL, &none), EINVAL);
+    CHECK(ioctl(chip, GPIO_GET_LINEINFO_WATCH_IOCTL, &info) == 0 && strcmp(info.consumer, "test") == 0);
+    CHECK(info.flags == (GPIOLINE_FLAG_KERNEL | GPIOLINE_FLAG_IS_OUT | GPIOLINE_FLAG_ACTIVE_LOW));
+    CHECK_ERROR(ioctl(chip, GPIO_GET_LINEINFO_WATCH_IOCTL, &info), EBUSY);
+    CHECK_ERROR(ioctl(chip, GPIO_V2_GET_LINEINFO_WATCH_IOCTL, &other), EPERM);
+    CHECK_ERROR(ioctl(chip, GPIO_V2_GET_LINEINFO_WATCH_IOCTL, &no_line), EINVAL);
+    CHECK(ioctl(newer, GPIO_V2_GET_LINEINFO_WATCH_IOCTL, &other) == 0);
+    CHECK_ERROR(ioctl(newer, GPIO_GET_LINEINFO_WATCH_IOCTL, &info), EPERM);
+    CHECK_ERROR(ioctl(newer, GPIO_GET_LINEINFO_WATCH_IOCTL, &none), EINVAL);
+    close(held);
+    close(newer);
+    close(chip);
+}
+
+/* So many changes of line 2: it is requested and released in turn. */
+static void change(int times) {
+    static int held = -1;
+    for (int i = 0; i < times; i++) {
+        if (held < 0) {
+            held = request(2, GPIO_V2_LINE_FLAG_INPUT | GPIO_V2_LINE_FLAG_BIAS_PULL_DOWN);
+        } else {
+            close(held);
+            held = -1;
+        }
+    }
+}
+
+static void test_changes(void) {
+    const ssize_t one = sizeof(struct gpioline_info_changed), newer = sizeof(struct gpio_v2_line_info_changed);
+    struct gpioline_info_changed changes[8];
+    struct gpioline_info info = {.line_offset = 2};
+    int chip = open_chip(0);
+    test("version 1: changes are waited for and read, a further one while there is room for one of version 2");
+    CHECK(ioctl(chip, GPIO_GET_LINEINFO_WATCH_IOCTL, &info) == 0 && polled(chip, 0) == 0);
+    change(2);
+    CHECK(polled(chip, 10000) == POLLIN);
+    CHECK_ERROR(read(chip, changes, (size_t)one - 1), EINVAL);
+    CHECK(read(chip, changes, (size_t)newer) == one && polled(chip, 0) == POLLIN);
+    CHECK(changes[0].event_type == GPIOLINE_CHANGED_REQUESTED && changes[0].timestamp > 0);
+    CHECK(changes[0].info.line_offset == 2 && strcmp(changes[0].info.consumer, "test") == 0);
+    CHECK(changes[0].info.flags == (GPIOLINE_FLAG_KERNEL | GPIOLINE_FLAG_BIAS_PULL_DOWN));
+    CHECK(read(chip, changes, (size_t)one) == one && polled(chip, 0) == 0);
+    CHECK(changes[0].event_type == GPIOLINE_CHANGED_RELEASED && changes[0].info.flags == 0);
+    change(4);
+    CHECK(read(chip, changes, (size_t)(one + newer)) == 2 * one && read(chip, changes, sizeof changes) == 2 * one);
+    CHECK(changes[1].event_type == GPIOLINE_CHANGED_RELEASED && polled(chip, 0) == 0);
+    CHECK(ioctl(chip, GPIO_GET_LINEINFO_UNWATCH_IOCTL, &info.line_offset) == 0);
+    change(2);
+    CHECK(polled(chip, 0) == 0);
+    close(chip);
+}
+
 void test_version1(void) {
     test_handle();
     test_event();
+    test_watch();
+    test_changes();
 }
