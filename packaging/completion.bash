@@ -34,7 +34,8 @@ _gpioserve() {
       _gpioserve_command $((i + 1))
       return
       ;;
-    -[btaw] | --board | --transcript | --answers | --waves | --clock | --folder | --served | --answer-timeout) ((i++)) ;;
+    -[btaw] | --board | --transcript | --answers | --waves | --clock | --folder | --served | --answer-timeout | --at-fault | --calls) ((i++)) ;;
+    --at | --after) ((i += 2)) ;;
     -*) ;;
     *)
       _gpioserve_command "$i"
@@ -43,10 +44,10 @@ _gpioserve() {
     esac
   done
   case ${COMP_WORDS[COMP_CWORD - 1]} in
-  -[btaw] | --board | --transcript | --answers | --waves | --served) _gpioserve_files ;;
+  -[btaw] | --board | --transcript | --answers | --waves | --served | --calls) _gpioserve_files ;;
   --folder) _gpioserve_files -d ;;
   --clock) _gpioserve_words 'manual system' ;;
-  --answer-timeout) ;;
+  --answer-timeout | --at | --after | --at-fault) ;;
   *) _gpioserve_words "$(_gpioserve_options "$1") --" ;;
   esac
 }

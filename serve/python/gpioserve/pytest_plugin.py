@@ -5,6 +5,8 @@
 gpio         a Machine for each test, in its tmp_path. Its clock is the system's; `@pytest.mark.gpio(clock="manual")`
              has another one, and `@pytest.mark.gpio("probe demo 4")` another board
 gpio_board   the board of tests without one of their own: override it for a module or a folder
+gpio_sweep   what came of a command at each place at which something can go wrong: a Report. The test's marker is
+             `@pytest.mark.gpio_sweep(command, board=.., kinds=["faults", "unplug"], limit=.., timeout=..)`
 gpio_chip    in a run as `gpioserve -b board -- pytest ..`: makes a chip for the test, and takes it away after it
 
 Where there is no gpioserve the tests fail, or are skipped with `gpio_missing = skip` in the configuration.
@@ -22,6 +24,8 @@ import pytest
 from .connection import Connection
 from .errors import NotServed, NotStarted
 from .machine import BOARD, Machine
+from .sweep import KINDS, NotSwept, Sweep
+from .sweep_report import Report
 
 _labels = itertools.count()
 
@@ -34,6 +38,7 @@ def pytest_addoption(parser: pytest.Parser) -> None:
 def pytest_configure(config: pytest.Config) -> None:
     """The marker."""
     config.addinivalue_line("markers", "gpio(board, clock='system', options=()): the machine of the fixture gpio")
+    config.addinivalue_line("markers", "gpio_sweep(command, board, kinds, limit, timeout): the fixture gpio_sweep")
 
 
 @pytest.hookimpl(hookwrapper=True)  # type: ignore[misc]
@@ -74,6 +79,25 @@ def gpio(request: pytest.FixtureRequest, tmp_path: Path, gpio_board: Union[str, 
     status = machine.close()
     if status != 0:
         pytest.fail(f"gpioserve ended with status {status}: {machine.errors.read_text()}", pytrace=False)
+
+
+@pytest.fixture
+def gpio_sweep(request: pytest.FixtureRequest, gpio_board: Union[str, Path]) -> Iterator[Report]:
+    """What came of the marker's command at each place."""
+    marker = request.node.get_closest_marker("gpio_sweep")
+    if marker is None or not marker.args:
+        pytest.fail("gpio_sweep wants a marker with a command: @pytest.mark.gpio_sweep([..])", pytrace=False)
+    how = dict(marker.kwargs)
+    names = how.pop("kinds", ("faults", "unplug"))
+    kinds = [kind for name in names for kind in KINDS[name]]
+    sweep = Sweep(marker.args[0], how.pop("board", gpio_board), kinds, **how)
+    try:
+        places = sweep.begin()
+        yield Report(sweep, list(sweep.outcomes(places)), len(places))
+    except NotSwept as fault:
+        pytest.fail(str(fault), pytrace=False)
+    finally:
+        sweep.close()
 
 
 @pytest.fixture
