@@ -107,15 +107,15 @@ static bool is_request(int file) {
 bool hardware_is(int file) {
     struct stat status;
     int kept = errno;
-    bool is = false;
+    bool found = false;
     if (syscall(SYS_newfstatat, file, "", &status, AT_EMPTY_PATH) == 0) {
         if (S_ISCHR(status.st_mode))
-            is = kind_of(status.st_rdev) != OTHER;
+            found = kind_of(status.st_rdev) != OTHER;
         else if ((status.st_mode & S_IFMT) == 0)
-            is = is_request(file);
+            found = is_request(file);
     }
     errno = kept;
-    return is;
+    return found;
 }
 
 void hardware_refuse(int file, uint32_t command) {

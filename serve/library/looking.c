@@ -149,11 +149,11 @@ static __attribute__((noinline)) bool is_dev(DIR *folder) {
     char room[NAMES_ROOM];
     struct stat shown, listed;
     int kept = errno;
-    bool is = names_dev(room) && syscall(SYS_newfstatat, AT_FDCWD, room, &shown, 0) == 0 &&
-              syscall(SYS_newfstatat, dirfd(folder), "", &listed, AT_EMPTY_PATH) == 0 &&
-              shown.st_ino == listed.st_ino && shown.st_dev == listed.st_dev;
+    bool same = names_dev(room) && syscall(SYS_newfstatat, AT_FDCWD, room, &shown, 0) == 0 &&
+                syscall(SYS_newfstatat, dirfd(folder), "", &listed, AT_EMPTY_PATH) == 0 &&
+                shown.st_ino == listed.st_ino && shown.st_dev == listed.st_dev;
     errno = kept;
-    return is;
+    return same;
 }
 
 /* (opening puts the folder that is listed in the place of /dev) */

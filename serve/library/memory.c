@@ -14,9 +14,9 @@
 #define PAGE 4096
 
 /* The kernel reads a set of signals before it refuses what is to be done with it. */
-static bool is_word_readable(uintptr_t at) {
+static bool is_word_readable(uintptr_t address) {
     const int refused = -1;
-    return syscall(SYS_rt_sigprocmask, refused, at & ~(uintptr_t)(WORD - 1), NULL, WORD) == 0 || errno != EFAULT;
+    return syscall(SYS_rt_sigprocmask, refused, address & ~(uintptr_t)(WORD - 1), NULL, WORD) == 0 || errno != EFAULT;
 }
 
 bool memory_is_readable(const void *bytes, size_t length) {
@@ -45,9 +45,9 @@ long memory_text_length(const char *text) {
 
 /* (where a filter forbids the call that asks first, a wrong address crashes) */
 int memory_write(void *target, const void *bytes, size_t length) {
-    struct iovec from = {(void *)bytes, length}, to = {target, length};
+    struct iovec source = {(void *)bytes, length}, place = {target, length};
     int kept = errno, error = 0;
-    if (syscall(SYS_process_vm_writev, getpid(), &from, 1UL, &to, 1UL, 0UL) != (long)length) {
+    if (syscall(SYS_process_vm_writev, getpid(), &source, 1UL, &place, 1UL, 0UL) != (long)length) {
         error = errno == EFAULT ? EFAULT : 0;
         if (!error)
             memcpy(target, bytes, length);

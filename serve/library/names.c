@@ -105,9 +105,9 @@ static bool look_at(int from, const char *path, struct stat *status) {
 bool names_is_dev(const struct stat *status) {
     struct stat dev;
     int kept = errno;
-    bool is = ask_home() && S_ISDIR(status->st_mode) && look_at(AT_FDCWD, "/dev", &dev) && is_same(status, &dev);
+    bool found = ask_home() && S_ISDIR(status->st_mode) && look_at(AT_FDCWD, "/dev", &dev) && is_same(status, &dev);
     errno = kept;
-    return is;
+    return found;
 }
 
 /* Whether the first so many bytes of a path are the name of /dev, or of the folder that is listed in its place. */
@@ -119,12 +119,12 @@ static bool is_dev(int from, const char *path, size_t length) {
         return false;
     memcpy(room, path, length);
     room[length] = 0;
-    bool is = strcmp(room, "/dev/") == 0;
-    if (!is && look_at(from, length > 0 || from != AT_FDCWD ? room : ".", &folder))
-        is =
+    bool found = strcmp(room, "/dev/") == 0;
+    if (!found && look_at(from, length > 0 || from != AT_FDCWD ? room : ".", &folder))
+        found =
             names_is_dev(&folder) || (names_dev(room) && look_at(AT_FDCWD, room, &listed) && is_same(&folder, &listed));
     errno = kept;
-    return is;
+    return found;
 }
 
 /* Whether the working directory is one of the system's own below /sys, or /sys itself: relative names may lead on from
@@ -223,22 +223,22 @@ const char *names_moved_folder(int from, const char *path, char room[NAMES_ROOM]
 }
 
 /* Puts what a link says in the place of its own name. False where there is no room. */
-static bool follow(char path[NAMES_ROOM], const char *to) {
-    path[*to == '/' ? 0 : last_part(path) - path] = 0;
-    return add(path, to);
+static bool follow(char path[NAMES_ROOM], const char *target) {
+    path[*target == '/' ? 0 : last_part(path) - path] = 0;
+    return add(path, target);
 }
 
 int names_linked_chip(int from, const char *path) {
-    char at[NAMES_ROOM], to[NAMES_ROOM];
+    char name[NAMES_ROOM], target[NAMES_ROOM];
     int kept = errno, chip = -1, links = 0;
-    at[0] = 0;
-    bool more = ask_home() && memory_text_length(path) > 0 && add(at, path);
+    name[0] = 0;
+    bool more = ask_home() && memory_text_length(path) > 0 && add(name, path);
     while (more && chip < 0 && links++ < MOST_LINKS) {
-        long length = syscall(SYS_readlinkat, from, at, to, sizeof to - 1);
-        more = length > 0 && length < (long)sizeof to - 1;
-        to[more ? length : 0] = 0;
-        more = more && follow(at, to);
-        chip = more ? chip_of(from, at) : -1;
+        long length = syscall(SYS_readlinkat, from, name, target, sizeof target - 1);
+        more = length > 0 && length < (long)sizeof target - 1;
+        target[more ? length : 0] = 0;
+        more = more && follow(name, target);
+        chip = more ? chip_of(from, name) : -1;
     }
     errno = kept;
     return chip;
