@@ -113,8 +113,12 @@ class MachineTest(unittest.TestCase):
 
     def test_what_is_given_as_environment_is_kept(self) -> None:
         with Machine() as machine:
-            done = machine.run(["sh", "-c", 'echo "$ONE $TWO"; ls /dev/gpiochip0'], env={"ONE": "1", "GPIOSERVE": "x"})
-        self.assertEqual(done.stdout, "1 \n/dev/gpiochip0\n")
+            script = ["/bin/sh", "-c", 'echo "$ONE,$HOME"; ls /dev/gpiochip0']
+            done = machine.run(script, env={"ONE": "1", "GPIOSERVE": "x"})
+            self.assertEqual(done.stdout, "1,\n/dev/gpiochip0\n")
+            with mock.patch.dict(os.environ, {"ONE": "2", "HOME": "/"}):
+                self.assertEqual(machine.run(script).stdout, f",{machine.environment['HOME']}\n/dev/gpiochip0\n")
+            self.assertEqual(machine.run(["gpiosay", "read gpiochip0/sim_gpio1/value"]).stdout, "0\n")
 
     def test_a_line_that_does_not_come(self) -> None:
         with Machine() as machine:

@@ -85,14 +85,16 @@ class Machine(World):
         command = [program, "--clock", clock, "-b", str(self.board), "-t", str(self.transcript)]
         command += ["-a", str(self.answers), "-w", str(self.waves)]
         command += ["--served", " ".join(served), *options, "--env"]
+        # (so that programs find gpiosay too)
+        folders = os.pathsep.join(filter(None, (os.environ.get("PATH"), os.path.dirname(program))))
+        outside = {**os.environ, "PATH": folders}
         with open(self.errors, "wb") as errors:
             self._process = subprocess.Popen(
-                command, stdin=subprocess.PIPE, stdout=subprocess.PIPE, stderr=errors, text=True
+                command, stdin=subprocess.PIPE, stdout=subprocess.PIPE, stderr=errors, text=True, env=outside
             )
-        variables = self._read_variables()
-        folders = os.pathsep.join(filter(None, (os.environ.get("PATH"), os.path.dirname(program))))
-        self.environment: Dict[str, str] = {**os.environ, "PATH": folders, **variables}
-        self._connection = Connection(variables["GPIOSERVE"])
+        self._variables = self._read_variables()
+        self.environment: Dict[str, str] = {**outside, **self._variables}
+        self._connection = Connection(self._variables["GPIOSERVE"])
 
     def _keep_board(self, board: Union[str, Path]) -> Path:
         """The board's file. Where it sets the clock, `clock` moves on from there."""
@@ -126,7 +128,7 @@ class Machine(World):
     def popen(self, command: Sequence[Any], **how: Any) -> "subprocess.Popen[Any]":
         """Starts a program that finds the chips, as subprocess.Popen does. `close` ends it, where it still runs.
 
-        Of `env` this machine's variables are added to what is given.
+        Where `env` is given the program gets that, and the variables by which it finds the chips.
         """
         return self._keep(subprocess.Popen(command, **self._found(how)))
 
@@ -142,7 +144,8 @@ class Machine(World):
         return subprocess.run(command, **wanted)
 
     def _found(self, how: Dict[str, Any]) -> Dict[str, Any]:
-        return {**how, "env": {**(how.get("env") or {}), **self.environment}}
+        given = how.get("env")
+        return {**how, "env": self.environment if given is None else {**given, **self._variables}}
 
     def _keep(self, program: "subprocess.Popen[Any]") -> "subprocess.Popen[Any]":
         self._programs.append(program)
