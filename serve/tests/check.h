@@ -80,6 +80,8 @@ void test_forks(void);
 void test_manual(void);
 /* Where a device of the machine is a GPIO chip. */
 void test_hardware(void);
+/* For which no transcript is short enough either. */
+void test_churn(void);
 /* With few numbers of files. */
 void test_crowd(void);
 /* Where gpio-sim's file system can be shown. */

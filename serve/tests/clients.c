@@ -9,7 +9,7 @@ static const struct {
     const char *argument;
     void (*run)(void);
 } alone[] = {{"--manual", test_manual}, {"--killed", test_killed_midway}, {"--forks", test_forks},
-    {"--crowd", test_crowd}, {"--tree", test_tree}, {"--hardware", test_hardware}};
+    {"--crowd", test_crowd}, {"--churn", test_churn}, {"--tree", test_tree}, {"--hardware", test_hardware}};
 
 int main(int count, char **arguments) {
     const char *argument = count > 1 ? arguments[1] : "";

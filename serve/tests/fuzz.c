@@ -121,6 +121,17 @@ static void make_question(struct question *question, unsigned char *data) {
         question->op = random_below(UINT32_MAX);
 }
 
+/* A file to send along: one of this program's own, one that came from the broker, or the connection itself. */
+static int foreign_file(int connection) {
+    static int own[4] = {-1};
+    if (own[0] < 0 && (pipe(own) || socketpair(AF_UNIX, SOCK_STREAM, 0, own + 2)))
+        return connection;
+    unsigned which = random_below(6);
+    if (which == 4 && file_count > 0)
+        return files[random_below((uint32_t)file_count)].file;
+    return which < 4 ? own[which] : connection;
+}
+
 /* Sends one packet: whether it is a question, which is answered. */
 static bool send_one(int connection, unsigned char *packet, bool *sent) {
     struct question question;
@@ -141,6 +152,10 @@ static bool send_one(int connection, unsigned char *packet, bool *sent) {
         }
     }
     memcpy(packet, &question, sizeof question);
+    if (right && question.length == 0 && random_below(10) == 0) {
+        *sent = raw_send_files(connection, &question, foreign_file(connection), 1 + random_below(RAW_FILES));
+        return true;
+    }
     *sent = send(connection, packet, length, MSG_NOSIGNAL) == (ssize_t)length;
     return right;
 }
@@ -155,6 +170,28 @@ static bool turn(int *connection, unsigned char *packet) {
     bool right = send_one(*connection, packet, &sent);
     int took = sent && random_below(500) ? take_answer(*connection) : -1;
     if (took < 0 || !right) {
+        close(*connection);
+        *connection = -1;
+    }
+    return took <= 0;
+}
+
+/* Sends several packets at once, and takes their answers then. False where one was none. */
+static bool pipeline(int *connection, unsigned char *packet) {
+    bool sent = true, right = true;
+    unsigned asked = 0;
+    if (*connection < 0)
+        *connection = raw_connect();
+    if (*connection < 0)
+        return false;
+    for (unsigned count = 2 + random_below(20); count > 0 && right && sent; count--) {
+        right = send_one(*connection, packet, &sent);
+        asked += sent;
+    }
+    int took = sent ? 0 : -1;
+    while (asked-- > 0 && took == 0)
+        took = take_answer(*connection);
+    if (took != 0 || !right) {
         close(*connection);
         *connection = -1;
     }
@@ -178,7 +215,7 @@ int main(int count, char **arguments) {
     int connection = -1;
     state = count > 2 ? strtoull(arguments[2], NULL, 10) : 88172645463325252u;
     for (long i = 0; i < packets; i++)
-        wrong += !turn(&connection, packet);
+        wrong += !(random_below(20) ? turn(&connection, packet) : pipeline(&connection, packet));
     bool serves = still_serves();
     printf("%ld packets, %ld of them not answered as they should be; the broker %s\n", packets, wrong,
         serves ? "serves as before" : "no longer serves");

@@ -1,5 +1,6 @@
 #include "raw.h"
 
+#include <dirent.h>
 #include <stdio.h>
 #include <stdlib.h>
 #include <string.h>
@@ -75,4 +76,18 @@ pid_t raw_broker(int connection) {
     struct ucred who;
     socklen_t length = sizeof who;
     return getsockopt(connection, SOL_SOCKET, SO_PEERCRED, &who, &length) ? -1 : who.pid;
+}
+
+int raw_count_of_broker(void) {
+    char path[64];
+    int connection = raw_connect(), count = 0;
+    raw_ask(connection, WIRE_WHOSE, 0); /* (so that all is closed there that was closed here) */
+    snprintf(path, sizeof path, "/proc/%d/fd", (int)raw_broker(connection));
+    DIR *folder = opendir(path);
+    while (folder && readdir(folder))
+        count++;
+    if (folder)
+        closedir(folder);
+    close(connection);
+    return folder ? count : -1;
 }

@@ -35,4 +35,7 @@ int raw_ask(int connection, enum wire_op op, uint64_t ino);
 /* The process that listens. */
 pid_t raw_broker(int connection);
 
+/* How many files the broker has; -1 where that can't be seen. */
+int raw_count_of_broker(void);
+
 #endif

@@ -1,5 +1,4 @@
 /* Clients that keep to no rule: they speak to the socket past the library, or ask for more than there is. */
-#include <dirent.h>
 #include <errno.h>
 #include <fcntl.h>
 #include <poll.h>
@@ -225,23 +224,8 @@ static void test_many_readers(void) {
     close(chip);
 }
 
-/* How many files the broker has; -1 where that can't be seen. */
-static int count_of_broker(void) {
-    char path[64];
-    int connection = raw_connect(), count = 0;
-    raw_ask(connection, WIRE_WHOSE, 0); /* (so that all is closed there that was closed here) */
-    snprintf(path, sizeof path, "/proc/%d/fd", (int)raw_broker(connection));
-    DIR *folder = opendir(path);
-    while (folder && readdir(folder))
-        count++;
-    if (folder)
-        closedir(folder);
-    close(connection);
-    return folder ? count : -1;
-}
-
 void test_hostile(void) {
-    int before = count_of_broker();
+    int before = raw_count_of_broker();
     test_lengths();
     test_cut_off();
     test_sent_files();
@@ -253,7 +237,7 @@ void test_hostile(void) {
     test_idle_connections();
     test_many_readers();
     test("nothing of all that is left behind");
-    CHECK(before > 0 && count_of_broker() == before);
+    CHECK(before > 0 && raw_count_of_broker() == before);
 }
 
 /* Reads an event of a line by a request that shows it, and then nothing. */
