@@ -211,7 +211,8 @@ class HangingTest(BrokerTest):
     def test_nobody_reads_the_transcript_for_too_long(self) -> None:
         self.unread()
         pipe = self.folder / "pipe"
-        broker = self.start("-a", str(pipe), "--answer-timeout", "1", command=[str(OUT / "latency"), "5000"])
+        script = ASKING + "for turn in range(200): say('gpioinfo -c 0')"
+        broker = self.start("-a", str(pipe), "--answer-timeout", "1", command=[sys.executable, "-c", script])
         self.assertEqual(self.status(broker), 125)
         self.assertIn(f"nobody reads {pipe}: from here on it isn't written", self.said())
 
