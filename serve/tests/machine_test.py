@@ -155,6 +155,10 @@ class ConnectionTest(unittest.TestCase):
         self.assertEqual((caught.exception.column, caught.exception.text), (None, "refused: say events or changes\n"))
         with self.assertRaisesRegex(Refused, "wait held CHIP LINE"):
             self.machine.say("wait held")
+        with self.assertRaisesRegex(Refused, "at most 8192 bytes"):
+            self.machine.say("#" * 8193)
+        with self.assertRaisesRegex(ValueError, "at most 65536 bytes"):
+            self.machine.say("#" * 65537)
 
     def test_what_the_machine_refuses(self) -> None:
         with self.assertRaises(MachineError) as caught:

@@ -95,6 +95,24 @@ def test_a_test_that_failed_names_its_files(pytester: pytest.Pytester) -> None:
     assert "$var wire 1" in (folder / "waves.vcd").read_text()
 
 
+def test_a_fixture_that_failed_names_the_files_too(pytester: pytest.Pytester) -> None:
+    pytester.makepyfile(
+        """
+        import pytest
+
+        @pytest.fixture
+        def daemon(gpio):
+            assert gpio.value(0, 3) == 1
+
+        def test_it(gpio, daemon):
+            pass
+        """
+    )
+    result = pytester.runpytest_subprocess("--basetemp=kept")
+    expect(result, errors=1)
+    result.stdout.fnmatch_lines([f"transcript  {pytester.path}/kept/test_it0/transcript *"])
+
+
 def test_programs_of_a_test_are_ended_with_it(pytester: pytest.Pytester) -> None:
     pytester.makepyfile(
         """

@@ -155,6 +155,8 @@ class Connection(World):
 
     def _ask(self, statement: bytes) -> Tuple[int, int, str]:
         """Sends a statement and takes its response: found or not, the error's number, and the text."""
+        if len(statement) > TEXT_MAX:
+            raise ValueError(f"a statement has at most {TEXT_MAX} bytes")
         try:
             self._socket.send(REQUEST.pack(SAY, 0, 0, len(statement), 0) + statement)
             data, ancillary, _, _ = self._socket.recvmsg(RESPONSE.size + TEXT_MAX, socket.CMSG_SPACE(4))

@@ -154,7 +154,7 @@ class Machine(World):
     def close(self) -> int:
         """Ends the programs and the machine: the status of gpioserve, which is 0 where it served well.
 
-        A folder that was given stays. Calling it again does nothing more.
+        One that doesn't end is killed, which is status -9. A folder that was given stays. Calling it again does nothing more.
         """
         for program in self._programs:
             _end(program)
@@ -163,7 +163,11 @@ class Machine(World):
             self._connection.close()
         assert self._process.stdin is not None and self._process.stdout is not None
         self._process.stdin.close()
-        status = self._process.wait(PATIENCE)
+        try:
+            status = self._process.wait(PATIENCE)
+        except subprocess.TimeoutExpired:
+            self._process.kill()
+            status = self._process.wait()
         self._process.stdout.close()
         self._said = self.errors.read_text(errors="replace") if self.errors.is_file() else ""
         if self._is_own:

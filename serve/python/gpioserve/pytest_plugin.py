@@ -46,7 +46,7 @@ def pytest_runtest_makereport(item: pytest.Item, call: "pytest.CallInfo[None]") 
     """Names what is left of the machine of a test that failed."""
     report = (yield).get_result()
     machine = getattr(item, "funcargs", {}).get("gpio")
-    if call.when == "call" and report.failed and isinstance(machine, Machine):
+    if report.failed and isinstance(machine, Machine):
         rows = (
             f"transcript  {machine.transcript}  (gpiosess < FILE runs it again)",
             f"answers     {machine.answers}",
