@@ -34,7 +34,7 @@ _gpioserve() {
       _gpioserve_command $((i + 1))
       return
       ;;
-    -[btaw] | --board | --transcript | --answers | --waves | --clock | --folder | --served | --answer-timeout | --at-fault | --calls) ((i++)) ;;
+    -[btaw] | --board | --transcript | --answers | --waves | --clock | --folder | --served | --answer-timeout | --at-fault | --calls | --way) ((i++)) ;;
     --at | --after) ((i += 2)) ;;
     -*) ;;
     *)
@@ -47,6 +47,7 @@ _gpioserve() {
   -[btaw] | --board | --transcript | --answers | --waves | --served | --calls) _gpioserve_files ;;
   --folder) _gpioserve_files -d ;;
   --clock) _gpioserve_words 'manual system' ;;
+  --way) _gpioserve_words 'library notify' ;;
   --answer-timeout | --at | --after | --at-fault) ;;
   *) _gpioserve_words "$(_gpioserve_options "$1") --" ;;
   esac

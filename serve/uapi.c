@@ -1,5 +1,11 @@
 #include "uapi.h"
 
+/* Where numbers stand in the structure of a request of version 2. */
+#define REQUEST_NUM_LINES 560
+#define REQUEST_EVENT_BUFFER_SIZE 564
+/* Events that are kept for each line of a request that says nothing of how many. */
+#define EVENTS_PER_LINE 16
+
 static const struct uapi_command commands[] = {
     {0x8044b401, 68, "GET_CHIPINFO", .of_chip = true, .gives = true},
     {0xc100b405, 256, "GET_LINEINFO", .of_chip = true, .gives = true},
@@ -101,4 +107,12 @@ size_t uapi_lines(const struct uapi_command *command, const unsigned char *bytes
     for (size_t i = 0; i < count; i++)
         offsets[i] = uapi_u32(bytes, 4 * i);
     return count;
+}
+
+/* The machine counts as the kernel does, but doesn't round up to a power of two. */
+size_t uapi_capacity(const unsigned char *bytes) {
+    size_t asked = uapi_u32(bytes, REQUEST_EVENT_BUFFER_SIZE);
+    if (asked == 0)
+        asked = EVENTS_PER_LINE * (size_t)uapi_u32(bytes, REQUEST_NUM_LINES);
+    return asked < UAPI_EVENTS ? asked : UAPI_EVENTS;
 }

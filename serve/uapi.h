@@ -18,6 +18,9 @@
 /* Bytes of a name or a consumer. */
 #define UAPI_NAME 32
 
+/* Events that wait for a request of version 2 at most. */
+#define UAPI_EVENTS (16 * UAPI_LINES)
+
 /* Lengths of what a read gives. */
 #define UAPI_EVENT 48
 #define UAPI_CHANGE 288
@@ -64,6 +67,9 @@ uint64_t uapi_u64(const unsigned char *bytes, size_t at);
 /* Whether a line configuration of 272 bytes asks for edges of any line, and for a debounce period. */
 bool uapi_wants_edges(const unsigned char *config);
 bool uapi_wants_debounce(const unsigned char *config);
+
+/* How many events the machine keeps for a request of version 2 whose structure this is, until they are read. */
+size_t uapi_capacity(const unsigned char *bytes);
 
 /* The lines that a request's structure asks for: how many, and their offsets. */
 size_t uapi_lines(const struct uapi_command *command, const unsigned char *bytes, uint32_t *offsets);

@@ -19,6 +19,8 @@
 #include "waits.h"
 #include "waves.h"
 
+struct notify;
+
 /* Files whose state is asked for in one write: with the clock, a statement and the deadline. */
 #define LOOKS_MOST (MACHINE_WAITING - 3)
 
@@ -27,6 +29,7 @@ struct looks {
     struct {
         struct file *file;
         enum file_look look;
+        char state; /* the answer's first letter */
     } asked[LOOKS_MOST];
     size_t count; /* of states of files */
     bool due;     /* the next deadline as well */
@@ -57,6 +60,7 @@ struct broker {
     bool asks_due;       /* the deadline may be another one by now */
     struct looks looks;
     struct packet packet;
+    struct notify *notify; /* the kernel notifies of the command's calls; NULL: the library takes them over */
 };
 
 #endif

@@ -10,6 +10,7 @@
 #include <unistd.h>
 
 #include "clock.h"
+#include "notify/call.h"
 #include "report.h"
 #include "spare.h"
 
@@ -156,6 +157,10 @@ bool clients_send(struct client *client, struct answer *answer, const void *data
 void clients_reply(struct client *client, struct answer *answer, const void *data, int file) {
     int error = 0;
     client->error = answer->error;
+    if (client->call) {
+        call_respond(client->call, answer, data, file);
+        return;
+    }
     if (answer->length > WIRE_DATA)
         error = large_send(client->all, client, answer, data);
     else if (!clients_send(client, answer, data, answer->length, file))

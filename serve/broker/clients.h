@@ -15,8 +15,11 @@
 /* Connections at a time, at most. */
 #define CLIENTS_MOST 512
 
+struct call;
+
 struct client {
     struct watch watch; /* its number is -1 once the connection was ended */
+    struct call *call;  /* a system call that waits for the answer, in the place of a connection; or NULL */
     struct client *next;
     struct clients *all;
     struct asker asker; /* the process that made the connection */

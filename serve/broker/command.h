@@ -5,11 +5,14 @@
 #include <stdbool.h>
 #include <sys/types.h>
 
+struct notify;
+
 /* What programs are given, so that they find the chips. */
 struct command_view {
-    const char *library; /* that is preloaded into them */
-    const char *folder;  /* the broker's */
-    bool has_tree;       /* gpio-sim's file system can be shown: modprobe and mountpoint answer so */
+    struct notify *notify; /* the kernel notifies of their calls; NULL: the library takes them over */
+    const char *library;   /* that is preloaded into them */
+    const char *folder;    /* the broker's */
+    bool has_tree;         /* gpio-sim's file system can be shown: modprobe and mountpoint answer so */
 };
 
 /* Starts the command with the variables of the view in its environment. 0 and the process; or, with what to do

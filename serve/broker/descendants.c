@@ -64,10 +64,13 @@ void descendants_replace(struct descendants *descendants, pid_t before, pid_t pi
             descendants->own[i] = pid;
 }
 
-static void note_own(void *context, const struct seen *child) {
-    struct descendants *descendants = context;
+void descendants_add_own(struct descendants *descendants, pid_t pid) {
     if (descendants->own_count < DESCENDANTS_OWN)
-        descendants->own[descendants->own_count++] = child->pid;
+        descendants->own[descendants->own_count++] = pid;
+}
+
+static void note_own(void *context, const struct seen *child) {
+    descendants_add_own(context, child->pid);
 }
 
 bool descendants_adopt(struct descendants *descendants) {

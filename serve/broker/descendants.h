@@ -19,6 +19,9 @@ struct descendants {
  */
 bool descendants_adopt(struct descendants *descendants);
 
+/* A child of gpioserve itself was started with the command. */
+void descendants_add_own(struct descendants *descendants, pid_t pid);
+
 /* A child of gpioserve itself was started in the place of another one. */
 void descendants_replace(struct descendants *descendants, pid_t before, pid_t pid);
 

@@ -116,6 +116,7 @@ void files_drop(struct files *files, struct file *file) {
     if (*at)
         *at = file->next;
     close_end(files, file);
+    free(file->moved);
     free(file);
 }
 

@@ -1,6 +1,7 @@
 /* The files that clients have: each is the reading end of a pipe, and the broker has the writing end.
  *
- * The pipe holds bytes exactly while the machine says that something can be read. When its last reader is gone, the
+ * The pipe holds bytes exactly while the machine says that something can be read; where the kernel notifies of calls
+ * these are the events themselves (notify/flow.h). When its last reader is gone, the
  * writing end shows an error. When the chip is gone the broker closes the writing end, so that the readers see it hung
  * up. */
 #ifndef FILES_H
@@ -22,6 +23,8 @@ enum file_look {
     LOOK_WAKES  /* after something may have come: wakes an edge-triggered reader too */
 };
 
+struct moved;
+
 struct file {
     struct watch watch; /* of the writing end; its number is -1 once the chip is gone */
     struct file *next;
@@ -38,6 +41,8 @@ struct file {
     char consumer[CONSUMER_ROOM];
     unsigned version;                       /* of a chip's file: of the uAPI of its first watch, or 0 */
     uint64_t watched[UAPI_CHIP_LINES / 64]; /* of a chip's file: a bit for each line */
+    size_t capacity;                        /* items that wait in the pipe at most, where they stand there; */
+    struct moved *moved;                    /* the lines of those that do, of a request; or NULL */
 };
 
 struct files {

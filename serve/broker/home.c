@@ -149,6 +149,12 @@ static void names_of(struct chip_names *names, unsigned chip) {
     snprintf(names->node, sizeof names->node, ROOT "/dev/gpiochip%u", chip);
 }
 
+/* Makes a chip's name in /dev: a device without a number, which any user may make since Linux 5.8, so that it is listed
+ * as a device; or an empty file, where the library opens it or no device can be made. */
+static bool make_node(const struct home *home, const char *path) {
+    return (home->lists_devices && mknod(path, S_IFCHR | 0660, 0) == 0) || write_file(path, "");
+}
+
 static bool name_chip(const struct home *home, unsigned chip) {
     char path[PATH_MAX], text[64];
     struct chip_names names;
@@ -156,7 +162,8 @@ static bool name_chip(const struct home *home, unsigned chip) {
     snprintf(text, sizeof text, "%d:%u\n", WIRE_MAJOR, chip);
     return make_folder(home, names.device) && path_of(home, path, "%s/dev", names.device) && write_file(path, text) &&
            link_name(home, names.subsystem, ROOT "/sys/bus/gpio") && link_name(home, names.bus, names.device) &&
-           link_name(home, names.number, names.device) && path_of(home, path, "%s", names.node) && write_file(path, "");
+           link_name(home, names.number, names.device) && path_of(home, path, "%s", names.node) &&
+           make_node(home, path);
 }
 
 static void forget_chip(const struct home *home, unsigned chip) {

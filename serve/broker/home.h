@@ -10,6 +10,7 @@
 struct home {
     char path[108 - sizeof "/" WIRE_SOCKET]; /* so that the socket's path has room in its address */
     bool made;
+    bool lists_devices;       /* chips are listed as devices, not as files */
     bool present[WIRE_CHIPS]; /* the chips that have names */
 };
 

@@ -6,6 +6,7 @@
 #include <sys/wait.h>
 
 #include "clock.h"
+#include "notify/notify.h"
 #include "questions.h"
 #include "report.h"
 #include "turn.h"
@@ -73,6 +74,9 @@ static void take_event(struct loop *loop, const struct watch *watch) {
         break;
     case WATCH_TREE:
         loop->alive = show_answer(loop->broker);
+        break;
+    case WATCH_CALLS:
+        loop->alive = notify_take(loop->broker);
         break;
     case WATCH_LISTENER:
     case WATCH_CLIENT:
@@ -142,7 +146,8 @@ static bool prepare(struct loop *loop) {
     return watch_by(broker->poller, &loop->signals, EPOLLIN) && watch_by(broker->poller, &broker->served, 0) &&
            watch_by(broker->poller, &loop->ends, EPOLLIN) &&
            watch_by(broker->poller, &broker->clients.listener, EPOLLIN) &&
-           (broker->signals.command || watch_by(broker->poller, &loop->input, EPOLLIN));
+           (broker->signals.command || watch_by(broker->poller, &loop->input, EPOLLIN)) &&
+           (!broker->notify || watch_by(broker->poller, &broker->notify->handed, EPOLLIN));
 }
 
 /* Whether the command has ended, with what it has left; without one, whether the input has, or a signal came. */
@@ -156,6 +161,7 @@ static bool is_over(const struct loop *loop) {
 static void end_command(struct broker *broker) {
     show_end(broker);
     clients_end(&broker->clients);
+    notify_end(broker);
     files_free(&broker->files);
     signals_end_command(&broker->signals);
 }

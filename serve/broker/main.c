@@ -15,7 +15,9 @@
 #include "broker.h"
 #include "command.h"
 #include "loop.h"
+#include "notify/notify.h"
 #include "options.h"
+#include "program.h"
 #include "report.h"
 #include "spare.h"
 #include "turn.h"
@@ -109,12 +111,14 @@ static bool is_interrupted(const struct broker *broker) {
 
 /* Starts the command, or prints the variables for those who start programs themselves, and answers questions. */
 static int serve(struct broker *broker, const struct options *options, const char *library) {
-    struct command_view view = {library, broker->home.path, !broker->show.missing};
+    struct command_view view = {broker->notify, library, broker->home.path, !broker->show.missing};
     if (options->environment)
         return command_print_variables(&view) ? loop_run(broker) : STATUS_OWN;
     if (options->daemons && !descendants_adopt(&broker->signals.descendants))
         return STATUS_OWN;
     int status = command_start(&broker->signals.command, options->command, &view);
+    if (broker->notify)
+        descendants_add_own(&broker->signals.descendants, broker->notify->standby);
     return status ? status : loop_run(broker);
 }
 
@@ -124,8 +128,8 @@ static int run_command(struct broker *broker, const struct options *options, con
     int status = STATUS_OWN;
     if (!board_hand_in(broker, board))
         return STATUS_OWN;
-    if (clients_listen(&broker->clients, broker->home.path) && turn_tick(broker) && find_preload(broker, library) &&
-        !is_interrupted(broker)) {
+    if (clients_listen(&broker->clients, broker->home.path) && turn_tick(broker) &&
+        (broker->notify || find_preload(broker, library)) && !is_interrupted(broker)) {
         waves_begin(&broker->waves, broker->now);
         show_prepare(broker, !options->environment);
         status = serve(broker, options, library);
@@ -241,7 +245,20 @@ static int close_named(struct broker *broker, int status) {
     return STATUS_OWN;
 }
 
+/* Whether the kernel has to notify of the command's calls. Where that isn't what was asked for, it is reported why. */
+static bool takes_notification(const struct options *options) {
+    char path[PATH_MAX];
+    if (options->way != WAY_EITHER || options->environment)
+        return options->way == WAY_NOTIFY;
+    const struct obstacle *obstacle = program_find(options->command[0], path) ? program_obstacle(path) : NULL;
+    if (!obstacle || obstacle->to_all)
+        return false;
+    report("%s %s: the kernel notifies of its calls (--way notify)", path, obstacle->what);
+    return true;
+}
+
 int main(int count, char **arguments) {
+    static struct notify notify;
     static struct broker broker = {.poller = -1, .ends = -1, .signals.number = -1};
     struct options options;
     struct board board;
@@ -261,10 +278,15 @@ int main(int count, char **arguments) {
         return STATUS_OWN;
     broker.manual = options.manual;
     broker.calls = options.plan;
+    if (takes_notification(&options))
+        broker.notify = &notify;
+    notify_prepare(&notify, &broker.home, options.exact);
     broker.patience = (struct patience){&broker.signals, options.limit};
     int status = STATUS_OWN;
-    if (open_named(&broker, &options, &board) && open_own(&broker) && home_make(&broker.home, options.folder))
+    if (open_named(&broker, &options, &board) && open_own(&broker) && home_make(&broker.home, options.folder)) {
+        broker.home.lists_devices = broker.notify != NULL;
         status = run_broker(&broker, &options, &board);
+    }
     board_free(&board);
     home_remove(&broker.home);
     files_free(&broker.files);

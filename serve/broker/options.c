@@ -35,6 +35,10 @@ static const char help[] =
     "      --calls FILE        gets a line for each call: its number, the driver's, who made it, what came of it\n"
     "      --env               runs no command: prints the variables that a program needs to find the chips, a line\n"
     "                          each, then an empty line, and serves until its standard input ends\n"
+    "      --way WAY           how calls come here: `library`, which is preloaded; or `notify`, by the kernel, for "
+    "any\n"
+    "                          program. Without, the library where it can be preloaded into COMMAND, else the kernel\n"
+    "      --exact             by the kernel: each read and fstat too, which costs time and gives all errors\n"
     "      --folder FOLDER     the folder of the socket and of the names; a new one in TMPDIR where none is given\n"
     "      --answer-timeout SECONDS\n"
     "                          how long an answer of the served program, or a reader of FILE, is waited for (60);\n"
@@ -57,6 +61,14 @@ static bool take_clock(struct options *options, const char *word) {
     return false;
 }
 
+static bool take_way(struct options *options, const char *word) {
+    options->way = strcmp(word, "notify") == 0 ? WAY_NOTIFY : WAY_LIBRARY;
+    if (options->way == WAY_NOTIFY || strcmp(word, "library") == 0)
+        return true;
+    report("--way is `library` or `notify`");
+    return false;
+}
+
 static bool take_limit(struct options *options, const char *word) {
     size_t length = strlen(word);
     if (length > 0 && length <= MOST_DIGITS && strspn(word, "0123456789") == length) {
@@ -68,7 +80,22 @@ static bool take_limit(struct options *options, const char *word) {
 }
 
 /* The options without a letter. */
-enum { CLOCK = 256, DAEMONS, EACH, ENVIRONMENT, FOLDER, SERVED, ANSWER_TIMEOUT, AT, AFTER, AT_FAULT, CALLS, VERSION };
+enum {
+    CLOCK = 256,
+    DAEMONS,
+    EACH,
+    ENVIRONMENT,
+    FOLDER,
+    SERVED,
+    ANSWER_TIMEOUT,
+    AT,
+    AFTER,
+    AT_FAULT,
+    CALLS,
+    VERSION,
+    WAY,
+    EXACT
+};
 
 /* Where an option's word is kept as it is; NULL for an option that is read. */
 static const char **place_of(struct options *options, int option) {
@@ -123,6 +150,11 @@ static bool take(struct options *options, int option, const char *word) {
         return take_limit(options, word);
     case AT_FAULT:
         return calls_plan_fault(&options->plan, word);
+    case WAY:
+        return take_way(options, word);
+    case EXACT:
+        options->exact = true;
+        return true;
     default:
         return false; /* (getopt has reported it) */
     }
@@ -137,9 +169,12 @@ static enum options_next take_command(struct options *options, char **words) {
         report("--env runs no command: leave out %s", *words);
     else if (!is_there && !options->environment)
         report("there is no command to run: gpioserve [OPTIONS] -- COMMAND ..; --help says more");
+    else if (options->environment && options->way == WAY_NOTIFY)
+        report("--env gives variables, which lead to the library: leave out --way notify");
     options->command = is_there ? words : NULL;
-    return is_there != options->environment && !(options->environment && options->daemons) ? OPTIONS_RUN
-                                                                                           : OPTIONS_WRONG;
+    bool good = is_there != options->environment && !(options->environment && options->daemons) &&
+                !(options->environment && options->way == WAY_NOTIFY);
+    return good ? OPTIONS_RUN : OPTIONS_WRONG;
 }
 
 enum options_next options_read(struct options *options, int count, char **words) {
@@ -151,7 +186,8 @@ enum options_next options_read(struct options *options, int count, char **words)
         {"served", required_argument, NULL, SERVED}, {"answer-timeout", required_argument, NULL, ANSWER_TIMEOUT},
         {"at", required_argument, NULL, AT}, {"after", required_argument, NULL, AFTER},
         {"at-fault", required_argument, NULL, AT_FAULT}, {"calls", required_argument, NULL, CALLS},
-        {"help", no_argument, NULL, 'h'}, {"version", no_argument, NULL, VERSION}, {NULL, 0, NULL, 0}};
+        {"way", required_argument, NULL, WAY}, {"exact", no_argument, NULL, EXACT}, {"help", no_argument, NULL, 'h'},
+        {"version", no_argument, NULL, VERSION}, {NULL, 0, NULL, 0}};
     int option;
     *options = (struct options){.limit = LIMIT};
     while ((option = getopt_long(count, words, "+b:t:a:w:h", names, NULL)) != -1) {

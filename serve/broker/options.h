@@ -6,6 +6,13 @@
 
 #include "calls.h"
 
+/* How the command's calls come to the broker. */
+enum way {
+    WAY_EITHER,  /* by the library where it can be preloaded into the command, else by notification */
+    WAY_LIBRARY, /* the library takes them over */
+    WAY_NOTIFY   /* the kernel notifies of them */
+};
+
 struct options {
     const char *board, *transcript, *answers, *waves, *folder, *served, *calls; /* or NULL */
     bool manual;
@@ -13,8 +20,10 @@ struct options {
     bool each;         /* a new machine begins when all has gone */
     unsigned limit;    /* seconds in which the served program has to answer; 0: none */
     bool daemons;      /* what the command leaves behind is waited for */
-    bool environment;  /* no command: the variables are printed */
-    char **command;    /* and its arguments; NULL with `environment` */
+    enum way way;
+    bool exact;       /* of the kernel's notification: reads and the status of open files too */
+    bool environment; /* no command: the variables are printed */
+    char **command;   /* and its arguments; NULL with `environment` */
 };
 
 /* What to do after the arguments were read. */

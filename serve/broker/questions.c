@@ -8,6 +8,7 @@
 #include <unistd.h>
 
 #include "items.h"
+#include "notify/flow.h"
 #include "outside.h"
 #include "pieces.h"
 #include "touch.h"
@@ -15,7 +16,7 @@
 
 /* The most bytes that a statement gives to a command, and that `events` and `changes` read. */
 #define MOST_BYTES 1024
-#define MOST_EVENTS 49152
+#define MOST_EVENTS QUESTIONS_READ_MOST
 #define MOST_CHANGES 9216
 #define MOST_EVENTS1 16384
 
@@ -29,7 +30,8 @@ static struct file *make_file(struct broker *broker, enum file_kind kind, unsign
     struct file *file = files_make(&broker->files, kind, chip, reader);
     if (file)
         file->asker = broker->record.asker;
-    if (!file || watch_by(broker->ends, &file->watch, 0))
+    if (!file ||
+        ((!broker->notify || flow_prepare(file, broker->packet.data)) && watch_by(broker->ends, &file->watch, 0)))
         return file;
     int error = errno;
     close(*reader);
@@ -229,18 +231,15 @@ static bool answer_ioctl(struct broker *broker, struct client *client, struct fi
     return alive;
 }
 
-/* The word and the most bytes of a file's reads, as a session has them. */
-static const char *read_word(enum file_kind kind, uint32_t *most) {
+/* The most bytes of a file's reads, as a session has them. */
+static uint32_t most_of_read(enum file_kind kind) {
     switch (kind) {
     case FILE_CHIP:
-        *most = MOST_CHANGES;
-        return "changes";
+        return MOST_CHANGES;
     case FILE_LINES:
-        *most = MOST_EVENTS;
-        return "events";
+        return MOST_EVENTS;
     default:
-        *most = MOST_EVENTS1;
-        return "events1";
+        return MOST_EVENTS1;
     }
 }
 
@@ -257,13 +256,17 @@ static void record_data(struct broker *broker, const struct file *file, const ch
         items_print_events(answers, bytes, count);
 }
 
+/* How a read is said: with the clock before it, or at the time at which that stands. */
+typedef bool say_line(struct broker *broker, const char *line, size_t length, bool kept);
+
 /* Reads by `data`, which gives the bytes. The error's number, or 0 and how many there are. */
-static int read_data(struct broker *broker, const struct file *file, const char *word, uint32_t room,
-    unsigned char *bytes, uint32_t *count) {
+static int read_data(struct broker *broker, say_line *say, const struct file *file, uint32_t room, unsigned char *bytes,
+    uint32_t *count) {
     char line[64], kept[64];
     int length = snprintf(line, sizeof line, "data %s %" PRIu32, file->name, room);
+    const char *word = file->kind == FILE_CHIP ? "changes" : "events";
     int kept_length = snprintf(kept, sizeof kept, "%s %s %" PRIu32, word, file->name, room);
-    if (!turn_say(broker, line, (size_t)length, false))
+    if (!say(broker, line, (size_t)length, false))
         return ENODEV;
     int error = machine_error(&broker->machine);
     long got = error ? 0 : pieces_read(broker->machine.text, bytes, room);
@@ -274,11 +277,11 @@ static int read_data(struct broker *broker, const struct file *file, const char 
 }
 
 /* Reads events of version 1, which have no `data`. */
-static int read_events1(struct broker *broker, const struct file *file, const char *word, uint32_t room,
+static int read_events1(struct broker *broker, say_line *say, const struct file *file, uint32_t room,
     unsigned char *bytes, uint32_t *count) {
     char line[64];
-    int length = snprintf(line, sizeof line, "%s %s %" PRIu32, word, file->name, room);
-    if (!turn_say(broker, line, (size_t)length, true))
+    int length = snprintf(line, sizeof line, "events1 %s %" PRIu32, file->name, room);
+    if (!say(broker, line, (size_t)length, true))
         return ENODEV;
     int error = machine_error(&broker->machine);
     *count = error ? 0 : (uint32_t)items_read_events1(broker->machine.text, bytes, room);
@@ -295,21 +298,41 @@ static void count_events(struct counts *counts, const struct file *file, const u
             waits_count_read(counts, file->chip, file->lines[0]);
 }
 
+/* Reads what the machine has for a file. The error's number, or 0 and how many bytes there are. */
+static int read_file(struct broker *broker, say_line *say, const struct file *file, uint32_t room, unsigned char *bytes,
+    uint32_t *count) {
+    uint32_t most = most_of_read(file->kind);
+    if (room > most)
+        room = most;
+    if (file->kind == FILE_CHIP || file->kind == FILE_LINES)
+        return read_data(broker, say, file, room, bytes, count);
+    return read_events1(broker, say, file, room, bytes, count);
+}
+
+int questions_read(
+    struct broker *broker, const struct file *file, uint32_t room, unsigned char *bytes, uint32_t *count) {
+    return read_file(broker, turn_say_at_once, file, room, bytes, count);
+}
+
+/* Answers a read out of the file's pipe, to which what comes is moved at once. */
+static bool answer_read_of_pipe(struct broker *broker, struct client *client, struct file *file) {
+    static unsigned char bytes[MOST_EVENTS];
+    struct answer answer = {0};
+    uint32_t room = broker->packet.question.command;
+    answer.error = flow_read(broker, file, room < sizeof bytes ? room : sizeof bytes, bytes, &answer.length);
+    clients_reply(client, &answer, bytes, -1);
+    return true;
+}
+
 static bool answer_read(struct broker *broker, struct client *client, struct file *file) {
     static unsigned char bytes[MOST_EVENTS];
-    uint32_t room = broker->packet.question.command, most;
-    const char *word = read_word(file->kind, &most);
     struct answer answer = {0};
+    uint32_t room = broker->packet.question.command;
     bool is_version1 = file->kind == FILE_CHIP && file->version == 1;
     if (is_version1)
         room = (uint32_t)items_room_for_changes1(room < WIRE_DATA ? room : WIRE_DATA);
-    if (room > most)
-        room = most;
     touch_read(&broker->files, file);
-    if (file->kind == FILE_CHIP || file->kind == FILE_LINES)
-        answer.error = read_data(broker, file, word, room, bytes, &answer.length);
-    else
-        answer.error = read_events1(broker, file, word, room, bytes, &answer.length);
+    answer.error = read_file(broker, turn_say, file, room, bytes, &answer.length);
     count_events(&broker->counts, file, bytes, answer.length);
     if (is_version1)
         answer.length = (uint32_t)items_make_changes1(bytes, answer.length);
@@ -364,7 +387,7 @@ static bool answer_for_file(struct broker *broker, struct client *client) {
     } else if (question->op == WIRE_IOCTL) {
         return answer_ioctl(broker, client, file);
     } else {
-        return answer_read(broker, client, file);
+        return broker->notify ? answer_read_of_pipe(broker, client, file) : answer_read(broker, client, file);
     }
     clients_reply(client, &answer, NULL, -1);
     return true;

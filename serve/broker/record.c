@@ -42,6 +42,25 @@ struct asker asker_of(int connection) {
     return asker;
 }
 
+/* The process of a thread; the thread itself where that can't be seen. */
+static pid_t process_of(pid_t thread) {
+    char path[64], line[64];
+    long process = thread;
+    snprintf(path, sizeof path, "/proc/%ld/status", (long)thread);
+    FILE *file = fopen(path, "re");
+    while (file && fgets(line, sizeof line, file) && sscanf(line, "Tgid: %ld", &process) != 1)
+        continue;
+    if (file)
+        fclose(file);
+    return (pid_t)process;
+}
+
+struct asker asker_of_thread(pid_t thread) {
+    struct asker asker = {.pid = process_of(thread)};
+    read_name(asker.pid, asker.name);
+    return asker;
+}
+
 /* Says who asks from here on, where that isn't known yet. */
 static void show_asker(struct record *record) {
     const struct asker *asker = &record->asker;

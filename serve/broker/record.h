@@ -32,6 +32,9 @@ struct asker asker_of(int connection);
 /* The same of a process. */
 struct asker asker_of_process(pid_t pid);
 
+/* The process of a thread, and its name at this moment. */
+struct asker asker_of_thread(pid_t thread);
+
 /* Adds an accepted line, before it the comment `# PID NAME` where another process asks than before; and what a line
  * printed. */
 void record_line(struct record *record, const char *line, size_t length);

@@ -6,6 +6,7 @@
 #include <sys/epoll.h>
 
 #include "clock.h"
+#include "notify/flow.h"
 #include "touch.h"
 
 static void put_clock(struct broker *broker) {
@@ -51,27 +52,34 @@ static bool hang_up(struct broker *broker, struct file *file) {
     return true;
 }
 
+/* Shows a file's readers whether something can be read: where the kernel answers their reads, by what can be read. */
+static bool show(struct broker *broker, struct file *file, bool readable, bool wakes) {
+    if (broker->notify)
+        return !readable || flow_move(broker, file);
+    files_show(file, readable, wakes);
+    return true;
+}
+
 /* Takes what put_looks asked for, and shows it to the files' readers. */
 static bool take_looks(struct broker *broker) {
     struct looks *looks = &broker->looks;
-    size_t count = looks->count, gone = 0;
+    size_t count = looks->count;
     for (size_t i = 0; i < count; i++) {
-        struct file *file = looks->asked[i].file;
         if (!machine_take(&broker->machine))
             return false;
-        char state = broker->machine.length > 0 ? broker->machine.text[0] : '-';
-        if (state == 'H')
-            looks->asked[gone++].file = file;
-        else
-            files_show(file, state == 'I', looks->asked[i].look == LOOK_WAKES);
+        looks->asked[i].state = broker->machine.length > 0 ? broker->machine.text[0] : '-';
     }
     if (looks->due && !take_due(broker))
         return false;
     looks->count = 0;
     looks->due = false;
-    for (size_t i = 0; i < gone; i++)
-        if (!hang_up(broker, looks->asked[i].file))
+    for (size_t i = 0; i < count; i++) {
+        struct file *file = looks->asked[i].file;
+        bool wakes = looks->asked[i].look == LOOK_WAKES;
+        if (looks->asked[i].state == 'H' ? !hang_up(broker, file)
+                                         : !show(broker, file, looks->asked[i].state == 'I', wakes))
             return false;
+    }
     return true;
 }
 
@@ -82,6 +90,11 @@ bool turn_say(struct broker *broker, const char *line, size_t length, bool kept)
     machine_put(machine, line, length, kept);
     put_looks(broker);
     return (broker->manual || machine_take(machine)) && machine_take(machine);
+}
+
+bool turn_say_at_once(struct broker *broker, const char *line, size_t length, bool kept) {
+    machine_put(&broker->machine, line, length, kept);
+    return machine_take(&broker->machine);
 }
 
 void turn_pulls(struct broker *broker, unsigned chip, uint32_t line) {

@@ -14,6 +14,9 @@ void turn_does_any(struct broker *broker);
  * has ended, as for all functions here. turn_settle has to come after it, and before anything else is asked. */
 bool turn_say(struct broker *broker, const char *line, size_t length, bool kept);
 
+/* The same without the clock: at the time at which it stands. What was looked at before is taken already. */
+bool turn_say_at_once(struct broker *broker, const char *line, size_t length, bool kept);
+
 /* Looks which files have something to read, and what is due next. With `chips`, chips may have come or gone: which
  * files are hung up, and which chips there are. */
 bool turn_settle(struct broker *broker, bool chips);

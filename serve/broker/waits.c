@@ -11,6 +11,7 @@
 
 #include "broker.h"
 #include "clock.h"
+#include "notify/flow.h"
 
 /* What a wait has come to: the error's number, 0 where it is met, WAITS_ON where it goes on; and a line of text: what
  * is told where it is met, or what stands in its way. */
@@ -20,6 +21,9 @@ struct outcome {
 };
 
 #define WAITS_ON (-1)
+
+/* How often it is looked whether programs have read events, where that isn't seen: nanoseconds in between. */
+#define READ_LOOKS (5 * CLOCK_MILLISECOND)
 
 void waits_count_read(struct counts *counts, unsigned chip, uint32_t line) {
     if (chip < WIRE_CHIPS && line < WAIT_LINES)
@@ -95,6 +99,8 @@ static void look_at_count(const struct wait *wait, uint64_t count, struct outcom
 static bool look_at(struct broker *broker, const struct wait *wait, struct outcome *outcome) {
     const struct counts *counts = &broker->counts;
     bool alive = true;
+    if (wait->kind == WAIT_READ && broker->notify)
+        flow_count_reads_of(broker, wait->chip);
     if (wait->kind == WAIT_LEVEL)
         alive = look_at_level(broker, wait, outcome);
     else if (wait->kind == WAIT_READ)
@@ -195,18 +201,26 @@ bool waits_look(struct broker *broker) {
     return true;
 }
 
+/* Whether what a wait is for may come about unseen: programs read events without the broker where the kernel notifies
+ * of their calls. Then it is looked at again and again. */
+static bool is_unseen(const struct broker *broker, const struct wait *wait) {
+    return broker->notify && wait->kind == WAIT_READ;
+}
+
 bool waits_expire(struct broker *broker) {
     struct outcome outcome;
     if (broker->clients.waiting == 0)
         return true;
     for (struct client *client = broker->clients.first; client; client = client->next) {
-        if (client->wait.kind == WAIT_NOTHING || client->wait.until > clock_monotonic())
+        bool is_over = client->wait.until <= clock_monotonic();
+        if (client->wait.kind == WAIT_NOTHING || !(is_over || is_unseen(broker, &client->wait)))
             continue;
         if (!look_at(broker, &client->wait, &outcome))
             return false;
-        if (outcome.error == WAITS_ON)
+        if (is_over && outcome.error == WAITS_ON)
             time_out(&client->wait, &outcome);
-        end_wait(broker, client, &outcome);
+        if (outcome.error != WAITS_ON)
+            end_wait(broker, client, &outcome);
     }
     return true;
 }
@@ -215,9 +229,14 @@ int waits_time(const struct broker *broker) {
     uint64_t soonest = UINT64_MAX, time = clock_monotonic();
     if (broker->clients.waiting == 0)
         return -1;
-    for (const struct client *client = broker->clients.first; client; client = client->next)
-        if (client->wait.kind != WAIT_NOTHING && client->wait.until < soonest)
+    for (const struct client *client = broker->clients.first; client; client = client->next) {
+        if (client->wait.kind == WAIT_NOTHING)
+            continue;
+        if (client->wait.until < soonest)
             soonest = client->wait.until;
+        if (is_unseen(broker, &client->wait) && time + READ_LOOKS < soonest)
+            soonest = time + READ_LOOKS;
+    }
     uint64_t left = soonest > time ? (soonest - time + CLOCK_MILLISECOND - 1) / CLOCK_MILLISECOND : 0;
     return left > INT_MAX ? INT_MAX : (int)left;
 }

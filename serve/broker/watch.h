@@ -12,7 +12,8 @@ enum watch_kind {
     WATCH_ENDS,
     WATCH_FILE,
     WATCH_CLIENT,
-    WATCH_TREE
+    WATCH_TREE,
+    WATCH_CALLS
 };
 
 struct watch {

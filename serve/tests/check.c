@@ -146,6 +146,20 @@ short polled(int file, int timeout) {
     return poll(&wait, 1, timeout) < 0 ? -1 : wait.revents;
 }
 
+bool is_notified;
+
+void leave_out(const char *what) {
+    printf("left out: %s\n", what);
+}
+
+short shown_gone(void) {
+    return is_notified ? POLLHUP : POLLHUP | POLLERR;
+}
+
+bool ended_with_chip(ssize_t got) {
+    return is_notified ? got == 0 : got < 0 && errno == ENODEV;
+}
+
 void pause_for(unsigned milliseconds) {
     struct timespec time = {milliseconds / 1000, (long)(milliseconds % 1000) * 1000000};
     nanosleep(&time, NULL);

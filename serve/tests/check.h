@@ -49,6 +49,16 @@ int set_values(int lines, uint64_t bits, uint64_t mask);
 /* What poll says of a file within so many milliseconds; 0 where nothing. */
 short polled(int file, int timeout);
 
+/* Whether the kernel notifies of this program's calls, so that there is no library in it. Its open files are pipes in
+ * poll and in a read that waits: where a chip goes, these show an end and no error. */
+extern bool is_notified;
+/* Says what of the tests such a program can't pass, and why. */
+void leave_out(const char *what);
+/* What poll shows of a file whose chip is gone. */
+short shown_gone(void);
+/* Whether a read that waited ended with its chip, by what it returned. */
+bool ended_with_chip(ssize_t got);
+
 /* Sleeps so many milliseconds. */
 void pause_for(unsigned milliseconds);
 

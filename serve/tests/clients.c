@@ -1,4 +1,5 @@
-/* A program that asks chips whatever programs ask them, run by gpioserve on tests/board. */
+/* A program that asks chips whatever programs ask them, run by gpioserve on tests/board: clients [--notified] [TEST].
+ * With --notified it expects that the kernel notifies of its calls. */
 #include <stdio.h>
 #include <string.h>
 
@@ -12,6 +13,10 @@ static const struct {
     {"--crowd", test_crowd}, {"--churn", test_churn}, {"--tree", test_tree}, {"--hardware", test_hardware}};
 
 int main(int count, char **arguments) {
+    const char *own = arguments[0];
+    is_notified = count > 1 && strcmp(arguments[1], "--notified") == 0;
+    count -= is_notified;
+    arguments += is_notified;
     const char *argument = count > 1 ? arguments[1] : "";
     if (count == 3 && strcmp(argument, "--inherited") == 0)
         return test_inherited(arguments[2]);
@@ -29,7 +34,7 @@ int main(int count, char **arguments) {
     test_values();
     test_version1();
     test_events();
-    test_processes(arguments[0]);
+    test_processes(own);
     test_threads();
     test_saying();
     test_hostile();

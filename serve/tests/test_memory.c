@@ -96,7 +96,11 @@ static void test_places(void) {
     CHECK(fcntl(held, F_SETFL, O_NONBLOCK) == 0);
     CHECK(pull(1, true) && pull(1, false) && polled(held, 10000) == POLLIN);
     CHECK_ERROR(readv(held, small, 2), EINVAL);
-    CHECK(readv(held, two, 2) == sizeof *events && events[0].id == GPIO_V2_LINE_EVENT_RISING_EDGE);
+    /* (a pipe gives nothing where not all that it has can be written) */
+    if (is_notified)
+        CHECK_ERROR(readv(held, two, 2), EFAULT);
+    else
+        CHECK(readv(held, two, 2) == sizeof *events && events[0].id == GPIO_V2_LINE_EVENT_RISING_EDGE);
     CHECK(pull(1, true) && polled(held, 10000) == POLLIN);
     CHECK_ERROR(readv(held, bad, 1), EFAULT);
     CHECK(pull(1, false));

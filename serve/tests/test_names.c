@@ -181,6 +181,12 @@ void test_chip_names(void) {
     test_spellings();
     test_links();
     test_listings();
+    if (is_notified) {
+        leave_out("calls of older and of fortified programs: they are other functions, but the same system calls");
+        leave_out("the flags that a chip was opened with: an open chip shows those of a pipe");
+        leave_out("how many bytes wait: the kernel answers this command for a pipe");
+        return;
+    }
     test_other_calls();
     test_flags();
     test_waiting_bytes();

@@ -1,0 +1,190 @@
+#include "named.h"
+
+#include <errno.h>
+#include <fcntl.h>
+#include <linux/openat2.h>
+#include <string.h>
+#include <sys/syscall.h>
+#include <sys/sysmacros.h>
+#include <unistd.h>
+
+#include "../../wire.h"
+
+/* What chips are: devices, which their user and group may read and write. */
+#define CHIP_MODE (S_IFCHR | 0660)
+/* Flags of an opening that would make or empty a file. */
+#define MAKING_FLAGS (O_CREAT | O_EXCL | O_TRUNC)
+
+/* The flags of a call. False where they stand in memory that can't be read. */
+static bool read_flags(const struct operation *operation, const struct call *call, int *flags) {
+    struct open_how how;
+    if (operation->flags == OPERATION_NONE) {
+        *flags = operation->fixed;
+    } else if (operation->number != SYS_openat2) {
+        *flags = (int)call_argument(call, operation->flags);
+    } else {
+        /* (the argument behind the structure is its size) */
+        if (call_argument(call, operation->flags + 1) < sizeof how ||
+            call_read(call, call_argument(call, operation->flags), &how, sizeof how) != (ssize_t)sizeof how)
+            return false;
+        *flags = (int)how.flags;
+    }
+    return true;
+}
+
+/* Whether an opening is to make a file that isn't there yet. */
+static bool makes_file(const struct named *named) {
+    return named->operation->kind == OPERATION_OPEN && (named->flags & O_CREAT) && (named->flags & O_EXCL);
+}
+
+static bool follows(const struct named *named) {
+    bool opens = named->operation->kind == OPERATION_OPEN;
+    return !(named->flags & (opens ? O_NOFOLLOW : AT_SYMLINK_NOFOLLOW)) && !makes_file(named);
+}
+
+/* The folder /dev is the system's, and is opened in the broker's folder so that the chips are listed in it. */
+static bool is_taken_over(const struct named *named) {
+    return !named->found.is_dev || named->operation->kind == OPERATION_OPEN;
+}
+
+/* Reads the name. No name at all is an empty one, where that means an open file itself. */
+static bool read_name(struct named *named, const struct call *call) {
+    uint64_t from = call_argument(call, named->operation->name);
+    *named->name = 0;
+    return (from == 0 && (named->flags & AT_EMPTY_PATH) && named->operation->kind != OPERATION_OPEN) ||
+           call_read_name(call, from, named->name, sizeof named->name) == 0;
+}
+
+bool named_read(struct named *named, const struct call *call, const char *home) {
+    const struct operation *operation = operation_of(call->notification.data.nr);
+    named->operation = operation;
+    if (!operation || !read_flags(operation, call, &named->flags) || !read_name(named, call))
+        return false;
+    int folder = operation->folder == OPERATION_NONE ? AT_FDCWD : (int)call_argument(call, operation->folder);
+    named->from = (struct lookup_from){home, (pid_t)call->notification.pid, folder};
+    lookup_name(&named->found, &named->from, named->name, follows(named));
+    named->found.ours = named->found.ours && is_taken_over(named);
+    return true;
+}
+
+bool named_opens_chip(const struct named *named) {
+    return named->operation->kind == OPERATION_OPEN && named->found.chip >= 0 &&
+           !(named->flags & (O_PATH | O_DIRECTORY)) && !makes_file(named);
+}
+
+void named_show_chip(struct stat *status, unsigned chip) {
+    status->st_mode = CHIP_MODE;
+    status->st_rdev = makedev(WIRE_MAJOR, chip);
+    status->st_size = 0;
+    status->st_blocks = 0;
+}
+
+void named_show_chip_extended(struct statx *status, unsigned chip) {
+    status->stx_mode = CHIP_MODE;
+    status->stx_rdev_major = WIRE_MAJOR;
+    status->stx_rdev_minor = chip;
+    status->stx_size = 0;
+    status->stx_blocks = 0;
+}
+
+static void answer_open(const struct named *named, struct call *call) {
+    /* (nothing is made in the broker's folder) */
+    if (makes_file(named)) {
+        call_fail(call, faccessat(AT_FDCWD, named->found.path, F_OK, AT_SYMLINK_NOFOLLOW) ? ENOENT : EEXIST);
+        return;
+    }
+    int file = open(named->found.path, (named->flags & ~MAKING_FLAGS) | O_CLOEXEC);
+    if (file < 0) {
+        call_fail(call, errno);
+        return;
+    }
+    call_return_file(call, file, named->flags);
+    close(file);
+}
+
+static void answer_status(const struct named *named, struct call *call) {
+    struct stat status;
+    if (fstatat(AT_FDCWD, named->found.path, &status, named->flags)) {
+        call_fail(call, errno);
+        return;
+    }
+    if (named->found.chip >= 0)
+        named_show_chip(&status, (unsigned)named->found.chip);
+    call_return_bytes(call, call_argument(call, named->operation->detail), &status, sizeof status);
+}
+
+static void answer_status_extended(const struct named *named, struct call *call) {
+    /* (the argument behind the flags is the mask) */
+    unsigned mask = (unsigned)call_argument(call, named->operation->flags + 1);
+    struct statx status;
+    if (statx(AT_FDCWD, named->found.path, named->flags, mask, &status)) {
+        call_fail(call, errno);
+        return;
+    }
+    if (named->found.chip >= 0)
+        named_show_chip_extended(&status, (unsigned)named->found.chip);
+    call_return_bytes(call, call_argument(call, named->operation->detail), &status, sizeof status);
+}
+
+static void answer_access(const struct named *named, struct call *call) {
+    int mode = (int)call_argument(call, named->operation->detail);
+    if (faccessat(AT_FDCWD, named->found.path, mode, named->flags))
+        call_fail(call, errno);
+    else
+        call_return(call, 0);
+}
+
+/* The text of a link, without the broker's folder; as much of it as the program has room for. */
+static void answer_link(const struct named *named, struct call *call) {
+    char text[PATH_MAX];
+    /* (the argument behind the memory is its size) */
+    int size = (int)call_argument(call, named->operation->detail + 1);
+    ssize_t length = size > 0 ? readlink(named->found.path, text, sizeof text - 1) : -1;
+    if (length < 0) {
+        call_fail(call, size > 0 ? errno : EINVAL);
+        return;
+    }
+    text[length] = 0;
+    lookup_hide_home(named->from.home, text);
+    length = (ssize_t)strlen(text);
+    if (length > size)
+        length = size;
+    if (call_write(call, call_argument(call, named->operation->detail), text, (size_t)length))
+        call_return(call, length);
+    else
+        call_fail(call, EFAULT);
+}
+
+/* Names of the broker's have no extended attributes. */
+static void answer_attributes(const struct named *named, struct call *call) {
+    if (faccessat(AT_FDCWD, named->found.path, F_OK, AT_SYMLINK_NOFOLLOW))
+        call_fail(call, errno);
+    else if (named->operation->kind == OPERATION_ATTRIBUTE)
+        call_fail(call, ENODATA);
+    else
+        call_return(call, 0);
+}
+
+void named_answer(const struct named *named, struct call *call) {
+    switch (named->operation->kind) {
+    case OPERATION_OPEN:
+        answer_open(named, call);
+        break;
+    case OPERATION_STATUS:
+        answer_status(named, call);
+        break;
+    case OPERATION_STATUS_EXTENDED:
+        answer_status_extended(named, call);
+        break;
+    case OPERATION_ACCESS:
+        answer_access(named, call);
+        break;
+    case OPERATION_LINK:
+        answer_link(named, call);
+        break;
+    case OPERATION_ATTRIBUTE:
+    case OPERATION_ATTRIBUTES:
+        answer_attributes(named, call);
+        break;
+    }
+}

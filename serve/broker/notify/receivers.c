@@ -1,0 +1,162 @@
+/* Threads that take calls from the kernel. What doesn't concern the broker goes on to the kernel at once. A call of
+ * which a thread looks up the name may wait for a file system that one of the programs serves, so there is always
+ * another thread that receives. */
+#include <errno.h>
+#include <fcntl.h>
+#include <pthread.h>
+#include <signal.h>
+#include <string.h>
+#include <sys/ioctl.h>
+#include <sys/syscall.h>
+#include <time.h>
+#include <unistd.h>
+
+#include "named.h"
+#include "notify.h"
+
+/* Since Linux 6.6: the kernel wakes a receiver on the processor of the program that calls, which is about to wait. */
+#ifndef SECCOMP_IOCTL_NOTIF_SET_FLAGS
+#define SECCOMP_IOCTL_NOTIF_SET_FLAGS SECCOMP_IOW(4, __u64)
+#define SECCOMP_USER_NOTIF_FD_SYNC_WAKE_UP (1UL << 0)
+#endif
+
+/* Threads at a time. */
+#define MOST_RECEIVERS 32
+/* The stack of one: it keeps some paths. */
+#define STACK_BYTES (256 * 1024)
+/* How long a thread waits for a place in the list when all are taken. */
+#define PAUSE_NANOSECONDS 200000
+
+static void *receive_calls(void *argument);
+
+/* Starts one more thread, in which no signal is taken. An error's number, or 0. */
+static int start_receiver(struct notify *notify) {
+    pthread_t thread;
+    pthread_attr_t attributes;
+    sigset_t all, before;
+    if (atomic_fetch_add(&notify->receivers, 1) >= MOST_RECEIVERS) {
+        atomic_fetch_sub(&notify->receivers, 1);
+        return EAGAIN;
+    }
+    sigfillset(&all);
+    pthread_sigmask(SIG_BLOCK, &all, &before);
+    int error = pthread_attr_init(&attributes);
+    if (error == 0) {
+        pthread_attr_setdetachstate(&attributes, PTHREAD_CREATE_DETACHED);
+        pthread_attr_setstacksize(&attributes, STACK_BYTES);
+        error = pthread_create(&thread, &attributes, receive_calls, notify);
+        pthread_attr_destroy(&attributes);
+    }
+    pthread_sigmask(SIG_SETMASK, &before, NULL);
+    if (error)
+        atomic_fetch_sub(&notify->receivers, 1);
+    return error;
+}
+
+/* Takes a free place in the list. Where there is none, as many calls as there are places wait for the loop. */
+static struct call *take_place(struct notify *notify) {
+    const struct timespec pause = {0, PAUSE_NANOSECONDS};
+    for (;;) {
+        for (size_t i = 0; i < NOTIFY_CALLS; i++) {
+            int expected = CALL_FREE;
+            struct call *call = &notify->calls->list[i];
+            if (atomic_load(&call->state) == CALL_FREE &&
+                atomic_compare_exchange_strong(&call->state, &expected, CALL_RECEIVED))
+                return call;
+        }
+        nanosleep(&pause, NULL);
+    }
+}
+
+/* Whether an open file may be one of the broker's, all of which are pipes. */
+static bool may_be_ours(const struct call *call, int file) {
+    return call_pipe_of(call, file) != 0;
+}
+
+/* Looks at a call that takes a name, and answers it or lets it pass, unless it opens a chip. Whether the loop has to
+ * answer it. */
+static bool look_at_name(const struct notify *notify, struct call *call) {
+    struct named named;
+    if (!named_read(&named, call, notify->home))
+        return false;
+    if (*named.name == 0 && notify->exact && (named.flags & AT_EMPTY_PATH) &&
+        named.operation->flags != OPERATION_NONE) {
+        bool extended = named.operation->kind == OPERATION_STATUS_EXTENDED;
+        call->task = extended ? CALL_STATUS_EXTENDED : CALL_STATUS;
+        call->result = call_argument(call, named.operation->detail);
+        return (extended || named.operation->kind == OPERATION_STATUS) && may_be_ours(call, named.from.folder);
+    }
+    if (!named.found.ours || !call_is_waiting(call))
+        return false;
+    if (!named_opens_chip(&named)) {
+        named_answer(&named, call);
+        return false;
+    }
+    call->task = CALL_OPEN_CHIP;
+    call->chip = (unsigned)named.found.chip;
+    call->flags = named.flags;
+    return true;
+}
+
+/* Whether the loop has to answer a call. */
+static bool concerns_loop(const struct notify *notify, struct call *call) {
+    switch (call->notification.data.nr) {
+    case SYS_ioctl:
+        call->task = CALL_COMMAND;
+        call->structure = call_argument(call, 2);
+        return true;
+    case SYS_read:
+    case SYS_readv:
+        call->task = CALL_READ;
+        return may_be_ours(call, (int)call_argument(call, 0));
+    case SYS_fstat:
+        call->task = CALL_STATUS;
+        call->result = call_argument(call, 1);
+        return may_be_ours(call, (int)call_argument(call, 0));
+    default:
+        return look_at_name(notify, call);
+    }
+}
+
+/* Hands a call on to the loop. False where that fails: then it is the caller's as before. Once the loop is over the
+ * call fails here. */
+static bool hand_on(struct notify *notify, struct call *call) {
+    unsigned char place = (unsigned char)(call - notify->calls->list);
+    atomic_store(&call->state, CALL_HANDED_ON);
+    if (!atomic_load(&notify->is_over) && write(notify->handed_to, &place, 1) == 1)
+        return true;
+    if (atomic_load(&notify->is_over))
+        call_fail(call, ENODEV);
+    atomic_store(&call->state, CALL_RECEIVED);
+    return false;
+}
+
+/* Receives calls until there is no program that could call. */
+static void *receive_calls(void *argument) {
+    struct notify *notify = argument;
+    struct call *call = take_place(notify);
+    for (;;) {
+        atomic_fetch_add(&notify->idle, 1);
+        bool received = call_receive(call, notify->listener);
+        int error = errno;
+        bool last = atomic_fetch_sub(&notify->idle, 1) == 1;
+        if (!received) {
+            if (error == ENOENT && !call_has_callers(notify->listener))
+                return NULL;
+            continue;
+        }
+        if (last)
+            start_receiver(notify);
+        if (concerns_loop(notify, call) && hand_on(notify, call))
+            call = take_place(notify);
+        else
+            call_continue(call);
+    }
+}
+
+bool notify_receive(struct notify *notify) {
+    ioctl(notify->listener, SECCOMP_IOCTL_NOTIF_SET_FLAGS, SECCOMP_USER_NOTIF_FD_SYNC_WAKE_UP);
+    int error = start_receiver(notify);
+    errno = error;
+    return error == 0;
+}

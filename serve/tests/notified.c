@@ -1,0 +1,568 @@
+/* What programs do that a library in between doesn't have to get right: notified [--exact | --outlives], run by
+ * gpioserve --way notify on tests/board. What the machine at hand doesn't have is named as left out. */
+#include <dirent.h>
+#include <errno.h>
+#include <fcntl.h>
+#include <linux/filter.h>
+#include <linux/openat2.h>
+#include <linux/seccomp.h>
+#include <linux/userfaultfd.h>
+#include <pthread.h>
+#include <sched.h>
+#include <signal.h>
+#include <stdatomic.h>
+#include <stddef.h>
+#include <stdio.h>
+#include <stdlib.h>
+#include <string.h>
+#include <sys/ioctl.h>
+#include <sys/mman.h>
+#include <sys/prctl.h>
+#include <sys/resource.h>
+#include <sys/stat.h>
+#include <sys/syscall.h>
+#include <sys/sysmacros.h>
+#include <sys/time.h>
+#include <unistd.h>
+
+#include "check.h"
+
+#define PAGE 4096
+/* A user who has no rights, and a folder for chroot. */
+#define NOBODY 65534
+#define EMPTY_FOLDER "/proc"
+/* Signals come so often, in microseconds. */
+#define SIGNAL_PERIOD 200
+/* (a session has at most 1,048,576 bytes, and what this asks is run again as one) */
+#define MANY_REQUESTS 500
+
+static bool is_exact;
+
+/* Whether a file is a chip's. */
+static bool is_chip(int file) {
+    struct gpiochip_info info;
+    return file >= 0 && ioctl(file, GPIO_GET_CHIPINFO_IOCTL, &info) == 0 && info.lines == 8;
+}
+
+static bool opens(int file) {
+    bool good = is_chip(file);
+    close(file);
+    return good;
+}
+
+static bool is_free(uint32_t line) {
+    int held = request(line, GPIO_V2_LINE_FLAG_INPUT);
+    close(held);
+    return held >= 0;
+}
+
+static void fill_request(struct gpio_v2_line_request *asked, uint32_t line) {
+    memset(asked, 0, sizeof *asked);
+    asked->offsets[0] = line;
+    asked->num_lines = 1;
+    asked->config.flags = GPIO_V2_LINE_FLAG_OUTPUT;
+}
+
+static void test_openings(void) {
+    struct open_how how = {.flags = O_RDWR | O_CLOEXEC};
+    test("a chip is opened by each call that opens, by names of all forms");
+    CHECK(opens((int)syscall(SYS_openat, AT_FDCWD, "/dev/gpiochip0", O_RDONLY)));
+    CHECK(opens((int)syscall(SYS_openat2, AT_FDCWD, "/dev/gpiochip0", &how, sizeof how)));
+#ifdef SYS_open
+    CHECK(opens((int)syscall(SYS_open, "/dev/gpiochip0", O_RDWR)));
+#endif
+    int folder = open("/dev", O_RDONLY | O_DIRECTORY);
+    CHECK(folder >= 0 && opens(openat(folder, "gpiochip0", O_RDWR)) && opens(openat(folder, "./gpiochip1", O_RDWR)));
+    CHECK(chdir("/dev") == 0 && opens(open("gpiochip0", O_RDWR)) && opens(open("../dev/gpiochip1", O_RDWR)));
+    CHECK(chdir("/") == 0 && opens(open("dev/gpiochip0", O_RDWR)) && opens(open("//dev/./gpiochip0", O_RDWR)));
+    CHECK_ERROR(open("/dev/gpiochip0/", O_RDWR), ENOTDIR);
+    CHECK_ERROR(open("/dev/gpiochip0", O_RDWR | O_DIRECTORY), ENOTDIR);
+    CHECK_ERROR(open("/dev/gpiochip77", O_RDWR), ENOENT);
+    CHECK_ERROR((int)syscall(SYS_openat2, AT_FDCWD, "/dev/gpiochip0", &how, 1), EINVAL);
+    close(folder);
+}
+
+static void test_numbers(void) {
+    int first = open("/etc/passwd", O_RDONLY), second = open_chip(0), held;
+    test("a file has the lowest number that is free");
+    CHECK(second == first + 1 && close(first) == 0);
+    first = open_chip(0);
+    held = request(5, GPIO_V2_LINE_FLAG_INPUT);
+    CHECK(first == second - 1 && held == second + 2);
+    CHECK(dup2(held, 500) == 500 && close(held) == 0 && values(500, 1) == 0 && close(500) == 0 && is_free(5));
+    close(first);
+    close(second);
+}
+
+static void test_statuses(void) {
+    struct stat status;
+    struct statx extended;
+    char text[64] = "";
+    test("what is asked of names is answered for chips");
+    CHECK(syscall(SYS_newfstatat, AT_FDCWD, "/dev/gpiochip1", &status, 0) == 0 && S_ISCHR(status.st_mode));
+    CHECK(status.st_rdev == makedev(254, 1));
+    CHECK(syscall(SYS_statx, AT_FDCWD, "/dev/gpiochip1", 0, STATX_BASIC_STATS, &extended) == 0);
+    CHECK(S_ISCHR(extended.stx_mode) && extended.stx_rdev_major == 254 && extended.stx_rdev_minor == 1);
+    CHECK(syscall(SYS_faccessat, AT_FDCWD, "/dev/gpiochip0", R_OK | W_OK) == 0);
+    CHECK_ERROR((int)syscall(SYS_faccessat, AT_FDCWD, "/dev/gpiochip0", X_OK), EACCES);
+    CHECK_ERROR((int)syscall(SYS_faccessat, AT_FDCWD, "/dev/gpiochip70", F_OK), ENOENT);
+    long length = syscall(SYS_readlinkat, AT_FDCWD, "/sys/bus/gpio/devices/gpiochip0/subsystem", text, sizeof text);
+    CHECK(length == strlen("/sys/bus/gpio") && memcmp(text, "/sys/bus/gpio", (size_t)length) == 0);
+    CHECK(syscall(SYS_readlinkat, AT_FDCWD, "/sys/bus/gpio/devices/gpiochip0/subsystem", text, 4) == 4);
+    CHECK_ERROR((int)syscall(SYS_readlinkat, AT_FDCWD, "/sys/bus/gpio/devices/gpiochip0/subsystem", text, 0), EINVAL);
+    CHECK_ERROR((int)syscall(SYS_readlinkat, AT_FDCWD, "/dev/gpiochip0", text, sizeof text), EINVAL);
+    CHECK_ERROR((int)syscall(SYS_getxattr, "/dev/gpiochip0", "user.a", text, sizeof text), ENODATA);
+    CHECK(syscall(SYS_listxattr, "/dev/gpiochip0", text, sizeof text) == 0);
+    CHECK_ERROR((int)syscall(SYS_newfstatat, AT_FDCWD, "/dev/gpiochip0", &status, 0x40000000), EINVAL);
+}
+
+static void test_listing(void) {
+    struct dirent *entry;
+    DIR *folder = opendir("/dev");
+    int chips = 0, others = 0;
+    test("chips are listed in /dev as devices, beside what else is there");
+    while (folder && (entry = readdir(folder))) {
+        chips += strncmp(entry->d_name, "gpiochip", strlen("gpiochip")) == 0 &&
+                 (entry->d_type == DT_CHR || entry->d_type == DT_REG);
+        others += strcmp(entry->d_name, "null") == 0;
+    }
+    CHECK(chips == 2 && others == 1);
+    if (folder)
+        closedir(folder);
+}
+
+/* Two pages, of which the second isn't there. */
+static char *edge_of_memory(void) {
+    char *pages = mmap(NULL, 2 * PAGE, PROT_READ | PROT_WRITE, MAP_PRIVATE | MAP_ANONYMOUS, -1, 0);
+    if (pages == MAP_FAILED || munmap(pages + PAGE, PAGE))
+        abort();
+    return pages;
+}
+
+static void test_bad_memory(void) {
+    static const char name[] = "/dev/gpiochip0";
+    char *pages = edge_of_memory(), *nowhere = pages + PAGE, long_name[PAGE + 10];
+    struct gpio_v2_line_request *asked = (struct gpio_v2_line_request *)pages;
+    int chip = open_chip(0);
+    test("memory that isn't there is EFAULT, and leaves nothing behind");
+    CHECK_ERROR((int)syscall(SYS_openat, AT_FDCWD, nowhere, O_RDWR), EFAULT);
+    memcpy(nowhere - 3, "/de", 3);
+    CHECK_ERROR((int)syscall(SYS_openat, AT_FDCWD, nowhere - 3, O_RDWR), EFAULT);
+    memcpy(nowhere - sizeof name, name, sizeof name);
+    CHECK(opens((int)syscall(SYS_openat, AT_FDCWD, nowhere - sizeof name, O_RDWR)));
+    CHECK_ERROR((int)syscall(SYS_newfstatat, AT_FDCWD, name, nowhere, 0), EFAULT);
+    CHECK_ERROR(ioctl(chip, GPIO_V2_GET_LINE_IOCTL, nowhere), EFAULT);
+    CHECK_ERROR(ioctl(chip, GPIO_V2_GET_LINE_IOCTL, nowhere - sizeof *asked + 4), EFAULT);
+    CHECK_ERROR(ioctl(chip, GPIO_GET_CHIPINFO_IOCTL, NULL), EFAULT);
+    fill_request(asked, 6);
+    CHECK(mprotect(pages, PAGE, PROT_READ) == 0);
+    CHECK_ERROR(ioctl(chip, GPIO_V2_GET_LINE_IOCTL, asked), EFAULT);
+    CHECK(is_free(6));
+    memset(long_name, 'a', sizeof long_name);
+    memcpy(long_name, "/dev/", strlen("/dev/"));
+    long_name[sizeof long_name - 1] = 0;
+    CHECK_ERROR(open(long_name, O_RDWR), ENAMETOOLONG);
+    munmap(pages, PAGE);
+    close(chip);
+}
+
+static void test_no_number(void) {
+    struct gpio_v2_line_request asked, before;
+    struct rlimit limit, few;
+    int chip = open_chip(0);
+    test("where the program has no number left, an opening and a request are EMFILE");
+    CHECK(getrlimit(RLIMIT_NOFILE, &limit) == 0);
+    few = limit;
+    few.rlim_cur = (rlim_t)chip + 1;
+    fill_request(&asked, 6);
+    asked.fd = 1234;
+    before = asked;
+    CHECK(setrlimit(RLIMIT_NOFILE, &few) == 0);
+    CHECK_ERROR(open_chip(0), EMFILE);
+    CHECK_ERROR(ioctl(chip, GPIO_V2_GET_LINE_IOCTL, &asked), EMFILE);
+    CHECK(setrlimit(RLIMIT_NOFILE, &limit) == 0 && memcmp(&asked, &before, sizeof asked) == 0 && is_free(6));
+    close(chip);
+}
+
+static int splice_out(int held) {
+    struct gpio_v2_line_event event;
+    int ends[2];
+    if (pipe(ends) || !pull(1, true) || splice(held, NULL, ends[1], NULL, sizeof event, 0) != sizeof event)
+        return 1;
+    return read(ends[0], &event, sizeof event) != sizeof event || event.id != GPIO_V2_LINE_EVENT_RISING_EDGE;
+}
+
+static void test_splice(void) {
+    int held = request_edges(1);
+    test("an event is moved from file to file by the kernel");
+    CHECK(splice_out(held) == 0 && pull(1, false));
+    close(held);
+}
+
+static volatile sig_atomic_t signalled;
+
+static void on_signal(int number) {
+    (void)number;
+    signalled++;
+}
+
+static void signal_often(int flags, unsigned period) {
+    struct itimerval often = {{0, period}, {0, period}};
+    struct sigaction action = {.sa_handler = on_signal, .sa_flags = flags};
+    sigaction(SIGALRM, &action, NULL);
+    setitimer(ITIMER_REAL, &often, NULL);
+}
+
+/* Requests a line many times under signals. How many were done, of which each is released again; `*interrupted` counts
+ * those that failed with EINTR. -1 where one failed otherwise. */
+static int request_under_signals(int flags, int *interrupted) {
+    int chip = open_chip(0), done = 0;
+    *interrupted = 0;
+    signal_often(flags, SIGNAL_PERIOD);
+    for (int turn = 0; turn < MANY_REQUESTS; turn++) {
+        struct gpio_v2_line_request asked;
+        fill_request(&asked, 1);
+        int failed = ioctl(chip, GPIO_V2_GET_LINE_IOCTL, &asked);
+        if (failed && errno != EINTR) {
+            done = -1;
+            break;
+        }
+        *interrupted += failed != 0;
+        done += !failed;
+        if (!failed)
+            close(asked.fd);
+    }
+    signal_often(SA_RESTART, 0);
+    while (close(chip) < 0 && errno == EINTR)
+        continue;
+    return done;
+}
+
+static void test_signals(void) {
+    int interrupted;
+    test("under signals each call is done once: with SA_RESTART all are, without it some are EINTR");
+    CHECK(request_under_signals(SA_RESTART, &interrupted) == MANY_REQUESTS && interrupted == 0 && signalled > 0);
+    CHECK(request_under_signals(0, &interrupted) == MANY_REQUESTS - interrupted && is_free(1));
+}
+
+static int pull_later(int line) {
+    pause_for(100);
+    return !pull((unsigned)line, true);
+}
+
+static void test_interrupted_read(void) {
+    struct gpio_v2_line_event event;
+    int held = request_edges(1);
+    test("a read that waits is interrupted, and with SA_RESTART goes on");
+    signal_often(0, 20000);
+    CHECK_ERROR(read(held, &event, sizeof event), EINTR);
+    signalled = 0;
+    signal_often(SA_RESTART, 5000);
+    pid_t child = run_child(pull_later, 1);
+    CHECK(read(held, &event, sizeof event) == sizeof event && event.id == GPIO_V2_LINE_EVENT_RISING_EDGE);
+    signal_often(SA_RESTART, 0);
+    CHECK(end_of(child) == 0 && signalled > 0 && pull(1, false));
+    close(held);
+}
+
+static void *set_and_open(void *argument) {
+    uint32_t line = *(uint32_t *)argument;
+    for (unsigned turn = 0; turn < 40; turn++) {
+        int held = request(line, GPIO_V2_LINE_FLAG_OUTPUT), other = open("/etc/passwd", O_RDONLY);
+        bool good =
+            held >= 0 && other >= 0 && set_values(held, turn & 1, 1) == 0 && values(held, 1) == (long)(turn & 1);
+        close(held);
+        close(other);
+        if (!good)
+            return "wrong";
+    }
+    return NULL;
+}
+
+static void test_threads_with_files(void) {
+    pthread_t threads[8];
+    uint32_t lines[8];
+    bool good = true;
+    test("eight threads, each with a line and a file of its own");
+    for (uint32_t i = 0; i < 8; i++) {
+        lines[i] = i;
+        good = pthread_create(&threads[i], NULL, set_and_open, &lines[i]) == 0 && good;
+    }
+    for (uint32_t i = 0; i < 8; i++) {
+        void *wrong;
+        good = pthread_join(threads[i], &wrong) == 0 && !wrong && good;
+    }
+    CHECK(good);
+}
+
+static char changing_name[] = "/dev/gpiochip0";
+static atomic_bool name_is_done;
+
+static void *change_name(void *unused) {
+    (void)unused;
+    while (!atomic_load(&name_is_done)) {
+        memcpy(changing_name, "/dev/null\0ip0", 14);
+        sched_yield();
+        memcpy(changing_name, "/dev/gpiochip0", 14);
+        sched_yield();
+    }
+    return NULL;
+}
+
+static void test_changing_name(void) {
+    pthread_t other;
+    int wrong = 0;
+    test("a name that another thread changes opens one of both, or nothing");
+    CHECK(pthread_create(&other, NULL, change_name, NULL) == 0);
+    for (int turn = 0; turn < 1000; turn++) {
+        struct stat status;
+        int file = open(changing_name, O_RDWR);
+        wrong +=
+            file < 0 ? errno != ENOENT : !is_chip(file) && (fstat(file, &status) || status.st_rdev != makedev(1, 3));
+        if (file >= 0)
+            close(file);
+    }
+    atomic_store(&name_is_done, true);
+    CHECK(pthread_join(other, NULL) == 0 && wrong == 0);
+}
+
+static int filter_oneself(int unused) {
+    struct sock_filter steps[] = {BPF_STMT(BPF_LD | BPF_W | BPF_ABS, offsetof(struct seccomp_data, nr)),
+        BPF_JUMP(BPF_JMP | BPF_JEQ | BPF_K, SYS_mkdirat, 0, 1), BPF_STMT(BPF_RET | BPF_K, SECCOMP_RET_ERRNO | EPERM),
+        BPF_STMT(BPF_RET | BPF_K, SECCOMP_RET_ALLOW)};
+    struct sock_fprog program = {sizeof steps / sizeof *steps, steps};
+    (void)unused;
+    prctl(PR_SET_NO_NEW_PRIVS, 1, 0, 0, 0);
+    if (syscall(SYS_seccomp, SECCOMP_SET_MODE_FILTER, 0, &program) || !opens(open_chip(0)))
+        return 1;
+    long listener = syscall(SYS_seccomp, SECCOMP_SET_MODE_FILTER, SECCOMP_FILTER_FLAG_NEW_LISTENER, &program);
+    return listener >= 0 || errno != EBUSY;
+}
+
+static int become_undumpable(int unused) {
+    (void)unused;
+    int chip = open_chip(0);
+    if (chip < 0 || prctl(PR_SET_DUMPABLE, 0, 0, 0, 0))
+        return 1;
+    bool hidden = geteuid() == 0 || (open_chip(0) < 0 && errno == ENOENT);
+    int other = open("/etc/passwd", O_RDONLY);
+    return !hidden || other < 0 || prctl(PR_SET_DUMPABLE, 1, 0, 0, 0) || !is_chip(chip) || !opens(open_chip(0));
+}
+
+static void test_guarded(void) {
+    test("a program with a filter of its own finds the chips, and may have no listener");
+    CHECK(end_of(run_child(filter_oneself, 0)) == 0);
+    test("a program that lets nobody read its memory goes on, and finds chips again once it does");
+    CHECK(end_of(run_child(become_undumpable, 0)) == 0);
+}
+
+static int open_in_namespaces(int unused) {
+    (void)unused;
+    if (unshare(CLONE_NEWUSER | CLONE_NEWNS | CLONE_NEWPID))
+        return 2;
+    pid_t child = fork();
+    if (child == 0)
+        _exit(!opens(open_chip(0)) || !is_free(6));
+    return end_of(child) != 0 || !opens(open_chip(0));
+}
+
+static int open_as_nobody(int unused) {
+    (void)unused;
+    if (setgid(NOBODY) || setuid(NOBODY))
+        return 2;
+    return !opens(open_chip(0)) || !is_free(6);
+}
+
+static int open_in_chroot(int unused) {
+    (void)unused;
+    if (chroot(EMPTY_FOLDER) || chdir("/"))
+        return 2;
+    return !opens(open_chip(0)) || access("/dev/gpiochip1", R_OK) != 0 || open("/etc/passwd", O_RDONLY) >= 0;
+}
+
+static void test_places(void) {
+    static const struct {
+        int (*run)(int);
+        const char *name, *left_out;
+    } places[] = {{open_in_namespaces, "a program in namespaces of its own finds the chips", "namespaces of users"},
+        {open_as_nobody, "so does one that becomes another user", "becoming another user, which only root may"},
+        {open_in_chroot, "and one in a folder that is its root", "chroot, which only root may"}};
+    for (size_t i = 0; i < sizeof places / sizeof *places; i++) {
+        int ended = end_of(run_child(places[i].run, 0));
+        if (ended == 2) {
+            leave_out(places[i].left_out);
+            continue;
+        }
+        test(places[i].name);
+        CHECK(ended == 0);
+    }
+}
+
+static void test_other_calls(void) {
+    char parameters[256] = {0};
+    test("there is no io_uring, whose openings nobody would see");
+    CHECK_ERROR((int)syscall(SYS_io_uring_setup, 4, parameters), ENOSYS);
+#ifdef __x86_64__
+    char *low = mmap(NULL, PAGE, PROT_READ | PROT_WRITE, MAP_PRIVATE | MAP_ANONYMOUS | MAP_32BIT, -1, 0);
+    long result = 0;
+    test("a call of 32 bits finds what the system has");
+    CHECK(low != MAP_FAILED);
+    strcpy(low, "/dev/gpiochip1");
+    __asm__ volatile("int $0x80" : "=a"(result) : "a"(5L), "b"((long)low), "c"(2L), "d"(0L) : "memory");
+    CHECK(result < 0);
+    munmap(low, PAGE);
+#endif
+}
+
+/* A queue of few events that overflows while another thread reads it. */
+static atomic_uint pulls;
+static atomic_bool pulls_are_done;
+#define FEW_EVENTS 4
+#define MANY_PULLS 2000
+
+static void *pull_often(void *unused) {
+    (void)unused;
+    for (unsigned i = 0; i < MANY_PULLS; i++) {
+        atomic_fetch_add(&pulls, 1);
+        if (!pull(1, i % 2 == 0))
+            break;
+    }
+    atomic_store(&pulls_are_done, true);
+    return NULL;
+}
+
+/* Whether the event that was read is one that a queue of FEW_EVENTS gives behind the last one: those in between were
+ * the oldest when others came. */
+static bool may_follow(uint32_t last, uint32_t number) {
+    return number == last + 1 || (number > last + 1 && number - 1 + FEW_EVENTS <= atomic_load(&pulls));
+}
+
+static void test_overflow_beside(void) {
+    struct gpio_v2_line_request asked;
+    struct gpio_v2_line_event events[2 * FEW_EVENTS];
+    pthread_t other;
+    uint32_t last = 0;
+    bool good = true;
+    int chip = open_chip(0);
+    test("what is lost while a thread reads is what a queue loses, and all else comes in order");
+    fill_request(&asked, 1);
+    asked.event_buffer_size = FEW_EVENTS;
+    asked.config.flags = GPIO_V2_LINE_FLAG_INPUT | GPIO_V2_LINE_FLAG_EDGE_RISING | GPIO_V2_LINE_FLAG_EDGE_FALLING;
+    CHECK(ioctl(chip, GPIO_V2_GET_LINE_IOCTL, &asked) == 0 && fcntl(asked.fd, F_SETFL, O_NONBLOCK) == 0);
+    CHECK(pthread_create(&other, NULL, pull_often, NULL) == 0);
+    for (bool done = false; !done;) {
+        done = atomic_load(&pulls_are_done);
+        ssize_t got = read(asked.fd, events, (1 + last % FEW_EVENTS) * sizeof *events);
+        for (ssize_t i = 0; i < got / (ssize_t)sizeof *events; i++) {
+            good = good && may_follow(last, events[i].seqno);
+            last = events[i].seqno;
+        }
+        done = done && got < 0;
+    }
+    CHECK(pthread_join(other, NULL) == 0 && good && last == MANY_PULLS);
+    close(asked.fd);
+    close(chip);
+}
+
+static void test_reads(void) {
+    struct gpio_v2_line_event event, three[3];
+    struct stat status;
+    int held = request_edges(1), chip = open_chip(1);
+    CHECK(fcntl(held, F_SETFL, O_NONBLOCK) == 0 && pull(1, true) && pull(1, false) && pull(1, true));
+    if (is_exact) {
+        test("with --exact reads and the status of open files are the chips'");
+        CHECK_ERROR(read(held, &event, sizeof event - 1), EINVAL);
+        CHECK(read(held, three, 2 * sizeof event + 47) == 2 * sizeof event && three[1].seqno == 2);
+        CHECK(read(held, three, sizeof event + 1) == sizeof event && three[0].seqno == 3);
+        CHECK_ERROR(read(held, three, sizeof event + 1), EAGAIN);
+        CHECK(fstat(chip, &status) == 0 && S_ISCHR(status.st_mode) && status.st_rdev == makedev(254, 1));
+    } else {
+        test("without --exact a short read takes a part of an event, and an open chip is a pipe");
+        CHECK(read(held, &event, sizeof event - 1) == sizeof event - 1 && read(held, three, 1) == 1);
+        CHECK(read(held, three, sizeof three) == 2 * sizeof event && three[0].seqno == 2 && three[1].seqno == 3);
+        CHECK(fstat(chip, &status) == 0 && S_ISFIFO(status.st_mode));
+    }
+    CHECK(pull(1, false));
+    close(held);
+    close(chip);
+}
+
+/* A name in memory that another thread provides, once it has opened a file itself. */
+static int fault_file;
+static char *fault_page;
+
+static void *provide_name(void *unused) {
+    static char page[PAGE] = "/dev/gpiochip0";
+    struct uffd_msg message;
+    struct uffdio_copy copy = {.dst = (uintptr_t)fault_page, .src = (uintptr_t)page, .len = PAGE};
+    (void)unused;
+    if (read(fault_file, &message, sizeof message) != sizeof message)
+        return "no fault";
+    int other = open("/etc/passwd", O_RDONLY);
+    close(other);
+    return ioctl(fault_file, UFFDIO_COPY, &copy) || other < 0 ? "wrong" : NULL;
+}
+
+static void test_slow_memory(void) {
+    struct uffdio_api api = {.api = UFFD_API};
+    struct uffdio_register range = {.mode = UFFDIO_REGISTER_MODE_MISSING};
+    pthread_t other;
+    void *wrong;
+    fault_page = mmap(NULL, PAGE, PROT_READ | PROT_WRITE, MAP_PRIVATE | MAP_ANONYMOUS, -1, 0);
+    fault_file = (int)syscall(SYS_userfaultfd, O_CLOEXEC);
+    range.range.start = (uintptr_t)fault_page;
+    range.range.len = PAGE;
+    if (fault_file < 0 || ioctl(fault_file, UFFDIO_API, &api) || ioctl(fault_file, UFFDIO_REGISTER, &range)) {
+        leave_out("memory that a program provides itself, which isn't allowed here");
+        return;
+    }
+    test("while a name waits for memory that a program provides, the others' calls are answered");
+    CHECK(pthread_create(&other, NULL, provide_name, NULL) == 0);
+    CHECK(opens((int)syscall(SYS_openat, AT_FDCWD, fault_page, O_RDWR)));
+    CHECK(pthread_join(other, &wrong) == 0 && !wrong);
+    munmap(fault_page, PAGE);
+    close(fault_file);
+}
+
+/* Calls without end until nobody answers any more: then files are opened as ever, and chips are gone. */
+static int outlive_broker(void) {
+    struct stat status;
+    int chip = open_chip(0), file = -1;
+    if (!is_chip(chip) || puts("begun") < 0 || fflush(stdout))
+        return 1;
+    while (is_chip(chip)) {
+        file = open("/etc/passwd", O_RDONLY);
+        if (file < 0 || close(file))
+            return 1;
+    }
+    int error = errno;
+    file = open("/etc/passwd", O_RDONLY);
+    printf("chip: %s\n", strerror(error));
+    printf("file: %s\n", file >= 0 && stat("/etc/passwd", &status) == 0 ? "opened" : strerror(errno));
+    printf("open: %s\n", open_chip(0) < 0 ? strerror(errno) : "a chip");
+    return 0;
+}
+
+int main(int count, char **words) {
+    if (count > 1 && strcmp(words[1], "--outlives") == 0)
+        return outlive_broker();
+    is_exact = count > 1 && strcmp(words[1], "--exact") == 0;
+    test_openings();
+    test_numbers();
+    test_statuses();
+    test_listing();
+    test_bad_memory();
+    test_no_number();
+    test_splice();
+    test_signals();
+    test_interrupted_read();
+    test_threads_with_files();
+    test_changing_name();
+    test_guarded();
+    test_places();
+    test_other_calls();
+    test_overflow_beside();
+    test_slow_memory();
+    test_reads();
+    return !test_end();
+}
