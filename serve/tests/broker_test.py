@@ -162,6 +162,13 @@ class HangingTest(BrokerTest):
         self.assertIn("the served program hangs: it did not answer for 2 seconds, and was ended", self.said())
         self.assertIn("terminated\n", self.said())
 
+    def test_the_handler_of_sigterm_runs_where_the_served_program_dies_in_the_midst_of_a_call(self) -> None:
+        broker = self.start(*self.stoppable())
+        self.begun()
+        os.kill(self.number(), signal.SIGKILL)
+        self.assertEqual(self.status(broker), 124)
+        self.assertIn("terminated\n", self.said())
+
     def test_a_served_program_that_hangs_before_the_command_begins(self) -> None:
         script = self.folder / "served"
         script.write_text("#!/bin/sh\nexec sleep 1000\n")
