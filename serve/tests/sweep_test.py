@@ -197,7 +197,8 @@ class Sweeps(unittest.TestCase):
             self.assertEqual((done.returncode, done.stdout), (2, ""))
 
     def test_both_faults_of_the_wheel_are_found(self) -> None:
-        words = ["--unplug", "--burst", "--timeout", "60", "--expect", "same", "ended", "--json", "--", "./wheel-test"]
+        words = ["--unplug", "--burst", "--limit", "6", "--timeout", "30"]
+        words += ["--expect", "same", "ended", "--json", "--", "./wheel-test"]
         for daemon, status, wanted in (("wheel-faulty", 1, {"hung", "differs"}), ("wheel", 0, set())):
             with self.subTest(daemon=daemon):
                 if not (BENCH / "out" / daemon).is_file():
