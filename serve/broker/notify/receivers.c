@@ -73,18 +73,23 @@ static bool may_be_ours(const struct call *call, int file) {
     return call_pipe_of(call, file) != 0;
 }
 
-/* Looks at a call that takes a name, and answers it or lets it pass, unless it opens a chip. Whether the loop has to
- * answer it. */
+/* Whether a call asks for the status of an open file: it has no name, and says so. */
+static bool is_of_open_file(const struct named *named) {
+    enum operation_kind kind = named->operation->kind;
+    return *named->name == 0 && named->flags & AT_EMPTY_PATH &&
+           (kind == OPERATION_STATUS || kind == OPERATION_STATUS_EXTENDED);
+}
+
+/* Looks at a call that takes a name, and answers it or lets it pass, unless it opens a chip or is about an open file.
+ * Whether the loop has to answer it. */
 static bool look_at_name(const struct notify *notify, struct call *call) {
     struct named named;
     if (!named_read(&named, call, notify->home))
         return false;
-    if (*named.name == 0 && notify->exact && (named.flags & AT_EMPTY_PATH) &&
-        named.operation->flags != OPERATION_NONE) {
-        bool extended = named.operation->kind == OPERATION_STATUS_EXTENDED;
-        call->task = extended ? CALL_STATUS_EXTENDED : CALL_STATUS;
+    if (notify->exact && is_of_open_file(&named)) {
+        call->task = named.operation->kind == OPERATION_STATUS ? CALL_STATUS : CALL_STATUS_EXTENDED;
         call->result = call_argument(call, named.operation->detail);
-        return (extended || named.operation->kind == OPERATION_STATUS) && may_be_ours(call, named.from.folder);
+        return may_be_ours(call, named.from.folder);
     }
     if (!named.found.ours || !call_is_waiting(call))
         return false;
