@@ -171,6 +171,8 @@ static bool close_file(struct broker *broker, struct file *file) {
     if (file->kind != FILE_CHIP)
         turn_requests(broker, file->chip, file->lines, file->line_count);
     broker->record.asker = file->asker;
+    if (broker->notify) /* (what was read since the last look would be lost with the file) */
+        flow_count_reads(broker, file);
     files_drop(&broker->files, file);
     return turn_say(broker, line, (size_t)length, true) && turn_settle(broker, false);
 }

@@ -98,6 +98,8 @@ void test_crowd(void);
 void test_tree(void);
 /* A program that waits for an event. */
 int test_waiting(void);
+/* And one that ends with it. */
+int test_reading(void);
 /* The other end of a test of exec. */
 int test_inherited(const char *number);
 

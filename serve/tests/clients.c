@@ -22,6 +22,8 @@ int main(int count, char **arguments) {
         return test_inherited(arguments[2]);
     if (strcmp(argument, "--waits") == 0)
         return test_waiting();
+    if (strcmp(argument, "--reads") == 0)
+        return test_reading();
     for (size_t i = 0; i < sizeof alone / sizeof *alone; i++) {
         if (strcmp(argument, alone[i].argument) == 0) {
             alone[i].run();

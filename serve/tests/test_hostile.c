@@ -286,6 +286,13 @@ void test_crowd(void) {
     check_free(6);
 }
 
+/* Ends at once with the event that it waits for. */
+int test_reading(void) {
+    struct gpio_v2_line_event event;
+    int held = request_edges(1);
+    return held < 0 || read(held, &event, sizeof event) != (ssize_t)sizeof event;
+}
+
 /* Waits for an event until nobody answers any more, and says what it was told then. */
 int test_waiting(void) {
     struct gpio_v2_line_event event;
