@@ -42,11 +42,16 @@ static bool pass_on(int from, int to) {
     return got > 0 && syscall(SYS_write, to, bytes, (size_t)got) == got;
 }
 
+/* Ends with this program, whose process number is handed in: it may have ended already. */
+static void end_with(pid_t parent) {
+    if (prctl(PR_SET_PDEATHSIG, SIGKILL) || getppid() != parent)
+        _exit(1);
+}
+
 /* Hands on what comes from one file to another one, and in `back` from a third one to a fourth, until this program
  * ends.
  */
 static void hand_on(int from, int to, int back_from, int back_to) {
-    prctl(PR_SET_PDEATHSIG, SIGKILL);
     while (pass_on(from, to) && (back_from < 0 || pass_on(back_from, back_to)))
         continue;
     _exit(0);
@@ -57,12 +62,16 @@ static int make_chain(void) {
     int ends[2], there[2], back[2];
     if (socketpair(AF_UNIX, SOCK_SEQPACKET, 0, ends) || pipe(there) || pipe(back))
         return -1;
-    pid_t far = fork();
-    if (far == 0)
+    pid_t own = getpid(), far = fork();
+    if (far == 0) {
+        end_with(own);
         hand_on(there[0], back[1], -1, -1);
+    }
     pid_t middle = far < 0 ? -1 : fork();
-    if (middle == 0)
+    if (middle == 0) {
+        end_with(own);
         hand_on(ends[1], there[1], back[0], ends[1]);
+    }
     return middle < 0 ? -1 : ends[0];
 }
 
@@ -123,9 +132,9 @@ static bool start_reader(struct state *state) {
     state->read_at = mmap(NULL, sizeof *state->read_at, PROT_READ | PROT_WRITE, MAP_SHARED | MAP_ANONYMOUS, -1, 0);
     if (held < 0 || state->read_at == MAP_FAILED)
         return false;
-    pid_t reader = fork();
+    pid_t own = getpid(), reader = fork();
     if (reader == 0) {
-        prctl(PR_SET_PDEATHSIG, SIGKILL);
+        end_with(own);
         while (read(held, &event, sizeof event) == sizeof event)
             atomic_store(state->read_at, now());
         _exit(0);

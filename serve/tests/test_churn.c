@@ -49,8 +49,10 @@ static void watch_line(uint32_t line) {
     close(chip);
 }
 
-static void live(unsigned seed) {
-    prctl(PR_SET_PDEATHSIG, SIGKILL);
+/* Ends with its parent, which may have ended already. */
+static void live(pid_t parent, unsigned seed) {
+    if (prctl(PR_SET_PDEATHSIG, SIGKILL) || getppid() != parent)
+        _exit(1);
     srandom(seed);
     for (;;) {
         uint32_t line = random_below(LINES);
@@ -62,9 +64,9 @@ static void live(unsigned seed) {
 }
 
 static pid_t start_one(unsigned seed) {
-    pid_t child = fork();
+    pid_t own = getpid(), child = fork();
     if (child == 0)
-        live(seed);
+        live(own, seed);
     return child;
 }
 
