@@ -140,7 +140,8 @@ class Sweep:
         if not isinstance(self.board, Path):
             path.write_text(self.board.strip() + "\n")
         self.board_path = path
-        self._is_over = threading.Event()
+        self._is_over = threading.Event()  # the runs side by side are ended
+        self._is_stopped = threading.Event()  # by `stop`, and so are all others
         self._words: List[str] = []  # gpioserve, and which program serves
         self.clean: Optional[Run] = None
 
@@ -150,7 +151,10 @@ class Sweep:
 
     def stop(self) -> None:
         """Ends the runs that go on, and begins no other."""
-        self._is_over.set()
+        self._is_stopped.set()
+
+    def _is_ending(self) -> bool:
+        return self._is_over.is_set() or self._is_stopped.is_set()
 
     def begin(self) -> List[Place]:
         """Runs the command as it is, and returns the places that are tried. NotSwept where it does not run to its end."""
@@ -177,6 +181,13 @@ class Sweep:
 
     def outcomes(self, places: Sequence[Place]) -> Iterator[Outcome]:
         """Runs the command once for each place, some side by side, and gives each outcome as it comes."""
+        self._is_over.clear()
+        try:
+            yield from self._outcomes(places)
+        finally:
+            self._is_over.clear()
+
+    def _outcomes(self, places: Sequence[Place]) -> Iterator[Outcome]:
         with ThreadPoolExecutor(self.jobs) as pool:
             waiting = [pool.submit(self.outcome, place) for place in places]
             try:
@@ -191,10 +202,10 @@ class Sweep:
 
     def outcome(self, place: Place, transcript: Optional[Path] = None) -> Optional[Outcome]:
         """What comes of the run at a place; None where the sweep was stopped."""
-        if self._is_over.is_set() or self.clean is None:
+        if self._is_ending() or self.clean is None:
             return None
         run = self.run(place.options, transcript)
-        if run.hung and self._is_over.is_set():
+        if run.hung and self._is_ending():
             return None
         before = [(call.what, call.result) for call in self.clean.calls[: place.call - 1]]
         strays = [(call.what, call.result) for call in run.calls[: place.call - 1]] != before
@@ -248,7 +259,7 @@ class Sweep:
                 process.wait(min(max(left, 0.0), 0.2))
                 return True
             except subprocess.TimeoutExpired:
-                if left <= 0 or self._is_over.is_set():
+                if left <= 0 or self._is_ending():
                     end(process)
                     return False
 
