@@ -20,7 +20,7 @@ from gpioserve import programs  # noqa: E402
 from gpioserve.errors import NotServed  # noqa: E402
 
 # Seconds that a sweep may take: a machine may be busy.
-LIMIT = 600
+LIMIT = 300
 
 # A program that opens the chip (call 1), requests line 3 as an output (2) and sets it (3). What it does after an error
 # is its argument's: it ends with 9, crashes, hangs, or goes on and says so.
@@ -157,17 +157,21 @@ class Sweeps(unittest.TestCase):
         mark = f"left-{os.getpid()}"
         leaves = f"import subprocess, sys; subprocess.Popen([sys.executable, '-c', 'import time; time.sleep(3600)', '{mark}'])"
         self.sweep([], leaves + "\n" + PROGRAM, "end")
-        until = time.monotonic() + 60
+        self.assertFalse(self.still_runs(mark))
+
+    def still_runs(self, mark: str) -> bool:
+        """Whether a process with this word is there after a while, in which one that was killed ends."""
+        until = time.monotonic() + LIMIT
         while self.is_running(mark) and time.monotonic() < until:
-            time.sleep(0.1)
-        self.assertFalse(self.is_running(mark))
+            time.sleep(0.05)
+        return self.is_running(mark)
 
     @staticmethod
-    def is_running(mark: str) -> bool:
-        """Whether a process has this word."""
+    def is_running(*marks: str) -> bool:
+        """Whether a process has these words."""
         for path in Path("/proc").glob("[0-9]*/cmdline"):
             try:
-                if mark.encode() in path.read_bytes().split(b"\0"):
+                if {mark.encode() for mark in marks} <= set(path.read_bytes().split(b"\0")):
                     return True
             except OSError:
                 continue
@@ -177,13 +181,13 @@ class Sweeps(unittest.TestCase):
         command = self.command(["--faults", "--jobs", "1", "--timeout", "500"], PROGRAM, "hang")
         process = subprocess.Popen(command, stdout=subprocess.PIPE, stderr=subprocess.PIPE, text=True)
         self.addCleanup(process.kill)
-        time.sleep(1)
-        while not self.is_running("hang"):
+        program = str(self.folder / "program.py")
+        while not self.is_running("--calls", program):
             time.sleep(0.05)
         process.send_signal(signal.SIGINT)
         output, _ = process.communicate(timeout=LIMIT)
         self.assertIn(process.returncode, (2, 130))
-        self.assertFalse(self.is_running("--calls"))
+        self.assertFalse(self.still_runs(program))
         if process.returncode == 130:
             self.assertIn("places were not tried", output)
 
