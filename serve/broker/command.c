@@ -15,6 +15,7 @@
 #include "report.h"
 #include "room.h"
 #include "show/module.h"
+#include "show/namespace.h"
 
 extern char **environ;
 
@@ -92,14 +93,14 @@ static int not_started(const char *word, int error) {
     return error == ENOENT ? STATUS_NOT_FOUND : STATUS_NOT_RUN;
 }
 
-/* Looks for the program. Where it is none that the library can be preloaded into, or with `notified` that no way leads
- * into, that is reported: the status to end with, or 0. */
-static int check_program(const char *word, bool notified) {
+/* Looks for the program. Where it is none that the library can be preloaded into, or that no way leads into, and it
+ * finds nothing at /sys either, that is reported: the status to end with, or 0. */
+static int check_program(const char *word, const struct command_view *view) {
     char path[PATH_MAX];
     if (!program_find(word, path))
         return not_started(word, ENOENT);
     const struct obstacle *obstacle = program_obstacle(path);
-    if (!obstacle || (notified && !obstacle->to_all))
+    if (!obstacle || view->has_sys || (view->notify && !obstacle->to_all))
         return 0;
     report("%s %s: %s%s", path, obstacle->what, obstacle->advice, obstacle->to_all ? "" : ", or take --way notify");
     return STATUS_NOT_RUN;
@@ -107,7 +108,7 @@ static int check_program(const char *word, bool notified) {
 
 int command_start(pid_t *pid, char *const *words, const struct command_view *view) {
     struct variables variables;
-    int status = check_program(words[0], view->notify != NULL);
+    int status = check_program(words[0], view);
     if (status)
         return status;
     if (!variables_make(&variables, view))
@@ -117,6 +118,8 @@ int command_start(pid_t *pid, char *const *words, const struct command_view *vie
     int error = 0;
     if (view->notify)
         outcome = start_command(view->notify, pid, words, environment, &error);
+    else if (view->has_sys)
+        error = namespace_start(pid, words, view->folder, environment);
     else
         error = process_start(pid, words, -1, -1, environment);
     free(environment);

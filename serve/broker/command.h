@@ -13,6 +13,7 @@ struct command_view {
     const char *library;   /* that is preloaded into them */
     const char *folder;    /* the broker's */
     bool has_tree;         /* gpio-sim's file system can be shown: modprobe and mountpoint answer so */
+    bool has_sys;          /* it stands at /sys in a name space of the command's own; any program may be the command */
 };
 
 /* Starts the command with the variables of the view in its environment. 0 and the process; or, with what to do

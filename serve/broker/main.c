@@ -111,7 +111,10 @@ static bool is_interrupted(const struct broker *broker) {
 
 /* Starts the command, or prints the variables for those who start programs themselves, and answers questions. */
 static int serve(struct broker *broker, const struct options *options, const char *library) {
-    struct command_view view = {broker->notify, library, broker->home.path, !broker->show.missing};
+    struct command_view view = {broker->notify, library, broker->home.path, !broker->show.missing, options->sys};
+    broker->tree.has_system = options->sys;
+    if (options->sys && !show_begin(broker, WIRE_TREE_USES))
+        return STATUS_OWN;
     if (options->environment)
         return command_print_variables(&view) ? loop_run(broker) : STATUS_OWN;
     if (options->daemons && !descendants_adopt(&broker->signals.descendants))
@@ -248,7 +251,7 @@ static int close_named(struct broker *broker, int status) {
 /* Whether the kernel has to notify of the command's calls. Where that isn't what was asked for, it is reported why. */
 static bool takes_notification(const struct options *options) {
     char path[PATH_MAX];
-    if (options->way != WAY_EITHER || options->environment)
+    if (options->way != WAY_EITHER || options->environment || options->sys)
         return options->way == WAY_NOTIFY;
     const struct obstacle *obstacle = program_find(options->command[0], path) ? program_obstacle(path) : NULL;
     if (!obstacle || obstacle->to_all)

@@ -45,6 +45,9 @@ static const char help[] =
     "                          0 is without end\n"
     "      --served PROGRAM    the served program; else that of the variable GPIOSERVED, else `gpioserved` beside\n"
     "                          gpioserve. In the repository ./gpioserve at the top makes one\n"
+    "      --sys               shows gpio-sim's file system at /sys to every program, also to those that no library "
+    "can be\n"
+    "                          loaded into, in a name space of the command's own\n"
     "  -h, --help              prints this\n"
     "      --version           prints the version, and whether the served program is proved\n"
     "\n"
@@ -84,6 +87,7 @@ enum {
     CLOCK = 256,
     DAEMONS,
     EACH,
+    SYS,
     ENVIRONMENT,
     FOLDER,
     SERVED,
@@ -143,6 +147,9 @@ static bool take(struct options *options, int option, const char *word) {
     case EACH:
         options->each = true;
         return true;
+    case SYS:
+        options->sys = true;
+        return true;
     case ENVIRONMENT:
         options->environment = true;
         return true;
@@ -163,25 +170,29 @@ static bool take(struct options *options, int option, const char *word) {
 /* Whether there is a command, or `--env` in its place. What is wrong is reported. */
 static enum options_next take_command(struct options *options, char **words) {
     bool is_there = *words != NULL;
+    bool is_wrong = options->environment && (options->daemons || options->sys);
     if (options->environment && options->daemons)
         report("--env runs no command, so --daemons has nothing to wait for: leave it out");
+    else if (options->environment && options->sys)
+        report("--env runs no command, so --sys has nobody to show /sys to: leave it out");
     else if (is_there && options->environment)
         report("--env runs no command: leave out %s", *words);
     else if (!is_there && !options->environment)
         report("there is no command to run: gpioserve [OPTIONS] -- COMMAND ..; --help says more");
     else if (options->environment && options->way == WAY_NOTIFY)
         report("--env gives variables, which lead to the library: leave out --way notify");
+    else if (options->sys && options->way == WAY_NOTIFY)
+        report("--sys goes with the library: leave out --way notify");
+    is_wrong = is_wrong || ((options->environment || options->sys) && options->way == WAY_NOTIFY);
     options->command = is_there ? words : NULL;
-    bool good = is_there != options->environment && !(options->environment && options->daemons) &&
-                !(options->environment && options->way == WAY_NOTIFY);
-    return good ? OPTIONS_RUN : OPTIONS_WRONG;
+    return is_there != options->environment && !is_wrong ? OPTIONS_RUN : OPTIONS_WRONG;
 }
 
 enum options_next options_read(struct options *options, int count, char **words) {
     static const struct option names[] = {{"board", required_argument, NULL, 'b'},
         {"transcript", required_argument, NULL, 't'}, {"answers", required_argument, NULL, 'a'},
         {"waves", required_argument, NULL, 'w'}, {"clock", required_argument, NULL, CLOCK},
-        {"daemons", no_argument, NULL, DAEMONS}, {"each", no_argument, NULL, EACH},
+        {"daemons", no_argument, NULL, DAEMONS}, {"each", no_argument, NULL, EACH}, {"sys", no_argument, NULL, SYS},
         {"env", no_argument, NULL, ENVIRONMENT}, {"folder", required_argument, NULL, FOLDER},
         {"served", required_argument, NULL, SERVED}, {"answer-timeout", required_argument, NULL, ANSWER_TIMEOUT},
         {"at", required_argument, NULL, AT}, {"after", required_argument, NULL, AFTER},

@@ -18,6 +18,7 @@ struct options {
     bool manual;
     struct calls plan; /* what is said at the programs' calls */
     bool each;         /* a new machine begins when all has gone */
+    bool sys;          /* the command has gpio-sim's file system at /sys */
     unsigned limit;    /* seconds in which the served program has to answer; 0: none */
     bool daemons;      /* what the command leaves behind is waited for */
     enum way way;
