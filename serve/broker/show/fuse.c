@@ -15,6 +15,9 @@
 #include "../broker.h"
 #include "mount.h"
 
+/* Files that all programs together have open in it, at most: a few pages of memory are kept for each. */
+#define MOST_OPENED 4096
+
 /* A file that a program has open: its text, as it was when it was last read from the start. */
 struct opened {
     struct opened *next;
@@ -26,6 +29,7 @@ static struct fuse *fuse;
 static bool is_mounted;
 static struct fuse_buf buffer;
 static struct opened *all_opened;
+static unsigned opened_count;
 static char last_message[256];
 
 const char *mount_missing(void) {
@@ -111,9 +115,10 @@ static int call_open(const char *path, struct fuse_file_info *file) {
     /* (root may open any file by its mode, and is refused here as in sysfs) */
     if ((file->flags & O_ACCMODE) != O_RDONLY && !(status.st_mode & 0222))
         return -EACCES;
-    struct opened *opened = calloc(1, sizeof *opened);
+    struct opened *opened = opened_count < MOST_OPENED ? calloc(1, sizeof *opened) : NULL;
     if (!opened)
-        return -ENOMEM;
+        return opened_count < MOST_OPENED ? -ENOMEM : -ENFILE;
+    opened_count++;
     opened->next = all_opened;
     all_opened = opened;
     file->fh = (uintptr_t)opened;
@@ -129,6 +134,7 @@ static int call_release(const char *path, struct fuse_file_info *file) {
     if (*at) {
         *at = opened->next;
         free(opened);
+        opened_count--;
     }
     return 0;
 }
@@ -261,4 +267,5 @@ void mount_end(void) {
         free(all_opened);
         all_opened = next;
     }
+    opened_count = 0;
 }
