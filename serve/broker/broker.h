@@ -10,6 +10,7 @@
 #include "files.h"
 #include "home.h"
 #include "machine.h"
+#include "observers.h"
 #include "patience.h"
 #include "record.h"
 #include "renewal.h"
@@ -44,6 +45,7 @@ struct broker {
     struct files files;
     struct clients clients;
     struct counts counts;
+    struct observers observers;
     struct calls calls;
     struct waves waves;
     struct tree tree;

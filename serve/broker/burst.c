@@ -51,7 +51,7 @@ static bool change(struct broker *broker, unsigned chip, uint32_t line, uint64_t
                 return false;
         done += put;
     }
-    waves_touch(&broker->waves, machine, broker->now, chip, line);
+    turn_changes(broker, chip, line);
     turn_pulls(broker, chip, line);
     return turn_settle(broker, false);
 }

@@ -11,6 +11,7 @@
 
 #include "clock.h"
 #include "notify/call.h"
+#include "observers.h"
 #include "report.h"
 #include "spare.h"
 
@@ -184,6 +185,7 @@ void clients_drop(struct clients *clients, struct client *client) {
     clients->count--;
     if (client->wait.kind != WAIT_NOTHING)
         clients->waiting--;
+    observers_remove(client);
     large_forget(clients, client);
     close(client->watch.number);
     client->watch.number = -1;

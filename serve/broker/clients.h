@@ -16,19 +16,21 @@
 #define CLIENTS_MOST 512
 
 struct call;
+struct observer;
 
 struct client {
     struct watch watch; /* its number is -1 once the connection was ended */
     struct call *call;  /* a system call that waits for the answer, in the place of a connection; or NULL */
     struct client *next;
     struct clients *all;
-    struct asker asker; /* the process that made the connection */
-    struct wait wait;   /* what it waits for; its requests aren't read meanwhile */
-    struct large large; /* an answer that it may not have taken */
-    int error;          /* the error's number of the last answer */
-    bool asks;          /* it has asked more than whose a file is */
-    bool costly;        /* the last answer to its process took long, */
-    uint64_t served;    /* and this many such answers had been given by then */
+    struct asker asker;        /* the process that made the connection */
+    struct wait wait;          /* what it waits for; its requests aren't read meanwhile */
+    struct observer *observer; /* what is reported to it, if it observes; or NULL */
+    struct large large;        /* an answer that it may not have taken */
+    int error;                 /* the error's number of the last answer */
+    bool asks;                 /* it has asked more than whose a file is */
+    bool costly;               /* the last answer to its process took long, */
+    uint64_t served;           /* and this many such answers had been given by then */
 };
 
 struct clients {

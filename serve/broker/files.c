@@ -18,9 +18,24 @@
 /* Numbers in names go up to this one, and then begin again: a name has at most 15 bytes. */
 #define MOST_NUMBER 9999999u
 
-/* How names begin: by the kind of the file, and last the chips' files of waves.c. */
-static const char *const kinds[] = {
-    [FILE_CHIP] = "chip.", [FILE_LINES] = "lines.", [FILE_HANDLE1] = "handle.", [FILE_EVENT1] = "event.", "waves."};
+/* How names begin: by the kind of the file, and last the chips' files of waves.c and observers.c. */
+static const char *const kinds[] = {[FILE_CHIP] = "chip.",
+    [FILE_LINES] = "lines.",
+    [FILE_HANDLE1] = "handle.",
+    [FILE_EVENT1] = "event.",
+    "waves.",
+    FILES_OBSERVED};
+
+const struct file *files_request_of(const struct files *files, unsigned chip, uint32_t line) {
+    for (const struct file *file = files->first; file; file = file->next) {
+        if (file->chip != chip || files_is_gone(file))
+            continue;
+        for (size_t i = 0; i < file->line_count; i++)
+            if (file->lines[i] == line)
+                return file;
+    }
+    return NULL;
+}
 
 bool files_is_name(const char *word, size_t length) {
     for (size_t i = 0; i < sizeof kinds / sizeof *kinds; i++) {

@@ -59,6 +59,14 @@ struct file *files_make(struct files *files, enum file_kind kind, unsigned chip,
 /* The file with that number of its pipe, or NULL. */
 struct file *files_find(const struct files *files, uint64_t ino);
 
+/* The request of a program that has the line, or NULL. */
+const struct file *files_request_of(const struct files *files, unsigned chip, uint32_t line);
+
+/* Names of the broker's own files of chips, by which the lines are asked for that are reported to clients that observe:
+ * this and the chip's number.
+ */
+#define FILES_OBSERVED "observed."
+
 /* Whether a word is of the form that the broker's names of files have. */
 bool files_is_name(const char *word, size_t length);
 

@@ -107,7 +107,7 @@ static void take_questions(struct loop *loop, const struct epoll_event *events, 
 }
 
 /* How long nothing has to be done: milliseconds, or -1. */
-static int idle_time(const struct broker *broker) {
+static int idle_time(struct broker *broker) {
     const int times[] = {turn_wait(broker), waits_time(broker), calls_time(broker)};
     int least = -1;
     for (size_t i = 0; i < sizeof times / sizeof *times; i++)

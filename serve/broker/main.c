@@ -293,6 +293,7 @@ int main(int count, char **arguments) {
     board_free(&board);
     home_remove(&broker.home);
     files_free(&broker.files);
+    observers_free(&broker.observers);
     status = close_named(&broker, status);
     close(broker.poller);
     close(broker.ends);

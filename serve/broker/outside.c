@@ -34,6 +34,7 @@ static bool say(
     if (statement->clock && said->error == 0) {
         broker->now = statement->now;
         broker->real = statement->real;
+        observers_mark_clock(&broker->observers);
     }
     if (said->error == 0)
         tree_note_statement(&broker->tree, line);

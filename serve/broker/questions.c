@@ -106,7 +106,7 @@ static void expect(struct broker *broker, const struct file *file, const struct 
         return;
     }
     for (size_t i = 0; i < count; i++)
-        waves_touch(&broker->waves, &broker->machine, broker->now, file->chip, lines[i]);
+        turn_changes(broker, file->chip, lines[i]);
     if (command->effect != UAPI_SETS)
         turn_requests(broker, file->chip, lines, count);
 }
@@ -289,13 +289,13 @@ static int read_events1(struct broker *broker, say_line *say, const struct file 
 }
 
 /* Counts the events of a file that were read, so many bytes of them, by their lines. */
-static void count_events(struct counts *counts, const struct file *file, const unsigned char *bytes, uint32_t length) {
+static void count_events(struct broker *broker, const struct file *file, const unsigned char *bytes, uint32_t length) {
     if (file->kind == FILE_LINES)
         for (uint32_t at = 0; at + UAPI_EVENT <= length; at += UAPI_EVENT)
-            waits_count_read(counts, file->chip, uapi_u32(bytes + at, 12));
+            waits_count_read(broker, file->chip, uapi_u32(bytes + at, 12));
     else if (file->kind == FILE_EVENT1)
         for (uint32_t at = 0; at + UAPI_EVENT1 <= length; at += UAPI_EVENT1)
-            waits_count_read(counts, file->chip, file->lines[0]);
+            waits_count_read(broker, file->chip, file->lines[0]);
 }
 
 /* Reads what the machine has for a file. The error's number, or 0 and how many bytes there are. */
@@ -333,7 +333,7 @@ static bool answer_read(struct broker *broker, struct client *client, struct fil
         room = (uint32_t)items_room_for_changes1(room < WIRE_DATA ? room : WIRE_DATA);
     touch_read(&broker->files, file);
     answer.error = read_file(broker, turn_say, file, room, bytes, &answer.length);
-    count_events(&broker->counts, file, bytes, answer.length);
+    count_events(broker, file, bytes, answer.length);
     if (is_version1)
         answer.length = (uint32_t)items_make_changes1(bytes, answer.length);
     bool alive = !broker->machine.ended;

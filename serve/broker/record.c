@@ -4,7 +4,8 @@
 #include <sys/socket.h>
 
 bool record_open(struct record *record, const char *transcript, const char *answers, const struct patience *patience) {
-    memset(record, 0, sizeof *record);
+    record->transcript = record->answers = (struct output){.file = NULL};
+    record->asker = record->shown = (struct asker){.pid = 0};
     return output_open(&record->transcript, transcript, patience) && output_open(&record->answers, answers, patience);
 }
 
@@ -72,6 +73,7 @@ static void show_asker(struct record *record) {
 
 void record_line(struct record *record, const char *line, size_t length) {
     FILE *file = record->transcript.file;
+    recent_add(&record->recent, &record->asker, line, length);
     if (!file)
         return;
     show_asker(record);
@@ -80,6 +82,7 @@ void record_line(struct record *record, const char *line, size_t length) {
 }
 
 void record_text(struct record *record, const char *text, size_t length) {
+    recent_note_printed(&record->recent, text, length);
     if (record->answers.file)
         fwrite(text, 1, length, record->answers.file);
 }

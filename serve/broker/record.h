@@ -7,23 +7,16 @@
 #include <sys/types.h>
 
 #include "output.h"
-
-/* The bytes of a program's name, as the kernel keeps it, its end included. */
-#define ASKER_NAME 16
-
-/* Who asked for a line: a process, and its program's name, which is printable ASCII. A process of 0 is none. */
-struct asker {
-    pid_t pid;
-    char name[ASKER_NAME];
-};
+#include "recent.h"
 
 struct record {
     struct output transcript, answers;
     struct asker asker; /* of the lines that are added from now on */
     struct asker shown; /* the one whose comment stands last in the transcript */
+    struct recent recent;
 };
 
-/* Opens the files that are named; NULL names none. False, and reported, where one can't be opened; record_close frees
+/* Opens the files that are named; NULL names none. The recent statements stay, those of a new record are none. False, and reported, where one can't be opened; record_close frees
  * what was taken. */
 bool record_open(struct record *record, const char *transcript, const char *answers, const struct patience *patience);
 
@@ -35,7 +28,7 @@ struct asker asker_of_process(pid_t pid);
 /* The process of a thread, and its name at this moment. */
 struct asker asker_of_thread(pid_t thread);
 
-/* Adds an accepted line, before it the comment `# PID NAME` where another process asks than before; and what a line
+/* Adds an accepted line, which is kept as a recent one too, before it the comment `# PID NAME` where another process asks than before; and what a line
  * printed. */
 void record_line(struct record *record, const char *line, size_t length);
 void record_text(struct record *record, const char *text, size_t length);

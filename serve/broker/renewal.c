@@ -69,6 +69,7 @@ static void forget(struct broker *broker) {
     tree_free(&broker->tree);
     home_name_chips(&broker->home, none);
     memset(&broker->counts, 0, sizeof broker->counts);
+    observers_mark_reset(&broker->observers);
     memset(&broker->looks, 0, sizeof broker->looks);
     broker->has_due = broker->asks_due = false;
     epoll_ctl(broker->poller, EPOLL_CTL_DEL, broker->served.number, NULL);

@@ -102,6 +102,11 @@ void turn_pulls(struct broker *broker, unsigned chip, uint32_t line) {
     broker->asks_due = true;
 }
 
+void turn_changes(struct broker *broker, unsigned chip, uint32_t line) {
+    waves_touch(&broker->waves, &broker->machine, broker->now, chip, line);
+    observers_mark(&broker->observers, chip, line);
+}
+
 void turn_requests(struct broker *broker, unsigned chip, const uint32_t *lines, size_t count) {
     touch_watches(&broker->files, chip, lines, count);
     broker->asks_due = true;
@@ -128,6 +133,7 @@ static bool name_chips(struct broker *broker) {
     }
     home_name_chips(&broker->home, present);
     tree_note_chips(&broker->tree, broker->machine.text);
+    observers_note_chips(&broker->observers, broker->machine.text);
     for (unsigned chip = 0; chip < WIRE_CHIPS; chip++)
         broker->counts.known[chip] = broker->counts.known[chip] || present[chip];
     return waves_take_chips(&broker->waves, &broker->machine, broker->now, present);
@@ -145,7 +151,7 @@ bool turn_settle(struct broker *broker, bool chips) {
         if (!take_looks(broker))
             return false;
     }
-    if (chips && !name_chips(broker))
+    if (chips && !(name_chips(broker) && observers_take_chips(broker)))
         return false;
     return waves_sample(&broker->waves, &broker->machine, broker->now) && waits_look(broker);
 }
@@ -166,7 +172,7 @@ static bool close_file(struct broker *broker, struct file *file) {
         return true;
     }
     for (size_t i = 0; i < file->line_count; i++)
-        waves_touch(&broker->waves, &broker->machine, broker->now, file->chip, file->lines[i]);
+        turn_changes(broker, file->chip, file->lines[i]);
     int length = snprintf(line, sizeof line, "close %s", file->name);
     if (file->kind != FILE_CHIP)
         turn_requests(broker, file->chip, file->lines, file->line_count);

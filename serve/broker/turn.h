@@ -6,6 +6,8 @@
 
 /* What the next statement does, so that the files that it can touch are looked at with it: it changes the level of a
  * line; it requests, releases or configures lines; or it is one of which not more is known. */
+/* The same for all that show levels and holders: the next statement may change those of this line. */
+void turn_changes(struct broker *broker, unsigned chip, uint32_t line);
 void turn_pulls(struct broker *broker, unsigned chip, uint32_t line);
 void turn_requests(struct broker *broker, unsigned chip, const uint32_t *lines, size_t count);
 void turn_does_any(struct broker *broker);

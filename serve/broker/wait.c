@@ -10,7 +10,7 @@
 
 static const char refusal[] =
     "refused: wait held CHIP LINE [by CONSUMER], wait released CHIP LINE, wait level CHIP LINE 0 or 1, wait read CHIP "
-    "LINE [COUNT] or wait opened CHIP [COUNT], each with [within TIME], as within 500ms or within 5s\n";
+    "LINE [COUNT], wait opened CHIP [COUNT] or wait changed, each with [within TIME], as within 500ms or within 5s\n";
 
 bool wait_is(const char *line) {
     return words_is(words_first(line), "wait");
@@ -83,15 +83,21 @@ const char *wait_read(struct wait *wait, const char *line) {
         [WAIT_RELEASED] = "released",
         [WAIT_LEVEL] = "level",
         [WAIT_READ] = "read",
-        [WAIT_OPENED] = "opened"};
-    struct word kind = words_after(words_first(line)), word = words_after(kind);
+        [WAIT_OPENED] = "opened",
+        [WAIT_CHANGED] = "changed"};
+    struct word kind = words_after(words_first(line)), word = kind;
     memset(wait, 0, sizeof *wait);
     for (size_t i = WAIT_HELD; i < sizeof kinds / sizeof *kinds; i++)
         if (words_is(kind, kinds[i]))
             wait->kind = (enum wait_kind)i;
-    if (wait->kind == WAIT_NOTHING || !read_chip(word, &wait->chip))
+    if (wait->kind == WAIT_NOTHING)
         return refusal;
-    if (wait->kind != WAIT_OPENED) {
+    if (wait->kind != WAIT_CHANGED) {
+        word = words_after(word);
+        if (!read_chip(word, &wait->chip))
+            return refusal;
+    }
+    if (wait->kind != WAIT_CHANGED && wait->kind != WAIT_OPENED) {
         word = words_after(word);
         if (!read_line(word, &wait->line))
             return refusal;

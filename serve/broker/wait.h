@@ -16,13 +16,14 @@ enum wait_kind {
     WAIT_RELEASED, /* none has it */
     WAIT_LEVEL,    /* the line has the level `number` */
     WAIT_READ,     /* programs have read `number` events of the line */
-    WAIT_OPENED    /* programs have opened the chip `number` times */
+    WAIT_OPENED,   /* programs have opened the chip `number` times */
+    WAIT_CHANGED   /* something has changed since the client was answered last */
 };
 
 struct wait {
     enum wait_kind kind;
     unsigned chip;
-    uint32_t line; /* not of WAIT_OPENED */
+    uint32_t line; /* not of WAIT_OPENED, as the chip isn't of WAIT_CHANGED */
     uint64_t number;
     char holder[CONSUMER_ROOM]; /* of WAIT_HELD: the consumer, or empty where any will do */
     uint64_t limit;             /* how long, in milliseconds */

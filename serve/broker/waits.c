@@ -25,9 +25,11 @@ struct outcome {
 /* How often it is looked whether programs have read events, where that isn't seen: nanoseconds in between. */
 #define READ_LOOKS (5 * CLOCK_MILLISECOND)
 
-void waits_count_read(struct counts *counts, unsigned chip, uint32_t line) {
-    if (chip < WIRE_CHIPS && line < WAIT_LINES)
-        counts->read[chip][line]++;
+void waits_count_read(struct broker *broker, unsigned chip, uint32_t line) {
+    if (chip >= WIRE_CHIPS || line >= WAIT_LINES)
+        return;
+    broker->counts.read[chip][line]++;
+    observers_mark(&broker->observers, chip, line);
 }
 
 __attribute__((format(printf, 3, 4))) static void conclude(struct outcome *outcome, int error, const char *form, ...) {
@@ -38,20 +40,8 @@ __attribute__((format(printf, 3, 4))) static void conclude(struct outcome *outco
     outcome->error = error;
 }
 
-/* The request of a program that has the line, or NULL. */
-static const struct file *request_of(const struct broker *broker, unsigned chip, uint32_t line) {
-    for (const struct file *file = broker->files.first; file; file = file->next) {
-        if (file->chip != chip || files_is_gone(file))
-            continue;
-        for (size_t i = 0; i < file->line_count; i++)
-            if (file->lines[i] == line)
-                return file;
-    }
-    return NULL;
-}
-
 static void look_at_holder(const struct broker *broker, const struct wait *wait, struct outcome *outcome) {
-    const struct file *request = request_of(broker, wait->chip, wait->line);
+    const struct file *request = files_request_of(&broker->files, wait->chip, wait->line);
     const char *holder = !request ? "" : request->consumer[0] ? request->consumer : "?";
     bool wanted =
         wait->kind == WAIT_RELEASED ? !request : request && (!wait->holder[0] || strcmp(holder, wait->holder) == 0);
@@ -127,6 +117,8 @@ static const char *name_of(int error) {
         return "ENODEV";
     case EINVAL:
         return "EINVAL";
+    case EBUSY:
+        return "EBUSY";
     default:
         return "EIO";
     }
@@ -143,19 +135,45 @@ static void answer(struct client *client, const struct outcome *outcome) {
     clients_reply(client, &answer, text, -1);
 }
 
-/* Answers a client that waited, whose requests are read again from now on. */
-static void end_wait(struct broker *broker, struct client *client, const struct outcome *outcome) {
-    answer(client, outcome);
+/* A client that was answered waits no more: its requests are read again from now on. */
+static void end_wait(struct broker *broker, struct client *client) {
     client->wait.kind = WAIT_NOTHING;
     broker->clients.waiting--;
     if (!watch_change(broker->poller, &client->watch, EPOLLIN))
         shutdown(client->watch.number, SHUT_RDWR);
 }
 
+static void end_by(struct broker *broker, struct client *client, const struct outcome *outcome) {
+    answer(client, outcome);
+    end_wait(broker, client);
+}
+
 static void time_out(const struct wait *wait, struct outcome *outcome) {
     char seen[sizeof outcome->text];
     memcpy(seen, outcome->text, sizeof seen);
     conclude(outcome, ETIMEDOUT, "after %" PRIu64 " ms %s", wait->limit, seen);
+}
+
+/* Lets a client wait whose wait is not over at once. False where it can't be waited for. */
+static bool go_on(struct broker *broker, struct client *client) {
+    client->wait.until = clock_monotonic() + client->wait.limit * CLOCK_MILLISECOND;
+    if (!watch_change(broker->poller, &client->watch, 0))
+        return false;
+    broker->clients.waiting++;
+    return true;
+}
+
+/* Begins a wait for changes, which is answered at the end of this turn of the loop at the earliest. */
+static void begin_changed(struct broker *broker, struct client *client) {
+    struct outcome outcome = {.error = WAITS_ON};
+    if (!observers_add(broker, client))
+        conclude(&outcome, EBUSY, "%d clients observe already", OBSERVERS_MOST);
+    else if (go_on(broker, client))
+        return;
+    else
+        conclude(&outcome, EIO, "nothing can be waited for");
+    client->wait.kind = WAIT_NOTHING;
+    answer(client, &outcome);
 }
 
 bool waits_begin(struct broker *broker, struct client *client, const char *line) {
@@ -168,17 +186,18 @@ bool waits_begin(struct broker *broker, struct client *client, const char *line)
         clients_reply(client, &none, refusal, -1);
         return true;
     }
+    if (wait->kind == WAIT_CHANGED) {
+        begin_changed(broker, client);
+        return true;
+    }
     /* (this says too whether the chip has such a line) */
     bool alive = wait->kind == WAIT_OPENED || look_at_level(broker, wait, &outcome);
     if (alive && outcome.error == WAITS_ON)
         alive = look_at(broker, wait, &outcome);
     if (alive && outcome.error == WAITS_ON && wait->limit == 0)
         time_out(wait, &outcome);
-    wait->until = clock_monotonic() + wait->limit * CLOCK_MILLISECOND;
-    if (alive && outcome.error == WAITS_ON && watch_change(broker->poller, &client->watch, 0)) {
-        broker->clients.waiting++;
+    if (alive && outcome.error == WAITS_ON && go_on(broker, client))
         return true;
-    }
     wait->kind = WAIT_NOTHING;
     if (outcome.error == WAITS_ON)
         conclude(&outcome, EIO, "nothing can be waited for");
@@ -191,12 +210,12 @@ bool waits_look(struct broker *broker) {
     if (broker->clients.waiting == 0)
         return true;
     for (struct client *client = broker->clients.first; client; client = client->next) {
-        if (client->wait.kind == WAIT_NOTHING)
+        if (client->wait.kind == WAIT_NOTHING || client->wait.kind == WAIT_CHANGED)
             continue;
         if (!look_at(broker, &client->wait, &outcome))
             return false;
         if (outcome.error != WAITS_ON)
-            end_wait(broker, client, &outcome);
+            end_by(broker, client, &outcome);
     }
     return true;
 }
@@ -207,12 +226,34 @@ static bool is_unseen(const struct broker *broker, const struct wait *wait) {
     return broker->notify && wait->kind == WAIT_READ;
 }
 
+/* Answers a client that waits for changes, where there are some and it may be reported by now, or its time is over. */
+static bool look_for_changes(struct broker *broker, struct client *client) {
+    struct outcome outcome;
+    uint64_t now = clock_monotonic();
+    if (observers_has_news(broker, client) && observers_rest(client, now) == 0) {
+        if (!observers_report(broker, client))
+            return false;
+        struct answer reported = {.length = (uint32_t)broker->observers.length};
+        clients_reply(client, &reported, broker->observers.text, -1);
+        end_wait(broker, client);
+    } else if (client->wait.until <= now) {
+        conclude(&outcome, WAITS_ON, "there is nothing to report yet");
+        time_out(&client->wait, &outcome);
+        end_by(broker, client, &outcome);
+    }
+    return true;
+}
+
 bool waits_expire(struct broker *broker) {
     struct outcome outcome;
     if (broker->clients.waiting == 0)
         return true;
     for (struct client *client = broker->clients.first; client; client = client->next) {
         bool is_over = client->wait.until <= clock_monotonic();
+        if (client->wait.kind == WAIT_CHANGED && !look_for_changes(broker, client))
+            return false;
+        if (client->wait.kind == WAIT_CHANGED)
+            continue;
         if (client->wait.kind == WAIT_NOTHING || !(is_over || is_unseen(broker, &client->wait)))
             continue;
         if (!look_at(broker, &client->wait, &outcome))
@@ -220,22 +261,32 @@ bool waits_expire(struct broker *broker) {
         if (is_over && outcome.error == WAITS_ON)
             time_out(&client->wait, &outcome);
         if (outcome.error != WAITS_ON)
-            end_wait(broker, client, &outcome);
+            end_by(broker, client, &outcome);
     }
     return true;
 }
 
-int waits_time(const struct broker *broker) {
+/* When a client that waits has to be looked at next, in nanoseconds of CLOCK_MONOTONIC. */
+static uint64_t next_look(struct broker *broker, const struct client *client, uint64_t time) {
+    uint64_t next = client->wait.until;
+    if (client->wait.kind == WAIT_CHANGED && observers_has_news(broker, client))
+        next = time + observers_rest(client, time);
+    else if (client->wait.kind == WAIT_CHANGED && broker->notify)
+        next = time + OBSERVERS_LOOKS;
+    else if (is_unseen(broker, &client->wait))
+        next = time + READ_LOOKS;
+    return next < client->wait.until ? next : client->wait.until;
+}
+
+int waits_time(struct broker *broker) {
     uint64_t soonest = UINT64_MAX, time = clock_monotonic();
     if (broker->clients.waiting == 0)
         return -1;
     for (const struct client *client = broker->clients.first; client; client = client->next) {
         if (client->wait.kind == WAIT_NOTHING)
             continue;
-        if (client->wait.until < soonest)
-            soonest = client->wait.until;
-        if (is_unseen(broker, &client->wait) && time + READ_LOOKS < soonest)
-            soonest = time + READ_LOOKS;
+        uint64_t next = next_look(broker, client, time);
+        soonest = next < soonest ? next : soonest;
     }
     uint64_t left = soonest > time ? (soonest - time + CLOCK_MILLISECOND - 1) / CLOCK_MILLISECOND : 0;
     return left > INT_MAX ? INT_MAX : (int)left;

@@ -21,7 +21,7 @@ struct counts {
 };
 
 /* Counts an event of that line that a program has read. */
-void waits_count_read(struct counts *counts, unsigned chip, uint32_t line);
+void waits_count_read(struct broker *broker, unsigned chip, uint32_t line);
 
 /* Answers a request to wait: at once where it is met, can't be or is none; else the client waits, and none of its
  * further requests is read. False where the served program has ended, as for waits_look. */
@@ -34,6 +34,6 @@ bool waits_look(struct broker *broker);
 bool waits_expire(struct broker *broker);
 
 /* How long the loop may wait for them: milliseconds, or -1. */
-int waits_time(const struct broker *broker);
+int waits_time(struct broker *broker);
 
 #endif

@@ -74,7 +74,7 @@ static void forget_moved(struct broker *broker, struct file *file, size_t count,
     struct moved *moved = file->moved;
     for (; moved && count > 0 && moved->count > 0; count--) {
         if (read)
-            waits_count_read(&broker->counts, file->chip, moved->lines[moved->first]);
+            waits_count_read(broker, file->chip, moved->lines[moved->first]);
         moved->first = (moved->first + 1) % UAPI_EVENTS;
         moved->count--;
     }
