@@ -26,6 +26,7 @@ SUMMARIES = {
     "gpioserved": "answer the lines of a session one by one",
     "gpiosess": "run a session on simulated GPIO chips",
     "gpioserve-beside": "show each statement of a session with what it printed",
+    "gpioserve-board": "show the lines of a simulated board, and press its buttons",
     "gpioserve-sweep": "try a command at every call at which something can go wrong",
     "gpioserve-waves": "draw a value change dump as a picture",
     "gpiosession": "sessions, boards and statements of simulated GPIO chips",

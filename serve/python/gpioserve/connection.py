@@ -129,6 +129,7 @@ class Connection(World):
         """Connects. NotServed where there is no gpioserve."""
         super().__init__()
         self._lock = threading.Lock()
+        self._begun = ""
         self._socket = socket.socket(socket.AF_UNIX, socket.SOCK_SEQPACKET)
         try:
             self._socket.connect(os.path.join(folder or os.environ["GPIOSERVE"], "socket"))
@@ -142,9 +143,28 @@ class Connection(World):
     def close(self) -> None:
         self._socket.close()
 
+    def fileno(self) -> int:
+        """What `select` takes: it is readable once the response to `begin` is there, or gpioserve has ended."""
+        return self._socket.fileno()
+
+    def begin(self, statement: str) -> None:
+        """Says a statement or a wait whose response `finish` takes. Nothing else may be said in between."""
+        self._send(statement.encode())
+        self._begun = statement
+
+    def finish(self) -> str:
+        """The response to what was begun, as `say` returns it."""
+        return self._result(self._begun, self._receive())
+
     def _say_one(self, statement: str) -> str:
         with self._lock:
-            found, number, text = self._ask(statement.encode())
+            self._send(statement.encode())
+            response = self._receive()
+        return self._result(statement, response)
+
+    def _result(self, statement: str, response: Tuple[int, int, str]) -> str:
+        """What a statement printed, or the exception that a response stands for."""
+        found, number, text = response
         if found < 0:
             raise Refused(statement, text)
         if number == 0:
@@ -153,12 +173,17 @@ class Connection(World):
             raise MachineError(number, statement, text)
         raise (WaitTimeout if number == errno.ETIMEDOUT else WaitFailed)(number, statement, text)
 
-    def _ask(self, statement: bytes) -> Tuple[int, int, str]:
-        """Sends a statement and takes its response: found or not, the error's number, and the text."""
+    def _send(self, statement: bytes) -> None:
         if len(statement) > TEXT_MAX:
             raise ValueError(f"a statement has at most {TEXT_MAX} bytes")
         try:
             self._socket.send(REQUEST.pack(SAY, 0, 0, len(statement), 0) + statement)
+        except OSError as fault:
+            raise NotServed(f"gpioserve no longer answers: {fault.strerror}") from fault
+
+    def _receive(self) -> Tuple[int, int, str]:
+        """Takes a response: found or not, the error's number, and the text."""
+        try:
             data, ancillary, _, _ = self._socket.recvmsg(RESPONSE.size + TEXT_MAX, socket.CMSG_SPACE(4))
         except OSError as fault:
             raise NotServed(f"gpioserve no longer answers: {fault.strerror}") from fault

@@ -1,0 +1,216 @@
+"""What a board shows: chips, lines and statements, as the reports of `wait changed` have them."""
+
+from __future__ import annotations
+
+import re
+from collections import deque
+from dataclasses import dataclass, field
+from typing import Any, Deque, Dict, Iterator, List, Optional, Set, Tuple
+
+from .connection import Connection
+from .errors import WaitTimeout
+
+# The flags of linux/gpio.h, and the words for them.
+USED, ACTIVE_LOW, OUTPUT = 1 << 0, 1 << 1, 1 << 3
+EDGES = {0: "-", 1 << 4: "rising", 1 << 5: "falling", 3 << 4: "both"}
+EDGES_MASK = 3 << 4
+DRIVES = {1 << 6: "open-drain", 1 << 7: "open-source"}
+BIASES = {1 << 8: "up", 1 << 9: "down", 1 << 10: "off"}
+# Statements that are kept, and the seconds over which events are counted.
+LOG_MOST = 2000
+SPAN = 1.0
+# Statements by which the broker looks after files and time: the log leaves them out.
+OWN = ("clock", "poll", "gpiodetect")
+OWN_FILES = ("waves.", "observed.")
+HEADER = "  LINE NAME           DIR LEVEL PULL BIAS EDGES   EV/S HELD BY"
+
+
+@dataclass
+class Line:
+    """A line of a chip."""
+
+    chip: int
+    offset: int
+    name: str = ""
+    consumer: str = ""
+    level: int = 0
+    pull: str = "down"
+    flags: int = 0
+    debounce: int = 0
+    read: int = 0
+    pid: int = 0
+    program: str = "-"
+    news: Deque[Tuple[float, int]] = field(default_factory=deque)  # times, and events that were read by then
+
+    @property
+    def direction(self) -> str:
+        return "out" if self.flags & OUTPUT else "in"
+
+    @property
+    def edges(self) -> str:
+        return EDGES[self.flags & EDGES_MASK]
+
+    @property
+    def bias(self) -> str:
+        return next((word for flag, word in BIASES.items() if self.flags & flag), "-")
+
+    @property
+    def holder(self) -> str:
+        """The consumer, and the process that has the request."""
+        consumer = self.consumer or ("?" if self.flags & USED else "-")
+        if not self.pid:
+            return consumer
+        return f"{consumer} {self.pid}" if consumer == self.program else f"{consumer} ({self.program} {self.pid})"
+
+    def events(self, now: float) -> int:
+        """Events that programs have read in the last second."""
+        while self.news and self.news[0][0] < now - SPAN:
+            self.news.popleft()
+        return sum(count for _, count in self.news)
+
+    def row(self, now: float) -> str:
+        """The line as a row of the table."""
+        name = self.name if len(self.name) <= 14 else self.name[:13] + "~"
+        level = "1 HI " if self.level else "0 lo "
+        front = f"{self.offset:6} {name:14} {self.direction:3} {level} {self.pull:4} {self.bias:4} "
+        return front + f"{self.edges:7} {self.events(now):4} {self.holder}"
+
+    def detail(self) -> str:
+        """All of the line, in a sentence."""
+        words = [f"gpiochip{self.chip} {self.offset}", self.name or "unnamed", self.direction]
+        words += ["active-low"] if self.flags & ACTIVE_LOW else []
+        words += [word for flag, word in DRIVES.items() if self.flags & flag]
+        words += [f"debounce {self.debounce} us"] if self.debounce else []
+        return ", ".join(words + [f"{self.read} events read", f"held by {self.holder}"])
+
+    def as_json(self) -> Dict[str, Any]:
+        """The line for other programs."""
+        return {
+            "offset": self.offset,
+            "name": self.name,
+            "direction": self.direction,
+            "level": self.level,
+            "pull": self.pull,
+            "bias": self.bias,
+            "edges": self.edges,
+            "active_low": bool(self.flags & ACTIVE_LOW),
+            "debounce_us": self.debounce,
+            "consumer": self.consumer,
+            "used": bool(self.flags & USED),
+            "pid": self.pid,
+            "program": self.program if self.pid else "",
+            "events_read": self.read,
+        }
+
+
+class Board:
+    """Chips and lines as they were reported last, and the statements."""
+
+    def __init__(self) -> None:
+        self.chips: Dict[int, str] = {}
+        self.lines: Dict[Tuple[int, int], Line] = {}
+        self.log: Deque[str] = deque(maxlen=LOG_MOST)
+        self.banks: Set[str] = set()  # of gpio-sim's devices, as DEVICE/BANK
+        self.manual: Optional[int] = None  # the manual clock, in nanoseconds
+        self.is_whole = False
+
+    def take(self, text: str, now: float) -> None:
+        """Takes a report."""
+        takers = {"chip": self._chip, "gone": self._gone, "line": self._line, "said": self._said, "lost": self._lost}
+        for row in text.splitlines():
+            word, _, rest = row.partition(" ")
+            if word in takers:
+                takers[word](rest, now)
+            elif word == "reset":
+                self.chips.clear()
+                self.lines.clear()
+                self.banks.clear()
+            elif word == "clock":
+                self.manual = int(rest.split()[1]) if rest.startswith("manual") else None
+            elif word == "whole":
+                self.is_whole = True
+
+    def _chip(self, rest: str, _now: float) -> None:
+        self.chips[number_of(rest)] = rest
+
+    def _gone(self, rest: str, _now: float) -> None:
+        chip = number_of(rest)
+        self.chips.pop(chip, None)
+        for key in [key for key in self.lines if key[0] == chip]:
+            del self.lines[key]
+
+    def _line(self, rest: str, now: float) -> None:
+        words = rest.split(" ")
+        key = (number_of(words[0]), int(words[1]))
+        is_new = key not in self.lines
+        line = self.lines.setdefault(key, Line(*key))
+        before = line.read
+        for word in words[2:]:
+            name, _, value = word.partition("=")
+            if name in ("level", "read", "pid", "debounce"):
+                setattr(line, name, int(value))
+            elif name == "flags":
+                line.flags = int(value, 16)
+            elif name in ("pull", "program", "name", "consumer"):
+                setattr(line, name, value)
+        if line.read > before and not is_new:
+            line.news.append((now, line.read - before))
+
+    def _said(self, rest: str, _now: float) -> None:
+        pid, program, printed, statement = rest.split(" ", 3)
+        words = statement.split(" ")
+        if words[0] == "mkdir" and len(words) > 1 and words[1].count("/") == 1:
+            self.banks.add(words[1])
+        if words[0] in OWN or any(word.startswith(OWN_FILES) for word in words[1:2]):
+            return
+        asker = f"{program} {pid}" if pid != "0" else "gpioserve"
+        printed = "" if printed == "-" else " -> " + printed.replace("\\x20", " ")
+        self.log.append(f"{asker}: {statement}{printed}")
+
+    def _lost(self, rest: str, _now: float) -> None:
+        self.log.append(f"({rest} statements are missing here)")
+
+    def rows(self) -> List[Tuple[int, Optional[Line]]]:
+        """The rows of the table: a chip's, without a line, and then its lines'."""
+        found: List[Tuple[int, Optional[Line]]] = []
+        by_chip: Dict[int, List[Line]] = {}
+        for key in sorted(self.lines):
+            by_chip.setdefault(key[0], []).append(self.lines[key])
+        for chip in sorted(self.chips):
+            found.append((chip, None))
+            found += [(chip, line) for line in by_chip.get(chip, [])]
+        return found
+
+    def table(self, now: float) -> Iterator[str]:
+        """The table as text."""
+        yield HEADER
+        for chip, line in self.rows():
+            yield line.row(now) if line else self.chips[chip]
+
+    def as_json(self) -> Dict[str, Any]:
+        """The board for other programs."""
+        chips = []
+        for chip in sorted(self.chips):
+            lines = [line.as_json() for _, line in self.rows() if line and line.chip == chip]
+            label = re.fullmatch(r"\S+ \[(.*)\] \(\d+ lines\)", self.chips[chip])
+            chips.append({"name": f"gpiochip{chip}", "label": label[1] if label else "", "lines": lines})
+        return {"chips": chips, "clock": {"manual": self.manual is not None, "nanoseconds": self.manual}}
+
+
+def number_of(text: str) -> int:
+    """The number of a chip at the beginning of a text."""
+    found = re.match("gpiochip([0-9]+)", text)
+    if not found:
+        raise ValueError(f"{text!r} names no chip")
+    return int(found[1])
+
+
+def look_once(connection: Connection, now: float) -> Board:
+    """All of the board, as a new observer is told."""
+    board = Board()
+    while not board.is_whole:
+        try:
+            board.take(connection.say("wait changed"), now)
+        except WaitTimeout:
+            continue
+    return board
