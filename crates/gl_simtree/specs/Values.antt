@@ -19,7 +19,7 @@ abbrev pub lines_within : Option ℕ → Option ℕ
 lines_within None = None
 lines_within (Some lines) = if nat_le 1 lines && nat_le lines LINES_MAX then Some lines else None
 
--- a number of lines: a decimal from 1 to 128 without a leading zero
+-- a number of lines: a decimal from 1 to 512 without a leading zero
 abbrev pub lines_of_text : List ℕ → Option ℕ
 lines_of_text value = lines_within (plain_number_of_text value)
 

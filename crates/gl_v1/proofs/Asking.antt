@@ -1,5 +1,5 @@
 -- What the requests and the configurations ask for.
-use Rattle.std.proofs.Common.{ℕ, ◌≡◌, ◌+◌, ◌-◌, ◌*◌, ◌^◌, ◌<◌, ◌≤◌, List, [], ◌∷◌, ◌++◌, length, take, drop, refl, sym, ap, ◌∙◌, subst, arith, append_assoc, append-nil, length-append, length-drop}
+use Rattle.std.proofs.Common.{ℕ, ◌≡◌, ◌^◌, ◌<◌, ◌≤◌, List, [], ◌∷◌, length, refl, sym, ap, ◌∙◌, subst, arith, append-nil}
 use Rattle.gl_base.specs.Rows.{Each}
 use Rattle.gl_uapi.specs.declared.new_requests.NewAttribute.{NewAttribute}
 use Rattle.gl_uapi.specs.Fields.{number_at, number_bytes, overwritten, stretch, zeros}
@@ -9,7 +9,6 @@ use Rattle.gl_uapi.proofs.NewRequests.{config_spelled, length-new_config_bytes}
 use Rattle.gl_uapi.proofs.Reading.{length-number_bytes, length-zeros, number_at-here}
 use Rattle.gl_v1.specs.Asked.{Asks}
 use Rattle.gl_v1.specs.To.{blank, output_values, request_bytes}
-use Rattle.gl_v1.specs.Values.{bits_below, bits_from}
 use Rattle.gl_v1.proofs.Bits.{bits_word}
 use Rattle.gl_v1.proofs.Places.{length-overwritten, number-at, stretch-at, stretch-before, stretch-past}
 use Rattle.gl_v1.proofs.FlagWords.{bits_below_fits}

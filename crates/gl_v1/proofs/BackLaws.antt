@@ -1,6 +1,5 @@
 -- What goes back, by the fields.
-use Rattle.std.proofs.Common.{ℕ, zero, suc, ◌≡◌, ◌+◌, ◌-◌, ◌*◌, ◌/◌, ◌^◌, ◌<◌, ◌≤◌, List, [], ◌∷◌, ◌++◌, length, take, drop, get_or, refl, sym, ap, ◌∙◌, arith}
-use Rattle.std.proofs.lemmas.List.{length-take-le}
+use Rattle.std.proofs.Common.{ℕ, zero, suc, ◌≡◌, ◌+◌, ◌*◌, ◌<◌, ◌≤◌, List, length, take, get_or, refl, sym, ap, ◌∙◌, arith}
 use Rattle.gl_uapi.specs.Fields.{number_at, number_bytes, overwritten, stretch}
 use Rattle.gl_uapi.proofs.Reading.{length-number_bytes, number_at-stretch}
 use Rattle.gl_v1.specs.declared.commands.CommandV1.TheVariants.{LineInfo as LineInfoCommand, LineHandle, LineEvent}
@@ -11,7 +10,7 @@ use Rattle.gl_v1.specs.Structures.{LineInfo}
 use Rattle.gl_v1.specs.To.{blank, structure_of}
 use Rattle.gl_v1.specs.Values.{value_byte, value_bytes}
 use Rattle.gl_v1.proofs.Asking.{length-blank, number_alone}
-use Rattle.gl_v1.proofs.Places.{length-overwritten, length-stretch, number-at, number-before, number-past, stretch-at, stretch-before, stretch-past, take-before}
+use Rattle.gl_v1.proofs.Places.{length-overwritten, length-stretch, number-at, number-before, stretch-at, stretch-before, take-before}
 use Rattle.gl_v1.proofs.FlagWords.{info_word_fits}
 
 pub information_asked : (bytes : List ℕ) (offset flags : ℕ) (name consumer : List ℕ) (lines : ℕ) → LineInfo bytes offset flags name consumer

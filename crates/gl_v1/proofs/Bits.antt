@@ -1,7 +1,7 @@
 -- Words of values, a bit a line, and bytes of them.
-use Rattle.std.proofs.Common.{◌≡◌, Bool, true, false, ℕ, zero, suc, ◌+◌, ◌-◌, ◌*◌, ◌^◌, ◌<◌, ◌≤◌, ◌==◌, List, [], ◌∷◌, ◌++◌, length, take, drop, get_or, set, refl, sym, ap, ◌∙◌, arith, length-drop}
+use Rattle.std.proofs.Common.{◌≡◌, Bool, true, false, ℕ, zero, suc, ◌+◌, ◌^◌, ◌<◌, ◌≤◌, ◌==◌, List, [], ◌∷◌, ◌++◌, length, drop, get_or, set, refl, sym, ap, ◌∙◌, arith}
 use Rattle.std.specs.Prelude.{if◌then◌else◌}
-use Rattle.std.proofs.lemmas.List.{drop_more, set_at, append_assoc, length-append}
+use Rattle.std.proofs.lemmas.List.{drop_more, set_at, append_assoc}
 use Rattle.std.proofs.Math.Pow.{pow_mono}
 use Rattle.gl_uapi.specs.Fields.{overwritten}
 use Rattle.gl_v1.specs.Values.{bits_from, value_byte, value_bytes}

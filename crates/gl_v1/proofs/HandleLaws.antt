@@ -1,7 +1,6 @@
 -- What a handle, a request for edges, and a configuration ask for, by their fields.
-use Rattle.std.proofs.Common.{ℕ, ℤ, ◌≡◌, ◌+◌, ◌-◌, ◌*◌, ◌^◌, ◌<◌, ◌≤◌, List, [], ◌∷◌, ◌++◌, length, take, drop, replicate, refl, sym, ap, ◌∙◌, subst, arith, append_assoc, append-nil, length-append}
+use Rattle.std.proofs.Common.{ℕ, ℤ, ◌≡◌, ◌+◌, ◌^◌, ◌<◌, List, [], ◌∷◌, ◌++◌, length, take, drop, refl, sym, ap, ◌∙◌, subst, arith, append_assoc, length-append}
 use Rattle.std.proofs.lemmas.List.{take_at}
-use Rattle.gl_uapi.specs.declared.new_requests.NewAttribute.{NewAttribute}
 use Rattle.gl_uapi.specs.Fields.{number_at, number_bytes, overwritten, stretch, zeros}
 use Rattle.gl_uapi.specs.LineConfig.{SpellsConfig}
 use Rattle.gl_uapi.specs.LineValues.{SpellsValues, values_bytes}

@@ -5,3 +5,4 @@ mod EventSteps
 mod FlagWords
 mod HandleLaws
 mod Places
+mod UnknownFlags

@@ -4,7 +4,9 @@
 //! The contracts of `send`, `receive` and `events` say which bytes they give. So the laws are about bytes and values
 //! alone.
 
-ghost use Rattle.std.specs.Prelude.{◌≡◌, ◌+◌, ◌*◌, ◌^◌, ◌<◌, ◌≤◌, ℕ, ℤ, List, [], ◌∷◌, ◌++◌, length, take, slice_index};
+ghost use Rattle.std.specs.Prelude.{◌≡◌, ◌+◌, ◌*◌, ◌^◌, ◌<◌, ◌≤◌, ℕ, ℤ, List, [], ◌∷◌, ◌++◌, Some, length, take, slice_index};
+ghost use Rattle.gl_base.specs.declared.errno.Errno.TheVariants.{Inval};
+ghost use Rattle.gl_flags.specs.FlagFault.{flag_fault};
 ghost use Rattle.gl_uapi.specs.Fields.{number_at, stretch, zeros};
 ghost use Rattle.gl_uapi.specs.LineConfig.{SpellsConfig};
 ghost use Rattle.gl_uapi.specs.LineValues.{SpellsValues};
@@ -40,6 +42,14 @@ pub fn edges_are_asked_for()
     ensures { (bytes offset : List ℕ) (handle_flags event_flags : ℕ) (consumer : List ℕ) (fd : ℤ)
         → EventRequest bytes offset handle_flags event_flags consumer fd
         → Asks (event_request bytes) (offset ++ zeros 252) consumer (new_config (event_word HANDLE_TABLE EVENT_TABLE handle_flags event_flags) []) 1 }
+{}
+
+/// A word with a bit that is no flag of the first uAPI becomes a word of v2 that `gl_flags::check` refuses with `Inval`,
+/// whatever other flags it has.
+pub fn unknown_flags_are_refused()
+    ensures handle { (word : ℕ) → 2 ^ length HANDLE_TABLE ≤ word → flag_fault (newer_word HANDLE_TABLE word) ≡ Some Inval }
+    ensures line { (handle_flags event_flags : ℕ) → 2 ^ length HANDLE_TABLE ≤ handle_flags → flag_fault (event_word HANDLE_TABLE EVENT_TABLE handle_flags event_flags) ≡ Some Inval }
+    ensures edge { (handle_flags event_flags : ℕ) → 2 ^ length EVENT_TABLE ≤ event_flags → flag_fault (event_word HANDLE_TABLE EVENT_TABLE handle_flags event_flags) ≡ Some Inval }
 {}
 
 /// A handle's configuration becomes one with its flags, and with the values of outputs as one attribute; its padding

@@ -7,7 +7,7 @@ ghost use Rattle.gl_v1.specs.Flags.{new_bits, old_bits};
 use crate::commands::{
     HANDLE_GET_VALUES, HANDLE_SET_CONFIG, HANDLE_SET_VALUES, LINE_EVENT, LINE_HANDLE, LINE_INFO,
 };
-use crate::flags::{EVENT_TABLE, HANDLE_TABLE, INFO_TABLE};
+use crate::flags::{EVENT_TABLE, HANDLE_TABLE, INFO_TABLE, UNKNOWN};
 use crate::layout::{
     V1_CHIP_INFO_SIZE, V1_CONFIG_FLAGS, V1_CONFIG_PADDING, V1_CONFIG_VALUES, V1_DATA_ID,
     V1_DATA_PADDING, V1_DATA_TIMESTAMP, V1_EVENT_CONSUMER, V1_EVENT_DATA_SIZE, V1_EVENT_FD,
@@ -48,4 +48,6 @@ pub fn numbers_by_value()
     ensures event { (old_bits EVENT_TABLE ≡ (0 ∷ 1 ∷ [])) × (new_bits EVENT_TABLE ≡ (4 ∷ 5 ∷ [])) }
     // GPIOLINE_FLAG_.. against GPIO_V2_LINE_FLAG_..
     ensures information { (old_bits INFO_TABLE ≡ (0 ∷ 1 ∷ 2 ∷ 3 ∷ 4 ∷ 5 ∷ 6 ∷ 7 ∷ [])) × (new_bits INFO_TABLE ≡ (0 ∷ 3 ∷ 1 ∷ 6 ∷ 7 ∷ 8 ∷ 9 ∷ 10 ∷ [])) }
+    // no GPIO_V2_LINE_FLAG_.. has this bit
+    ensures unknown { UNKNOWN ≡ 63 }
 {}

@@ -1,5 +1,5 @@
-use Rattle.std.proofs.Common.{◌≡◌, ◌+◌, ◌-◌, ◌/◌, suc, List, ℕ, length, ap, sym, ◌∙◌, arith}
-use Rattle.gl_v1.specs.Back.{event_back, events_back, events_from, events_in}
+use Rattle.std.proofs.Common.{◌∙◌, arith}
+use Rattle.gl_v1.specs.Back.{events_in}
 use Rattle.gl_v1.proofs.EventSteps.{event_more}
 use Rattle.gl_v1.proofs.receiving.events.Goals as goal
 

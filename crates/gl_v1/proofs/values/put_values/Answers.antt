@@ -1,6 +1,5 @@
-use Rattle.std.proofs.Common.{◌≡◌, List, ℕ, ap, ◌∙◌, set, arith}
-use Rattle.gl_v1.specs.Values.{value_bytes}
-use Rattle.gl_v1.proofs.Bits.{all_written, byte_written}
+use Rattle.std.proofs.Common.{ap, ◌∙◌, set, arith}
+use Rattle.gl_v1.proofs.Bits.{byte_written}
 use Rattle.gl_v1.proofs.values.put_values.Goals as goal
 
 pub loop-i-preserved : goal.loop-i-preserved
