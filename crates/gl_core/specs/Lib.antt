@@ -10,6 +10,7 @@ pub mod Legal
 pub mod Levels
 pub mod LineByLine
 pub mod Live
+pub mod Memory
 pub mod OpenRequests
 pub mod Reached
 pub mod Refusing

@@ -9,6 +9,7 @@ ghost use Rattle.gl_base.specs.declared.limits.TheConstants.{LINES_MAX};
 ghost use Rattle.gl_model.specs.AskedLines.{asked_by, request_fault};
 ghost use Rattle.gl_uapi.specs.declared.layout.TheConstants.{LINE_REQUEST_SIZE};
 ghost use Rattle.gl_core.specs.Legal.{buffer_size};
+ghost use Rattle.gl_core.specs.Memory.{CallTakesMemory, PartTakesMemory};
 ghost use Rattle.gl_model.specs.declared.call.Part.TheVariants.{Ask};
 ghost use Rattle.gl_model.specs.Fits.{BringsRequest, FitsBuffer, FitsBytes, FitsCall, FitsGift, HoldsRequest};
 
@@ -97,10 +98,11 @@ fn bytes_from(bytes: &[u8], from: usize) -> &[u8]
 }
 
 /// What a call brings: an empty queue for an open, and for an ask of GET_LINE what its bytes ask for with an empty ring of the
-/// capacity that they state, where they are without fault. `NoMemory` is its only error.
+/// capacity that they state, where they are without fault. `NoMemory` is its only error, and comes only of these two.
 pub fn gift_for(call: &Call, alloc: Global) -> Result<Gift, Errno>
     ensures ok { IfOk result (λ gift. FitsGift call.now gift) }
     ensures memory_alone { IsOkUnless result Errno.NoMemory }
+    ensures memory { IfErr result (λ _. CallTakesMemory call.now) }
 {
     match call {
         Call::OpenChip { .. } => {
@@ -130,6 +132,7 @@ fn gift_in_part(
 ) -> Result<Gift, Errno>
     ensures ok { IfOk result (λ gift. BringsRequest cmd bytes.now part.now gift) }
     ensures memory_alone { IsOkUnless result Errno.NoMemory }
+    ensures memory { IfErr result (λ _. PartTakesMemory cmd bytes.now part.now) }
 {
     match part {
         Part::Ask => gift_for_ask(cmd, bytes, alloc),
@@ -141,6 +144,7 @@ fn gift_in_part(
 fn gift_for_ask(cmd: u32, bytes: &[u8; LINE_REQUEST_SIZE], alloc: Global) -> Result<Gift, Errno>
     ensures ok { IfOk result (λ gift. BringsRequest cmd bytes.now Ask gift) }
     ensures memory_alone { IsOkUnless result Errno.NoMemory }
+    ensures memory { IfErr result (λ _. PartTakesMemory cmd bytes.now Ask) }
 {
     match Command::of(cmd) {
         Some(Command::GetLine) => gift_for_lines(bytes, alloc),
