@@ -8,5 +8,6 @@ mod Listed
 mod Numbered
 mod Numbers
 mod Running
+mod Session
 mod Suiting
 mod Whole

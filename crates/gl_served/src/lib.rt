@@ -18,7 +18,7 @@ mod under_way;
 
 pub use answered::Answer;
 pub use ended::Ended;
-pub use laws::{limits_by_value, text_is_one};
+pub use laws::{frames_are_session, limits_by_value, text_is_one};
 pub use limits::LINE_MAX;
 pub use served::Served;
 pub use serving::serve;
