@@ -1,7 +1,8 @@
 -- Lines that are answered one after another.
-use Rattle.std.proofs.Common.{◌≡◌, ℕ, suc, ◌<◌, ◌≤◌, ◌+◌, Bool, true, false, ◌&&◌, not, List, [], ◌∷◌, ◌++◌, length, take, Option, OnErr, Result, Ok, Err, refl, sym, ap, ◌∙◌, subst, cond, arith, inl, inr}
-use Rattle.std.specs.Prelude.{◌==◌}
+use Rattle.std.proofs.Common.{◌≡◌, ℕ, suc, ◌<◌, ◌≤◌, ◌+◌, Bool, true, false, ◌&&◌, not, List, [], ◌∷◌, ◌++◌, length, take, Option, OnErr, OnOk, Result, Ok, Err, refl, sym, ap, ◌∙◌, subst, cond, arith, inl, inr}
+use Rattle.std.specs.Prelude.{◌==◌, IsErrOf}
 use Rattle.std.proofs.lemmas.Bool.{cases_lt, eqb-true, lt-ltb, ne_eqb, true≢false}
+use Rattle.std.proofs.lemmas.Result.{on_ok_weaker}
 use Rattle.std.proofs.Math.Seq.{take-append-add}
 use Rattle.std.specs.Io.KnownBytes.{Appends}
 use Rattle.std.proofs.lemmas.List.{append_assoc, append-nil, length-append, length-take-le, take-append-le, take_all}
@@ -18,8 +19,9 @@ use Rattle.gl_served.specs.declared.question.Question.TheVariants.{Nothing}
 use Rattle.gl_served.specs.Frames.{AreFrames, frame_of}
 use Rattle.gl_served.specs.Questions.{IsReply, IsReplyTo, question_in, question_of}
 use Rattle.gl_served.specs.Served.{Accepted, IsAnswer, Keeps, ServedValue, kind_after, limited, nothing_accepted, pair_after}
-use Rattle.gl_served.specs.CutLines.{HasServed, HasServedAll, HasServedLines, ServesTo, WroteFront, count_after, is_line, joined, with_rest}
+use Rattle.gl_served.specs.CutLines.{HasServed, HasServedAll, HasServedLines, Sent, ServesTo, WroteFront, WrotePart, WroteWhole, count_after, is_line, joined, with_rest}
 use Rattle.gl_served.specs.declared.limits.TheConstants.{LINE_MAX}
+use Rattle.gl_served.specs.declared.ended.Ended.{Ended}
 use Rattle.gl_served.specs.declared.answered.Answer.{Answer}
 use Rattle.gl_served.proofs.Known.{appends_more, appends_nothing}
 
@@ -194,20 +196,79 @@ some_items line count size test is = let none : count ≡ 0 = sym size ∙ ap (�
 pub lines_served : (served : ServedValue) (line : List ℕ) (answered : ℕ) (bytes written : List ℕ) → HasServed served line answered bytes written → HasServedLines bytes written
 lines_served served line answered bytes written has = record { lines = has.lines; rest = has.rest; said = has.said; cut = has.cut; frames = has.frames }
 
--- Of the frames of these bytes all were written that could be, and of more bytes a front.
-pub front_written : (start now : Option (List ℕ)) (served : ServedValue) (line : List ℕ) (answered : ℕ) (bytes more : List ℕ) → ServesTo start now served line answered bytes → WroteFront (bytes ++ more) start now
-front_written start now served line answered bytes more serves = record {
-  front = bytes;
-  more = more;
-  frames = serves.written;
-  count = length serves.written;
-  whole = refl;
-  served = lines_served served line answered bytes serves.written serves.has;
-  wrote = subst (λ (w : List ℕ). Appends start now w) (sym (take_all (length serves.written) serves.written (omega arith))) serves.wrote;
-}
+-- what was written of frames, once those that wait are written too
+module _ (start old : Option (List ℕ)) (waiting frames : List ℕ) (s : Sent start old waiting frames) where
+  pub all_sent : waiting ≡ [] → Appends start old frames
+  all_sent none = subst (λ (w : List ℕ). Appends start old w) (sym (s.rest ∙ ap (λ (w : List ℕ). s.sent ++ w) none ∙ append-nil s.sent)) s.wrote
 
-pub front_whole : (start now : Option (List ℕ)) (served : ServedValue) (line : List ℕ) (answered : ℕ) (bytes : List ℕ) → ServesTo start now served line answered bytes → WroteFront bytes start now
-front_whole start now served line answered bytes serves = subst (λ (b : List ℕ). WroteFront b start now) (append-nil bytes) (front_written start now served line answered bytes [] serves)
+  pub sent_more : (frame then : List ℕ) → then ≡ waiting ++ frame → Sent start old then (frames ++ frame)
+  sent_more frame then is = record {
+    sent = s.sent;
+    wrote = s.wrote;
+    rest = ap (λ (f : List ℕ). f ++ frame) s.rest ∙ append_assoc s.sent waiting frame ∙ ap (λ (w : List ℕ). s.sent ++ w) (sym is);
+  }
+
+  pub then_sent : (now : Option (List ℕ)) (then : List ℕ) → Appends old now waiting → then ≡ [] → Sent start now then frames
+  then_sent now then wrote none = record {
+    sent = frames;
+    wrote = subst (λ (w : List ℕ). Appends start now w) (sym s.rest) (appends_more start old now s.sent waiting s.wrote wrote);
+    rest = sym (ap (λ (w : List ℕ). frames ++ w) none ∙ append-nil frames);
+  }
+
+  pub then_part : (now : Option (List ℕ)) → WrotePart waiting old now → WrotePart frames start now
+  then_part now part = (
+    length s.sent + part.0,
+    subst (λ (w : List ℕ). Appends start now w) (sym (ap (take (length s.sent + part.0)) s.rest ∙ take-append-add s.sent waiting part.0))
+        (appends_more start old now s.sent (take part.0 waiting) s.wrote part.1),
+  )
+
+  pub part_sent : WrotePart frames start old
+  part_sent =
+      let here : take (length s.sent) frames ≡ s.sent =
+      ap (take (length s.sent)) s.rest ∙ take-append-le (length s.sent) s.sent waiting (omega arith) ∙ take_all (length s.sent) s.sent (omega arith) in
+      (length s.sent, subst (λ (w : List ℕ). Appends start old w) (sym here) s.wrote)
+
+pub all_are_sent : (start now : Option (List ℕ)) (frames : List ℕ) → Appends start now frames → Sent start now [] frames
+all_are_sent start now frames wrote = record { sent = frames; wrote = wrote; rest = sym (append-nil frames) }
+
+-- what was written where these frames are those of bytes, and of more bytes
+module _ (served : ServedValue) (line : List ℕ) (answered : ℕ) (bytes frames : List ℕ) (has : HasServed served line answered bytes frames) (start now : Option (List ℕ)) where
+  pub front_of : (more : List ℕ) → WrotePart frames start now → WroteFront (bytes ++ more) start now
+  front_of more part = record {
+    front = bytes;
+    more = more;
+    frames = frames;
+    count = part.0;
+    whole = refl;
+    served = lines_served served line answered bytes frames has;
+    wrote = part.1;
+  }
+
+  pub whole_of : (more : List ℕ) → Appends start now frames → WroteWhole (bytes ++ more) start now
+  whole_of more wrote = record {
+    front = bytes;
+    more = more;
+    frames = frames;
+    whole = refl;
+    served = lines_served served line answered bytes frames has;
+    wrote = wrote;
+  }
+
+  pub front_at : WrotePart frames start now → WroteFront bytes start now
+  front_at part = subst (λ (b : List ℕ). WroteFront b start now) (append-nil bytes) (front_of [] part)
+
+  pub whole_at : Appends start now frames → WroteWhole bytes start now
+  whole_at wrote = subst (λ (b : List ℕ). WroteWhole b start now) (append-nil bytes) (whole_of [] wrote)
+
+-- Of the frames of these bytes all were written or wait, and of more bytes a front.
+pub front_written : (start now : Option (List ℕ)) (served : ServedValue) (line : List ℕ) (answered : ℕ) (waiting bytes more : List ℕ) → ServesTo start now served line answered waiting bytes → WroteFront (bytes ++ more) start now
+front_written start now served line answered waiting bytes more serves =
+    front_of served line answered bytes serves.frames serves.has start now more (part_sent start now waiting serves.frames serves.sent)
+
+-- and where none wait they are whole
+pub whole_written : (start now : Option (List ℕ)) (served : ServedValue) (line : List ℕ) (answered : ℕ) (waiting bytes more : List ℕ) → ServesTo start now served line answered waiting bytes → waiting ≡ [] → WroteWhole (bytes ++ more) start now
+whole_written start now served line answered waiting bytes more serves none =
+    whole_of served line answered bytes serves.frames serves.has start now more (all_sent start now waiting serves.frames serves.sent none)
 
 pub front_further : (start now : Option (List ℕ)) (bytes more : List ℕ) → WroteFront bytes start now → WroteFront (bytes ++ more) start now
 front_further start now bytes more wrote = record {
@@ -220,17 +281,14 @@ front_further start now bytes more wrote = record {
   wrote = wrote.wrote;
 }
 
--- a part of one frame more was written
-pub front_part : (start mid now : Option (List ℕ)) (served : ServedValue) (line : List ℕ) (answered : ℕ) (bytes written frame : List ℕ) (count : ℕ)
-    → HasServed served line answered bytes (written ++ frame) → Appends start mid written → Appends mid now (take count frame) → WroteFront bytes start now
-front_part start mid now served line answered bytes written frame count has wrote part = record {
-  front = bytes;
-  more = [];
-  frames = written ++ frame;
-  count = length written + count;
-  whole = sym (append-nil bytes);
-  served = lines_served served line answered bytes (written ++ frame) has;
-  wrote = subst (λ (w : List ℕ). Appends start now w) (sym (take-append-add written frame count)) (appends_more start mid now written (take count frame) wrote part);
+pub whole_further : (start now : Option (List ℕ)) (bytes more : List ℕ) → WroteWhole bytes start now → WroteWhole (bytes ++ more) start now
+whole_further start now bytes more wrote = record {
+  front = wrote.front;
+  more = wrote.more ++ more;
+  frames = wrote.frames;
+  whole = ap (λ (b : List ℕ). b ++ more) wrote.whole ∙ append_assoc wrote.front wrote.more more;
+  served = wrote.served;
+  wrote = wrote.wrote;
 }
 
 -- it holds whatever the result is
@@ -261,3 +319,58 @@ front_nothing start = record {
   served = record { lines = []; rest = []; said = nothing_accepted; cut = record { whole = refl; each = tt; no_end = refl }; frames = (refl, refl) };
   wrote = appends_nothing start;
 }
+
+pub whole_nothing : (start : Option (List ℕ)) → WroteWhole (10 ∷ []) start start
+whole_nothing start = record {
+  front = [];
+  more = 10 ∷ [];
+  frames = [];
+  whole = refl;
+  served = record { lines = []; rest = []; said = nothing_accepted; cut = record { whole = refl; each = tt; no_end = refl }; frames = (refl, refl) };
+  wrote = appends_nothing start;
+}
+
+-- a call that leaves the line and the number of answers as they were
+module _ (line then_line : List ℕ) (answered then_answered : ℕ) (same_line : then_line ≡ line) (same_count : then_answered ≡ answered) where
+  pub has_on : (served : ServedValue) (bytes frames : List ℕ) → HasServed served line answered bytes frames → HasServed served then_line then_answered bytes frames
+  has_on served bytes frames has =
+      subst (λ (n : ℕ). HasServed served then_line n bytes frames) (sym same_count) (subst (λ (l : List ℕ). HasServed served l answered bytes frames) (sym same_line) has)
+
+  pub serves_on : {T E : Type 0} (result : Result T E) (start now : Option (List ℕ)) (served : ServedValue) (waiting bytes frames : List ℕ) → HasServed served line answered bytes frames → OnOk result (Sent start now waiting frames)
+      → OnOk result (ServesTo start now served then_line then_answered waiting bytes)
+  serves_on result start now served waiting bytes frames has sent =
+      let and_has : Sent start now waiting frames → ServesTo start now served then_line then_answered waiting bytes = λ s. record { frames = frames; has = has_on served bytes frames has; sent = s } in
+      on_ok_weaker result and_has sent
+
+-- what holds where two things do
+pub on_ok_both : {T E : Type 0} (result : Result T E) {P Q R : Type 0} → (P → Q → R) → OnOk result P → OnOk result Q → OnOk result R
+on_ok_both (Ok value) f p q = f p q
+on_ok_both (Err fault) f p q = tt
+
+pub part_further : (start now : Option (List ℕ)) (text more : List ℕ) → WrotePart text start now → WrotePart (text ++ more) start now
+part_further start now text more part = elim (cases_lt (length text) part.0) [
+  | inl long ↦
+      (let whole : take part.0 text ≡ take (length text) (text ++ more) =
+      take_all part.0 text (omega (arith, long)) ∙ sym (take-append-le (length text) text more (omega arith) ∙ take_all (length text) text (omega arith)) in
+      (length text, subst (λ (w : List ℕ). Appends start now w) whole part.1))
+  | inr short ↦ (part.0, subst (λ (w : List ℕ). Appends start now w) (sym (take-append-le part.0 text more (omega (arith, short)))) part.1)
+]
+
+-- whole frames are a front
+pub whole_front : (start now : Option (List ℕ)) (bytes : List ℕ) → WroteWhole bytes start now → WroteFront bytes start now
+whole_front start now bytes wrote = record {
+  front = wrote.front;
+  more = wrote.more;
+  frames = wrote.frames;
+  count = length wrote.frames;
+  whole = wrote.whole;
+  served = wrote.served;
+  wrote = subst (λ (w : List ℕ). Appends start now w) (sym (take_all (length wrote.frames) wrote.frames (omega arith))) wrote.wrote;
+}
+
+-- how serving ended, where that is an error
+pub end_is : (x y : Ended) → IsErrOf {T = Unit {0}} {E = Ended} (Err x) y → x ≡ y
+end_is x y is = cc
+
+pub err_is : (x y : Ended) → x ≡ y → IsErrOf {T = Unit {0}} {E = Ended} (Err x) y
+err_is x y is = subst (λ (e : Ended). IsErrOf {T = Unit {0}} {E = Ended} (Err x) e) is refl

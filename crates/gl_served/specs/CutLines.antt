@@ -43,11 +43,17 @@ pub record HasServed (served : ServedValue) (line : List ℕ) (answered : ℕ) (
   pub line_is : line ≡ take (LINE_MAX + 1) rest
   pub count : answered ≡ count_after 0 lines
 
--- the same, and the sink holds these frames after what it held
-pub record ServesTo (start now : Option (List ℕ)) (served : ServedValue) (line : List ℕ) (answered : ℕ) (bytes : List ℕ) : Type 0 where
-  pub written : List ℕ
-  pub has : HasServed served line answered bytes written
-  pub wrote : Appends start now written
+-- Of these frames the sink holds a front after what it held, and the others wait to be written.
+pub record Sent (start now : Option (List ℕ)) (waiting frames : List ℕ) : Type 0 where
+  pub sent : List ℕ
+  pub wrote : Appends start now sent
+  pub rest : frames ≡ sent ++ waiting
+
+-- what the code keeps after these bytes, with the frames that wait
+pub record ServesTo (start now : Option (List ℕ)) (served : ServedValue) (line : List ℕ) (answered : ℕ) (waiting bytes : List ℕ) : Type 0 where
+  pub frames : List ℕ
+  pub has : HasServed served line answered bytes frames
+  pub sent : Sent start now waiting frames
 
 -- The whole input was served: what was written are the frames of its lines, by which so much was accepted.
 pub record HasServedAll (input written : List ℕ) (said : Accepted) : Type 0 where
@@ -80,3 +86,16 @@ pub record WroteFront (bytes : List ℕ) (old new : Option (List ℕ)) : Type 0 
   pub whole : bytes ≡ front ++ more
   pub served : HasServedLines front frames
   pub wrote : Appends old new (take count frames)
+
+-- The frames of the lines that end in a front of these bytes were written, each whole.
+pub record WroteWhole (bytes : List ℕ) (old new : Option (List ℕ)) : Type 0 where
+  pub front : List ℕ
+  pub more : List ℕ
+  pub frames : List ℕ
+  pub whole : bytes ≡ front ++ more
+  pub served : HasServedLines front frames
+  pub wrote : Appends old new frames
+
+-- so many bytes at the front of a text were written
+abbrev pub WrotePart : List ℕ → Option (List ℕ) → Option (List ℕ) → Type 0
+WrotePart text old new = (count : ℕ) × Appends old new (take count text)

@@ -1,33 +1,22 @@
-use Rattle.std.proofs.Common.{ℕ, List, [], ◌∷◌, ◌++◌, take, drop, ◌+◌, get_or, refl, sym, ap, ◌∙◌, subst}
-use Rattle.std.proofs.lemmas.List.{append_assoc, append-nil, take-append-drop, take_more}
-use Rattle.gl_served.specs.CutLines.{ServesTo, WroteFront}
-use Rattle.gl_served.proofs.CutLines.{front_further}
+use Rattle.std.proofs.Common.{◌≡◌, ◌++◌, ℕ, List, Option}
+use Rattle.std.proofs.lemmas.Result.{on_err_weaker}
+use Rattle.gl_served.specs.CutLines.{ServesTo, WroteFront, WrotePart}
+use Rattle.gl_served.proofs.CutLines.{front_at, serves_on}
 use Rattle.gl_served.proofs.serving.Reading.take.Goals as goal
 
-pub loop-byte-init : goal.loop-byte-init
-loop-byte-init g c = (
-  refl,
-  λ start before serves.
-      subst (λ (b : List ℕ). ServesTo start (g.K.Sink.held c.args.sink.now) c.args.served.now c.args.self.now.line.items c.args.self.now.answered b) (sym (append-nil before)) serves,
-)
+pub returns-in-Ok-clause-served : goal.returns-in-Ok-clause-served
+returns-in-Ok-clause-served g c = λ start before serves.
+    let then = c.in-Ok.ensures.served start before serves in
+    serves_on c.take_all.new.self.line.items c.send.new.self.line.items c.take_all.new.self.answered c.send.new.self.answered c.send.ensures.line c.send.ensures.answered c.send.result start (g.K.Sink.held c.send.new.sink) c.take_all.new.served
+    c.send.new.self.waiting.items (before ++ c.args.bytes.now) then.frames then.has (c.send.ensures.sent start then.frames then.sent)
 
-pub loop-byte-preserved : goal.loop-byte-preserved
-loop-byte-preserved g c = (
-  c.in-Ok.ensures.no_fault ∙ c.loop-byte.invariant.0,
-  λ start before serves.
-      let at : ℕ = c.loop-byte.byte-index in
-      let bytes : List ℕ = c.args.bytes.now in
-      subst (λ (b : List ℕ). ServesTo start (g.K.Sink.held c.take_byte.new.sink) c.take_byte.new.served c.take_byte.new.self.line.items c.take_byte.new.self.answered b)
-      (append_assoc before (take at bytes) (get_or bytes at 0 ∷ []) ∙ ap (λ (t : List ℕ). before ++ t) (sym (take_more bytes at 0 c.loop-byte-test.true)))
-      (c.in-Ok.ensures.served start (before ++ take at bytes) (c.loop-byte.invariant.1 start before serves)),
-)
+pub returns-in-Ok-clause-front : goal.returns-in-Ok-clause-front
+returns-in-Ok-clause-front g c = λ start before serves.
+    let then = c.in-Ok.ensures.served start before serves in
+    let now : Option (List ℕ) = g.K.Sink.held c.send.new.sink in
+    let and_has : WrotePart then.frames start now → WroteFront (before ++ c.args.bytes.now) start now =
+    front_at c.take_all.new.served c.take_all.new.self.line.items c.take_all.new.self.answered (before ++ c.args.bytes.now) then.frames then.has start now in
+    on_err_weaker c.send.result and_has (c.send.ensures.front start then.frames then.sent)
 
-pub returns-in-Err-clause-front : goal.returns-in-Err-clause-front
-returns-in-Err-clause-front g c = λ start before serves.
-    let at : ℕ = c.loop-byte.byte-index in
-    let bytes : List ℕ = c.args.bytes.now in
-    let here : WroteFront ((before ++ take at bytes) ++ get_or bytes at 0 ∷ []) start (g.K.Sink.held c.take_byte.new.sink) = c.in-Err.ensures.front start (before ++ take at bytes) (c.loop-byte.invariant.1 start before serves) in
-    subst (λ (b : List ℕ). WroteFront b start (g.K.Sink.held c.take_byte.new.sink))
-    (ap (λ (t : List ℕ). t ++ drop (at + 1) bytes) (append_assoc before (take at bytes) (get_or bytes at 0 ∷ []) ∙ ap (λ (t : List ℕ). before ++ t) (sym (take_more bytes at 0 c.loop-byte-test.true)))
-    ∙ append_assoc before (take (at + 1) bytes) (drop (at + 1) bytes) ∙ ap (λ (t : List ℕ). before ++ t) (take-append-drop (at + 1) bytes))
-    (front_further start (g.K.Sink.held c.take_byte.new.sink) ((before ++ take at bytes) ++ get_or bytes at 0 ∷ []) (drop (at + 1) bytes) here)
+pub returns-in-Ok-clause-whole : goal.returns-in-Ok-clause-whole
+returns-in-Ok-clause-whole g c = λ start before serves is. absurd (c.send.ensures.no_memory is)
