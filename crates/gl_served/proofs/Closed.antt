@@ -1,5 +1,5 @@
 -- Once all open files are closed, in whatever order, none is open.
-use Rattle.std.proofs.Common.{◌≡◌, ◌<◌, ◌+◌, ℕ, Bool, true, false, cond, List, [], ◌∷◌, ◌++◌, length, get_or, map, take, OnOk, Option, None, Some, Result, Ok, Err, refl, sym, ◌∙◌, ap, subst, inl, inr}
+use Rattle.std.proofs.Common.{◌≡◌, ◌<◌, ◌+◌, ℕ, Bool, true, false, cond, List, [], ◌∷◌, ◌++◌, length, get_or, map, take, OnErr, OnOk, Option, None, Some, Result, Ok, Err, refl, sym, ◌∙◌, ap, subst, inl, inr}
 use Rattle.std.specs.Prelude.{◌==◌, nat_lt}
 use Rattle.std.proofs.lemmas.Bool.{cases_Bool, eq-eqb, eqb-true}
 use Rattle.std.proofs.lemmas.List.{take_more}
@@ -15,7 +15,7 @@ use Rattle.gl_check.specs.One.{PlannedPort, Standing, from_plan, performs, perfo
 use Rattle.gl_script.specs.declared.served.Stage.{Stage}
 use Rattle.gl_talk.specs.declared.talk.Talk.{Talk}
 use Rattle.gl_served.specs.Alone.{StandsAs}
-use Rattle.gl_served.specs.Closing.{IsEnded, all_closed, closes, is_before, is_row_before}
+use Rattle.gl_served.specs.Closing.{IsEnded, all_closed, closes, front_closed, is_before, is_row_before}
 use Rattle.gl_served.specs.Served.{Accepted, carried_out}
 use Rattle.gl_served.specs.declared.alone.Alone.{Alone}
 use Rattle.gl_served.specs.declared.under_way.UnderWay.{UnderWay}
@@ -120,3 +120,9 @@ pub ended_so : {T : Type 0} (result : Result T Errno) (a : Alone) (said : Accept
     → OnOk result (IsEnded said (record { stage = stage; talk = talk; count = count; alone = a; under_way = under_way }))
 ended_so (Ok value) a said stage talk count under_way stands none = record { stands = stands; none_open = none }
 ended_so (Err errno) a said stage talk count under_way stands none = tt
+
+-- and a front of them
+pub front_in_order : {T : Type 0} (result : Result T Errno) (rows sorted : List FileRow) (s : Standing PlannedPort) (a : Alone) → sorted ≡ ordered is_row_before rows → map row_file rows ≡ s.files
+    → OnErr result ((count : ℕ) × StandsAs a (closes (take count (map row_file sorted)) s)) → OnErr result ((count : ℕ) × StandsAs a (front_closed count s))
+front_in_order result rows sorted s a is files closed =
+    subst (λ (l : List OpenFile). OnErr result ((count : ℕ) × StandsAs a (closes (take count l) s))) (ap (map row_file) is ∙ files_in_order rows ∙ ap (ordered is_before) files) closed

@@ -105,7 +105,7 @@ pub ends_next : (p : Program Names) (left : Left Names) (value : Names) → Goes
 ends_next p left value goes is = subst (λ l. Goes p End l) is goes ∙ ap (λ l. left_by l (Told None)) (sym is)
 
 -- the code stands as it did
-stands_same : (a b : Alone) (s : Standing PlannedPort) → alone_in b ≡ alone_in a → StandsAs a s → StandsAs b s
+pub stands_same : (a b : Alone) (s : Standing PlannedPort) → alone_in b ≡ alone_in a → StandsAs a s → StandsAs b s
 stands_same a b s is stands = record {
   world = subst (λ (v : AloneValue). StandsFor v.core s.world) (sym is) stands.world;
   files = ap (λ (v : AloneValue). v.files) is ∙ stands.files;

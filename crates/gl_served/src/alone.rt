@@ -1,6 +1,6 @@
 //! The machine with its one actor: the open files, and the answers of its driver.
 
-ghost use Rattle.std.specs.Prelude.{vec_len, vec_capacity, ◌≡◌, ◌+◌, ◌≤◌, [], map, IfOk, OnOk, OnErr, IsOkUnless, List};
+ghost use Rattle.std.specs.Prelude.{vec_len, vec_capacity, ◌≡◌, ◌+◌, ◌≤◌, ℕ, [], map, take, IfOk, OnOk, OnErr, IsOkUnless, List};
 ghost use Rattle.gl_asking.specs.Asking.{asking, file_for, files_behind, got_of};
 ghost use Rattle.gl_asking.specs.Changes.{NamesMade, OpensWithin};
 ghost use Rattle.gl_asking.specs.Files.{OpenFile};
@@ -14,7 +14,7 @@ ghost use Rattle.gl_check.specs.One.{PlannedPort, Standing, from_plan, performs}
 ghost use Rattle.gl_check.specs.Ports.{unplanned};
 ghost use Rattle.gl_check.specs.Seating.{port_in};
 ghost use Rattle.gl_served.specs.Alone.{StandsAs, alone_in};
-ghost use Rattle.gl_served.specs.Closing.{all_closed, closes};
+ghost use Rattle.gl_served.specs.Closing.{all_closed, closes, front_closed};
 
 use crate::closing::in_order;
 use crate::making::{Made, make};
@@ -82,12 +82,14 @@ impl Alone {
         }
     }
 
-    /// Closes the open files, in the order of their numbers.
+    /// Closes the open files, in the order of their numbers. `NoMemory` alone is refused: then so many of them are closed, those with the
+    /// lowest numbers.
     pub fn close_all(&mut self, alloc: Global) -> Result<(), Errno>
         requires rows { Each IsRow self.old.rows.items }
         ensures rows { Each IsRow self.new.rows.items }
         ensures closed { (s : Standing PlannedPort) → StandsAs self.old s → OnOk result (StandsAs self.new (all_closed s)) }
         ensures none_open { OnOk result (self.new.rows.items ≡ []) }
+        ensures front { (s : Standing PlannedPort) → StandsAs self.old s → OnErr result ((count : ℕ) × StandsAs self.new (front_closed count s)) }
         ensures memory_alone { IsOkUnless result Errno.NoMemory }
     {
         core_is_well_kept(&self.core);
@@ -100,6 +102,7 @@ impl Alone {
         requires rows { Each IsRow self.old.rows.items }
         ensures rows { Each IsRow self.new.rows.items }
         ensures closed { (s : Standing PlannedPort) → StandsAs self.old s → OnOk result (StandsAs self.new (closes (map row_file rows.now) s)) }
+        ensures front { (s : Standing PlannedPort) → StandsAs self.old s → OnErr result ((count : ℕ) × StandsAs self.new (closes (take count (map row_file rows.now)) s)) }
         ensures memory_alone { IsOkUnless result Errno.NoMemory }
     {
         for row in rows {

@@ -9,7 +9,8 @@ ghost use Rattle.gl_script.specs.Served.{IsSaid, Statement, kind_in, kinds};
 ghost use Rattle.gl_talk.specs.Open.{Names};
 ghost use Rattle.gl_talk.specs.Talk.{left, names_in};
 ghost use Rattle.gl_check.specs.One.{PlannedPort, Standing};
-ghost use Rattle.gl_served.specs.Closing.{IsEnded};
+ghost use Rattle.gl_served.specs.Alone.{StandsAs};
+ghost use Rattle.gl_served.specs.Closing.{IsEnded, all_closed, front_closed};
 ghost use Rattle.gl_debounce.specs.Earliest.{earliest};
 ghost use Rattle.gl_served.specs.Questions.{IsData, IsReply, data_kind, due_text, question_of, stands_for};
 ghost use Rattle.gl_served.specs.Served.{Accepted, IsAnswer, Keeps, carried_out, counted, kind_after, limited, nothing_accepted};
@@ -431,11 +432,14 @@ impl Served {
         going.did(what, got)
     }
 
-    /// Closes the files that are open, in the order of their numbers: the session is at its end. `NoMemory` alone is an error: some of them
-    /// may be closed then, and called again it closes the others.
+    /// Closes the files that are open, in the order of their numbers: the session is at its end. `NoMemory` alone is an error: then so many
+    /// of them are closed, those with the lowest numbers, and all else is as it was. Called again it closes the others in the same way.
     pub fn close(&mut self, alloc: Global) -> Result<(), Errno>
         ensures ended { (said : Accepted) → Keeps self.old said → OnOk result (IsEnded said self.new) }
+        ensures closed { (s : Standing PlannedPort) → StandsAs self.old.alone s → OnOk result (StandsAs self.new.alone (all_closed s)) }
         ensures none_open { OnOk result (self.new.alone.rows.items ≡ []) }
+        ensures front { (s : Standing PlannedPort) → StandsAs self.old.alone s → OnErr result ((count : ℕ) × StandsAs self.new.alone (front_closed count s)) }
+        ensures rest { self.new ≡ record self.old { alone = self.new.alone } }
         ensures memory_alone { IsOkUnless result Errno.NoMemory }
     {
         self.alone.close_all(alloc)
