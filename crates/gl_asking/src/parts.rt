@@ -75,7 +75,8 @@ pub fn applies(cmd: u32) -> bool
     }
 }
 
-/// The call is a poll, which no closed guard refuses.
+/// Whether the call is a poll. A closed guard turns a poll away like every other call, but the answer is then 6 (an error and a
+/// hang-up) and no refusal.
 pub fn is_poll(call: &Call) -> bool
     ensures { result ≡ is_poll (Once call.now) }
 {

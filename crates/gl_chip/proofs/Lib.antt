@@ -12,6 +12,8 @@ pub mod RequestedLines
 pub mod CommandCalls
 pub mod CommandResults
 pub mod Telling
+pub mod BroughtMemory
 pub mod OrderedCalls
+pub mod OrderedAnswers
 pub mod FaultyLines
 pub mod Answering

@@ -32,7 +32,7 @@ use Rattle.gl_asking.specs.declared.kinds.FileKind.TheVariants.{Chip}
 use Rattle.gl_asking.specs.Handed.{command_in}
 use Rattle.gl_asking.specs.Rows.{HasLines, is_chip}
 use Rattle.gl_chip.specs.Opened.{LastFinds}
-use Rattle.gl_chip.specs.Orders.{Brings, CouldNot, FitsOrder, HasDone, IsGoneBy, KnowsAfter, KnowsGone, KnowsRemoved}
+use Rattle.gl_chip.specs.Orders.{Brings, CouldNot, DeviceCallTakesMemory, FitsOrder, HasDone, IsGoneBy, KnowsAfter, KnowsGone, KnowsRemoved}
 use Rattle.gl_chip.specs.Removals.{AllDrained, RemovedBy, is_first_call, is_gone_outside, removal_of}
 use Rattle.gl_chip.specs.Steps.{FoundNoRoom}
 use Rattle.gl_chip.specs.Values.{ActorValue, FollowsRelation, OneView, OwnRelation}
@@ -85,14 +85,14 @@ pub number_as : (result : Result Answered Errno) (op wanted : Option Op) → wan
 number_as result op wanted wants h = subst (λ (o : Option Op). IfOk result (λ r. (n : ℕ) → r.reply ≡ Number n → (n < 2 ^ 31) × IsOp o)) (sym wants) h
 
 module _ {P : Type 0} where
-  -- memory was wanted
-  pub wanted : (errno : Errno) (a : ActorValue P) → errno ≡ NoMemory → CouldNot errno a a
-  wanted errno a is = inl (is, refl)
+  -- there was no memory
+  pub wanted : (call : DeviceCall) (errno : Errno) (a : ActorValue P) → (errno ≡ NoMemory) × DeviceCallTakesMemory call → CouldNot call errno a a
+  wanted call errno a is = inl (is.0, is.1, refl)
 
   -- the history was full
-  pub was_full : (result : Result Answered Errno) (a b : ActorValue P) (old new : List ℕ) → IfErr result (λ e. (e ≡ Full) × (new ≡ old) × (b.port ≡ a.port) × FoundNoRoom core a.pass.view b.pass.view)
-      → IfErr result (λ e. CouldNot e a b × (new ≡ old))
-  was_full result a b old new h = if_err result _ _ (λ e k. (inr (k.0, k.2, k.3), k.1)) h
+  pub was_full : (call : DeviceCall) (errno : Errno) (a b : ActorValue P) (old new : List ℕ) → (errno ≡ Full) × (new ≡ old) × (b.port ≡ a.port) × FoundNoRoom core a.pass.view b.pass.view
+      → CouldNot call errno a b × (new ≡ old)
+  was_full call errno a b old new h = (inr (h.0, h.2, h.3), h.1)
 
   pub was_full_removing : (result : Result Reply Errno) (a b : ActorValue P) → b.port ≡ a.port → IfErr result (λ e. (e ≡ Full) × FoundNoRoom core a.pass.view b.pass.view)
       → IfErr result (λ e. (e ≡ Full) × (b.port ≡ a.port) × FoundNoRoom core a.pass.view b.pass.view)

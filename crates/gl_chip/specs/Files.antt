@@ -9,7 +9,7 @@ pub record LineFile : Type 0 where
   pub fd : ℕ
   pub lines : Lines
 
--- the result of a close, without the file that it hands back
-abbrev pub close_result : {F : Type 0} → Result (Unit {0}) (F × Errno) → Result (Unit {0}) Errno
-close_result (Ok done) = Ok done
-close_result (Err refused) = Err refused.1
+-- a result without what comes back beside its error: the file of a close, or the order of a call
+abbrev pub plain_result : {X F : Type 0} → Result X (F × Errno) → Result X Errno
+plain_result (Ok value) = Ok value
+plain_result (Err refused) = Err refused.1

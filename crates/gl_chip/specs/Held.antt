@@ -5,6 +5,8 @@ use Rattle.gl_model.specs.declared.call.Call.{Call}
 use Rattle.gl_model.specs.declared.call.Call.TheVariants.{Close}
 use Rattle.gl_model.specs.declared.device_call.DeviceCall.{DeviceCall}
 use Rattle.gl_model.specs.declared.device_call.DeviceCall.TheVariants.{Once, Removing, Commanding}
+use Rattle.gl_model.specs.declared.reply.Reply.{Reply}
+use Rattle.gl_model.specs.declared.reply.Reply.TheVariants.{Refused}
 use Rattle.gl_asking.specs.Asking.{asking, file_for}
 use Rattle.gl_asking.specs.Files.{OpenFile}
 use Rattle.gl_asking.specs.Rows.{file_of, kind_of}
@@ -33,6 +35,17 @@ abbrev pub is_given_up : Handed → Bool
 is_given_up Nothing = false
 is_given_up (Lent file) = false
 is_given_up (GivenUp file) = true
+
+-- the file that was given up, if one was
+abbrev pub given_up_in : Handed → Option FileRow
+given_up_in Nothing = None
+given_up_in (Lent file) = None
+given_up_in (GivenUp file) = Some file
+
+-- the file that comes back after a call with this reply: one that was given up to it, where it was refused
+abbrev pub given_back : Handed → Reply → Option FileRow
+given_back handed (Refused errno) = given_up_in handed
+given_back handed _ = None
 
 -- the call closes a file
 abbrev pub is_closing : Call → Bool

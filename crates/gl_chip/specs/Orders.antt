@@ -7,6 +7,7 @@ use Rattle.gl_driver.specs.declared.map.Map.{Map}
 use Rattle.gl_driver.specs.Told.{Told}
 use Rattle.gl_base.specs.declared.op.Op.{Op}
 use Rattle.gl_uapi.specs.Command.{command_of}
+use Rattle.gl_uapi.specs.declared.commands.Command.TheVariants.{SetConfig}
 use Rattle.gl_uapi.specs.declared.layout.TheConstants.{LINE_REQUEST_SIZE}
 use Rattle.gl_gate.specs.Calls.{KnowsClosed, KnowsDrained, KnowsTheSame}
 use Rattle.gl_model.specs.declared.device_call.CommandIn.{CommandIn}
@@ -29,15 +30,19 @@ use Rattle.gl_asking.specs.Fitting.{FitsDevice}
 use Rattle.gl_asking.specs.Handed.{command_in}
 use Rattle.gl_asking.specs.Rows.{HasLines, is_chip}
 use Rattle.gl_chip.specs.declared.held.Answer.{Answer}
+use Rattle.gl_chip.specs.declared.orders.Order.{Order}
+use Rattle.gl_chip.specs.Answering.{AnswersInOrder, ConfiguresInOrder, RequestsInOrder, WasLetIn}
 use Rattle.gl_chip.specs.Called.{HasCalled}
 use Rattle.gl_chip.specs.Calling.{Answers, KnowsBy, WroteBy}
-use Rattle.gl_chip.specs.DriverCommands.{HasCommanded, IsOp}
+use Rattle.gl_chip.specs.DriverCommands.{HasCommanded, IsOp, TakesMemory}
 use Rattle.gl_asking.specs.Driving.{op_for}
+use Rattle.gl_asking.specs.Results.{value_of}
 use Rattle.gl_chip.specs.Opened.{LastFinds}
 use Rattle.gl_chip.specs.Removals.{AllDrained, RemovedBy, is_gone_outside}
 use Rattle.gl_chip.specs.Steps.{FoundNoRoom}
 use Rattle.gl_chip.specs.Values.{ActorValue, FollowsRelation, OneView, OwnRelation}
 use Rattle.gl_core.specs.Device.{core}
+use Rattle.gl_core.specs.Memory.{CallTakesMemory}
 
 -- the lines that a command is on: on a chip those that its structure names, on a request the request's
 abbrev pub lines_on : FileKind → CommandIn → Lines
@@ -132,14 +137,43 @@ KnowsAfter (Once call) result v w = KnowsBy (guarded_place call) v w
 KnowsAfter (Removing removal) result v w = IfOk result (λ r. KnowsRemoved removal r.reply v w)
 KnowsAfter (Commanding c) result v w = IfOk result (λ r. r.reply ≡ guard_reply false → KnowsClosed w c.place)
 
--- what a device's answer says, if there is one
-abbrev pub answered_of : Result Answer Errno → Result Answered Errno
+-- what a device's answer says, if there is one, without the order that comes back where there is none
+abbrev pub answered_of : Result Answer (Order × Errno) → Result Answered Errno
 answered_of (Ok answer) = Ok answer.answered
-answered_of (Err errno) = Err errno
+answered_of (Err refused) = Err refused.1
 
--- A call wasn't made: memory was wanted, and nothing was done; or the history was full.
-abbrev pub CouldNot : {P : Type 0} → Errno → ActorValue P → ActorValue P → Type 0
-CouldNot errno a b = ((errno ≡ NoMemory) × (b ≡ a)) ⊎ ((errno ≡ Full) × (b.port ≡ a.port) × FoundNoRoom core a.pass.view b.pass.view)
+-- Memory is taken before an open, and before a request of lines whose bytes alone don't have it refused. No other call takes memory.
+abbrev pub DeviceCallTakesMemory : DeviceCall → Type 0
+DeviceCallTakesMemory (Once call) = CallTakesMemory call
+DeviceCallTakesMemory (Removing removal) = ⊥
+DeviceCallTakesMemory (Commanding c) = TakesMemory c
+
+-- A call was not made: it takes memory, there was none, and nothing was done; or the history was full.
+abbrev pub CouldNot : {P : Type 0} → DeviceCall → Errno → ActorValue P → ActorValue P → Type 0
+CouldNot call errno a b = ((errno ≡ NoMemory) × DeviceCallTakesMemory call × (b ≡ a)) ⊎ ((errno ≡ Full) × (b.port ≡ a.port) × FoundNoRoom core a.pass.view b.pass.view)
+
+-- what a reply comes to: why the call was refused, or the reply itself
+abbrev pub outcome_of : Reply → Result Reply Errno
+outcome_of reply = value_of (λ r. r) reply
+
+-- A command that asks the driver, and that its guard let in, is answered by its ask or by its tell.
+abbrev pub AnswersByEntries : DeviceCall → Reply → OneView → OneView → Type 0
+AnswersByEntries (Once call) reply v w = Unit {0}
+AnswersByEntries (Removing removal) reply v w = Unit {0}
+AnswersByEntries (Commanding c) reply v w =
+    is_driver_asked c.of_chip c.len (command_of c.cmd) ≡ true → WasLetIn (outcome_of reply) → AnswersInOrder outcome_of (outcome_of reply) v w c
+
+-- Why such a command is refused, by what its file is of: on a chip it is GET_LINE; of those on a request SET_CONFIG looks at the lines.
+abbrev pub CommandRefusedInOrder : Type 0 → FileKind → Reply → OneView → OneView → CommandIn → Type 0
+CommandRefusedInOrder Counted Chip reply v w c = RequestsInOrder Counted (outcome_of reply) v w c
+CommandRefusedInOrder Counted (Request lines) reply v w c = command_of c.cmd ≡ Some SetConfig → ConfiguresInOrder Counted (outcome_of reply) w c
+
+-- the same of any call
+abbrev pub RefusedInOrder : Type 0 → DeviceCall → FileKind → Reply → OneView → OneView → Type 0
+RefusedInOrder Counted (Once call) on reply v w = Unit {0}
+RefusedInOrder Counted (Removing removal) on reply v w = Unit {0}
+RefusedInOrder Counted (Commanding c) on reply v w =
+    is_driver_asked c.of_chip c.len (command_of c.cmd) ≡ true → WasLetIn (outcome_of reply) → CommandRefusedInOrder Counted on reply v w c
 
 module _ {P : Type 0} (told : P → Option Told) (faults : P → ℕ) (maps : P → List Map) (maps_left : P → ℕ) (Own : OwnRelation) (Follows : FollowsRelation) (limit : ℕ) where
   -- What a call did, by what it is. One call of the machine and a removal leave the port as it was, and each place whose removal

@@ -4,7 +4,7 @@ ghost use Rattle.std.specs.Prelude.{◌≡◌, IfErr, IfOk};
 ghost use Rattle.gl_base.specs.declared.errno.Errno.TheVariants.{NoMemory};
 ghost use Rattle.gl_model.specs.declared.device_call.DeviceCall.TheVariants.{Commanding};
 ghost use Rattle.gl_chip.specs.DriverCommands.{TakesMemory};
-ghost use Rattle.gl_chip.specs.Orders.{Brings};
+ghost use Rattle.gl_chip.specs.Orders.{Brings, DeviceCallTakesMemory};
 
 use gl_base::Errno;
 use gl_core::Gift;
@@ -13,10 +13,10 @@ use gl_model::{CommandIn, DeviceCall, is_driver_asked};
 use std::alloc::Global;
 
 /// What a call brings: an open a queue, GET_LINE a ring and what its bytes ask for, and any other call nothing. `NoMemory` is its only
-/// error.
+/// error, and comes only where the call takes memory.
 pub(crate) fn brought(call: &DeviceCall, alloc: Global) -> Result<Gift, Errno>
     ensures ok { IfOk result (Brings call.now) }
-    ensures memory { IfErr result (λ e. e ≡ NoMemory) }
+    ensures memory { IfErr result (λ e. (e ≡ NoMemory) × DeviceCallTakesMemory call.now) }
 {
     match call {
         DeviceCall::Once(call) => gift_for(call, alloc),

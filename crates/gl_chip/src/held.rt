@@ -52,7 +52,7 @@ pub enum Handed<'f> {
 
 impl Handed<'_> {
     ghost use Rattle.std.specs.Prelude.{◌≡◌};
-    ghost use Rattle.gl_chip.specs.Held.{kind_in, row_in};
+    ghost use Rattle.gl_chip.specs.Held.{given_up_in, kind_in, row_in};
 
     /// The row of the file, where there is one.
     pub fn row(&self) -> Option<FileRow>
@@ -62,6 +62,16 @@ impl Handed<'_> {
             Handed::Nothing => None,
             Handed::Lent(file) => Some(*file.row()),
             Handed::GivenUp(file) => Some(*file.row()),
+        }
+    }
+
+    /// The file that was given up, if one was.
+    pub(crate) fn into_given_up(self) -> Option<HeldFile>
+        ensures { result ≡ given_up_in self.entry }
+    {
+        match self {
+            Handed::GivenUp(file) => Some(file),
+            Handed::Nothing | Handed::Lent(_) => None,
         }
     }
 
@@ -88,6 +98,7 @@ pub struct Answer<'o> {
 
 impl Answer<'_> {
     ghost use Rattle.std.specs.Prelude.{◌≡◌};
+    ghost use Rattle.gl_chip.specs.Held.{given_back};
 
     /// The reply of its last entry.
     pub fn reply(&self) -> Reply
@@ -101,6 +112,16 @@ impl Answer<'_> {
         ensures { result.now ≡ self.now.answered }
     {
         &self.answered
+    }
+
+    /// The file of a close that was refused: it is as it was before. `None` of every other answer.
+    pub fn into_file(self) -> Option<HeldFile>
+        ensures { result ≡ given_back self.entry.order.file self.entry.answered.reply }
+    {
+        match self.answered.reply {
+            Reply::Refused(_) => self.order.into_file(),
+            _ => None,
+        }
     }
 }
 

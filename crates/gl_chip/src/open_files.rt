@@ -5,7 +5,7 @@ ghost use Rattle.gl_gate.specs.Calls.{KnowsTheSame};
 ghost use Rattle.gl_model.specs.declared.call.Call.TheVariants.{Close, PollChip as PollChipCall, PollLine as PollLineCall, ReadEdges, ReadInfo};
 ghost use Rattle.gl_model.specs.declared.device_call.DeviceCall.TheVariants.{Once};
 ghost use Rattle.gl_chip.specs.Called.{ComesOut};
-ghost use Rattle.gl_chip.specs.Files.{close_result};
+ghost use Rattle.gl_chip.specs.Files.{plain_result};
 ghost use Rattle.gl_asking.specs.Results.{done_of, number_of, ready_of};
 ghost use Rattle.gl_chip.specs.Values.{IsActorOf, IsSameActor};
 
@@ -137,7 +137,7 @@ impl<D: Driver<Core>> Gpio<D> {
         ensures same { IsSameActor actor.old.pass.view actor.new.pass.view }
         ensures port { actor.new.port ≡ actor.old.port }
         ensures places { KnowsTheSame actor.old.pass.view actor.new.pass.view }
-        ensures called { ComesOut done_of (close_result result) actor.old.pass.view (Once (Close fd.fd)) [] actor.new.pass.view }
+        ensures called { ComesOut done_of (plain_result result) actor.old.pass.view (Once (Close fd.fd)) [] actor.new.pass.view }
         ensures file { IfErr result (λ refused. refused.0 ≡ fd) }
     {
         match self.done_alone(rt, actor, &Call::Close { fd: fd.fd }) {
@@ -160,7 +160,7 @@ impl<D: Driver<Core>> Gpio<D> {
         ensures same { IsSameActor actor.old.pass.view actor.new.pass.view }
         ensures port { actor.new.port ≡ actor.old.port }
         ensures places { KnowsTheSame actor.old.pass.view actor.new.pass.view }
-        ensures called { ComesOut done_of (close_result result) actor.old.pass.view (Once (Close fd.fd)) [] actor.new.pass.view }
+        ensures called { ComesOut done_of (plain_result result) actor.old.pass.view (Once (Close fd.fd)) [] actor.new.pass.view }
         ensures file { IfErr result (λ refused. refused.0 ≡ fd) }
     {
         match self.done_alone(rt, actor, &Call::Close { fd: fd.fd }) {

@@ -1,10 +1,13 @@
 //! Any call of the device, as one value.
 
 ghost use Rattle.std.specs.Prelude.{◌≡◌, ◌≢◌, ◌<◌, ◌^◌, ◌++◌, ℕ, List, length, drop, IfOk, IfErr, IfSome};
+ghost use Rattle.gl_base.specs.Count.{Rises};
 ghost use Rattle.gl_base.specs.Lines.{IsLineCount};
 ghost use Rattle.gl_base.specs.declared.errno.Errno.TheVariants.{Full, NoMemory};
 ghost use Rattle.gl_base.specs.declared.limits.TheConstants.{PLACES};
 ghost use Rattle.gl_world.specs.Deeds.{entries_in};
+ghost use Rattle.gl_world.specs.Events.{DrainedStaysEmpty};
+ghost use Rattle.gl_rule.specs.Laws.{KnownDrainedStaysEmpty};
 ghost use Rattle.gl_model.specs.declared.device_call.DeviceCall.TheVariants.{Commanding, Removing};
 ghost use Rattle.gl_model.specs.declared.reply.Reply.TheVariants.{Number, Refused};
 ghost use Rattle.gl_asking.specs.declared.kinds.FileKind.TheVariants.{Chip};
@@ -14,8 +17,8 @@ ghost use Rattle.gl_asking.specs.Rows.{HasLines, IsOn, is_chip};
 ghost use Rattle.gl_chip.specs.Called.{HasCalled};
 ghost use Rattle.gl_chip.specs.DriverCommands.{HasCommanded, IsOp};
 ghost use Rattle.gl_asking.specs.Driving.{op_for};
-ghost use Rattle.gl_chip.specs.Held.{is_close, is_given_up, kind_in, row_in};
-ghost use Rattle.gl_chip.specs.Orders.{AnswersOrder, Brings, CouldNot, EndsOrder, FitsOrder, GivesLines, GivesOn, HasDone, KnowsAfter, KnowsRemoved, WroteByForm, WroteTo, answered_of, lines_on, op_ordered};
+ghost use Rattle.gl_chip.specs.Held.{given_up_in, is_close, is_given_up, kind_in, row_in};
+ghost use Rattle.gl_chip.specs.Orders.{AnswersByEntries, AnswersOrder, Brings, CouldNot, EndsOrder, FitsOrder, GivesLines, GivesOn, HasDone, KnowsAfter, KnowsRemoved, RefusedInOrder, WroteByForm, WroteTo, answered_of, lines_on, op_ordered};
 ghost use Rattle.gl_driver.specs.Told.{PortAfter};
 ghost use Rattle.gl_core.specs.Device.{tells_in};
 ghost use Rattle.gl_chip.specs.Steps.{FoundNoRoom};
@@ -25,13 +28,15 @@ ghost use Rattle.gl_core.specs.Device.{core};
 use crate::actor::Actor;
 use crate::bringing::brought;
 use crate::gpio::Gpio;
-use crate::held::{Answer, Handed};
+use crate::held::{Answer, Handed, HeldFile};
 use gl_asking::parts::first_call;
 use gl_asking::{Answered, FileKind};
 use gl_base::Errno;
 use gl_core::{Core, Gift, Reply};
 use gl_driver::Driver;
 use gl_model::{CommandIn, DeviceCall, RemovalOf};
+use gl_rule::known_drained_stays_empty;
+use gl_world::drained_stays_empty;
 use std::alloc::Global;
 use std::sync::Wait;
 
@@ -52,8 +57,16 @@ impl<'o> Order<'o> {
         requires given_up { is_given_up file ≡ is_close call.now }
         ensures call { result.call.now ≡ call.now }
         ensures file { row_in result.file ≡ row_in file.entry }
+        ensures given_up { given_up_in result.file ≡ given_up_in file.entry }
     {
         Order { call, file }
+    }
+
+    /// The file that was given up, for a close: an order that comes back from `Gpio::call` was not carried out, so this file is open.
+    pub fn into_file(self) -> Option<HeldFile>
+        ensures { result ≡ given_up_in self.entry.file }
+    {
+        self.file.into_given_up()
     }
 }
 
@@ -179,10 +192,13 @@ impl<D: Driver<Core>> Gpio<D> {
 
     /// A call of the device: one call of the machine, a removal, or a command on an open file with its buffer, which the call may
     /// write. It answers the reply of its last entry, also where that is a refusal, and with it the lines of a request that it made on a
-    /// chip (`lines`).
+    /// chip (`lines`). After a removal nobody is inside its places, then or later, and its second entry is done where its first one was
+    /// (`ended`). What the tell of a command is answered is the answer (`told`), and the first faulty line decides (`first_faulty`).
     ///
     /// An open's queue and the ring of GET_LINE are taken before the first entry. `NoMemory` where one found no memory, and then
-    /// nothing was done; `Full` where the history is full. These two are its only errors.
+    /// nothing was done; no other call answers it. `Full` where the history is full. These two are its only errors. The order comes back
+    /// with them, and with it a file that was given up (`Order::into_file`); of a close that is refused the answer has the file
+    /// (`Answer::into_file`).
     ///
     /// Over a driver that makes no entries of its own, the port becomes what the answers in the call's entries say (`port`).
     pub fn call<'o, R: Wait>(
@@ -192,12 +208,13 @@ impl<D: Driver<Core>> Gpio<D> {
         actor: &mut Actor<D>,
         order: Order<'o>,
         out: &mut [u8],
-    ) -> Result<Answer<'o>, Errno>
+    ) -> Result<Answer<'o>, (Order<'o>, Errno)>
         requires actor { IsActorOf self.now actor.old }
         requires fits { FitsOrder order.call.now (kind_in order.file) out.old }
         ensures actor { IsActorOf self.now actor.new }
         ensures call { IfOk result (λ r. r.order.call.now ≡ order.entry.call.now) }
         ensures file { IfOk result (λ r. row_in r.order.file ≡ row_in order.entry.file) }
+        ensures given_up { IfOk result (λ r. given_up_in r.order.file ≡ given_up_in order.entry.file) }
         ensures same { IsSameActor actor.old.pass.view actor.new.pass.view }
         ensures done { IfOk result (λ r. (bytes : List ℕ) × WroteTo order.entry.call.now bytes out.old out.new
             × HasDone D.Port.told D.Port.faults D.Port.maps D.Port.maps_left D.OwnEntries D.Follows D.ENTRIES order.entry.call.now (kind_in order.entry.file) actor.old r.answered.reply bytes actor.new) }
@@ -206,13 +223,23 @@ impl<D: Driver<Core>> Gpio<D> {
             × PortAfter D.is_planned (op_ordered order.entry.call.now (kind_in order.entry.file)) (tells_in (entries_in called.did)) (D.Port.told actor.old.port) (D.Port.told actor.new.port)) }
         ensures form { IfOk result (λ r. AnswersOrder order.entry.call.now (kind_in order.entry.file) r.answered.reply) }
         ensures lines { IfOk result (λ r. GivesLines order.entry.call.now (kind_in order.entry.file) r.answered) }
+        ensures ended { IfOk result (λ r. EndsOrder order.entry.call.now r.answered.reply actor.old.pass.view actor.new.pass.view) }
+        ensures told { IfOk result (λ r. AnswersByEntries order.entry.call.now r.answered.reply actor.old.pass.view actor.new.pass.view) }
+        ensures first_faulty { IfOk result (λ r. RefusedInOrder (Rises (D.Port.faults actor.old.port) (D.Port.faults actor.new.port)) order.entry.call.now (kind_in order.entry.file) r.answered.reply actor.old.pass.view actor.new.pass.view) }
+        ensures stays_empty { DrainedStaysEmpty core }
+        ensures nobody_inside { KnownDrainedStaysEmpty core }
         ensures places { KnowsAfter order.entry.call.now (answered_of result) actor.old.pass.view actor.new.pass.view }
         ensures not_full { IfOk result (λ r. r.answered.reply ≢ Refused Full) }
         ensures not_memory { IfOk result (λ r. r.answered.reply ≢ Refused NoMemory) }
-        ensures could_not { IfErr result (λ e. CouldNot e actor.old actor.new × (out.new ≡ out.old)) }
+        ensures could_not { IfErr result (λ refused. CouldNot order.entry.call.now refused.1 actor.old actor.new × (out.new ≡ out.old)) }
+        ensures order { IfErr result (λ refused. refused.0 ≡ order.entry) }
     {
+        drained_stays_empty::<Core>();
+        known_drained_stays_empty::<Core>();
+        // What holds of every actor is known once it has told its number.
+        let _before = actor.number();
         match brought(order.call, alloc) {
-            Err(errno) => Err(errno),
+            Err(errno) => Err((order, errno)),
             Ok(mut gift) => {
                 let on = order.file.kind();
                 let ordered = CallOn {
@@ -220,8 +247,11 @@ impl<D: Driver<Core>> Gpio<D> {
                     on: &on,
                 };
                 match self.carry(rt, actor, &ordered, &mut gift, out) {
-                    Ok(answered) => Ok(Answer { order, answered }),
-                    Err(errno) => Err(errno),
+                    Ok(answered) => {
+                        let _after = actor.number();
+                        Ok(Answer { order, answered })
+                    }
+                    Err(errno) => Err((order, errno)),
                 }
             }
         }

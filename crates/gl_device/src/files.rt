@@ -5,7 +5,7 @@ ghost use Rattle.gl_asking.specs.Results.{done_of, number_of, ready_of};
 ghost use Rattle.gl_base.specs.ChipWord.{chip_number_of};
 ghost use Rattle.gl_base.specs.declared.errno.Errno.TheVariants.{Full, NoDev, NoMemory};
 ghost use Rattle.gl_chip.specs.Called.{ComesOut};
-ghost use Rattle.gl_chip.specs.Files.{close_result};
+ghost use Rattle.gl_chip.specs.Files.{plain_result};
 ghost use Rattle.gl_chip.specs.Opened.{LastFinds, names_leaving};
 ghost use Rattle.gl_gate.specs.Calls.{KnowsTheSame};
 ghost use Rattle.gl_model.specs.declared.call.Call.TheVariants.{OpenChip, Close, PollChip as PollChipCall, PollLine as PollLineCall, ReadEdges, ReadInfo};
@@ -82,7 +82,7 @@ impl<D: Driver<Core>> Device<D> {
     pub fn close_chip<R: Wait>(&mut self, rt: &R, fd: ChipFd) -> Result<(), (ChipFd, Errno)>
         ensures port { self.new.port ≡ self.old.port }
         ensures places { KnowsTheSame self.old.pass.view self.new.pass.view }
-        ensures called { ComesOut done_of (close_result result) self.old.pass.view (Once (Close fd.fd)) [] self.new.pass.view }
+        ensures called { ComesOut done_of (plain_result result) self.old.pass.view (Once (Close fd.fd)) [] self.new.pass.view }
         ensures file { IfErr result (λ refused. refused.0 ≡ fd) }
     {
         self.gpio.close_chip(rt, &mut self.actor, fd)
@@ -92,7 +92,7 @@ impl<D: Driver<Core>> Device<D> {
     pub fn close_line<R: Wait>(&mut self, rt: &R, fd: LineFd) -> Result<(), (LineFd, Errno)>
         ensures port { self.new.port ≡ self.old.port }
         ensures places { KnowsTheSame self.old.pass.view self.new.pass.view }
-        ensures called { ComesOut done_of (close_result result) self.old.pass.view (Once (Close fd.fd)) [] self.new.pass.view }
+        ensures called { ComesOut done_of (plain_result result) self.old.pass.view (Once (Close fd.fd)) [] self.new.pass.view }
         ensures file { IfErr result (λ refused. refused.0 ≡ fd) }
     {
         self.gpio.close_line(rt, &mut self.actor, fd)

@@ -19,7 +19,8 @@ use gl_world::Machine;
 use std::sync::Wait;
 
 /// What stands for a chip's hardware. It is asked by a pass that is inside the chip's place and holds no turn,
-/// so that calls of several passes run side by side. A pass whose last entry owes its tell asks the driver where that entry asked. The design of drivers is this project's choice.
+/// so that calls of several passes run side by side. Between the first and the second entry of a command, the place is that of the
+/// command (`OwesAt`). The design of drivers is this project's choice.
 pub trait Driver<M: Machine>: Sync + Drop {
     /// What an actor asks it through.
     type Port: Port;

@@ -18,6 +18,7 @@ use Rattle.gl_asking.specs.declared.kinds.FileKind.{FileKind}
 use Rattle.gl_asking.specs.Driving.{op_for}
 use Rattle.gl_core.specs.Device.{OneDeed, OneEntry}
 use Rattle.gl_chip.specs.Called.{EndsWithLast, HasCalled}
+use Rattle.gl_chip.specs.Files.{plain_result}
 use Rattle.gl_chip.specs.DriverCommands.{PortOf, WasAsked as WasAskedThrough, is_asked}
 use Rattle.gl_chip.specs.Orders.{CouldNot, HasDone, lines_on}
 use Rattle.gl_chip.specs.Values.{ActorValue, FollowsRelation, OneView, OwnRelation}
@@ -140,9 +141,14 @@ module _ {P : Type 0} (told : P → Option Told) (faults : P → ℕ) (kept : P 
               (same_test (entries_in called.did)) (made.2 what);
         }
 
--- a call that wasn't made leaves the port
-not_made_port : {P : Type 0} (errno : Errno) (a b : ActorValue P) → CouldNot errno a b → b.port ≡ a.port
-not_made_port {P} errno a b = ⊎_elim (λ wanted. ap (λ (x : ActorValue P). x.port) wanted.1) (λ full. full.1)
+-- a call that was not made leaves the port
+not_made_port : {P : Type 0} (call : DeviceCall) (errno : Errno) (a b : ActorValue P) → CouldNot call errno a b → b.port ≡ a.port
+not_made_port {P} call errno a b = ⊎_elim (λ wanted. ap (λ (x : ActorValue P). x.port) wanted.2) (λ full. full.1)
+
+-- what holds of a result holds of it without its order
+pub plain_ok : {X O : Type 0} (r : Result X (O × Errno)) (A : X → Type 0) → IfOk r A → IfOk (plain_result r) A
+plain_ok (Ok x) A h = h
+plain_ok (Err e) A h = h
 
 -- what became of a result, by what it says
 pub if_ok : {X E : Type 0} (r : Result X E) (A B : X → Type 0) → ((x : X) → A x → B x) → IfOk r A → IfOk r B
@@ -150,10 +156,10 @@ if_ok (Ok x) A B f h = f x h
 if_ok (Err e) A B f h = h
 
 -- either way the port keeps its maps
-pub maps_stay : {X P : Type 0} (of : P → Maps) (r : Result X Errno) (a b : ActorValue P) (Done : X → Type 0) → ((x : X) → Done x → of b.port ≡ of a.port) → IfOk r Done → (old new : List ℕ)
-    → IfErr r (λ e. CouldNot e a b × (new ≡ old)) → of b.port ≡ of a.port
-maps_stay of (Ok x) a b Done made h old new not_made = made x h
-maps_stay of (Err e) a b Done made h old new not_made = ap of (not_made_port e a b not_made.0)
+pub maps_stay : {X O P : Type 0} (of : P → Maps) (call : DeviceCall) (r : Result X (O × Errno)) (a b : ActorValue P) (Done : X → Type 0) → ((x : X) → Done x → of b.port ≡ of a.port) → IfOk r Done → (old new : List ℕ)
+    → IfErr r (λ e. CouldNot call e.1 a b × (new ≡ old)) → of b.port ≡ of a.port
+maps_stay of call (Ok x) a b Done made h old new not_made = made x h
+maps_stay of call (Err e) a b Done made h old new not_made = ap of (not_made_port call e.1 a b not_made.0)
 
 pub each_more : {A : Type 0} (Q : A → Type 0) (xs : List A) (x : A) → Each Q xs → Q x → Each Q (xs ++ x ∷ [])
 each_more Q [] x h q = (q, tt)
@@ -232,11 +238,11 @@ done_grew told faults kept takes Own Follows limit (Once call) on a b reply byte
 done_grew told faults kept takes Own Follows limit (Removing removal) on a b reply bytes h = h.0.grew.seen
 done_grew told faults kept takes Own Follows limit (Commanding c) on a b reply bytes h = h.called.grew.seen
 
-pub seen_grows : {X P : Type 0} (r : Result X Errno) (a b : ActorValue P) (Done : X → Type 0) → ((x : X) → Done x → StartsWith b.pass.view.seen a.pass.view.seen) → IfOk r Done → (old new : List ℕ)
-    → IfErr r (λ e. CouldNot e a b × (new ≡ old)) → StartsWith b.pass.view.seen a.pass.view.seen
-seen_grows (Ok x) a b Done made h old new not_made = made x h
-seen_grows {X} {P} (Err e) a b Done made h old new not_made =
-    ⊎_elim (λ wanted. subst (λ (x : ActorValue P). StartsWith x.pass.view.seen a.pass.view.seen) (sym wanted.1) ([], sym (append-nil a.pass.view.seen))) (λ full. full.2.grew.seen) not_made.0
+pub seen_grows : {X O P : Type 0} (call : DeviceCall) (r : Result X (O × Errno)) (a b : ActorValue P) (Done : X → Type 0) → ((x : X) → Done x → StartsWith b.pass.view.seen a.pass.view.seen) → IfOk r Done → (old new : List ℕ)
+    → IfErr r (λ e. CouldNot call e.1 a b × (new ≡ old)) → StartsWith b.pass.view.seen a.pass.view.seen
+seen_grows call (Ok x) a b Done made h old new not_made = made x h
+seen_grows {X} {O} {P} call (Err e) a b Done made h old new not_made =
+    ⊎_elim (λ wanted. subst (λ (x : ActorValue P). StartsWith x.pass.view.seen a.pass.view.seen) (sym wanted.2) ([], sym (append-nil a.pass.view.seen))) (λ full. full.2.grew.seen) not_made.0
 
 -- a value that was changed or left
 pub either_way : {X E A : Type 0} (r : Result X E) (P : A → Type 0) (new changed old : A) → OnOk r (new ≡ changed) → OnErr r (new ≡ old) → P changed → P old → P new

@@ -20,6 +20,7 @@ use Rattle.gl_asking.specs.declared.kinds.FileKind.{FileKind}
 use Rattle.gl_asking.specs.Asking.{files_behind, got_of}
 use Rattle.gl_asking.specs.Changes.{IsFilled}
 use Rattle.gl_asking.specs.Driving.{op_asked}
+use Rattle.gl_chip.specs.Files.{plain_result}
 use Rattle.gl_chip.specs.Orders.{CouldNot, WroteTo, op_ordered}
 use Rattle.gl_chip.specs.Steps.{FoundNoRoom}
 use Rattle.gl_chip.specs.Values.{ActorValue, OneView}
@@ -125,11 +126,11 @@ module _ (driver : DriverKind) (what : Do) (v w : OneView) (s : Carried) (told :
   kept_performs reply buffer got r (wrote, performed, filled) gets is =
       subst (λ (x : Got × Carried). HasPerformed driver what v s x.0 w x.1) (λ i. (sym (gets wrote filled) i, sym is i)) performed
 
--- why a call wasn't made
-pub not_made : {X P : Type 0} (result : Result X Errno) (a b : ActorValue P) (old new : List ℕ) → IfErr result (λ e. CouldNot e a b × (new ≡ old))
-    → IfErr result (λ e. (e ≡ NoMemory) ⊎ ((e ≡ Full) × FoundNoRoom core a.pass.view b.pass.view))
-not_made (Ok x) a b old new h = tt
-not_made (Err errno) a b old new h = ⊎_elim (λ wanted. inl wanted.0) (λ full. inr (full.0, full.2)) h.0
+-- why a call was not made
+pub not_made : {X O P : Type 0} (call : DeviceCall) (result : Result X (O × Errno)) (a b : ActorValue P) (old new : List ℕ) → IfErr result (λ e. CouldNot call e.1 a b × (new ≡ old))
+    → IfErr (plain_result result) (λ e. (e ≡ NoMemory) ⊎ ((e ≡ Full) × FoundNoRoom core a.pass.view b.pass.view))
+not_made call (Ok x) a b old new h = tt
+not_made call (Err errno) a b old new h = ⊎_elim (λ wanted. inl wanted.0) (λ full. inr (full.0, full.2)) h.0
 
 -- a vector of n bytes that was lent whole is what it was given back, where that has n bytes again
 pub whole_again : (n : ℕ) (given_back old : List ℕ) → length given_back ≡ n → length old ≡ n → take n (given_back ++ drop (length given_back) old) ≡ given_back

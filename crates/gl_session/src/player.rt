@@ -7,6 +7,7 @@ ghost use Rattle.gl_asking.specs.Asking.{asking, file_for, files_behind};
 ghost use Rattle.gl_asking.specs.Changes.{IsChange, NamesMade, OpensWithin, changed};
 ghost use Rattle.gl_asking.specs.Files.{OpenFile};
 ghost use Rattle.gl_asking.specs.Rows.{IsSomeRow, file_of};
+ghost use Rattle.gl_chip.specs.Files.{plain_result};
 ghost use Rattle.gl_chip.specs.Held.{row_in};
 ghost use Rattle.gl_check.specs.Joining.{Maps, asking_with, is_joined};
 ghost use Rattle.gl_session.specs.Asked.{IsAsked, left_for};
@@ -82,6 +83,16 @@ fn change_by(what: &Do, answer: Answer<'_>) -> Change<HeldFile>
         files_behind(what, answer)
     } else {
         Change::Stays
+    }
+}
+
+/// What a device answered, or why it did not make the call. An order that comes back is let go of: the run ends there.
+fn answer_or_errno<'o>(made: Result<Answer<'o>, (Order<'o>, Errno)>) -> Result<Answer<'o>, Errno>
+    ensures { result ≡ plain_result made.entry }
+{
+    match made {
+        Ok(answer) => Ok(answer),
+        Err((_order, errno)) => Err(errno),
     }
 }
 
@@ -458,7 +469,7 @@ impl<'d, D: Driver<Core>> Player<'d, D> {
         ensures lines { IfOk result (λ r. GivesLines order.entry.call.now (kind_in order.entry.file) r.answered) }
         ensures could_not { IfErr result (λ e. (e ≡ NoMemory) ⊎ ((e ≡ Full) × FoundNoRoom core self.old.view self.new.view)) }
     {
-        self.device.call(rt, alloc, &mut self.actor, order, out)
+        answer_or_errno(self.device.call(rt, alloc, &mut self.actor, order, out))
     }
 
     /// Keeps what an answer says: what becomes of the open files, and a map that it teaches.
