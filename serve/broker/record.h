@@ -16,8 +16,8 @@ struct record {
     struct recent recent;
 };
 
-/* Opens the files that are named; NULL names none. The recent statements stay, those of a new record are none. False, and reported, where one can't be opened; record_close frees
- * what was taken. */
+/* Opens the files that are named; NULL names none. Recent statements stay. False, and reported, where one can't be
+ * opened; record_close frees what was taken. */
 bool record_open(struct record *record, const char *transcript, const char *answers, const struct patience *patience);
 
 /* The process at the other end of a connected socket, and its name at this moment: `?` where it can't be had. */
@@ -28,8 +28,8 @@ struct asker asker_of_process(pid_t pid);
 /* The process of a thread, and its name at this moment. */
 struct asker asker_of_thread(pid_t thread);
 
-/* Adds an accepted line, which is kept as a recent one too, before it the comment `# PID NAME` where another process asks than before; and what a line
- * printed. */
+/* Adds an accepted line, which is kept as a recent one too, before it the comment `# PID NAME` where another process
+ * asks than before; and what a line printed. */
 void record_line(struct record *record, const char *line, size_t length);
 void record_text(struct record *record, const char *text, size_t length);
 

@@ -211,6 +211,8 @@ class ObserversTest(unittest.TestCase):
             follower.wait()
             machine.say("probe late 2", "write panel/live 0", "gpiodetect")
             self.until(observer, "gone gpiochip0\n")
+            machine.say("probe later 1")
+            self.assertNotIn("gone", self.until(observer, "line gpiochip2 0 "))
             machine.close()
             transcript = (Path(folder) / "transcript").read_text()
             again = subprocess.run([program], input=transcript.encode(), capture_output=True, check=True)

@@ -157,8 +157,8 @@ static void test_wrong(void) {
         "wait held 0 1 within", "wait held 0 1 within 5", "wait held 0 1 within 5m", "wait held 0 1 within ms",
         "wait held 0 1 within 1s 2", "wait held 0 1 within 86401s", "wait held 0 1 within 99999999999999999999ms",
         "wait held 0 1 more", "wait released 0 1 by x", "wait level 0 1", "wait level 0 1 2", "wait read 0 1 x",
-        "wait read 0 1 99999999999999999999", "wait opened", "wait opened 0 1 2", "wait gone 0 1",
-        "wait held 0 1\nwithin 1s"};
+        "wait read 0 1 99999999999999999999", "wait opened", "wait opened 0 1 2", "wait gone 0 1", "wait changed 0",
+        "wait changed by x", "wait changed within", "wait held 0 1\nwithin 1s"};
     test("what is no request to wait is told so");
     for (size_t i = 0; i < sizeof wrong / sizeof *wrong; i++)
         CHECK(!say("%s", wrong[i]) && said_none() && strncmp(said(), "refused: ", 9) == 0);
