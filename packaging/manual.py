@@ -155,7 +155,7 @@ def format_page(top: Path) -> str:
     titles = {
         "STATEMENTS": ("Statement", "Cost"),
         "FORMS OF WORDS": ("Form", "Words"),
-        "WHAT THEY ASK AND PRINT": ("Statement", "Without a call", "Asks", "Prints"),
+        "WHAT THEY CALL AND PRINT": ("Statement", "Errors without a call", "Calls", "Prints"),
         "LINES THAT ARE REFUSED": ("KIND", "Comes for", "Column"),
     }
     for title, heads in titles.items():

@@ -22,7 +22,7 @@ from gpioserve import Machine, programs  # noqa: E402
 from gpioserve.errors import NotServed  # noqa: E402
 
 # Seconds that a screen may take to come: a machine may be busy.
-LIMIT = 120
+LIMIT = 500
 CHANGES = 10_000
 LARGE = "\n".join(f"probe chip{number} 512" for number in range(64))
 
