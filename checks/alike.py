@@ -75,7 +75,9 @@ class Maker:
     def renumbered(self) -> List[str]:
         lines = self.text()
         at = self.random.randrange(len(lines))
-        lines[at] = re.sub("[0-9]", lambda digit: self.random.choice((digit[0], digit[0], self.random.choice("0123456789"))), lines[at])
+        lines[at] = re.sub(
+            "[0-9]", lambda digit: self.random.choice((digit[0], digit[0], self.random.choice("0123456789"))), lines[at]
+        )
         return lines
 
     def served(self, lines: List[str]) -> List[str]:
@@ -86,7 +88,9 @@ class Maker:
 
 def ended(program: str, lines: List[str]) -> Ended:
     text = "\n".join(lines).encode("latin1")
-    done = subprocess.run([program], input=text, stdout=subprocess.PIPE, stderr=subprocess.DEVNULL, timeout=SECONDS_MOST, check=False)
+    done = subprocess.run(
+        [program], input=text, stdout=subprocess.PIPE, stderr=subprocess.DEVNULL, timeout=SECONDS_MOST, check=False
+    )
     return Ended(done.returncode, done.stdout)
 
 
@@ -111,7 +115,9 @@ def main() -> int:
             first, second = ended(one, given), ended(other, given)
             if first != second:
                 failed += 1
-                print(f"session {number}: {one}: status {first.status}, {other}: {second.status}; the session is kept as {keep(given)}")
+                print(
+                    f"session {number}: {one}: status {first.status}, {other}: {second.status}; the session is kept as {keep(given)}"
+                )
             else:
                 passed += 1
             if one == pairs[0][0]:

@@ -19,7 +19,15 @@ HEAD = ["session 1", "setup"]
 
 
 # The loads that the program has to carry out in not many more instructions than the plain one, beside that of one actor.
-WITH_AIMS = ("gpiodetect", "256 files, reopen", "gpioinfo", "gpioget by name", "256 files, poll", "ticks", "240 requests, again")
+WITH_AIMS = (
+    "gpiodetect",
+    "256 files, reopen",
+    "gpioinfo",
+    "gpioget by name",
+    "256 files, poll",
+    "ticks",
+    "240 requests, again",
+)
 
 
 @dataclass(frozen=True)
@@ -67,7 +75,9 @@ BOTH_EDGES = 3 << 4
 def request(chip: str, offsets: List[int], name: str, flags: int = INPUT, debounce_us: int = 0) -> str:
     """A statement that requests lines of a chip's file (GET_LINE), each debounced where a period is given."""
     data = struct.pack("<64I", *offsets, *[0] * (64 - len(offsets))) + bytes(32)
-    debounce = struct.pack("<II8sQ", 3, 0, struct.pack("<Q", debounce_us), 2 ** len(offsets) - 1) if debounce_us else b""
+    debounce = (
+        struct.pack("<II8sQ", 3, 0, struct.pack("<Q", debounce_us), 2 ** len(offsets) - 1) if debounce_us else b""
+    )
     data += struct.pack("<QI20x", flags, len(debounce) // 24) + debounce.ljust(240, b"\0")
     data += struct.pack("<II20xi", len(offsets), 0, 0)
     return f"ioctl {chip} GET_LINE {pieces(data)} as {name}"
@@ -91,7 +101,11 @@ def group(number: int) -> List[str]:
     for k in range(ROUNDS):
         line = 4 * number + k % 4
         pull = "pull-down" if k // 4 % 2 else "pull-up"
-        out += [f"write gpiochip0/sim_gpio{line}/pull {pull}", f"gpioget -c 0 {line}", f"read gpiochip0/sim_gpio{line}/value"]
+        out += [
+            f"write gpiochip0/sim_gpio{line}/pull {pull}",
+            f"gpioget -c 0 {line}",
+            f"read gpiochip0/sim_gpio{line}/value",
+        ]
     return out
 
 
@@ -110,7 +124,12 @@ def tree(devices: int = CHIPS, named: int = 14, lines: int = LINES) -> Tuple[Lis
     made, names = [], []
     for device in range(devices):
         bank = f"d{device}/b0"
-        made += [f"mkdir d{device}", f"mkdir {bank}", f"write {bank}/num_lines {lines}", f"write {bank}/label l{device}"]
+        made += [
+            f"mkdir d{device}",
+            f"mkdir {bank}",
+            f"write {bank}/num_lines {lines}",
+            f"write {bank}/label l{device}",
+        ]
         for line in range(named):
             made += [f"mkdir {bank}/line{line}", f"write {bank}/line{line}/name N{device}.{line}"]
             names.append(f"{bank}/line{line}/name")
@@ -130,7 +149,11 @@ def requests() -> Tuple[List[str], List[str]]:
 def debounced() -> List[str]:
     """All lines of eight chips debounced, in requests of 64, and pulled: 4,096 deadlines are waited for."""
     chips, firsts = range(8), range(0, LINES, 64)
-    asked = [request(f"A{chip}", list(range(first, first + 64)), f"R{chip}.{first}", INPUT | BOTH_EDGES, 1000) for chip in chips for first in firsts]
+    asked = [
+        request(f"A{chip}", list(range(first, first + 64)), f"R{chip}.{first}", INPUT | BOTH_EDGES, 1000)
+        for chip in chips
+        for first in firsts
+    ]
     pulled = [f"write gpiochip{chip}/sim_gpio{line}/pull pull-up" for chip in chips for line in range(LINES)]
     return [*probes(LINES, len(chips)), *opened_chips(len(chips)), *asked, *pulled]
 

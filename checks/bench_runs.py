@@ -81,7 +81,9 @@ Asked = Tuple[Tuple[str, ...], bytes]
 def runs(programs: Pair, asked: Asked, before: Sequence[str] = (), times: int = RUNS) -> Tuple[List[Run], List[Run]]:
     """So many runs of each program, one after the other in turn, so that both meet the same machine."""
     words, text = asked
-    pairs = [tuple(run([*before, program, *words], text) for program in (programs.own, programs.peer)) for _ in range(times)]
+    pairs = [
+        tuple(run([*before, program, *words], text) for program in (programs.own, programs.peer)) for _ in range(times)
+    ]
     return [own for own, _ in pairs], [peer for _, peer in pairs]
 
 
@@ -96,7 +98,9 @@ def instructions_of(command: Sequence[object], text: bytes) -> float:
     said = subprocess.run(counted, input=text, stdout=subprocess.DEVNULL, stderr=subprocess.PIPE, check=True).stderr
     found = re.search(rb"Collected : (\d+)", said)
     if not found:
-        sys.exit(f"checks/bench: callgrind doesn't say how many instructions it collected: {said.decode(errors='replace')}")
+        sys.exit(
+            f"checks/bench: callgrind doesn't say how many instructions it collected: {said.decode(errors='replace')}"
+        )
     return int(found[1])
 
 
@@ -130,7 +134,9 @@ def same_answer(programs: Pair, asked: Asked, what: str) -> bytes:
     words, text = asked
     own, peer = (run([program, *words], text) for program in (programs.own, programs.peer))
     if (own.status, own.output) != (peer.status, peer.output):
-        sys.exit(f"{what}: the two programs differ: status {own.status} and {peer.status}, {len(own.output)} and {len(peer.output)} bytes")
+        sys.exit(
+            f"{what}: the two programs differ: status {own.status} and {peer.status}, {len(own.output)} and {len(peer.output)} bytes"
+        )
     if own.status != 0:
         sys.exit(f"{what}: refused: {own.output[:60].decode().strip()}")
     return own.output

@@ -62,9 +62,13 @@ def replaced(changes: Dict[int, bytes]) -> List[bytes]:
 def header_cases() -> Iterator[Case]:
     """Inputs that are refused."""
     lawful = with_header(SESSION, output_of(ENTRIES))
-    rest = lawful[len(b"check 75\n"):]
+    rest = lawful[len(b"check 75\n") :]
     header = Judgment("refused 1 1 header\n", 3)
-    yield Case("one byte more than there may be", lawful + b"\n" * (LONGEST + 1 - len(lawful)), Judgment("refused 0 0 too-long\n", 3))
+    yield Case(
+        "one byte more than there may be",
+        lawful + b"\n" * (LONGEST + 1 - len(lawful)),
+        Judgment("refused 0 0 too-long\n", 3),
+    )
     yield Case("as many bytes as there may be", b"\n" * LONGEST, header)
     for name, line in (
         ("a leading zero", b"check 075\n"),
@@ -89,7 +93,11 @@ def session_cases() -> Iterator[Case]:
     output = output_of(ENTRIES)
     yield Case("no bytes", with_header(b"", output), no_session)
     yield Case("an unknown statement", with_header(SESSION + b"nothing\n", output), no_session)
-    yield Case("a session of one actor", with_header(b"session 1\nsetup\nprobe demo 1\nactor a\ngpiodetect 0\n", output), no_session)
+    yield Case(
+        "a session of one actor",
+        with_header(b"session 1\nsetup\nprobe demo 1\nactor a\ngpiodetect 0\n", output),
+        no_session,
+    )
     yield Case("a session without actors", with_header(b"session 1\nsetup\ngpiodetect\n", b""), no_session)
     yield Case("a session that costs too much", with_header(SESSION + b"gpiodetect\n" * 1563, output), no_session)
 
@@ -122,12 +130,22 @@ def entry_cases() -> Iterator[Case]:
     """Histories whose first entry that isn't lawful has this index, or that end too early."""
 
     def case(name: str, entries: List[bytes], index: int) -> Case:
-        return Case(name, with_header(SESSION, output_of(entries, b"== history %d\n" % len(entries))), Judgment(f"no entry {index}\n", 7))
+        return Case(
+            name,
+            with_header(SESSION, output_of(entries, b"== history %d\n" % len(entries))),
+            Judgment(f"no entry {index}\n", 7),
+        )
 
     # The removal ends while the command is inside the chip.
     yield case(
         "a command behind the removal's end",
-        replaced({3: b"3 2 unplug 0 finish -> ok\n", 4: b"4 1 ioctl 0 3 0x8044b401 68 00*68 -> ok\n", 5: b"5 1 close 3 -> ok\n"}),
+        replaced(
+            {
+                3: b"3 2 unplug 0 finish -> ok\n",
+                4: b"4 1 ioctl 0 3 0x8044b401 68 00*68 -> ok\n",
+                5: b"5 1 close 3 -> ok\n",
+            }
+        ),
         4,
     )
     yield case("no entries", [], 0)
@@ -144,7 +162,7 @@ def entry_cases() -> Iterator[Case]:
 
 def text_cases() -> Iterator[Case]:
     """Histories with texts that aren't theirs."""
-    history = output_of(ENTRIES)[len(FRONT):]
+    history = output_of(ENTRIES)[len(FRONT) :]
     for name, front in (
         ("another number of lines", FRONT.replace(b"(1 lines)", b"(2 lines)")),
         ("a text of the other actor", b"== setup\n== actor a\n== actor b\ngpiochip0 [demo] (1 lines)\n== after\n"),
@@ -164,7 +182,11 @@ def text_cases() -> Iterator[Case]:
         with_header(SESSION, refused.replace(b"gpiochip0 [demo] (1 lines)\n", b"gpiodetect: ENODEV\n")),
         Judgment("yes\n", 0),
     )
-    yield Case("a command that came too late, and what is printed else", with_header(SESSION, refused), Judgment("no text\n", 7))
+    yield Case(
+        "a command that came too late, and what is printed else",
+        with_header(SESSION, refused),
+        Judgment("no text\n", 7),
+    )
 
 
 def cases() -> Iterator[Case]:
@@ -242,14 +264,16 @@ def one_byte(chance: random.Random, output: Output) -> Optional[bytes]:
     entry = bytearray(output.entries[at])
     place = chance.randrange(len(entry) - 1)
     entry[place] = chance.choice([byte for byte in range(32, 127) if byte != entry[place]])
-    return output.text(output.entries[:at] + [bytes(entry)] + output.entries[at + 1:])
+    return output.text(output.entries[:at] + [bytes(entry)] + output.entries[at + 1 :])
 
 
 def swapped(chance: random.Random, output: Output) -> Optional[bytes]:
     """Two entries of one actor change places; of two actors they often may."""
     entries = list(output.entries)
     actor = chance.choice(sorted({actor_of(entry) for entry in entries}))
-    own = [at for at, entry in enumerate(entries) if actor_of(entry) == actor and is_counted(entry) and not is_guard(entry)]
+    own = [
+        at for at, entry in enumerate(entries) if actor_of(entry) == actor and is_counted(entry) and not is_guard(entry)
+    ]
     if len(own) < 2:
         return None
     first = chance.randrange(len(own) - 1)
@@ -282,21 +306,25 @@ def swapped_with_after(_: random.Random, output: Output) -> Optional[bytes]:
 
 def answered_otherwise(chance: random.Random, output: Output) -> Optional[bytes]:
     """The last digit of what a driver answered is another one. What the call is answered may stay legal, but no planned driver answers so."""
-    tells = [at for at, entry in enumerate(output.entries) if entry.split(b" ")[1] == b"tell" and b" 0x" in entry[entry.rindex(b" -> ") - 19:]]
+    tells = [
+        at
+        for at, entry in enumerate(output.entries)
+        if entry.split(b" ")[1] == b"tell" and b" 0x" in entry[entry.rindex(b" -> ") - 19 :]
+    ]
     if not tells:
         return None
     at = chance.choice(tells)
     entry = bytearray(output.entries[at])
     place = entry.rindex(b" -> ") - 1
     entry[place] = chance.choice([digit for digit in b"0123456789abcdef" if digit != entry[place]])
-    return output.text(output.entries[:at] + [bytes(entry)] + output.entries[at + 1:])
+    return output.text(output.entries[:at] + [bytes(entry)] + output.entries[at + 1 :])
 
 
 def dropped(chance: random.Random, output: Output) -> Optional[bytes]:
     """One entry is missing, and the others are numbered anew. It stays where its actor's next one is a refusal: that names no call, so it may be
     the refusal of the call which would be missing, and what is printed the same."""
     at = chance.randrange(len(output.entries))
-    entry, behind = output.entries[at], output.entries[at + 1:]
+    entry, behind = output.entries[at], output.entries[at + 1 :]
     following = next((other for other in behind if actor_of(other) == actor_of(entry)), None)
     if not is_counted(entry) or (following is not None and is_guard(following)):
         return None
@@ -306,7 +334,7 @@ def dropped(chance: random.Random, output: Output) -> Optional[bytes]:
 def doubled(chance: random.Random, output: Output) -> Optional[bytes]:
     """One entry stands twice."""
     at = chance.randrange(len(output.entries))
-    return output.text(output.entries[:at + 1] + output.entries[at:]) if is_counted(output.entries[at]) else None
+    return output.text(output.entries[: at + 1] + output.entries[at:]) if is_counted(output.entries[at]) else None
 
 
 def of_another(chance: random.Random, output: Output) -> Optional[bytes]:
@@ -314,7 +342,11 @@ def of_another(chance: random.Random, output: Output) -> Optional[bytes]:
     at = chance.randrange(len(output.entries))
     actor, rest = output.entries[at].split(b" ", 1)
     other = b"%d" % chance.choice([number for number in range(4) if b"%d" % number != actor])
-    return output.text(output.entries[:at] + [other + b" " + rest] + output.entries[at + 1:]) if is_counted(output.entries[at]) else None
+    return (
+        output.text(output.entries[:at] + [other + b" " + rest] + output.entries[at + 1 :])
+        if is_counted(output.entries[at])
+        else None
+    )
 
 
 def counted_wrong(chance: random.Random, output: Output) -> Optional[bytes]:
@@ -329,7 +361,7 @@ def text_dropped(chance: random.Random, output: Output) -> Optional[bytes]:
     if not texts:
         return None
     at = chance.choice(texts)
-    return output.text(front=output.front[:at] + output.front[at + 1:])
+    return output.text(front=output.front[:at] + output.front[at + 1 :])
 
 
 def text_moved(chance: random.Random, output: Output) -> Optional[bytes]:
@@ -338,7 +370,7 @@ def text_moved(chance: random.Random, output: Output) -> Optional[bytes]:
     if not texts:
         return None
     at = chance.choice(texts)
-    rest = output.front[:at] + output.front[at + 1:]
+    rest = output.front[:at] + output.front[at + 1 :]
     behind = chance.choice([place for place, line in enumerate(rest) if line.startswith(b"== ")]) + 1
     return output.text(front=rest[:behind] + [output.front[at]] + rest[behind:])
 
@@ -349,7 +381,7 @@ def header_changed(chance: random.Random, output: Output) -> Optional[bytes]:
     line = bytearray(output.front[at])
     place = chance.randrange(len(line) - 1)
     line[place] = chance.choice([byte for byte in b"abcxyz0129=-_" if byte != line[place]])
-    return output.text(front=output.front[:at] + [bytes(line)] + output.front[at + 1:])
+    return output.text(front=output.front[:at] + [bytes(line)] + output.front[at + 1 :])
 
 
 WAYS = [
@@ -428,7 +460,10 @@ def main() -> int:
         tried += 1
         names.add(other.name)
         got = judged(other.text)
-        count(other.is_told_by(got), f"{other.name}: {got}, expected one of {other.beginnings}, of\n{other.text.decode('latin-1')}")
+        count(
+            other.is_told_by(got),
+            f"{other.name}: {got}, expected one of {other.beginnings}, of\n{other.text.decode('latin-1')}",
+        )
     count(runs < RUNS or tried >= SPOILT, f"{tried} spoilt outputs, wanted {SPOILT}")
     for way in WAYS:
         found = len([name for name in names if name.endswith(", " + way.spoil.__name__)])

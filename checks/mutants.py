@@ -26,7 +26,9 @@ PARTS = ("src", "specs", "proofs")
 MEMORY_OF_A_CHECK = 4_000_000_000
 # what the prover says of a function that it refuses by itself, where it has a proof by hand without the goals; and behind that, that the
 # function calls one that isn't proved
-REFUSED = re.compile(r"(?:not proved|no proof: expected [^;]*; `search` did not prove (?P<goals>[^;]*))(?:; it calls [^;]*)?")
+REFUSED = re.compile(
+    r"(?:not proved|no proof: expected [^;]*; `search` did not prove (?P<goals>[^;]*))(?:; it calls [^;]*)?"
+)
 # what it says of a function that is well itself, by hand or not
 WELL = re.compile(r"proved\b.*|no proof: it calls [^;]*, which (?:is|are) not proved")
 # what it says of a text of src/ or specs/ that it can't read: a mutant that makes a statement false reads well
@@ -37,7 +39,9 @@ UNREAD = re.compile(
 # what it says where it met a limit of its own
 LIMIT = re.compile(r"antt ran out of|outgrew the memory limit|stopped at the step limit|could not tell")
 # where an item begins, with its name where it is a function
-ITEM = re.compile(r"^\s*(?:#\[derive|(?:pub(?:\(\w+\))? )?(?:(?:const )?fn (\w+)|(?:const|static|struct|enum|trait|type|impl)\b))")
+ITEM = re.compile(
+    r"^\s*(?:#\[derive|(?:pub(?:\(\w+\))? )?(?:(?:const )?fn (\w+)|(?:const|static|struct|enum|trait|type|impl)\b))"
+)
 
 
 class Stop(Exception):
@@ -70,7 +74,7 @@ class Mutant:
 
 def function_at(text: str, old: str) -> str:
     """The name of the function that a line of a file stands in; none where that is another item."""
-    front = text[:text.find(old) + len(old)]
+    front = text[: text.find(old) + len(old)]
     names = [found[1] for line in front.splitlines() if (found := ITEM.match(line))]
     return (names[-1] or "") if names else ""
 
@@ -135,7 +139,9 @@ def rounds(mutants: Iterable[Mutant]) -> List[List[Mutant]]:
 
 def libraries() -> Dict[str, List[str]]:
     """What each crate uses, by crates.txt."""
-    rows = [line.partition("#")[0].partition(":") for line in (TOP / "crates.txt").read_text(encoding="utf-8").splitlines()]
+    rows = [
+        line.partition("#")[0].partition(":") for line in (TOP / "crates.txt").read_text(encoding="utf-8").splitlines()
+    ]
     return {head.split()[0]: uses.split() for head, _, uses in rows if head.split()}
 
 
@@ -172,7 +178,13 @@ def command(name: str, uses: Dict[str, List[str]]) -> List[str]:
         words += ["--extern", f"{it}={own.get(it, home / 'rlibs')}/{it}.rlib"]
     for folder in [home / "rlibs", *own.values()]:
         words += ["-L", f"dependency={folder}"]
-    return [*words, "--antt-project", str(home / "rattle/logic/antt-project.json"), "--logic-built", str(home / "logic_built")]
+    return [
+        *words,
+        "--antt-project",
+        str(home / "rattle/logic/antt-project.json"),
+        "--logic-built",
+        str(home / "logic_built"),
+    ]
 
 
 def run(words: List[str], folder: Path) -> Tuple[int, str]:
@@ -202,7 +214,11 @@ def results_of(words: List[str], mutants: List[Mutant]) -> List[Tuple[Mutant, bo
     several doesn't show it are tried by themselves."""
     status, output = output_of(words, mutants)
     fates = re.findall(r"(?m)^fn (\S+): (.*)$", output)
-    wrong = [f"{name}: {fate}" for name, fate in fates if not WELL.fullmatch(fate) and not any(name.endswith(f"::{it.function}") for it in mutants)]
+    wrong = [
+        f"{name}: {fate}"
+        for name, fate in fates
+        if not WELL.fullmatch(fate) and not any(name.endswith(f"::{it.function}") for it in mutants)
+    ]
     wrong += [found[0] for found in (LIMIT.search(output), UNREAD.search(output)) if found]
     results = []
     for mutant in mutants:
@@ -254,7 +270,10 @@ def main() -> int:
         for results in pool.map(lambda check: results_of(*check), checks):
             for mutant, killed, reason in results:
                 passed, failed = passed + killed, failed + (not killed)
-                print(f"{mutant.crate}/{mutant.name}: {'' if killed else 'NOT '}killed by {mutant.function}{': ' if reason else ''}{reason}", flush=True)
+                print(
+                    f"{mutant.crate}/{mutant.name}: {'' if killed else 'NOT '}killed by {mutant.function}{': ' if reason else ''}{reason}",
+                    flush=True,
+                )
     print(f"{passed} passed, {failed} failed")
     return 1 if failed else 0
 

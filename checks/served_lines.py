@@ -58,8 +58,8 @@ def answers_in(frames: bytes) -> List[Tuple[bytes, bytes]]:
         mark, length = head.split(b" ")
         if len(frames) < int(length):
             raise ValueError("a frame is cut off")
-        answers.append((mark, frames[:int(length)]))
-        frames = frames[int(length):]
+        answers.append((mark, frames[: int(length)]))
+        frames = frames[int(length) :]
     return answers
 
 
@@ -110,9 +110,30 @@ class Lines(unittest.TestCase):
             self.assertEqual(answers[3], (b"=", b""))
 
     def test_refused_lines_count_as_not_given(self) -> None:
-        lines = [b"setup", b"session 1", b"gpiodetect", b"setup", b"actor a", b"after", b"probe x 0", b"aggregate x 0/1", b"nonsense", b"gpiodetect"]
-        refused = [b"refused 1 1 header\n", b"", b"refused 3 1 section\n", b"", b"refused 5 1 section\n", b"refused 6 1 section\n",
-                   b"refused 7 9 word\n", b"refused 8 13 word\n", b"refused 9 1 statement\n", b""]
+        lines = [
+            b"setup",
+            b"session 1",
+            b"gpiodetect",
+            b"setup",
+            b"actor a",
+            b"after",
+            b"probe x 0",
+            b"aggregate x 0/1",
+            b"nonsense",
+            b"gpiodetect",
+        ]
+        refused = [
+            b"refused 1 1 header\n",
+            b"",
+            b"refused 3 1 section\n",
+            b"",
+            b"refused 5 1 section\n",
+            b"refused 6 1 section\n",
+            b"refused 7 9 word\n",
+            b"refused 8 13 word\n",
+            b"refused 9 1 statement\n",
+            b"",
+        ]
         self.assertEqual([text for _, text in answered(lines)[0]], refused)
 
     def test_questions(self) -> None:
@@ -128,15 +149,20 @@ class Lines(unittest.TestCase):
 
     def test_words(self) -> None:
         """`--help` is answered, and any other words are the usage; then nothing is read."""
-        for words, status, front in ((["--help"], 0, b"gpioserved: "), (["--hel"], 2, b"usage\n"), (["--help", "me"], 2, b"usage\n"), (["\udcff"], 2, b"usage\n")):
+        for words, status, front in (
+            (["--help"], 0, b"gpioserved: "),
+            (["--hel"], 2, b"usage\n"),
+            (["--help", "me"], 2, b"usage\n"),
+            (["\udcff"], 2, b"usage\n"),
+        ):
             with self.subTest(words=words):
                 done = subprocess.run([*program(), *words], input=b"session 1\n", stdout=subprocess.PIPE, check=False)
-                self.assertEqual((done.returncode, done.stdout[:len(front)]), (status, front))
+                self.assertEqual((done.returncode, done.stdout[: len(front)]), (status, front))
                 self.assertEqual(done.stdout == front, status == 2)
 
     def test_many_lines_in_the_memory_of_few(self) -> None:
         turn = b"open chip gpiochip0\npoll chip\ngpioget -c 0 1\nclose chip\n"
-        wanted = b"= 0\n= 2\n-\n= 13\n\"1\"=inactive\n= 0\n"
+        wanted = b'= 0\n= 2\n-\n= 13\n"1"=inactive\n= 0\n'
         with subprocess.Popen(program(), stdin=subprocess.PIPE, stdout=subprocess.PIPE) as process:
             assert process.stdin is not None and process.stdout is not None
             process.stdin.write(b"session 1\nsetup\nprobe demo 4\n")
@@ -163,7 +189,9 @@ class ShortOfMemory(unittest.TestCase):
         folder = tempfile.TemporaryDirectory()
         self.addCleanup(folder.cleanup)
         self.library, self.count = Path(folder.name) / "refuse.so", Path(folder.name) / "count"
-        subprocess.run([compiler, "-shared", "-fPIC", "-O1", "-o", self.library, TOP / "serve/tests/refuse.c"], check=True)
+        subprocess.run(
+            [compiler, "-shared", "-fPIC", "-O1", "-o", self.library, TOP / "serve/tests/refuse.c"], check=True
+        )
 
     def runs(self, command: List[str], text: bytes) -> Iterator["subprocess.CompletedProcess[bytes]"]:
         """A run in which nothing is refused, and one for each allocation that it made, which is refused there."""
@@ -222,7 +250,9 @@ def give(pipe: IO[bytes], lines: bytes, times: int) -> None:
 
 def main() -> int:
     loader = unittest.defaultTestLoader
-    tests = unittest.TestSuite((loader.loadTestsFromModule(sys.modules[__name__]), loader.discover(str(TOP / "examples/serve"), "button.py")))
+    tests = unittest.TestSuite(
+        (loader.loadTestsFromModule(sys.modules[__name__]), loader.discover(str(TOP / "examples/serve"), "button.py"))
+    )
     done = unittest.TextTestRunner(verbosity=0).run(tests)
     failed, left_out = len(done.failures) + len(done.errors), len(done.skipped)
     for _, reason in done.skipped:

@@ -41,8 +41,23 @@ int main(void) {
   return write(1, &request, sizeof request) != sizeof request;
 }
 """
-WORDS = ["get-line", "3", "300", "--consumer", "panel", "--flags", "INPUT,EDGE_RISING", "--attribute", "flags:OUTPUT,OPEN_DRAIN:0",
-         "--attribute", "values:0=1,1=0", "--attribute", "debounce:5000:1", "--event-buffer-size", "32"]
+WORDS = [
+    "get-line",
+    "3",
+    "300",
+    "--consumer",
+    "panel",
+    "--flags",
+    "INPUT,EDGE_RISING",
+    "--attribute",
+    "flags:OUTPUT,OPEN_DRAIN:0",
+    "--attribute",
+    "values:0=1,1=0",
+    "--attribute",
+    "debounce:5000:1",
+    "--event-buffer-size",
+    "32",
+]
 
 
 def bytes_of(text: str) -> bytes:
@@ -52,25 +67,36 @@ def bytes_of(text: str) -> bytes:
 def raw_statement(start: str) -> str:
     """The pieces of a statement of examples/raw-ioctls.session."""
     lines = (TOP / "examples/raw-ioctls.session").read_text().splitlines()
-    return next(line for line in lines if line.startswith(start))[len(start):].partition(" as ")[0]
+    return next(line for line in lines if line.startswith(start))[len(start) :].partition(" as ")[0]
 
 
 class StructuresTest(unittest.TestCase):
     def test_pieces_are_those_of_the_example(self) -> None:
-        made = structures.answer_to(["get-line", "0", "1", "--consumer", "panel", "--flags", "INPUT", "--attribute", "flags:OUTPUT:0"])
+        made = structures.answer_to(
+            ["get-line", "0", "1", "--consumer", "panel", "--flags", "INPUT", "--attribute", "flags:OUTPUT:0"]
+        )
         self.assertEqual(bytes_of(made), bytes_of(raw_statement("ioctl chip GET_LINE ")))
-        made = structures.answer_to(["config", "--flags", "ACTIVE_LOW,INPUT", "--attribute", "flags:ACTIVE_LOW,INPUT,BIAS_PULL_UP:1"])
+        made = structures.answer_to(
+            ["config", "--flags", "ACTIVE_LOW,INPUT", "--attribute", "flags:ACTIVE_LOW,INPUT,BIAS_PULL_UP:1"]
+        )
         written = bytes_of(raw_statement("ioctl lines SET_CONFIG "))
         self.assertEqual(len(bytes_of(made)), len(written))
         self.assertEqual(structures.answer_to(["line", "1"]), "00*64 01 00*191")
-        self.assertEqual(bytes_of(structures.answer_to(["values", "0=1", "1=1"])), bytes_of(raw_statement("ioctl lines SET_VALUES ")))
+        self.assertEqual(
+            bytes_of(structures.answer_to(["values", "0=1", "1=1"])), bytes_of(raw_statement("ioctl lines SET_VALUES "))
+        )
         self.assertEqual(structures.answer_to(["chip"]), "00*68")
         self.assertEqual(structures.answer_to(["offset", "3"]), "03000000")
 
     def test_printed_structures_are_read(self) -> None:
         printed = (TOP / "examples/raw-ioctls.expected").read_text().splitlines()
-        self.assertEqual(structures.answer_to(["read", "chip", *printed[0].split()]), "name gpiochip0\nlabel demo\nlines 4")
-        self.assertEqual(structures.answer_to(["read", "line", *printed[4].split()]), "offset 0\nname -\nconsumer panel\nflags USED,OUTPUT")
+        self.assertEqual(
+            structures.answer_to(["read", "chip", *printed[0].split()]), "name gpiochip0\nlabel demo\nlines 4"
+        )
+        self.assertEqual(
+            structures.answer_to(["read", "line", *printed[4].split()]),
+            "offset 0\nname -\nconsumer panel\nflags USED,OUTPUT",
+        )
         self.assertEqual(structures.answer_to(["read", "values", *printed[8].split()]), "place 0: 1\nplace 1: 0")
 
     def test_what_is_made_is_read_back(self) -> None:
@@ -78,8 +104,14 @@ class StructuresTest(unittest.TestCase):
         self.assertEqual(len(data), 592)
         self.assertEqual(structures.spelled(data), structures.answer_to(WORDS))
         self.assertEqual(structures.Request.of(data).to_bytes(), data)
-        self.assertIn("attribute debounce:5000 of [1]", structures.answer_to(["read", "get-line", *structures.spelled(data).split()]))
-        for made in (structures.ChipInfo("a", "b", 3), structures.LineInfo(7, "n", "c", 5, [structures.Attribute("debounce", 9)])):
+        self.assertIn(
+            "attribute debounce:5000 of [1]",
+            structures.answer_to(["read", "get-line", *structures.spelled(data).split()]),
+        )
+        for made in (
+            structures.ChipInfo("a", "b", 3),
+            structures.LineInfo(7, "n", "c", 5, [structures.Attribute("debounce", 9)]),
+        ):
             self.assertEqual(type(made).of(made.to_bytes()), made)
 
     def test_wrong_words_are_refused(self) -> None:
@@ -87,7 +119,9 @@ class StructuresTest(unittest.TestCase):
             with self.assertRaises(ValueError):
                 structures.answer_to(words)
 
-    @unittest.skipUnless(shutil.which("cc") and Path("/usr/include/linux/gpio.h").exists(), "no C compiler or no linux/gpio.h")
+    @unittest.skipUnless(
+        shutil.which("cc") and Path("/usr/include/linux/gpio.h").exists(), "no C compiler or no linux/gpio.h"
+    )
     def test_bytes_are_those_of_the_c_header(self) -> None:
         with tempfile.TemporaryDirectory() as folder:
             writer = Path(folder) / "writer"
@@ -97,13 +131,27 @@ class StructuresTest(unittest.TestCase):
 
     @unittest.skipUnless(PROGRAM.exists(), "the program is not built")
     def test_the_program_takes_what_is_made(self) -> None:
-        request = structures.answer_to(["get-line", "0", "2", "--flags", "OUTPUT", "--attribute", "values:0=0,1=1", "--consumer", "me"])
-        session = ["session 1", "setup", "probe demo 4", "open c 0", f"ioctl c GET_LINE {request} as r",
-                   f"ioctl r GET_VALUES {structures.answer_to(['values', '0', '1'])}",
-                   f"ioctl r SET_VALUES {structures.answer_to(['values', '0=1', '1=0'])}", "read gpiochip0/sim_gpio0/value",
-                   "read gpiochip0/sim_gpio2/value", f"ioctl c GET_LINEINFO {structures.answer_to(['line', '2'])}"]
-        ran = subprocess.run([PROGRAM], input="\n".join(session), stdout=subprocess.PIPE, text=True, check=True, timeout=60)
+        request = structures.answer_to(
+            ["get-line", "0", "2", "--flags", "OUTPUT", "--attribute", "values:0=0,1=1", "--consumer", "me"]
+        )
+        session = [
+            "session 1",
+            "setup",
+            "probe demo 4",
+            "open c 0",
+            f"ioctl c GET_LINE {request} as r",
+            f"ioctl r GET_VALUES {structures.answer_to(['values', '0', '1'])}",
+            f"ioctl r SET_VALUES {structures.answer_to(['values', '0=1', '1=0'])}",
+            "read gpiochip0/sim_gpio0/value",
+            "read gpiochip0/sim_gpio2/value",
+            f"ioctl c GET_LINEINFO {structures.answer_to(['line', '2'])}",
+        ]
+        ran = subprocess.run(
+            [PROGRAM], input="\n".join(session), stdout=subprocess.PIPE, text=True, check=True, timeout=60
+        )
         fd, values, first, second, info = ran.stdout.splitlines()
         self.assertEqual((fd, first, second), ("fd 4", "1", "0"))
         self.assertEqual(structures.answer_to(["read", "values", *values.split()]), "place 0: 0\nplace 1: 1")
-        self.assertEqual(structures.answer_to(["read", "line", *info.split()]), "offset 2\nname -\nconsumer me\nflags USED,OUTPUT")
+        self.assertEqual(
+            structures.answer_to(["read", "line", *info.split()]), "offset 2\nname -\nconsumer me\nflags USED,OUTPUT"
+        )

@@ -134,7 +134,9 @@ class Runner:
         for session in kept:
             answers = session.with_name("a" + session.name[1:])
             with session.open("rb") as file:
-                done = subprocess.run([self._again], stdin=file, stdout=subprocess.PIPE, stderr=subprocess.DEVNULL, check=False)
+                done = subprocess.run(
+                    [self._again], stdin=file, stdout=subprocess.PIPE, stderr=subprocess.DEVNULL, check=False
+                )
             good += done.stdout == answers.read_bytes()
         return len(kept), good
 
@@ -165,9 +167,16 @@ def judge(runner: Runner, suite: Suite) -> int:
     failing = {test for test, passed in results.items() if not passed}
     passing = len(results) - len(failing)
     as_expected = len(results) == suite.tests and failing == set(suite.exceptions)
-    print(f"{'ok' if as_expected else 'FAILED'} {suite.name}: {passing} of {suite.tests} tests pass, in {took:.0f} s", flush=True)
+    print(
+        f"{'ok' if as_expected else 'FAILED'} {suite.name}: {passing} of {suite.tests} tests pass, in {took:.0f} s",
+        flush=True,
+    )
     for test in sorted(failing | set(suite.exceptions)):
-        reason = suite.exceptions.get(test, "it isn't expected to fail") if test in failing else "it passes, and was expected to fail"
+        reason = (
+            suite.exceptions.get(test, "it isn't expected to fail")
+            if test in failing
+            else "it passes, and was expected to fail"
+        )
         print(f"  {test}: {reason}")
     if not as_expected:
         print("\n".join(f"  {line}" for line in text.splitlines()[-25:]))
@@ -197,7 +206,9 @@ def suites_of(folder: Path, programs: Path, work: Path) -> List[Suite]:
             lambda test: [new_test, "-k", "-p", test],
             work,
             new_libraries,
-            {"/gpiod/chip/find_line_non_standard_names": "its names have blanks and brackets, which no statement can say"},
+            {
+                "/gpiod/chip/find_line_non_standard_names": "its names have blanks and brackets, which no statement can say"
+            },
         ),
         Suite(
             "libgpiod 2.2.1, C++",
@@ -226,7 +237,15 @@ def suites_of(folder: Path, programs: Path, work: Path) -> List[Suite]:
             work,
             {**new_libraries, "PATH": f"{work}/tools:{os.environ['PATH']}"},
         ),
-        Suite("libgpiod 1.6.3, C", 92, [old_test, "-k"], read_tap, lambda test: [old_test, "-k", "-p", test], work, old_libraries),
+        Suite(
+            "libgpiod 1.6.3, C",
+            92,
+            [old_test, "-k"],
+            read_tap,
+            lambda test: [old_test, "-k", "-p", test],
+            work,
+            old_libraries,
+        ),
         Suite(
             "libgpiod 1.6.3, C++",
             33,
@@ -245,7 +264,14 @@ def suites_of(folder: Path, programs: Path, work: Path) -> List[Suite]:
             work,
             {**old_libraries, "PYTHONPATH": str(old)},
         ),
-        Suite("Linux 6.1, gpio-sim.sh", 23, ["sh", "./gpio-sim.sh"], read_parts, lambda test: ["sh", "./gpio-sim.sh"], kernel),
+        Suite(
+            "Linux 6.1, gpio-sim.sh",
+            23,
+            ["sh", "./gpio-sim.sh"],
+            read_parts,
+            lambda test: ["sh", "./gpio-sim.sh"],
+            kernel,
+        ),
     ]
 
 
@@ -283,7 +309,11 @@ def kernel_tools(folder: Path, again: str) -> int:
         check=False,
     )
     text = done.stdout.decode("utf-8", "replace")
-    good = [tool for tool in ("lsgpio", "gpio-event-mon", "gpio-watch", "gpio-hammer") if re.search(rf"^ok {tool}$", text, re.M)]
+    good = [
+        tool
+        for tool in ("lsgpio", "gpio-event-mon", "gpio-watch", "gpio-hammer")
+        if re.search(rf"^ok {tool}$", text, re.M)
+    ]
     print(f"{'ok' if len(good) == 4 else 'FAILED'} Linux 6.1, tools: {len(good)} of 4 run")
     if len(good) < 4:
         print("\n".join(f"  {line}" for line in text.splitlines()[-25:]))

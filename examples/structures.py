@@ -22,8 +22,21 @@ import sys
 from dataclasses import dataclass, field
 from typing import Callable, Dict, List, Sequence, Tuple
 
-FLAGS = ["USED", "ACTIVE_LOW", "INPUT", "OUTPUT", "EDGE_RISING", "EDGE_FALLING", "OPEN_DRAIN", "OPEN_SOURCE", "BIAS_PULL_UP",
-         "BIAS_PULL_DOWN", "BIAS_DISABLED", "EVENT_CLOCK_REALTIME", "EVENT_CLOCK_HTE"]
+FLAGS = [
+    "USED",
+    "ACTIVE_LOW",
+    "INPUT",
+    "OUTPUT",
+    "EDGE_RISING",
+    "EDGE_FALLING",
+    "OPEN_DRAIN",
+    "OPEN_SOURCE",
+    "BIAS_PULL_UP",
+    "BIAS_PULL_DOWN",
+    "BIAS_DISABLED",
+    "EVENT_CLOCK_REALTIME",
+    "EVENT_CLOCK_HTE",
+]
 ATTRIBUTES = {"flags": 1, "values": 2, "debounce": 3}
 ATTRIBUTES_MAX = 10
 LINES_MAX = 64
@@ -93,6 +106,7 @@ def mask_of(places: Sequence[int]) -> int:
 @dataclass
 class Attribute:
     """An attribute: flags, values (a bit a place) or debounce (microseconds)."""
+
     kind: str
     value: int
 
@@ -101,9 +115,11 @@ class Attribute:
 
     @classmethod
     def of(cls, data: bytes) -> "Attribute":
-        number, _, value = ATTRIBUTE.unpack(data[:ATTRIBUTE.size])
+        number, _, value = ATTRIBUTE.unpack(data[: ATTRIBUTE.size])
         kinds = {known: name for name, known in ATTRIBUTES.items()}
-        return cls(kinds.get(number, f"unknown-{number}"), value & 0xFFFFFFFF if number == ATTRIBUTES["debounce"] else value)
+        return cls(
+            kinds.get(number, f"unknown-{number}"), value & 0xFFFFFFFF if number == ATTRIBUTES["debounce"] else value
+        )
 
     def __str__(self) -> str:
         return f"{self.kind}:{names_of(self.value) if self.kind == 'flags' else self.value}"
@@ -112,6 +128,7 @@ class Attribute:
 @dataclass
 class Config:
     """A line config: the flags of all lines, and attributes for the places of a mask each."""
+
     flags: int = 0
     attributes: List[Tuple[Attribute, int]] = field(default_factory=list)
 
@@ -125,8 +142,8 @@ class Config:
     def of(cls, data: bytes) -> "Config":
         flags, count = CONFIG_HEAD.unpack_from(data)
         size = ATTRIBUTE.size + MASK.size
-        rows = [data[CONFIG_HEAD.size + size * at:][:size] for at in range(min(count, ATTRIBUTES_MAX))]
-        return cls(flags, [(Attribute.of(row), MASK.unpack(row[ATTRIBUTE.size:])[0]) for row in rows])
+        rows = [data[CONFIG_HEAD.size + size * at :][:size] for at in range(min(count, ATTRIBUTES_MAX))]
+        return cls(flags, [(Attribute.of(row), MASK.unpack(row[ATTRIBUTE.size :])[0]) for row in rows])
 
     def lines(self) -> List[str]:
         rows = [f"attribute {attribute} of {places_in(mask)}" for attribute, mask in self.attributes]
@@ -136,6 +153,7 @@ class Config:
 @dataclass
 class Request:
     """A line request, for GET_LINE."""
+
     offsets: List[int]
     config: Config = field(default_factory=Config)
     consumer: str = ""
@@ -153,16 +171,22 @@ class Request:
     def of(cls, data: bytes) -> "Request":
         count, room, fd = REQUEST_TAIL.unpack_from(data, 4 * LINES_MAX + 32 + CONFIG_SIZE)
         offsets = struct.unpack_from(f"<{LINES_MAX}I", data)[:count]
-        return cls(list(offsets), Config.of(data[4 * LINES_MAX + 32:]), text_of(data[4 * LINES_MAX:][:32]), room, fd)
+        return cls(list(offsets), Config.of(data[4 * LINES_MAX + 32 :]), text_of(data[4 * LINES_MAX :][:32]), room, fd)
 
     def lines(self) -> List[str]:
-        return [f"offsets {self.offsets}", f"consumer {self.consumer or '-'}", *self.config.lines(),
-                f"event buffer size {self.event_buffer_size}", f"fd {self.fd}"]
+        return [
+            f"offsets {self.offsets}",
+            f"consumer {self.consumer or '-'}",
+            *self.config.lines(),
+            f"event buffer size {self.event_buffer_size}",
+            f"fd {self.fd}",
+        ]
 
 
 @dataclass
 class LineInfo:
     """The information on a line: GET_LINEINFO and WATCH are handed the offset, and fill in the rest."""
+
     offset: int
     name: str = ""
     consumer: str = ""
@@ -170,23 +194,31 @@ class LineInfo:
     attributes: List[Attribute] = field(default_factory=list)
 
     def to_bytes(self) -> bytes:
-        head = LINE_INFO_HEAD.pack(self.name.encode("ascii"), self.consumer.encode("ascii"), self.offset, len(self.attributes), self.flags)
+        head = LINE_INFO_HEAD.pack(
+            self.name.encode("ascii"), self.consumer.encode("ascii"), self.offset, len(self.attributes), self.flags
+        )
         return (head + b"".join(attribute.to_bytes() for attribute in self.attributes)).ljust(LINE_INFO_SIZE, b"\0")
 
     @classmethod
     def of(cls, data: bytes) -> "LineInfo":
         name, consumer, offset, count, flags = LINE_INFO_HEAD.unpack_from(data)
-        rows = [data[LINE_INFO_HEAD.size + ATTRIBUTE.size * at:] for at in range(min(count, ATTRIBUTES_MAX))]
+        rows = [data[LINE_INFO_HEAD.size + ATTRIBUTE.size * at :] for at in range(min(count, ATTRIBUTES_MAX))]
         return cls(offset, text_of(name), text_of(consumer), flags, [Attribute.of(row) for row in rows])
 
     def lines(self) -> List[str]:
-        return [f"offset {self.offset}", f"name {self.name or '-'}", f"consumer {self.consumer or '-'}", f"flags {names_of(self.flags)}",
-                *[f"attribute {attribute}" for attribute in self.attributes]]
+        return [
+            f"offset {self.offset}",
+            f"name {self.name or '-'}",
+            f"consumer {self.consumer or '-'}",
+            f"flags {names_of(self.flags)}",
+            *[f"attribute {attribute}" for attribute in self.attributes],
+        ]
 
 
 @dataclass
 class ChipInfo:
     """The information on a chip."""
+
     name: str = ""
     label: str = ""
     count: int = 0
@@ -206,6 +238,7 @@ class ChipInfo:
 @dataclass
 class Values:
     """The values of a request's lines: a bit for each place of the mask."""
+
     bits: int
     mask: int
 
@@ -220,7 +253,13 @@ class Values:
         return [f"place {place}: {self.bits >> place & 1}" for place in places_in(self.mask)]
 
 
-READERS: Dict[str, Callable] = {"chip": ChipInfo.of, "line": LineInfo.of, "get-line": Request.of, "config": Config.of, "values": Values.of}
+READERS: Dict[str, Callable] = {
+    "chip": ChipInfo.of,
+    "line": LineInfo.of,
+    "get-line": Request.of,
+    "config": Config.of,
+    "values": Values.of,
+}
 
 
 def attribute_of(text: str) -> Tuple[Attribute, int]:
@@ -232,13 +271,17 @@ def attribute_of(text: str) -> Tuple[Attribute, int]:
     said, _, places = rest.partition(":")
     if kind not in ATTRIBUTES or not places:
         raise ValueError(f"{text} is not flags:NAMES:PLACES, values:PLACE=BIT,.. or debounce:MICROSECONDS:PLACES")
-    return Attribute(kind, flags_of(said) if kind == "flags" else int(said)), mask_of([int(place) for place in places.split(",")])
+    return Attribute(kind, flags_of(said) if kind == "flags" else int(said)), mask_of(
+        [int(place) for place in places.split(",")]
+    )
 
 
 def values_of(words: Sequence[str]) -> Values:
     """Values of PLACE, which asks for it, and PLACE=BIT, which sets it."""
     pairs = [word.partition("=") for word in words]
-    return Values(mask_of([int(place) for place, _, bit in pairs if bit == "1"]), mask_of([int(place) for place, _, _ in pairs]))
+    return Values(
+        mask_of([int(place) for place, _, bit in pairs if bit == "1"]), mask_of([int(place) for place, _, _ in pairs])
+    )
 
 
 def parser() -> argparse.ArgumentParser:

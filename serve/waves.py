@@ -44,8 +44,10 @@ STYLE = """
   .gone { fill: url(#hatch); stroke: none }
   .band { stroke: #8c959f; stroke-width: 0.7 }
 """
-HATCH = ('<pattern id="hatch" width="6" height="6" patternUnits="userSpaceOnUse" patternTransform="rotate(45)">'
-         '<rect width="6" height="6" fill="#f6f8fa"/><line x1="0" y1="0" x2="0" y2="6" stroke="#afb8c1"/></pattern>')
+HATCH = (
+    '<pattern id="hatch" width="6" height="6" patternUnits="userSpaceOnUse" patternTransform="rotate(45)">'
+    '<rect width="6" height="6" fill="#f6f8fa"/><line x1="0" y1="0" x2="0" y2="6" stroke="#afb8c1"/></pattern>'
+)
 
 
 class BadDump(Exception):
@@ -108,6 +110,7 @@ def words_of(text: str) -> Iterator[Word]:
 
 def unescaped(text: str) -> str:
     """A text of a dump with its escapes read: what can be shown as a sign is one, and other bytes stay as they are spelled."""
+
     def bytes_at(found: "re.Match[str]") -> str:
         spelled = found[0]
         try:
@@ -115,6 +118,7 @@ def unescaped(text: str) -> str:
         except ValueError:
             return spelled
         return plain if plain.isprintable() else spelled
+
     return re.sub(r"(?:\\x[0-9A-Fa-f]{2})+", bytes_at, text)
 
 
@@ -421,7 +425,7 @@ def level_marks(track: Track, window: Window) -> Iterator[str]:
 def fitted(text: str, width: float) -> str:
     """As much of a text as has room in a width."""
     room = int((width - 6) / SIGN)
-    return text if len(text) <= room else text[:room - 1] + "…" if room > 1 else ""
+    return text if len(text) <= room else text[: room - 1] + "…" if room > 1 else ""
 
 
 def band_marks(track: Track, window: Window, colours: Dict[str, str]) -> Iterator[str]:
@@ -435,8 +439,10 @@ def band_marks(track: Track, window: Window, colours: Dict[str, str]) -> Iterato
         narrow = left if width < NARROW else -1.0
         colour = colours.setdefault(part.value, PALETTE[len(colours) % len(PALETTE)])
         said = escape(f"{part.value}: {shortest(part.begin)} to {shortest(part.end)}")
-        yield (f'<g><title>{said}</title><rect class="band" x="{left:g}" y="{track.top}" width="{max(width, NARROW):.1f}" '
-               f'height="{BAND_HEIGHT}" fill="{colour}"/>')
+        yield (
+            f'<g><title>{said}</title><rect class="band" x="{left:g}" y="{track.top}" width="{max(width, NARROW):.1f}" '
+            f'height="{BAND_HEIGHT}" fill="{colour}"/>'
+        )
         text = fitted(part.value, width)
         yield (f'<text x="{left + 3:g}" y="{track.top + 12}">{escape(text)}</text></g>' if text else "</g>")
 
@@ -463,13 +469,17 @@ def picture(dump: Dump, begin: int, end: int, width: int) -> str:
     marks = list(axis_marks(window, bottom, dump.start))
     for track in made:
         style = "" if track.row.is_level else ' class="small"'
-        marks.append(f'<text{style} x="{left - 10}" y="{track.top + track.height - 5}" text-anchor="end">{escape(track.label)}</text>')
+        marks.append(
+            f'<text{style} x="{left - 10}" y="{track.top + track.height - 5}" text-anchor="end">{escape(track.label)}</text>'
+        )
         marks += level_marks(track, window) if track.row.is_level else band_marks(track, window, colours)
     height = bottom + AXIS
     names = escape(", ".join(track.label for track in made if track.label != "held by"))
-    head = (f'<svg xmlns="http://www.w3.org/2000/svg" width="{width}" height="{height}" viewBox="0 0 {width} {height}" role="img">\n'
-            f"<title>{names}, {shortest(begin)} to {shortest(end)}</title>\n<style>{STYLE}</style>\n<defs>{HATCH}</defs>\n"
-            f'<rect width="{width}" height="{height}" fill="#ffffff"/>\n')
+    head = (
+        f'<svg xmlns="http://www.w3.org/2000/svg" width="{width}" height="{height}" viewBox="0 0 {width} {height}" role="img">\n'
+        f"<title>{names}, {shortest(begin)} to {shortest(end)}</title>\n<style>{STYLE}</style>\n<defs>{HATCH}</defs>\n"
+        f'<rect width="{width}" height="{height}" fill="#ffffff"/>\n'
+    )
     return head + "\n".join(marks) + "\n</svg>\n"
 
 
@@ -479,7 +489,7 @@ def time_of(text: str) -> int:
     if not found:
         raise argparse.ArgumentTypeError(f"{text} is no number with s, ms, us or ns, as 1.5ms")
     digits = (found[2] or "").ljust(15, "0")
-    return (int(found[1]) * 10 ** 15 + int(digits)) * 10 ** UNITS[found[3]] // 10 ** 15
+    return (int(found[1]) * 10**15 + int(digits)) * 10 ** UNITS[found[3]] // 10**15
 
 
 def version() -> str:
@@ -491,10 +501,16 @@ def version() -> str:
 
 def arguments(words: Sequence[str]) -> argparse.Namespace:
     """The arguments of the command line."""
-    parser = argparse.ArgumentParser(prog="waves.py", description=__doc__, formatter_class=argparse.RawDescriptionHelpFormatter)
+    parser = argparse.ArgumentParser(
+        prog="waves.py", description=__doc__, formatter_class=argparse.RawDescriptionHelpFormatter
+    )
     parser.add_argument("dump", metavar="FILE.vcd", help="the dump")
-    parser.add_argument("-o", "--output", metavar="FILE.svg", help="the picture; - for standard output (the dump's name with .svg)")
-    parser.add_argument("--from", dest="begin", type=time_of, metavar="TIME", help="the first time that is drawn, as 1.5ms (the dump's)")
+    parser.add_argument(
+        "-o", "--output", metavar="FILE.svg", help="the picture; - for standard output (the dump's name with .svg)"
+    )
+    parser.add_argument(
+        "--from", dest="begin", type=time_of, metavar="TIME", help="the first time that is drawn, as 1.5ms (the dump's)"
+    )
     parser.add_argument("--to", dest="end", type=time_of, metavar="TIME", help="the last one (the dump's)")
     parser.add_argument("--version", action="version", version=f"waves.py {version()}", help="prints the version")
     parser.add_argument("--width", type=int, default=960, metavar="N", help="pixels, 300 to 20000 (960)")

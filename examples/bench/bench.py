@@ -24,11 +24,33 @@ class Bench:
         self.folder = Path(tempfile.mkdtemp(prefix="powerbutton."))
         self.served, given = self.folder / "served", self.folder / "board"
         given.write_text((HERE / "board").read_text() + "".join(line + "\n" for line in board))
-        self.transcript, self.answers, self.waves = (self.folder / name for name in ("transcript", "answers", "waves.vcd"))
+        self.transcript, self.answers, self.waves = (
+            self.folder / name for name in ("transcript", "answers", "waves.vcd")
+        )
         self._process = subprocess.Popen(
-            [TOOLS / "gpioserve", "--clock", clock, "--folder", self.served, "-b", given, "-t", self.transcript, "-a", self.answers,
-             "-w", self.waves, "--", DAEMON, "/dev/gpiochip0", "POWER", "LED"],
-            stdout=subprocess.PIPE, stderr=subprocess.STDOUT)
+            [
+                TOOLS / "gpioserve",
+                "--clock",
+                clock,
+                "--folder",
+                self.served,
+                "-b",
+                given,
+                "-t",
+                self.transcript,
+                "-a",
+                self.answers,
+                "-w",
+                self.waves,
+                "--",
+                DAEMON,
+                "/dev/gpiochip0",
+                "POWER",
+                "LED",
+            ],
+            stdout=subprocess.PIPE,
+            stderr=subprocess.STDOUT,
+        )
         self._unread = b""
         self.now = 0
 

@@ -12,14 +12,31 @@ sys.path.insert(0, str(TOP / "serve"))
 import waves  # noqa: E402
 
 PICTURE = HERE / "powerbutton.svg"
-DOWN, UP, UNPLUG = "write gpiochip0/sim_gpio0/pull pull-up", "write gpiochip0/sim_gpio0/pull pull-down", "write panel/live 0"
+DOWN, UP, UNPLUG = (
+    "write gpiochip0/sim_gpio0/pull pull-up",
+    "write gpiochip0/sim_gpio0/pull pull-down",
+    "write panel/live 0",
+)
 # When, in microseconds; what the world does then, if anything; and what the daemon says upon it, if anything.
 PLAY: List[Tuple[int, str, str]] = [
-    (20_000, DOWN, ""), (22_000, UP, ""), (25_000, DOWN, ""), (35_000, "", "LED is on"),
-    (90_000, UP, ""), (92_000, DOWN, ""), (93_000, UP, ""), (103_000, "", ""),
-    (130_000, DOWN, ""), (133_000, UP, ""), (143_000, "", ""),
-    (160_000, DOWN, ""), (170_000, "", "LED is off"), (200_000, UP, ""), (210_000, "", ""),
-    (230_000, DOWN, ""), (240_000, "", "LED is on"), (280_000, UNPLUG, "powerbutton: /dev/gpiochip0 is gone"),
+    (20_000, DOWN, ""),
+    (22_000, UP, ""),
+    (25_000, DOWN, ""),
+    (35_000, "", "LED is on"),
+    (90_000, UP, ""),
+    (92_000, DOWN, ""),
+    (93_000, UP, ""),
+    (103_000, "", ""),
+    (130_000, DOWN, ""),
+    (133_000, UP, ""),
+    (143_000, "", ""),
+    (160_000, DOWN, ""),
+    (170_000, "", "LED is off"),
+    (200_000, UP, ""),
+    (210_000, "", ""),
+    (230_000, DOWN, ""),
+    (240_000, "", "LED is on"),
+    (280_000, UNPLUG, "powerbutton: /dev/gpiochip0 is gone"),
 ]
 
 

@@ -104,8 +104,18 @@ class PowerButtonTest(unittest.TestCase):
         self.assertEqual(lines[:2], ["session 1", "setup"])
         for line in (HERE / "board").read_text().splitlines():
             self.assertIn(line, lines)
-        self.assert_in_this_order(["write panel/live 1", "open ", r"ioctl \S+ GET_LINE ", r"ioctl \S+ GET_LINE ",
-                                   "write gpiochip0/sim_gpio0/pull pull-up", "events ", r"ioctl \S+ SET_VALUES "], lines)
+        self.assert_in_this_order(
+            [
+                "write panel/live 1",
+                "open ",
+                r"ioctl \S+ GET_LINE ",
+                r"ioctl \S+ GET_LINE ",
+                "write gpiochip0/sim_gpio0/pull pull-up",
+                "events ",
+                r"ioctl \S+ SET_VALUES ",
+            ],
+            lines,
+        )
 
     def test_the_transcript_runs_again(self) -> None:
         program = Path(os.environ.get("GPIOSESS", TOP / "crates/gpiosess/out/gpiosess"))

@@ -68,7 +68,9 @@ class ServedTest(unittest.TestCase):
 
     def test_an_end_before_an_answer_is_said(self) -> None:
         for line in ("end", "raw = 5/abc/"):
-            with served.Served([sys.executable, "-c", TOLD.replace("flush()", "flush()\n    if word == b'raw': sys.exit(6)")]) as machine:
+            with served.Served(
+                [sys.executable, "-c", TOLD.replace("flush()", "flush()\n    if word == b'raw': sys.exit(6)")]
+            ) as machine:
                 with self.assertRaisesRegex(gpioserve.NotServed, "ended with status 6"):
                     machine.say(line)
 
@@ -87,7 +89,9 @@ class ServedTest(unittest.TestCase):
 
 
 class BesideTest(unittest.TestCase):
-    def show(self, session: bytes, *words: str, command: Optional[List[str]] = None) -> "subprocess.CompletedProcess[str]":
+    def show(
+        self, session: bytes, *words: str, command: Optional[List[str]] = None
+    ) -> "subprocess.CompletedProcess[str]":
         """Runs beside over a session."""
         with tempfile.NamedTemporaryFile(suffix=".session") as file:
             file.write(session)
@@ -104,8 +108,11 @@ class BesideTest(unittest.TestCase):
     def test_what_a_statement_printed_stands_beside_it(self) -> None:
         shown = self.show(b"session 1\n# a comment\nsetup\n\nsay a\nlonger statement\nsay b/>c/d\nsay /e")
         self.assertEqual((shown.returncode, shown.stderr), (0, ""))
-        self.assertEqual(shown.stdout, "session 1\nsetup\nsay a             a\nlonger statement\nsay b/>c/d        b\n"
-                                       "                    c\n                  d\nsay /e\n                  e\n")
+        self.assertEqual(
+            shown.stdout,
+            "session 1\nsetup\nsay a             a\nlonger statement\nsay b/>c/d        b\n"
+            "                    c\n                  d\nsay /e\n                  e\n",
+        )
 
     def test_comments_are_kept_where_it_is_asked(self) -> None:
         self.assertEqual(self.show(b"# a comment\n\nsay a\n", "--comments").stdout, "# a comment\n\nsay a  a\n")
@@ -119,12 +126,17 @@ class BesideTest(unittest.TestCase):
 
     def test_a_refused_line_is_shown_with_a_caret(self) -> None:
         shown = self.show(b"session 1\nno tea\nsay a\n")
-        self.assertEqual((shown.returncode, shown.stdout, shown.stderr), (3, "", f"beside: {self.name}:2:4: word\n  no tea\n     ^\n"))
+        self.assertEqual(
+            (shown.returncode, shown.stdout, shown.stderr),
+            (3, "", f"beside: {self.name}:2:4: word\n  no tea\n     ^\n"),
+        )
 
     def test_sections_of_actors_are_refused_with_a_reason(self) -> None:
-        for words, said in ((b"actor a\nsay a\nactor b", "the section `actor`: actors run beside each other"),
-                            (b"after", "the section `after`: gpioserved answers the statements of `setup` alone"),
-                            (b"  actor", "the section `actor`: gpioserved answers the statements of `setup` alone")):
+        for words, said in (
+            (b"actor a\nsay a\nactor b", "the section `actor`: actors run beside each other"),
+            (b"after", "the section `after`: gpioserved answers the statements of `setup` alone"),
+            (b"  actor", "the section `actor`: gpioserved answers the statements of `setup` alone"),
+        ):
             shown = self.show(b"session 1\nsetup\n" + words + b"\nsay a\n")
             self.assertEqual((shown.returncode, shown.stdout), (3, ""))
             self.assertIn(f"beside: {self.name}:3: {said}", shown.stderr)
@@ -132,7 +144,9 @@ class BesideTest(unittest.TestCase):
 
     def test_no_line_that_counts(self) -> None:
         for session in (b"", b"# nothing\n\n"):
-            self.assertEqual(self.show(session).stderr, f"beside: {self.name}: no line counts; a session begins with `session 1`\n")
+            self.assertEqual(
+                self.show(session).stderr, f"beside: {self.name}: no line counts; a session begins with `session 1`\n"
+            )
 
     def test_without_the_file_or_the_program(self) -> None:
         shown = self.show(b"say a\n", command=["/no/such"])
@@ -142,7 +156,9 @@ class BesideTest(unittest.TestCase):
         self.assertEqual((shown.returncode, shown.stdout), (1, ""))
         self.assertEqual(shown.stderr, "beside: gpioserved ended with status 6 before it answered\n")
         missing = beside("/no/such")
-        self.assertEqual((missing.returncode, missing.stderr), (1, "beside: /no/such can't be read: No such file or directory\n"))
+        self.assertEqual(
+            (missing.returncode, missing.stderr), (1, "beside: /no/such can't be read: No such file or directory\n")
+        )
 
 
 class MachineTest(unittest.TestCase):

@@ -15,13 +15,37 @@ sys.path[:0] = [str(HERE.parent), str(HERE.parent / "python")]
 import waves  # noqa: E402
 from gpioserve import NotServed, programs  # noqa: E402
 
-BOARD = ["clock 5000 0", "probe plain 2", "mkdir panel", "mkdir panel/soc", "write panel/soc/num_lines 3", "mkdir panel/soc/line0",
-         "write panel/soc/line0/name POWER", "mkdir panel/soc/line2", "write panel/soc/line2/name LED", "write panel/live 1"]
+BOARD = [
+    "clock 5000 0",
+    "probe plain 2",
+    "mkdir panel",
+    "mkdir panel/soc",
+    "write panel/soc/num_lines 3",
+    "mkdir panel/soc/line0",
+    "write panel/soc/line0/name POWER",
+    "mkdir panel/soc/line2",
+    "write panel/soc/line2/name LED",
+    "write panel/live 1",
+]
 # Pulls of lines with and without a name, a holder whose name needs escapes, a chip that comes and goes, and one that only goes.
-SAID = ["clock 6000 0", "write gpiochip0/sim_gpio1/pull pull-up", "write gpiochip1/sim_gpio0/pull pull-up",
-        "write gpiochip1/sim_gpio2/pull pull-down", "clock 7500 0", "start led gpioset -c 1 -C a\\b~ 2=on",
-        "clock 8000 0", "probe late 1", "clock 8250 0", "write gpiochip2/sim_gpio0/pull pull-up", "clock 9000 0", "stop led",
-        "unplug gpiochip2", "clock 9500 0", "write panel/live 0", "clock 10000 0"]
+SAID = [
+    "clock 6000 0",
+    "write gpiochip0/sim_gpio1/pull pull-up",
+    "write gpiochip1/sim_gpio0/pull pull-up",
+    "write gpiochip1/sim_gpio2/pull pull-down",
+    "clock 7500 0",
+    "start led gpioset -c 1 -C a\\b~ 2=on",
+    "clock 8000 0",
+    "probe late 1",
+    "clock 8250 0",
+    "write gpiochip2/sim_gpio0/pull pull-up",
+    "clock 9000 0",
+    "stop led",
+    "unplug gpiochip2",
+    "clock 9500 0",
+    "write panel/live 0",
+    "clock 10000 0",
+]
 WANTED: Dict[Tuple[str, str], List[Tuple[int, str]]] = {
     ("gpiochip0", "gpiochip0:1"): [(0, "0"), (1000, "1")],
     ("gpiochip0", "gpiochip0:1:holder"): [(0, "")],
@@ -58,7 +82,9 @@ class DumpTest(unittest.TestCase):
         """The dump of a run that says all of it."""
         dump, board = self.folder / "waves.vcd", self.folder / "board"
         board.write_text("".join(line + "\n" for line in BOARD))
-        subprocess.run([OUT / "gpioserve", "--clock", "manual", "-b", board, "-w", dump, "--", OUT / "gpiosay", *SAID], check=True)
+        subprocess.run(
+            [OUT / "gpioserve", "--clock", "manual", "-b", board, "-w", dump, "--", OUT / "gpiosay", *SAID], check=True
+        )
         return dump
 
     def test_the_dump_has_all_that_was_said(self) -> None:
@@ -84,7 +110,9 @@ class DumpTest(unittest.TestCase):
     def test_sigrok_reads_its_levels(self) -> None:
         if not shutil.which("sigrok-cli"):
             self.skipTest("sigrok-cli isn't installed")
-        samples = subprocess.run(["sigrok-cli", "-I", "vcd", "-i", self.dump, "-O", "binary"], check=True, capture_output=True).stdout
+        samples = subprocess.run(
+            ["sigrok-cli", "-I", "vcd", "-i", self.dump, "-O", "binary"], check=True, capture_output=True
+        ).stdout
         samples = re.sub(rb"\AMETA [^\n]*\n", b"", samples)
         self.assertEqual(len(samples), 5000)
         for bit, name in enumerate(("gpiochip0:1", "POWER", "LED", "gpiochip2:0")):

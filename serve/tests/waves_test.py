@@ -20,7 +20,7 @@ _SPEC.loader.exec_module(waves)
 
 BUTTON = HERE / "button.vcd"
 SVG = "{http://www.w3.org/2000/svg}"
-MS = 10 ** 12
+MS = 10**12
 HEAD = "$timescale 1 ns $end\n$var wire 1 l0 A $end\n$var string 1 h0 A:holder $end\n$enddefinitions $end\n"
 
 # A dump that breaks the form: its text, the line that is named, and a part of what is said.
@@ -66,13 +66,20 @@ def changes(row: "waves.Row") -> List[Tuple[int, str]]:
 class ReadingTest(unittest.TestCase):
     def test_rows_of_the_dump(self) -> None:
         dump = read(BUTTON.read_text())
-        self.assertEqual([row.name for row in dump.rows],
-                         ["POWER", "POWER:holder", "LED", "LED:holder", "gpiochip0:3", "gpiochip0:3:holder"])
+        self.assertEqual(
+            [row.name for row in dump.rows],
+            ["POWER", "POWER:holder", "LED", "LED:holder", "gpiochip0:3", "gpiochip0:3:holder"],
+        )
         self.assertEqual([row.is_level for row in dump.rows], [True, False] * 3)
         self.assertEqual({row.scope for row in dump.rows}, {"gpiochip0"})
         self.assertEqual((dump.begin, dump.end, dump.start), (0, 31_500_000_000_000, 620_113_000_000))
-        self.assertEqual(changes(dump.rows[2]), [(0, "0"), (9_600_000_000_000, "1"), (26_100_000_000_000, "0"), (30_000_000_000_000, "x")])
-        self.assertEqual(changes(dump.rows[1]), [(0, ""), (1_800_000_000_000, "power button"), (30_000_000_000_000, "")])
+        self.assertEqual(
+            changes(dump.rows[2]),
+            [(0, "0"), (9_600_000_000_000, "1"), (26_100_000_000_000, "0"), (30_000_000_000_000, "x")],
+        )
+        self.assertEqual(
+            changes(dump.rows[1]), [(0, ""), (1_800_000_000_000, "power button"), (30_000_000_000_000, "")]
+        )
 
     def test_each_broken_dump_names_its_line(self) -> None:
         for text, line, said in BROKEN:
@@ -83,39 +90,65 @@ class ReadingTest(unittest.TestCase):
 
     def test_a_later_value_of_one_time_counts(self) -> None:
         dump = read(HEAD + "#0\n0l0\n#5\n1l0\n0l0\n#6\n1l0\n1l0\n#7\n1l0\n")
-        self.assertEqual(changes(dump.rows[0]), [(0, "0"), (6 * 10 ** 6, "1")])
+        self.assertEqual(changes(dump.rows[0]), [(0, "0"), (6 * 10**6, "1")])
 
     def test_values_of_other_writers(self) -> None:
-        header = ("$date today $end $timescale 10ps $end $scope module top $end $var reg 8 # bus [7:0] $end $var real 64 ! volt $end "
-                  "$var wire 1 a Q $end $var wire 1 a ALIAS $end $upscope $end $enddefinitions $end ")
-        dump = read(header + "$comment none $end #1 $dumpvars bx # r0.5 ! Za $end #2 b1010 # r-1e3 ! b1 a #3 $dumpoff xa $end")
-        self.assertEqual([changes(row) for row in dump.rows], [[(10_000, "x"), (20_000, "0xa")], [(10_000, "0.5"), (20_000, "-1e3")]] +
-                         [[(10_000, "z"), (20_000, "1"), (30_000, "x")]] * 2)
+        header = (
+            "$date today $end $timescale 10ps $end $scope module top $end $var reg 8 # bus [7:0] $end $var real 64 ! volt $end "
+            "$var wire 1 a Q $end $var wire 1 a ALIAS $end $upscope $end $enddefinitions $end "
+        )
+        dump = read(
+            header + "$comment none $end #1 $dumpvars bx # r0.5 ! Za $end #2 b1010 # r-1e3 ! b1 a #3 $dumpoff xa $end"
+        )
+        self.assertEqual(
+            [changes(row) for row in dump.rows],
+            [[(10_000, "x"), (20_000, "0xa")], [(10_000, "0.5"), (20_000, "-1e3")]]
+            + [[(10_000, "z"), (20_000, "1"), (30_000, "x")]] * 2,
+        )
 
     def test_escapes_of_texts(self) -> None:
-        for spelled, shown in (("a\\x20b", "a b"), ("\\xc3\\xa9", "é"), ("\\xff", "\\xff"), ("\\x01", "\\x01"), ("\\x5cx41", "\\x41"),
-                               ("?", "?"), ("", "")):
+        for spelled, shown in (
+            ("a\\x20b", "a b"),
+            ("\\xc3\\xa9", "é"),
+            ("\\xff", "\\xff"),
+            ("\\x01", "\\x01"),
+            ("\\x5cx41", "\\x41"),
+            ("?", "?"),
+            ("", ""),
+        ):
             self.assertEqual(changes(read(HEAD + f"#0 s{spelled} h0 ").rows[1]), [(0, shown)], spelled)
 
 
 class TimeTest(unittest.TestCase):
     def test_ticks_have_one_unit_and_even_steps(self) -> None:
-        for begin, end, wanted in ((0, 30 * MS, ["0 ms", "5 ms", "10 ms", "15 ms", "20 ms", "25 ms", "30 ms"]),
-                                   (0, 3 * 10 ** 15, ["0.0 s", "0.5 s", "1.0 s", "1.5 s", "2.0 s", "2.5 s", "3.0 s"]),
-                                   (39 * MS // 10, 47 * MS // 10, ["3900 us", "4000 us", "4100 us", "4200 us", "4300 us", "4400 us",
-                                                                   "4500 us", "4600 us", "4700 us"]),
-                                   (0, 7 * 10 ** 6, ["0 ns", "1 ns", "2 ns", "3 ns", "4 ns", "5 ns", "6 ns", "7 ns"]),
-                                   (0, 1, ["0 fs", "1 fs"])):
+        for begin, end, wanted in (
+            (0, 30 * MS, ["0 ms", "5 ms", "10 ms", "15 ms", "20 ms", "25 ms", "30 ms"]),
+            (0, 3 * 10**15, ["0.0 s", "0.5 s", "1.0 s", "1.5 s", "2.0 s", "2.5 s", "3.0 s"]),
+            (
+                39 * MS // 10,
+                47 * MS // 10,
+                ["3900 us", "4000 us", "4100 us", "4200 us", "4300 us", "4400 us", "4500 us", "4600 us", "4700 us"],
+            ),
+            (0, 7 * 10**6, ["0 ns", "1 ns", "2 ns", "3 ns", "4 ns", "5 ns", "6 ns", "7 ns"]),
+            (0, 1, ["0 fs", "1 fs"]),
+        ):
             self.assertEqual([text for _, text in waves.ticks(begin, end, 8)], wanted)
 
     def test_times_to_the_nanosecond(self) -> None:
-        for at, text in ((0, "0 ns"), (1_850_000_000_000, "1.85 ms"), (30 * MS, "30 ms"), (10 ** 15, "1 s"),
-                         (1_000_000_001_999_999, "1.000000001 s")):
+        for at, text in (
+            (0, "0 ns"),
+            (1_850_000_000_000, "1.85 ms"),
+            (30 * MS, "30 ms"),
+            (10**15, "1 s"),
+            (1_000_000_001_999_999, "1.000000001 s"),
+        ):
             self.assertEqual(waves.shortest(at), text)
 
     def test_times_of_the_command_line(self) -> None:
-        self.assertEqual([waves.time_of(text) for text in ("1.5ms", "2s", "7ns", "0.25us")],
-                         [3 * MS // 2, 2 * 10 ** 15, 7 * 10 ** 6, 25 * 10 ** 7])
+        self.assertEqual(
+            [waves.time_of(text) for text in ("1.5ms", "2s", "7ns", "0.25us")],
+            [3 * MS // 2, 2 * 10**15, 7 * 10**6, 25 * 10**7],
+        )
 
 
 class DrawingTest(unittest.TestCase):
@@ -136,9 +169,19 @@ class DrawingTest(unittest.TestCase):
 
     def test_labels_bands_and_ticks(self) -> None:
         texts = self.texts(self.draw(str(BUTTON)))
-        self.assertEqual([text for text in texts if not text.endswith(" ms")],
-                         ["0 is 620.113000000 s of the monotonic clock", "POWER", "held by", "power button", "LED", "held by",
-                          "power button", "gpiochip0:3"])
+        self.assertEqual(
+            [text for text in texts if not text.endswith(" ms")],
+            [
+                "0 is 620.113000000 s of the monotonic clock",
+                "POWER",
+                "held by",
+                "power button",
+                "LED",
+                "held by",
+                "power button",
+                "gpiochip0:3",
+            ],
+        )
         self.assertEqual([text for text in texts if text.endswith(" ms")], [f"{at} ms" for at in range(0, 31, 5)])
 
     def test_a_level_is_a_stroke_and_hatched_where_it_is_not_known(self) -> None:
@@ -155,16 +198,20 @@ class DrawingTest(unittest.TestCase):
         self.assertEqual([stroke.count("V") for stroke in strokes], [0, 1, 0])
 
     def test_scopes_tell_equal_names_apart(self) -> None:
-        header = "".join(f"$scope module gpiochip{chip} $end $var wire 1 l{chip} BUTTON $end $upscope $end " for chip in (0, 1))
+        header = "".join(
+            f"$scope module gpiochip{chip} $end $var wire 1 l{chip} BUTTON $end $upscope $end " for chip in (0, 1)
+        )
         texts = self.texts(self.drawn("$timescale 1 s $end " + header + "$enddefinitions $end #0 0l0 1l1 #5"))
         self.assertEqual(texts[-2:], ["gpiochip0 BUTTON", "gpiochip1 BUTTON"])
 
     def test_signs_of_the_picture_are_escaped(self) -> None:
-        picture = self.drawn(HEAD + "#0 0l0 s<&\"> h0 #9")
-        self.assertIn("<&\">", self.texts(picture))
+        picture = self.drawn(HEAD + '#0 0l0 s<&"> h0 #9')
+        self.assertIn('<&">', self.texts(picture))
 
     def test_what_cannot_stand_in_a_picture_is_spelled_out(self) -> None:
-        picture = self.drawn("$timescale 1 ns $end $var wire 1 l0 A\x01 $end $var string 1 h0 B $end $enddefinitions $end #0 s\x02 h0 #9")
+        picture = self.drawn(
+            "$timescale 1 ns $end $var wire 1 l0 A\x01 $end $var string 1 h0 B $end $enddefinitions $end #0 s\x02 h0 #9"
+        )
         self.assertEqual(self.texts(picture)[-3:], ["A\\x01", "B", "\\x02"])
 
     def test_long_labels_make_the_picture_wider(self) -> None:
@@ -192,15 +239,22 @@ class DrawingTest(unittest.TestCase):
         with tempfile.TemporaryDirectory() as folder:
             path = Path(folder, "broken.vcd")
             path.write_text(HEAD + "#0\n0l1\n")
-            for words, said in (([str(path)], f"waves.py: {path}:6: l1 is no code of the header\n"),
-                                ([folder + "/none.vcd"], f"waves.py: {folder}/none.vcd: No such file or directory\n"),
-                                ([str(BUTTON), "-o", folder], f"waves.py: {folder}: Is a directory\n")):
+            for words, said in (
+                ([str(path)], f"waves.py: {path}:6: l1 is no code of the header\n"),
+                ([folder + "/none.vcd"], f"waves.py: {folder}/none.vcd: No such file or directory\n"),
+                ([str(BUTTON), "-o", folder], f"waves.py: {folder}: Is a directory\n"),
+            ):
                 with contextlib.redirect_stderr(io.StringIO()) as out:
                     self.assertEqual(waves.main(words), 1)
                 self.assertEqual(out.getvalue(), said)
 
     def test_wrong_arguments_are_status_2(self) -> None:
-        for words in ([], [str(BUTTON), "--from", "5"], [str(BUTTON), "--from", "2ms", "--to", "1ms"], [str(BUTTON), "--width", "3"]):
+        for words in (
+            [],
+            [str(BUTTON), "--from", "5"],
+            [str(BUTTON), "--from", "2ms", "--to", "1ms"],
+            [str(BUTTON), "--width", "3"],
+        ):
             with contextlib.redirect_stderr(io.StringIO()), self.assertRaises(SystemExit) as caught:
                 waves.main(words)
             self.assertEqual(caught.exception.code, 2)
@@ -212,14 +266,20 @@ class OtherReadersTest(unittest.TestCase):
             self.skipTest("vcd2fst isn't installed")
         with tempfile.TemporaryDirectory() as folder:
             subprocess.run(["vcd2fst", str(BUTTON), folder + "/button.fst"], check=True, capture_output=True)
-            back = subprocess.run(["fst2vcd", folder + "/button.fst"], check=True, capture_output=True, text=True).stdout
+            back = subprocess.run(
+                ["fst2vcd", folder + "/button.fst"], check=True, capture_output=True, text=True
+            ).stdout
         mine, theirs = read(BUTTON.read_text()), read(back.replace("\\040", "\\x20"))
-        self.assertEqual([(row.name, changes(row)) for row in theirs.rows], [(row.name, changes(row)) for row in mine.rows])
+        self.assertEqual(
+            [(row.name, changes(row)) for row in theirs.rows], [(row.name, changes(row)) for row in mine.rows]
+        )
 
     def test_sigrok_reads_the_levels(self) -> None:
         if not shutil.which("sigrok-cli"):
             self.skipTest("sigrok-cli isn't installed")
-        said = subprocess.run(["sigrok-cli", "-I", "vcd", "-i", str(BUTTON), "--show"], check=True, capture_output=True, text=True).stdout
+        said = subprocess.run(
+            ["sigrok-cli", "-I", "vcd", "-i", str(BUTTON), "--show"], check=True, capture_output=True, text=True
+        ).stdout
         for part in ("- POWER: logic", "- LED: logic", "- gpiochip0:3: logic", "Logic sample count: 31500"):
             self.assertIn(part, said)
 
