@@ -1,3 +1,4 @@
+# shellcheck shell=bash
 # What standard output may not say of arguments that are refused (status 2) and of a session that is none (status 3). ./gpiosess reads this
 # file for these statuses.
 

@@ -1,3 +1,4 @@
+# shellcheck shell=bash
 # Which programs are made from the present sources: the proved ones in crates/NAME/out, and the unproved ones in out/unproved.
 # The launchers, .ci/run and the checks read this file, with `top` set to the top of the repository. Those that make programs define `say`,
 # which prints a sentence, and `fail`, which does so and ends with the status of the launcher.

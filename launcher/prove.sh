@@ -1,3 +1,4 @@
+# shellcheck shell=bash disable=SC2154
 # Proves and builds the programs, as many crates side by side as processors and memory allow. The launchers read this file for --prove.
 # Each crate is checked in a lane, a copy of the sources, since rt lets one command alone work over a crate and those below it. What was
 # proved is linked into the lanes of the crates above it and into crates/NAME/out, so a proof that is cut off goes on where it was.
@@ -96,7 +97,9 @@ take_folders() {
 link_below() {
   local name to
   for name in "${crates[@]}"; do
-    [ "${state[$name]}" = proved ] && ! is_program "$name" || continue
+    if [ "${state[$name]}" != proved ] || is_program "$name"; then
+      continue
+    fi
     to=$1/crates/$name/out
     [ -d "$to/rlib" ] || cp -al "$top/crates/$name/out/rlib" "$to/"
   done

@@ -1,3 +1,4 @@
+# shellcheck shell=bash disable=SC2154
 # How long an unproved run and a proof take on this machine.
 
 # How many checks fit beside each other here: one a processor, and 3 GB of memory for each.

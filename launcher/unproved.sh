@@ -1,3 +1,4 @@
+# shellcheck shell=bash disable=SC2034,SC2154
 # Runs a session by an unproved program. ./gpiosess reads this file where no proved program of the present sources is there.
 . "$top/launcher/times.sh"
 . "$top/launcher/build.sh"
