@@ -1,4 +1,3 @@
-#!/usr/bin/env python3
 """Prints what the program takes beside the plain one of checks/bench_peer, measure by measure, with the aim of each and whether it is met.
 
   bench                   the table of the aims

@@ -1,4 +1,3 @@
-#!/usr/bin/env python3
 """Compares the program with the plain one of checks/bench_peer over random sessions: compare [COUNT [SEED]], 200 and 1 without words.
 
 This is no part of the gate. It needs the program that ./gpiosess proves and builds, and rustc. With one actor the whole outputs have to be

@@ -1,4 +1,3 @@
-#!/usr/bin/env python3
 """Compares the runs that `gl_core_tests` plays with the worked runs of `gl_model_runs`.
 
 Reads the lists of calls and answers in `crates/gl_model_runs/specs/Rows/`, spells them as lines, and compares these with

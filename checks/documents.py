@@ -1,4 +1,3 @@
-#!/usr/bin/env python3
 """Whether the documents say what is there: links lead to files, the names that PROMISES.md and docs/COMING-FROM.md cite are defined
 in the files that they name, a cited contract has the clauses that are cited, a crate's README.md says what the crate stands on, and what
 CALLING.md quotes is in the sources. And whether they can be read: sentences and paragraphs have a length limit. The last line is

@@ -1,4 +1,3 @@
-#!/usr/bin/env python3
 """Tells what the processor time of a running gate goes into, by crate.
 
 `checks/gate-times PID` looks every half second at the process PID, such as a `.ci/run`, and at all below it, and once it has ended prints

@@ -1,4 +1,3 @@
-#!/usr/bin/env python3
 """Refuses one allocation after another in runs of the program: each ends with status 6 and writes nothing, or writes its whole output.
 
 This is no part of the gate. It needs the program that ./gpiosess --prove builds, and a C compiler for a library that stands

@@ -1,4 +1,3 @@
-#!/usr/bin/env python3
 """Compares what `gl_session_runs` plays with the sessions of examples/ and checks/rows/, and with tables of faults.
 
 Its standard input plays each session of these folders that has fewer than two actors, whole and in pieces of 7 bytes, and two of them in

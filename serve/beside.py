@@ -1,8 +1,8 @@
 #!/usr/bin/env python3
 """Prints each statement of a session with what it printed beside it.
 
-    serve/beside examples/button.session
-    serve/beside --comments - < FILE
+    serve/beside.py examples/button.session
+    serve/beside.py --comments - < FILE
 
 A session of `setup` alone is shown, also a transcript that gpioserve wrote. One that has `actor` or `after` isn't: actors run beside each
 other, and their texts come when all have ended; ./gpiosess runs those. A tab in what was printed is shown as two blanks.

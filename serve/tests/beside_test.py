@@ -1,4 +1,4 @@
-"""Tests of gpioserve.served and serve/beside: over a small program that answers as it is told, and over the one that serves."""
+"""Tests of gpioserve.served and serve/beside.py: over a small program that answers as it is told, and over the one that serves."""
 import os
 import subprocess
 import sys
@@ -43,7 +43,7 @@ def told() -> List[str]:
 
 def beside(*words: str, **given: str) -> "subprocess.CompletedProcess[str]":
     """Runs beside with these arguments and variables."""
-    command = [sys.executable, str(HERE.parent / "beside"), *words]
+    command = [sys.executable, str(HERE.parent / "beside.py"), *words]
     return subprocess.run(command, env={**os.environ, **given}, capture_output=True, text=True)
 
 

@@ -14,7 +14,7 @@ import unittest
 from pathlib import Path
 
 HERE = Path(__file__).resolve().parent
-BOARD = HERE.parent / "board"
+BOARD = HERE.parent / "board.py"
 BENCH = HERE.parents[1] / "examples/bench"
 DAEMON = BENCH / "out/powerbutton"
 sys.path.insert(0, str(HERE.parent / "python"))

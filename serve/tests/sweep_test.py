@@ -14,7 +14,7 @@ from typing import Any, Dict, List
 
 HERE = Path(__file__).resolve().parent
 BENCH = HERE.parent.parent / "examples/bench"
-SWEEP = HERE.parent / "sweep"
+SWEEP = HERE.parent / "sweep.py"
 sys.path.insert(0, str(HERE.parent / "python"))
 from gpioserve import programs  # noqa: E402
 from gpioserve.errors import NotServed  # noqa: E402
