@@ -17,7 +17,12 @@ DOCUMENTS = [
     *sorted((TOP / "crates").glob("*/*.md")),
 ]
 CODE = re.compile(r"`([^`]+)`")
-READ = [*sorted(TOP.glob("*.md")), *sorted((TOP / "docs").glob("*.md")), *sorted((TOP / "serve").glob("*.md"))]
+READ = [
+    *sorted(TOP.glob("*.md")),
+    *sorted((TOP / "docs").glob("*.md")),
+    *sorted((TOP / "serve").glob("*.md")),
+    *sorted((TOP / "crates").glob("*/README.md")),
+]
 LINK = re.compile(r"\[([^\]]*)\]\([^)]*\)")
 LIST_MARK = re.compile(r"\s*(?:[-*]|\d+\.)\s")
 WORDS_WANTED, WORDS_MOST = 30, 45  # of a sentence: as a rule, and ever
