@@ -1,7 +1,7 @@
 #!/usr/bin/env python3
 """Shows the board of a gpioserve that runs: chips and lines as they change, and keys that pull lines.
 
-    gpioserve-board [--folder FOLDER]
+    gpioserve-board [--folder FOLDER] [--color WHEN]
     gpioserve-board --once | --json
 
 Run it in a command of gpioserve, or name the folder of one: gpioserve --folder FOLDER. The key ? shows the keys. Each
@@ -28,6 +28,7 @@ from gpioserve import board_screen  # noqa: E402
 from gpioserve.board import look_once  # noqa: E402
 from gpioserve.connection import Connection  # noqa: E402
 from gpioserve.errors import MachineError, NotServed  # noqa: E402
+from gpioserve.looks import CHOICES, colours_of_terminal, painted, wants_colours  # noqa: E402
 from gpioserve.programs import version  # noqa: E402
 
 NAME = "gpioserve-board"
@@ -45,8 +46,26 @@ def arguments() -> argparse.Namespace:
     form = parser.add_mutually_exclusive_group()
     form.add_argument("--once", action="store_true", help="prints the table, and ends")
     form.add_argument("--json", action="store_true", help="prints it for other programs, and ends")
+    parser.add_argument(
+        "--color",
+        choices=CHOICES,
+        default="auto",
+        help="whether there are colours (auto: on a terminal, without NO_COLOR)",
+    )
     parser.add_argument("--version", action="version", version=f"gpioserve-board {version()}")
     return parser.parse_args()
+
+
+def has_colours(options: argparse.Namespace) -> bool:
+    """Whether what is shown on the standard output has colours, where its terminal has some."""
+    return wants_colours(options.color, os.environ, sys.stdout.isatty())
+
+
+def colours_of_output(options: argparse.Namespace) -> int:
+    """How many colours the table may have: 8 where they are wanted although the output is no terminal."""
+    if not has_colours(options):
+        return 0
+    return colours_of_terminal(sys.stdout.fileno()) if sys.stdout.isatty() else 8
 
 
 def print_once(options: argparse.Namespace) -> None:
@@ -56,7 +75,9 @@ def print_once(options: argparse.Namespace) -> None:
     if options.json:
         print(json.dumps(board.as_json(), indent=1))
     else:
-        print("\n".join(row.rstrip() for row in board.table(time.monotonic())))
+        colours = colours_of_output(options)
+        for cells in board.table(time.monotonic()):
+            print(painted(cells, colours).rstrip())
     sys.stdout.flush()
 
 
@@ -78,7 +99,7 @@ def main() -> int:
         if not (sys.stdin.isatty() and sys.stdout.isatty()):
             raise NotServed("there is no terminal: --once prints the table")
         with Connection(options.folder) as observer, Connection(options.folder) as world:
-            board_screen.show(observer, world)
+            board_screen.show(observer, world, has_colours(options))
     except BrokenPipeError:
         os.dup2(os.open(os.devnull, os.O_WRONLY), sys.stdout.fileno())
         return 1

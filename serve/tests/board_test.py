@@ -8,10 +8,12 @@ import shutil
 import signal
 import subprocess
 import sys
-import tempfile
 import time
 import unittest
 from pathlib import Path
+from typing import Dict, List, Set, Tuple
+
+from terminal import Terminal
 
 HERE = Path(__file__).resolve().parent
 BOARD = HERE.parent / "board.py"
@@ -19,12 +21,33 @@ BENCH = HERE.parents[1] / "examples/bench"
 DAEMON = BENCH / "out/powerbutton"
 sys.path.insert(0, str(HERE.parent / "python"))
 from gpioserve import Machine, programs  # noqa: E402
-from gpioserve.errors import NotServed  # noqa: E402
+from gpioserve.board import OUTPUT, Line  # noqa: E402
+from gpioserve.errors import MachineError, NotServed  # noqa: E402
+from gpioserve.looks import LOOKS, Meaning  # noqa: E402
 
 # Seconds that a screen may take to come: a machine may be busy.
 LIMIT = 500
 CHANGES = 10_000
 LARGE = "\n".join(f"probe chip{number} 512" for number in range(64))
+
+# A line that the board itself holds as an output.
+HOGGED = """
+mkdir panel
+mkdir panel/front
+write panel/front/num_lines 2
+mkdir panel/front/line1
+mkdir panel/front/line1/hog
+write panel/front/line1/hog/name motor
+write panel/front/line1/hog/direction output-high
+write panel/live 1
+"""
+COLOURS = {look.colour for look in LOOKS.values() if look.colour}
+# ECMA-48's sequence for the look of what follows, and the number of bold in it.
+SEQUENCE = re.compile("\033\\[([0-9;]*)m")
+BOLD = "1"
+
+# A row as `--once --color=always` prints it.
+PAINTED = "     1                in  \033[1;33m1 HI  \033[m\033[35mup   \033[m-    -          0 -"
 
 # The page with the picture of the screen on which the button is pressed; its first rows are the same in each run.
 PAGE = HERE.parents[1] / "docs/BOARD.md"
@@ -42,61 +65,47 @@ def setUpModule() -> None:
         raise unittest.SkipTest("there is no tmux")
 
 
-class Terminal:
-    """A terminal of tmux in which a command runs; its status is printed at its end."""
-
-    def __init__(self, command: str, columns: int = 80, rows: int = 24) -> None:
-        self._folder = tempfile.TemporaryDirectory()
-        self._tmux("new-session", "-d", "-x", str(columns), "-y", str(rows), f"{command}; echo status $?; sleep 3600")
-
-    def _tmux(self, *words: str) -> str:
-        command = ["tmux", "-S", f"{self._folder.name}/socket", "-f", "/dev/null", *words]
-        environment = {name: value for name, value in os.environ.items() if name != "TMUX"}
-        done = subprocess.run(command, stdout=subprocess.PIPE, text=True, env=environment, check=True)
-        return done.stdout
-
-    def screen(self) -> str:
-        """What stands on the terminal, without blanks at the ends of lines."""
-        return "\n".join(row.rstrip() for row in self._tmux("capture-pane", "-p").split("\n"))
-
-    def until(self, pattern: str) -> str:
-        """The first screen that has a match."""
-        end = time.monotonic() + LIMIT
-        while True:
-            screen = self.screen()
-            if re.search(pattern, screen, re.M):
-                return screen
-            if time.monotonic() > end:
-                raise AssertionError(f"no {pattern!r} in\n{screen}")
-            time.sleep(0.02)
-
-    def keys(self, *keys: str) -> None:
-        self._tmux("send-keys", *keys)
-
-    def signal(self, number: int) -> None:
-        """Sends a signal to the command."""
-        shell = self._tmux("display-message", "-p", "#{pane_pid}").strip()
-        os.kill(int(Path(f"/proc/{shell}/task/{shell}/children").read_text().split()[0]), number)
-
-    def resize(self, columns: int, rows: int) -> None:
-        self._tmux("resize-window", "-x", str(columns), "-y", str(rows))
-
-    def close(self) -> None:
-        self._tmux("kill-server")
-        self._folder.cleanup()
+def colours_in(shown: str) -> Set[str]:
+    """The colours of letters on a screen, as its sequences name them."""
+    colour = re.compile("(?:^|;)(38;5;[0-9]+|3[0-7])(?=;|$)")
+    return {found for numbers in SEQUENCE.findall(shown) for found in colour.findall(numbers)}
 
 
-class BoardTest(unittest.TestCase):
-    """A board on a terminal."""
+def attributes_before(text: str, shown: str) -> List[str]:
+    """The numbers of the sequences right before a text on a screen."""
+    found = re.search(rf"((?:{SEQUENCE.pattern})*)[^\033]*{re.escape(text)}", shown)
+    return ";".join(SEQUENCE.findall(found[1])).split(";") if found else []
+
+
+def rgb_of(number: int) -> Tuple[int, int, int]:
+    """A colour of xterm's 256, from 16 on: a cube of six levels, and then greys."""
+    if number >= 232:
+        grey = 8 + 10 * (number - 232)
+        return (grey, grey, grey)
+    levels = (0, 95, 135, 175, 215, 255)
+    return (levels[(number - 16) // 36], levels[(number - 16) // 6 % 6], levels[(number - 16) % 6])
+
+
+def distance(one: Tuple[int, int, int], other: Tuple[int, int, int]) -> int:
+    """How far two colours are from each other: the square of it."""
+    return sum((mine - its) ** 2 for mine, its in zip(one, other))
+
+
+class BoardCase(unittest.TestCase):
+    """What tests of a board on a terminal stand on."""
 
     def machine(self, board: object = BENCH / "board", clock: str = "manual") -> Machine:
         machine = Machine(board, clock=clock)  # type: ignore[arg-type]
         self.addCleanup(machine.close)
         return machine
 
-    def terminal(self, machine: Machine, columns: int = 80, rows: int = 24) -> Terminal:
-        folder = shlex.quote(machine.environment["GPIOSERVE"])
-        terminal = Terminal(f"{sys.executable} {shlex.quote(str(BOARD))} --folder {folder}", columns, rows)
+    def terminal(self, machine: Machine, columns: int = 80, rows: int = 24, looks: str = "") -> Terminal:
+        """A terminal with the board; `looks` has variables and options, as `TERM=screen --color=never`."""
+        words = shlex.split(looks)
+        options = [word for word in words if word.startswith("-")]
+        variables = [word for word in words if word not in options]
+        command = [sys.executable, str(BOARD), "--folder", machine.environment["GPIOSERVE"], *options]
+        terminal = Terminal(shlex.join(["env", "-u", "NO_COLOR", *variables, *command]), columns, rows, LIMIT)
         self.addCleanup(terminal.close)
         return terminal
 
@@ -105,12 +114,16 @@ class BoardTest(unittest.TestCase):
         machine.say("gpiodetect")  # (so that what was said before stands there)
         return sum(row.startswith(beginning) for row in machine.transcript.read_text().splitlines())
 
+
+class BoardTest(BoardCase):
+    """A board on a terminal."""
+
     def test_a_button_and_an_led(self) -> None:
         if not os.access(DAEMON, os.X_OK):
             self.skipTest("examples/bench isn't built")
         machine = self.machine()
         daemon = machine.start([DAEMON, "/dev/gpiochip0", "POWER", "LED"])
-        machine.until_held(0, 1)
+        machine.until_held(0, 1, seconds=LIMIT)
         terminal = self.terminal(machine)
         terminal.until("^     1 LED  .* powerbutton")
         terminal.keys("/", "P", "O", "W", "E", "R", "Enter")
@@ -145,7 +158,8 @@ class BoardTest(unittest.TestCase):
             terminal.keys(key)
             self.until_said(machine, "write gpiochip0/sim_gpio0/pull pull-down", count)
             self.assertEqual(self.statements(machine, "write gpiochip0/sim_gpio0/pull pull-up"), count)
-            terminal.until("POWER .* down ")
+            # (the board knows of it once it shows the statement: only then is the next key one that pulls up)
+            terminal.until("POWER .* down (.*\n)*gpioserve-board .* pull-down$")
 
     def until_said(self, machine: Machine, beginning: str, count: int) -> None:
         """Waits until so many statements of the transcript begin so."""
@@ -164,13 +178,14 @@ class BoardTest(unittest.TestCase):
         terminal = self.terminal(self.machine())
         terminal.until("clock 0.000000 s, stands still")
         terminal.keys("c")
-        terminal.until("clock 0.[1-9]00000 s, runs")
+        terminal.until(r"clock (?!0\.000000)[0-9]+\.[0-9]00000 s, runs")
         terminal.keys("c")
         terminal.until("stands still")
         terminal.keys(":")
-        terminal.keys("-l", "clock 9000000000 9000000000")
+        # (later than it can have run to)
+        terminal.keys("-l", "clock 9000000000000 9000000000000")
         terminal.keys("Enter")
-        terminal.until("clock 9.000000 s, stands still")
+        terminal.until("clock 9000.000000 s, stands still")
 
     def test_help_errors_and_the_end(self) -> None:
         terminal = self.terminal(self.machine(clock="system"))
@@ -190,7 +205,7 @@ class BoardTest(unittest.TestCase):
         terminal = self.terminal(self.machine(), 30, 5)
         terminal.until("^too small: 40 by 8")
         terminal.resize(100, 30)
-        screen = terminal.until("^     3 ")
+        screen = terminal.until(r"^     3 (.*\n)+\? shows the keys")
         self.assertIn("? shows the keys", screen.splitlines()[29])
         terminal.resize(41, 8)
         terminal.until("^>gpiochip0(.*\n){5}. shows the keys")
@@ -238,11 +253,56 @@ class BoardTest(unittest.TestCase):
         terminal.until("^status 0")
 
 
+class LooksTest(BoardCase):
+    """What a terminal shows by attributes and colours."""
+
+    def test_colours_are_shown_where_they_are_wanted_and_there_are_some(self) -> None:
+        machine = self.machine(HOGGED)
+        with self.assertRaises(MachineError):
+            machine.say("unplug gpiochip9")
+        machine.pull(0, 0, True)
+        large = {f"38;5;{colour.of_256}" for colour in COLOURS}
+        cases: Dict[str, Set[str]] = {
+            "TERM=screen-256color": large,
+            "TERM=screen-256color NO_COLOR=": large,
+            "TERM=screen-256color NO_COLOR=1": set(),
+            "TERM=screen-256color NO_COLOR=1 --color=always": large,
+            "TERM=screen-256color --color=never": set(),
+            "TERM=screen": {f"3{colour.of_8}" for colour in COLOURS},
+            "TERM=vt100 --color=always": set(),
+        }
+        terminals = {looks: self.terminal(machine, looks=looks) for looks in cases}
+        texts = set()
+        for looks, wanted in cases.items():
+            with self.subTest(looks=looks):
+                texts.add(terminals[looks].until(r"^     0 .* 1 HI  up (.*\n)+\? shows the keys"))
+                shown = terminals[looks].screen(with_looks=True)
+                self.assertEqual(colours_in(shown), wanted)
+                self.assertIn(BOLD, attributes_before("1 HI", shown))
+                self.assertIn(BOLD, attributes_before("unplug gpiochip9 -> ENOENT", shown))
+        self.assertEqual(len(texts), 1, texts)  # (so that no colour says what no word says)
+
+    def test_each_colour_is_the_nearest_of_the_palette(self) -> None:
+        for colour in COLOURS:
+            with self.subTest(colour=colour):
+                nearest = min(distance(colour.rgb, rgb_of(number)) for number in range(16, 256))
+                self.assertEqual(distance(colour.rgb, rgb_of(colour.of_256)), nearest)
+        self.assertEqual(len({colour.of_8 for colour in COLOURS}), len(COLOURS))
+
+    def test_what_a_line_is_differs_in_words_too(self) -> None:
+        free = Line(0, 0)
+        lines = (free, Line(0, 0, level=1), Line(0, 0, flags=OUTPUT), Line(0, 0, pull="up"), Line(0, 0, consumer="x"))
+        rows = ["".join(text for text, _ in line.cells(0.0)) for line in lines]
+        self.assertEqual(len(set(rows)), len(lines))
+        looks = [{meaning for _, meaning in line.cells(0.0)} - {Meaning.PLAIN} for line in lines]
+        self.assertEqual(looks, [set(), {Meaning.HIGH}, {Meaning.OUTPUT}, {Meaning.PULLED_UP}, {Meaning.HELD}])
+
+
 class PrintedTest(unittest.TestCase):
     """What it prints for scripts."""
 
     def run_board(self, machine: Machine, *words: str) -> "subprocess.CompletedProcess[str]":
-        return machine.run([sys.executable, BOARD, *words], stdin=subprocess.DEVNULL)
+        return machine.run([sys.executable, BOARD, *words], stdin=subprocess.DEVNULL, timeout=LIMIT)
 
     def test_once_and_json(self) -> None:
         with Machine("probe demo 2", clock="manual") as machine:
@@ -250,6 +310,7 @@ class PrintedTest(unittest.TestCase):
             rows = self.run_board(machine, "--once").stdout.splitlines()
             self.assertEqual(rows[1], "gpiochip0 [demo] (2 lines)")
             self.assertEqual(rows[3], "     1                in  1 HI  up   -    -          0 -")
+            self.assertEqual(self.run_board(machine, "--once", "--color", "always").stdout.splitlines()[3], PAINTED)
             board = json.loads(self.run_board(machine, "--json").stdout)
             self.assertEqual(board["clock"], {"manual": True, "nanoseconds": 0})
             self.assertEqual((board["chips"][0]["label"], board["chips"][0]["lines"][1]["level"]), ("demo", 1))

@@ -9,6 +9,7 @@ from typing import Any, Deque, Dict, Iterator, List, Optional, Set, Tuple
 
 from .connection import Connection
 from .errors import WaitTimeout
+from .looks import Cells, Meaning
 
 # The flags of linux/gpio.h, and the words for them.
 USED, ACTIVE_LOW, OUTPUT = 1 << 0, 1 << 1, 1 << 3
@@ -68,12 +69,19 @@ class Line:
             self.news.popleft()
         return sum(count for _, count in self.news)
 
-    def row(self, now: float) -> str:
+    def cells(self, now: float) -> Cells:
         """The line as a row of the table."""
         name = self.name if len(self.name) <= 14 else self.name[:13] + "~"
-        level = "1 HI " if self.level else "0 lo "
-        front = f"{self.offset:6} {name:14} {self.direction:3} {level} {self.pull:4} {self.bias:4} "
-        return front + f"{self.edges:7} {self.events(now):4} {self.holder}"
+        events = self.events(now)
+        return [
+            (f"{self.offset:6} {name:14} ", Meaning.PLAIN),
+            (f"{self.direction:3} ", Meaning.OUTPUT if self.flags & OUTPUT else Meaning.PLAIN),
+            ("1 HI  ", Meaning.HIGH) if self.level else ("0 lo  ", Meaning.PLAIN),
+            (f"{self.pull:4} ", Meaning.PULLED_UP if self.pull == "up" else Meaning.PLAIN),
+            (f"{self.bias:4} {self.edges:7} ", Meaning.PLAIN),
+            (f"{events:4} ", Meaning.EVENTS if events else Meaning.PLAIN),
+            (self.holder, Meaning.HELD if self.holder != "-" else Meaning.PLAIN),
+        ]
 
     def detail(self) -> str:
         """All of the line, in a sentence."""
@@ -109,10 +117,12 @@ class Board:
     def __init__(self) -> None:
         self.chips: Dict[int, str] = {}
         self.lines: Dict[Tuple[int, int], Line] = {}
-        self.log: Deque[str] = deque(maxlen=LOG_MOST)
+        self.recent: Dict[Tuple[int, int], Line] = {}  # lines of which events were read in the last second
+        self.log: Deque[Cells] = deque(maxlen=LOG_MOST)
         self.banks: Set[str] = set()  # of gpio-sim's devices, as DEVICE/BANK
         self.manual: Optional[int] = None  # the manual clock, in nanoseconds
         self.is_whole = False
+        self._rows: List[Tuple[int, Optional[Line]]] = []  # none where they have to be made anew
 
     def take(self, text: str, now: float) -> None:
         """Takes a report."""
@@ -125,6 +135,7 @@ class Board:
                 self.chips.clear()
                 self.lines.clear()
                 self.banks.clear()
+                self._rows = []
             elif word == "clock":
                 self.manual = int(rest.split()[1]) if rest.startswith("manual") else None
             elif word == "whole":
@@ -132,18 +143,22 @@ class Board:
 
     def _chip(self, rest: str, _now: float) -> None:
         self.chips[number_of(rest)] = rest
+        self._rows = []
 
     def _gone(self, rest: str, _now: float) -> None:
         chip = number_of(rest)
         self.chips.pop(chip, None)
         for key in [key for key in self.lines if key[0] == chip]:
             del self.lines[key]
+        self._rows = []
 
     def _line(self, rest: str, now: float) -> None:
         words = rest.split(" ")
         key = (number_of(words[0]), int(words[1]))
         is_new = key not in self.lines
         line = self.lines.setdefault(key, Line(*key))
+        if is_new:
+            self._rows = []
         before = line.read
         for word in words[2:]:
             name, _, value = word.partition("=")
@@ -155,6 +170,7 @@ class Board:
                 setattr(line, name, value)
         if line.read > before and not is_new:
             line.news.append((now, line.read - before))
+            self.recent[key] = line
 
     def _said(self, rest: str, _now: float) -> None:
         pid, program, printed, statement = rest.split(" ", 3)
@@ -165,27 +181,37 @@ class Board:
             return
         asker = f"{program} {pid}" if pid != "0" else "gpioserve"
         printed = "" if printed == "-" else " -> " + printed.replace("\\x20", " ")
-        self.log.append(f"{asker}: {statement}{printed}")
+        has_failed = re.search(r"[ :]E[A-Z0-9]+$", printed)
+        self.log.append([(f"{asker}: {statement}{printed}", Meaning.FAILED if has_failed else Meaning.PLAIN)])
 
     def _lost(self, rest: str, _now: float) -> None:
-        self.log.append(f"({rest} statements are missing here)")
+        self.log.append([(f"({rest} statements are missing here)", Meaning.PLAIN)])
 
     def rows(self) -> List[Tuple[int, Optional[Line]]]:
         """The rows of the table: a chip's, without a line, and then its lines'."""
-        found: List[Tuple[int, Optional[Line]]] = []
+        if self._rows:
+            return self._rows
         by_chip: Dict[int, List[Line]] = {}
         for key in sorted(self.lines):
             by_chip.setdefault(key[0], []).append(self.lines[key])
         for chip in sorted(self.chips):
-            found.append((chip, None))
-            found += [(chip, line) for line in by_chip.get(chip, [])]
-        return found
+            self._rows.append((chip, None))
+            self._rows += [(chip, line) for line in by_chip.get(chip, [])]
+        return self._rows
 
-    def table(self, now: float) -> Iterator[str]:
-        """The table as text."""
-        yield HEADER
+    def forget_old_events(self, now: float) -> None:
+        """Leaves in `recent` the lines of which events were read in the last second."""
+        self.recent = {key: line for key, line in self.recent.items() if line.events(now)}
+
+    def cells(self, chip: int, line: Optional[Line], now: float) -> Cells:
+        """One of `rows` as its parts."""
+        return line.cells(now) if line else [(self.chips[chip], Meaning.CHIP)]
+
+    def table(self, now: float) -> Iterator[Cells]:
+        """The table: its head and its rows."""
+        yield [(HEADER, Meaning.HEADER)]
         for chip, line in self.rows():
-            yield line.row(now) if line else self.chips[chip]
+            yield self.cells(chip, line, now)
 
     def as_json(self) -> Dict[str, Any]:
         """The board for other programs."""

@@ -8,11 +8,13 @@ import select
 import signal
 import sys
 import time
-from typing import Callable, Dict, List, Optional, Tuple
+from contextlib import contextmanager
+from typing import Callable, Dict, Iterator, Optional, Tuple
 
 from .board import HEADER, Board, Line
 from .connection import Connection
 from .errors import MachineError, Refused, WaitTimeout
+from .looks import Cells, Looks, Meaning
 
 SIZE_LEAST = (8, 40)
 # Seconds: a pulse; how long a held key may be silent, at its first repeat and then; a step of a manual clock that runs.
@@ -38,14 +40,14 @@ Each key that changes something says a statement, which stands in the transcript
 class Screen:
     """A terminal with the board."""
 
-    def __init__(self, window: "curses.window", observer: Connection, world: Connection) -> None:
-        self.window, self.observer, self.world = window, observer, world
+    def __init__(self, window: "curses.window", observer: Connection, world: Connection, looks: Looks) -> None:
+        self.window, self.observer, self.world, self.looks = window, observer, world, looks
         self.board = Board()
         self.chosen = 0  # the row with the cursor
         self.top = 0  # the first row that is shown
         self.older = 0  # statements that the log is scrolled back by
         self.shows_log, self.shows_help, self.is_over, self.runs = True, False, False, False
-        self.message = "? shows the keys"
+        self.message = ("? shows the keys", Meaning.PLAIN)
         self.prompt: Optional[Tuple[str, str]] = None  # what is asked for, `/` or `:`, and what was typed
         self.wanted = ""  # what was searched last
         self.releases: Dict[Tuple[int, int], Tuple[float, str]] = {}  # when lines get which pull again
@@ -99,7 +101,7 @@ class Screen:
         now = time.monotonic()
         times = [due - now for due, _ in self.releases.values()]
         times += [self.next_step - now] if self.runs else []
-        times += [0.25] if any(line.news for line in self.board.lines.values()) else []
+        times += [0.25] if self.board.recent else []
         return max(min(times), 0.0) if times else None
 
     def _keep_times(self) -> None:
@@ -108,9 +110,7 @@ class Screen:
         for key in [key for key, (due, _) in self.releases.items() if due <= now]:
             _, pull = self.releases.pop(key)
             self._pull(key, pull)
-        for line in self.board.lines.values():
-            if line.news:
-                line.events(now)
+        self.board.forget_old_events(now)
         if self.runs and now >= self.next_step:
             self.next_step = now + STEP
             self.runs = self._say(f"pass {int(STEP * 1000)}ms")
@@ -120,10 +120,14 @@ class Screen:
         try:
             printed = self.world.say(statement).strip()
         except (MachineError, Refused) as fault:
-            self.message = f"{statement}: {fault.text.strip()}"
+            self.message = (f"{statement}: {fault.text.strip()}", Meaning.FAILED)
             return False
-        self.message = f"{statement}{' -> ' + printed.splitlines()[0] if printed else ''}"
+        self._show(f"{statement}{' -> ' + printed.splitlines()[0] if printed else ''}")
         return True
+
+    def _show(self, message: str) -> None:
+        """Shows a sentence in the last row."""
+        self.message = (message, Meaning.PLAIN)
 
     def _line_of(self, place: int) -> Optional[Line]:
         rows = self.board.rows()
@@ -137,7 +141,7 @@ class Screen:
         """Pulls the chosen line the other way, and back after a time."""
         line = self._line_of(self.chosen)
         if not line:
-            self.message = "choose a line first"
+            self._show("choose a line first")
             return
         key = (line.chip, line.offset)
         if key in self.releases:
@@ -165,7 +169,7 @@ class Screen:
         """Unplugs the chosen chip: one of `probe`, or the device whose bank it is."""
         rows = self.board.rows()
         if not rows:
-            self.message = "there is no chip"
+            self._show("there is no chip")
             return
         name = f"gpiochip{rows[self.chosen][0]}"
         for bank in sorted(self.board.banks):
@@ -180,10 +184,10 @@ class Screen:
 
     def _run_clock(self) -> None:
         if self.board.manual is None:
-            self.message = "the clock is the system's: gpioserve --clock manual leaves it to you"
+            self._show("the clock is the system's: gpioserve --clock manual leaves it to you")
             return
         self.runs = not self.runs
-        self.message = "the clock runs" if self.runs else "the clock stands still"
+        self._show("the clock runs" if self.runs else "the clock stands still")
 
     def _step_clock(self) -> None:
         self._say("pass 10ms")
@@ -215,7 +219,7 @@ class Screen:
             if self.wanted and any(self.wanted.lower() in text.lower() for text in texts):
                 self.chosen = place
                 return
-        self.message = f"{self.wanted} is nowhere"
+        self._show(f"{self.wanted} is nowhere")
 
     def _take_keys(self) -> None:
         while True:
@@ -242,7 +246,7 @@ class Screen:
         elif key in (10, 13, curses.KEY_ENTER):
             self.prompt = None
             if sign == ":" and text.split()[:1] == ["wait"]:
-                self.message = "the board waits for nothing: gpiosay does"
+                self._show("the board waits for nothing: gpiosay does")
             elif sign == ":" and text.strip():
                 self._say(text)
             elif sign == "/":
@@ -251,48 +255,62 @@ class Screen:
         elif 32 <= key < 127:
             self.prompt = (sign, text + chr(key))
 
-    def _put(self, place: int, text: str, look: int = 0) -> None:
+    def _put(self, place: int, cells: Cells, row: Meaning = Meaning.PLAIN) -> None:
         """Writes a row, cut to the width; the last column stays free, where a terminal might scroll."""
-        width = self.window.getmaxyx()[1] - 1
-        try:
-            self.window.addstr(place, 0, text[:width].ljust(width), look)
-        except curses.error:
-            pass  # (the terminal has become smaller just now)
+        width, column = self.window.getmaxyx()[1] - 1, 0
+        for text, meaning in (*cells, (" " * width, Meaning.PLAIN)):
+            shown = text[: width - column]
+            try:
+                self.window.addstr(place, column, shown, self.looks.attribute(meaning, row))
+            except curses.error:
+                pass  # (the terminal has become smaller just now)
+            column += len(shown)
+
+    def _put_text(self, place: int, text: str, row: Meaning = Meaning.PLAIN) -> None:
+        """Writes a row that is one text."""
+        self._put(place, [(text, Meaning.PLAIN)], row)
 
     def _draw(self) -> None:
         height, width = self.window.getmaxyx()
         self.window.erase()
         if height < SIZE_LEAST[0] or width < SIZE_LEAST[1]:
-            self._put(0, f"too small: {SIZE_LEAST[1]} by {SIZE_LEAST[0]} is the least")
+            self._put_text(0, f"too small: {SIZE_LEAST[1]} by {SIZE_LEAST[0]} is the least")
         elif self.shows_help:
             for place, row in enumerate(HELP.splitlines()[:height]):
-                self._put(place, row)
+                self._put_text(place, row)
         else:
             self._draw_board(height)
         self.window.refresh()
 
     def _draw_board(self, height: int) -> None:
-        rows, now = self.board.rows(), time.monotonic()
         log = max((height - 5) // 3, 1) if self.shows_log else 0
         shown = height - 4 - (log + 1 if log else 0)
-        self.top = min(max(self.top, self.chosen - shown + 1), self.chosen)
-        self._put(0, self._title(), curses.A_REVERSE)
-        self._put(1, HEADER, curses.A_BOLD)
-        for place, (chip, line) in enumerate(rows[self.top : self.top + shown]):
-            is_chosen = self.top + place == self.chosen
-            text = line.row(now) if line else self.board.chips[chip]
-            look = curses.A_BOLD if line is None or line.level else 0
-            if is_chosen:
-                text = ">" + (text[1:] if line else text)
-            self._put(2 + place, text, look | (curses.A_REVERSE if is_chosen else 0))
+        self._put_text(0, self._title(), Meaning.TITLE)
+        self._put_text(1, HEADER, Meaning.HEADER)
+        self._draw_rows(2, shown)
         if log:
-            self._put(2 + shown, f"-- statements{f', {self.older} back' if self.older else ''} " + "-" * 300)
-            end = len(self.board.log) - self.older
-            for place, row in enumerate(list(self.board.log)[max(end - log, 0) : end]):
-                self._put(3 + shown + place, row)
+            self._draw_log(2 + shown, log)
         chosen = self._line_of(self.chosen)
-        self._put(height - 2, chosen.detail() if chosen else "", curses.A_BOLD)
-        self._put(height - 1, "".join(self.prompt) + "_" if self.prompt else self.message)
+        self._put_text(height - 2, chosen.detail() if chosen else "", Meaning.HEADER)
+        self._put(height - 1, [("".join(self.prompt) + "_", Meaning.PLAIN) if self.prompt else self.message])
+
+    def _draw_rows(self, place: int, shown: int) -> None:
+        """Draws that many rows of the table, among which is the chosen one."""
+        rows, now = self.board.rows(), time.monotonic()
+        self.top = min(max(self.top, self.chosen - shown + 1), self.chosen)
+        for number, (chip, line) in enumerate(rows[self.top : self.top + shown], self.top):
+            cells = self.board.cells(chip, line, now)
+            if number == self.chosen:
+                text, meaning = cells[0]
+                cells = [(">" + (text[1:] if line else text), meaning), *cells[1:]]
+            self._put(place + number - self.top, cells, Meaning.CHOSEN if number == self.chosen else Meaning.PLAIN)
+
+    def _draw_log(self, place: int, most: int) -> None:
+        """Draws the heading of the statements, and at most so many below it."""
+        self._put_text(place, f"-- statements{f', {self.older} back' if self.older else ''} " + "-" * 300)
+        end = len(self.board.log) - self.older
+        for below, cells in enumerate(list(self.board.log)[max(end - most, 0) : end], 1):
+            self._put(place + below, cells)
 
     def _title(self) -> str:
         clock = "the system's"
@@ -301,7 +319,24 @@ class Screen:
         return f" gpioserve-board   chips {len(self.board.chips)}   lines {len(self.board.lines)}   clock {clock}"
 
 
-def show(observer: Connection, world: Connection) -> None:
+@contextmanager
+def terminal_of_curses() -> Iterator["curses.window"]:
+    """The terminal as curses has it; afterwards it is as before. Unlike curses.wrapper it begins no colours.
+
+    With colours that nobody asked for, curses would write white on black, whatever the terminal's own colours are.
+    """
+    window = curses.initscr()
+    try:
+        curses.noecho()
+        curses.cbreak()
+        yield window
+    finally:
+        curses.echo()
+        curses.nocbreak()
+        curses.endwin()
+
+
+def show(observer: Connection, world: Connection, has_colours: bool) -> None:
     """Shows the board until a key or a signal ends it; the terminal is as before then."""
     reader, writer = os.pipe()
     os.set_blocking(writer, False)
@@ -309,15 +344,13 @@ def show(observer: Connection, world: Connection) -> None:
     def end(number: int, _frame: object) -> None:
         raise SystemExit(128 + number)
 
-    def inside(window: "curses.window") -> None:
-        signal.signal(signal.SIGWINCH, lambda *_: None)
-        signal.set_wakeup_fd(writer, warn_on_full_buffer=False)
-        Screen(window, observer, world).run(reader)
-
     for number in (signal.SIGINT, signal.SIGTERM, signal.SIGHUP):
         signal.signal(number, end)
     try:
-        curses.wrapper(inside)
+        with terminal_of_curses() as window:
+            signal.signal(signal.SIGWINCH, lambda *_: None)
+            signal.set_wakeup_fd(writer, warn_on_full_buffer=False)
+            Screen(window, observer, world, Looks(has_colours)).run(reader)
     finally:
         signal.set_wakeup_fd(-1)
         os.close(reader)
