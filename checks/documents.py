@@ -28,6 +28,7 @@ LIST_MARK = re.compile(r"\s*(?:[-*]|\d+\.)\s")
 WORDS_WANTED, WORDS_MOST = 30, 45  # of a sentence: as a rule, and ever
 RULE_PERCENT = 90  # of a page's sentences that keep to the rule
 PARAGRAPH_MOST = 500  # characters
+REPEATED_LEAST = 100  # characters of a paragraph that may not stand twice
 
 
 def crates() -> Dict[str, List[str]]:
@@ -105,6 +106,17 @@ def readable() -> Iterator[str]:
         for number, size in paragraphs(path):
             if size > PARAGRAPH_MOST:
                 yield f"{named(path)}:{number}: a paragraph of {size} characters, at most {PARAGRAPH_MOST}"
+
+
+def repeated() -> Iterator[str]:
+    """Paragraphs and lists of some length that stand in the documents twice."""
+    first: Dict[str, str] = {}
+    for path in READ:
+        for block in path.read_text().split("\n\n"):
+            if len(block) > REPEATED_LEAST and not block.startswith(("|", "```")):
+                if block.strip() in first:
+                    yield f"{named(path)}: a paragraph of {first[block.strip()]} again: {block.strip()[:60]}"
+                first.setdefault(block.strip(), named(path))
 
 
 def promises() -> Iterator[Tuple[str, List[str], List[str]]]:
@@ -325,6 +337,7 @@ CHECKS: List[Callable[[], Iterator[str]]] = [
     links,
     lengths,
     readable,
+    repeated,
     cells,
     definitions,
     contracts,
