@@ -43,12 +43,21 @@ def named(path: Path) -> str:
     return str(path.relative_to(TOP))
 
 
+def anchors(path: Path) -> Set[str]:
+    """The names by which a link finds the headings of a document."""
+    heads = re.findall(r"^#+ (.*)$", path.read_text(), re.M)
+    return {re.sub(r"[^\w\- ]", "", head.lower()).replace(" ", "-") for head in heads}
+
+
 def links() -> Iterator[str]:
-    """Links that lead to no file."""
+    """Links that lead to no file, or to no heading of a document."""
     for path in DOCUMENTS:
-        for target in re.findall(r"\]\(([^)#\s]+)(?:#[^)]*)?\)", path.read_text()):
-            if "://" not in target and not (path.parent / target).exists():
+        for target, heading in re.findall(r"\]\(([^)#\s]*)(?:#([^)]*))?\)", path.read_text()):
+            other = path.parent / target if target else path
+            if "://" not in target and not other.exists():
                 yield f"{named(path)}: the link {target} leads nowhere"
+            elif heading and other.suffix == ".md" and heading not in anchors(other):
+                yield f"{named(path)}: {target or 'the page'} has no heading #{heading}"
 
 
 def lengths() -> Iterator[str]:
