@@ -26,7 +26,7 @@ from gpioserve.errors import MachineError, NotServed  # noqa: E402
 from gpioserve.looks import LOOKS, Meaning  # noqa: E402
 
 # Seconds that a screen may take to come: a machine may be busy.
-LIMIT = 500
+LIMIT = 240
 CHANGES = 10_000
 LARGE = "\n".join(f"probe chip{number} 512" for number in range(64))
 
@@ -302,16 +302,23 @@ class PrintedTest(unittest.TestCase):
     """What it prints for scripts."""
 
     def run_board(self, machine: Machine, *words: str) -> "subprocess.CompletedProcess[str]":
+        """Runs the board without a terminal."""
         return machine.run([sys.executable, BOARD, *words], stdin=subprocess.DEVNULL, timeout=LIMIT)
+
+    def rows(self, machine: Machine, *words: str) -> List[str]:
+        """The rows that it prints."""
+        done = self.run_board(machine, *words)
+        self.assertEqual((done.returncode, done.stderr), (0, ""))
+        return list(done.stdout.splitlines())
 
     def test_once_and_json(self) -> None:
         with Machine("probe demo 2", clock="manual") as machine:
             machine.pull(0, 1, True)
-            rows = self.run_board(machine, "--once").stdout.splitlines()
+            rows = self.rows(machine, "--once")
             self.assertEqual(rows[1], "gpiochip0 [demo] (2 lines)")
             self.assertEqual(rows[3], "     1                in  1 HI  up   -    -          0 -")
-            self.assertEqual(self.run_board(machine, "--once", "--color", "always").stdout.splitlines()[3], PAINTED)
-            board = json.loads(self.run_board(machine, "--json").stdout)
+            self.assertEqual(self.rows(machine, "--once", "--color", "always")[3], PAINTED)
+            board = json.loads("".join(self.rows(machine, "--json")))
             self.assertEqual(board["clock"], {"manual": True, "nanoseconds": 0})
             self.assertEqual((board["chips"][0]["label"], board["chips"][0]["lines"][1]["level"]), ("demo", 1))
 

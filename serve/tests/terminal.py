@@ -20,7 +20,9 @@ class Terminal:
     def _tmux(self, *words: str) -> str:
         command = ["tmux", "-S", f"{self._folder.name}/socket", "-f", "/dev/null", *words]
         environment = {name: value for name, value in os.environ.items() if name != "TMUX"}
-        done = subprocess.run(command, stdout=subprocess.PIPE, text=True, env=environment, check=True)
+        done = subprocess.run(
+            command, stdout=subprocess.PIPE, text=True, env=environment, check=True, timeout=self.limit
+        )
         return done.stdout
 
     def screen(self, with_looks: bool = False) -> str:
