@@ -13,6 +13,7 @@
 #include <sys/un.h>
 #include <unistd.h>
 
+#include "../packet.h"
 #include "lock.h"
 #include "process.h"
 
@@ -40,10 +41,7 @@ static struct {
 struct exchange {
     const struct question *question;
     const void *sent;
-    struct answer *answer;
-    void *got;
-    size_t room;
-    int file; /* that came, or -1 */
+    struct packet packet;
     bool cloexec;
 };
 
@@ -159,39 +157,15 @@ static int send_question(int socket, const struct exchange *exchange) {
     return errno == EFAULT ? EFAULT : errno == EPIPE || errno == ECONNRESET ? UNREAD : ENODEV;
 }
 
-/* Takes the file that came with a message; -1 where none did. */
-static int file_of(struct msghdr *message) {
-    int file = -1;
-    struct cmsghdr *head = CMSG_FIRSTHDR(message);
-    if (head && head->cmsg_level == SOL_SOCKET && head->cmsg_type == SCM_RIGHTS &&
-        head->cmsg_len == CMSG_LEN(sizeof file))
-        memcpy(&file, CMSG_DATA(head), sizeof file);
-    return file;
-}
-
 /* The same of the answer; EMFILE where a file came for which this process has no number left. */
 static int receive_answer(int socket, struct exchange *exchange) {
-    union {
-        char bytes[CMSG_SPACE(sizeof(int))];
-        struct cmsghdr aligned;
-    } control;
-    struct iovec parts[] = {{exchange->answer, sizeof *exchange->answer}, {exchange->got, exchange->room}};
-    struct msghdr message = {.msg_iov = parts,
-        .msg_iovlen = exchange->room > 0 ? 2 : 1,
-        .msg_control = control.bytes,
-        .msg_controllen = sizeof control.bytes};
-    long length;
-    do
-        length = syscall(SYS_recvmsg, socket, &message, exchange->cloexec ? MSG_CMSG_CLOEXEC : 0);
-    while (length < 0 && errno == EINTR);
+    struct packet *packet = &exchange->packet;
+    long length = packet_receive(socket, packet, exchange->cloexec);
     if (length < 0 && errno == EFAULT)
         return EFAULT;
     if (length < 0 && errno == ECONNRESET)
         return UNREAD;
-    if (length < (long)sizeof *exchange->answer)
-        return ENODEV;
-    exchange->file = file_of(&message);
-    return message.msg_flags & MSG_CTRUNC ? EMFILE : 0;
+    return length <= 0 ? ENODEV : packet->is_cut ? EMFILE : 0;
 }
 
 static int ask_over(int socket, struct exchange *exchange) {
@@ -227,7 +201,7 @@ int ask(const struct question *question, const void *sent, struct answer *answer
     bool cloexec) {
     const uint64_t all = UINT64_MAX; /* (those too that the C library keeps for itself) */
     uint64_t before;
-    struct exchange exchange = {question, sent, answer, got, room, -1, cloexec};
+    struct exchange exchange = {question, sent, {answer, got, room, -1, false}, cloexec};
     int kept = errno, error = ENODEV;
     if (!ask_home())
         return ENODEV;
@@ -237,9 +211,9 @@ int ask(const struct question *question, const void *sent, struct answer *answer
         syscall(SYS_rt_sigprocmask, SIG_SETMASK, &before, NULL, sizeof before);
     }
     if (file)
-        *file = exchange.file;
-    else if (exchange.file >= 0)
-        syscall(SYS_close, exchange.file);
+        *file = exchange.packet.file;
+    else if (exchange.packet.file >= 0)
+        syscall(SYS_close, exchange.packet.file);
     errno = kept;
     return error;
 }

@@ -8,6 +8,7 @@
 #include <sys/un.h>
 #include <unistd.h>
 
+#include "../packet.h"
 #include "../wire.h"
 
 int say_open(struct say *say, const char *folder) {
@@ -72,36 +73,17 @@ static int read_file(struct say *say, int file, size_t length) {
     return result;
 }
 
-static int file_of(struct msghdr *message) {
-    int file = -1;
-    struct cmsghdr *head = CMSG_FIRSTHDR(message);
-    if (head && head->cmsg_level == SOL_SOCKET && head->cmsg_type == SCM_RIGHTS &&
-        head->cmsg_len == CMSG_LEN(sizeof file))
-        memcpy(&file, CMSG_DATA(head), sizeof file);
-    return file;
-}
-
 /* Takes an answer's text, whose bytes came in the packet or in a file. */
 static int take_answer(struct say *say, struct answer *answer) {
-    union {
-        char bytes[CMSG_SPACE(sizeof(int))];
-        struct cmsghdr aligned;
-    } control;
-    struct iovec parts[] = {{answer, sizeof *answer}, {say->text, say->room - 1}};
-    struct msghdr message = {
-        .msg_iov = parts, .msg_iovlen = 2, .msg_control = control.bytes, .msg_controllen = sizeof control.bytes};
-    ssize_t got;
-    do
-        got = recvmsg(say->connection, &message, MSG_CMSG_CLOEXEC);
-    while (got < 0 && errno == EINTR);
-    if (got < (ssize_t)sizeof *answer)
+    struct packet packet = {.answer = answer, .data = say->text, .room = say->room - 1};
+    long got = packet_receive(say->connection, &packet, true);
+    if (got <= 0)
         return -1;
-    int file = file_of(&message);
     say->length = answer->length;
-    if (file >= 0 && answer->in_file)
-        return read_file(say, file, say->length);
-    if (file >= 0)
-        close(file);
+    if (packet.file >= 0 && answer->in_file)
+        return read_file(say, packet.file, say->length);
+    if (packet.file >= 0)
+        close(packet.file);
     return (size_t)got - sizeof *answer == say->length ? 0 : -1;
 }
 
