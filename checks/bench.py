@@ -2,6 +2,7 @@
 
   bench                   the table of the aims
   bench --counts          of it what repeats whatever else the machine does; --times: the rest, for a machine that does nothing else
+  bench --bounds          of it the ratios that checks/bench_bounds.txt has a bound for, each within its bound or not
   bench --loads           all loads of one actor: instructions and microseconds an entry, megabytes
   bench --actors          the same calls by 1 to 16 actors: seconds
   bench --beside          how often actors run beside each other: of 200 runs of eight actors, and of 40 of two daemons that fight for a line
@@ -11,7 +12,8 @@
 Instructions are those that `valgrind --tool=callgrind` collects in a whole run; where there is no valgrind it says so, and nanoseconds of
 processor time stand in their place. Answers are compared before anything is measured (bench_runs.py); bench_loads.py has the loads.
 
-This is no part of the gate. It needs the program that ./gpiosess --prove builds, and rustc for the plain one.
+Of this the gate runs --bounds (checks/counts), and nothing else. It needs the program that ./gpiosess --prove builds, and rustc for the plain
+one.
 """
 import argparse
 import re
@@ -32,6 +34,8 @@ from bench_runs import HAS_TASKSET, HAS_TIME, HAS_VALGRIND, RUNS, Asked, Numbers
 TOP = Path(__file__).resolve().parent.parent
 PROGRAM = TOP / "crates/gpiosess/out/gpiosess"
 ACTORS = (1, 2, 4, 8, 16)
+BOUNDS = TOP / "checks/bench_bounds.txt"
+BOUND_MARGIN = 1.03
 RATIO_MOST = 1.3
 COUNT_UNIT = "instructions an entry" if HAS_VALGRIND else "ns an entry"
 
@@ -156,6 +160,43 @@ def aims_table(programs: Pair, chosen: Callable[[Measure], bool]) -> None:
         aim_line(measure, measure.take(programs))
 
 
+def read_bounds() -> Dict[str, float]:
+    """The ratio of each measure when it was last measured, by the measure's name."""
+    rows = [row.split("\t") for row in BOUNDS.read_text().splitlines() if row and not row.startswith("#")]
+    return {name: float(ratio) for name, ratio in rows}
+
+
+def is_within(measure: Measure, numbers: Numbers, recorded: float) -> bool:
+    """Prints a measure's ratio beside its bound. True where it is at most the bound."""
+    bound = recorded * BOUND_MARGIN
+    within = numbers.ratio <= bound
+    shown = [
+        format(numbers.own, measure.form),
+        format(numbers.peer, measure.form),
+        f"{numbers.ratio:.2f}",
+        f"{bound:.2f}",
+    ]
+    line(measure.name, [*shown, "ok" if within else "FAILED"], behind=f"  {measure.unit}")
+    return within
+
+
+def bounds_table(programs: Pair, only: str) -> int:
+    """Prints each measure that has a bound. Returns the exit status: 1 where one is above its bound, or a bound has no measure."""
+    lacks()
+    recorded = read_bounds()
+    known = measures()
+    unknown = sorted(set(recorded) - {measure.name for measure in known})
+    bounded = [measure for measure in known if measure.name in recorded and measure.repeats and only in measure.name]
+    line("", ["ours", "plain", "ratio", "bound", ""], behind="  unit")
+    taken = [(measure, measure.take(programs)) for measure in bounded]
+    verdicts = [is_within(measure, numbers, recorded[measure.name]) for measure, numbers in taken if numbers]
+    for name in unknown:
+        print(f"{BOUNDS.name}: there is no measure {name!r}")
+    failed = verdicts.count(False) + len(unknown)
+    print(f"{verdicts.count(True)} passed, {failed} failed")
+    return 1 if failed else 0
+
+
 def cells(numbers: Optional[Numbers], unit: float, form: str) -> List[str]:
     """Two numbers in such units and their ratio, or dashes where they weren't taken."""
     if numbers is None:
@@ -242,6 +283,9 @@ def read_words() -> argparse.Namespace:
     what = parser.add_mutually_exclusive_group()
     what.add_argument("--counts", action="store_true", help="of the aims what repeats whatever else the machine does")
     what.add_argument(
+        "--bounds", action="store_true", help="of the aims the ratios with a bound, and whether each is within it"
+    )
+    what.add_argument(
         "--times", action="store_true", help="of the aims the times, for a machine that does nothing else"
     )
     what.add_argument("--loads", action="store_true", help="all loads of one actor, in place of the aims")
@@ -276,6 +320,8 @@ def main() -> None:
         peer = Path(folder) / "peer"
         subprocess.run([TOP / "checks/bench_peer/build", peer], check=True)
         programs = Pair(words.program or PROGRAM, peer)
+        if words.bounds:
+            sys.exit(bounds_table(programs, words.only))
         if words.loads:
             loads_table(programs, words.only)
         elif words.actors:
