@@ -8,6 +8,7 @@ import shutil
 import signal
 import subprocess
 import sys
+import tempfile
 import time
 import unittest
 from pathlib import Path
@@ -143,6 +144,24 @@ class BoardTest(BoardCase):
         self.assertEqual(daemon.wait(LIMIT), 3)
         self.assertEqual(self.statements(machine, "fault 1"), 1)
         self.assertEqual(self.statements(machine, "write panel/live 0"), 1)
+
+    def test_a_daemon_and_its_board_in_panes_of_one_terminal(self) -> None:
+        if not os.access(DAEMON, os.X_OK):
+            self.skipTest("examples/bench isn't built")
+        folder = tempfile.TemporaryDirectory()
+        self.addCleanup(folder.cleanup)
+        board = [programs.find("gpioserve"), "-b", str(BENCH / "board"), "--clock", "manual", "--"]
+        panes = ["new-session", f"{DAEMON} /dev/gpiochip0 POWER LED", ";", "split-window", "-l", "75%"]
+        tmux = ["tmux", "-S", f"{folder.name}/socket", "-f", "/dev/null", *panes, f"{sys.executable} {BOARD}"]
+        terminal = Terminal(shlex.join(["env", "-u", "TMUX", *board, *tmux]), 80, 24, LIMIT)
+        self.addCleanup(terminal.close)
+        terminal.until("^     1 LED .* powerbutton")
+        terminal.keys("Down", "Space", ".")
+        terminal.until("^LED is on\n(.*\n)*     1 LED .* 1 HI")
+        terminal.keys("q")
+        terminal.until("^LED is on\n\n(?!(.*\n)*.*LINE NAME)")
+        terminal.keys("C-c")
+        terminal.until("^status 0")
 
     def table(self, screen: str) -> str:
         """The first rows of a screen, without what differs in each run: the process, and the events of a second."""
