@@ -6,6 +6,7 @@
 #include <sys/syscall.h>
 #include <unistd.h>
 
+#include "../tree_names.h"
 #include "../wire.h"
 #include "ask.h"
 #include "memory.h"
@@ -165,7 +166,7 @@ static int chip_of(int from, const char *path) {
 
 /* Whether a name stands in the broker's folder. */
 static bool is_moved(const char *flat) {
-    if (tree_has(flat))
+    if (tree_names_has(flat))
         return tree_uses();
     for (size_t i = 0; i < sizeof moved / sizeof *moved; i++) {
         size_t length = strlen(moved[i]);
@@ -189,7 +190,7 @@ static bool whole_path(int from, const char *path, char flat[NAMES_ROOM]) {
 /* A folder of chips has more in it where gpio-sim's file system is shown: it is asked for before one is entered. */
 void names_enter(int from, const char *path) {
     char flat[NAMES_ROOM];
-    if (may_concern(path) && whole_path(from, path, flat) && tree_shares(flat))
+    if (may_concern(path) && whole_path(from, path, flat) && tree_names_shares(flat))
         tree_searches();
 }
 

@@ -36,6 +36,18 @@ static const char *const names[] = {"/dev/gpiochip0", "/dev/gpiochip1", "/dev/gp
     "/sys/dev/char/254:99", "/sys/devices/gpioserve/gpiochip0", "/sys/class/gpio", "/proc/self/status", ".", "..", "",
     "/", "/../../../dev/gpiochip0/..", "/dev/gpiochip0/", "/dev/gpiochip0/x", "/dev/null", "/proc/self/exe"};
 
+/* Names of gpio-sim's file system, which may be made and removed. */
+#define CONFIG "/sys/kernel/config/gpio-sim"
+static const char *const tree_names[] = {CONFIG, CONFIG "/", CONFIG "/a", CONFIG "/a/b", CONFIG "/a/b/line1",
+    CONFIG "/a/b/line1/hog", CONFIG "/a/live", CONFIG "/a/b/num_lines", CONFIG "/a/..", CONFIG "/a/b/.",
+    CONFIG "/a/../a/b/", CONFIG "/a/live/../live", CONFIG "/board/soc/line3/name", "/sys/kernel/config",
+    "/sys/bus/gpio/devices/gpiochip0/..", "/sys/bus/gpio/devices/gpiochip0/sim_gpio1/pull",
+    "/sys/devices/platform/gpio-sim.0/gpiochip1/sim_gpio0/value", "/sys/module/gpio_sim/initstate",
+    "/sys/dev/char/254:1/../254:0/dev"};
+
+static const int changes[] = {SYS_mkdirat, SYS_mkdirat, SYS_unlinkat, SYS_unlinkat, SYS_renameat2, SYS_linkat,
+    SYS_symlinkat, SYS_mknodat, SYS_truncate, SYS_fchmodat, SYS_fchownat};
+
 static const uint32_t commands[] = {GPIO_GET_CHIPINFO_IOCTL, GPIO_V2_GET_LINEINFO_IOCTL,
     GPIO_V2_GET_LINEINFO_WATCH_IOCTL, GPIO_GET_LINEINFO_UNWATCH_IOCTL, GPIO_V2_GET_LINE_IOCTL,
     GPIO_V2_LINE_SET_CONFIG_IOCTL, GPIO_V2_LINE_GET_VALUES_IOCTL, GPIO_V2_LINE_SET_VALUES_IOCTL,
@@ -66,8 +78,33 @@ static uint64_t address(void) {
     }
 }
 
+/* A name of gpio-sim's file system, or an address at which there is none. */
+static uint64_t tree_name(void) {
+    const uint64_t nowhere[] = {0, (uintptr_t)(pages + PAGE), UINT64_C(0xffff800000000000)};
+    return below(12) ? (uintptr_t)tree_names[below(sizeof tree_names / sizeof *tree_names)] : nowhere[below(3)];
+}
+
+/* A call that makes, removes or changes a name: of that file system alone, since it may well be done. */
+static long change(void) {
+    int number = changes[below(sizeof changes / sizeof *changes)];
+    uint64_t any = below(4) ? below(4) * AT_REMOVEDIR : below(1 << 16);
+    switch (number) {
+    case SYS_renameat2:
+    case SYS_linkat:
+        return syscall(number, AT_FDCWD, tree_name(), AT_FDCWD, tree_name(), any);
+    case SYS_symlinkat:
+        return syscall(number, tree_name(), AT_FDCWD, tree_name());
+    case SYS_truncate:
+        return syscall(number, tree_name(), any);
+    default:
+        return syscall(number, AT_FDCWD, tree_name(), any, any, 0);
+    }
+}
+
 static uint64_t name(void) {
     static char room[LONG_NAME];
+    if (below(4) == 0)
+        return tree_name();
     if (below(6) == 0)
         return address();
     if (below(40) != 0)
@@ -117,6 +154,8 @@ static long call(void) {
     uint64_t flags = below(1 << 14);
     if (below(3) == 0)
         return command();
+    if (below(6) == 0)
+        return change();
     switch (number) {
     case SYS_read:
     case SYS_readv: {
@@ -165,9 +204,11 @@ static void close_files(void) {
         close(number);
 }
 
-/* Whether the broker serves: a chip is opened. */
+/* Whether the broker serves: a chip is opened. What was open before is closed by then, as the file system's answer
+ * shows, so that nothing is left of it where leaks are looked for. */
 static bool still_serves(void) {
-    close_files();
+    syscall(SYS_close_range, FIRST_FILE, ~0u, 0);
+    access(CONFIG, F_OK);
     int chip = open("/dev/gpiochip0", O_RDWR);
     struct gpiochip_info info;
     return chip >= 0 && ioctl(chip, GPIO_GET_CHIPINFO_IOCTL, &info) == 0 && info.lines == 8;

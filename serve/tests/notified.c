@@ -524,6 +524,165 @@ static void test_slow_memory(void) {
     close(fault_file);
 }
 
+#define CONFIG "/sys/kernel/config/gpio-sim"
+#define TREE_LINK "/sys/bus/gpio/devices/gpiochip0"
+
+static bool reads_as(int file, const char *expected) {
+    char text[64] = "";
+    ssize_t length = file < 0 ? -1 : pread(file, text, sizeof text - 1, 0);
+    return length >= 0 && close(file) == 0 && strcmp(text, expected) == 0;
+}
+
+static void test_tree_folders(void) {
+    test("names in gpio-sim's file system are found from its open folders");
+    int config = open(CONFIG, O_RDONLY | O_DIRECTORY), device = -1;
+    CHECK(mkdirat(config, "sim", 0755) == 0 && (device = openat(config, "sim", O_RDONLY | O_DIRECTORY)) >= 0);
+    CHECK(mkdirat(device, "bank", 0755) == 0 && reads_as(openat(device, "bank/num_lines", O_RDONLY), "1\n"));
+    CHECK(faccessat(device, "../sim/live", R_OK | W_OK, 0) == 0 && faccessat(device, "../other", F_OK, 0) < 0);
+    CHECK(reads_as(openat(device, "../../../../bus/gpio/devices/gpiochip0/dev", O_RDONLY), "254:0\n"));
+    CHECK(opens(openat(device, "../../../../../dev/gpiochip0", O_RDWR)));
+    CHECK_ERROR(openat(device, "../../../../../etc/none", O_RDONLY), ENOENT);
+    CHECK(unlinkat(device, "bank", AT_REMOVEDIR) == 0 && unlinkat(config, "../gpio-sim/sim", AT_REMOVEDIR) == 0);
+    CHECK(mkdirat(device, "bank", 0755) < 0 && openat(device, "live", O_RDONLY) < 0);
+    close(device);
+    close(config);
+}
+
+static void test_tree_files(void) {
+    struct stat status;
+    struct statx extended;
+    uint8_t bytes[64] = {0};
+    int file = open(TREE_LINK "/dev", O_RDONLY), folder = open(CONFIG, O_RDONLY | O_DIRECTORY);
+    test("GPIO commands on its files, and their status, are the kernel's");
+    CHECK_ERROR(ioctl(file, GPIO_GET_CHIPINFO_IOCTL, bytes), ENOTTY);
+    CHECK_ERROR(ioctl(folder, GPIO_V2_LINE_GET_VALUES_IOCTL, bytes), ENOTTY);
+    CHECK(fstat(file, &status) == 0 && S_ISREG(status.st_mode));
+    CHECK(syscall(SYS_fstat, folder, &status) == 0 && S_ISDIR(status.st_mode));
+    CHECK(statx(folder, "", AT_EMPTY_PATH, STATX_BASIC_STATS, &extended) == 0 && S_ISDIR(extended.stx_mode));
+    close(folder);
+    close(file);
+}
+
+static void test_tree_paths(void) {
+    struct stat status;
+    char text[64];
+    test("wrong paths and changes there fail as the kernel lets them fail");
+    CHECK(mkdir(CONFIG "/sim/", 0755) == 0);
+    CHECK_ERROR(mkdir(CONFIG "/sim/.", 0755), EEXIST);
+    CHECK_ERROR(rmdir(CONFIG "/sim/."), EINVAL);
+    CHECK_ERROR(rmdir(CONFIG "/sim/.."), ENOTEMPTY);
+    CHECK_ERROR(stat(CONFIG "/sim/live/", &status), ENOTDIR);
+    CHECK_ERROR(stat(CONFIG "/sim/live/../live", &status), ENOTDIR);
+    CHECK_ERROR(stat(CONFIG "/none/../sim", &status), ENOENT);
+    CHECK_ERROR(open(CONFIG "/sim", O_WRONLY), EISDIR);
+    CHECK_ERROR(open(CONFIG "/sim/live", O_RDONLY | O_DIRECTORY), ENOTDIR);
+    CHECK_ERROR(open(CONFIG "/sim/live", O_WRONLY | O_CREAT | O_EXCL, 0644), EEXIST);
+    CHECK_ERROR(open(CONFIG "/sim/new", O_WRONLY | O_CREAT, 0644), EACCES);
+    CHECK_ERROR(unlink(CONFIG "/sim"), EISDIR);
+    CHECK_ERROR(rename(CONFIG "/sim/live", CONFIG "/sim/dead"), EPERM);
+    CHECK_ERROR(rename(CONFIG "/sim/live", "/tmp/live"), EXDEV);
+    CHECK_ERROR(link("/etc/passwd", CONFIG "/sim/passwd"), EXDEV);
+    CHECK_ERROR(symlink("/etc/passwd", CONFIG "/sim/passwd"), EPERM);
+    CHECK_ERROR(mknod(CONFIG "/sim/pipe", S_IFIFO | 0600, 0), EPERM);
+    CHECK_ERROR(chmod(CONFIG "/sim/live", 0600), EPERM);
+    CHECK_ERROR(chown(CONFIG "/sim/live", 1, 1), EPERM);
+    CHECK(truncate(CONFIG "/sim/live", 0) == 0 && rmdir(CONFIG "/sim") == 0);
+    test("links there are those of sysfs");
+    CHECK(lstat(TREE_LINK, &status) == 0 && S_ISLNK(status.st_mode) && stat(TREE_LINK, &status) == 0);
+    CHECK(S_ISDIR(status.st_mode) && readlink(TREE_LINK, text, 8) == 8 && memcmp(text, "../../..", 8) == 0);
+    CHECK_ERROR(open(TREE_LINK, O_RDONLY | O_NOFOLLOW), ELOOP);
+    CHECK(reads_as(open(TREE_LINK "/../gpiochip0/dev", O_RDONLY), "254:0\n"));
+    CHECK_ERROR(stat(TREE_LINK "/../gpiochip1", &status), ENOENT); /* (that one is in another folder) */
+}
+
+static void test_tree_memory(void) {
+    static const char name[] = CONFIG "/sim";
+    char *pages = edge_of_memory(), *nowhere = pages + PAGE;
+    test("memory that isn't there makes nothing in gpio-sim's file system");
+    CHECK_ERROR((int)syscall(SYS_mkdirat, AT_FDCWD, nowhere, 0755), EFAULT);
+    memcpy(nowhere - strlen(name), name, strlen(name));
+    CHECK_ERROR((int)syscall(SYS_mkdirat, AT_FDCWD, nowhere - strlen(name), 0755), EFAULT);
+    CHECK_ERROR((int)syscall(SYS_renameat2, AT_FDCWD, CONFIG "/board", AT_FDCWD, nowhere, 0), EFAULT);
+    CHECK_ERROR((int)syscall(SYS_newfstatat, AT_FDCWD, CONFIG, nowhere, 0), EFAULT);
+    CHECK_ERROR((int)syscall(SYS_readlinkat, AT_FDCWD, TREE_LINK, nowhere, 8), EFAULT);
+    CHECK_ERROR(access(name, F_OK), ENOENT);
+    munmap(pages, PAGE);
+}
+
+static void test_names_of_chips(void) {
+    struct stat status;
+    test("what programs find of chips can neither be removed nor made");
+    CHECK_ERROR(unlink("/dev/gpiochip0"), EPERM);
+    CHECK_ERROR(rename("/dev/gpiochip0", "/dev/gpiochip5"), EPERM);
+    CHECK_ERROR(rename("/dev/gpiochip0", "/tmp/gpiochip0"), EXDEV);
+    CHECK_ERROR(mkdir("/dev/gpiochip0", 0755), EEXIST);
+    CHECK_ERROR(unlink("/dev/gpiochip7"), ENOENT);
+    CHECK(opens(open_chip(0)) && stat("/dev/gpiochip7", &status) < 0);
+}
+
+static int make_in_chroot(int unused) {
+    (void)unused;
+    if (chroot(EMPTY_FOLDER) || chdir("/"))
+        return 2;
+    return mkdir(CONFIG "/sim", 0755) != 0 || !reads_as(open(CONFIG "/sim/live", O_RDONLY), "0\n") ||
+           rmdir(CONFIG "/sim") != 0;
+}
+
+static int make_as_nobody(int unused) {
+    (void)unused;
+    if (setgid(NOBODY) || setuid(NOBODY))
+        return 2;
+    return mkdir(CONFIG "/sim", 0755) != 0 || rmdir(CONFIG "/sim") != 0;
+}
+
+static void *make_and_remove(void *argument) {
+    char path[64];
+    snprintf(path, sizeof path, CONFIG "/sim%u", *(unsigned *)argument);
+    for (unsigned turn = 0; turn < 20; turn++)
+        if (mkdir(path, 0755) || access(path, F_OK) || rmdir(path))
+            return "wrong";
+    return NULL;
+}
+
+/* More threads than there are receivers: each of these waits for the loop. */
+#define MAKERS 40
+
+static void test_makers(void) {
+    pthread_t threads[MAKERS];
+    unsigned numbers[MAKERS];
+    bool good = true;
+    test("forty threads make and remove devices at once");
+    for (unsigned i = 0; i < MAKERS; i++) {
+        numbers[i] = i;
+        good = pthread_create(&threads[i], NULL, make_and_remove, &numbers[i]) == 0 && good;
+    }
+    for (unsigned i = 0; i < MAKERS; i++) {
+        void *wrong;
+        good = pthread_join(threads[i], &wrong) == 0 && !wrong && good;
+    }
+    CHECK(good);
+}
+
+static void test_file_system(void) {
+    test_names_of_chips();
+    if (access(CONFIG, F_OK)) {
+        leave_out("gpio-sim's file system, which can't be shown here");
+        return;
+    }
+    test_tree_folders();
+    test_tree_files();
+    test_tree_paths();
+    test_tree_memory();
+    test_makers();
+    int in_chroot = end_of(run_child(make_in_chroot, 0)), as_nobody = end_of(run_child(make_as_nobody, 0));
+    if (in_chroot == 2 || as_nobody == 2) {
+        leave_out("gpio-sim's file system in a chroot and for another user, for which it takes root");
+        return;
+    }
+    test("a program in a chroot, and one that becomes another user, make devices");
+    CHECK(in_chroot == 0 && as_nobody == 0);
+}
+
 /* Calls without end until nobody answers any more: then files are opened as ever, and chips are gone. */
 static int outlive_broker(void) {
     struct stat status;
@@ -564,5 +723,6 @@ int main(int count, char **words) {
     test_overflow_beside();
     test_slow_memory();
     test_reads();
+    test_file_system();
     return !test_end();
 }

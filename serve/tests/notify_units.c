@@ -119,7 +119,8 @@ static void test_numbers(void) {
     }
     count(good, "of all numbers those are notified of that take names, and reads where it is to be exact");
     count(operation_of(SYS_openat) && operation_of(SYS_statx) && operation_of(SYS_readlinkat) &&
-              !operation_of(SYS_read) && !operation_of(SYS_execve) && !operation_of(SYS_mkdirat),
+              operation_of(SYS_mkdirat) && operation_of(SYS_renameat2) && !operation_of(SYS_read) &&
+              !operation_of(SYS_execve) && !operation_of(SYS_chdir),
         "openat and its kin take names");
 }
 
@@ -151,7 +152,7 @@ static void test_architectures(void) {
 /* Looks a name up as this process says it. */
 static struct lookup look(const char *name, bool follow) {
     static struct lookup found;
-    const struct lookup_from from = {HOME, getpid(), AT_FDCWD};
+    const struct lookup_from from = {HOME, getpid(), AT_FDCWD, false};
     lookup_name(&found, &from, name, follow);
     return found;
 }
@@ -179,15 +180,19 @@ static void test_names(void) {
               leads("/dev/gpiochip0x", HOME "/root/dev/gpiochip0x", -1),
         "names as chips', of which there are none");
     count(leads("/sys/bus/gpio", HOME "/root/sys/bus/gpio", -1) &&
-              leads("/sys/bus/gpio/devices/", HOME "/root/sys/bus/gpio/devices", -1) &&
+              leads("/sys/bus/gpio/devices/", HOME "/root/sys/bus/gpio/devices/", -1) &&
+              leads("/sys/bus/gpio/.", HOME "/root/sys/bus/gpio/.", -1) &&
               leads("/sys/dev/char/254:3/subsystem", HOME "/root/sys/dev/char/254:3/subsystem", -1) &&
               leads("/sys/devices/gpioserve", HOME "/root/sys/devices/gpioserve", -1) &&
               leads("/dev", HOME "/root/dev", -1),
         "names below /sys, and /dev itself");
     count(leads("/dev/null", NULL, 0) && leads("/sys/bus/gpios", NULL, 0) && leads("/sys/dev/char/25:0", NULL, 0) &&
-              leads("/dev/gpiochip0/../null", NULL, 0) && leads("/etc/passwd", NULL, 0) && leads("", NULL, 0) &&
-              leads("gpiochip0", NULL, 0) && leads("/", NULL, 0) && leads("/x/dev/gpiochip0", NULL, 0),
+              leads("/etc/passwd", NULL, 0) && leads("", NULL, 0) && leads("gpiochip0", NULL, 0) &&
+              leads("/", NULL, 0) && leads("/x/dev/gpiochip0", NULL, 0),
         "names of others");
+    struct lookup behind = look("/dev/gpiochip0/../null", true);
+    count(
+        behind.ours && behind.error == ENOENT && behind.chip == -1, "there is nothing behind a chip that there isn't");
 }
 
 static void test_relative(void) {
@@ -218,7 +223,86 @@ static void test_links(void) {
     count(good && leads(long_name, NULL, 0) && chdir("/") == 0 && rmdir(folder) == 0, "names that are too long");
 }
 
+/* What gpio-sim's file system has in these tests, in a folder that is made for them: folders, a file and a link. */
+static const char *const tree_folders[] = {"/view", "/view/sys", "/view/sys/bus", "/view/sys/bus/gpio",
+    "/view/sys/bus/gpio/devices", "/view/sys/devices", "/view/sys/devices/platform",
+    "/view/sys/devices/platform/gpio-sim.0", "/view/sys/devices/platform/gpio-sim.0/gpiochip0", "/view/sys/kernel",
+    "/view/sys/kernel/config", "/view/sys/kernel/config/gpio-sim", "/view/sys/kernel/config/gpio-sim/sim"};
+#define TREE_FILE "/view/sys/kernel/config/gpio-sim/sim/live"
+#define TREE_LINK "/view/sys/bus/gpio/devices/gpiochip0"
+#define TREE_LINK_TEXT "../../../devices/platform/gpio-sim.0/gpiochip0"
+
+static char tree_home[] = "/tmp/notify_units.XXXXXX";
+
+static const char *in_tree_home(const char *name) {
+    static char path[PATH_MAX];
+    snprintf(path, sizeof path, "%s%s", tree_home, name);
+    return path;
+}
+
+static bool make_tree(void) {
+    bool made = mkdtemp(tree_home) != NULL;
+    for (size_t i = 0; made && i < sizeof tree_folders / sizeof *tree_folders; i++)
+        made = mkdir(in_tree_home(tree_folders[i]), 0700) == 0;
+    int file = made ? open(in_tree_home(TREE_FILE), O_WRONLY | O_CREAT, 0600) : -1;
+    return file >= 0 && close(file) == 0 && symlink(TREE_LINK_TEXT, in_tree_home(TREE_LINK)) == 0;
+}
+
+static void remove_tree(void) {
+    unlink(in_tree_home(TREE_FILE));
+    unlink(in_tree_home(TREE_LINK));
+    for (size_t i = sizeof tree_folders / sizeof *tree_folders; i > 0; i--)
+        rmdir(in_tree_home(tree_folders[i - 1]));
+    rmdir(tree_home);
+}
+
+/* Whether a name leads to this path of the tree; or nowhere, with this error; or is none of its. */
+static bool leads_in_tree(const char *name, const char *path, int error) {
+    static struct lookup found;
+    const struct lookup_from from = {tree_home, getpid(), AT_FDCWD, true};
+    lookup_name(&found, &from, name, true);
+    bool good = found.error == error && found.ours == (path || error) &&
+                (!path || (strcmp(found.path, in_tree_home(path)) == 0 && found.in_view));
+    if (!good)
+        printf("  %s: %s, error %d\n", name, found.ours && !found.error ? found.path : "no path", found.error);
+    return good;
+}
+
+#define CONFIG "/sys/kernel/config/gpio-sim"
+
+static void test_tree(void) {
+    struct lookup hidden = look(CONFIG "/sim", true), shared = look("/sys/bus/gpio/devices", true);
+    count(!hidden.ours && hidden.is_tree && shared.ours && shared.is_shared && !shared.in_view,
+        "names of gpio-sim's file system are the broker's once it is shown");
+    if (!make_tree()) {
+        count(false, "a folder for names can be made");
+        return;
+    }
+    count(leads_in_tree(CONFIG "/sim/live", "/view" CONFIG "/sim/live", 0) &&
+              leads_in_tree("/sys/bus/gpio", "/view/sys/bus/gpio", 0) && leads_in_tree("/sys/kernel", NULL, 0) &&
+              leads_in_tree("/sys/kernel/config/other", NULL, 0) &&
+              leads_in_tree(CONFIG "/sim/live/", "/view" CONFIG "/sim/live/", 0) &&
+              leads_in_tree(CONFIG "/sim/.", "/view" CONFIG "/sim/.", 0),
+        "and lead into it");
+    count(leads_in_tree(CONFIG "/sim/../sim//live", "/view" CONFIG "/sim/live", 0) &&
+              leads_in_tree(CONFIG "/none/../sim", NULL, ENOENT) &&
+              leads_in_tree(CONFIG "/sim/live/../live", NULL, ENOTDIR) &&
+              leads_in_tree(CONFIG "/sim/../../../../../etc/passwd", NULL, 0) &&
+              leads_in_tree("/sys/bus/gpio/devices/gpiochip0/../../gpio-sim.0/gpiochip0",
+                  "/view/sys/devices/platform/gpio-sim.0/gpiochip0", 0),
+        "`..` leads there to where the kernel says: behind links, and nowhere behind what is no folder");
+    count(chdir(in_tree_home("/view" CONFIG "/sim")) == 0 &&
+              leads_in_tree("../sim/live", "/view" CONFIG "/sim/live", 0) &&
+              leads_in_tree("../../../../bus/gpio", "/view/sys/bus/gpio", 0) &&
+              leads_in_tree("../../../../../etc", NULL, 0) && leads_in_tree("live", NULL, 0) && chdir("/") == 0,
+        "names that are relative to a folder of it");
+    remove_tree();
+}
+
 static void test_hiding(void) {
+    char view[] = HOME "/view/sys/bus/gpio";
+    lookup_hide_home(HOME, view);
+    count(strcmp(view, "/sys/bus/gpio") == 0, "paths in gpio-sim's file system are hidden too");
     char path[] = HOME "/root/sys/bus/gpio", other[] = HOME "/socket", none[] = "/tmp/homeroot/root/sys";
     lookup_hide_home(HOME, path);
     lookup_hide_home(HOME, other);
@@ -264,6 +348,7 @@ int main(void) {
     test_names();
     test_relative();
     test_links();
+    test_tree();
     test_hiding();
     test_queues();
     printf("%u passed, %u failed\n", passed, failed);

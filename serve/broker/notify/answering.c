@@ -1,5 +1,8 @@
 /* The calls that receivers handed on, answered by the broker's loop: each becomes the question that the library would
- * have asked, or concerns a file that only the loop knows. */
+ * have asked, or concerns a file that only the loop knows.
+ *
+ * The loop asks no file system about a program's file (AT_STATX_DONT_SYNC): it may be gpio-sim's, whose requests the
+ * loop itself answers. */
 #include <errno.h>
 #include <fcntl.h>
 #include <stdio.h>
@@ -49,7 +52,8 @@ static void refuse_hardware(struct call *call, uint32_t command) {
     struct stat status;
     int number = (int)call_argument(call, 0);
     snprintf(path, sizeof path, "/proc/%u/fd/%d", call->notification.pid, number);
-    bool is_chip = stat(path, &status) == 0 && S_ISCHR(status.st_mode) && hardware_chip(status.st_rdev) >= 0;
+    bool is_chip = fstatat(AT_FDCWD, path, &status, AT_STATX_DONT_SYNC) == 0 && S_ISCHR(status.st_mode) &&
+                   hardware_chip(status.st_rdev) >= 0;
     bool is_request = call_file_text(call, number, text, sizeof text) &&
                       strncmp(text, "anon_inode:", strlen("anon_inode:")) == 0 && strstr(text, "gpio");
     if (!is_chip && !is_request)
@@ -134,10 +138,11 @@ static void show_status(struct broker *broker, struct call *call) {
     if (!file || file->kind != FILE_CHIP)
         return;
     snprintf(path, sizeof path, "/proc/%u/fd/%d", call->notification.pid, number);
-    if (call->task == CALL_STATUS && stat(path, &status) == 0) {
+    if (call->task == CALL_STATUS && fstatat(AT_FDCWD, path, &status, AT_STATX_DONT_SYNC) == 0) {
         named_show_chip(&status, file->chip);
         call_return_bytes(call, call->result, &status, sizeof status);
-    } else if (call->task == CALL_STATUS_EXTENDED && statx(AT_FDCWD, path, 0, STATX_BASIC_STATS, &extended) == 0) {
+    } else if (call->task == CALL_STATUS_EXTENDED &&
+               statx(AT_FDCWD, path, AT_STATX_DONT_SYNC, STATX_BASIC_STATS, &extended) == 0) {
         named_show_chip_extended(&extended, file->chip);
         call_return_bytes(call, call->result, &extended, sizeof extended);
     }
@@ -163,13 +168,41 @@ void notify_prepare(struct notify *notify, const struct home *home, bool exact) 
     notify->exact = exact;
     notify->home = home->path;
     notify->listener = -1;
+    pthread_mutex_init(&notify->lock, NULL);
+    pthread_cond_init(&notify->tree_was_shown, NULL);
+}
+
+/* Shows gpio-sim's file system for a receiver, which goes on with its call then. */
+static void show_tree(struct broker *broker, struct call *call) {
+    struct notify *notify = broker->notify;
+    int tree = show_begin(broker, call->need) ? CALL_TREE_SHOWN : CALL_TREE_HIDDEN;
+    pthread_mutex_lock(&notify->lock);
+    call->tree = tree;
+    /* (where it was only looked for, its use is still to be reported) */
+    if (tree == CALL_TREE_SHOWN || call->need == WIRE_TREE_USES)
+        atomic_store(&notify->tree, tree);
+    pthread_cond_broadcast(&notify->tree_was_shown);
+    pthread_mutex_unlock(&notify->lock);
+}
+
+pid_t notify_caller(const struct broker *broker, pid_t process) {
+    const struct notify *notify = broker->notify;
+    for (size_t i = 0; notify && notify->calls && i < NOTIFY_CALLS; i++) {
+        const struct call *call = &notify->calls->list[i];
+        if (atomic_load(&call->thread) == process && atomic_load(&call->state) == CALL_RECEIVED)
+            return (pid_t)call->notification.pid;
+    }
+    return process;
 }
 
 void notify_end(struct broker *broker) {
     struct notify *notify = broker->notify;
     if (!notify || !notify->calls)
         return;
+    pthread_mutex_lock(&notify->lock);
     atomic_store(&notify->is_over, true);
+    pthread_cond_broadcast(&notify->tree_was_shown);
+    pthread_mutex_unlock(&notify->lock);
     for (size_t i = 0; i < NOTIFY_CALLS; i++)
         if (atomic_load(&notify->calls->list[i].state) == CALL_HANDED_ON)
             call_fail(&notify->calls->list[i], ENODEV);
@@ -180,10 +213,15 @@ bool notify_take(struct broker *broker) {
     if (read(broker->notify->handed.number, &place, 1) != 1 || place >= NOTIFY_CALLS)
         return true;
     struct call *call = &broker->notify->calls->list[place];
+    if (call->task == CALL_TREE) {
+        show_tree(broker, call);
+        return !broker->machine.ended;
+    }
     bool alive = answer(broker, call);
     if (!alive)
         call_fail(call, ENODEV);
     call_continue(call);
+    atomic_store(&call->thread, 0);
     atomic_store(&call->state, CALL_FREE);
     return alive;
 }

@@ -22,7 +22,17 @@ enum call_state {
 };
 
 /* What the loop has to do for a call. */
-enum call_task { CALL_OPEN_CHIP, CALL_COMMAND, CALL_READ, CALL_STATUS, CALL_STATUS_EXTENDED };
+enum call_task {
+    CALL_OPEN_CHIP,
+    CALL_COMMAND,
+    CALL_READ,
+    CALL_STATUS,
+    CALL_STATUS_EXTENDED,
+    CALL_TREE /* a receiver has the call, and waits until gpio-sim's file system is shown */
+};
+
+/* Whether gpio-sim's file system is shown. */
+enum call_tree { CALL_TREE_UNKNOWN, CALL_TREE_SHOWN, CALL_TREE_HIDDEN };
 
 struct call {
     union {
@@ -30,13 +40,16 @@ struct call {
         unsigned char space[CALL_SPACE];
     };
     atomic_int state;
-    int listener; /* where it came from, and its answer goes to */
+    atomic_int thread; /* the receiver that has it; 0: none */
+    int listener;      /* where it came from, and its answer goes to */
     atomic_bool answered;
     enum call_task task;
-    unsigned chip;      /* of an opening, */
-    int flags;          /* and its flags */
-    uint64_t structure; /* where the structure of a command stands in the program's memory */
-    uint64_t result;    /* where the result of a status goes to */
+    unsigned chip;       /* of an opening, */
+    int flags;           /* and its flags */
+    uint64_t structure;  /* where the structure of a command stands in the program's memory */
+    uint64_t result;     /* where the result of a status goes to */
+    enum wire_tree need; /* why gpio-sim's file system is needed, */
+    enum call_tree tree; /* and what came of it */
 };
 
 /* Whether a notification of this kernel has room in a call. */

@@ -6,7 +6,7 @@
 #include <stdbool.h>
 
 /* Steps of a filter, at most. */
-#define FILTER_STEPS 96
+#define FILTER_STEPS 128
 
 struct filter {
     struct sock_filter steps[FILTER_STEPS];

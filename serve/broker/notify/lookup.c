@@ -1,15 +1,19 @@
 #include "lookup.h"
 
+#include <errno.h>
 #include <fcntl.h>
 #include <stdio.h>
 #include <string.h>
 #include <sys/stat.h>
 #include <unistd.h>
 
+#include "../../tree_names.h"
 #include "../../wire.h"
 
-/* Where names stand in the broker's folder. */
+/* Where names stand in the broker's folder: all, and those below /sys where gpio-sim's file system is shown. */
 #define ROOT "/root"
+#define VIEW "/view"
+#define SYS "/sys"
 /* The folder of the chips' files, how their names begin, and how that of a device by its number. */
 #define DEV "/dev"
 #define CHIP "gpiochip"
@@ -57,32 +61,10 @@ static int chip_of(const char *text) {
 
 void lookup_hide_home(const char *home, char *path) {
     size_t length = strlen(home);
-    if (strncmp(path, home, length) != 0 || !begins(path + length, ROOT "/"))
+    if (strncmp(path, home, length) != 0 || !(begins(path + length, ROOT "/") || begins(path + length, VIEW "/")))
         return;
     const char *rest = path + length + strlen(ROOT);
     memmove(path, rest, strlen(rest) + 1);
-}
-
-/* Appends a path part by part to a whole one of `*length` bytes: `.` and repeated slashes say nothing, `..` takes the
- * last part away. False where it becomes too long. */
-static bool append(char whole[PATH_MAX], size_t *length, const char *path) {
-    while (*path) {
-        size_t part = strcspn(path, "/");
-        if (part == 2 && path[0] == '.' && path[1] == '.') {
-            while (*length > 0 && whole[--*length] != '/')
-                continue;
-        } else if (part > 0 && !(part == 1 && path[0] == '.')) {
-            if (*length + part + 1 >= PATH_MAX)
-                return false;
-            whole[(*length)++] = '/';
-            memcpy(whole + *length, path, part);
-            *length += part;
-        }
-        path += part;
-        path += *path == '/';
-    }
-    whole[*length] = 0;
-    return true;
 }
 
 /* Writes a path of three parts. False where it is too long. */
@@ -120,40 +102,113 @@ static bool read_link(const char *path, char text[PATH_MAX]) {
     return true;
 }
 
-/* The whole path of a name as the program knows it, by its text. False where it has none. */
-static bool whole_path(const struct lookup_from *from, const char *name, char whole[PATH_MAX]) {
-    char link[LINK_SPACE], folder[PATH_MAX];
-    size_t length = 0;
-    if (*name != '/') {
-        write_folder(from, link);
-        if (!read_link(link, folder) || *folder != '/')
-            return false;
-        lookup_hide_home(from->home, folder);
-        if (!append(whole, &length, folder))
-            return false;
-    }
-    return append(whole, &length, name);
+/* Whether a path has a part of this name. */
+static bool has_part(const char *path, const char *part) {
+    size_t length = strlen(part);
+    for (const char *at = strstr(path, part); at; at = strstr(at + 1, part))
+        if ((at == path || at[-1] == '/') && (at[length] == 0 || at[length] == '/'))
+            return true;
+    return false;
 }
 
 /* Whether a name may be the broker's by its text, at a quick look: most are not. */
 static bool may_be_ours(const char *name) {
     const char *last = last_part(name);
     if (*name == '/')
-        return begins(name, DEV) || begins(name, "/sys") || begins(name, "//") || begins(name, "/.") ||
-               begins(last, CHIP);
-    return strcmp(name, ".") == 0 || begins(name, "..") || strstr(name, "gpio") || begins(last, WIRE_MAJOR_TEXT ":") ||
-           begins(name, WIRE_MAJOR_TEXT ":");
+        return begins(name, DEV) || begins(name, SYS) || begins(name, "//") || begins(name, "/.") || begins(last, CHIP);
+    return strcmp(name, ".") == 0 || begins(name, "..") || strstr(name, "gpio") || has_part(name, "config") ||
+           begins(last, WIRE_MAJOR_TEXT ":") || begins(name, WIRE_MAJOR_TEXT ":");
 }
 
 /* Takes a whole path for the result, where it is the broker's. */
-static void take(struct lookup *lookup, const char *home, const char *whole) {
+static void take(struct lookup *lookup, const struct lookup_from *from, const char *whole) {
     lookup->is_dev = strcmp(whole, DEV) == 0;
-    bool ours = lookup->is_dev || begins(whole, BY_NUMBER) || begins(whole, DEV "/" CHIP);
+    lookup->is_tree = tree_names_has(whole);
+    lookup->is_shared = tree_names_shares(whole);
+    lookup->in_view = from->shows_tree && begins(whole, SYS "/");
+    bool ours = lookup->is_dev || (lookup->is_tree && from->shows_tree) || begins(whole, BY_NUMBER) ||
+                begins(whole, DEV "/" CHIP);
     for (size_t i = 0; i < sizeof folders / sizeof *folders; i++)
         ours = ours || is_or_below(whole, folders[i]);
-    lookup->ours = ours && join(lookup->path, home, ROOT, whole);
+    lookup->ours = ours && join(lookup->path, from->home, lookup->in_view ? VIEW : ROOT, whole);
     if (lookup->ours && begins(whole, DEV "/" CHIP))
         lookup->chip = chip_of(whole + strlen(DEV "/" CHIP));
+}
+
+/* A path that is put together part by part. */
+struct walk {
+    const struct lookup_from *from;
+    char whole[PATH_MAX];
+    size_t length;
+    bool is_too_long;
+    int error; /* of a path of the broker's that leads nowhere */
+};
+
+static void drop_part(struct walk *walk) {
+    while (walk->length > 0 && walk->whole[--walk->length] != '/')
+        continue;
+}
+
+static void add_part(struct walk *walk, const char *part, size_t length) {
+    walk->is_too_long = walk->length + length + 1 >= sizeof walk->whole;
+    if (walk->is_too_long)
+        return;
+    walk->whole[walk->length++] = '/';
+    memcpy(walk->whole + walk->length, part, length);
+    walk->length += length;
+}
+
+/* Goes on by a path: `.` and repeated slashes say nothing. `leave` does what `..` says. */
+static void walk_on(struct walk *walk, const char *path, void (*leave)(struct walk *walk)) {
+    while (*path && !walk->error && !walk->is_too_long) {
+        size_t part = strcspn(path, "/");
+        if (part == 2 && path[0] == '.' && path[1] == '.')
+            leave(walk);
+        else if (part > 0 && !(part == 1 && path[0] == '.'))
+            add_part(walk, path, part);
+        path += part;
+        path += *path == '/';
+    }
+    walk->whole[walk->length] = 0;
+}
+
+/* Does what `..` says. Of the broker's own names it does so as the kernel: a link there leads on first, and behind what
+ * is no folder there is nothing. (The text of a link there leads through no other link.) */
+static void leave_part(struct walk *walk) {
+    struct lookup place = {.chip = -1};
+    struct stat status;
+    char text[PATH_MAX];
+    walk->whole[walk->length] = 0;
+    take(&place, walk->from, walk->whole);
+    if (place.ours && !place.is_dev) {
+        int failed = stat(place.path, &status);
+        if (failed || !S_ISDIR(status.st_mode)) {
+            walk->error = failed ? errno : ENOTDIR;
+            return;
+        }
+        if (read_link(place.path, text)) {
+            lookup_hide_home(walk->from->home, text);
+            drop_part(walk);
+            if (*text == '/')
+                walk->length = 0;
+            walk_on(walk, text, drop_part);
+        }
+    }
+    drop_part(walk);
+}
+
+/* The whole path of a name as the program knows it. False where it has none. */
+static bool whole_path(struct walk *walk, const char *name) {
+    char link[LINK_SPACE], folder[PATH_MAX];
+    if (*name != '/') {
+        write_folder(walk->from, link);
+        if (!read_link(link, folder) || *folder != '/')
+            return false;
+        lookup_hide_home(walk->from->home, folder);
+        walk_on(walk, folder, drop_part);
+    }
+    walk_on(walk, name, leave_part);
+    return !walk->error && !walk->is_too_long;
 }
 
 /* Whether a path from here is the folder /dev, or the one that lists the chips in its place. */
@@ -184,13 +239,17 @@ static void look_at_folder(struct lookup *lookup, const struct lookup_from *from
     if (is_chip)
         path[last_part(path) - path] = 0;
     if (is_dev(from->home, path) && join(whole, DEV, is_chip ? "/" : "", is_chip ? last : ""))
-        take(lookup, from->home, whole);
+        take(lookup, from, whole);
 }
 
 static void look_at(struct lookup *lookup, const struct lookup_from *from, const char *name) {
-    char whole[PATH_MAX];
-    if (may_be_ours(name) && whole_path(from, name, whole))
-        take(lookup, from->home, whole);
+    struct walk walk = {.from = from};
+    if (may_be_ours(name)) {
+        if (whole_path(&walk, name))
+            take(lookup, from, walk.whole);
+        lookup->error = walk.error;
+        lookup->ours = lookup->ours || walk.error != 0;
+    }
     if (!lookup->ours)
         look_at_folder(lookup, from, name);
 }
@@ -208,24 +267,31 @@ static bool follow_link(const struct lookup_from *from, char name[PATH_MAX]) {
     return true;
 }
 
-/* A chip's name with a slash behind it would be that of a folder: so it is looked for in the broker's folder, where it
- * is none. */
-static void refuse_slash(struct lookup *lookup, const char *name) {
-    size_t length = strlen(name), end = strlen(lookup->path);
-    if (lookup->chip < 0 || length == 0 || name[length - 1] != '/' || end + 1 >= sizeof lookup->path)
+/* What a name says behind its last part stays: a slash or `.` there makes it that of a folder. So a chip's name with a
+ * slash is looked for in the broker's folder, where it is no folder's. */
+static void keep_end(struct lookup *lookup, const char *name) {
+    const char *last = last_part(name);
+    const char *end = *name == 0 ? "" : *last == 0 ? "/" : strcmp(last, ".") == 0 ? "/." : "";
+    size_t length = strlen(lookup->path), added = strlen(end);
+    if (added == 0 || lookup->is_dev)
         return;
-    memcpy(lookup->path + end, "/", sizeof "/");
+    if (length + added >= sizeof lookup->path) {
+        lookup->error = ENAMETOOLONG;
+        return;
+    }
+    memcpy(lookup->path + length, end, added + 1);
     lookup->chip = -1;
 }
 
 void lookup_name(struct lookup *lookup, const struct lookup_from *from, const char *name, bool follow) {
     char at[PATH_MAX];
-    lookup->ours = lookup->is_dev = false;
+    lookup->ours = lookup->is_dev = lookup->is_tree = lookup->is_shared = lookup->in_view = false;
+    lookup->error = 0;
     lookup->chip = -1;
     look_at(lookup, from, name);
-    if (!lookup->ours && follow && join(at, name, "", ""))
-        for (int links = 0; !lookup->ours && links < MOST_LINKS && follow_link(from, at); links++)
+    if (!lookup->ours && !lookup->is_tree && follow && join(at, name, "", ""))
+        for (int links = 0; !lookup->ours && !lookup->is_tree && links < MOST_LINKS && follow_link(from, at); links++)
             look_at(lookup, from, at);
-    if (lookup->ours)
-        refuse_slash(lookup, name);
+    if (lookup->ours && !lookup->error)
+        keep_end(lookup, name);
 }

@@ -9,6 +9,7 @@
 #include <unistd.h>
 
 #include "../../wire.h"
+#include "changing.h"
 
 /* What chips are: devices, which their user and group may read and write. */
 #define CHIP_MODE (S_IFCHR | 0660)
@@ -47,7 +48,7 @@ static bool is_taken_over(const struct named *named) {
     return !named->found.is_dev || named->operation->kind == OPERATION_OPEN;
 }
 
-/* Reads the name. No name at all is an empty one, where that means an open file itself. */
+/* Reads the first name. No name at all is an empty one, where that means an open file itself. */
 static bool read_name(struct named *named, const struct call *call) {
     uint64_t from = call_argument(call, named->operation->name);
     *named->name = 0;
@@ -55,16 +56,60 @@ static bool read_name(struct named *named, const struct call *call) {
            call_read_name(call, from, named->name, sizeof named->name) == 0;
 }
 
-bool named_read(struct named *named, const struct call *call, const char *home) {
+/* The place of the open folder that the second name is relative to. */
+static int second_folder(const struct operation *operation) {
+    return operation->folder == OPERATION_NONE ? OPERATION_NONE : operation->detail - 1;
+}
+
+static int folder_of(const struct call *call, int argument) {
+    return argument == OPERATION_NONE ? AT_FDCWD : (int)call_argument(call, argument);
+}
+
+/* Looks where the names lead. */
+static void look(struct named *named) {
+    lookup_name(&named->found, &named->from, named->name, follows(named));
+    named->found.ours = named->found.ours && is_taken_over(named);
+    if (named->operation->kind != OPERATION_MOVE)
+        return;
+    lookup_name(&named->second, &named->second_from, named->second_name, false);
+    named->second.ours = named->second.ours && !named->second.is_dev;
+    if (named->second_error)
+        named->second.error = named->second_error;
+}
+
+bool named_read(struct named *named, const struct call *call, const char *home, bool shows_tree) {
     const struct operation *operation = operation_of(call->notification.data.nr);
     named->operation = operation;
     if (!operation || !read_flags(operation, call, &named->flags) || !read_name(named, call))
         return false;
-    int folder = operation->folder == OPERATION_NONE ? AT_FDCWD : (int)call_argument(call, operation->folder);
-    named->from = (struct lookup_from){home, (pid_t)call->notification.pid, folder};
-    lookup_name(&named->found, &named->from, named->name, follows(named));
-    named->found.ours = named->found.ours && is_taken_over(named);
+    named->from =
+        (struct lookup_from){home, (pid_t)call->notification.pid, folder_of(call, operation->folder), shows_tree};
+    if (operation->kind == OPERATION_MOVE) {
+        named->second_from = named->from;
+        named->second_from.folder = folder_of(call, second_folder(operation));
+        named->second_error =
+            call_read_name(call, call_argument(call, operation->detail), named->second_name, PATH_MAX);
+        if (named->second_error)
+            *named->second_name = 0;
+    }
+    look(named);
     return true;
+}
+
+bool named_needs_tree(const struct named *named, enum wire_tree *need) {
+    bool is_used = named->found.is_tree || (named->operation->kind == OPERATION_MOVE && named->second.is_tree);
+    *need = is_used ? WIRE_TREE_USES : WIRE_TREE_SEARCHES;
+    bool lists = named->operation->kind == OPERATION_OPEN && (named->flags & O_DIRECTORY);
+    return !named->from.shows_tree && (is_used || (named->found.is_shared && lists));
+}
+
+void named_look_in_tree(struct named *named) {
+    named->from.shows_tree = named->second_from.shows_tree = true;
+    look(named);
+}
+
+bool named_is_ours(const struct named *named) {
+    return named->found.ours || (named->operation->kind == OPERATION_MOVE && named->second.ours);
 }
 
 bool named_opens_chip(const struct named *named) {
@@ -88,12 +133,15 @@ void named_show_chip_extended(struct statx *status, unsigned chip) {
 }
 
 static void answer_open(const struct named *named, struct call *call) {
-    /* (nothing is made in the broker's folder) */
-    if (makes_file(named)) {
+    int flags = named->flags;
+    /* (nothing is made in the broker's folder; what gpio-sim's file system refuses, it refuses itself) */
+    if (!named->found.in_view && makes_file(named)) {
         call_fail(call, faccessat(AT_FDCWD, named->found.path, F_OK, AT_SYMLINK_NOFOLLOW) ? ENOENT : EEXIST);
         return;
     }
-    int file = open(named->found.path, (named->flags & ~MAKING_FLAGS) | O_CLOEXEC);
+    if (!named->found.in_view)
+        flags &= ~MAKING_FLAGS;
+    int file = open(named->found.path, flags | O_CLOEXEC, 0);
     if (file < 0) {
         call_fail(call, errno);
         return;
@@ -166,6 +214,10 @@ static void answer_attributes(const struct named *named, struct call *call) {
 }
 
 void named_answer(const struct named *named, struct call *call) {
+    if (named->found.error) {
+        call_fail(call, named->found.error);
+        return;
+    }
     switch (named->operation->kind) {
     case OPERATION_OPEN:
         answer_open(named, call);
@@ -185,6 +237,13 @@ void named_answer(const struct named *named, struct call *call) {
     case OPERATION_ATTRIBUTE:
     case OPERATION_ATTRIBUTES:
         answer_attributes(named, call);
+        break;
+    case OPERATION_MAKE:
+    case OPERATION_CHANGE:
+        changing_answer(named, call);
+        break;
+    case OPERATION_MOVE:
+        changing_answer_move(named, call);
         break;
     }
 }

@@ -17,16 +17,30 @@ struct named {
     char name[PATH_MAX];
     int flags; /* of an opening (`O_..`), or of a name (`AT_..`) */
     struct lookup found;
+    char second_name[PATH_MAX];     /* of a call with two names, */
+    int second_error;               /* or why it can't be read, */
+    struct lookup_from second_from; /* what that one is relative to, */
+    struct lookup second;           /* and where it leads */
 };
 
-/* Reads what a call says, and looks where its name leads, seen from the broker's folder `home`. False where it takes no
- * name, or none can be read: then the kernel says what is wrong. */
-bool named_read(struct named *named, const struct call *call, const char *home);
+/* Reads what a call says, and looks where its names lead, seen from the broker's folder `home`, in which gpio-sim's
+ * file system is shown where `shows_tree` says so. False where it takes no name, or the first one can't be read: then
+ * the kernel says what is wrong. */
+bool named_read(struct named *named, const struct call *call, const char *home, bool shows_tree);
+
+/* Whether a call, to be answered, needs gpio-sim's file system, which isn't shown yet; and why. */
+bool named_needs_tree(const struct named *named, enum wire_tree *need);
+
+/* Looks again where the names lead, once that file system is shown. */
+void named_look_in_tree(struct named *named);
+
+/* Whether a name of a call is the broker's. */
+bool named_is_ours(const struct named *named);
 
 /* Whether the call asks for a file that the broker's loop has to make: that of a chip. */
 bool named_opens_chip(const struct named *named);
 
-/* Answers a call whose name is the broker's, and which opens no chip. */
+/* Answers a call of which a name is the broker's, and which opens no chip. */
 void named_answer(const struct named *named, struct call *call);
 
 /* Makes a status that of a chip's device. */

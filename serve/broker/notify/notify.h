@@ -4,6 +4,7 @@
 #ifndef NOTIFY_H
 #define NOTIFY_H
 
+#include <pthread.h>
 #include <stdatomic.h>
 #include <stdbool.h>
 #include <sys/types.h>
@@ -30,6 +31,10 @@ struct notify {
     atomic_bool is_over;  /* nobody answers what would be handed on */
     atomic_int receivers; /* threads, */
     atomic_int idle;      /* and how many of them wait for a call */
+    atomic_int tree;      /* what is known of gpio-sim's file system */
+    /* A receiver waits here until it is shown, or the loop is over. */
+    pthread_mutex_t lock;
+    pthread_cond_t tree_was_shown;
 };
 
 /* What is known before the command starts. */
@@ -44,5 +49,9 @@ void notify_end(struct broker *broker);
 
 /* Answers a call that was handed on. False where the served program has ended. */
 bool notify_take(struct broker *broker);
+
+/* The thread for which a receiver, by its number, answers a call in gpio-sim's file system; any other process itself.
+ */
+pid_t notify_caller(const struct broker *broker, pid_t process);
 
 #endif

@@ -5,6 +5,8 @@
 
 #define HERE OPERATION_NONE
 #define NONE OPERATION_NONE
+/* A link at the end of the name is what the call is about. */
+#define LINK AT_SYMLINK_NOFOLLOW
 
 const struct operation operations[] = {
     {SYS_openat, OPERATION_OPEN, 0, 1, 2, 0, NONE},
@@ -26,6 +28,30 @@ const struct operation operations[] = {
     {SYS_lgetxattr, OPERATION_ATTRIBUTE, HERE, 0, NONE, AT_SYMLINK_NOFOLLOW, 2},
     {SYS_listxattr, OPERATION_ATTRIBUTES, HERE, 0, NONE, 0, 1},
     {SYS_llistxattr, OPERATION_ATTRIBUTES, HERE, 0, NONE, AT_SYMLINK_NOFOLLOW, 1},
+    {SYS_mkdirat, OPERATION_MAKE, 0, 1, NONE, LINK, NONE},
+    {SYS_mknodat, OPERATION_MAKE, 0, 1, NONE, LINK, NONE},
+    {SYS_symlinkat, OPERATION_MAKE, 1, 2, NONE, LINK, NONE},
+    {SYS_unlinkat, OPERATION_CHANGE, 0, 1, NONE, LINK, NONE},
+    {SYS_fchmodat, OPERATION_CHANGE, 0, 1, NONE, 0, NONE},
+    {SYS_fchownat, OPERATION_CHANGE, 0, 1, 4, 0, NONE},
+    {SYS_truncate, OPERATION_CHANGE, HERE, 0, NONE, 0, NONE},
+    {SYS_renameat2, OPERATION_MOVE, 0, 1, NONE, LINK, 3},
+    {SYS_linkat, OPERATION_MOVE, 0, 1, NONE, LINK, 3},
+#ifdef SYS_renameat
+    {SYS_renameat, OPERATION_MOVE, 0, 1, NONE, LINK, 3},
+#endif
+#ifdef SYS_open
+    {SYS_mkdir, OPERATION_MAKE, HERE, 0, NONE, LINK, NONE},
+    {SYS_mknod, OPERATION_MAKE, HERE, 0, NONE, LINK, NONE},
+    {SYS_symlink, OPERATION_MAKE, HERE, 1, NONE, LINK, NONE},
+    {SYS_rmdir, OPERATION_CHANGE, HERE, 0, NONE, LINK, NONE},
+    {SYS_unlink, OPERATION_CHANGE, HERE, 0, NONE, LINK, NONE},
+    {SYS_chmod, OPERATION_CHANGE, HERE, 0, NONE, 0, NONE},
+    {SYS_chown, OPERATION_CHANGE, HERE, 0, NONE, 0, NONE},
+    {SYS_lchown, OPERATION_CHANGE, HERE, 0, NONE, LINK, NONE},
+    {SYS_rename, OPERATION_MOVE, HERE, 0, NONE, LINK, 1},
+    {SYS_link, OPERATION_MOVE, HERE, 0, NONE, LINK, 1},
+#endif
 };
 
 const size_t operations_count = sizeof operations / sizeof *operations;

@@ -14,6 +14,9 @@ enum operation_kind {
     OPERATION_LINK,       /* reads the text of a link */
     OPERATION_ATTRIBUTE,  /* reads one extended attribute */
     OPERATION_ATTRIBUTES, /* lists extended attributes */
+    OPERATION_MAKE,       /* makes what it names: a folder, a link or a device */
+    OPERATION_CHANGE,     /* removes or changes what it names */
+    OPERATION_MOVE,       /* gives a file a second name */
 };
 
 /* An argument that a call doesn't have. */
@@ -27,7 +30,8 @@ struct operation {
     int name;
     int flags;  /* OPERATION_NONE: those of `fixed`. openat2 has the address of a structure there */
     int fixed;  /* flags of a call that has no argument for them */
-    int detail; /* the memory that the result goes to, or the mode of an access check; OPERATION_NONE for an opening */
+    int detail; /* the memory that the result goes to, the mode of an access check, or the second name, which has its
+                   folder before it where the first one has; OPERATION_NONE for the others */
 };
 
 /* All of them, each call once. */

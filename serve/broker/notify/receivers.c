@@ -61,8 +61,10 @@ static struct call *take_place(struct notify *notify) {
             int expected = CALL_FREE;
             struct call *call = &notify->calls->list[i];
             if (atomic_load(&call->state) == CALL_FREE &&
-                atomic_compare_exchange_strong(&call->state, &expected, CALL_RECEIVED))
+                atomic_compare_exchange_strong(&call->state, &expected, CALL_RECEIVED)) {
+                atomic_store(&call->thread, gettid());
                 return call;
+            }
         }
         nanosleep(&pause, NULL);
     }
@@ -80,18 +82,37 @@ static bool is_of_open_file(const struct named *named) {
            (kind == OPERATION_STATUS || kind == OPERATION_STATUS_EXTENDED);
 }
 
+/* Has the loop show gpio-sim's file system, and waits until that is done. Whether it is shown. */
+static bool show_tree(struct notify *notify, struct call *call, enum wire_tree need) {
+    unsigned char place = (unsigned char)(call - notify->calls->list);
+    if (atomic_load(&notify->tree) != CALL_TREE_UNKNOWN)
+        return atomic_load(&notify->tree) == CALL_TREE_SHOWN;
+    call->task = CALL_TREE;
+    call->need = need;
+    call->tree = CALL_TREE_UNKNOWN;
+    pthread_mutex_lock(&notify->lock);
+    bool is_asked = !notify->is_over && write(notify->handed_to, &place, 1) == 1;
+    while (is_asked && call->tree == CALL_TREE_UNKNOWN && !notify->is_over)
+        pthread_cond_wait(&notify->tree_was_shown, &notify->lock);
+    pthread_mutex_unlock(&notify->lock);
+    return call->tree == CALL_TREE_SHOWN;
+}
+
 /* Looks at a call that takes a name, and answers it or lets it pass, unless it opens a chip or is about an open file.
  * Whether the loop has to answer it. */
-static bool look_at_name(const struct notify *notify, struct call *call) {
+static bool look_at_name(struct notify *notify, struct call *call) {
     struct named named;
-    if (!named_read(&named, call, notify->home))
+    enum wire_tree need;
+    if (!named_read(&named, call, notify->home, atomic_load(&notify->tree) == CALL_TREE_SHOWN))
         return false;
+    if (named_needs_tree(&named, &need) && call_is_waiting(call) && show_tree(notify, call, need))
+        named_look_in_tree(&named);
     if (notify->exact && is_of_open_file(&named)) {
         call->task = named.operation->kind == OPERATION_STATUS ? CALL_STATUS : CALL_STATUS_EXTENDED;
         call->result = call_argument(call, named.operation->detail);
         return may_be_ours(call, named.from.folder);
     }
-    if (!named.found.ours || !call_is_waiting(call))
+    if (!named_is_ours(&named) || !call_is_waiting(call))
         return false;
     if (!named_opens_chip(&named)) {
         named_answer(&named, call);
@@ -104,7 +125,7 @@ static bool look_at_name(const struct notify *notify, struct call *call) {
 }
 
 /* Whether the loop has to answer a call. */
-static bool concerns_loop(const struct notify *notify, struct call *call) {
+static bool concerns_loop(struct notify *notify, struct call *call) {
     switch (call->notification.data.nr) {
     case SYS_ioctl:
         call->task = CALL_COMMAND;

@@ -4,6 +4,7 @@
 #include <stdio.h>
 #include <string.h>
 
+#include "../notify/notify.h"
 #include "../saying.h"
 #include "../show/mount.h"
 #include "texts.h"
@@ -60,6 +61,12 @@ static int error_of(const struct machine *machine, const char *verb, enum place_
     return machine_error(machine);
 }
 
+/* The program whose request is answered: one that does it itself, or one for which a receiver does. */
+static struct asker asker_of_caller(const struct broker *broker) {
+    pid_t process = mount_process(), caller = notify_caller(broker, process);
+    return caller == process ? asker_of_process(process) : asker_of_thread(caller);
+}
+
 static int say_line(
     struct broker *broker, const char *line, const char *verb, enum place_kind kind, char text[TREE_TEXT]) {
     struct statement statement;
@@ -68,7 +75,7 @@ static int say_line(
     if (statement_read(&statement, line, strlen(line), broker->manual))
         return EINVAL;
     if (broker->record.transcript.file)
-        broker->record.asker = asker_of_process(mount_process());
+        broker->record.asker = asker_of_caller(broker);
     if (!saying_say(broker, &statement, line, strlen(line)))
         return ENODEV;
     int error = error_of(&broker->machine, verb, kind);
