@@ -2,9 +2,12 @@
  *
  *   old         there are no notifications, as before Linux 5.19
  *   none        there is no seccomp
- *   container   what containers refuse: namespaces, mounts, and what looks into other processes */
+ *   container   what containers refuse: namespaces, mounts, and what looks into other processes
+ *   spaces      there are no user name spaces, as with user.max_user_namespaces 0. For root alone, so that programs may
+ *               be setuid within */
 #include <errno.h>
 #include <linux/filter.h>
+#include <linux/sched.h>
 #include <linux/seccomp.h>
 #include <stddef.h>
 #include <stdio.h>
@@ -34,7 +37,20 @@ static int refuse(const int *numbers, size_t count, int error) {
            syscall(SYS_seccomp, SECCOMP_SET_MODE_FILTER, 0, &program) == 0;
 }
 
+/* Refuses `unshare` of user name spaces as the kernel does where there may be none. */
+static int refuse_user_spaces(void) {
+    struct sock_filter steps[] = {BPF_STMT(BPF_LD | BPF_W | BPF_ABS, offsetof(struct seccomp_data, nr)),
+        BPF_JUMP(BPF_JMP | BPF_JEQ | BPF_K, SYS_unshare, 0, 3),
+        BPF_STMT(BPF_LD | BPF_W | BPF_ABS, offsetof(struct seccomp_data, args)),
+        BPF_JUMP(BPF_JMP | BPF_JSET | BPF_K, CLONE_NEWUSER, 0, 1),
+        BPF_STMT(BPF_RET | BPF_K, SECCOMP_RET_ERRNO | ENOSPC), BPF_STMT(BPF_RET | BPF_K, SECCOMP_RET_ALLOW)};
+    struct sock_fprog program = {sizeof steps / sizeof *steps, steps};
+    return syscall(SYS_seccomp, SECCOMP_SET_MODE_FILTER, 0, &program) == 0;
+}
+
 static int limit(const char *name) {
+    if (strcmp(name, "spaces") == 0)
+        return refuse_user_spaces();
     if (strcmp(name, "old") == 0)
         return refuse(of_seccomp, 1, EINVAL);
     if (strcmp(name, "none") == 0)

@@ -24,7 +24,8 @@
 static bool fail(const char *what, const char *path) {
     const char *help = errno == EPERM || errno == ENOSPC
                            ? " (--sys needs user name spaces: sysctl user.max_user_namespaces, and on some systems a "
-                             "profile of AppArmor; or root)"
+                             "profile of AppArmor; or root. Without --sys the library shows gpio-sim's file system, "
+                             "and --way notify shows it to static programs)"
                            : "";
     report("the command can't have a /sys of its own: %s%s: %s%s", what, path, strerror(errno), help);
     return false;
