@@ -1,7 +1,7 @@
 """Makes lists of actions at random, by a seed: `checks/linux/generate.py SHAPE SEED [COUNT]` prints them.
 
-Each shape weighs the steps that a list is made of. Three of ten lists are free; the others keep away from what is known to
-differ between Linux and the machine (docs/LINUX.md), so that all their actions are compared.
+Each shape weighs the steps that a list is made of. Six of ten lists keep away from what is known to differ between Linux
+and the machine (docs/LINUX.md), so that all their actions are compared. Each of the others may do two of these things.
 """
 import random
 import sys
@@ -73,7 +73,9 @@ SHAPES: Dict[str, Dict[str, int]] = {
     },
     "tree": {"entry": 20, "live": 4, "open": 1, "request": 2, "level": 1, "pull": 1, "info": 1},
 }
-FREE_PART = 0.3
+FREE_PART = 0.4
+# what is known to differ: the causes of causes.py
+WAYS = "labels label partial keep biasedge realtime strict ring v1config v1edges v1fifo shortread v1perm v1poll period tree".split()
 # the files of a device, a bank, a line and a hog, and what is written to them
 ENTRIES = (["dev_name", "live"], ["num_lines", "label", "chip_name"], ["name"], ["name", "direction"])
 VALUES = {
@@ -112,7 +114,7 @@ class Maker:
     def __init__(self, shape: str, seed: int):
         self.random = random.Random(f"{shape} {seed}")
         self.shape = shape
-        self.free = self.random.random() < FREE_PART
+        self.ways = self.random.sample(WAYS, 2) if self.chance(FREE_PART) else []
         self.lines: List[str] = []
         self.chips: Dict[str, int] = {}  # how many lines each has
         self.hogs: Dict[str, List[int]] = {}
@@ -133,6 +135,10 @@ class Maker:
         self.count += 1
         return f"{letter}{self.count}"
 
+    def touches(self, way: str) -> bool:
+        """Whether the list may do what is known to differ in that way."""
+        return way in self.ways
+
     def chance(self, part: float) -> bool:
         return self.random.random() < part
 
@@ -152,8 +158,8 @@ class Maker:
         self.say(f"mkdir {path}")
         if count > 1 or self.chance(0.5):
             self.say(f"write {path}/num_lines {count}")
-        if not self.free or self.chance(0.8):
-            label = "same" if self.free and self.chance(0.2) else path.replace("/", "-")
+        if not self.touches("label") or self.chance(0.6):
+            label = "same" if self.touches("labels") and self.chance(0.5) else path.replace("/", "-")
             self.say(f"write {path}/label {label}")
         self.chips[path] = count
         self.hogs[path] = []
@@ -198,7 +204,7 @@ class Maker:
         names = sorted(name for name, held in self.requests.items() if held.version in versions)
         if wanted and self.chance(0.9):
             names = [name for name in names if self.requests[name].flags & wanted] or names
-        if not names or (self.free and self.chance(0.05)):
+        if not names or self.chance(0.04):
             names = sorted(self.requests)
         return self.random.choice(names) if names else None
 
@@ -209,7 +215,7 @@ class Maker:
     def offsets(self, chip: str, most: int) -> List[int]:
         """Lines for a request. Unless the list is free, only one that asks for a single line may fail."""
         count = self.random.choice((1, 1, 1, 2, 3, min(64, self.chips[chip])))
-        if self.free and self.chance(0.3):
+        if self.touches("partial") and self.chance(0.4):
             return [self.random.randrange(self.chips[chip] + 1) for _ in range(min(count, most))]
         left = [offset for offset in range(self.chips[chip]) if offset not in self.taken(chip)]
         if min(count, most) == 1 and self.chance(0.1):
@@ -222,36 +228,39 @@ class Maker:
     def flags(self, was: Optional[int] = None) -> int:
         """Flags of v2, which make sense as a rule; of a SET_CONFIG where there were flags before."""
         debounce = self.shape == "debounce"
-        output = (
-            self.chance({"debounce": 0.0, "edges": 0.08}.get(self.shape, 0.4))
-            if was is None or self.free
-            else bool(was & s.OUTPUT)
-        )
+        part = {"debounce": 0.0, "edges": 0.08}.get(self.shape, 0.4)
+        output = self.chance(part) if was is None or self.touches("keep") else bool(was & s.OUTPUT)
         flags = s.OUTPUT if output else s.INPUT
         if self.chance(0.3):
             flags |= s.ACTIVE_LOW
         if not output and self.chance(0.9 if debounce else 0.7 if self.shape == "edges" else 0.35):
             flags |= self.random.choice((s.RISING, s.FALLING, s.EDGES, s.EDGES))
-        if self.chance(0.2) and (was is None or self.free):
+        if self.chance(0.2) and (was is None or self.touches("biasedge")):
             flags |= self.random.choice((s.PULL_UP, s.PULL_DOWN, s.BIAS_DISABLED))
-        elif was is not None and not self.free:
+        elif was is not None and not self.touches("biasedge"):
             flags |= was & s.BIASES
-        if self.free and output and self.chance(0.25):
+        if self.touches("keep") and output and self.chance(0.4):
             flags |= self.random.choice((s.OPEN_DRAIN, s.OPEN_SOURCE))
-        if self.free and self.chance(0.1):
+        if self.touches("realtime") and self.chance(0.5):
             flags |= s.REALTIME if flags & s.EDGES or self.chance(0.3) else 0
         if self.chance(0.06):
-            flags ^= self.random.choice(FLAG_BITS) if self.free else s.OUTPUT | s.INPUT if self.chance(0.5) else 4096
+            flags ^= (
+                self.random.choice(FLAG_BITS)
+                if self.touches("keep")
+                else s.OUTPUT | s.INPUT
+                if self.chance(0.5)
+                else 4096
+            )
         return flags
 
-    def attributes(self, flags: int, count: int) -> List[s.Attribute]:
+    def attributes(self, flags: int, count: int, was: Optional[int]) -> List[s.Attribute]:
         chosen: List[s.Attribute] = []
         mask = self.random.getrandbits(count) or 1
         if flags & s.OUTPUT and self.chance(0.5):
             chosen.append((s.OUTPUT_VALUES, self.random.getrandbits(count), self.random.getrandbits(count) or 1))
         if self.shape == "debounce" and flags & s.INPUT and self.chance(0.85):
             chosen.append((s.DEBOUNCE, self.random.choice(PERIODS), (1 << count) - 1))
-        if self.free and self.chance(0.2):
+        if (was is None or self.touches("keep")) and self.chance(0.12):
             chosen.append((s.FLAGS, self.flags(), mask))
         if self.chance(0.02):
             chosen.append((self.random.choice((0, 4, 99)), 0, mask))
@@ -260,9 +269,9 @@ class Maker:
     def config(self, count: int, was: Optional[int] = None) -> Tuple[bytes, int, bool]:
         """A line config, its flags, and whether it has a debounce period."""
         flags = self.flags(was)
-        attributes = self.attributes(flags, count)
+        attributes = self.attributes(flags, count, was)
         data = bytearray(s.config(flags, attributes))
-        if self.free and self.chance(0.08):  # what should be zero
+        if self.touches("strict") and self.chance(0.3):  # what should be zero
             data[self.random.choice((36, 200, 270, 12, 31))] = 1
         return bytes(data), flags, any(name == s.DEBOUNCE for name, _, _ in attributes)
 
@@ -291,26 +300,28 @@ class Maker:
         chip = self.opened[name]
         offsets = self.offsets(chip, 64)
         data, flags, debounce = self.config(len(offsets))
-        capacity = 0 if self.chance(0.7) else self.random.choice((1, 3, 100, 1) if self.free else (2, 4, 8, 64))
+        capacity = (
+            0 if self.chance(0.7) else self.random.choice((1, 3, 100, 1) if self.touches("ring") else (2, 4, 8, 64))
+        )
         made = self.made(chip, Held(2, chip, offsets, flags, debounce))
         self.ioctl(2, name, "GET_LINE", s.request(offsets, data, self.consumer(), capacity), made)
 
     def flags1(self, was: Optional[int] = None) -> int:
-        output = self.chance(0.5) if was is None or self.free else bool(was & s.OUTPUT1)
+        output = self.chance(0.5) if was is None or self.touches("keep") else bool(was & s.OUTPUT1)
         flags = s.OUTPUT1 if output else s.INPUT1
         flags |= s.ACTIVE_LOW1 if self.chance(0.3) else 0
-        if self.chance(0.2) and (was is None or self.free):
+        if self.chance(0.2) and (was is None or self.touches("biasedge")):
             flags |= self.random.choice((s.PULL_UP1, s.PULL_DOWN1, s.BIAS_DISABLED1))
-        elif was is not None and not self.free:
+        elif was is not None and not self.touches("biasedge"):
             flags |= was & (s.PULL_UP1 | s.PULL_DOWN1 | s.BIAS_DISABLED1)
-        if self.free and output and self.chance(0.3):
+        if self.touches("keep") and output and self.chance(0.4):
             flags |= self.random.choice((s.OPEN_DRAIN1, s.OPEN_SOURCE1))
-        if self.free and self.chance(0.1):
+        if self.touches("v1config") and self.chance(0.3):
             flags ^= 1 << self.random.randrange(9)
         return flags
 
     def levels(self, count: int) -> List[int]:
-        return [self.random.choice((0, 1, 1, 255) if self.free else (0, 1)) for _ in range(count)]
+        return [self.random.choice((0, 1, 0, 1, 0, 1, 255)) for _ in range(count)]
 
     def step_handle(self) -> None:
         name = self.any_file()
@@ -325,15 +336,17 @@ class Maker:
 
     def step_event(self) -> None:
         name = self.any_file()
-        if not name or (not self.free and self.shape in ("watches", "hogs")):
+        if not name or (not self.touches("v1edges") and self.shape in ("watches", "hogs")):
             return
         chip = self.opened[name]
         offset, flags = self.offsets(chip, 1)[0], s.INPUT1 | (s.ACTIVE_LOW1 if self.chance(0.3) else 0)
-        if self.free and self.chance(0.2):
+        if self.chance(0.06):
             flags = self.flags1()
         made = self.made(chip, Held(11, chip, [offset], s.EDGES))
-        edges = self.random.choice((0, 1, 2, 3, 3, 3, 4) if self.free else (1, 2, 3, 3))
+        edges = self.random.choice((0, 1, 2, 3, 4) if self.chance(0.1) else (1, 2, 3, 3))
         self.ioctl(1, name, "LINEEVENT", s.event_request(offset, flags, edges, self.consumer()), made)
+        for number in range(20 if self.touches("v1fifo") and offset < self.chips[chip] else 0):
+            self.say(f"put {self.chip_name(chip)} {offset} pull {('pull-up', 'pull-down')[number % 2]}")
 
     def has_v1_edges(self, chip: str, offset: int) -> bool:
         return any(one.version == 11 and one.chip == chip and offset in one.offsets for one in self.requests.values())
@@ -343,7 +356,7 @@ class Maker:
         if name:
             chip = self.opened[name]
             offset = self.random.randrange(self.chips[chip] + 1)
-            if self.free or not self.has_v1_edges(chip, offset):
+            if self.touches("v1edges") or not self.has_v1_edges(chip, offset):
                 self.ioctl(2, name, "GET_LINEINFO", s.line_info(offset))
 
     def step_hogged(self) -> None:
@@ -366,7 +379,7 @@ class Maker:
 
     def step_watch(self, version: int = 2) -> None:
         name = self.any_file()
-        if not name or (not self.free and self.versions.get(name, version) != version):
+        if not name or (self.versions.get(name, version) != version and self.chance(0.7)):
             return
         self.versions.setdefault(name, version)
         offset = self.random.randrange(self.chips[self.opened[name]] + (1 if self.chance(0.1) else 0))
@@ -389,7 +402,7 @@ class Maker:
     def step_changes(self) -> None:
         name = self.random.choice(sorted(self.versions)) if self.versions and self.chance(0.9) else self.any_file()
         if name:
-            lengths = (0, 1, 104, 288, 576, 2880) if self.free else (288, 288, 2880, 9216)
+            lengths = (0, 1, 104, 288, 576, 2880) if self.touches("shortread") else (288, 288, 2880, 9216)
             self.say(f"events {name} {self.random.choice(lengths)}")
 
     # steps on requests
@@ -398,7 +411,7 @@ class Maker:
         name = self.any_request(2)
         if name:
             held = self.requests[name]
-            if held.debounce and not self.free:
+            if held.debounce and not self.touches("period"):
                 return
             data, flags, debounce = self.config(len(held.offsets), held.flags)
             held.flags, held.debounce = flags, debounce
@@ -433,24 +446,21 @@ class Maker:
 
     def step_set1(self) -> None:
         name = self.any_request(1)
-        if name and (self.free or self.requests[name].flags & s.OUTPUT1):
+        if name and (self.touches("v1perm") or self.requests[name].flags & s.OUTPUT1):
             self.ioctl(1, name, "SET_VALUES", s.handle_data(self.levels(len(self.requests[name].offsets))))
 
     def step_read(self) -> None:
         name = self.any_request(2, 11, wanted=s.EDGES)
-        if not name or (not self.free and self.requests[name].version == 1):
+        if not name or (self.requests[name].version == 1 and self.chance(0.9)):
             return
         size = 48 if self.requests[name].version == 2 else 16
-        lengths = (
-            (size, size * 4, size * 16, size * 40)
-            if not self.free
-            else (0, 1, size - 1, size, size + 1, size * 3, size * 40)
-        )
+        odd = (0, 1, size - 1, size + 1, size * 3)
+        lengths = odd if self.chance(0.15) else (size, size * 4, size * 16, size * 40)
         self.say(f"events {name} {self.random.choice(lengths)}")
 
     def step_poll(self) -> None:
         names = sorted(self.opened) + sorted(
-            name for name, one in self.requests.items() if self.free or one.version != 1
+            name for name, one in self.requests.items() if self.touches("v1poll") or one.version != 1
         )
         if names:
             self.say(f"poll {self.random.choice(names)}")
@@ -493,13 +503,26 @@ class Maker:
             del data[self.random.randrange(len(data) + 1) :]
         if not data:
             return
-        if not self.free:  # (flags alone: what should be zero stays zero)
-            at = {"GET_LINE": 288, "SET_CONFIG": 0, "LINEHANDLE": 256, "LINEEVENT": 4}.get(command)
-            if at is not None and at < len(data) and self.chance(0.4):
-                data[at] ^= 1 << self.random.randrange(2 if command == "LINEEVENT" else 5)
+        if not self.touches("strict"):  # (what should be zero stays zero)
+            self.change_flags(data, command)
             return
         for _ in range(self.random.choice((1, 1, 2, 5))):
             data[self.random.randrange(len(data))] = self.random.choice((0, 1, 2, 255, self.random.randrange(256)))
+
+    def change_flags(self, data: bytearray, command: str) -> None:
+        """Changes a bit of the flags or a byte of the consumer; of a SET_CONFIG nothing that changes a direction."""
+        at, bits = {"GET_LINE": (288, 13), "SET_CONFIG": (0, 2), "LINEHANDLE": (256, 3), "LINEEVENT": (4, 3)}.get(
+            command, (0, 0)
+        )
+        if bits and at + 1 < len(data) and self.chance(0.5):
+            bit = self.random.choice(
+                [bit for bit in range(bits) if 1 << bit not in (s.OPEN_DRAIN, s.OPEN_SOURCE, s.REALTIME)]
+            )
+            data[at + bit // 8] ^= 1 << bit % 8
+        elif command == "GET_LINE" and len(data) > 287:
+            data[256 + self.random.randrange(32)] = self.random.choice((1, 65, 255))
+        elif command in ("GET_VALUES", "SET_VALUES") and data:
+            data[self.random.randrange(len(data))] = self.random.randrange(256)
 
     # steps of the world
 
@@ -567,7 +590,9 @@ class Maker:
         if file == "live" and verb == "write":
             return
         value = self.random.choice(
-            VALUES.get(file, VALUES["label"]) if self.chance(0.7) or not self.free else sum(VALUES.values(), [])
+            VALUES.get(file, VALUES["label"])
+            if not self.touches("tree") or self.chance(0.7)
+            else sum(VALUES.values(), [])
         )
         self.say(f"{verb} {path}/{file}" + (f" {value}" if verb == "write" else ""))
 

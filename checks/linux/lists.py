@@ -101,16 +101,13 @@ class Player:
 
     def __init__(self, room: Path, served: str):
         self.serve = TOP / "serve/out"
-        self.probe = build_probe(room)
+        self.probes = {"library": build_probe(room), "notify": build_probe(room, "probe-static") or room / "probe"}
         self.environment = {**os.environ, "GPIOSERVED": served}
 
     def command(self, way: str, words: List[str]) -> List[str]:
-        """The command that runs the probe. By notification configfs is not shown, so a helper with the library has it."""
-        serve = [str(self.serve / "gpioserve"), "--each", "--way", way]
-        if way == "library":
-            return [*serve, "--", str(self.probe), *words]
-        helper = f"LD_PRELOAD='{self.serve}/libgpioserve.so' exec '{self.probe}' --serve-tree"
-        return [*serve, "--exact", "--", str(self.probe), "--tree", helper, *words]
+        """The command that runs the probe. By notification it is one without any library, where it can be linked so."""
+        exact = ["--exact"] if way == "notify" else []
+        return [str(self.serve / "gpioserve"), "--each", "--way", way, *exact, "--", str(self.probes[way]), *words]
 
     def play(self, way: str, words: List[str], seconds: float) -> "subprocess.CompletedProcess[str]":
         """What the probe prints for these words, after at most so many seconds."""

@@ -16,6 +16,7 @@ import subprocess
 import sys
 import tarfile
 import tempfile
+import time
 from pathlib import Path
 from typing import Dict, List, NoReturn, Tuple
 
@@ -26,7 +27,7 @@ from lists import HERE, TOP, ActionList, build_probe, read_lists, read_results  
 
 BUILT = TOP / "out/linux"
 NEEDED = "qemu-system-x86_64 make cc flex bison bc".split()
-RESULTS_SECONDS = 0.5  # a list takes less under emulation; a boot is given as much and BOOT_SECONDS
+RESULTS_SECONDS = 0.5  # that a list may take each time that it is made, beside BOOT_SECONDS
 BOOT_SECONDS = 60
 BOOTS = 3  # that may fail
 
@@ -112,7 +113,7 @@ class Machine:
         return packed
 
     def boot(self, lists: List[ActionList], seconds: float) -> Tuple[str, str]:
-        """What the probe printed, and the console's text, after at most so many seconds."""
+        """What the probe printed, and the console's text. A list may take so many seconds."""
         console, results = self.room / "console", self.room / "results"
         for path in (console, results):
             path.write_bytes(b"")
@@ -127,18 +128,29 @@ class Machine:
             str(self.build / "arch/x86/boot/bzImage"),
         ]
         words += ["-initrd", str(self.pack(lists)), "-append", "console=ttyS0 quiet no_timer_check oops=panic panic=-1"]
+        machine = subprocess.Popen(words, stdin=subprocess.DEVNULL, stderr=subprocess.DEVNULL)
         try:
-            subprocess.run(words, stdin=subprocess.DEVNULL, stderr=subprocess.DEVNULL, timeout=seconds)
-        except subprocess.TimeoutExpired:
-            pass
+            self.watch(machine, results, seconds)
+        finally:
+            machine.kill()
+            machine.wait()
         return results.read_text(errors="replace"), console.read_text(errors="replace")
+
+    @staticmethod
+    def watch(machine: "subprocess.Popen[bytes]", results: Path, seconds: float) -> None:
+        """Waits for a machine's end, as long as there is a new result every so many seconds."""
+        size, since = -1, time.monotonic()
+        while machine.poll() is None and time.monotonic() - since < seconds:
+            time.sleep(0.1)
+            if results.stat().st_size != size:
+                size, since = results.stat().st_size, time.monotonic()
 
     def record(self, lists: List[ActionList], seconds: float) -> Dict[str, List[str]]:
         """The results of all lists, but of those with which the kernel hangs or crashes, which are named."""
         results: Dict[str, List[str]] = {}
         left, failed = lists, 0
         while left:
-            text, console = self.boot(left, BOOT_SECONDS + seconds * sum(max(one.times, 1) for one in left))
+            text, console = self.boot(left, BOOT_SECONDS + seconds * max(max(one.times, 1) for one in left))
             found = read_results(text)
             is_whole = "\nended 0" in text
             if not found and failed < BOOTS:  # (under emulation on a busy machine a kernel may not come up)
@@ -202,7 +214,12 @@ def options_of(words: List[str]) -> argparse.Namespace:
     parser.add_argument("--count", type=int, default=0, help="how many lists to make and keep, of all shapes together")
     parser.add_argument("--again", action="store_true", help="makes the lists that are kept once more, and compares")
     parser.add_argument("--processors", type=int, default=1, help="of the machine: 2 for lists with threads (1)")
-    parser.add_argument("--seconds", type=float, default=RESULTS_SECONDS, help="that a list may take on average (0.5)")
+    parser.add_argument(
+        "--seconds",
+        type=float,
+        default=RESULTS_SECONDS,
+        help="that a list may take each time that it is made, beside a minute (0.5)",
+    )
     parser.add_argument("--keep", metavar="NAME", help="keeps the results of LISTS in recorded/VERSION/NAME.results")
     parser.add_argument("lists", nargs="*", type=Path, metavar="LISTS", help="files of lists")
     options = parser.parse_args(words)

@@ -260,7 +260,7 @@ def main() -> int:
     with tempfile.TemporaryDirectory() as name:
         room = Path(name)
         player = Player(room, served)
-        test_refusals(counts, build_probe(room, "probe-sanitized") or player.probe, room)
+        test_refusals(counts, build_probe(room, "probe-sanitized") or room / "probe", room)
         missing_of = {way: player.missing(way) for way in WAYS}
         for way in WAYS:
             if missing_of[way]:

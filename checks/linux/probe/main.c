@@ -23,8 +23,6 @@ static const char help[] =
     "  --times N         makes lists that say `times` N times\n"
     "  --pause N         waits N microseconds after each write to a line's file, for the kernel's interrupts (0)\n"
     "  --limit N         ends with status 4 where a list takes longer than N seconds (60)\n"
-    "  --tree COMMAND    leaves configfs and sysfs to COMMAND, which runs this program with --serve-tree\n"
-    "  --serve-tree      is that helper, on its standard input and output\n"
     "  --help            prints this\n"
     "\n"
     "Status 0; 2 where a file is no list, and then nothing is made; 3 where there is no gpio-sim or something else is\n"
@@ -54,7 +52,6 @@ static unsigned long number_of(const char *word) {
 static int take_options(int count, char **words, struct run_options *options) {
     static const struct option names[] = {{"times", required_argument, NULL, 't'},
         {"pause", required_argument, NULL, 'p'}, {"limit", required_argument, NULL, 'l'},
-        {"tree", required_argument, NULL, 'T'}, {"serve-tree", no_argument, NULL, 's'},
         {"help", no_argument, NULL, 'h'}, {0}};
     int option;
     while ((option = getopt_long(count, words, "h", names, NULL)) != -1) {
@@ -64,10 +61,6 @@ static int take_options(int count, char **words, struct run_options *options) {
             options->pause_microseconds = number_of(optarg);
         else if (option == 'l')
             options->limit_seconds = number_of(optarg);
-        else if (option == 'T')
-            tree_begin_helper(optarg);
-        else if (option == 's')
-            return tree_serve();
         else if (option == 'h')
             return fputs(help, stdout) < 0 ? NO_GPIO_SIM : DONE;
         else
@@ -76,7 +69,7 @@ static int take_options(int count, char **words, struct run_options *options) {
     return -1;
 }
 
-/* Whether there is a gpio-sim: its folder can be read by this process, or by the helper. */
+/* Whether there is a gpio-sim in which this process may make devices. */
 static bool has_gpio_sim(void) {
     int error = tree_mkdir(CONFIGFS "/probe-looks");
     if (error)

@@ -1,15 +1,8 @@
-/* Files and folders of configfs and sysfs, by this process or by a helper. Each returns 0 or the error's number. */
+/* Files and folders of configfs and sysfs. Each function returns 0 or the error's number. */
 #ifndef TREE_H
 #define TREE_H
 
 #include "text.h"
-
-/* Begins a helper, a command of the shell that runs this program with --serve-tree, to whom all below is handed: for a
- * probe that sees the chips, but not the tree. The program ends with status 3 where it cannot be started. */
-void tree_begin_helper(const char *command);
-
-/* What the helper does: reads requests from standard input up to its end, and answers each. */
-int tree_serve(void);
 
 int tree_mkdir(const char *path);
 int tree_rmdir(const char *path);
