@@ -170,6 +170,7 @@ void notify_prepare(struct notify *notify, const struct home *home, bool exact) 
     notify->listener = -1;
     pthread_mutex_init(&notify->lock, NULL);
     pthread_cond_init(&notify->tree_was_shown, NULL);
+    pthread_cond_init(&notify->call_was_taken, NULL);
 }
 
 /* Shows gpio-sim's file system for a receiver, which goes on with its call then. */

@@ -31,10 +31,12 @@ struct notify {
     atomic_bool is_over;  /* nobody answers what would be handed on */
     atomic_int receivers; /* threads, */
     atomic_int idle;      /* and how many of them wait for a call */
-    atomic_int tree;      /* what is known of gpio-sim's file system */
-    /* A receiver waits here until it is shown, or the loop is over. */
+    atomic_uint taken;    /* calls that they have taken */
+    atomic_bool has_no_callers, watcher_sleeps;
+    atomic_int tree; /* what is known of gpio-sim's file system */
     pthread_mutex_t lock;
-    pthread_cond_t tree_was_shown;
+    pthread_cond_t tree_was_shown; /* a receiver waits here until it is, or the loop is over; */
+    pthread_cond_t call_was_taken; /* and the thread that watches receivers here */
 };
 
 /* What is known before the command starts. */

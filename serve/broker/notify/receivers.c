@@ -1,6 +1,8 @@
-/* Threads that take calls from the kernel. What doesn't concern the broker goes on to the kernel at once. A call of
- * which a thread looks up the name may wait for a file system that one of the programs serves, so there is always
- * another thread that receives. */
+/* Threads that take calls from the kernel. What doesn't concern the broker goes on to the kernel at once.
+ *
+ * One thread receives, since the kernel wakes all that do for each call. A call of which it looks up the name may wait
+ * for a file system that one of the programs serves. So another thread watches it, and starts one more where it has had
+ * the same call for some milliseconds. Where two receive by then, one of them ends. */
 #include <errno.h>
 #include <fcntl.h>
 #include <pthread.h>
@@ -26,31 +28,77 @@
 #define STACK_BYTES (256 * 1024)
 /* How long a thread waits for a place in the list when all are taken. */
 #define PAUSE_NANOSECONDS 200000
+/* How often receivers are looked at, and after so many looks at which nothing was called they are no longer, until
+ * something is. */
+#define LOOK_NANOSECONDS 2000000
+#define QUIET_LOOKS 50
 
 static void *receive_calls(void *argument);
 
-/* Starts one more thread, in which no signal is taken. An error's number, or 0. */
-static int start_receiver(struct notify *notify) {
+/* Starts a thread, in which no signal is taken. An error's number, or 0. */
+static int start_thread(struct notify *notify, void *(*run)(void *)) {
     pthread_t thread;
     pthread_attr_t attributes;
     sigset_t all, before;
-    if (atomic_fetch_add(&notify->receivers, 1) >= MOST_RECEIVERS) {
-        atomic_fetch_sub(&notify->receivers, 1);
-        return EAGAIN;
-    }
     sigfillset(&all);
     pthread_sigmask(SIG_BLOCK, &all, &before);
     int error = pthread_attr_init(&attributes);
     if (error == 0) {
         pthread_attr_setdetachstate(&attributes, PTHREAD_CREATE_DETACHED);
         pthread_attr_setstacksize(&attributes, STACK_BYTES);
-        error = pthread_create(&thread, &attributes, receive_calls, notify);
+        error = pthread_create(&thread, &attributes, run, notify);
         pthread_attr_destroy(&attributes);
     }
     pthread_sigmask(SIG_SETMASK, &before, NULL);
+    return error;
+}
+
+/* Starts one more receiver, where there may be one. An error's number, or 0. */
+static int start_receiver(struct notify *notify) {
+    int error = EAGAIN;
+    if (atomic_fetch_add(&notify->receivers, 1) < MOST_RECEIVERS)
+        error = start_thread(notify, receive_calls);
     if (error)
         atomic_fetch_sub(&notify->receivers, 1);
     return error;
+}
+
+/* Wakes the thread that watches, where it sleeps until something is called. */
+static void wake_watcher(struct notify *notify) {
+    if (!atomic_load(&notify->watcher_sleeps))
+        return;
+    pthread_mutex_lock(&notify->lock);
+    pthread_cond_signal(&notify->call_was_taken);
+    pthread_mutex_unlock(&notify->lock);
+}
+
+/* Sleeps until another call is taken than so many. */
+static void sleep_until_taken(struct notify *notify, unsigned taken) {
+    pthread_mutex_lock(&notify->lock);
+    atomic_store(&notify->watcher_sleeps, true);
+    while (atomic_load(&notify->taken) == taken && !atomic_load(&notify->has_no_callers))
+        pthread_cond_wait(&notify->call_was_taken, &notify->lock);
+    atomic_store(&notify->watcher_sleeps, false);
+    pthread_mutex_unlock(&notify->lock);
+}
+
+/* Watches that somebody receives, as long as there are programs that could call. */
+static void *watch_receivers(void *argument) {
+    const struct timespec pause = {0, LOOK_NANOSECONDS};
+    struct notify *notify = argument;
+    unsigned quiet = 0, seen = 0;
+    while (!atomic_load(&notify->has_no_callers)) {
+        unsigned taken = atomic_load(&notify->taken);
+        bool is_received = atomic_load(&notify->idle) > 0;
+        quiet = taken == seen ? quiet + 1 : 0;
+        if (quiet > 0 && !is_received)
+            start_receiver(notify);
+        if (quiet >= QUIET_LOOKS && is_received)
+            sleep_until_taken(notify, taken);
+        seen = taken;
+        nanosleep(&pause, NULL);
+    }
+    return NULL;
 }
 
 /* Takes a free place in the list. Where there is none, as many calls as there are places wait for the loop. */
@@ -157,32 +205,52 @@ static bool hand_on(struct notify *notify, struct call *call) {
     return false;
 }
 
-/* Receives calls until there is no program that could call. */
-static void *receive_calls(void *argument) {
-    struct notify *notify = argument;
-    struct call *call = take_place(notify);
+/* Gives a place in the list back. */
+static void leave_place(struct call *call) {
+    atomic_store(&call->thread, 0);
+    atomic_store(&call->state, CALL_FREE);
+}
+
+/* Waits for a call. False where there is no program any more that could call. */
+static bool receive(struct notify *notify, struct call *call) {
     for (;;) {
         atomic_fetch_add(&notify->idle, 1);
         bool received = call_receive(call, notify->listener);
         int error = errno;
-        bool last = atomic_fetch_sub(&notify->idle, 1) == 1;
-        if (!received) {
-            if (error == ENOENT && !call_has_callers(notify->listener))
-                return NULL;
+        atomic_fetch_sub(&notify->idle, 1);
+        if (received)
+            atomic_fetch_add(&notify->taken, 1);
+        else if (error == ENOENT && !call_has_callers(notify->listener))
+            atomic_store(&notify->has_no_callers, true);
+        else
             continue;
-        }
-        if (last)
-            start_receiver(notify);
+        wake_watcher(notify);
+        return received;
+    }
+}
+
+/* Receives calls until there is no program that could call, or somebody else receives. */
+static void *receive_calls(void *argument) {
+    struct notify *notify = argument;
+    struct call *call = take_place(notify);
+    do {
+        if (!receive(notify, call))
+            break;
         if (concerns_loop(notify, call) && hand_on(notify, call))
             call = take_place(notify);
         else
             call_continue(call);
-    }
+    } while (atomic_load(&notify->idle) == 0);
+    leave_place(call);
+    atomic_fetch_sub(&notify->receivers, 1);
+    return NULL;
 }
 
 bool notify_receive(struct notify *notify) {
     ioctl(notify->listener, SECCOMP_IOCTL_NOTIF_SET_FLAGS, SECCOMP_USER_NOTIF_FD_SYNC_WAKE_UP);
     int error = start_receiver(notify);
+    if (error == 0)
+        error = start_thread(notify, watch_receivers);
     errno = error;
     return error == 0;
 }
