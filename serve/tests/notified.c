@@ -563,6 +563,16 @@ static void test_tree_files(void) {
     close(file);
 }
 
+static void test_tree_mapped(void) {
+    int file = open(TREE_LINK "/dev", O_RDONLY), chip = open_chip(0);
+    struct gpiochip_info *info = mmap(NULL, PAGE, PROT_READ | PROT_WRITE, MAP_PRIVATE, file, 0);
+    test("the structure of a GPIO command may stand in a mapped file of gpio-sim's file system");
+    CHECK(info != MAP_FAILED && ioctl(chip, GPIO_GET_CHIPINFO_IOCTL, info) == 0 && info->lines == 8);
+    munmap(info, PAGE);
+    close(chip);
+    close(file);
+}
+
 static void test_tree_paths(void) {
     struct stat status;
     char text[64];
@@ -671,6 +681,7 @@ static void test_file_system(void) {
     }
     test_tree_folders();
     test_tree_files();
+    test_tree_mapped();
     test_tree_paths();
     test_tree_memory();
     test_makers();

@@ -78,14 +78,14 @@ static bool command(struct broker *broker, struct call *call) {
         return true;
     }
     struct question question = {
-        .op = WIRE_IOCTL, .command = number, .ino = file->ino, .length = (uint32_t)uapi_length(number)};
+        .op = WIRE_IOCTL, .command = number, .ino = file->ino, .length = (uint32_t)call->length};
     if (files_is_gone(file))
         question.length = 0;
-    if (question.length > 0 &&
-        call_read(call, call->structure, broker->packet.data, question.length) != (ssize_t)question.length) {
+    if (question.length > 0 && !call->is_read) {
         call_fail(call, EFAULT);
         return true;
     }
+    memcpy(broker->packet.data, call->bytes, question.length);
     return !call_is_waiting(call) || ask_for(broker, call, &question);
 }
 

@@ -14,6 +14,9 @@
 /* Bytes of a notification, at most: a later kernel may have longer ones. */
 #define CALL_SPACE 256
 
+/* Bytes of a command's structure, at most. */
+#define CALL_STRUCTURE 592
+
 /* Who has a call. The process that stands by looks at this once the broker is gone. */
 enum call_state {
     CALL_FREE,     /* no call stands here */
@@ -44,9 +47,12 @@ struct call {
     int listener;      /* where it came from, and its answer goes to */
     atomic_bool answered;
     enum call_task task;
-    unsigned chip;       /* of an opening, */
-    int flags;           /* and its flags */
-    uint64_t structure;  /* where the structure of a command stands in the program's memory */
+    unsigned chip;      /* of an opening, */
+    int flags;          /* and its flags */
+    uint64_t structure; /* where the structure of a command stands in the program's memory */
+    size_t length;      /* its bytes, */
+    bool is_read;       /* which could be read */
+    unsigned char bytes[CALL_STRUCTURE];
     uint64_t result;     /* where the result of a status goes to */
     enum wire_tree need; /* why gpio-sim's file system is needed, */
     enum call_tree tree; /* and what came of it */

@@ -13,6 +13,7 @@
 #include <time.h>
 #include <unistd.h>
 
+#include "../../uapi.h"
 #include "named.h"
 #include "notify.h"
 
@@ -172,12 +173,22 @@ static bool look_at_name(struct notify *notify, struct call *call) {
     return true;
 }
 
+/* Reads the structure of a command. The loop must not: the memory may be a mapped file of gpio-sim's file system, whose
+ * requests it answers. */
+static void read_structure(struct call *call) {
+    call->structure = call_argument(call, 2);
+    call->length = uapi_length((uint32_t)call_argument(call, 1));
+    call->is_read =
+        call->length <= sizeof call->bytes &&
+        (call->length == 0 || call_read(call, call->structure, call->bytes, call->length) == (ssize_t)call->length);
+}
+
 /* Whether the loop has to answer a call. */
 static bool concerns_loop(struct notify *notify, struct call *call) {
     switch (call->notification.data.nr) {
     case SYS_ioctl:
         call->task = CALL_COMMAND;
-        call->structure = call_argument(call, 2);
+        read_structure(call);
         return true;
     case SYS_read:
     case SYS_readv:
