@@ -79,6 +79,31 @@ static void test_openings(void) {
     CHECK_ERROR(open("/dev/gpiochip0", O_RDWR | O_DIRECTORY), ENOTDIR);
     CHECK_ERROR(open("/dev/gpiochip77", O_RDWR), ENOENT);
     CHECK_ERROR((int)syscall(SYS_openat2, AT_FDCWD, "/dev/gpiochip0", &how, 1), EINVAL);
+    how.resolve = RESOLVE_BENEATH;
+    CHECK(opens((int)syscall(SYS_openat2, folder, "gpiochip0", &how, sizeof how)));
+    CHECK_ERROR((int)syscall(SYS_openat2, folder, "../dev/gpiochip0", &how, sizeof how), EXDEV);
+    CHECK_ERROR((int)syscall(SYS_openat2, folder, "/dev/gpiochip0", &how, sizeof how), EXDEV);
+    how.resolve = RESOLVE_IN_ROOT;
+    CHECK_ERROR((int)syscall(SYS_openat2, folder, "/dev/gpiochip0", &how, sizeof how), ENOENT);
+    how = (struct open_how){.flags = UINT64_C(1) << 40};
+    CHECK_ERROR((int)syscall(SYS_openat2, AT_FDCWD, "/dev/gpiochip0", &how, sizeof how), EINVAL);
+    close(folder);
+}
+
+static void test_own_folder(void) {
+    static const char *const names[] = {"/proc/self/fd/%d", "/proc//self/fd/%d", "/proc/./self//fd/%d",
+        "/proc/thread-self/fd/%d", "/proc/self/task/../fd/%d"};
+    char name[64];
+    int folder = open("/dev", O_RDONLY | O_DIRECTORY);
+    test("names in /proc/self are those of the program, however they are written");
+    for (size_t i = 0; i < sizeof names / sizeof *names; i++) {
+        struct stat dev, status;
+        snprintf(name, sizeof name, names[i], folder);
+        CHECK(stat(name, &status) == 0 && fstat(folder, &dev) == 0 && status.st_ino == dev.st_ino);
+    }
+    CHECK(chdir("/dev") == 0 && opens(open("/proc//self/cwd/gpiochip0", O_RDWR)));
+    CHECK(chdir("/") == 0);
+    CHECK_ERROR(open("/proc//self/cwd/gpiochip0", O_RDWR), ENOENT);
     close(folder);
 }
 
@@ -718,6 +743,7 @@ int main(int count, char **words) {
         return outlive_broker();
     is_exact = count > 1 && strcmp(words[1], "--exact") == 0;
     test_openings();
+    test_own_folder();
     test_numbers();
     test_statuses();
     test_listing();

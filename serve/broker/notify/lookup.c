@@ -22,8 +22,6 @@
 #define CHIP_DIGITS 2
 /* Room for the path of a process's folder in /proc. */
 #define LINK_SPACE 64
-/* How names begin that are those of whoever asks. */
-#define OWN "/proc/self/"
 /* Links that lead to links are followed so far, as the kernel does. */
 #define MOST_LINKS 40
 
@@ -81,6 +79,20 @@ static void write_folder(const struct lookup_from *from, char link[LINK_SPACE]) 
         snprintf(link, LINK_SPACE, "/proc/%d/fd/%d", from->process, from->folder);
 }
 
+/* What is left of a path behind a part of this name and what says nothing there; NULL where the part is another one. */
+static const char *behind_part(const char *path, const char *part) {
+    size_t length = strlen(part);
+    while (*path == '/' || (*path == '.' && path[1] == '/'))
+        path++;
+    return strncmp(path, part, length) == 0 && (path[length] == '/' || path[length] == 0) ? path + length : NULL;
+}
+
+/* What is left of a name in the folder /proc/self, which is that of whoever looks there; NULL for all others. */
+static const char *behind_self(const char *name) {
+    const char *proc = behind_part(name, "proc"), *self = proc ? behind_part(proc, "self") : NULL;
+    return proc && !self ? behind_part(proc, "thread-self") : self;
+}
+
 /* Writes the path by which a name of the process is reached from here. False where it is too long. */
 static bool reach(const struct lookup_from *from, const char *name, char path[PATH_MAX]) {
     char front[LINK_SPACE];
@@ -88,9 +100,9 @@ static bool reach(const struct lookup_from *from, const char *name, char path[PA
         write_folder(from, front);
         return join(path, front, "/", name);
     }
-    bool is_own = begins(name, OWN);
-    snprintf(front, sizeof front, "/proc/%d/%s", from->process, is_own ? "" : "root");
-    return join(path, front, is_own ? name + strlen(OWN) : name, "");
+    const char *own = behind_self(name);
+    snprintf(front, sizeof front, "/proc/%d%s", from->process, own ? "" : "/root");
+    return join(path, front, own ? own : name, "");
 }
 
 /* Reads the text of a link. False where there is none, or it is too long. */

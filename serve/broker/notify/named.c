@@ -3,6 +3,7 @@
 #include <errno.h>
 #include <fcntl.h>
 #include <linux/openat2.h>
+#include <stdint.h>
 #include <string.h>
 #include <sys/syscall.h>
 #include <sys/sysmacros.h>
@@ -16,21 +17,33 @@
 /* Flags of an opening that would make or empty a file. */
 #define MAKING_FLAGS (O_CREAT | O_EXCL | O_TRUNC)
 
-/* The flags of a call. False where they stand in memory that can't be read. */
-static bool read_flags(const struct operation *operation, const struct call *call, int *flags) {
+/* Reads the flags of openat2, of which there are more than of the others. False where they can't be read, or are none
+ * that there are: then the kernel says so. */
+static bool read_structure(struct named *named, const struct call *call) {
     struct open_how how;
-    if (operation->flags == OPERATION_NONE) {
-        *flags = operation->fixed;
-    } else if (operation->number != SYS_openat2) {
-        *flags = (int)call_argument(call, operation->flags);
-    } else {
-        /* (the argument behind the structure is its size) */
-        if (call_argument(call, operation->flags + 1) < sizeof how ||
-            call_read(call, call_argument(call, operation->flags), &how, sizeof how) != (ssize_t)sizeof how)
-            return false;
-        *flags = (int)how.flags;
-    }
+    int place = named->operation->flags;
+    /* (the argument behind the structure is its size) */
+    if (call_argument(call, place + 1) < sizeof how ||
+        call_read(call, call_argument(call, place), &how, sizeof how) != (ssize_t)sizeof how || how.flags > UINT32_MAX)
+        return false;
+    named->flags = (int)how.flags;
+    named->stays_below = how.resolve & (RESOLVE_BENEATH | RESOLVE_IN_ROOT);
     return true;
+}
+
+/* Reads the flags of a call. */
+static bool read_flags(struct named *named, const struct call *call) {
+    const struct operation *operation = named->operation;
+    named->stays_below = false;
+    if (operation->number == SYS_openat2)
+        return read_structure(named, call);
+    named->flags = operation->flags == OPERATION_NONE ? operation->fixed : (int)call_argument(call, operation->flags);
+    return true;
+}
+
+/* Whether a name that has to stay below its folder may leave it, which is the kernel's to refuse. */
+static bool leaves_folder(const struct named *named) {
+    return named->stays_below && (*named->name == '/' || strstr(named->name, ".."));
 }
 
 /* Whether an opening is to make a file that isn't there yet. */
@@ -80,7 +93,7 @@ static void look(struct named *named) {
 bool named_read(struct named *named, const struct call *call, const char *home, bool shows_tree) {
     const struct operation *operation = operation_of(call->notification.data.nr);
     named->operation = operation;
-    if (!operation || !read_flags(operation, call, &named->flags) || !read_name(named, call))
+    if (!operation || !read_flags(named, call) || !read_name(named, call) || leaves_folder(named))
         return false;
     named->from =
         (struct lookup_from){home, (pid_t)call->notification.pid, folder_of(call, operation->folder), shows_tree};

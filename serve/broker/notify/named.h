@@ -15,7 +15,8 @@ struct named {
     const struct operation *operation;
     struct lookup_from from;
     char name[PATH_MAX];
-    int flags; /* of an opening (`O_..`), or of a name (`AT_..`) */
+    int flags;        /* of an opening (`O_..`), or of a name (`AT_..`) */
+    bool stays_below; /* the name mustn't lead out of its folder */
     struct lookup found;
     char second_name[PATH_MAX];     /* of a call with two names, */
     int second_error;               /* or why it can't be read, */
