@@ -39,13 +39,18 @@ void test_known(void) {
     }
     snprintf(path, sizeof path, "%s/fifo", folder);
     int named = mkfifo(path, 0600) ? -1 : open(path, O_RDONLY | O_NONBLOCK);
-    count(named >= 0 && !known_file(named).ours && asked == 0, "a FIFO that has a name is nobody's chip");
+    marked = true;
+    count(named >= 0 && !known_file(named).ours && asked == 0,
+        "a FIFO that has a name is nobody's chip, and not asked about");
+    known_keep(named, 0);
+    count(!known_file(named).ours && asked == 0, "also where its number is that of a chip's pipe");
+    marked = false;
     count(!known_file(others[0]).ours && asked == 0, "a pipe without a mark is nobody's chip, and not asked about");
     marked = true;
     struct known known = known_file(ends[0]);
     count(known.ours && known.chip == 0 && asked == 1, "a pipe with a mark is what the broker says");
     known_file(ends[0]);
-    count(!known_file(named).ours && asked == 1, "and is asked for once");
+    count(asked == 1, "and is asked for once");
     close(named);
     close(ends[0]);
     close(ends[1]);
