@@ -346,14 +346,15 @@ class DaemonsTest(BrokerTest):
         self.assertTrue(wait_until(lambda: end.exists() and end.read_text().endswith("\n")))
         return end.read_text()
 
-    def is_held(self) -> bool:
-        """Whether the daemon holds its line."""
-        return self.say("wait held gpiochip0 3 within 100ms") == 0
+    def wait_until_held(self, broker: "subprocess.Popen[str]") -> None:
+        """Waits until the daemon holds its line, which it can't once gpioserve has ended."""
+        waited = "wait held gpiochip0 3 within 100ms"
+        self.assertTrue(wait_until(lambda: broker.poll() is not None or self.say(waited) == 0))
+        self.assertIsNone(broker.poll(), "gpioserve has ended")
 
     def test_a_run_goes_on_until_the_daemon_has_ended(self) -> None:
         broker = self.leave("--daemons", "-t", str(self.folder / "transcript"))
-        self.assertTrue(wait_until(self.is_held))
-        self.assertIsNone(broker.poll())
+        self.wait_until_held(broker)
         self.assertEqual(self.say("write gpiochip0/sim_gpio3/pull pull-up"), 0)
         self.assertEqual(self.status(broker), 3)
         self.assertEqual(self.daemon_end(), "an event\n")
@@ -373,14 +374,14 @@ for turn in range(2):
 
     def test_sigterm_ends_the_daemon_that_the_command_left(self) -> None:
         broker = self.leave("--daemons")
-        self.assertTrue(wait_until(self.is_held))
+        self.wait_until_held(broker)
         broker.terminate()
         self.assertEqual(self.status(broker), 3)
         self.assertEqual(self.daemon_end(), "terminated\n")
 
     def test_a_daemon_is_ended_with_the_served_program(self) -> None:
         broker = self.leave("--daemons", *self.stoppable())
-        self.assertTrue(wait_until(self.is_held))
+        self.wait_until_held(broker)
         os.kill(self.number(), signal.SIGKILL)
         self.assertEqual(self.status(broker), 124)
         self.assertIn(self.daemon_end(), ("terminated\n", "error 19\n"))
