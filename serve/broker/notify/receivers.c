@@ -102,8 +102,9 @@ static void *watch_receivers(void *argument) {
     return NULL;
 }
 
-/* Takes a free place in the list. Where there is none, as many calls as there are places wait for the loop. */
-static struct call *take_place(struct notify *notify) {
+/* Takes a free place in the list for this thread. Where there is none, as many calls as there are places wait for the
+ * loop. */
+static struct call *take_place(struct notify *notify, pid_t thread) {
     const struct timespec pause = {0, PAUSE_NANOSECONDS};
     for (;;) {
         for (size_t i = 0; i < NOTIFY_CALLS; i++) {
@@ -111,7 +112,7 @@ static struct call *take_place(struct notify *notify) {
             struct call *call = &notify->calls->list[i];
             if (atomic_load(&call->state) == CALL_FREE &&
                 atomic_compare_exchange_strong(&call->state, &expected, CALL_RECEIVED)) {
-                atomic_store(&call->thread, gettid());
+                atomic_store(&call->thread, thread);
                 return call;
             }
         }
@@ -243,12 +244,13 @@ static bool receive(struct notify *notify, struct call *call) {
 /* Receives calls until there is no program that could call, or somebody else receives. */
 static void *receive_calls(void *argument) {
     struct notify *notify = argument;
-    struct call *call = take_place(notify);
+    const pid_t thread = gettid();
+    struct call *call = take_place(notify, thread);
     do {
         if (!receive(notify, call))
             break;
         if (concerns_loop(notify, call) && hand_on(notify, call))
-            call = take_place(notify);
+            call = take_place(notify, thread);
         else
             call_continue(call);
     } while (atomic_load(&notify->idle) == 0);
