@@ -21,7 +21,7 @@ static const char help[] =
     "actions.\n"
     "\n"
     "  --times N         makes lists that say `times` N times\n"
-    "  --pause N         waits N microseconds after each write to a line's file, for the kernel's interrupts (0)\n"
+    "  --pause N         waits N microseconds after each put and each close, for what comes of it elsewhere (0)\n"
     "  --limit N         ends with status 4 where a list takes longer than N seconds (60)\n"
     "  --help            prints this\n"
     "\n"

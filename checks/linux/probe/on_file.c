@@ -140,6 +140,7 @@ static void poll_file(struct maker *maker, const struct action *action) {
 static void close_file(struct maker *maker, const struct action *action) {
     int descriptor = atomic_exchange(&maker->world->files[action->file].descriptor, -1);
     text_add_error(&maker->results, close(descriptor) ? errno : 0);
+    usleep((useconds_t)maker->world->pause_microseconds);
 }
 
 void make_on_file(struct maker *maker, const struct action *action) {

@@ -6,7 +6,7 @@
 
 struct run_options {
     unsigned long times; /* how often lists are made that are made several times; 0: as often as they say */
-    unsigned long pause_microseconds; /* after a write to a line's file */
+    unsigned long pause_microseconds; /* after each put and each close */
     unsigned long limit_seconds;      /* of one making of a list; then the program ends with status 4 */
 };
 

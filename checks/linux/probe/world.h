@@ -30,7 +30,7 @@ struct world {
     size_t folder_count;
     pthread_mutex_t lock;             /* of the folders */
     uint64_t monotonic, realtime;     /* when the list began */
-    unsigned long pause_microseconds; /* after a write to a line's file, for the kernel's interrupts */
+    unsigned long pause_microseconds; /* after each put and each close */
 };
 
 /* Who makes actions: the list's own thread, or one of its others. */
