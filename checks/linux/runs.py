@@ -32,6 +32,7 @@ PIECE = 60  # lists that one run plays
 PIECE_ASLEEP = 10  # of lists that sleep: these runs go on side by side
 PAUSE = 1000  # microseconds behind each `close` and `put`
 AGAIN = 3  # how often a list is played again that may have been late
+AGAIN_ASLEEP = 10  # one with debounce periods
 TIMES = 20  # how often a list with several outcomes is played
 # what the kernel's notification gives in the place of the library's (docs/SERVING.md)
 NOTIFIED = {"ok ERR HUP": "ok HUP", "ok IN ERR HUP": "ok IN HUP"}
@@ -98,9 +99,14 @@ def test_refusals(counts: Counts, probe: Path, room: Path) -> None:
         )
 
 
+def is_asleep(one: ActionList) -> bool:
+    """Whether a list depends on time."""
+    return any(line.startswith("sleep") for line in one.lines)
+
+
 def pieces_of(lists: List[ActionList]) -> List[List[ActionList]]:
     """The lists in pieces that runs of the probe play."""
-    asleep = [one for one in lists if any(line.startswith("sleep") for line in one.lines)]
+    asleep = [one for one in lists if is_asleep(one)]
     awake = [one for one in lists if one not in asleep]
     pieces = [awake[at : at + PIECE] for at in range(0, len(awake), PIECE)]
     return [asleep[at : at + PIECE_ASLEEP] for at in range(0, len(asleep), PIECE_ASLEEP)] + pieces
@@ -178,7 +184,7 @@ class Comparison:
 
     def compare_list(self, one: ActionList, linux: List[str], here: Optional[List[str]]) -> None:
         """Counts a list. What differs by no known cause, or may only have been late, is played again."""
-        for _ in range(AGAIN):
+        for _ in range(AGAIN_ASLEEP if is_asleep(one) else AGAIN):
             if not differs(one, linux, here) or (cause_found(one, linux, here) and not is_late(one, linux, here)):
                 break
             here = play(self.player, self.way, [one], self.room)[0].get(one.name, here)
