@@ -90,6 +90,7 @@ def take_name() -> None:
 
 
 def main() -> int:
+    """Prints or shows the board: the status of the command."""
     options = arguments()
     take_name()
     try:

@@ -116,6 +116,7 @@ def keep_transcripts(sweep: Sweep, report: Report, folder: Path) -> None:
 
 
 def main() -> int:
+    """Sweeps, and prints what came of it: the status of the command."""
     options = arguments()
     kinds = [kind for name in options.kinds or GIVEN for kind in KINDS[name]]
     sweep = Sweep(options.command, options.board, kinds, options.limit, options.timeout)
@@ -123,6 +124,7 @@ def main() -> int:
     interrupted = []
 
     def interrupt(number: int, _frame: object) -> None:
+        """Ends the sweep, whose outcomes so far are printed."""
         interrupted.append(number)
         sweep.stop()
 

@@ -14,6 +14,7 @@ import unittest
 from pathlib import Path
 from typing import Dict, List, Set, Tuple
 
+from serving import require_gpioserve
 from terminal import Terminal
 
 HERE = Path(__file__).resolve().parent
@@ -23,7 +24,7 @@ DAEMON = BENCH / "out/powerbutton"
 sys.path.insert(0, str(HERE.parent / "python"))
 from gpioserve import Machine, programs  # noqa: E402
 from gpioserve.board import OUTPUT, Line  # noqa: E402
-from gpioserve.errors import MachineError, NotServed  # noqa: E402
+from gpioserve.errors import MachineError  # noqa: E402
 from gpioserve.looks import LOOKS, Meaning  # noqa: E402
 
 # Seconds that a screen may take to come: a machine may be busy.
@@ -57,11 +58,7 @@ ROWS = 7
 
 def setUpModule() -> None:
     """Leaves all out where there is nothing to serve with, or no terminal to show the board on."""
-    try:
-        programs.find("gpioserve")
-        os.environ["GPIOSERVED"] = " ".join(programs.served())
-    except NotServed as fault:
-        raise unittest.SkipTest(str(fault)) from fault
+    os.environ["GPIOSERVED"] = require_gpioserve()
     if not shutil.which("tmux"):
         raise unittest.SkipTest("there is no tmux")
 

@@ -9,10 +9,12 @@ import unittest
 from pathlib import Path
 from typing import List, Tuple
 
+from serving import require_gpioserve
+
 HERE = Path(__file__).resolve().parent
 sys.path.insert(0, str(HERE.parent / "python"))
 from gpioserve import Machine, programs  # noqa: E402
-from gpioserve.errors import NotServed, Refused  # noqa: E402
+from gpioserve.errors import Refused  # noqa: E402
 
 # Seconds that a run may take: a machine may be busy.
 LIMIT = 120
@@ -47,11 +49,7 @@ for _ in range(len(sys.argv) - 2):
 
 def setUpModule() -> None:
     """Leaves all out where there is nothing to serve with."""
-    try:
-        programs.find("gpioserve")
-        programs.served()
-    except NotServed as fault:
-        raise unittest.SkipTest(str(fault)) from fault
+    require_gpioserve()
 
 
 class Calls(unittest.TestCase):

@@ -12,6 +12,8 @@ from concurrent.futures import ThreadPoolExecutor
 from pathlib import Path
 from unittest import mock
 
+from serving import require_gpioserve
+
 HERE = Path(__file__).resolve().parent
 TOP = HERE.parent.parent
 sys.path.insert(0, str(HERE.parent / "python"))
@@ -51,11 +53,7 @@ def holder(events: int) -> list:
 
 def setUpModule() -> None:
     """Leaves all out where there is nothing to serve with."""
-    try:
-        programs.find("gpioserve")
-        programs.served()
-    except NotServed as fault:
-        raise unittest.SkipTest(str(fault)) from fault
+    require_gpioserve()
 
 
 class MachineTest(unittest.TestCase):

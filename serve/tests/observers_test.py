@@ -11,11 +11,12 @@ import unittest
 from pathlib import Path
 from typing import Dict, List, Optional
 
+from serving import require_gpioserve
+
 HERE = Path(__file__).resolve().parent
 sys.path.insert(0, str(HERE.parent / "python"))
-from gpioserve import Machine, MachineError, programs  # noqa: E402
+from gpioserve import Machine, MachineError  # noqa: E402
 from gpioserve.connection import Connection  # noqa: E402
-from gpioserve.errors import NotServed  # noqa: E402
 
 PANEL = """
 mkdir panel
@@ -57,11 +58,7 @@ while True:
 
 def setUpModule() -> None:
     """Leaves all out where there is nothing to serve with."""
-    try:
-        programs.find("gpioserve")
-        os.environ["GPIOSERVED"] = " ".join(programs.served())
-    except NotServed as fault:
-        raise unittest.SkipTest(str(fault)) from fault
+    os.environ["GPIOSERVED"] = require_gpioserve()
 
 
 def lines_of(text: str) -> Dict[int, Dict[str, str]]:

@@ -12,12 +12,13 @@ import unittest
 from pathlib import Path
 from typing import Any, Dict, List
 
+from serving import require_gpioserve
+
 HERE = Path(__file__).resolve().parent
 BENCH = HERE.parent.parent / "examples/bench"
 SWEEP = HERE.parent / "sweep.py"
 sys.path.insert(0, str(HERE.parent / "python"))
 from gpioserve import programs  # noqa: E402
-from gpioserve.errors import NotServed  # noqa: E402
 
 # Seconds that a sweep may take: a machine may be busy.
 LIMIT = 300
@@ -54,11 +55,7 @@ IDLE = "print('done')"
 
 def setUpModule() -> None:
     """Leaves all out where there is nothing to serve with."""
-    try:
-        programs.find("gpioserve")
-        os.environ["GPIOSERVED"] = " ".join(programs.served())
-    except NotServed as fault:
-        raise unittest.SkipTest(str(fault)) from fault
+    os.environ["GPIOSERVED"] = require_gpioserve()
 
 
 class Sweeps(unittest.TestCase):

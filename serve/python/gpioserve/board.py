@@ -45,14 +45,17 @@ class Line:
 
     @property
     def direction(self) -> str:
+        """`in` or `out`."""
         return "out" if self.flags & OUTPUT else "in"
 
     @property
     def edges(self) -> str:
+        """Of which edges a program reads the events, in a word."""
         return EDGES[self.flags & EDGES_MASK]
 
     @property
     def bias(self) -> str:
+        """The bias that a program asked for, in a word."""
         return next((word for flag, word in BIASES.items() if self.flags & flag), "-")
 
     @property
@@ -115,6 +118,7 @@ class Board:
     """Chips and lines as they were reported last, and the statements."""
 
     def __init__(self) -> None:
+        """A board of which nothing was reported yet."""
         self.chips: Dict[int, str] = {}
         self.lines: Dict[Tuple[int, int], Line] = {}
         self.recent: Dict[Tuple[int, int], Line] = {}  # lines of which events were read in the last second
@@ -142,10 +146,12 @@ class Board:
                 self.is_whole = True
 
     def _chip(self, rest: str, _now: float) -> None:
+        """Takes a chip that is there, as gpiodetect prints it."""
         self.chips[number_of(rest)] = rest
         self._rows = []
 
     def _gone(self, rest: str, _now: float) -> None:
+        """Takes the end of a chip, and with it of its lines."""
         chip = number_of(rest)
         self.chips.pop(chip, None)
         for key in [key for key in self.lines if key[0] == chip]:
@@ -153,6 +159,7 @@ class Board:
         self._rows = []
 
     def _line(self, rest: str, now: float) -> None:
+        """Takes what a line is: words as `level=1`."""
         words = rest.split(" ")
         key = (number_of(words[0]), int(words[1]))
         is_new = key not in self.lines
@@ -173,6 +180,7 @@ class Board:
             self.recent[key] = line
 
     def _said(self, rest: str, _now: float) -> None:
+        """Takes a statement: who said it, what it printed, and its text."""
         pid, program, printed, statement = rest.split(" ", 3)
         words = statement.split(" ")
         if words[0] == "mkdir" and len(words) > 1 and words[1].count("/") == 1:
@@ -185,6 +193,7 @@ class Board:
         self.log.append([(f"{asker}: {statement}{printed}", Meaning.FAILED if has_failed else Meaning.PLAIN)])
 
     def _lost(self, rest: str, _now: float) -> None:
+        """Takes how many statements were not reported."""
         self.log.append([(f"({rest} statements are missing here)", Meaning.PLAIN)])
 
     def rows(self) -> List[Tuple[int, Optional[Line]]]:

@@ -41,6 +41,7 @@ class Screen:
     """A terminal with the board."""
 
     def __init__(self, window: "curses.window", observer: Connection, world: Connection, looks: Looks) -> None:
+        """A screen of a window of curses. `observer` is told of changes, and `world` says statements."""
         self.window, self.observer, self.world, self.looks = window, observer, world, looks
         self.board = Board()
         self.chosen = 0  # the row with the cursor
@@ -85,6 +86,7 @@ class Screen:
             self._keep_times()
 
     def _take_report(self) -> None:
+        """Takes a report, and asks for the next one."""
         at = self._line_of(self.chosen)
         try:
             self.board.take(self.observer.finish(), time.monotonic())
@@ -130,10 +132,12 @@ class Screen:
         self.message = (message, Meaning.PLAIN)
 
     def _line_of(self, place: int) -> Optional[Line]:
+        """The line of a row; None for a chip, or where there is no such row."""
         rows = self.board.rows()
         return rows[place][1] if place < len(rows) else None
 
     def _pull(self, key: Tuple[int, int], pull: str) -> None:
+        """Pulls a line, if it is still there."""
         if key in self.board.lines:
             self._say(f"write gpiochip{key[0]}/sim_gpio{key[1]}/pull pull-{pull}")
 
@@ -153,16 +157,20 @@ class Screen:
         self._pull(key, line.pull)
 
     def _toggle(self) -> None:
+        """Pulls the chosen line the other way."""
         self._pull_other(None)
 
     def _pulse(self) -> None:
+        """The same for a short time."""
         self._pull_other(PULSE)
 
     def _hold(self) -> None:
+        """The same until the key is repeated no more."""
         line = self._line_of(self.chosen)
         self._pull_other(HELD_NEXT if line and (line.chip, line.offset) in self.releases else HELD_FIRST)
 
     def _fault(self) -> None:
+        """Has the next call of the driver fail."""
         self._say("fault 1")
 
     def _unplug(self) -> None:
@@ -183,6 +191,7 @@ class Screen:
         self._say(f"unplug {name}")
 
     def _run_clock(self) -> None:
+        """Lets a manual clock run, or pauses it."""
         if self.board.manual is None:
             self._show("the clock is the system's: gpioserve --clock manual leaves it to you")
             return
@@ -190,24 +199,31 @@ class Screen:
         self._show("the clock runs" if self.runs else "the clock stands still")
 
     def _step_clock(self) -> None:
+        """Moves a manual clock on."""
         self._say("pass 10ms")
 
     def _quit(self) -> None:
+        """Ends the board after this key."""
         self.is_over = True
 
     def _switch_log(self) -> None:
+        """Shows the statements, or hides them."""
         self.shows_log = not self.shows_log
 
     def _switch_help(self) -> None:
+        """Shows the keys."""
         self.shows_help = True
 
     def _scroll(self, by: int) -> None:
+        """Goes so many statements back, or forward where it is negative."""
         self.older = min(max(self.older + by, 0), max(len(self.board.log) - 1, 0))
 
     def _move(self, by: int) -> None:
+        """Moves the cursor by so many rows."""
         self.chosen = min(max(self.chosen + by, 0), max(len(self.board.rows()) - 1, 0))
 
     def _ask(self, sign: str) -> None:
+        """Begins to ask for a text: `/` a search, `:` a statement."""
         self.prompt = (sign, "")
 
     def _search(self) -> None:
@@ -222,6 +238,7 @@ class Screen:
         self._show(f"{self.wanted} is nowhere")
 
     def _take_keys(self) -> None:
+        """Takes the keys that were pressed."""
         while True:
             key = self.window.getch()
             if key == -1:
@@ -271,6 +288,7 @@ class Screen:
         self._put(place, [(text, Meaning.PLAIN)], row)
 
     def _draw(self) -> None:
+        """Draws the screen."""
         height, width = self.window.getmaxyx()
         self.window.erase()
         if height < SIZE_LEAST[0] or width < SIZE_LEAST[1]:
@@ -283,6 +301,7 @@ class Screen:
         self.window.refresh()
 
     def _draw_board(self, height: int) -> None:
+        """Draws the table, the statements and the last rows."""
         log = max((height - 5) // 3, 1) if self.shows_log else 0
         shown = height - 4 - (log + 1 if log else 0)
         self._put_text(0, self._title(), Meaning.TITLE)
@@ -313,6 +332,7 @@ class Screen:
             self._put(place + below, cells)
 
     def _title(self) -> str:
+        """The first row."""
         clock = "the system's"
         if self.board.manual is not None:
             clock = f"{self.board.manual / 1e9:.6f} s, {'runs' if self.runs else 'stands still'}"
@@ -342,6 +362,7 @@ def show(observer: Connection, world: Connection, has_colours: bool) -> None:
     os.set_blocking(writer, False)
 
     def end(number: int, _frame: object) -> None:
+        """Ends the board as a signal ends a program; the terminal is restored first."""
         raise SystemExit(128 + number)
 
     for number in (signal.SIGINT, signal.SIGTERM, signal.SIGHUP):

@@ -115,6 +115,7 @@ class World:
         self.until_read(chip, line, before + events, seconds)
 
     def _wait(self, what: str, seconds: float) -> str:
+        """Says a wait that ends after so many seconds: what it prints."""
         return self.say(f"wait {what} within {math.ceil(seconds * 1000)}ms")
 
 
@@ -157,6 +158,7 @@ class Connection(World):
         return self._result(self._begun, self._receive())
 
     def _say_one(self, statement: str) -> str:
+        """Says a statement, and takes its response."""
         with self._lock:
             self._send(statement.encode())
             response = self._receive()
@@ -174,6 +176,7 @@ class Connection(World):
         raise (WaitTimeout if number == errno.ETIMEDOUT else WaitFailed)(number, statement, text)
 
     def _send(self, statement: bytes) -> None:
+        """Sends a statement."""
         if len(statement) > TEXT_MAX:
             raise ValueError(f"a statement has at most {TEXT_MAX} bytes")
         try:

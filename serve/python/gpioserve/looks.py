@@ -91,7 +91,7 @@ def colours_of_terminal(number: int) -> int:
 
 
 def number_of_colour(colour: Colour, count: int) -> int:
-    """The number of a colour on a terminal of so many. Only with 256 are the numbers from 16 on those of the palette."""
+    """The number of a colour on a terminal of so many. Only where it has 256 are they those of the palette."""
     return colour.of_256 if count == 256 else colour.of_8
 
 
@@ -138,6 +138,7 @@ def painted(cells: Cells, count: int) -> str:
 
 
 def _painted_cell(text: str, look: Look, count: int) -> str:
+    """A part of a row with the sequence of its look, and the one that ends it."""
     codes = [code for attribute, code in ((curses.A_BOLD, "1"), (curses.A_REVERSE, "7")) if look.attribute & attribute]
     if look.colour:
         number = number_of_colour(look.colour, count)

@@ -144,10 +144,12 @@ class Machine(World):
         return subprocess.run(command, **wanted)
 
     def _found(self, how: Dict[str, Any]) -> Dict[str, Any]:
+        """The arguments of a program, with the variables by which it finds the chips."""
         given = how.get("env")
         return {**how, "env": self.environment if given is None else {**given, **self._variables}}
 
     def _keep(self, program: "subprocess.Popen[Any]") -> "subprocess.Popen[Any]":
+        """Keeps a program, which `close` ends."""
         self._programs.append(program)
         return program
 

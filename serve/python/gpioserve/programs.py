@@ -22,6 +22,7 @@ MAKER = TOP / "launcher/program"
 
 
 def _is_program(path: Path) -> bool:
+    """Whether a file is there that can be run."""
     return path.is_file() and os.access(path, os.X_OK)
 
 

@@ -113,6 +113,7 @@ def gpio_chip() -> Iterator[Callable[..., str]]:
     made = []
 
     def make(lines: int = 8) -> str:
+        """Makes a chip: its name."""
         made.append(connection.plug(f"test{os.getpid()}.{next(_labels)}", lines))
         return made[-1]
 

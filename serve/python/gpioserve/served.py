@@ -98,13 +98,16 @@ class Served:
 
     @property
     def _input(self) -> IO[bytes]:
+        """What the program reads."""
         assert self._process.stdin is not None
         return self._process.stdin
 
     @property
     def _output(self) -> IO[bytes]:
+        """What the program writes."""
         assert self._process.stdout is not None
         return self._process.stdout
 
     def _ended(self) -> NotServed:
+        """The exception of a program that has ended, with its status."""
         return NotServed(f"gpioserved ended with status {self._process.wait()} before it answered")

@@ -132,7 +132,6 @@ class Sweep:
     limit: int = LIMIT
     timeout: float = TIMEOUT
     jobs: int = field(default_factory=lambda: os.cpu_count() or 1)
-    keep: Optional[Path] = None  # a folder that gets the transcript of each run that is kept
 
     def __post_init__(self) -> None:
         self._folder = Path(tempfile.mkdtemp(prefix="sweep."))
@@ -154,6 +153,7 @@ class Sweep:
         self._is_stopped.set()
 
     def _is_ending(self) -> bool:
+        """Whether no further run begins, and those that go on end."""
         return self._is_over.is_set() or self._is_stopped.is_set()
 
     def begin(self) -> List[Place]:
@@ -188,6 +188,7 @@ class Sweep:
             self._is_over.clear()
 
     def _outcomes(self, places: Sequence[Place]) -> Iterator[Outcome]:
+        """The outcomes as the threads have them; however the caller leaves it, all runs end."""
         with ThreadPoolExecutor(self.jobs) as pool:
             waiting = [pool.submit(self.outcome, place) for place in places]
             try:
@@ -268,6 +269,7 @@ class Chips:
     """The chips of a board, and the statements by which each goes and comes back."""
 
     def __init__(self, board: Path) -> None:
+        """Asks a machine with that board which chips there are."""
         self.gone: List[Tuple[str, str]] = []  # the statement by which one goes, and that by which it comes
         with Machine(board) as machine:
             devices = self._devices(machine, board)

@@ -10,7 +10,7 @@ from typing import Dict, Iterable, List, Sequence, Tuple, Union
 from .sweep import EXPECTED, Kind, Outcome, Result, Sweep, repeat_command
 
 # What a result is called in the table.
-WORDS = {
+RESULT_PHRASES = {
     Result.SAME: "same as the clean run",
     Result.ENDED: "ended with status {status}",
     Result.DIFFERS: "went on and printed something else",
@@ -18,7 +18,7 @@ WORDS = {
     Result.HUNG: "hung",
 }
 # What went wrong, before the call that a group names.
-KINDS = {
+KIND_PHRASES = {
     Kind.FAULT: "the driver fails at",
     Kind.FAULTS: "the driver fails from there on, at",
     Kind.UNPLUG: "the chip goes before",
@@ -89,7 +89,7 @@ class Report:
         rows = [self._head()]
         shown = None
         for group in self.groups():
-            title = WORDS[group.result].format(status=group.status) + (f": {group.says}" if group.says else "")
+            title = RESULT_PHRASES[group.result].format(status=group.status) + (f": {group.says}" if group.says else "")
             if generalized(title) != shown:
                 rows += ["", title]
                 shown = generalized(title)
@@ -99,7 +99,7 @@ class Report:
     def _rows(self, group: Group) -> List[str]:
         """A group: how many runs, at which calls, and how its first one is repeated."""
         first = group.first.place
-        rows = [f"  {len(group.outcomes):4} x {KINDS[group.kind]} {group.what}, first at call {first.call}"]
+        rows = [f"  {len(group.outcomes):4} x {KIND_PHRASES[group.kind]} {group.what}, first at call {first.call}"]
         strays = sum(outcome.strays for outcome in group.outcomes)
         if strays:
             rows.append(f"         in {strays} of them the program made other calls before than in the clean run")
@@ -108,6 +108,7 @@ class Report:
         return rows
 
     def _head(self) -> str:
+        """How many runs there were, and what the clean one does."""
         clean = self.sweep.clean
         assert clean is not None
         driven = sum(call.driven > 0 for call in clean.calls)
