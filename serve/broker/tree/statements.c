@@ -61,10 +61,10 @@ static int error_of(const struct machine *machine, const char *verb, enum place_
     return machine_error(machine);
 }
 
-/* The program whose request is answered: one that does it itself, or one for which a receiver does. */
+/* The program whose request is answered: one that does it itself, by one of its threads, or one for which a receiver
+ * does. */
 static struct asker asker_of_caller(const struct broker *broker) {
-    pid_t process = mount_process(), caller = notify_caller(broker, process);
-    return caller == process ? asker_of_process(process) : asker_of_thread(caller);
+    return asker_of_thread(notify_caller(broker, mount_process()));
 }
 
 static int say_line(
