@@ -1,5 +1,6 @@
 /* Version 1 of linux/gpio.h. */
 #include <errno.h>
+#include <fcntl.h>
 #include <poll.h>
 #include <string.h>
 #include <sys/ioctl.h>
@@ -81,6 +82,7 @@ static void test_changes(void) {
     struct gpioline_info info = {.line_offset = 2};
     int chip = open_chip(0);
     test("version 1: changes are waited for and read, a further one while there is room for one of version 2");
+    CHECK(fcntl(chip, F_SETFL, O_NONBLOCK) == 0); /* (so that no read waits for ever where nothing comes) */
     CHECK(ioctl(chip, GPIO_GET_LINEINFO_WATCH_IOCTL, &info) == 0 && polled(chip, 0) == 0);
     change(2);
     CHECK(polled(chip, 10000) == POLLIN);

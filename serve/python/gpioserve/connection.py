@@ -10,9 +10,9 @@ import socket
 import struct
 import threading
 from contextlib import contextmanager
-from types import TracebackType
-from typing import Iterator, Optional, Tuple, Type, TypeVar, Union
+from typing import Iterator, Optional, Tuple, Union
 
+from .closing import Closing
 from .errors import MachineError, NotServed, Refused, WaitFailed, WaitTimeout
 
 # The packets, as serve/wire.h has them: a head of 24 bytes, and at most so many bytes of text.
@@ -26,7 +26,6 @@ PATIENCE = 30.0
 
 Path = Union[str, "os.PathLike[str]"]
 Chip = Union[int, str]
-Self = TypeVar("Self", bound="World")
 
 
 def chip_name(chip: Chip) -> str:
@@ -35,7 +34,7 @@ def chip_name(chip: Chip) -> str:
     return f"gpiochip{name}" if name.isdigit() else name
 
 
-class World:
+class World(Closing):
     """What a test does to a machine from outside. A chip is a number or a name, a line is its offset.
 
     Each method may raise Refused, MachineError, and NotServed where gpioserve has ended.
@@ -47,18 +46,6 @@ class World:
     def say(self, *statements: str) -> str:
         """Says statements or waits one after another: what they print together."""
         raise NotImplementedError
-
-    def close(self) -> object:
-        """Frees what is held."""
-        raise NotImplementedError
-
-    def __enter__(self: Self) -> Self:
-        return self
-
-    def __exit__(
-        self, kind: Optional[Type[BaseException]], fault: Optional[BaseException], trace: Optional[TracebackType]
-    ) -> None:
-        self.close()
 
     def pull(self, chip: Chip, line: int, up: bool) -> None:
         """Pulls a line up or down, as a button or a sensor does."""

@@ -10,16 +10,15 @@ from __future__ import annotations
 
 import subprocess
 from dataclasses import dataclass
-from types import TracebackType
-from typing import IO, Optional, Sequence, Type, TypeVar
+from typing import IO, Optional, Sequence
 
 from . import programs
+from .closing import Closing
 from .errors import NotServed, Refused
 
 HEAD_MAX = 32
 # How many bytes a line has at most.
 LINE_MAX = 8192
-Self = TypeVar("Self", bound="Served")
 
 
 @dataclass(frozen=True)
@@ -30,7 +29,7 @@ class Answer:
     text: bytes
 
 
-class Served:
+class Served(Closing):
     """A running gpioserved. Each line is answered before the next is given."""
 
     def __init__(self, command: Optional[Sequence[str]] = None) -> None:
@@ -40,14 +39,6 @@ class Served:
             self._process = subprocess.Popen(words, stdin=subprocess.PIPE, stdout=subprocess.PIPE)
         except OSError as fault:
             raise NotServed(f"{words[0]} can't be started: {fault.strerror}") from fault
-
-    def __enter__(self: Self) -> Self:
-        return self
-
-    def __exit__(
-        self, kind: Optional[Type[BaseException]], fault: Optional[BaseException], trace: Optional[TracebackType]
-    ) -> None:
-        self.close()
 
     def begin(self) -> None:
         """Gives the two lines that begin a session of statements."""
