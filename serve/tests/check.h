@@ -46,6 +46,9 @@ int request_debounced(uint32_t line, uint32_t period);
 long values(int lines, uint64_t mask);
 int set_values(int lines, uint64_t bits, uint64_t mask);
 
+/* How many milliseconds a test waits at most for what has to come, on the busiest machine. */
+#define WAIT_MOST 60000
+
 /* What poll says of a file within so many milliseconds; 0 where nothing. */
 short polled(int file, int timeout);
 

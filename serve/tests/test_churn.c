@@ -12,7 +12,7 @@
 #include "check.h"
 #include "raw.h"
 
-/* Programs at a time, how many are killed in all, and for how many seconds at most. */
+/* Programs at a time, how many are killed in all, and after how many seconds fewer are enough: more than CLIENTS. */
 #define CLIENTS 200
 #define KILLED 3000
 #define SECONDS 20
@@ -85,7 +85,7 @@ static unsigned churn(pid_t *clients) {
     const struct timespec pause = {0, 1000 * 1000};
     time_t end = time(NULL) + SECONDS;
     unsigned killed = 0;
-    while (killed < KILLED && time(NULL) < end) {
+    while (killed < KILLED && (killed <= CLIENTS || time(NULL) < end)) {
         unsigned which = random_below(CLIENTS);
         unsigned deed = random_below(4);
         if (deed < 2 && clients[which] > 0) {
@@ -114,7 +114,7 @@ void test_churn(void) {
         close(held);
     }
     test("and nothing of theirs in the broker");
-    for (int look = 0; look < 500 && (after = raw_count_of_broker()) != before; look++)
+    for (int look = 0; look < WAIT_MOST / 20 && (after = raw_count_of_broker()) != before; look++)
         pause_for(20);
     CHECK(before > 0 && after == before);
 }

@@ -19,7 +19,7 @@ static void test_poll(void) {
     test("poll is ready while an event waits, and no longer");
     CHECK(polled(held, 0) == 0);
     CHECK(pull(1, true) && pull(1, false));
-    CHECK(polled(held, 10000) == POLLIN);
+    CHECK(polled(held, WAIT_MOST) == POLLIN);
     CHECK(read(held, events, sizeof *events) == sizeof *events && events[0].id == GPIO_V2_LINE_EVENT_RISING_EDGE);
     CHECK(polled(held, 0) == POLLIN);
     CHECK(read(held, events, sizeof events) == sizeof *events && events[0].id == GPIO_V2_LINE_EVENT_FALLING_EDGE);
@@ -117,22 +117,21 @@ static void test_epoll(void) {
     int held = request_edges(1), waiter = epoll_with(held, EPOLLIN);
     test("epoll is ready while an event waits");
     CHECK(epoll_wait(waiter, &shown, 1, 0) == 0 && pull(1, true));
-    CHECK(epoll_wait(waiter, &shown, 1, 10000) == 1 && epoll_wait(waiter, &shown, 1, 0) == 1);
+    CHECK(epoll_wait(waiter, &shown, 1, WAIT_MOST) == 1 && epoll_wait(waiter, &shown, 1, 0) == 1);
     CHECK(read(held, events, sizeof events) == sizeof *events && epoll_wait(waiter, &shown, 1, 0) == 0);
     close(waiter);
     waiter = epoll_with(held, EPOLLIN | EPOLLET);
     test("edge-triggered epoll shows each event, also where one waits already");
-    CHECK(pull(1, false) && epoll_wait(waiter, &shown, 1, 10000) == 1 && epoll_wait(waiter, &shown, 1, 0) == 0);
-    CHECK(pull(1, true) && epoll_wait(waiter, &shown, 1, 10000) == 1);
+    CHECK(pull(1, false) && epoll_wait(waiter, &shown, 1, WAIT_MOST) == 1 && epoll_wait(waiter, &shown, 1, 0) == 0);
+    CHECK(pull(1, true) && epoll_wait(waiter, &shown, 1, WAIT_MOST) == 1);
     CHECK(read(held, events, sizeof events) == 2 * sizeof *events && epoll_wait(waiter, &shown, 1, 0) == 0);
-    CHECK(pull(1, false) && epoll_wait(waiter, &shown, 1, 10000) == 1);
+    CHECK(pull(1, false) && epoll_wait(waiter, &shown, 1, WAIT_MOST) == 1);
     close(waiter);
     close(held);
 }
 
-/* Microseconds of a debounce period, milliseconds in which it has passed, and how often it is tried to look before. */
+/* Microseconds of a debounce period, and how often it is tried to look before it has passed. */
 #define PERIOD 400000
-#define WAIT_MOST 60000
 #define MOST_LOOKS 100
 
 static uint64_t microseconds_now(void) {
@@ -174,10 +173,10 @@ static void test_watch(void) {
     test("changes of a watched line are read with names and consumers");
     CHECK(ioctl(chip, GPIO_V2_GET_LINEINFO_WATCH_IOCTL, &info) == 0 && polled(chip, 0) == 0);
     int held = request(2, GPIO_V2_LINE_FLAG_OUTPUT);
-    CHECK(polled(chip, 10000) == POLLIN && read(chip, change, sizeof *change) == sizeof *change);
+    CHECK(polled(chip, WAIT_MOST) == POLLIN && read(chip, change, sizeof *change) == sizeof *change);
     CHECK(change[0].event_type == GPIO_V2_LINE_CHANGED_REQUESTED && strcmp(change[0].info.consumer, "test") == 0);
     close(held);
-    CHECK(polled(chip, 10000) == POLLIN && read(chip, change, sizeof change) == sizeof *change);
+    CHECK(polled(chip, WAIT_MOST) == POLLIN && read(chip, change, sizeof change) == sizeof *change);
     CHECK(change[0].event_type == GPIO_V2_LINE_CHANGED_RELEASED && polled(chip, 0) == 0);
     CHECK(ioctl(chip, GPIO_GET_LINEINFO_UNWATCH_IOCTL, &info.offset) == 0);
     held = request(2, GPIO_V2_LINE_FLAG_OUTPUT);

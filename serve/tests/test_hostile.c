@@ -86,7 +86,7 @@ static bool ask_for_line(int connection, int chip, uint32_t line) {
     struct gpio_v2_line_request asked = {.offsets = {line}, .num_lines = 1, .config.flags = GPIO_V2_LINE_FLAG_INPUT};
     struct question question = {
         .op = WIRE_IOCTL, .command = GPIO_V2_GET_LINE_IOCTL, .ino = ino_of(chip), .length = sizeof asked};
-    return raw_send(connection, &question, &asked, sizeof asked) && polled(connection, 10000) == POLLIN;
+    return raw_send(connection, &question, &asked, sizeof asked) && polled(connection, WAIT_MOST) == POLLIN;
 }
 
 static void check_free(uint32_t line) {
@@ -243,7 +243,7 @@ void test_hostile(void) {
 /* Reads an event of a line by a request that shows it, and then nothing. */
 static void check_event(int held, bool up) {
     struct gpio_v2_line_event event;
-    CHECK(polled(held, 0) == 0 && pull(1, up) && polled(held, 10000) == POLLIN);
+    CHECK(polled(held, 0) == 0 && pull(1, up) && polled(held, WAIT_MOST) == POLLIN);
     CHECK(read(held, &event, sizeof event) == sizeof event && polled(held, 0) == 0);
 }
 

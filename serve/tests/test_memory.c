@@ -94,14 +94,14 @@ static void test_places(void) {
     test("readv fills one place after another, and nothing is EFAULT");
     CHECK_ERROR(readv(held, nowhere, 1), EFAULT);
     CHECK(fcntl(held, F_SETFL, O_NONBLOCK) == 0);
-    CHECK(pull(1, true) && pull(1, false) && polled(held, 10000) == POLLIN);
+    CHECK(pull(1, true) && pull(1, false) && polled(held, WAIT_MOST) == POLLIN);
     CHECK_ERROR(readv(held, small, 2), EINVAL);
     /* (a pipe gives nothing where not all that it has can be written) */
     if (is_notified)
         CHECK_ERROR(readv(held, two, 2), EFAULT);
     else
         CHECK(readv(held, two, 2) == sizeof *events && events[0].id == GPIO_V2_LINE_EVENT_RISING_EDGE);
-    CHECK(pull(1, true) && polled(held, 10000) == POLLIN);
+    CHECK(pull(1, true) && polled(held, WAIT_MOST) == POLLIN);
     CHECK_ERROR(readv(held, bad, 1), EFAULT);
     CHECK(pull(1, false));
     close(held);

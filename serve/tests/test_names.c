@@ -169,7 +169,7 @@ static void test_flags(void) {
 static void test_waiting_bytes(void) {
     int chip = open_chip(0), held = request_edges(1), count = 0;
     test("how many bytes wait is no command of a chip or of a request");
-    CHECK(pull(1, true) && polled(held, 10000) == POLLIN);
+    CHECK(pull(1, true) && polled(held, WAIT_MOST) == POLLIN);
     CHECK_ERROR(ioctl(held, FIONREAD, &count), EINVAL);
     CHECK_ERROR(ioctl(chip, FIONREAD, &count), EINVAL);
     CHECK(pull(1, false));

@@ -23,17 +23,24 @@ static void test_fork(void) {
     close(held);
 }
 
-static int hold_for_a_while(int held) {
-    pause_for(1000);
-    return values(held, 1) < 0;
+/* A pipe whose writing end the parent closes once it has looked. */
+static int looked[2];
+
+static int hold_until_looked(int held) {
+    char none;
+    close(looked[1]);
+    return read(looked[0], &none, 1) != 0 || values(held, 1) < 0;
 }
 
 static void test_left_to_child(void) {
     int held = request(1, GPIO_V2_LINE_FLAG_OUTPUT);
     test("a child keeps the lines when the parent has closed the file");
-    pid_t child = run_child(hold_for_a_while, held);
+    CHECK(pipe(looked) == 0);
+    pid_t child = run_child(hold_until_looked, held);
+    close(looked[0]);
     close(held);
     CHECK_ERROR(request(1, GPIO_V2_LINE_FLAG_INPUT), EBUSY);
+    close(looked[1]);
     CHECK(end_of(child) == 0);
     held = request(1, GPIO_V2_LINE_FLAG_INPUT);
     CHECK(held >= 0);
@@ -50,7 +57,7 @@ static void test_kill(void) {
     pid_t child = run_child(hold_for_long, 2);
     int held = -1;
     test("the lines of a process that is killed are free");
-    for (int turn = 0; turn < 100; turn++) {
+    for (int turn = 0; turn < WAIT_MOST / 10; turn++) {
         held = request(2, GPIO_V2_LINE_FLAG_INPUT);
         if (held < 0)
             break;

@@ -44,7 +44,7 @@ static void test_unplug(void) {
     struct epoll_event shown = {.events = EPOLLIN};
     test("the files of a chip that is gone say so");
     CHECK(edges >= 0 && epoll_ctl(waiter, EPOLL_CTL_ADD, edges, &shown) == 0);
-    CHECK(say("write gpiochip2/sim_gpio1/pull pull-up") && polled(edges, 10000) == POLLIN);
+    CHECK(say("write gpiochip2/sim_gpio1/pull pull-up") && polled(edges, WAIT_MOST) == POLLIN);
     CHECK(read(edges, &event, sizeof event) == sizeof event);
     pid_t child = run_child(unplug_later, 2);
     CHECK(ended_with_chip(read(edges, &event, sizeof event)));
@@ -60,7 +60,7 @@ static void test_unplug(void) {
 }
 
 static int wait_by_poll(int file) {
-    return polled(file, 10000) != shown_gone();
+    return polled(file, WAIT_MOST) != shown_gone();
 }
 
 static int wait_by_select(int file) {
@@ -74,7 +74,7 @@ static int wait_by_select(int file) {
 static int wait_by_epoll(int file, uint32_t events) {
     struct epoll_event shown = {.events = events};
     int waiter = epoll_create1(0);
-    return epoll_ctl(waiter, EPOLL_CTL_ADD, file, &shown) || epoll_wait(waiter, &shown, 1, 10000) != 1 ||
+    return epoll_ctl(waiter, EPOLL_CTL_ADD, file, &shown) || epoll_wait(waiter, &shown, 1, WAIT_MOST) != 1 ||
            !(shown.events & EPOLLHUP);
 }
 
@@ -128,7 +128,7 @@ static void test_waiting_event(void) {
     CHECK(say("probe short 1"));
     int chip = open_chip(3);
     int edges = request_lines(chip, &line, 1, GPIO_V2_LINE_FLAG_INPUT | GPIO_V2_LINE_FLAG_EDGE_RISING, "edges");
-    CHECK(say("write gpiochip3/sim_gpio0/pull pull-up") && polled(edges, 10000) == POLLIN);
+    CHECK(say("write gpiochip3/sim_gpio0/pull pull-up") && polled(edges, WAIT_MOST) == POLLIN);
     CHECK(say("unplug gpiochip3") && polled(edges, 0) == shown_gone());
     CHECK_ERROR(read(edges, &event, sizeof event), ENODEV);
     close(edges);

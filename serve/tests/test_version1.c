@@ -35,7 +35,7 @@ static void test_event(void) {
     int chip = open_chip(0);
     test("version 1: events are waited for and read");
     CHECK(ioctl(chip, GPIO_GET_LINEEVENT_IOCTL, &asked) == 0);
-    CHECK(polled(asked.fd, 0) == 0 && pull(4, true) && pull(4, false) && polled(asked.fd, 10000) == 1);
+    CHECK(polled(asked.fd, 0) == 0 && pull(4, true) && pull(4, false) && polled(asked.fd, WAIT_MOST) == 1);
     CHECK(read(asked.fd, events, sizeof events) == 2 * sizeof *events);
     CHECK(events[0].id == GPIOEVENT_EVENT_RISING_EDGE && events[1].id == GPIOEVENT_EVENT_FALLING_EDGE);
     CHECK(events[0].timestamp > 0 && events[0].timestamp <= events[1].timestamp && polled(asked.fd, 0) == 0);
@@ -85,7 +85,7 @@ static void test_changes(void) {
     CHECK(fcntl(chip, F_SETFL, O_NONBLOCK) == 0); /* (so that no read waits for ever where nothing comes) */
     CHECK(ioctl(chip, GPIO_GET_LINEINFO_WATCH_IOCTL, &info) == 0 && polled(chip, 0) == 0);
     change(2);
-    CHECK(polled(chip, 10000) == POLLIN);
+    CHECK(polled(chip, WAIT_MOST) == POLLIN);
     CHECK_ERROR(read(chip, changes, (size_t)one - 1), EINVAL);
     CHECK(read(chip, changes, (size_t)newer) == one && polled(chip, 0) == POLLIN);
     CHECK(changes[0].event_type == GPIOLINE_CHANGED_REQUESTED && changes[0].timestamp > 0);
