@@ -652,6 +652,9 @@ static void test_names_of_chips(void) {
     CHECK_ERROR(rename("/dev/gpiochip0", "/tmp/gpiochip0"), EXDEV);
     CHECK_ERROR(mkdir("/dev/gpiochip0", 0755), EEXIST);
     CHECK_ERROR(unlink("/dev/gpiochip7"), ENOENT);
+    CHECK_ERROR(mkdir("/sys/bus/gpio/devices/gpiochip7", 0755), EPERM);
+    CHECK_ERROR(rmdir("/sys/bus/gpio/devices"), EPERM);
+    CHECK_ERROR(open("/sys/bus/gpio/devices", O_TMPFILE | O_RDWR, 0600), EOPNOTSUPP);
     CHECK(opens(open_chip(0)) && stat("/dev/gpiochip7", &status) < 0);
 }
 

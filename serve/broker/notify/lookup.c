@@ -187,7 +187,7 @@ static void walk_on(struct walk *walk, const char *path, void (*leave)(struct wa
 /* Does what `..` says. Of the broker's own names it does so as the kernel: a link there leads on first, and behind what
  * is no folder there is nothing. (The text of a link there leads through no other link.) */
 static void leave_part(struct walk *walk) {
-    struct lookup place = {.chip = -1};
+    struct lookup place;
     struct stat status;
     char text[PATH_MAX];
     walk->whole[walk->length] = 0;
@@ -209,9 +209,13 @@ static void leave_part(struct walk *walk) {
     drop_part(walk);
 }
 
-/* The whole path of a name as the program knows it. False where it has none. */
-static bool whole_path(struct walk *walk, const char *name) {
+/* Walks the whole path of a name as the program knows it. False where it has none. */
+static bool whole_path(struct walk *walk, const struct lookup_from *from, const char *name) {
     char link[LINK_SPACE], folder[PATH_MAX];
+    walk->from = from;
+    walk->length = 0;
+    walk->is_too_long = false;
+    walk->error = 0;
     if (*name != '/') {
         write_folder(walk->from, link);
         if (!read_link(link, folder) || *folder != '/')
@@ -255,9 +259,9 @@ static void look_at_folder(struct lookup *lookup, const struct lookup_from *from
 }
 
 static void look_at(struct lookup *lookup, const struct lookup_from *from, const char *name) {
-    struct walk walk = {.from = from};
     if (may_be_ours(name)) {
-        if (whole_path(&walk, name))
+        struct walk walk;
+        if (whole_path(&walk, from, name))
             take(lookup, from, walk.whole);
         lookup->error = walk.error;
         lookup->ours = lookup->ours || walk.error != 0;

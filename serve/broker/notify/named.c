@@ -154,6 +154,10 @@ static void answer_open(const struct named *named, struct call *call) {
     }
     if (!named->found.in_view)
         flags &= ~MAKING_FLAGS;
+    if (!named->found.in_view && !named->found.is_dev && (flags & O_TMPFILE) == O_TMPFILE) {
+        call_fail(call, EOPNOTSUPP);
+        return;
+    }
     int file = open(named->found.path, flags | O_CLOEXEC, 0);
     if (file < 0) {
         call_fail(call, errno);
