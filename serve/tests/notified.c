@@ -512,40 +512,54 @@ static void test_reads(void) {
     close(chip);
 }
 
-/* A name in memory that another thread provides, once it has opened a file itself. */
+/* Names in memory that another thread provides, once all of them are awaited and it has opened a file itself. */
+#define SLOW_NAMES 4
 static int fault_file;
-static char *fault_page;
+static char *fault_pages;
 
-static void *provide_name(void *unused) {
+static void *provide_names(void *unused) {
     static char page[PAGE] = "/dev/gpiochip0";
     struct uffd_msg message;
-    struct uffdio_copy copy = {.dst = (uintptr_t)fault_page, .src = (uintptr_t)page, .len = PAGE};
+    bool good = true;
     (void)unused;
-    if (read(fault_file, &message, sizeof message) != sizeof message)
-        return "no fault";
+    for (int i = 0; i < SLOW_NAMES; i++)
+        good = read(fault_file, &message, sizeof message) == sizeof message && good;
     int other = open("/etc/passwd", O_RDONLY);
     close(other);
-    return ioctl(fault_file, UFFDIO_COPY, &copy) || other < 0 ? "wrong" : NULL;
+    for (int i = 0; i < SLOW_NAMES; i++) {
+        struct uffdio_copy copy = {
+            .dst = (uintptr_t)fault_pages + (uintptr_t)i * PAGE, .src = (uintptr_t)page, .len = PAGE};
+        good = ioctl(fault_file, UFFDIO_COPY, &copy) == 0 && good;
+    }
+    return good && other >= 0 ? NULL : "wrong";
+}
+
+static void *open_slow_name(void *name) {
+    return opens((int)syscall(SYS_openat, AT_FDCWD, name, O_RDWR)) ? NULL : "wrong";
 }
 
 static void test_slow_memory(void) {
     struct uffdio_api api = {.api = UFFD_API};
     struct uffdio_register range = {.mode = UFFDIO_REGISTER_MODE_MISSING};
-    pthread_t other;
+    pthread_t threads[SLOW_NAMES + 1];
     void *wrong;
-    fault_page = mmap(NULL, PAGE, PROT_READ | PROT_WRITE, MAP_PRIVATE | MAP_ANONYMOUS, -1, 0);
+    bool good = true;
+    fault_pages = mmap(NULL, SLOW_NAMES * PAGE, PROT_READ | PROT_WRITE, MAP_PRIVATE | MAP_ANONYMOUS, -1, 0);
     fault_file = (int)syscall(SYS_userfaultfd, O_CLOEXEC);
-    range.range.start = (uintptr_t)fault_page;
-    range.range.len = PAGE;
+    range.range.start = (uintptr_t)fault_pages;
+    range.range.len = SLOW_NAMES * PAGE;
     if (fault_file < 0 || ioctl(fault_file, UFFDIO_API, &api) || ioctl(fault_file, UFFDIO_REGISTER, &range)) {
         leave_out("memory that a program provides itself, which isn't allowed here");
         return;
     }
-    test("while a name waits for memory that a program provides, the others' calls are answered");
-    CHECK(pthread_create(&other, NULL, provide_name, NULL) == 0);
-    CHECK(opens((int)syscall(SYS_openat, AT_FDCWD, fault_page, O_RDWR)));
-    CHECK(pthread_join(other, &wrong) == 0 && !wrong);
-    munmap(fault_page, PAGE);
+    test("while names wait for memory that a program provides, the others' calls are answered");
+    good = pthread_create(&threads[SLOW_NAMES], NULL, provide_names, NULL) == 0;
+    for (int i = 0; i < SLOW_NAMES; i++)
+        good = pthread_create(&threads[i], NULL, open_slow_name, fault_pages + i * PAGE) == 0 && good;
+    for (int i = 0; i <= SLOW_NAMES; i++)
+        good = pthread_join(threads[i], &wrong) == 0 && !wrong && good;
+    CHECK(good);
+    munmap(fault_pages, SLOW_NAMES * PAGE);
     close(fault_file);
 }
 
