@@ -9,6 +9,7 @@ import sys
 import tempfile
 import time
 import unittest
+from itertools import permutations
 from pathlib import Path
 from typing import Any, Dict, List
 
@@ -19,6 +20,8 @@ BENCH = HERE.parent.parent / "examples/bench"
 SWEEP = HERE.parent / "sweep.py"
 sys.path.insert(0, str(HERE.parent / "python"))
 from gpioserve import programs  # noqa: E402
+from gpioserve.sweep import Kind, Outcome, Place, Result, Sweep  # noqa: E402
+from gpioserve.sweep_report import Report  # noqa: E402
 
 # Seconds that a sweep may take: a machine may be busy.
 LIMIT = 300
@@ -133,6 +136,16 @@ class Sweeps(unittest.TestCase):
                 shlex.split(command), cwd=self.folder, env={**os.environ, "PATH": path}, capture_output=True, text=True
             )
             self.assertEqual((again.returncode, again.stderr), (1, "error 5\n"))
+
+    def test_the_groups_have_one_order(self) -> None:
+        places = [Place(kind, 2, "GET_LINE", (kind.value,)) for kind in (Kind.FAULT, Kind.FAULTS)]
+        places.append(Place(Kind.FAULT, 1, "open", ()))
+        outcomes = [Outcome(place, Result.ENDED, 1, "error 5", False, 0.1) for place in places]
+        sweep = Sweep(["true"])
+        self.addCleanup(sweep.close)
+        for ended in permutations(outcomes):
+            first = [group.first.place for group in Report(sweep, ended, len(ended)).groups()]
+            self.assertEqual(first, [places[2], places[0], places[1]])
 
     def test_transcripts_are_kept(self) -> None:
         self.sweep(["--faults", "--keep", str(self.folder / "kept")], PROGRAM, "end")

@@ -57,9 +57,9 @@ class Report:
     wanted: int
 
     def groups(self) -> List[Group]:
-        """The groups, the worst first, and then by their first calls."""
+        """The groups, the worst first, and then by their first calls, in whatever order the runs ended."""
         kept: Dict[Tuple[object, ...], List[Outcome]] = {}
-        for outcome in sorted(self.outcomes, key=lambda one: one.place.call):
+        for outcome in sorted(self.outcomes, key=lambda one: (one.place.call, one.place.options)):
             place = outcome.place
             status = outcome.status if outcome.result is Result.ENDED else 0
             kept.setdefault((outcome.result, status, place.kind, place.what, generalized(outcome.says)), []).append(
@@ -76,6 +76,8 @@ class Report:
                 group.status,
                 generalized(group.says),
                 group.first.place.call,
+                list(Kind).index(group.kind),
+                group.what,
             ),
         )
 
