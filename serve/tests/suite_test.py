@@ -5,7 +5,7 @@
 
 OUT is the folder of the programs, and BOARD a board for gpioserve. Each module runs under gpioserve. Where tests fail,
 it runs once more under gpioserve and once without: only a test counts that fails both times with the library and not
-without. The last line is `N passed, M failed`. Debian's libpython3-testsuite has the tests.
+without. The last line is `N passed, M failed`. Debian's libpython3.N-testsuite has the tests.
 """
 
 import subprocess
@@ -110,7 +110,7 @@ def main() -> int:
         not Path(PYTHON).exists()
         or subprocess.run([PYTHON, "-c", "import test.test_socket"], capture_output=True).returncode
     ):
-        print("left out: Python's own tests: libpython3-testsuite isn't installed")
+        print("left out: Python's own tests: libpython3.N-testsuite isn't installed")
         print("0 passed, 0 failed")
         return 0
     prefix = [f"{out}/gpioserve", "-b", board, "--"]
