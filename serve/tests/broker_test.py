@@ -319,6 +319,8 @@ try:
     os.read(edges(3), 48)
     say_end("an event")
 except OSError as error:
+    while sys.argv[2] == "stays":
+        time.sleep(0.01)
     say_end(f"error {error.errno}")
 """
 
@@ -326,13 +328,13 @@ except OSError as error:
 class DaemonsTest(BrokerTest):
     """What the command leaves behind."""
 
-    def leave(self, *words: str) -> "subprocess.Popen[str]":
-        """Runs the command that leaves a daemon."""
+    def leave(self, *words: str, after_an_error: str = "ends") -> "subprocess.Popen[str]":
+        """Runs the command that leaves a daemon, which ends after an error, or stays."""
         return self.start(
             "--folder",
             str(self.folder / "run"),
             *words,
-            command=[sys.executable, "-c", ASKING + LEAVES, str(self.folder / "end")],
+            command=[sys.executable, "-c", ASKING + LEAVES, str(self.folder / "end"), after_an_error],
         )
 
     def say(self, text: str) -> int:
@@ -385,6 +387,13 @@ for turn in range(2):
         os.kill(self.number(), signal.SIGKILL)
         self.assertEqual(self.status(broker), 124)
         self.assertIn(self.daemon_end(), ("terminated\n", "error 19\n"))
+
+    def test_a_daemon_that_stays_is_ended_by_sigterm(self) -> None:
+        broker = self.leave("--daemons", *self.stoppable(), after_an_error="stays")
+        self.wait_until_held(broker)
+        os.kill(self.number(), signal.SIGKILL)
+        self.assertEqual(self.status(broker), 124)
+        self.assertEqual(self.daemon_end(), "terminated\n")
 
     def test_without_the_option_the_run_ends_with_the_command(self) -> None:
         broker = self.leave()
