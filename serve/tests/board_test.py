@@ -156,7 +156,8 @@ class BoardTest(BoardCase):
         terminal.keys("Down", "Space", ".")
         terminal.until("^LED is on\n(.*\n)*     1 LED .* 1 HI")
         terminal.keys("q")
-        terminal.until("^LED is on\n\n(?!(.*\n)*.*LINE NAME)")
+        # (the daemon gets the next key once the other pane is closed: then tmux names the window by the daemon)
+        terminal.until("^LED is on\n\n(?!(.*\n)*.*LINE NAME)(.*\n)*.*:powerbutton")
         terminal.keys("C-c")
         terminal.until("^status 0")
 
