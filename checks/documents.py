@@ -1,7 +1,7 @@
 """Whether the documents say what is there: links lead to files, the names that PROMISES.md and docs/COMING-FROM.md cite are defined
-in the files that they name, a cited contract has the clauses that are cited, a crate's README.md says what the crate stands on, and what
-CALLING.md quotes is in the sources. And whether they can be read: sentences and paragraphs have a length limit. The last line is
-`N passed, M failed`.
+in the files that they name, a cited contract has the clauses that are cited, a crate's README.md says what the crate stands on, what
+CALLING.md quotes is in the sources, and a program has the number of the file VERSION. And whether they can be read: sentences and
+paragraphs have a length limit. The last line is `N passed, M failed`.
 """
 import re
 import sys
@@ -342,6 +342,13 @@ def quotes() -> Iterator[str]:
                     yield f"{named(path)}: no source has {part.splitlines()[0].strip()}"
 
 
+def version() -> Iterator[str]:
+    """A program's number of the version, where it isn't that of the file VERSION."""
+    number = (TOP / "VERSION").read_text().strip()
+    if f'b"gpioserved {number}\\n"' not in (TOP / "crates/gpioserved/src/program.rt").read_text():
+        yield f"crates/gpioserved/src/program.rt: VERSION isn't {number}, which the file VERSION has"
+
+
 CHECKS: List[Callable[[], Iterator[str]]] = [
     links,
     lengths,
@@ -358,6 +365,7 @@ CHECKS: List[Callable[[], Iterator[str]]] = [
     terms,
     statements,
     quotes,
+    version,
 ]
 
 

@@ -14,6 +14,7 @@ from gpioserve.programs import served as program
 from gpioserve.served import LINE_MAX
 
 TOP = Path(__file__).resolve().parent.parent
+VERSION = (TOP / "VERSION").read_text().strip()
 FOLDERS = ("examples", "checks/rows")
 MANY = 1_000_000
 # what a machine and its open files take at most, in kilobytes
@@ -148,7 +149,7 @@ class Lines(unittest.TestCase):
             self.assertRaises(Refused, served.say, "due 1")
 
     def test_words(self) -> None:
-        """`--help` is answered, and any other words are the usage; then nothing is read."""
+        """`--help` and `--version` are answered, and any other words are the usage; then nothing is read."""
         for words, status, front in (
             (["--help"], 0, b"gpioserved: "),
             (["--hel"], 2, b"usage\n"),
@@ -159,6 +160,12 @@ class Lines(unittest.TestCase):
                 done = subprocess.run([*program(), *words], input=b"session 1\n", stdout=subprocess.PIPE, check=False)
                 self.assertEqual((done.returncode, done.stdout[: len(front)]), (status, front))
                 self.assertEqual(done.stdout == front, status == 2)
+        for words, status, text in ((["--version"], 0, f"gpioserved {VERSION}\n"), (["--version", "me"], 2, "usage\n")):
+            with self.subTest(words=words):
+                done = subprocess.run(
+                    [*program(), *words], input="session 1\n", stdout=subprocess.PIPE, text=True, check=False
+                )
+                self.assertEqual((done.returncode, done.stdout), (status, text))
 
     def test_many_lines_in_the_memory_of_few(self) -> None:
         turn = b"open chip gpiochip0\npoll chip\ngpioget -c 0 1\nclose chip\n"

@@ -6,7 +6,7 @@ ghost use Rattle.gl_served.specs.CutLines.{WroteAll, WroteFront, WroteLines, Wro
 ghost use Rattle.gl_served.specs.Served.{Accepted};
 ghost use Rattle.gpioserved.specs.Program.{Says, status_number, status_of, usage_line};
 ghost use Rattle.gpioserved.specs.Words.{task_of, texts};
-ghost use Rattle.gpioserved.specs.declared.words.Task.TheVariants.{Serve, Help, Nothing};
+ghost use Rattle.gpioserved.specs.declared.words.Task.TheVariants.{Serve, Help, Version, Nothing};
 
 use crate::words::{Task, task_of};
 use gl_io::{Sink, Source};
@@ -20,14 +20,20 @@ use std::io::ErrorKind;
 const HELP: &[u8] =
     b"gpioserved: answers the lines of a session on standard input, one by one, on standard output.
 
-`--help` prints this; it takes no other words. The first line is `session 1` (or `session 2`), the
-second `setup`, and then come statements, each of which is carried out at once; `due` and `data NAME N`
-ask. Each line is answered by `= N` and N bytes, or, where it is refused, by `! N` and the N bytes of
+      --help          prints this
+      --version       prints the version; `gpioserve --version` says whether this program is proved
+
+It takes no other words. The first line is `session 1` (or `session 2`), the second `setup`, and then
+come statements, each of which is carried out at once; `due` and `data NAME N` ask. Each line is
+answered by `= N` and N bytes, or, where it is refused, by `! N` and the N bytes of
 `refused LINE COLUMN KIND`.
 
 Status: 0 at the end of the input, 2 for words, 4 reading failed, 5 writing failed, 6 out of memory.
 docs/FORMATS.md has it whole, under `Served line by line`.
 ";
+
+/// What `--version` prints. The file `VERSION` at the top of the repository has the same number.
+const VERSION: &[u8] = b"gpioserved 0.1.0\n";
 
 /// The line that other words are answered.
 const USAGE: &[u8] = b"usage\n";
@@ -38,7 +44,7 @@ const NO_TEXT: &str = "?";
 /// How the program ends.
 #[derive(Clone, Copy, PartialEq, Eq)]
 pub enum Status {
-    /// The source came to its end, or the help was written.
+    /// The source came to its end, or the help or the version was written.
     Ran,
     /// The words are none that the program takes.
     Usage,
@@ -111,7 +117,7 @@ fn run_args<S: Source, K: Sink>(alloc: Global, args: Args, source: &mut S, sink:
 /// Carries out what the words behind the program's own name ask for.
 ///
 /// Without words the lines of the source are answered to the sink, by a new session: what `serve` of `gl_served` says of its end is
-/// said of the status. The word `--help` writes the help, and any other words the line `usage`; then nothing is read.
+/// said of the status. The word `--help` writes the help, `--version` the version, and any other words the line `usage`; then nothing is read.
 pub fn carry_out<S: Source, K: Sink>(
     alloc: Global,
     words: &[&str],
@@ -126,8 +132,9 @@ pub fn carry_out<S: Source, K: Sink>(
     ensures memory_front { task_of (texts words.now) ≡ Serve → result ≡ Status.NoMemory → (input : List ℕ) × Consumes (S.left source.old) (S.left source.new) input
         × WroteWhole (input ++ 10 ∷ []) (K.held sink.old) (K.held sink.new) }
 
-    // Words that ask for nothing, and the word that asks for help, are answered by a text, and nothing is read.
+    // Words are answered by a text, and nothing is read.
     ensures help { task_of (texts words.now) ≡ Help → Says result Status.Ran HELP.now (K.held sink.old) (K.held sink.new) }
+    ensures version { task_of (texts words.now) ≡ Version → Says result Status.Ran VERSION.now (K.held sink.old) (K.held sink.new) }
     ensures usage { task_of (texts words.now) ≡ Nothing → Says result Status.Usage usage_line (K.held sink.old) (K.held sink.new) }
     ensures usage_only { result ≡ Status.Usage → task_of (texts words.now) ≡ Nothing }
     ensures words_read_nothing { words.now ≢ [] → source.new ≡ source.old }
@@ -143,6 +150,7 @@ pub fn carry_out<S: Source, K: Sink>(
     match task_of(words) {
         Task::Serve => serve_all(alloc, source, sink),
         Task::Help => say(sink, HELP, Status::Ran),
+        Task::Version => say(sink, VERSION, Status::Ran),
         Task::Nothing => say(sink, USAGE, Status::Usage),
     }
 }

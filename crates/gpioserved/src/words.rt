@@ -9,6 +9,8 @@ pub enum Task {
     Serve,
     /// `--help`: the help is written.
     Help,
+    /// `--version`: the version is written.
+    Version,
     /// Other words: they ask for nothing.
     Nothing,
 }
@@ -30,6 +32,8 @@ fn task_of_word(word: &str) -> Task
 {
     if word == "--help" {
         Task::Help
+    } else if word == "--version" {
+        Task::Version
     } else {
         Task::Nothing
     }
