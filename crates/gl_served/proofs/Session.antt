@@ -1,8 +1,8 @@
 -- The lines that were accepted are together a session, whose text is what was answered to them.
-use Rattle.std.proofs.Common.{◌≡◌, ◌≤◌, ◌+◌, ℕ, suc, Bool, true, false, ◌&&◌, ◌||◌, not, cond, List, [], ◌∷◌, ◌++◌, length, map, Option, None, Some, Result, Ok, Err, refl, sym, ◌∙◌, ap, subst, arith, inl, inr}
+use Rattle.std.proofs.Common.{◌≡◌, ◌≤◌, ◌+◌, ℕ, Bool, true, false, ◌&&◌, ◌||◌, not, cond, List, [], ◌∷◌, ◌++◌, length, map, Option, None, Some, Result, Ok, Err, refl, sym, ◌∙◌, ap, subst, arith}
 use Rattle.std.specs.Prelude.{◌==◌, nat_lt, sum_by}
 use Rattle.std.specs.List.{list_any}
-use Rattle.std.proofs.lemmas.Bool.{cases_Bool, eqb-true, true≢false}
+use Rattle.std.proofs.lemmas.Bool.{eqb-true, true≢false}
 use Rattle.std.proofs.lemmas.List.{append_assoc, append-nil, length-append}
 use Rattle.std.proofs.lemmas.List.Sums.{sum_by-cons}
 use Rattle.gl_base.specs.Count.{counted_up}
@@ -10,14 +10,12 @@ use Rattle.gl_base.specs.Rows.{Each}
 use Rattle.gl_base.specs.Words.{Span, lines_of, onto_first, pieces, placed, span}
 use Rattle.gl_base.specs.declared.limits.TheConstants.{COST_MAX}
 use Rattle.gl_script.specs.Columns.{columns}
-use Rattle.gl_script.specs.Cost.{session_cost, statement_aggregates, statement_cost, with_own}
+use Rattle.gl_script.specs.Cost.{session_cost, statement_aggregates, statement_cost}
 use Rattle.gl_script.specs.Faults.{byte_fault, is_printable, more_fault, size_fault, spot, statement_fault}
-use Rattle.gl_script.specs.Section.{SaidSection}
-use Rattle.gl_script.specs.Sentence.{Sentence, is_comment, kind_of, version_of}
+use Rattle.gl_script.specs.Sentence.{is_comment, kind_of, version_of}
 use Rattle.gl_script.specs.Served.{Kind, Passed, Header, Setup, Statement, headed_kind, kind_at, line_kind, open_kind, opening_kind, stage_after, unless, words_kind}
 use Rattle.gl_script.specs.ServedLines.{Accepted as Lines, AcceptedTextsAreSessions, accepts, accepts_all, said_behind, setup_of}
 use Rattle.gl_script.specs.Table.{keyword_in}
-use Rattle.gl_script.specs.declared.limits.TheConstants.{SESSION_MAX}
 use Rattle.gl_script.specs.declared.refusal.RefusalKind.TheVariants.{Byte, Limit}
 use Rattle.gl_script.specs.declared.refusal.Spot.{Spot}
 use Rattle.gl_script.specs.declared.section.SectionKind.{SectionKind}
@@ -25,12 +23,12 @@ use Rattle.gl_script.specs.declared.section.SectionKind.TheVariants.{Setup as Se
 use Rattle.gl_script.specs.declared.served.Stage.{Stage}
 use Rattle.gl_script.specs.declared.served.Stage.TheVariants.{Opening, Headed, Open}
 use Rattle.gl_script.specs.declared.version.Version.{Version}
-use Rattle.gl_check.specs.One.{one, planned, said_in_kind}
+use Rattle.gl_check.specs.One.{one}
 use Rattle.gl_served.specs.CutLines.{is_line, joined}
 use Rattle.gl_served.specs.Frames.{AreFrames}
 use Rattle.gl_served.specs.Questions.{IsData, IsReplyTo, data_kind, moved, names_chip, question_of, shift_of, stands_for}
 use Rattle.gl_served.specs.Served.{Accepted, IsAnswer, accepted_after, carried_out, kind_after, limited, nothing_accepted, pair_after, text_of}
-use Rattle.gl_served.specs.Whole.{AreSession, FramesAreSession, TextIsOne, accepted_lines, added_by, answered_text, line_as, line_of, read_by, session_of}
+use Rattle.gl_served.specs.Whole.{FramesAreSession, accepted_lines, added_by, answered_text, line_as, line_of, read_by, session_of}
 use Rattle.gl_served.proofs.Whole.{spans_are_one}
 use Rattle.gl_served.specs.declared.answered.Answer.{Answer}
 use Rattle.gl_served.specs.declared.limits.TheConstants.{LINE_MAX, PAIRS}

@@ -1,4 +1,4 @@
-use Rattle.std.proofs.Common.{◌≡◌, ◌++◌, ◌∷◌, [], ℕ, List, Option, sym, subst}
+use Rattle.std.proofs.Common.{◌++◌, ◌∷◌, [], ℕ, List, Option, sym, subst}
 use Rattle.std.proofs.lemmas.Result.{on_err_weaker, on_ok_weaker}
 use Rattle.gl_served.specs.CutLines.{HasServed, HasServedAll, Sent, WroteFront, WrotePart}
 use Rattle.gl_served.proofs.CutLines.{end_is, front_at, front_of, serves_on, whole_of}

@@ -1,7 +1,6 @@
 use Rattle.std.proofs.Common.{◌≡◌, ◌++◌, ◌∷◌, [], ℕ, List, Option}
 use Rattle.std.proofs.lemmas.Result.{on_err_weaker}
-use Rattle.gl_served.specs.CutLines.{Sent, WroteAll, WroteFront, WrotePart, WroteWhole}
-use Rattle.gl_served.specs.Served.{Accepted, Keeps}
+use Rattle.gl_served.specs.CutLines.{Sent, WroteFront, WrotePart}
 use Rattle.gl_served.proofs.CutLines.{all_sent, front_at, on_ok_both, whole_at}
 use Rattle.gl_served.proofs.serving.Reading.answer_last.Goals as goal
 

@@ -1,4 +1,3 @@
-use Rattle.std.proofs.Common.{[]}
 use Rattle.gl_served.proofs.CutLines.{all_sent, part_sent}
 use Rattle.gl_served.proofs.serving.Reading.leave.Goals as goal
 

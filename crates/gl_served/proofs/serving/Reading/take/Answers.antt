@@ -1,6 +1,6 @@
-use Rattle.std.proofs.Common.{◌≡◌, ◌++◌, ℕ, List, Option}
+use Rattle.std.proofs.Common.{◌++◌, ℕ, List, Option}
 use Rattle.std.proofs.lemmas.Result.{on_err_weaker}
-use Rattle.gl_served.specs.CutLines.{ServesTo, WroteFront, WrotePart}
+use Rattle.gl_served.specs.CutLines.{WroteFront, WrotePart}
 use Rattle.gl_served.proofs.CutLines.{front_at, serves_on}
 use Rattle.gl_served.proofs.serving.Reading.take.Goals as goal
 

@@ -1,4 +1,4 @@
-use Rattle.std.proofs.Common.{◌≡◌, ℕ, List, [], ◌∷◌, ◌++◌, OnErr, OnOk, IsErrOf, subst, sym}
+use Rattle.std.proofs.Common.{ℕ, List, [], ◌∷◌, ◌++◌, OnErr, OnOk, subst, sym}
 use Rattle.gl_served.specs.CutLines.{Sent, ServesTo, WroteFront, WroteWhole}
 use Rattle.gl_served.proofs.CutLines.{end_is, front_of, whole_of}
 use Rattle.gl_served.proofs.serving.Reading.take_byte.Goals as goal
