@@ -12,6 +12,8 @@ mod device_tests;
 #[cfg(test)]
 mod files;
 #[cfg(test)]
+mod handed_back;
+#[cfg(test)]
 mod on_places;
 #[cfg(test)]
 mod on_requests;
