@@ -110,6 +110,18 @@ class Lines(unittest.TestCase):
             self.assertEqual(answers[2], (b"!" if answer else b"=", answer))
             self.assertEqual(answers[3], (b"=", b""))
 
+    def test_names_of_any_bytes(self) -> None:
+        """Each byte but 0 stands in a label that is listed."""
+        every = bytes(range(1, 256))
+        labels = [every[at : at + 31] for at in range(0, len(every), 31)]
+        statements = [f"probe \\{label.hex()} 1".encode() for label in labels]
+        lists = [f"gpiodetect {place}".encode() for place in range(len(labels))]
+        answers, status = answered([b"session 3", b"setup", *statements, *lists])
+        wanted = [b"gpiochip%d [%s] (1 lines)\n" % (place, label) for place, label in enumerate(labels)]
+        self.assertEqual([mark for mark, _ in answers], [b"="] * len(answers))
+        self.assertEqual([text for _, text in answers[2 + len(labels) :]], wanted)
+        self.assertEqual(status, 0)
+
     def test_refused_lines_count_as_not_given(self) -> None:
         lines = [
             b"setup",

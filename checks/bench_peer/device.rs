@@ -176,16 +176,16 @@ impl Device {
 }
 
 /// A text of an entry as it is, or spelled as pairs behind a backslash.
-struct Word<'a>(&'a str);
+struct Word<'a>(&'a [u8]);
 
 impl Display for Word<'_> {
     fn fmt(&self, f: &mut Formatter) -> fmt::Result {
         let text = self.0;
-        if !text.is_empty() && text != "-" && text.bytes().all(|b| (0x21..=0x7E).contains(&b) && b != b'\\') {
-            return f.write_str(text);
+        if !text.is_empty() && text != b"-" && text.iter().all(|b| (0x21..=0x7E).contains(b) && *b != b'\\') {
+            return f.write_str(std::str::from_utf8(text).unwrap());
         }
         f.write_str("\\")?;
-        text.bytes().try_for_each(|b| write!(f, "{b:02x}"))
+        text.iter().try_for_each(|b| write!(f, "{b:02x}"))
     }
 }
 
@@ -203,21 +203,21 @@ fn print_call(out: &mut Vec<u8>, call: &Call) {
             print(out, format_args!("probe {} {lines} {}", Word(label), if *remote { "remote" } else { "sim" }))
         }
         Call::Unplug { place, last } => print(out, format_args!("unplug {place} {}", end(*last))),
-        Call::MakeDir(path) => print(out, format_args!("mkdir {}", Word(path))),
-        Call::RemoveDir(path) => print(out, format_args!("rmdir {}", Word(path))),
-        Call::Write(path, value) => print(out, format_args!("write {} {}", Word(path), Word(value))),
-        Call::Read(path) => print(out, format_args!("read {}", Word(path))),
-        Call::Live(device) => print(out, format_args!("live {}", Word(device))),
-        Call::Remove { device, last } => print(out, format_args!("remove {} {}", Word(device), end(*last))),
+        Call::MakeDir(path) => print(out, format_args!("mkdir {}", Word(path.as_bytes()))),
+        Call::RemoveDir(path) => print(out, format_args!("rmdir {}", Word(path.as_bytes()))),
+        Call::Write(path, value) => print(out, format_args!("write {} {}", Word(path.as_bytes()), Word(value))),
+        Call::Read(path) => print(out, format_args!("read {}", Word(path.as_bytes()))),
+        Call::Live(device) => print(out, format_args!("live {}", Word(device.as_bytes()))),
+        Call::Remove { device, last } => print(out, format_args!("remove {} {}", Word(device.as_bytes()), end(*last))),
         Call::Tick(mono, real) => print(out, format_args!("tick {mono} {real}")),
         Call::Pin(place, pin) => print_pin(out, *place, *pin),
         Call::Irq(place, offset, what) => print(out, format_args!("{} {place} {offset}", irq_verb(*what))),
         Call::Pull { place, offset, up } => print(out, format_args!("pull {place} {offset} {}", u8::from(*up))),
         Call::Level { place, offset, pull: false } => print(out, format_args!("level {place} {offset}")),
         Call::Level { place, offset, pull: true } => print(out, format_args!("pullof {place} {offset}")),
-        Call::OpenChip(path) => print(out, format_args!("open {}", Word(path))),
-        Call::Find(Some(place), name) => print(out, format_args!("find {place} {}", Word(name))),
-        Call::Find(None, name) => print(out, format_args!("find - {}", Word(name))),
+        Call::OpenChip(path) => print(out, format_args!("open {}", Word(path.as_bytes()))),
+        Call::Find(Some(place), name) => print(out, format_args!("find {place} {}", Word(name.as_bytes()))),
+        Call::Find(None, name) => print(out, format_args!("find - {}", Word(name.as_bytes()))),
         Call::Ioctl { place, fd, cmd, bytes, part } => print_ioctl(out, (*place, *fd, *cmd), bytes, *part),
         Call::ReadEdges { place, fd, len } => print(out, format_args!("readline {place} {fd} {len}")),
         Call::ReadInfo { place, fd, len } => print(out, format_args!("readchip {place} {fd} {len}")),

@@ -47,9 +47,9 @@ pub enum Irq {
 }
 
 impl Line {
-    pub fn new(name: &str) -> Line {
+    pub fn new(name: Vec<u8>) -> Line {
         Line {
-            name: name.into(),
+            name,
             holder: Holder::Free,
             consumer: vec![],
             flags: 0,

@@ -72,11 +72,11 @@ pub enum Part {
 
 #[derive(Clone)]
 pub enum Call {
-    Probe { label: String, lines: u32, remote: bool },
+    Probe { label: Vec<u8>, lines: u32, remote: bool },
     Unplug { place: u8, last: bool },
     MakeDir(String),
     RemoveDir(String),
-    Write(String, String),
+    Write(String, Vec<u8>),
     Read(String),
     Live(String),
     Remove { device: String, last: bool },
@@ -102,7 +102,7 @@ pub enum Reply {
     Number(u64),
     Go(u32),
     Found(u8, u32, u32),
-    Text(String),
+    Text(Vec<u8>),
     Ready(u8),
     Refused(Errno),
 }
@@ -238,17 +238,17 @@ impl Machine {
         self.given - 1
     }
 
-    fn probe(&mut self, label: &str, lines: u32, remote: bool) -> Answer {
+    fn probe(&mut self, label: &[u8], lines: u32, remote: bool) -> Answer {
         if self.chips.len() == PLACES {
             return Err(Errno::NoSpc);
         }
         let place = self.chips.len() as u64;
-        let lines = (0..lines).map(|_| Line::new("")).collect();
+        let lines = (0..lines).map(|_| Line::new(vec![])).collect();
         self.add_chip(label, None, remote, lines);
         Ok((Reply::Number(place), vec![]))
     }
 
-    fn add_chip(&mut self, label: &str, device: Option<String>, remote: bool, lines: Vec<Line>) {
+    fn add_chip(&mut self, label: &[u8], device: Option<String>, remote: bool, lines: Vec<Line>) {
         let label = label.into();
         self.chips.push(Chip { label, phase: Phase::Up, remover: None, device, remote, lines, ranges: vec![] });
     }
@@ -257,7 +257,7 @@ impl Machine {
         let plans = self.tree.check_live(device, PLACES - self.chips.len())?;
         self.tree.set(device, Device::Live(self.chips.len() as u8));
         for plan in plans {
-            let lines = plan.lines.into_iter().map(|(name, hog)| hogged(Line::new(&name), hog)).collect();
+            let lines = plan.lines.into_iter().map(|(name, hog)| hogged(Line::new(name), hog)).collect();
             self.add_chip(&plan.label, Some(device.into()), false, lines);
         }
         done()

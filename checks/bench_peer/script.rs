@@ -28,6 +28,8 @@ pub struct Section<'a> {
 enum Form {
     /// so many letters, digits, `_`, `-`, `.` at most
     Text(usize),
+    /// a label or a value, by the version of the session
+    Value,
     Path,
     /// a number from .. to ..
     Number(u64, u64),
@@ -37,7 +39,7 @@ enum Form {
 }
 
 const NAME: Form = Form::Text(15);
-const VALUE: Form = Form::Text(31);
+const VALUE: Form = Form::Value;
 const U32: Form = Form::Number(0, u32::MAX as u64);
 const U64: Form = Form::Number(0, u64::MAX);
 const TOOLS: [&str; 4] = ["gpiodetect", "gpioinfo", "gpioget", "gpioset"];
@@ -47,10 +49,25 @@ fn is_text(word: &str, most: usize, also: &[u8]) -> bool {
     (1..=most).contains(&word.len()) && word.bytes().all(good)
 }
 
+/// The bytes of a label or a value: a plain word's own, or those that `\` and hexadecimal pairs write.
+pub fn label(word: &str) -> Option<Vec<u8>> {
+    let Some(digits) = word.strip_prefix('\\') else {
+        return is_text(word, 31, b"").then(|| word.into());
+    };
+    if !digits.bytes().all(|b| b.is_ascii_hexdigit()) || digits.len() % 2 != 0 {
+        return None;
+    }
+    let pairs = (0..digits.len()).step_by(2).map(|at| &digits[at..at + 2]);
+    let bytes: Vec<u8> = pairs.map(|pair| u8::from_str_radix(pair, 16).unwrap()).collect();
+    ((1..=31).contains(&bytes.len()) && !bytes.contains(&0)).then_some(bytes)
+}
+
 impl Form {
-    fn fits(self, word: &str) -> bool {
+    fn fits(self, version: Version, word: &str) -> bool {
         match self {
             Form::Text(most) => is_text(word, most, b""),
+            Form::Value if version == Version::Three => label(word).is_some(),
+            Form::Value => is_text(word, 31, b""),
             Form::Path => is_text(word, 127, b"/"),
             Form::Number(least, most) => decimal(word, most).is_some_and(|n| n >= least),
             Form::Chip => chip_number(word, 63).is_some(),
@@ -102,10 +119,10 @@ fn behind(words: &[Placed]) -> usize {
 }
 
 /// The words from `first` on have these forms, and, unless `open`, there are no more.
-fn fit(words: &[Placed], first: usize, forms: &[Form], open: bool) -> Result<(), Fault> {
+fn fit(version: Version, words: &[Placed], first: usize, forms: &[Form], open: bool) -> Result<(), Fault> {
     for (i, (column, word)) in words.iter().enumerate().skip(first) {
         match forms.get(i - first) {
-            Some(form) if !form.fits(word) => return Err((*column, "word")),
+            Some(form) if !form.fits(version, word) => return Err((*column, "word")),
             None if !open => return Err((*column, "words")),
             _ => {}
         }
@@ -126,8 +143,8 @@ fn gives(statement: &str, word: &str) -> Option<bool> {
     }
 }
 
-fn fit_ioctl(words: &[Placed]) -> Result<(), Fault> {
-    fit(&words[..words.len().min(2)], 1, &[NAME], false)?;
+fn fit_ioctl(version: Version, words: &[Placed]) -> Result<(), Fault> {
+    fit(version, &words[..words.len().min(2)], 1, &[NAME], false)?;
     let Some((column, word)) = words.get(2) else { return Err((behind(words), "words")) };
     let gives = gives(words[0].1, word).ok_or((*column, "word"))?;
     let mut total = 0;
@@ -139,7 +156,7 @@ fn fit_ioctl(words: &[Placed]) -> Result<(), Fault> {
     while at < words.len() {
         let (column, word) = words[at];
         if gives && at > 3 && word == "as" {
-            return fit(words, at + 1, &[NAME], false);
+            return fit(version, words, at + 1, &[NAME], false);
         }
         if alone {
             return Err((column, if gives { "word" } else { "words" }));
@@ -158,20 +175,20 @@ fn fit_ioctl(words: &[Placed]) -> Result<(), Fault> {
 }
 
 /// A label, and the names of one to four files.
-fn fit_aggregate(words: &[Placed]) -> Result<(), Fault> {
-    fit(words, 1, &[VALUE, NAME], true)?;
-    fit(&words[..words.len().min(6)], 1, &[VALUE, NAME, NAME, NAME, NAME][..words.len().min(6) - 1], false)?;
+fn fit_aggregate(version: Version, words: &[Placed]) -> Result<(), Fault> {
+    fit(version, words, 1, &[VALUE, NAME], true)?;
+    fit(version, &words[..words.len().min(6)], 1, &[VALUE, NAME, NAME, NAME, NAME][..words.len().min(6) - 1], false)?;
     words.get(6).map_or(Ok(()), |(column, _)| Err((*column, "words")))
 }
 
-fn fit_statement(words: &[Placed]) -> Result<(), Fault> {
+fn fit_statement(version: Version, words: &[Placed]) -> Result<(), Fault> {
     match words[0].1 {
-        "aggregate" => fit_aggregate(words),
-        "ioctl" | "ioctl1" => fit_ioctl(words),
-        "start" => fit(words, 1, &[NAME, Form::OneOf(&["gpioset", "gpiomon", "gpionotify"])], true),
+        "aggregate" => fit_aggregate(version, words),
+        "ioctl" | "ioctl1" => fit_ioctl(version, words),
+        "start" => fit(version, words, 1, &[NAME, Form::OneOf(&["gpioset", "gpiomon", "gpionotify"])], true),
         tool if TOOLS.contains(&tool) => Ok(()),
         word => match forms(word, words.get(1).map(|w| w.1)) {
-            Some(forms) => fit(words, 1, forms, false),
+            Some(forms) => fit(version, words, 1, forms, false),
             None => Err((words[0].0, "statement")),
         },
     }
@@ -200,7 +217,7 @@ fn rank(word: &str) -> Option<usize> {
 }
 
 /// Takes a section's line into the list of sections.
-fn open_section<'a>(words: &[Placed<'a>], sections: &mut Vec<Section<'a>>) -> Result<(), Fault> {
+fn open_section<'a>(version: Version, words: &[Placed<'a>], sections: &mut Vec<Section<'a>>) -> Result<(), Fault> {
     let (column, word) = words[0];
     let new = rank(word).unwrap();
     let last = sections.last().map(|s| match s.head {
@@ -216,16 +233,16 @@ fn open_section<'a>(words: &[Placed<'a>], sections: &mut Vec<Section<'a>>) -> Re
         return Err((column, "limit"));
     }
     if new != 1 {
-        fit(words, 1, &[], false)?;
+        fit(version, words, 1, &[], false)?;
         sections.push(Section { head: if new == 0 { Head::Setup } else { Head::After }, statements: vec![] });
         return Ok(());
     }
-    fit(&words[..words.len().min(2)], 1, &[NAME], false)?;
+    fit(version, &words[..words.len().min(2)], 1, &[NAME], false)?;
     let head = Head::Actor(words[1].1.into());
     if sections.iter().any(|s| s.head == head) {
         return Err((words[1].0, "name"));
     }
-    fit(words, 1, &[NAME], false)?;
+    fit(version, words, 1, &[NAME], false)?;
     sections.push(Section { head, statements: vec![] });
     Ok(())
 }
@@ -235,6 +252,7 @@ fn open_section<'a>(words: &[Placed<'a>], sections: &mut Vec<Section<'a>>) -> Re
 enum Version {
     One,
     Two,
+    Three,
 }
 
 fn take_line<'a>(line: &'a [u8], header: &mut Option<Version>, sections: &mut Vec<Section<'a>>) -> Result<(), Fault> {
@@ -247,18 +265,19 @@ fn take_line<'a>(line: &'a [u8], header: &mut Option<Version>, sections: &mut Ve
         *header = match words[..] {
             [(_, "session"), (_, "1")] => Some(Version::One),
             [(_, "session"), (_, "2")] => Some(Version::Two),
+            [(_, "session"), (_, "3")] => Some(Version::Three),
             _ => return Err((column, "header")),
         };
         return Ok(());
     };
     if rank(word).is_some() {
-        return open_section(&words, sections);
+        return open_section(version, &words, sections);
     }
     let Some(section) = sections.last_mut() else { return Err((column, "section")) };
     if !begins_statement(word) || (word == "accept" && version == Version::One) {
         return Err((column, "statement"));
     }
-    fit_statement(&words)?;
+    fit_statement(version, &words)?;
     section.statements.push(words.iter().map(|w| w.1).collect());
     Ok(())
 }

@@ -5,7 +5,7 @@ use crate::device::{ready_text, Actor, Handle};
 use crate::line::Irq;
 use crate::machine::{Call, Pin, Reply};
 use crate::options::{self, Tool};
-use crate::script::{command, Statement};
+use crate::script::{command, label, Statement};
 use crate::tools::{self, Running};
 use crate::tree::live_device;
 use crate::v1;
@@ -184,7 +184,7 @@ impl Talk {
         }
         let targets: Vec<Target> = files.iter().map(|file| Target { handle: file.handle, lines: actor.device.line_count(file.handle) }).collect();
         let lines = targets.iter().map(|target| target.lines).sum();
-        match actor.call(Call::Probe { label: words[1].to_string(), lines, remote: true })?.0 {
+        match actor.call(Call::Probe { label: label(words[1]).unwrap(), lines, remote: true })?.0 {
             Reply::Number(place) => actor.port.learn(Map { place: place as u8, targets }),
             _ => unreachable!(),
         }
@@ -299,7 +299,8 @@ impl Talk {
         let Some((chip, offset, file)) = line_file(path) else {
             return match actor.call(Call::Read(path.into()))?.0 {
                 Reply::Text(text) => {
-                    print(&mut self.out, format_args!("{text}\n"));
+                    self.out.extend_from_slice(&text);
+                    self.out.push(b'\n');
                     Ok(())
                 }
                 _ => unreachable!(),
@@ -330,7 +331,7 @@ fn plain(actor: &mut Actor, words: &Statement) -> Said {
     let word = |i: usize| words[i].to_string();
     let chip = |i: usize| chip_number(words[i], 63).unwrap() as u8;
     match words[0] {
-        "probe" => actor.call(Call::Probe { label: word(1), lines: small(words[2]), remote: false }).map(|_| ()),
+        "probe" => actor.call(Call::Probe { label: label(words[1]).unwrap(), lines: small(words[2]), remote: false }).map(|_| ()),
         "unplug" => {
             let place = chip(1);
             let call = |last| Call::Unplug { place, last };
@@ -338,7 +339,7 @@ fn plain(actor: &mut Actor, words: &Statement) -> Said {
         }
         "mkdir" => actor.call(Call::MakeDir(word(1))).map(|_| ()),
         "rmdir" => actor.call(Call::RemoveDir(word(1))).map(|_| ()),
-        "write" => write(actor, words[1], words[2]),
+        "write" => write(actor, words[1], &label(words[2]).unwrap()),
         "clock" => actor.call(Call::Tick(number(words[1]), number(words[2]))).map(|_| ()),
         "fault" => {
             actor.port.plan(number(words[1]));
@@ -371,22 +372,22 @@ fn plain(actor: &mut Actor, words: &Statement) -> Said {
     }
 }
 
-fn write(actor: &Actor, path: &str, value: &str) -> Said {
+fn write(actor: &Actor, path: &str, value: &[u8]) -> Said {
     if let Some((chip, offset, file)) = line_file(path) {
         if file == "value" {
             return Err(Errno::Perm);
         }
-        if value != "pull-up" && value != "pull-down" {
+        if value != b"pull-up" && value != b"pull-down" {
             return Err(Errno::Inval);
         }
-        return actor.guarded(chip, Call::Pull { place: chip, offset, up: value == "pull-up" }).map(|_| ());
+        return actor.guarded(chip, Call::Pull { place: chip, offset, up: value == b"pull-up" }).map(|_| ());
     }
     let Some(device) = live_device(path).map(String::from) else {
         return actor.call(Call::Write(path.into(), value.into())).map(|_| ());
     };
     match value {
-        "1" => actor.call(Call::Live(device)).map(|_| ()),
-        "0" => {
+        b"1" => actor.call(Call::Live(device)).map(|_| ()),
+        b"0" => {
             let call = |last| Call::Remove { device: device.clone(), last };
             actor.device.removal(actor.number, call(false), call(true))
         }

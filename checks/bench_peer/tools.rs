@@ -120,15 +120,12 @@ fn each_chip(
     Ok(())
 }
 
-fn text(field: &[u8]) -> String {
-    String::from_utf8_lossy(field).into_owned()
-}
-
 fn detect(actor: &mut Actor, opts: &Opts, out: &mut Vec<u8>) -> Result<(), Errno> {
     let look = |actor: &mut Actor, chip: Handle| {
         let info = actor.ioctl(chip, GET_CHIPINFO, &[0; 68])?.1;
-        let (name, label) = (text(&name_at(&info, 0)), text(&name_at(&info, 32)));
-        Ok(format!("{name} [{label}] ({} lines)\n", u32_at(&info, 64)).into_bytes())
+        let mut out = [&name_at(&info, 0)[..], b" [", &name_at(&info, 32)].concat();
+        print(&mut out, format_args!("] ({} lines)\n", u32_at(&info, 64)));
+        Ok(out)
     };
     each_chip(actor, opts.lines.iter().map(|l| l.0.clone()).collect(), look, out)
 }
@@ -137,7 +134,8 @@ fn info(actor: &mut Actor, opts: &Opts, out: &mut Vec<u8>) -> Result<(), Errno> 
     let look = |actor: &mut Actor, chip: Handle| {
         let info = actor.ioctl(chip, GET_CHIPINFO, &[0; 68])?.1;
         let lines = u32_at(&info, 64);
-        let mut out = format!("{} - {lines} lines:\n", text(&name_at(&info, 0))).into_bytes();
+        let mut out = name_at(&info, 0);
+        print(&mut out, format_args!(" - {lines} lines:\n"));
         for offset in 0..lines {
             let mut asked = [0; 256];
             put(&mut asked, 64, &offset.to_le_bytes());

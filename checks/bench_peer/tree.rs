@@ -12,9 +12,9 @@ pub enum Device {
 
 enum Kind {
     Device(Device),
-    Bank { lines: String, label: String },
-    Line { name: String },
-    Hog { name: String, direction: String },
+    Bank { lines: Vec<u8>, label: Vec<u8> },
+    Line { name: Vec<u8> },
+    Hog { name: Vec<u8>, direction: Vec<u8> },
 }
 
 struct Dir {
@@ -25,14 +25,14 @@ struct Dir {
 
 /// A hog of a line: its name, and the level that it drives, if it drives one.
 pub struct Hog {
-    pub name: String,
+    pub name: Vec<u8>,
     pub drives: Option<bool>,
 }
 
 /// What a bank becomes: its label, its number of lines, and of each of them the name and the hog.
 pub struct Plan {
-    pub label: String,
-    pub lines: Vec<(String, Option<Hog>)>,
+    pub label: Vec<u8>,
+    pub lines: Vec<(Vec<u8>, Option<Hog>)>,
 }
 
 #[derive(Default)]
@@ -58,6 +58,11 @@ fn line_number(part: &str) -> Option<u64> {
     plain_decimal(part.strip_prefix("line")?, 9999)
 }
 
+/// The number of lines that a value says.
+fn line_count(value: &[u8]) -> Option<u64> {
+    plain_decimal(std::str::from_utf8(value).ok()?, LINES_MAX)
+}
+
 /// The kind of a new directory of this path, if the path has the form of one.
 fn kind_of(path: &str) -> Option<Kind> {
     let parts: Vec<&str> = path.split('/').collect();
@@ -67,9 +72,9 @@ fn kind_of(path: &str) -> Option<Kind> {
         && parts.get(3).is_none_or(|hog| *hog == "hog");
     match (good, parts.len()) {
         (true, 1) => Some(Kind::Device(Device::Off)),
-        (true, 2) => Some(Kind::Bank { lines: "1".into(), label: String::new() }),
-        (true, 3) => Some(Kind::Line { name: String::new() }),
-        (true, 4) => Some(Kind::Hog { name: String::new(), direction: "input".into() }),
+        (true, 2) => Some(Kind::Bank { lines: "1".into(), label: vec![] }),
+        (true, 3) => Some(Kind::Line { name: vec![] }),
+        (true, 4) => Some(Kind::Hog { name: vec![], direction: "input".into() }),
         _ => None,
     }
 }
@@ -143,7 +148,7 @@ impl Tree {
         Ok(())
     }
 
-    pub fn write(&mut self, path: &str, value: &str) -> Result<(), Errno> {
+    pub fn write(&mut self, path: &str, value: &[u8]) -> Result<(), Errno> {
         let (dir, file) = file_of(path).filter(|(_, file)| *file != "live").ok_or(Errno::Inval)?;
         self.kind(dir).ok_or(Errno::NoEnt)?;
         if file == "chip_name" {
@@ -154,8 +159,8 @@ impl Tree {
         }
         let is_name = (1..=31).contains(&value.len());
         let good = match file {
-            "num_lines" => plain_decimal(value, LINES_MAX).is_some_and(|n| n > 0),
-            "direction" => ["input", "output-high", "output-low"].contains(&value),
+            "num_lines" => line_count(value).is_some_and(|n| n > 0),
+            "direction" => [&b"input"[..], b"output-high", b"output-low"].contains(&value),
             _ => is_name,
         };
         if !good {
@@ -172,11 +177,11 @@ impl Tree {
         Ok(())
     }
 
-    pub fn read(&self, path: &str) -> Result<String, Errno> {
+    pub fn read(&self, path: &str) -> Result<Vec<u8>, Errno> {
         let (dir, file) = file_of(path).ok_or(Errno::Inval)?;
         Ok(match (self.kind(dir).ok_or(Errno::NoEnt)?, file) {
             (Kind::Device(state), _) => if *state == Device::Off { "0" } else { "1" }.into(),
-            (Kind::Bank { .. }, "chip_name") => self.chip_name(dir),
+            (Kind::Bank { .. }, "chip_name") => self.chip_name(dir).into(),
             (Kind::Bank { lines, .. }, "num_lines") => lines.clone(),
             (Kind::Bank { label, .. }, _) => label.clone(),
             (Kind::Hog { direction, .. }, "direction") => direction.clone(),
@@ -246,11 +251,11 @@ impl Tree {
             let path = format!("{bank}/line{offset}");
             let name = match self.kind(&path) {
                 Some(Kind::Line { name }) => name.clone(),
-                _ => String::new(),
+                _ => vec![],
             };
             let hog = match self.kind(&format!("{path}/hog")) {
                 Some(Kind::Hog { name, direction }) => {
-                    let drives = (direction != "input").then(|| direction == "output-high");
+                    let drives = (direction != b"input").then(|| direction == b"output-high");
                     Some(Hog { name: name.clone(), drives })
                 }
                 _ => None,
@@ -258,8 +263,8 @@ impl Tree {
             (name, hog)
         };
         Plan {
-            label: if label.is_empty() { bank.replace('/', "-") } else { label.clone() },
-            lines: (0..lines.parse().unwrap()).map(line).collect(),
+            label: if label.is_empty() { bank.replace('/', "-").into() } else { label.clone() },
+            lines: (0..line_count(lines).unwrap() as usize).map(line).collect(),
         }
     }
 }

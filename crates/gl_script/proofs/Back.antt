@@ -93,7 +93,7 @@ ends version complete section all (m ∷ ms) rest sections e s w = cc
 module _ (version : Version) (complete : List SaidSection) (section : SaidSection) (number : ℕ) (line : Span) (lines : List Span) (all : List SaidSection)
     (later : (complete : List SaidSection) (section : SaidSection) → GoesOn version complete section (counted lines) all → Comes (behind_header version complete (Some section)) number lines all) where
   -- by the kind of section that the first word begins
-  by_none : (first : Span) (words : List Span) (kind : Option SectionKind) → kind ≡ None → statement_fault (keyword_in version first.text) first words ≡ None
+  by_none : (first : Span) (words : List Span) (kind : Option SectionKind) → kind ≡ None → statement_fault version (keyword_in version first.text) first words ≡ None
       → Comes (behind_header version complete (Some (added section (line ∷ [])))) number lines all
       → Passes (behind_header version complete (Some section)) (behind_head kind (behind_header version complete (Some section)) line words) (section_fault kind (behind_header version complete (Some section)) first words) number lines all
   by_none first words None k f c = record { none = f; later = c }

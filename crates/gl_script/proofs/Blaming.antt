@@ -109,10 +109,10 @@ fine_tail Anything end words = tt
 fine_tail (FileNames most) end words = fine_names most words
 fine_tail (Pieces makes) end words = fine_bytes makes end words
 
-fine_statement : (keyword : Option Keyword) (first : Span) (words : List Span) → Fine (statement_fault keyword first words)
-fine_statement None first words = refl
-fine_statement (Some keyword) first words =
-    let row = wanted keyword (text_at 0 words) (makes_file keyword words) in
+fine_statement : (version : Version) (keyword : Option Keyword) (first : Span) (words : List Span) → Fine (statement_fault version keyword first words)
+fine_statement version None first words = refl
+fine_statement version (Some keyword) first words =
+    let row = wanted version keyword (text_at 0 words) (makes_file keyword words) in
     fine_forms row.forms (tail_fault row.tail) (fine_tail row.tail) (end_of first) words
 
 fine_actor : (before : Before) (end : ℕ) (words : List Span) → Fine (actor_fault before end words)
@@ -132,7 +132,7 @@ fine_head After before end words = fine_more words
 fine_in_section : (version : Option Version) (current : Option SaidSection) (first : Span) (words : List Span) → Fine (in_section_fault version current first words)
 fine_in_section None current first words = refl
 fine_in_section (Some version) None first words = refl
-fine_in_section (Some version) (Some section) first words = fine_statement (keyword_in version first.text) first words
+fine_in_section (Some version) (Some section) first words = fine_statement version (keyword_in version first.text) first words
 
 fine_section : (kind : Option SectionKind) (before : Before) (first : Span) (words : List Span) → Fine (section_fault kind before first words)
 fine_section None before first words = fine_in_section before.version before.current first words

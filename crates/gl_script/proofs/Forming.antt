@@ -21,6 +21,7 @@ use Rattle.gl_script.specs.declared.table.Form.{Form}
 use Rattle.gl_script.specs.declared.table.Form.TheVariants.{FileName, HeldTool, Label, Number, Command, OldCommand}
 use Rattle.gl_script.specs.declared.table.Keyword.{Keyword}
 use Rattle.gl_script.specs.declared.table.Keyword.TheVariants.{Probe, Unplug, MakeDir, RemoveDir, Write, Read, Clock, Fault, Accept, Aggregate, Pin, Irq, Open, Ioctl, Events, OldIoctl, OldEvents, Changes, Poll, Close, Detect, Info, Get, Set, Start, Step, Stop}
+use Rattle.gl_script.specs.declared.version.Version.TheVariants.{Three}
 use Rattle.gl_script.specs.Faults.{as_fault, bytes_fault, forms_fault, makes_file, more_fault, name_fault, names_fault, piece_fault, pieces_fault, size_of, spot, statement_fault, tail_fault}
 use Rattle.gl_script.specs.Formed.{AreFormed, IsWord, StatementsAreFormed, are_bytes, are_ended, are_file_names, are_pieces}
 use Rattle.gl_script.specs.Forms.{file_name_of, label_of, meets, number_within, tree_path_of}
@@ -87,11 +88,11 @@ few_names : (most : ℕ) (words : List Span) → names_fault most words ≡ None
 few_names most [] n = record { few = omega arith; each = refl }
 few_names most (word ∷ words) n = few_by (nat_eq most 0) most word words refl (few_names (most - 1) words) n
 
-joined : (end : ℕ) (first : Span) (words : List Span) → forms_fault (Label ∷ FileName ∷ []) (tail_fault (FileNames (JOINED_MAX - 1))) end words ≡ None → (label : List ℕ) → AreFormed (SaidAggregate label) (first ∷ words)
+joined : (end : ℕ) (first : Span) (words : List Span) → forms_fault (Label Three ∷ FileName ∷ []) (tail_fault (FileNames (JOINED_MAX - 1))) end words ≡ None → (label : List ℕ) → AreFormed (SaidAggregate label) (first ∷ words)
 joined end first [] n label = cc
-joined end first (word ∷ []) n label = absurd (some_fault _ (passes (meets Label word.text) (forms_fault (FileName ∷ []) (tail_fault (FileNames (JOINED_MAX - 1))) (end_of word) []) _ n).1)
+joined end first (word ∷ []) n label = absurd (some_fault _ (passes (meets (Label Three) word.text) (forms_fault (FileName ∷ []) (tail_fault (FileNames (JOINED_MAX - 1))) (end_of word) []) _ n).1)
 joined end first (word ∷ next ∷ words) n label =
-    let more = (passes (meets Label word.text) (forms_fault (FileName ∷ []) (tail_fault (FileNames (JOINED_MAX - 1))) (end_of word) (next ∷ words)) _ n).1 in
+    let more = (passes (meets (Label Three) word.text) (forms_fault (FileName ∷ []) (tail_fault (FileNames (JOINED_MAX - 1))) (end_of word) (next ∷ words)) _ n).1 in
     let last = passes (meets FileName next.text) (names_fault (JOINED_MAX - 1) words) _ more in
     let rest = few_names (JOINED_MAX - 1) words last.1 in
     (omega arith, omega (arith, rest.few), both (meets FileName next.text) (are_file_names words) last.0 rest.each)
@@ -156,7 +157,7 @@ commanded first (name ∷ command ∷ word ∷ words) form makes end n =
     (omega arith, (omega arith, met.0), bytes_there makes (end_of command) (word ∷ words) more.1)
 
 -- each statement, one after the other
-formed_at : (keyword : Keyword) (first : Span) (words : List Span) (said : Said) → statement_fault (Some keyword) first words ≡ None → values keyword words ≡ Some said → AreFormed said (first ∷ words)
+formed_at : (keyword : Keyword) (first : Span) (words : List Span) (said : Said) → statement_fault Three (Some keyword) first words ≡ None → values keyword words ≡ Some said → AreFormed said (first ∷ words)
 formed_at Probe first words said n e = of_two (λ s. AreFormed s (first ∷ words)) (λ label x. SaidProbe label x) (label_of (text_at 0 words)) (number_within 1 LINES_MAX (text_at 1 words)) said (λ label x. omega arith) e
 formed_at Unplug first words said n e = of_one (λ s. AreFormed s (first ∷ words)) (λ x. SaidUnplug x) (chip_of (text_at 0 words)) said (λ x. omega arith) e
 formed_at MakeDir first words said n e = of_one (λ s. AreFormed s (first ∷ words)) (λ path. SaidMakeDir path) (tree_path_of (text_at 0 words)) said (λ path. omega arith) e
@@ -185,14 +186,14 @@ formed_at Start first words said n e = of_one (λ s. AreFormed s (first ∷ word
 formed_at Step first words said n e = of_two (λ s. AreFormed s (first ∷ words)) (λ name x. SaidStep name x) (file_name_of (text_at 0 words)) (number_within 1 1000 (text_at 1 words)) said (λ name x. omega arith) e
 formed_at Stop first words said n e = of_one (λ s. AreFormed s (first ∷ words)) (λ name. SaidStop name) (file_name_of (text_at 0 words)) said (λ name. omega arith) e
 
-formed_by_fault : (keyword : Keyword) (o : Option Spot) (first : Span) (words : List Span) (said : Said) → statement_fault (Some keyword) first words ≡ o → unless_fault o (values keyword words) ≡ Some said
+formed_by_fault : (keyword : Keyword) (o : Option Spot) (first : Span) (words : List Span) (said : Said) → statement_fault Three (Some keyword) first words ≡ o → unless_fault o (values keyword words) ≡ Some said
     → AreFormed said (first ∷ words)
 formed_by_fault keyword (Some fault) first words said n e = cc
 formed_by_fault keyword None first words said n e = formed_at keyword first words said n e
 
 formed_by : (o : Option Keyword) (first : Span) (words : List Span) (said : Said) → said_by o first words ≡ Some said → AreFormed said (first ∷ words)
 formed_by None first words said e = cc
-formed_by (Some keyword) first words said e = formed_by_fault keyword (statement_fault (Some keyword) first words) first words said refl e
+formed_by (Some keyword) first words said e = formed_by_fault keyword (statement_fault Three (Some keyword) first words) first words said refl e
 
 pub statements_are_formed : StatementsAreFormed
 unfolding said_of

@@ -6,6 +6,7 @@ pub mod FirstBytes
 pub mod Forming
 pub mod Loads
 pub mod OneByOne
+pub mod PairedNames
 pub mod ReadWords
 pub mod Saying
 pub mod ServingLines
@@ -13,3 +14,4 @@ pub mod Spelling
 pub mod Sums
 pub mod ThereWords
 pub mod TypedWords
+pub mod Widening

@@ -284,7 +284,7 @@ pull_good ds up is =
     fits false path short = ap (λ t. cond t (Some (spot 7 Limit)) None) short
 
     statement : (up : Bool) (path : List ℕ) → meets Path path ≡ true
-        → statement_fault (keyword_in One (codes "write")) (span 1 (codes "write")) (span 7 path ∷ span (7 + length path + 1) (pull_word up) ∷ []) ≡ None
+        → statement_fault One (keyword_in One (codes "write")) (span 1 (codes "write")) (span 7 path ∷ span (7 + length path + 1) (pull_word up) ∷ []) ≡ None
     statement true path is_path = ap (λ t. cond t None (Some (spot 7 Word))) is_path
     statement false path is_path = ap (λ t. cond t None (Some (spot 7 Word))) is_path
 

@@ -21,12 +21,14 @@ use Rattle.gl_script.specs.declared.table.Form.TheVariants.{FileName, HeldTool, 
 use Rattle.gl_script.specs.declared.table.Keyword.{Keyword}
 use Rattle.gl_script.specs.declared.table.Keyword.TheVariants.{Probe, Unplug, MakeDir, RemoveDir, Write, Read, Clock, Fault, Accept, Aggregate, Pin, Irq, Open, Ioctl, Events, OldIoctl, OldEvents, Changes, Poll, Close, Detect, Info, Get, Set, Start, Step, Stop}
 use Rattle.gl_script.specs.declared.version.Version.{Version}
+use Rattle.gl_script.specs.declared.version.Version.TheVariants.{Three}
 use Rattle.gl_script.specs.Faults.{forms_fault, is_get_line, makes_file, statement_fault, tail_fault, wanted_fault}
 use Rattle.gl_script.specs.Forms.{file_name_of, is_path_byte, is_there, label_of, meets, number_within, tree_path_of}
 use Rattle.gl_script.specs.Pieces.{behind_three, behind_two, made_by}
 use Rattle.gl_script.specs.Said.{ArePins, AreValues, Spells, StatementsAreSaid, VersionsAreSaid, chip_of, hold_of, irq_name, irq_of, irq_said, keyword_said, one, pin_said, range_of, release_of, said_by, said_of, small_of, two, unless_fault, values, wide_of}
 use Rattle.gl_script.specs.Table.{is_in, keyword_in, keyword_of, only, only_in, Anything, FileNames, NoMore, Pieces}
 use Rattle.gl_script.proofs.TypedWords.{behind_first, made_there, path_there, text_there}
+use Rattle.gl_script.proofs.Widening.{fault_widens}
 
 -- a word that meets its form
 pub passes : (b : Bool) (x : Option Spot) (y : Spot) → (if b then x else Some y) ≡ None → (b ≡ true) × (x ≡ None)
@@ -143,18 +145,18 @@ irq_there (Some what) (Some c) None p q r = cc
 irq_there (Some what) (Some c) (Some n) p q r = refl
 
 -- each statement without a fault, one after the other
-values_there : (keyword : Keyword) (first : Span) (words : List Span) → statement_fault (Some keyword) first words ≡ None → is_some (values keyword words) ≡ true
+values_there : (keyword : Keyword) (first : Span) (words : List Span) → statement_fault Three (Some keyword) first words ≡ None → is_some (values keyword words) ≡ true
 values_there Probe first words n =
     two_there (λ label x. SaidProbe label x) (label_of (text_at 0 words)) (number_within 1 LINES_MAX (text_at 1 words))
-    (text_there is_label_byte 31 (text_at 0 words) (met1 (tail_fault NoMore) Label (Number 1 LINES_MAX ∷ []) (end_of first) words n))
-    (number_there (number_within 1 LINES_MAX (text_at 1 words)) (met2 (tail_fault NoMore) Label (Number 1 LINES_MAX) [] (end_of first) words n))
+    (met1 (tail_fault NoMore) (Label Three) (Number 1 LINES_MAX ∷ []) (end_of first) words n)
+    (number_there (number_within 1 LINES_MAX (text_at 1 words)) (met2 (tail_fault NoMore) (Label Three) (Number 1 LINES_MAX) [] (end_of first) words n))
 values_there Unplug first words n = one_there (λ x. SaidUnplug x) (chip_of (text_at 0 words)) (number_there (chip_of (text_at 0 words)) (met1 (tail_fault NoMore) Chip [] (end_of first) words n))
 values_there MakeDir first words n = one_there (λ path. SaidMakeDir path) (tree_path_of (text_at 0 words)) (text_there is_path_byte 127 (text_at 0 words) (met1 (tail_fault NoMore) Path [] (end_of first) words n))
 values_there RemoveDir first words n = one_there (λ path. SaidRemoveDir path) (tree_path_of (text_at 0 words)) (text_there is_path_byte 127 (text_at 0 words) (met1 (tail_fault NoMore) Path [] (end_of first) words n))
 values_there Write first words n =
     two_there (λ path value. SaidWrite path value) (tree_path_of (text_at 0 words)) (label_of (text_at 1 words))
-    (text_there is_path_byte 127 (text_at 0 words) (met1 (tail_fault NoMore) Path (Label ∷ []) (end_of first) words n))
-    (text_there is_label_byte 31 (text_at 1 words) (met2 (tail_fault NoMore) Path Label [] (end_of first) words n))
+    (text_there is_path_byte 127 (text_at 0 words) (met1 (tail_fault NoMore) Path (Label Three ∷ []) (end_of first) words n))
+    (met2 (tail_fault NoMore) Path (Label Three) [] (end_of first) words n)
 values_there Read first words n = one_there (λ path. SaidRead path) (tree_path_of (text_at 0 words)) (text_there is_path_byte 127 (text_at 0 words) (met1 (tail_fault NoMore) Path [] (end_of first) words n))
 values_there Clock first words n =
     two_there (λ mono real. SaidClock mono real) (wide_of (text_at 0 words)) (wide_of (text_at 1 words))
@@ -165,7 +167,7 @@ values_there Fault first words n =
 values_there Accept first words n =
     one_there (λ x. SaidAccept x) (wide_of (text_at 0 words)) (number_there (wide_of (text_at 0 words)) (met1 (tail_fault NoMore) (Number 0 0xFFFFFFFFFFFFFFFF) [] (end_of first) words n))
 values_there Aggregate first words n =
-    one_there (λ label. SaidAggregate label) (label_of (text_at 0 words)) (text_there is_label_byte 31 (text_at 0 words) (met1 (tail_fault (FileNames (JOINED_MAX - 1))) Label (FileName ∷ []) (end_of first) words n))
+    one_there (λ label. SaidAggregate label) (label_of (text_at 0 words)) (met1 (tail_fault (FileNames (JOINED_MAX - 1))) (Label Three) (FileName ∷ []) (end_of first) words n)
 values_there Pin first words n =
     let word = text_at 0 words in
     pin_there (bytes_eq word (codes "range")) (bytes_eq word (codes "hold")) (bytes_eq word (codes "drop")) (end_of first) words
@@ -212,33 +214,33 @@ values_there Step first words n =
 values_there Stop first words n =
     one_there (λ name. SaidStop name) (file_name_of (text_at 0 words)) (text_there is_label_byte 15 (text_at 0 words) (met1 (tail_fault NoMore) FileName [] (end_of first) words n))
 
-there_by : (keyword : Keyword) (first : Span) (words : List Span) (o : Option Spot) → statement_fault (Some keyword) first words ≡ o → is_some (unless_fault o (values keyword words)) ≡ not (is_some o)
+there_by : (keyword : Keyword) (first : Span) (words : List Span) (o : Option Spot) → statement_fault Three (Some keyword) first words ≡ o → is_some (unless_fault o (values keyword words)) ≡ not (is_some o)
 there_by keyword first words None e = values_there keyword first words e
 there_by keyword first words (Some fault) e = refl
 
-said_there : (o : Option Keyword) (first : Span) (words : List Span) → is_some (said_by o first words) ≡ not (is_some (statement_fault o first words))
+said_there : (o : Option Keyword) (first : Span) (words : List Span) → is_some (said_by o first words) ≡ not (is_some (statement_fault Three o first words))
 said_there None first words = refl
-said_there (Some keyword) first words = there_by keyword first words (statement_fault (Some keyword) first words) refl
+said_there (Some keyword) first words = there_by keyword first words (statement_fault Three (Some keyword) first words) refl
 
 pub statements_are_said : StatementsAreSaid
 unfolding said_of
 statements_are_said first words = said_there (keyword_of first.text) first words
 
--- a statement of either version
-kept : (b : Bool) (keyword : Keyword) (first : Span) (words : List Span) → statement_fault (if b then Some keyword else None) first words ≡ None → statement_fault (Some keyword) first words ≡ None
-kept true keyword first words n = n
-kept false keyword first words n = cc
+-- a statement of any version
+kept : (version : Version) (b : Bool) (keyword : Keyword) (first : Span) (words : List Span) → statement_fault version (if b then Some keyword else None) first words ≡ None → statement_fault Three (Some keyword) first words ≡ None
+kept version true keyword first words n = fault_widens version keyword first words n
+kept version false keyword first words n = cc
 
-in_version : (version : Version) (o : Option Keyword) (first : Span) (words : List Span) → statement_fault (only_in version o) first words ≡ None → statement_fault o first words ≡ None
+in_version : (version : Version) (o : Option Keyword) (first : Span) (words : List Span) → statement_fault version (only_in version o) first words ≡ None → statement_fault Three o first words ≡ None
 in_version version None first words n = n
-in_version version (Some keyword) first words n = kept (is_in version keyword) keyword first words n
+in_version version (Some keyword) first words n = kept version (is_in version keyword) keyword first words n
 
 pub versions_are_said : VersionsAreSaid
 unfolding said_of
 versions_are_said version first words n =
     said_there (keyword_of first.text) first words ∙ ap (λ (o : Option Spot). not (is_some o)) (in_version version (keyword_of first.text) first words n)
 
--- what a statement of either version says
+-- what a statement of any version says
 kept_said : (b : Bool) (keyword : Keyword) (first : Span) (words : List Span) (said : Said) → said_by (if b then Some keyword else None) first words ≡ Some said → said_by (Some keyword) first words ≡ Some said
 kept_said true keyword first words said e = e
 kept_said false keyword first words said e = cc
@@ -403,7 +405,7 @@ spelled_by_fault keyword None first words said k e =
 
 spelled_by : (o : Option Keyword) (first : Span) (words : List Span) (said : Said) → keyword_of first.text ≡ o → said_by o first words ≡ Some said → Spells (first ∷ words) said
 spelled_by None first words said k e = cc
-spelled_by (Some keyword) first words said k e = spelled_by_fault keyword (statement_fault (Some keyword) first words) first words said k e
+spelled_by (Some keyword) first words said k e = spelled_by_fault keyword (statement_fault Three (Some keyword) first words) first words said k e
 
 pub said_is_spelled : (words : List Span) (said : Said) → said_of words ≡ Some said → Spells words said
 unfolding said_of

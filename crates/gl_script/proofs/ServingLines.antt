@@ -70,7 +70,7 @@ headed version (Some After) first words said line kind e = cc
 among : (version : Version) (o : Option SectionKind) (first : Span) (words said : List Span) (line : Span) (kind : Kind) → open_kind version o first words ≡ Ok kind
     → GoesOn (Open version) said line kind (section_fault o (stands (Open version) said) first words) (behind_head o (stands (Open version) said) line words)
 among version None first words said line kind e =
-    let parts = unless_ok (statement_fault (keyword_in version first.text) first words) (Ok Statement) kind e in
+    let parts = unless_ok (statement_fault version (keyword_in version first.text) first words) (Ok Statement) kind e in
     subst (λ k. GoesOn (Open version) said line k (section_fault None (stands (Open version) said) first words) (behind_head None (stands (Open version) said) line words)) (same_kind Statement kind parts.1) (parts.0, refl)
 among version (Some section) first words said line kind e = cc
 
@@ -129,7 +129,7 @@ headed_refuses version (Some After) first words said fault e = inr (is_section f
 
 open_refuses : (version : Version) (o : Option SectionKind) (first : Span) (words said : List Span) (fault : Spot) → open_kind version o first words ≡ Err fault → Refuses (section_fault o (stands (Open version) said) first words) fault
 open_refuses version None first words said fault e =
-    refused_unless (statement_fault (keyword_in version first.text) first words) (section_fault None (stands (Open version) said) first words) Statement fault refl e
+    refused_unless (statement_fault version (keyword_in version first.text) first words) (section_fault None (stands (Open version) said) first words) Statement fault refl e
 open_refuses version (Some section) first words said fault e = inr (is_section first.at fault e)
 
 stage_refuses : (stage : Stage) (first : Span) (words said : List Span) (fault : Spot) → kind_at stage first words ≡ Err fault → Refuses (counted_fault (stands stage said) (first ∷ words)) fault

@@ -1,21 +1,22 @@
 -- Words of their forms are names and paths, and a command's pieces have the name of the file that it makes behind them.
 use Rattle.std.proofs.Common.{◌≡◌, ℕ, zero, suc, ◌+◌, Bool, true, false, ◌&&◌, List, [], ◌∷◌, length, Option, None, Some, refl, sym, ◌∙◌, ap, subst, arith}
-use Rattle.std.specs.Prelude.{IsTrue, if◌then◌else◌, is_some, nat_le, codes, Result, Ok, Err}
+use Rattle.std.specs.Prelude.{IsTrue, ◌==◌, if◌then◌else◌, is_some, nat_le, codes, Result, Ok, Err}
 use Rattle.std.specs.List.{list_all}
 use Rattle.std.specs.Option.{option_or}
 use Rattle.std.specs.Str.{bytes_eq}
 use Rattle.std.proofs.lemmas.Bool.Decides.{nat_tests}
 use Rattle.std.proofs.lemmas.Slice.Eq.{bytes_eq-Decides}
-use Rattle.gl_base.specs.BytesText.{piece_size}
+use Rattle.gl_base.specs.BytesText.{is_pairs, pairs_bytes, piece_size}
 use Rattle.gl_base.specs.Label.{is_label_byte}
-use Rattle.gl_base.specs.Name.{is_name, is_nonzero}
+use Rattle.gl_base.specs.Name.{is_name, is_nonzero, name_of}
 use Rattle.gl_base.specs.Path.{is_path, path_of}
 use Rattle.gl_base.specs.Words.{Span, end_of, is_nonempty, text_at}
 use Rattle.gl_script.specs.declared.refusal.RefusalKind.TheVariants.{Word}
 use Rattle.gl_script.specs.declared.refusal.Spot.{Spot}
-use Rattle.gl_script.specs.declared.table.Form.TheVariants.{FileName, Label as LabelForm, Path as PathForm, Word as WordForm}
+use Rattle.gl_script.specs.declared.table.Form.TheVariants.{FileName, Path as PathForm, Word as WordForm}
 use Rattle.gl_script.specs.Faults.{as_fault, bytes_fault, name_fault, more_fault, piece_fault, pieces_fault, size_of, spot}
-use Rattle.gl_script.specs.Forms.{file_name_of, is_of, is_path_byte, meets, text_of}
+use Rattle.gl_script.specs.declared.version.Version.{Version}
+use Rattle.gl_script.specs.Forms.{escaped_name, file_name_of, has_any_names, is_of, is_path_byte, label_in, meets, paired_name, text_of}
 use Rattle.gl_script.specs.Left.{Finds}
 use Rattle.gl_script.specs.Pieces.{behind_three, behind_two, made_by, name_behind_as, named}
 
@@ -38,7 +39,7 @@ label_bytes (byte ∷ word) e =
     and_true (is_nonzero byte) (list_all is_nonzero word) (label_byte byte parts.0) (label_bytes word parts.1)
 
 -- the words of names and paths fit into them
-pub label_fits : (word : List ℕ) → meets LabelForm word ≡ true → IsTrue (is_name word)
+pub label_fits : (word : List ℕ) → is_of is_label_byte 31 word ≡ true → IsTrue (is_name word)
 label_fits word e =
     let parts = both (is_nonempty word) (nat_le (length word) 31 && list_all is_label_byte word) e in
     let more = both (nat_le (length word) 31) (list_all is_label_byte word) parts.1 in
@@ -52,6 +53,36 @@ file_name_fits word e =
     let parts = both (is_nonempty word) (nat_le (length word) 15 && list_all is_label_byte word) e in
     let more = both (nat_le (length word) 15) (list_all is_label_byte word) parts.1 in
     and_true (nat_le (length word) 31) (list_all is_nonzero word) (fewer_than (length word) more.0) (label_bytes word more.1)
+
+-- what a word says as a label is a name
+named_if : (b : Bool) (text name : List ℕ) → (b ≡ true → is_name text ≡ true) → (if b then Some text else None) ≡ Some name → is_name name ≡ true
+named_if true text name fits e = let same : text ≡ name = cc in subst (λ (t : List ℕ). is_name t ≡ true) same (fits refl)
+named_if false text name fits e = cc
+
+paired_by : (b : Bool) (bytes name : List ℕ) → (if b then name_of bytes else None) ≡ Some name → is_name name ≡ true
+paired_by true bytes name e = named_if (is_name bytes) bytes name (λ is. is) e
+paired_by false bytes name e = cc
+
+paired_fits : (digits name : List ℕ) → paired_name digits ≡ Some name → is_name name ≡ true
+paired_fits digits name e = paired_by (is_pairs digits) (pairs_bytes digits) name e
+
+escaped_by : (b : Bool) (digits name : List ℕ) → (if b then paired_name digits else None) ≡ Some name → is_name name ≡ true
+escaped_by true digits name e = paired_fits digits name e
+escaped_by false digits name e = cc
+
+any_fits : (b : Bool) (word name : List ℕ) → (if b then escaped_name word else None) ≡ Some name → is_name name ≡ true
+any_fits true [] name e = cc
+any_fits true (first ∷ digits) name e = escaped_by (first == 92) digits name e
+any_fits false word name e = cc
+
+or_fits : (plain other : Option (List ℕ)) (name : List ℕ) → (plain ≡ Some name → is_name name ≡ true) → (other ≡ Some name → is_name name ≡ true) → option_or plain other ≡ Some name → is_name name ≡ true
+or_fits None other name p q e = q e
+or_fits (Some text) other name p q e = p e
+
+pub label_is_name : (version : Version) (word name : List ℕ) → label_in version word ≡ Some name → is_name name ≡ true
+label_is_name version word name e =
+    or_fits (text_of is_label_byte 31 word) (if has_any_names version then escaped_name word else None) name
+    (named_if (is_of is_label_byte 31 word) word name (label_fits word)) (any_fits (has_any_names version) word name) e
 
 itself : (b : Bool) (word : List ℕ) → b ≡ true → (if b then Some word else None) ≡ Some word
 itself true word e = refl

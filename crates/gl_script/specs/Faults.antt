@@ -13,6 +13,7 @@ use Rattle.gl_script.specs.declared.table.Form.{Form}
 use Rattle.gl_script.specs.declared.table.Form.TheVariants.{FileName}
 use Rattle.gl_script.specs.declared.table.Keyword.{Keyword}
 use Rattle.gl_script.specs.declared.table.Keyword.TheVariants.{OldIoctl}
+use Rattle.gl_script.specs.declared.version.Version.{Version}
 use Rattle.gl_v1.specs.Words.{makes_file as makes_old_file, old_number_of}
 use Rattle.gl_base.specs.Words.{Span, end_of, text_at}
 use Rattle.gl_script.specs.Table.{Tail, Wanted, wanted, NoMore, Anything, FileNames, Pieces}
@@ -115,8 +116,8 @@ makes_file keyword words = makes keyword (text_at 1 words)
 abbrev pub wanted_fault : Wanted → ℕ → List Span → Option Spot
 wanted_fault w end words = forms_fault w.forms (tail_fault w.tail) end words
 
--- the first fault of a statement that begins with this word
-abbrev pub statement_fault : Option Keyword → Span → List Span → Option Spot
-statement_fault None first words = Some (spot first.at Statement)
-statement_fault (Some keyword) first words =
-    wanted_fault (wanted keyword (text_at 0 words) (makes_file keyword words)) (end_of first) words
+-- the first fault of a statement that begins with this word, in a session of this version
+abbrev pub statement_fault : Version → Option Keyword → Span → List Span → Option Spot
+statement_fault version None first words = Some (spot first.at Statement)
+statement_fault version (Some keyword) first words =
+    wanted_fault (wanted version keyword (text_at 0 words) (makes_file keyword words)) (end_of first) words

@@ -1,15 +1,20 @@
 -- The forms of words, one definition each. This project's choice.
-use Rattle.std.specs.Prelude.{ℕ, Bool, true, false, ◌&&◌, ◌||◌, ◌==◌, nat_le, if◌then◌else◌, List, [], ◌∷◌, length, Option, None, Some, codes}
+use Rattle.std.specs.Prelude.{ℕ, Bool, true, false, ◌&&◌, ◌||◌, ◌==◌, nat_le, if◌then◌else◌, List, [], ◌∷◌, length, is_some, Option, None, Some, codes}
 use Rattle.std.specs.List.{list_all}
+use Rattle.std.specs.Option.{option_or}
 use Rattle.std.specs.Str.{bytes_eq}
+use Rattle.gl_base.specs.BytesText.{is_pairs, pairs_bytes}
 use Rattle.gl_base.specs.ChipWord.{chip_number_of}
 use Rattle.gl_base.specs.CommandWord.{command_number_of}
 use Rattle.gl_base.specs.Decimal.{number_of_text}
 use Rattle.gl_base.specs.Label.{is_label_byte}
+use Rattle.gl_base.specs.Name.{name_of}
 use Rattle.gl_base.specs.Words.{is_nonempty}
 use Rattle.gl_v1.specs.Words.{old_number_of}
 use Rattle.gl_script.specs.declared.table.Form.{Form}
 use Rattle.gl_script.specs.declared.table.Form.TheVariants.{FileName, Label, Path, Number, Chip, Word, Command, OldCommand, PinWord, IrqWord, HeldTool}
+use Rattle.gl_script.specs.declared.version.Version.{Version}
+use Rattle.gl_script.specs.declared.version.Version.TheVariants.{One, Two, Three}
 
 -- a word is one of these
 abbrev pub is_one_of : List (List ℕ) → List ℕ → Bool
@@ -23,18 +28,39 @@ is_of kind most word = is_nonempty word && (nat_le (length word) most && list_al
 abbrev pub is_path_byte : ℕ → Bool
 is_path_byte byte = is_label_byte byte || byte == 47
 
--- the name of a file or a tool that a word is, a label or a value, and a path of the tree
+-- the text that a word is, if it is one of this kind
 abbrev pub text_of : (ℕ → Bool) → ℕ → List ℕ → Option (List ℕ)
 text_of kind most word = if is_of kind most word then Some word else None
 
+-- the name of a file or a tool that a word is, and a path of the tree
 abbrev pub file_name_of : List ℕ → Option (List ℕ)
 file_name_of word = text_of is_label_byte 15 word
 
-abbrev pub label_of : List ℕ → Option (List ℕ)
-label_of word = text_of is_label_byte 31 word
-
 abbrev pub tree_path_of : List ℕ → Option (List ℕ)
 tree_path_of word = text_of is_path_byte 127 word
+
+-- labels and values may have any bytes but 0 in a session of this version
+abbrev pub has_any_names : Version → Bool
+has_any_names One = false
+has_any_names Two = false
+has_any_names Three = true
+
+-- the name of 1 to 31 bytes, none of them 0, that pairs of hexadecimal digits in either case write
+abbrev pub paired_name : List ℕ → Option (List ℕ)
+paired_name digits = if is_pairs digits then name_of (pairs_bytes digits) else None
+
+-- the name that `\` (92) and such pairs write
+abbrev pub escaped_name : List ℕ → Option (List ℕ)
+escaped_name [] = None
+escaped_name (first ∷ digits) = if first == 92 then paired_name digits else None
+
+-- the label or the value that a word says in a session of this version
+abbrev pub label_in : Version → List ℕ → Option (List ℕ)
+label_in version word = option_or (text_of is_label_byte 31 word) (if has_any_names version then escaped_name word else None)
+
+-- the same in a session of any version: a word that says a label or a value in one of them says the same in those that have more
+abbrev pub label_of : List ℕ → Option (List ℕ)
+label_of word = label_in Three word
 
 -- a number, if it is one from low to high
 abbrev pub within : ℕ → ℕ → Option ℕ → Option ℕ
@@ -61,7 +87,7 @@ held_tools = codes "gpioset" ∷ codes "gpiomon" ∷ codes "gpionotify" ∷ []
 -- a word is of a form
 abbrev pub meets : Form → List ℕ → Bool
 meets FileName word = is_of is_label_byte 15 word
-meets Label word = is_of is_label_byte 31 word
+meets (Label version) word = is_some (label_in version word)
 meets Path word = is_of is_path_byte 127 word
 meets (Number low high) word = is_there (number_within low high word)
 meets Chip word = is_there (within 0 63 (chip_number_of word))

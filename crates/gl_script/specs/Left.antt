@@ -10,6 +10,8 @@ use Rattle.gl_script.specs.declared.refusal.Spot.{Spot}
 use Rattle.gl_script.specs.declared.said.Said.{Said}
 use Rattle.gl_script.specs.declared.table.Form.{Form}
 use Rattle.gl_script.specs.declared.table.Keyword.{Keyword}
+use Rattle.gl_script.specs.declared.version.Version.{Version}
+use Rattle.gl_script.specs.declared.version.Version.TheVariants.{Three}
 use Rattle.gl_script.specs.Faults.{bytes_fault, makes_file, more_fault, names_fault, spot, statement_fault, wanted_fault}
 use Rattle.gl_script.specs.Forms.{meets}
 use Rattle.gl_script.specs.Pieces.{made_by}
@@ -68,10 +70,14 @@ ArePieces makes left result = Finds (bytes_fault makes left.end left.words) (mad
 abbrev pub Says : Wanted → Option Said → Left → Result Said Spot → Type 0
 Says row says left result = Finds (wanted_fault row left.end left.words) says result
 
--- the same of all words behind that of a statement
-abbrev pub IsRead : Keyword → Left → Result Said Spot → Type 0
-IsRead keyword left result = Says (wanted keyword (text_at 0 left.words) (makes_file keyword left.words)) (values keyword left.words) left result
+-- the same of all words behind that of a statement, in a session of this version
+abbrev pub IsReadIn : Version → Keyword → Left → Result Said Spot → Type 0
+IsReadIn version keyword left result = Says (wanted version keyword (text_at 0 left.words) (makes_file keyword left.words)) (values keyword left.words) left result
 
--- Words were read as a statement: what they say, or else their first fault.
-abbrev pub IsStated : Option Keyword → Span → List Span → Result Said Spot → Type 0
-IsStated keyword first words result = Finds (statement_fault keyword first words) (said_by keyword first words) result
+-- the same of a statement whose forms don't go by the version
+abbrev pub IsRead : Keyword → Left → Result Said Spot → Type 0
+IsRead keyword left result = IsReadIn Three keyword left result
+
+-- Words were read as a statement of a session of this version: what they say, or else their first fault.
+abbrev pub IsStated : Version → Option Keyword → Span → List Span → Result Said Spot → Type 0
+IsStated version keyword first words result = Finds (statement_fault version keyword first words) (said_by keyword first words) result

@@ -19,6 +19,7 @@ use Rattle.gl_script.specs.declared.said.Said.TheVariants.{Probe as SaidProbe, U
 use Rattle.gl_script.specs.declared.table.Keyword.{Keyword}
 use Rattle.gl_script.specs.declared.table.Keyword.TheVariants.{Probe, Unplug, MakeDir, RemoveDir, Write, Read, Clock, Fault, Accept, Aggregate, Pin, Irq, Open, Ioctl, Events, OldIoctl, OldEvents, Changes, Poll, Close, Detect, Info, Get, Set, Start, Step, Stop}
 use Rattle.gl_script.specs.declared.version.Version.{Version}
+use Rattle.gl_script.specs.declared.version.Version.TheVariants.{Three}
 use Rattle.gl_script.specs.Faults.{makes_file, statement_fault}
 use Rattle.gl_script.specs.Forms.{file_name_of, label_of, number_within, tree_path_of, within}
 use Rattle.gl_script.specs.Pieces.{behind_three, behind_two, made_by}
@@ -136,19 +137,19 @@ unless_fault (Some fault) said = None
 
 abbrev pub said_by : Option Keyword → Span → List Span → Option Said
 said_by None first words = None
-said_by (Some keyword) first words = unless_fault (statement_fault (Some keyword) first words) (values keyword words)
+said_by (Some keyword) first words = unless_fault (statement_fault Three (Some keyword) first words) (values keyword words)
 
--- What words say as a statement of `session 2`, which has all statements; None where they are none.
+-- What words say as a statement of `session 3`, which has all statements and all forms of their words; None where they are none.
 unfoldable pub said_of : List Span → Option Said
 said_of [] = None
 said_of (first ∷ words) = said_by (keyword_of first.text) first words
 
--- Words say something exactly where they have no fault as a statement, and they have none where they have none in a session of either version.
+-- Words say something exactly where they have no fault as a statement, and they have none where they have none in a session of any version.
 abbrev pub StatementsAreSaid : Type 0
-StatementsAreSaid = (first : Span) (words : List Span) → is_some (said_of (first ∷ words)) ≡ not (is_some (statement_fault (keyword_of first.text) first words))
+StatementsAreSaid = (first : Span) (words : List Span) → is_some (said_of (first ∷ words)) ≡ not (is_some (statement_fault Three (keyword_of first.text) first words))
 
 abbrev pub VersionsAreSaid : Type 0
-VersionsAreSaid = (version : Version) (first : Span) (words : List Span) → statement_fault (keyword_in version first.text) first words ≡ None → is_some (said_of (first ∷ words)) ≡ true
+VersionsAreSaid = (version : Version) (first : Span) (words : List Span) → statement_fault version (keyword_in version first.text) first words ≡ None → is_some (said_of (first ∷ words)) ≡ true
 
 -- the statement that is said
 abbrev pub keyword_said : Said → Keyword

@@ -14,7 +14,7 @@ use Rattle.gl_script.specs.declared.section.SectionKind.{SectionKind}
 use Rattle.gl_script.specs.declared.section.SectionKind.TheVariants.{Setup, Actor, After}
 use Rattle.gl_script.specs.declared.table.Form.TheVariants.{FileName}
 use Rattle.gl_script.specs.declared.version.Version.{Version}
-use Rattle.gl_script.specs.declared.version.Version.TheVariants.{One, Two}
+use Rattle.gl_script.specs.declared.version.Version.TheVariants.{One, Two, Three}
 use Rattle.gl_script.specs.Columns.{columns}
 use Rattle.gl_script.specs.Cost.{session_cost}
 use Rattle.gl_script.specs.Faults.{spot, byte_fault, size_fault, more_fault, statement_fault}
@@ -49,11 +49,15 @@ abbrev pub is_counted : List Span → Bool
 is_counted [] = false
 is_counted (word ∷ words) = not (is_comment word.text)
 
--- `1` or `2`
+-- `1`, `2` or `3`
 abbrev pub version_said : List ℕ → Option Version
-version_said word = if bytes_eq word (codes "1") then Some One else if bytes_eq word (codes "2") then Some Two else None
+version_said word =
+    if bytes_eq word (codes "1") then Some One
+    else if bytes_eq word (codes "2") then Some Two
+    else if bytes_eq word (codes "3") then Some Three
+    else None
 
--- the version that a header says, `session 1` or `session 2`; other words say none
+-- the version that a header says, `session` and its number; other words say none
 abbrev pub version_of : List Span → Option Version
 version_of (name ∷ version ∷ []) = if bytes_eq name.text (codes "session") then version_said version.text else None
 version_of _ = None
@@ -121,7 +125,7 @@ head_fault After before end words = more_fault words
 abbrev pub in_section_fault : Option Version → Option SaidSection → Span → List Span → Option Spot
 in_section_fault None current first words = Some (spot first.at Section)
 in_section_fault (Some version) None first words = Some (spot first.at Section)
-in_section_fault (Some version) (Some section) first words = statement_fault (keyword_in version first.text) first words
+in_section_fault (Some version) (Some section) first words = statement_fault version (keyword_in version first.text) first words
 
 -- the first fault of a line that begins a section, or else of a statement
 abbrev pub section_fault : Option SectionKind → Before → Span → List Span → Option Spot

@@ -1,4 +1,4 @@
--- The lines of a session that is answered line by line: `session 1` or `session 2`, `setup`, and then statements. A session of this kind has no other
+-- The lines of a session that is answered line by line: its header, `setup`, and then statements. A session of this kind has no other
 -- section. This project's choice.
 use Rattle.std.specs.Prelude.{◌≡◌, ℕ, if◌then◌else◌, List, [], ◌∷◌, Option, None, Some, Result, Ok, Err}
 use Rattle.gl_base.specs.Words.{Span}
@@ -43,7 +43,7 @@ headed_kind (Some After) first words = Err (spot first.at SectionFault)
 
 -- then come statements, and no further section
 abbrev pub open_kind : Version → Option SectionKind → Span → List Span → Result Kind Spot
-open_kind version None first words = unless (statement_fault (keyword_in version first.text) first words) (Ok Statement)
+open_kind version None first words = unless (statement_fault version (keyword_in version first.text) first words) (Ok Statement)
 open_kind version (Some kind) first words = Err (spot first.at SectionFault)
 
 abbrev pub kind_at : Stage → Span → List Span → Result Kind Spot

@@ -28,7 +28,7 @@ counted lines = filter counts lines
 -- words that are a statement of its form, in a session of this version
 abbrev pub AreStatement : Version → List Span → Type 0
 AreStatement version [] = ⊥
-AreStatement version (first ∷ words) = (kind_of first.text ≡ None) × (statement_fault (keyword_in version first.text) first words ≡ None)
+AreStatement version (first ∷ words) = (kind_of first.text ≡ None) × (statement_fault version (keyword_in version first.text) first words ≡ None)
 
 abbrev pub IsStatement : Version → Span → Type 0
 IsStatement version line = AreStatement version (columns line.text)

@@ -7,7 +7,7 @@ use Rattle.gl_script.specs.declared.table.Keyword.{Keyword}
 use Rattle.gl_script.specs.declared.table.Keyword.TheVariants.{Probe, Unplug, MakeDir, RemoveDir, Write, Read, Clock, Fault, Accept, Aggregate, Pin, Irq, Open, Ioctl, Events, OldIoctl, OldEvents, Changes, Poll, Close, Detect, Info, Get, Set, Start, Step, Stop}
 use Rattle.gl_script.specs.declared.table.TheConstants.{KEYWORDS}
 use Rattle.gl_script.specs.declared.version.Version.{Version}
-use Rattle.gl_script.specs.declared.version.Version.TheVariants.{One, Two}
+use Rattle.gl_script.specs.declared.version.Version.TheVariants.{One, Two, Three}
 use Rattle.gl_base.specs.declared.limits.TheConstants.{LINES_MAX}
 use Rattle.gl_script.specs.declared.limits.TheConstants.{JOINED_MAX}
 
@@ -44,14 +44,15 @@ keyword_name Stop = codes "stop"
 abbrev pub is_keyword : List ℕ → Keyword → Bool
 is_keyword word keyword = bytes_eq (keyword_name keyword) word
 
--- the statement that a word begins in a session of either version, if it begins one
+-- the statement that a word begins in a session of any version, if it begins one
 abbrev pub keyword_of : List ℕ → Option Keyword
 keyword_of word = find (is_keyword word) KEYWORDS
 
--- `accept` is a statement of `session 2` alone
+-- `accept` is a statement from `session 2` on
 abbrev pub has_accept : Version → Bool
 has_accept One = false
 has_accept Two = true
+has_accept Three = true
 
 -- a session of this version has the statement
 abbrev pub is_in : Version → Keyword → Bool
@@ -89,34 +90,35 @@ only forms = record { forms = forms; tail = NoMore }
 abbrev pub followed : List Form → Tail → Wanted
 followed forms tail = record { forms = forms; tail = tail }
 
--- one row a statement; the second word, and whether the third is a command that makes a file, decide where a statement has several forms
-abbrev pub wanted : Keyword → List ℕ → Bool → Wanted
-wanted Probe second makes = only (Label ∷ Number 1 LINES_MAX ∷ [])
-wanted Unplug second makes = only (Chip ∷ [])
-wanted MakeDir second makes = only (Path ∷ [])
-wanted RemoveDir second makes = only (Path ∷ [])
-wanted Write second makes = only (Path ∷ Label ∷ [])
-wanted Read second makes = only (Path ∷ [])
-wanted Clock second makes = only (Number 0 0xFFFFFFFFFFFFFFFF ∷ Number 0 0xFFFFFFFFFFFFFFFF ∷ [])
-wanted Fault second makes = only (Number 1 1000000 ∷ [])
-wanted Accept second makes = only (Number 0 0xFFFFFFFFFFFFFFFF ∷ [])
-wanted Aggregate second makes = followed (Label ∷ FileName ∷ []) (FileNames (JOINED_MAX - 1))
-wanted Pin second makes =
+-- one row a statement; the second word, and whether the third is a command that makes a file, decide where a statement has several forms,
+-- and the version which bytes a label or a value may have
+abbrev pub wanted : Version → Keyword → List ℕ → Bool → Wanted
+wanted version Probe second makes = only (Label version ∷ Number 1 LINES_MAX ∷ [])
+wanted version Unplug second makes = only (Chip ∷ [])
+wanted version MakeDir second makes = only (Path ∷ [])
+wanted version RemoveDir second makes = only (Path ∷ [])
+wanted version Write second makes = only (Path ∷ Label version ∷ [])
+wanted version Read second makes = only (Path ∷ [])
+wanted version Clock second makes = only (Number 0 0xFFFFFFFFFFFFFFFF ∷ Number 0 0xFFFFFFFFFFFFFFFF ∷ [])
+wanted version Fault second makes = only (Number 1 1000000 ∷ [])
+wanted version Accept second makes = only (Number 0 0xFFFFFFFFFFFFFFFF ∷ [])
+wanted version Aggregate second makes = followed (Label version ∷ FileName ∷ []) (FileNames (JOINED_MAX - 1))
+wanted version Pin second makes =
     if bytes_eq second (codes "range") then only (PinWord ∷ Chip ∷ Number 0 0xFFFFFFFF ∷ Number 0 0xFFFFFFFF ∷ Number 0 0xFFFFFFFF ∷ [])
     else only (PinWord ∷ Chip ∷ Number 0 0xFFFFFFFF ∷ [])
-wanted Irq second makes = only (IrqWord ∷ Chip ∷ Number 0 0xFFFFFFFF ∷ [])
-wanted Open second makes = only (FileName ∷ Word ∷ [])
-wanted Ioctl second makes = followed (FileName ∷ Command ∷ []) (Pieces makes)
-wanted Events second makes = only (FileName ∷ Number 0 49152 ∷ [])
-wanted OldIoctl second makes = followed (FileName ∷ OldCommand ∷ []) (Pieces makes)
-wanted OldEvents second makes = only (FileName ∷ Number 0 16384 ∷ [])
-wanted Changes second makes = only (FileName ∷ Number 0 9216 ∷ [])
-wanted Poll second makes = only (FileName ∷ [])
-wanted Close second makes = only (FileName ∷ [])
-wanted Detect second makes = followed [] Anything
-wanted Info second makes = followed [] Anything
-wanted Get second makes = followed [] Anything
-wanted Set second makes = followed [] Anything
-wanted Start second makes = followed (FileName ∷ HeldTool ∷ []) Anything
-wanted Step second makes = only (FileName ∷ Number 1 1000 ∷ [])
-wanted Stop second makes = only (FileName ∷ [])
+wanted version Irq second makes = only (IrqWord ∷ Chip ∷ Number 0 0xFFFFFFFF ∷ [])
+wanted version Open second makes = only (FileName ∷ Word ∷ [])
+wanted version Ioctl second makes = followed (FileName ∷ Command ∷ []) (Pieces makes)
+wanted version Events second makes = only (FileName ∷ Number 0 49152 ∷ [])
+wanted version OldIoctl second makes = followed (FileName ∷ OldCommand ∷ []) (Pieces makes)
+wanted version OldEvents second makes = only (FileName ∷ Number 0 16384 ∷ [])
+wanted version Changes second makes = only (FileName ∷ Number 0 9216 ∷ [])
+wanted version Poll second makes = only (FileName ∷ [])
+wanted version Close second makes = only (FileName ∷ [])
+wanted version Detect second makes = followed [] Anything
+wanted version Info second makes = followed [] Anything
+wanted version Get second makes = followed [] Anything
+wanted version Set second makes = followed [] Anything
+wanted version Start second makes = followed (FileName ∷ HeldTool ∷ []) Anything
+wanted version Step second makes = only (FileName ∷ Number 1 1000 ∷ [])
+wanted version Stop second makes = only (FileName ∷ [])

@@ -5,17 +5,18 @@ ghost use Rattle.gl_base.specs.Path.{path_of};
 ghost use Rattle.gl_base.specs.Words.{span, words_at};
 ghost use Rattle.gl_v1.specs.Words.{old_number_of};
 ghost use Rattle.gl_script.specs.Faults.{spot};
-ghost use Rattle.gl_script.specs.Forms.{file_name_of, label_of, meets, number_within, tree_path_of};
+ghost use Rattle.gl_script.specs.Forms.{file_name_of, label_in, label_of, meets, number_within, tree_path_of};
 ghost use Rattle.gl_script.specs.Left.{AreNames, ArePieces, IsEnd, IsShort, Reads, left_in, misread, pin_word_of};
 ghost use Rattle.gl_script.specs.Said.{chip_of, irq_of};
 
 use crate::faults::{bytes_read, names_fault, spot};
 use crate::forms::{
-    PinWord, chip_of, chip_word, file_name, irq_of, label, meets, number_within, pin_word_of,
+    PinWord, chip_of, chip_word, file_name, irq_of, label_in, meets, number_within, pin_word_of,
     tree_path,
 };
 use crate::refusal::{RefusalKind, Spot};
 use crate::table::Form;
+use crate::version::Version;
 use gl_base::{Found, IrqDo, Name, Path, command_number, next_word};
 
 /// What is left of a statement's line.
@@ -99,14 +100,14 @@ impl<'a> Cursor<'a> {
         }
     }
 
-    /// A label or a value.
-    pub fn label(&mut self) -> Result<Name, Spot>
+    /// A label or a value of a session of this version.
+    pub fn label(&mut self, version: Version) -> Result<Name, Spot>
         requires { IsShort self.old }
-        ensures read { Reads Form.Label label_of (left_in self.old) (left_in self.new) result }
+        ensures read { Reads (Form.Label version) label_of (left_in self.old) (left_in self.new) result }
         ensures short { OnOk result (IsShort self.new) }
     {
-        match self.of_form(Form::Label) {
-            Ok(word) => Ok(label(word)),
+        match self.next() {
+            Ok(found) => or_misread(found.at, label_in(version, found.word)),
             Err(fault) => Err(fault),
         }
     }

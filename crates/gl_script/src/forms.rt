@@ -4,11 +4,13 @@ ghost use Rattle.std.specs.List.{list_all};
 ghost use Rattle.std.specs.Str.{bytes_eq};
 ghost use Rattle.gl_base.specs.Label.{is_label_byte};
 ghost use Rattle.gl_base.specs.Path.{path_of};
-ghost use Rattle.gl_script.specs.Forms.{meets, is_one_of, is_of, is_path_byte, is_there, within, number_within, held_tools, file_name_of, label_of, tree_path_of};
+ghost use Rattle.gl_script.specs.Forms.{meets, is_one_of, is_of, is_path_byte, is_there, within, number_within, held_tools, file_name_of, has_any_names, label_in, tree_path_of};
 ghost use Rattle.gl_script.specs.Left.{pin_word_of};
 ghost use Rattle.gl_script.specs.Said.{chip_of, irq_of};
 
+use crate::escaped::escaped_name;
 use crate::table::Form;
+use crate::version::Version;
 use gl_base::{IrqDo, Name, Path, are_label_bytes, chip_number, command_number, read_decimal};
 
 /// The greatest number of a chip that a word may have.
@@ -31,7 +33,7 @@ pub fn meets(form: Form, word: &[u8]) -> bool
 {
     match form {
         Form::FileName => is_label(word, 15),
-        Form::Label => is_label(word, 31),
+        Form::Label(version) => label_in(version, word).is_some(),
         Form::Path => is_path(word),
         Form::Number { low, high } => number_within(low, high, word).is_some(),
         Form::Chip => within(0, CHIP_MAX, chip_number(word)).is_some(),
@@ -53,13 +55,28 @@ pub fn file_name(word: &[u8]) -> Name
     Name::filled(word)
 }
 
-/// A label or a value, by its word.
+/// The label or the value that a word says in a session of this version, if it says one.
 #[tactic(auto, using(crate::proofs::TypedWords::label_fits))]
-pub fn label(word: &[u8]) -> Name
-    requires { meets Form.Label word.now ≡ true }
-    ensures { label_of word.now ≡ Some result }
+pub fn label_in(version: Version, word: &[u8]) -> Option<Name>
+    ensures { result ≡ label_in version word.now }
 {
-    Name::filled(word)
+    if is_label(word, 31) {
+        return Some(Name::filled(word));
+    }
+    if has_any_names(version) {
+        return escaped_name(word);
+    }
+    None
+}
+
+/// Whether labels and values may have any bytes but 0 in a session of this version.
+fn has_any_names(version: Version) -> bool
+    ensures { result ≡ has_any_names version }
+{
+    match version {
+        Version::One | Version::Two => false,
+        Version::Three => true,
+    }
 }
 
 /// A path of the tree, by its word.

@@ -84,7 +84,7 @@ pub fn kind_of(word: &[u8]) -> Option<SectionKind>
     None
 }
 
-/// The version that a line says, if it is `session 1` or `session 2`.
+/// The version that a line says, if it is `session 1`, `session 2` or `session 3`.
 pub fn version_of(first: &Found<'_>) -> Option<Version>
     requires { first.now.rest_at + length first.now.rest.now + 1 < 2 ^ 64 }
     ensures { result ≡ version_of (span first.now.at first.now.word.now ∷ words_at first.now.rest_at first.now.rest.now) }
@@ -107,6 +107,9 @@ fn version_said(word: &[u8]) -> Option<Version>
     }
     if is_text(word, b"2") {
         return Some(Version::Two);
+    }
+    if is_text(word, b"3") {
+        return Some(Version::Three);
     }
     None
 }

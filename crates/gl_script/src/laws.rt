@@ -50,7 +50,7 @@ pub fn statements_have_their_words()
     ensures { StatementsHaveTheirWords }
 {}
 
-/// Words say something exactly where they have no fault as a statement, in a session of either version; and what they say is what they
+/// Words say something exactly where they have no fault as a statement, in a session of any version; and what they say is what they
 /// spell: no word is read as a default. The words of a statement that stand for themselves are there, and of their forms.
 pub fn statements_are_said()
     ensures faultless { StatementsAreSaid }

@@ -3,6 +3,7 @@
 
 mod cost;
 mod cursor;
+mod escaped;
 mod faults;
 mod feed;
 mod forms;

@@ -239,7 +239,7 @@ impl<'a> Reading<'a> {
         match &mut self.current {
             Some(section) => {
                 let keyword = keyword_in(version, first.word);
-                match statement_said(keyword, first) {
+                match statement_said(version, keyword, first) {
                     Ok(said) => push_statement(&mut section.statements, at, line, &said),
                     Err(fault) => Err(Stop::Fault(fault)),
                 }

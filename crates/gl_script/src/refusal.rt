@@ -8,7 +8,7 @@ pub enum RefusalKind {
     TooLong,
     /// A byte isn't printable.
     Byte,
-    /// The first line that counts is neither `session 1` nor `session 2`.
+    /// The first line that counts is none of `session 1`, `session 2` and `session 3`.
     Header,
     /// A section stands out of order, or a statement before the first section.
     Section,

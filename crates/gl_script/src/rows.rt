@@ -3,7 +3,7 @@
 
 ghost use Rattle.std.specs.Prelude.{◌≡◌, ◌+◌, ◌<◌, ◌^◌, [], ◌∷◌, Some, length};
 ghost use Rattle.gl_base.specs.Words.{span, text_at, words_at};
-ghost use Rattle.gl_script.specs.Left.{IsRead, IsShort, IsStated, Says, left_in};
+ghost use Rattle.gl_script.specs.Left.{IsRead, IsReadIn, IsShort, IsStated, Says, left_in};
 ghost use Rattle.gl_script.specs.Said.{chip_of, hold_of, pin_said, range_of, release_of, small_of};
 ghost use Rattle.gl_script.specs.Table.{only};
 
@@ -14,37 +14,42 @@ use crate::limits::JOINED_MAX;
 use crate::refusal::{RefusalKind, Spot};
 use crate::said::Said;
 use crate::table::{Form, Keyword};
+use crate::version::Version;
 use gl_base::command::GET_LINE;
 use gl_base::{Found, LINES_MAX, PinDo};
 
-/// What a statement says that begins with a word, or its first fault.
-pub fn statement_said(keyword: Option<Keyword>, first: &Found<'_>) -> Result<Said, Spot>
+/// What a statement says that begins with a word, in a session of this version, or its first fault.
+pub fn statement_said(
+    version: Version,
+    keyword: Option<Keyword>,
+    first: &Found<'_>,
+) -> Result<Said, Spot>
     requires word { first.now.at + length first.now.word.now < 2 ^ 32 }
     requires rest { first.now.rest_at + length first.now.rest.now + 1 < 2 ^ 32 }
-    ensures { IsStated keyword (span first.now.at first.now.word.now) (words_at first.now.rest_at first.now.rest.now) result }
+    ensures { IsStated version keyword (span first.now.at first.now.word.now) (words_at first.now.rest_at first.now.rest.now) result }
 {
     match keyword {
-        Some(keyword) => words_said(keyword, &mut Cursor::behind(first)),
+        Some(keyword) => words_said(version, keyword, &mut Cursor::behind(first)),
         None => Err(spot(first.at, RefusalKind::Statement)),
     }
 }
 
 /// What the words behind that of a statement say.
-fn words_said(keyword: Keyword, words: &mut Cursor<'_>) -> Result<Said, Spot>
+fn words_said(version: Version, keyword: Keyword, words: &mut Cursor<'_>) -> Result<Said, Spot>
     requires { IsShort words.old }
-    ensures { IsRead keyword (left_in words.old) result }
+    ensures { IsReadIn version keyword (left_in words.old) result }
 {
     match keyword {
-        Keyword::Probe => probe_said(words),
+        Keyword::Probe => probe_said(version, words),
         Keyword::Unplug => unplug_said(words),
         Keyword::MakeDir => make_dir_said(words),
         Keyword::RemoveDir => remove_dir_said(words),
-        Keyword::Write => write_said(words),
+        Keyword::Write => write_said(version, words),
         Keyword::Read => read_said(words),
         Keyword::Clock => clock_said(words),
         Keyword::Fault => fault_said(words),
         Keyword::Accept => accept_said(words),
-        Keyword::Aggregate => aggregate_said(words),
+        Keyword::Aggregate => aggregate_said(version, words),
         Keyword::Pin => pin_said(words),
         Keyword::Irq => irq_said(words),
         Keyword::Open => open_said(words),
@@ -106,11 +111,11 @@ fn of_name(said: Said, words: &mut Cursor<'_>) -> Result<Said, Spot>
 }
 
 /// `probe LABEL N`.
-fn probe_said(words: &mut Cursor<'_>) -> Result<Said, Spot>
+fn probe_said(version: Version, words: &mut Cursor<'_>) -> Result<Said, Spot>
     requires { IsShort words.old }
-    ensures { IsRead Keyword.Probe (left_in words.old) result }
+    ensures { IsReadIn version Keyword.Probe (left_in words.old) result }
 {
-    let label = words.label()?;
+    let label = words.label(version)?;
     let lines = words.small(1, LINES_MAX)?;
     words.no_more()?;
     Ok(Said::Probe { label, lines })
@@ -127,12 +132,12 @@ fn unplug_said(words: &mut Cursor<'_>) -> Result<Said, Spot>
 }
 
 /// `write PATH VALUE`.
-fn write_said(words: &mut Cursor<'_>) -> Result<Said, Spot>
+fn write_said(version: Version, words: &mut Cursor<'_>) -> Result<Said, Spot>
     requires { IsShort words.old }
-    ensures { IsRead Keyword.Write (left_in words.old) result }
+    ensures { IsReadIn version Keyword.Write (left_in words.old) result }
 {
     let path = words.path()?;
-    let value = words.label()?;
+    let value = words.label(version)?;
     words.no_more()?;
     Ok(Said::Write { path, value })
 }
@@ -169,11 +174,11 @@ fn accept_said(words: &mut Cursor<'_>) -> Result<Said, Spot>
 }
 
 /// `aggregate LABEL NAME [NAME [NAME [NAME]]]`.
-fn aggregate_said(words: &mut Cursor<'_>) -> Result<Said, Spot>
+fn aggregate_said(version: Version, words: &mut Cursor<'_>) -> Result<Said, Spot>
     requires { IsShort words.old }
-    ensures { IsRead Keyword.Aggregate (left_in words.old) result }
+    ensures { IsReadIn version Keyword.Aggregate (left_in words.old) result }
 {
-    let label = words.label()?;
+    let label = words.label(version)?;
     words.text(Form::FileName)?;
     words.file_names(JOINED_MAX - 1)?;
     Ok(Said::Aggregate { label })

@@ -56,7 +56,7 @@ pub enum Said {
         /// Which call of the driver fails, from now on, counted from 1.
         nth: u32,
     },
-    /// `accept N`, of `session 2` alone.
+    /// `accept N`, from `session 2` on.
     Accept {
         /// The bits that the driver accepts.
         bits: u64,

@@ -18,7 +18,7 @@ use gl_base::{Found, next_word};
 /// How far such a session has come.
 #[derive(Clone, Copy, PartialEq, Eq)]
 pub enum Stage {
-    /// `session 1` or `session 2` is still to come.
+    /// The header is still to come: `session 1`, `session 2` or `session 3`.
     Opening,
     /// `setup` is still to come, in a session of this version.
     Headed(Version),
@@ -31,7 +31,7 @@ pub enum Stage {
 pub enum LineKind {
     /// It is passed over.
     Passed,
-    /// `session 1` or `session 2`.
+    /// The header, which says a version.
     Header(Version),
     /// `setup`.
     Setup,
@@ -138,7 +138,7 @@ fn open_kind(version: Version, first: &Found<'_>) -> Result<LineKind, Spot>
     match kind_of(first.word) {
         Some(_) => Err(spot(first.at, RefusalKind::Section)),
         None => {
-            match statement_said(keyword_in(version, first.word), first) {
+            match statement_said(version, keyword_in(version, first.word), first) {
                 Ok(said) => Ok(LineKind::Statement(said)),
                 Err(fault) => Err(fault),
             }

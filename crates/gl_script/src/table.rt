@@ -11,8 +11,9 @@ use crate::version::Version;
 pub enum Form {
     /// NAME: 1 to 15 letters, digits, `_`, `-`, `.`.
     FileName,
-    /// LABEL and VALUE: 1 to 31 of the same.
-    Label,
+    /// LABEL and VALUE: 1 to 31 of the same; from `session 3` on also `\` and 1 to 31 pairs of hexadecimal digits, none of them
+    /// `00`.
+    Label(Version),
     /// PATH: 1 to 127 of the same and `/`.
     Path,
     /// N: 1 to 20 digits, whose value is from `low` to `high`.
@@ -52,7 +53,7 @@ pub enum Keyword {
     Clock,
     /// `fault`.
     Fault,
-    /// `accept`, of `session 2` alone.
+    /// `accept`, from `session 2` on.
     Accept,
     /// `aggregate`.
     Aggregate,
@@ -160,7 +161,7 @@ impl Keyword {
     }
 }
 
-/// The statement that a word begins in a session of either version, if it begins one.
+/// The statement that a word begins in a session of any version, if it begins one.
 pub fn keyword_of(word: &[u8]) -> Option<Keyword>
     ensures { result ≡ keyword_of word.now }
 {
@@ -194,7 +195,7 @@ fn has_accept(version: Version) -> bool
 {
     match version {
         Version::One => false,
-        Version::Two => true,
+        Version::Two | Version::Three => true,
     }
 }
 

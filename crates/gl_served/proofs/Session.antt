@@ -78,7 +78,7 @@ headed_fits version (Some After) first words kind e = cc
 
 open_fits : (version : Version) (o : Option SectionKind) (first : Span) (words : List Span) (kind : Kind) → open_kind version o first words ≡ Ok kind → Fits (Open version) kind
 open_fits version None first words kind e =
-    let same : Statement ≡ kind = same_kind Statement kind (Ok Statement) (Ok kind) refl refl (unless_ok (statement_fault (keyword_in version first.text) first words) (Ok Statement) kind e).1 in
+    let same : Statement ≡ kind = same_kind Statement kind (Ok Statement) (Ok kind) refl refl (unless_ok (statement_fault version (keyword_in version first.text) first words) (Ok Statement) kind e).1 in
     subst (λ (k : Kind). Fits (Open version) k) same tt
 open_fits version (Some section) first words kind e = cc
 

@@ -44,7 +44,7 @@ use Rattle.gl_talk.specs.Paths.{line_file, live_device}
 use Rattle.gl_talk.specs.Actions.{aggregates, closes, files_named, ioctls, irqs, is_out_of_place, lives, old_ioctls, only_in_setup, opens, pins, action_of, polls, pulls, reads, reads_file, takes_name, unplugs, writes, writes_tree}
 use Rattle.gl_talk.specs.Talk.{acts, closes_all, does, does_by, keeps_monitor, keeps_set, replied_by, runs, quits, says, slot_behind, starts, starts_said, starts_tool, steps, stops}
 use Rattle.gl_talk.specs.ToolWords.{kind_of, word_texts}
-use Rattle.gl_talk.specs.Words.{behind_three, behind_two, bytes_said, live_word, name_word, or_else, place_word, pull_word, turns_word}
+use Rattle.gl_talk.specs.Words.{behind_three, behind_two, bytes_said, label_word, live_word, or_else, place_word, pull_word, turns_word}
 use Rattle.gl_talk.proofs.ToolParts.{detect_said, get_said, info_said, set_said, started_cost, started_fits}
 use Rattle.gl_values.specs.Client.{held_program, tool_program}
 use Rattle.gl_values.specs.Costs.{held_cost, tool_cost}
@@ -233,12 +233,12 @@ action_cost Probe files slot first words = le_refl 1
 action_cost Unplug files slot first words = unplugs_cost (place_word (text_at 0 words))
 action_cost MakeDir files slot first words = le_refl 1
 action_cost RemoveDir files slot first words = le_refl 1
-action_cost Write files slot first words = writes_cost (line_file (text_at 0 words)) (text_at 0 words) (text_at 1 words)
+action_cost Write files slot first words = writes_cost (line_file (text_at 0 words)) (text_at 0 words) (label_word (text_at 1 words))
 action_cost Read files slot first words = reads_cost (line_file (text_at 0 words)) (text_at 0 words)
 action_cost Clock files slot first words = le_refl 1
 action_cost Fault files slot first words = le_refl 0
 action_cost Accept files slot first words = le_refl 0
-action_cost Aggregate files slot first words = aggregates_cost (name_word (text_at 0 words)) (files_named JOINED_MAX (behind_two (first ∷ words)) files)
+action_cost Aggregate files slot first words = aggregates_cost (label_word (text_at 0 words)) (files_named JOINED_MAX (behind_two (first ∷ words)) files)
 action_cost Pin files slot first words = pins_cost (place_word (text_at 1 words)) (first ∷ words)
 action_cost Irq files slot first words = irqs_cost (place_word (text_at 1 words)) (first ∷ words)
 action_cost Open files slot first words = opens_cost (is_some (file_of (text_at 0 words) files)) slot (text_at 1 words)

@@ -37,7 +37,7 @@ use Rattle.gl_talk.specs.Paths.{line_file, live_device}
 use Rattle.gl_talk.specs.Actions.{action_here, aggregates, asks_for, closes, files_named, command_reply, ioctls, ioctls_bytes, irqs, is_out_of_place, lives, old_ioctls, opens, pins, action_of, polls, pulls, reads, reads_file, slots_of, takes_name, unplugs, writes, writes_tree}
 use Rattle.gl_talk.specs.Talk.{acts, does_by, file, keeps_monitor, keeps_set, replied_by, runs, starts, starts_said, starts_tool, steps, stops}
 use Rattle.gl_talk.specs.ToolWords.{word_texts}
-use Rattle.gl_talk.specs.Words.{behind_two, bytes_said, behind_three, command_word, live_word, made_name, name_word, place_word, pull_word, turns_word}
+use Rattle.gl_talk.specs.Words.{behind_two, bytes_said, behind_three, command_word, label_word, live_word, made_name, name_word, place_word, pull_word, turns_word}
 use Rattle.gl_values.specs.Client.{held_program, tool_program}
 use Rattle.gl_values.specs.Set.{Held}
 use Rattle.gl_values.specs.Set.{stops as stops_holding}
@@ -397,12 +397,12 @@ module _ (s k : ℕ) where
     action_at (Some Unplug) = unplugs_at (place_word (text_at 1 words))
     action_at (Some MakeDir) = (tt, λ got. refl)
     action_at (Some RemoveDir) = (tt, λ got. refl)
-    action_at (Some Write) = writes_at (line_file (text_at 1 words)) (text_at 1 words) (text_at 2 words)
+    action_at (Some Write) = writes_at (line_file (text_at 1 words)) (text_at 1 words) (label_word (text_at 2 words))
     action_at (Some Read) = reads_at (line_file (text_at 1 words)) (text_at 1 words)
     action_at (Some Clock) = (tt, λ got. refl)
     action_at (Some Fault) = (tt, λ got. refl)
     action_at (Some Accept) = (tt, λ got. refl)
-    action_at (Some Aggregate) = aggregates_at (name_word (text_at 1 words)) (files_named JOINED_MAX (behind_two words) names.files) (few_named JOINED_MAX (behind_two words)) (named_slots JOINED_MAX (behind_two words))
+    action_at (Some Aggregate) = aggregates_at (label_word (text_at 1 words)) (files_named JOINED_MAX (behind_two words) names.files) (few_named JOINED_MAX (behind_two words)) (named_slots JOINED_MAX (behind_two words))
     action_at (Some Pin) = pins_at (place_word (text_at 2 words))
     action_at (Some Irq) = irqs_at (place_word (text_at 2 words))
     action_at (Some Open) = opens_at (is_some (file_of (text_at 1 words) names.files)) (text_at 2 words)

@@ -20,7 +20,7 @@ use Rattle.gl_base.specs.declared.operation.Got.{Got}
 use Rattle.gl_base.specs.declared.pin.PinDo.{PinDo}
 use Rattle.gl_base.specs.declared.pin.PinDo.TheVariants.{Range, Hold, Release}
 use Rattle.gl_client.specs.Program.{ask, done}
-use Rattle.gl_script.specs.Forms.{file_name_of, label_of, number_within, tree_path_of, within}
+use Rattle.gl_script.specs.Forms.{file_name_of, number_within, tree_path_of, within}
 use Rattle.gl_script.specs.Pieces.{made_by, named}
 use Rattle.gl_script.specs.Said.{ArePins, AreValues, Spells, chip_of, irq_name, keyword_said, pin_name, small_of}
 use Rattle.gl_script.specs.Table.{keyword_of}
@@ -54,9 +54,9 @@ use Rattle.gl_talk.specs.SaidActions.{StatementsAskWhatTheySay, action_said, act
 use Rattle.gl_talk.specs.SaidTalk.{acts_said, file_said, replied_said_by, told_said}
 use Rattle.gl_talk.specs.Talk.{acts, does_by, replied_by, told}
 use Rattle.gl_talk.specs.ToolWords.{kind_of, name_said, turns_said}
-use Rattle.gl_talk.specs.Words.{behind_two, behind_three, bytes_said, command_word, irq_word, live_word, made_name, name_behind_as, name_word, number_word, or_else, path_word, place_of, place_word, pull_word, turns_word}
+use Rattle.gl_talk.specs.Words.{behind_two, behind_three, bytes_said, command_word, irq_word, label_word, live_word, made_name, name_behind_as, name_word, number_word, or_else, path_word, place_of, place_word, pull_word, turns_word}
 use Rattle.gl_talk.proofs.StatementCosts.{sent_cmd}
-use Rattle.gl_talk.proofs.WordReadings.{chip_word, file_name_is, file_name_word, label_is, label_word, live_device_is_read, tree_path_is, tree_path_word}
+use Rattle.gl_talk.proofs.WordReadings.{chip_word, file_name_is, file_name_word, label_says, live_device_is_read, tree_path_is, tree_path_word}
 
 -- a number that is read is the word's
 number_is : (low high : ℕ) (word : List ℕ) (n : ℕ) → number_within low high word ≡ Some n → number_word low high word ≡ n
@@ -110,12 +110,9 @@ pin_itself (Release pin) words is = ap (λ (n : ℕ). Release n) (small_is (text
 pin_is : (what : PinDo) (words : List Span) → pin_name what ≡ text_at 1 words → ArePins what words → pin_said words ≡ what
 pin_is what words is each = subst (λ (w : List ℕ). pin_by w words ≡ what) is (pin_itself what words each)
 
--- so is a path, and a value
+-- so is a path
 path_is : (word path : List ℕ) → tree_path_of word ≡ Some path → path_word path ≡ path
 path_is word path e = ap (λ (w : List ℕ). path_word w) (sym (tree_path_is word path e)) ∙ tree_path_word word path e
-
-value_is : (word value : List ℕ) → label_of word ≡ Some value → name_word value ≡ value
-value_is word value e = ap (λ (w : List ℕ). name_word w) (sym (label_is word value e)) ∙ label_word word value e
 
 -- the name of the file that a command makes
 abbrev IsMade : Bool → List ℕ → Option (List ℕ) → Type 0
@@ -235,14 +232,13 @@ module _ (names : Names) (slot : ℕ) (words : List Span) where
   lives_are device None is = refl
   lives_are device (Some up) is = ap (λ (d : List ℕ). doing (Ask (DoLive d up) Silent)) is ∙ silent (DoLive device up)
 
-  tree_are : (o : Option (List ℕ)) (path value : List ℕ) → live_device path ≡ o → path_word path ≡ path → name_word value ≡ value → Same (writes_tree o path value) (writes_tree_said o path value)
-  tree_are None path value e p v =
-      ap (λ (t : List ℕ). doing (Ask (DoWrite t (name_word value)) Silent)) p ∙ ap (λ (t : List ℕ). doing (Ask (DoWrite path t) Silent)) v ∙ silent (DoWrite path value)
-  tree_are (Some device) path value e p v = lives_are device (live_word value) (live_device_is_read path device e)
+  tree_are : (o : Option (List ℕ)) (path value : List ℕ) → live_device path ≡ o → path_word path ≡ path → Same (writes_tree o path value) (writes_tree_said o path value)
+  tree_are None path value e p = ap (λ (t : List ℕ). doing (Ask (DoWrite t value) Silent)) p ∙ silent (DoWrite path value)
+  tree_are (Some device) path value e p = lives_are device (live_word value) (live_device_is_read path device e)
 
-  writes_are : (found : Option LineFile) (path value : List ℕ) → path_word path ≡ path → name_word value ≡ value → Same (writes found path value) (writes_said found path value)
-  writes_are (Some found) path value p v = line_are found value
-  writes_are None path value p v = tree_are (live_device path) path value refl p v
+  writes_are : (found : Option LineFile) (path value : List ℕ) → path_word path ≡ path → Same (writes found path value) (writes_said found path value)
+  writes_are (Some found) path value p = line_are found value
+  writes_are None path value p = tree_are (live_device path) path value refl p
 
   reads_are : (found : Option LineFile) (path : List ℕ) → path_word path ≡ path → Same (reads found path) (reads_said found path)
   reads_are (Some found) path p = asks (DoLevel found.chip found.offset found.is_pull) (Level found.is_pull) (SaidLevel found.is_pull) (λ got. refl)
@@ -366,16 +362,16 @@ module _ (names : Names) (slot : ℕ) (words : List Span) where
   -- each statement, one after the other
   row_is : (said : Said) (files : List File) → AreValues said words → Same (action_of (Some (keyword_said said)) files slot words) (action_said said files slot words)
   row_is (Probe label lines) files is =
-      ap (λ (n : ℕ). doing (Ask (DoProbe (name_word (text_at 1 words)) n) Silent)) (number_is 1 LINES_MAX (text_at 2 words) lines is.1)
-      ∙ ap (λ (name : List ℕ). doing (Ask (DoProbe name lines) Silent)) (label_word (text_at 1 words) label is.0)
+      ap (λ (n : ℕ). doing (Ask (DoProbe (label_word (text_at 1 words)) n) Silent)) (number_is 1 LINES_MAX (text_at 2 words) lines is.1)
+      ∙ ap (λ (name : List ℕ). doing (Ask (DoProbe name lines) Silent)) (label_says (text_at 1 words) label is.0)
       ∙ silent (DoProbe label lines)
   row_is (Unplug chip) files is = ap (λ (n : ℕ). doing (unplugs n)) (place_is (text_at 1 words) chip is) ∙ silent (DoUnplug chip)
   row_is (MakeDir path) files is = ap (λ (p : List ℕ). doing (Ask (DoMakeDir p) Silent)) (tree_path_word (text_at 1 words) path is) ∙ silent (DoMakeDir path)
   row_is (RemoveDir path) files is = ap (λ (p : List ℕ). doing (Ask (DoRemoveDir p) Silent)) (tree_path_word (text_at 1 words) path is) ∙ silent (DoRemoveDir path)
   row_is (Write path value) files is =
-      ap (λ (w : List ℕ). doing (writes (line_file w) w (text_at 2 words))) (tree_path_is (text_at 1 words) path is.0)
-      ∙ ap (λ (w : List ℕ). doing (writes (line_file path) path w)) (label_is (text_at 2 words) value is.1)
-      ∙ writes_are (line_file path) path value (path_is (text_at 1 words) path is.0) (value_is (text_at 2 words) value is.1)
+      ap (λ (w : List ℕ). doing (writes (line_file w) w (label_word (text_at 2 words)))) (tree_path_is (text_at 1 words) path is.0)
+      ∙ ap (λ (w : List ℕ). doing (writes (line_file path) path w)) (label_says (text_at 2 words) value is.1)
+      ∙ writes_are (line_file path) path value (path_is (text_at 1 words) path is.0)
   row_is (Read path) files is =
       ap (λ (w : List ℕ). doing (reads (line_file w) w)) (tree_path_is (text_at 1 words) path is) ∙ reads_are (line_file path) path (path_is (text_at 1 words) path is)
   row_is (Clock mono real) files is =
@@ -386,7 +382,7 @@ module _ (names : Names) (slot : ℕ) (words : List Span) where
   row_is (Accept bits) files is = ap (λ (n : ℕ). doing (Ask (DoAccept n) Silent)) (number_is 0 0xFFFFFFFFFFFFFFFF (text_at 1 words) bits is) ∙ silent (DoAccept bits)
   row_is (Aggregate label) files is =
       let named = files_named JOINED_MAX (behind_two words) files in
-      ap (λ (name : List ℕ). doing (aggregates name named)) (label_word (text_at 1 words) label is) ∙ aggregates_are label named
+      ap (λ (name : List ℕ). doing (aggregates name named)) (label_says (text_at 1 words) label is) ∙ aggregates_are label named
   row_is (Pin chip what) files is =
       ap (λ (n : ℕ). doing (Ask (DoPin n (pin_said words)) Silent)) (place_is (text_at 2 words) chip is.1)
       ∙ ap (λ (w : PinDo). doing (Ask (DoPin chip w) Silent)) (pin_is what words is.0 is.2)

@@ -1,7 +1,8 @@
 -- Words that are of their forms are read as what they are.
-use Rattle.std.proofs.Common.{◌≡◌, ℕ, Bool, true, false, not, cond, ◌&&◌, ◌||◌, List, [], ◌∷◌, length, Option, None, Some, refl, sym, ◌∙◌, subst, arith}
-use Rattle.std.specs.Prelude.{IsTrue, if◌then◌else◌, nat_eq, nat_le, codes, option_map}
+use Rattle.std.proofs.Common.{◌≡◌, ℕ, Bool, true, false, not, cond, ◌&&◌, ◌||◌, List, [], ◌∷◌, length, Option, None, Some, refl, sym, ◌∙◌, ap, subst, arith}
+use Rattle.std.specs.Prelude.{IsTrue, if◌then◌else◌, is_some, nat_eq, nat_le, codes, option_map}
 use Rattle.std.specs.List.{list_all, starts_with}
+use Rattle.std.specs.Option.{option_or}
 use Rattle.std.specs.Str.{bytes_eq}
 use Rattle.std.proofs.lemmas.Bool.Decides.{nat_tests}
 use Rattle.std.proofs.lemmas.Slice.Eq.{bytes_eq-Decides}
@@ -11,11 +12,12 @@ use Rattle.gl_base.specs.Label.{is_label_byte}
 use Rattle.gl_base.specs.Name.{is_name, is_nonzero}
 use Rattle.gl_base.specs.Path.{is_path, path_of}
 use Rattle.gl_base.specs.Words.{is_nonempty, pieces}
-use Rattle.gl_script.proofs.TypedWords.{and_true, both, file_name_fits, label_bytes, label_fits}
-use Rattle.gl_script.specs.Forms.{file_name_of, is_of, is_path_byte, label_of, tree_path_of}
+use Rattle.gl_script.proofs.TypedWords.{and_true, both, file_name_fits, label_bytes, label_is_name}
+use Rattle.gl_script.proofs.Widening.{label_widens}
+use Rattle.gl_script.specs.Forms.{escaped_name, file_name_of, is_of, is_path_byte, label_in, label_of, tree_path_of}
 use Rattle.gl_talk.specs.Paths.{is_device, live_device, live_of}
-use Rattle.gl_talk.specs.Readings.{CanStart, HeldToolsAreRead, LabelsAreRead, NamesAreRead, NoBytesAreRead, PathsAreRead, PiecesAreRead, WordsAreRead}
-use Rattle.gl_talk.specs.Words.{name_word, path_word}
+use Rattle.gl_talk.specs.Readings.{CanStart, HeldToolsAreRead, LabelsAreRead, NamesAreRead, NoBytesAreRead, PathsAreRead, PiecesAreRead, PlainLabelsAreRead, WordsAreRead}
+use Rattle.gl_talk.specs.Words.{label_word, name_word, path_word}
 
 some_text : (a b : List ℕ) → Some a ≡ Some b → a ≡ b
 some_text a b e = cc
@@ -42,13 +44,8 @@ file_name_word word name e =
     let is = text_by (is_of is_label_byte 15 word) word name e in
     itself (is_name word) word (file_name_fits word is.0) ∙ is.1
 
-pub label_word : (word name : List ℕ) → label_of word ≡ Some name → name_word word ≡ name
-label_word word name e =
-    let is = text_by (is_of is_label_byte 31 word) word name e in
-    itself (is_name word) word (label_fits word is.0) ∙ is.1
-
-pub label_is : (word name : List ℕ) → label_of word ≡ Some name → word ≡ name
-label_is word name e = (text_by (is_of is_label_byte 31 word) word name e).1
+pub label_says : (word name : List ℕ) → label_of word ≡ Some name → label_word word ≡ name
+label_says word name e = ap (λ (o : Option (List ℕ)). bytes_or_none o) e
 
 pub tree_path_is : (word path : List ℕ) → tree_path_of word ≡ Some path → word ≡ path
 tree_path_is word path e = (text_by (is_of is_path_byte 127 word) word path e).1
@@ -64,7 +61,16 @@ chip_word word path e =
     itself (is_path word) word is.0 ∙ is.1
 
 pub labels_are_read : LabelsAreRead
-labels_are_read word e = itself (is_name word) word (label_fits word e)
+labels_are_read version word name e = (label_says word name (label_widens version word name e), label_is_name version word name e)
+
+-- a word that is plain says itself
+plain_by : (b : Bool) (word : List ℕ) (more : Option (List ℕ)) → is_some (option_or (if b then Some word else None) None) ≡ true → bytes_or_none (option_or (if b then Some word else None) more) ≡ word
+plain_by true word more e = refl
+plain_by false word more e = cc
+
+pub plain_labels_are_read : PlainLabelsAreRead
+plain_labels_are_read word =
+    (λ e. plain_by (is_of is_label_byte 31 word) word (escaped_name word) e, λ e. plain_by (is_of is_label_byte 31 word) word (escaped_name word) e)
 
 pub names_are_read : NamesAreRead
 names_are_read word e = itself (is_name word) word (file_name_fits word e)

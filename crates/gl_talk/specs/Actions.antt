@@ -23,7 +23,7 @@ use Rattle.gl_talk.specs.Formats.{Action, Nothing, Refuse, Ask, ResultFormat, Si
 use Rattle.gl_talk.specs.Old.{old_command_word, old_reply, sent_new, sent_old, takes_old_name}
 use Rattle.gl_talk.specs.Open.{File, file_of, is_chip, is_chip_file, is_old_event, is_request}
 use Rattle.gl_talk.specs.Paths.{line_file, live_device}
-use Rattle.gl_talk.specs.Words.{name_word, path_word, number_word, place_word, command_word, irq_word, pull_word, live_word, behind_two, behind_three, bytes_said, made_name}
+use Rattle.gl_talk.specs.Words.{label_word, name_word, path_word, number_word, place_word, command_word, irq_word, pull_word, live_word, behind_two, behind_three, bytes_said, made_name}
 
 -- a number of 32 bits
 abbrev pub small_word : List ℕ → ℕ
@@ -31,7 +31,7 @@ small_word word = number_word 0 0xFFFFFFFF word
 
 -- `probe LABEL N`
 abbrev pub probes : List ℕ → List ℕ → Action
-probes label lines = Ask (DoProbe (name_word label) (number_word 1 LINES_MAX lines)) Silent
+probes label lines = Ask (DoProbe (label_word label) (number_word 1 LINES_MAX lines)) Silent
 
 -- `clock N N`
 abbrev pub clocks : List ℕ → List ℕ → Action
@@ -98,7 +98,7 @@ lives device None = Refuse Inval
 lives device (Some up) = Ask (DoLive (name_word device) up) Silent
 
 abbrev pub writes_tree : Option (List ℕ) → List ℕ → List ℕ → Action
-writes_tree None path value = Ask (DoWrite (path_word path) (name_word value)) Silent
+writes_tree None path value = Ask (DoWrite (path_word path) value) Silent
 writes_tree (Some device) path value = lives device (live_word value)
 
 abbrev pub writes : Option LineFile → List ℕ → List ℕ → Action
@@ -173,12 +173,12 @@ action_of (Some Probe) files slot words = probes (text_at 1 words) (text_at 2 wo
 action_of (Some Unplug) files slot words = unplugs (place_word (text_at 1 words))
 action_of (Some MakeDir) files slot words = Ask (DoMakeDir (path_word (text_at 1 words))) Silent
 action_of (Some RemoveDir) files slot words = Ask (DoRemoveDir (path_word (text_at 1 words))) Silent
-action_of (Some Write) files slot words = writes (line_file (text_at 1 words)) (text_at 1 words) (text_at 2 words)
+action_of (Some Write) files slot words = writes (line_file (text_at 1 words)) (text_at 1 words) (label_word (text_at 2 words))
 action_of (Some Read) files slot words = reads (line_file (text_at 1 words)) (text_at 1 words)
 action_of (Some Clock) files slot words = clocks (text_at 1 words) (text_at 2 words)
 action_of (Some Fault) files slot words = faults (text_at 1 words)
 action_of (Some Accept) files slot words = accepts (text_at 1 words)
-action_of (Some Aggregate) files slot words = aggregates (name_word (text_at 1 words)) (files_named JOINED_MAX (behind_two words) files)
+action_of (Some Aggregate) files slot words = aggregates (label_word (text_at 1 words)) (files_named JOINED_MAX (behind_two words) files)
 action_of (Some Pin) files slot words = pins (place_word (text_at 2 words)) words
 action_of (Some Irq) files slot words = irqs (place_word (text_at 2 words)) words
 action_of (Some Open) files slot words = opens (is_some (file_of (text_at 1 words) files)) slot (text_at 2 words)

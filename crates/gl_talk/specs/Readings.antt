@@ -4,9 +4,12 @@ use Rattle.gl_args.specs.declared.names.ToolName.{ToolName}
 use Rattle.gl_args.specs.declared.names.ToolName.TheVariants.{Set, Watch, Notify}
 use Rattle.gl_args.specs.Names.{tool_named}
 use Rattle.gl_base.specs.BytesText.{piece_bytes, piece_of, piece_size}
-use Rattle.gl_script.specs.Forms.{meets}
+use Rattle.gl_base.specs.Name.{is_name}
+use Rattle.gl_script.specs.Forms.{label_in, meets}
 use Rattle.gl_script.specs.declared.table.Form.TheVariants.{FileName, Label, Path, Word, HeldTool}
-use Rattle.gl_talk.specs.Words.{name_word, path_word}
+use Rattle.gl_script.specs.declared.version.Version.{Version}
+use Rattle.gl_script.specs.declared.version.Version.TheVariants.{One, Two}
+use Rattle.gl_talk.specs.Words.{label_word, name_word, path_word}
 
 -- a tool can be started
 abbrev pub CanStart : Option ToolName → Type 0
@@ -15,11 +18,15 @@ CanStart (Some Watch) = Unit {0}
 CanStart (Some Notify) = Unit {0}
 CanStart _ = ⊥
 
--- a label, a path and a chip's word are read as what they are
+-- a label or a value is read as the name that its word says in a session of its version
 abbrev pub LabelsAreRead : Type 0
-LabelsAreRead = (word : List ℕ) → meets Label word ≡ true → name_word word ≡ word
+LabelsAreRead = (version : Version) (word name : List ℕ) → label_in version word ≡ Some name → (label_word word ≡ name) × (is_name name ≡ true)
 
--- so is the name of a file or a tool
+-- in `session 1` and `session 2` that is the word itself
+abbrev pub PlainLabelsAreRead : Type 0
+PlainLabelsAreRead = (word : List ℕ) → (meets (Label One) word ≡ true → label_word word ≡ word) × (meets (Label Two) word ≡ true → label_word word ≡ word)
+
+-- the name of a file or a tool, a path and a chip's word are read as what they are
 abbrev pub NamesAreRead : Type 0
 NamesAreRead = (word : List ℕ) → meets FileName word ≡ true → name_word word ≡ word
 

@@ -1,9 +1,9 @@
 -- The values of a statement's words. The words of a session are of their forms, and each is read as what it is
 -- (`StatementsAskWhatTheySay`). A definition has to say something of other words too: there a number is the least, a place the first,
--- a name and a path have no bytes, and what is done with an interrupt is that it is taken away for good. This project's choice.
+-- a name, a label and a path have no bytes, and what is done with an interrupt is that it is taken away for good. This project's choice.
 use Rattle.std.specs.Prelude.{ℕ, Bool, true, false, nat_lt, if◌then◌else◌, List, [], ◌∷◌, ◌++◌, Option, Some, None, codes}
 use Rattle.std.specs.Str.{bytes_eq}
-use Rattle.gl_base.specs.BytesText.{piece_bytes}
+use Rattle.gl_base.specs.BytesText.{bytes_or_none, piece_bytes}
 use Rattle.gl_base.specs.ChipWord.{chip_number_of}
 use Rattle.gl_base.specs.CommandWord.{command_number_of}
 use Rattle.gl_base.specs.Name.{is_name}
@@ -15,11 +15,15 @@ use Rattle.gl_base.specs.declared.limits.TheConstants.{PLACES}
 use Rattle.gl_script.specs.declared.said.Said.{Said}
 use Rattle.gl_script.specs.declared.said.Said.TheVariants.{Ioctl, Events, OldIoctl, OldEvents, Changes, Poll, Close}
 use Rattle.gl_script.specs.Cost.{or_zero}
-use Rattle.gl_script.specs.Forms.{number_within}
+use Rattle.gl_script.specs.Forms.{label_of, number_within}
 pub use Rattle.gl_script.specs.Pieces.{behind_two, behind_three, name_behind_as}
 
 abbrev pub name_word : List ℕ → List ℕ
 name_word word = if is_name word then word else []
+
+-- the label or the value that a word says
+abbrev pub label_word : List ℕ → List ℕ
+label_word word = bytes_or_none (label_of word)
 
 abbrev pub path_word : List ℕ → List ℕ
 path_word word = if is_path word then word else []

@@ -7,7 +7,7 @@ ghost use Rattle.gl_talk.specs.Numbers.{FilesCloseByNumber, SetupClosesByNumber}
 ghost use Rattle.gl_talk.specs.InParts.{StatementsComeInParts, TalksAreStatementsAndTheEnd};
 ghost use Rattle.gl_talk.specs.Printed.{StatementsPrintLines, TalksPrintLines};
 ghost use Rattle.gl_talk.specs.SaidActions.{StatementsAskWhatTheySay};
-ghost use Rattle.gl_talk.specs.Readings.{HeldToolsAreRead, LabelsAreRead, NamesAreRead, NoBytesAreRead, PathsAreRead, PiecesAreRead, WordsAreRead};
+ghost use Rattle.gl_talk.specs.Readings.{HeldToolsAreRead, LabelsAreRead, NamesAreRead, NoBytesAreRead, PathsAreRead, PiecesAreRead, PlainLabelsAreRead, WordsAreRead};
 
 /// A statement makes at most as many entries of a history as it costs. The closing of a file is
 /// counted where the file is opened.
@@ -88,6 +88,7 @@ pub fn statements_ask_what_they_say()
 /// session is read as a default. Of the other words `statements_ask_what_they_say` says so.
 pub fn words_are_read_as_they_are()
     ensures labels { LabelsAreRead }
+    ensures plain_labels { PlainLabelsAreRead }
     ensures names { NamesAreRead }
     ensures paths { PathsAreRead }
     ensures words { WordsAreRead }

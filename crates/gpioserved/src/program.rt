@@ -23,7 +23,7 @@ const HELP: &[u8] =
       --help          prints this
       --version       prints the version; `gpioserve --version` says whether this program is proved
 
-It takes no other words. The first line is `session 1` (or `session 2`), the second `setup`, and then
+It takes no other words. The first line is `session 1` (or 2, or 3), the second `setup`, and then
 come statements, each of which is carried out at once; `due` and `data NAME N` ask. Each line is
 answered by `= N` and N bytes, or, where it is refused, by `! N` and the N bytes of
 `refused LINE COLUMN KIND`.

@@ -1,8 +1,11 @@
-use Rattle.gl_talk.proofs.WordReadings.{labels_are_read, names_are_read, paths_are_read, words_are_read, held_tools_are_read, pieces_are_read, no_bytes_are_read}
+use Rattle.gl_talk.proofs.WordReadings.{labels_are_read, names_are_read, paths_are_read, plain_labels_are_read, words_are_read, held_tools_are_read, pieces_are_read, no_bytes_are_read}
 use Rattle.gl_talk.proofs.laws.words_are_read_as_they_are.Goals as goal
 
 pub returns-clause-labels : goal.returns-clause-labels
 returns-clause-labels c = labels_are_read
+
+pub returns-clause-plain_labels : goal.returns-clause-plain_labels
+returns-clause-plain_labels c = plain_labels_are_read
 
 pub returns-clause-names : goal.returns-clause-names
 returns-clause-names c = names_are_read
