@@ -206,9 +206,6 @@ def suites_of(folder: Path, programs: Path, work: Path) -> List[Suite]:
             lambda test: [new_test, "-k", "-p", test],
             work,
             new_libraries,
-            {
-                "/gpiod/chip/find_line_non_standard_names": "its names have blanks and brackets, which no statement can say"
-            },
         ),
         Suite(
             "libgpiod 2.2.1, C++",

@@ -69,15 +69,20 @@ static bool has_words(const char *line, const char *first, const char *second) {
     return count == (second ? 2 : 1) && strcmp(words[0], first) == 0 && (!second || strcmp(words[1], second) == 0);
 }
 
-/* Says `session 1` and `setup`. */
+/* Whether a line is the header of a session. */
+static bool is_header(const char *line) {
+    return has_words(line, "session", "1") || has_words(line, "session", "2") || has_words(line, "session", "3");
+}
+
+/* Says `session 3` and `setup`: programs name lines with any bytes. */
 static bool begin(struct broker *broker) {
-    machine_putf(&broker->machine, "session 1");
+    machine_putf(&broker->machine, "session 3");
     machine_putf(&broker->machine, "setup");
     for (int i = 0; i < 2; i++) {
         if (!machine_take(&broker->machine))
             return false;
         if (broker->machine.refused) {
-            report("the served program doesn't take `session 1`: is it gpioserved?");
+            report("the served program doesn't take `session 3`: is it gpioserved, and of this version?");
             return false;
         }
     }
@@ -117,7 +122,7 @@ static bool hand_in(struct broker *broker, const char *path, unsigned number, co
 static bool hand_in_all(struct broker *broker, const struct board *board) {
     char *line = NULL;
     size_t room = 0;
-    unsigned number = 0, heads = 0; /* of `session 1` and `setup`, how many stood there */
+    unsigned number = 0, heads = 0; /* of the header and `setup`, how many stood there */
     bool good = true;
     for (size_t at = 0, length; good && at < board->length; at += length + 1) {
         const char *end = memchr(board->text + at, '\n', board->length - at);
@@ -126,7 +131,7 @@ static bool hand_in_all(struct broker *broker, const struct board *board) {
         memcpy(line, board->text + at, length);
         line[length] = 0;
         number++;
-        if ((heads == 0 && has_words(line, "session", "1")) || (heads == 1 && has_words(line, "setup", NULL))) {
+        if ((heads == 0 && is_header(line)) || (heads == 1 && has_words(line, "setup", NULL))) {
             heads++;
             continue;
         }

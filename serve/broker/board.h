@@ -16,7 +16,7 @@ struct board {
  * False, and reported, where it can't be read. */
 bool board_read(struct board *board, const char *path);
 
-/* Begins the session, and hands in the statements of the board. One that begins with `session 1` and `setup` may be a
+/* Begins the session, and hands in the statements of the board. One that begins with a header and `setup` may be a
  * board too. False, and reported with file, line and column, where a line is refused or a statement is answered by an
  * error. */
 bool board_hand_in(struct broker *broker, const struct board *board);

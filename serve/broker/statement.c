@@ -3,6 +3,7 @@
 #include <inttypes.h>
 #include <stdio.h>
 #include <string.h>
+#include <strings.h>
 
 #include "files.h"
 #include "machine.h"
@@ -20,6 +21,20 @@ static bool names_file(const char *line) {
     return false;
 }
 
+/* Whether a word is a label or a value in pairs with a line end among its bytes: chips are listed line by line. */
+static bool has_line_end(struct word word) {
+    for (size_t at = 1; at + 1 < word.length && word.at[0] == '\\'; at += 2)
+        if (strncasecmp(word.at + at, "0a", 2) == 0)
+            return true;
+    return false;
+}
+
+static bool names_line_end(struct word first) {
+    static const char *const naming[] = {"aggregate", "probe", "write", NULL};
+    struct word second = words_after(first);
+    return words_is_one_of(first, naming) && (has_line_end(second) || has_line_end(words_after(second)));
+}
+
 static const char *fault_of(const char *line, size_t length, bool manual) {
     struct word first = words_first(line);
     if (length > MACHINE_LINE)
@@ -30,6 +45,8 @@ static const char *fault_of(const char *line, size_t length, bool manual) {
         return "refused: say events or changes\n";
     if (words_is(first, "clock") && !manual)
         return "refused: the clock is the system's; gpioserve --clock manual leaves it to gpiosay\n";
+    if (names_line_end(first))
+        return "refused: a label or a value has no line end under gpioserve\n";
     if (names_file(line) && !words_is(first, "poll"))
         return "refused: this file belongs to a program\n";
     return NULL;

@@ -7,6 +7,7 @@
 #include <stdio.h>
 #include <stdlib.h>
 #include <string.h>
+#include <sys/ioctl.h>
 #include <sys/stat.h>
 #include <unistd.h>
 
@@ -359,6 +360,76 @@ static void test_from_sys(void) {
     CHECK(chdir("/") == 0 && rmdir(CONFIG "/walk") == 0);
 }
 
+/* The name of a line of that test: between two `x`, 29 bytes that follow each other, but for the line end. */
+static void name_line(char name[32], unsigned line) {
+    char *next = name;
+    unsigned first = 1 + 29 * line;
+    *next++ = 'x';
+    for (unsigned byte = first; byte < first + 29 && byte < 256; byte++)
+        if (byte != '\n')
+            *next++ = (char)byte;
+    *next++ = 'x';
+    *next = 0;
+}
+
+static void write_names(void) {
+    char path[128], name[32], expected[64];
+    for (unsigned line = 0; line < 9; line++) {
+        snprintf(path, sizeof path, CONFIG "/names/bank/line%u", line);
+        CHECK(mkdir(path, 0755) == 0);
+        strcat(path, "/name");
+        name_line(name, line);
+        snprintf(expected, sizeof expected, "%s\n", name);
+        CHECK(write_value(path, name) == 0 && holds(path, expected));
+    }
+}
+
+/* The names as a program sees them that asks for lines by v2. */
+static void read_names(void) {
+    char number[32] = "", path[64], name[32];
+    CHECK(read_value(CONFIG "/names/bank/chip_name", number, sizeof number) == 0);
+    snprintf(path, sizeof path, "/dev/%.*s", (int)strcspn(number, "\n"), number);
+    int chip = open(path, O_RDWR | O_CLOEXEC);
+    struct gpiochip_info chip_info;
+    CHECK(ioctl(chip, GPIO_GET_CHIPINFO_IOCTL, &chip_info) == 0 && strcmp(chip_info.label, "a label [:-]") == 0);
+    for (unsigned line = 0; line < 9; line++) {
+        struct gpio_v2_line_info info = {.offset = line};
+        name_line(name, line);
+        CHECK(ioctl(chip, GPIO_V2_GET_LINEINFO_IOCTL, &info) == 0 && strcmp(info.name, name) == 0);
+    }
+    close(chip);
+}
+
+static void test_names_of_any_bytes(void) {
+    static const char longest[] = "a name of thirty-one bytes, so.";
+    test("labels and names have any bytes but 0 and line ends");
+    CHECK(mkdir(CONFIG "/names", 0755) == 0 && mkdir(CONFIG "/names/bank", 0755) == 0);
+    CHECK(write_value(CONFIG "/names/bank/num_lines", "9") == 0);
+    CHECK(write_value(CONFIG "/names/bank/label", "a label [:-]") == 0);
+    CHECK(holds(CONFIG "/names/bank/label", "a label [:-]\n"));
+    write_names();
+    CHECK(write_value(CONFIG "/names/live", "1") == 0);
+    read_names();
+    CHECK(write_value(CONFIG "/names/live", "0") == 0);
+    CHECK(write_value(CONFIG "/names/bank/line0/name", "two\nlines") == EINVAL);
+    CHECK(write_value(CONFIG "/names/bank/line0/name", "a name of thirty-two bytes, so ..") == EINVAL);
+    CHECK(sizeof longest == 32 && write_value(CONFIG "/names/bank/line0/name", longest) == 0);
+}
+
+/* The device of the test before, as the served program calls it. */
+static void test_names_said(void) {
+    char device[32] = "";
+    test("gpiosay says a name in pairs, and none with a line end");
+    CHECK(read_value(CONFIG "/names/dev_name", device, sizeof device) == 0);
+    device[strcspn(device, "\n")] = 0;
+    CHECK(say("write %s/node0/line1/name \\61206e616d65", device));
+    CHECK(holds(CONFIG "/names/bank/line1/name", "a name\n"));
+    CHECK(say("write %s/live \\31", device) && holds(CONFIG "/names/live", "1\n"));
+    CHECK(write_value(CONFIG "/names/bank/num_lines", "1000") == EBUSY);
+    CHECK(say("write %s/live \\30", device) && write_value(CONFIG "/names/bank/label", "as before") == 0);
+    CHECK(!say("write %s/node0/line1/name \\610a62", device) && !say("probe \\610A62 1"));
+}
+
 static int read_often(int line) {
     char path[128], expected[8];
     snprintf(path, sizeof path, "/sys/bus/gpio/devices/gpiochip0/sim_gpio%d/value", line);
@@ -389,5 +460,7 @@ void test_tree(void) {
     test_of_others();
     test_going();
     test_from_sys();
+    test_names_of_any_bytes();
+    test_names_said();
     test_crowd_of_readers();
 }

@@ -91,10 +91,11 @@ static void note_write(struct tree *tree, const struct machine_path *path, const
 }
 
 void tree_note_statement(struct tree *tree, const char *line) {
-    char verb[8], text[MOST_STATEMENT], value[32] = "";
+    char verb[8], text[MOST_STATEMENT], word[TEXTS_WORD] = "", value[TEXTS_VALUE];
     struct machine_path path;
-    if (strlen(line) >= MOST_STATEMENT || sscanf(line, "%7s %255s %31s", verb, text, value) < 2)
+    if (strlen(line) >= MOST_STATEMENT || sscanf(line, "%7s %255s %63s", verb, text, word) < 2)
         return;
+    texts_read_word(value, word);
     divide(&path, text);
     if (strcmp(verb, "mkdir") == 0)
         note_mkdir(tree, &path);

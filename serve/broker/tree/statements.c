@@ -92,11 +92,11 @@ int statements_say(struct broker *broker, const char *verb, const struct place *
 }
 
 int statements_write(struct broker *broker, const struct place *place, const char *value) {
-    char path[MOST_PATH], line[2 * MOST_PATH];
-    if (!texts_is_value(value))
+    char path[MOST_PATH], word[TEXTS_WORD], line[2 * MOST_PATH];
+    if (!texts_write_word(word, value))
         return EINVAL;
     write_path(path, place);
-    snprintf(line, sizeof line, "write %s %s", path, value);
+    snprintf(line, sizeof line, "write %s %s", path, word);
     return say_line(broker, line, "write", place->kind, NULL);
 }
 

@@ -10,7 +10,7 @@
 /* `mkdir`, `rmdir` or `read` of a place. `text`, where it isn't NULL, gets what the statement printed. */
 int statements_say(struct broker *broker, const char *verb, const struct place *place, char text[TREE_TEXT]);
 
-/* `write` of a value to a place; EINVAL where it is no value of a statement. */
+/* `write` of a value to a place; EINVAL where no word of a statement says it. */
 int statements_write(struct broker *broker, const struct place *place, const char *value);
 
 /* The chip of a bank whose device is live; NODE_NO_CHIP where the served program names none. It is asked once. */

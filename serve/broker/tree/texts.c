@@ -3,13 +3,14 @@
 #include <ctype.h>
 #include <errno.h>
 #include <limits.h>
+#include <stdio.h>
 #include <stdlib.h>
 #include <string.h>
 
 /* White space, as the kernel knows it in ASCII. */
 #define SPACE " \t\n\v\f\r"
-/* The longest value of a statement. */
-#define MOST_VALUE 31
+/* What a value has that stands in a statement as it is. */
+#define PLAIN "abcdefghijklmnopqrstuvwxyzABCDEFGHIJKLMNOPQRSTUVWXYZ0123456789_-."
 /* The most digits of a number in a name: it fits an unsigned. */
 #define MOST_DIGITS 9
 
@@ -73,7 +74,32 @@ char *texts_trim(char *text) {
     return text;
 }
 
-bool texts_is_value(const char *text) {
-    size_t length = strspn(text, "abcdefghijklmnopqrstuvwxyzABCDEFGHIJKLMNOPQRSTUVWXYZ0123456789_-.");
-    return length >= 1 && length <= MOST_VALUE && text[length] == 0;
+bool texts_write_word(char word[TEXTS_WORD], const char *value) {
+    size_t length = strlen(value);
+    if (length < 1 || length >= TEXTS_VALUE || strchr(value, '\n'))
+        return false;
+    if (value[strspn(value, PLAIN)] == 0) {
+        memcpy(word, value, length + 1);
+        return true;
+    }
+    word[0] = '\\';
+    for (size_t i = 0; i < length; i++)
+        snprintf(word + 1 + 2 * i, 3, "%02x", (unsigned char)value[i]);
+    return true;
+}
+
+void texts_read_word(char value[TEXTS_VALUE], const char *word) {
+    const char *digits = texts_after(word, "\\");
+    size_t count = 0;
+    unsigned byte = 0;
+    while (
+        digits && count < TEXTS_VALUE - 1 && isxdigit((unsigned char)digits[0]) && isxdigit((unsigned char)digits[1])) {
+        sscanf(digits, "%2x", &byte);
+        value[count++] = (char)byte;
+        digits += 2;
+    }
+    if (count > 0)
+        value[count] = 0;
+    else
+        snprintf(value, TEXTS_VALUE, "%s", word);
 }

@@ -23,7 +23,17 @@ bool texts_equal_line(const char *text, const char *word);
 /* Takes white space off both ends, in place, as the kernel's strstrip. The text begins at what is returned. */
 char *texts_trim(char *text);
 
-/* Whether a text is a value of a statement: 1 to 31 letters, digits, `_`, `-` and `.`. */
-bool texts_is_value(const char *text);
+/* The longest word of a value in a statement, with its zero: `\` and 31 pairs of hexadecimal digits. */
+#define TEXTS_WORD 64
+/* The longest value, with its zero. */
+#define TEXTS_VALUE 32
+
+/* Writes the word of a statement that says a value of 1 to 31 bytes: the value as it is where it has letters, digits,
+ * `_`, `-` and `.` alone, else `\` and its bytes in pairs. False where it is no such value, or has a line end, since
+ * the lists of chips are read line by line. */
+bool texts_write_word(char word[TEXTS_WORD], const char *value);
+
+/* Reads the value that such a word says. A word that says none is left as it is, as far as it fits. */
+void texts_read_word(char value[TEXTS_VALUE], const char *word);
 
 #endif
