@@ -37,7 +37,7 @@ use Rattle.gl_talk.specs.Open.{File, Names, file_of, has_tool, held_of_name, is_
 use Rattle.gl_talk.specs.Paths.{line_file, live_device}
 use Rattle.gl_talk.specs.Talk.{acts, closes_all, does, does_by, keeps_monitor, keeps_set, quits, replied_by, runs, says, slot_behind, starts, starts_said, starts_tool, steps, stops}
 use Rattle.gl_talk.specs.ToolWords.{kind_of, word_texts}
-use Rattle.gl_talk.specs.Words.{behind_two, live_word, pull_word, turns_word}
+use Rattle.gl_talk.specs.Words.{behind_two, label_word, live_word, pull_word, turns_word}
 
 -- what a statement that is no tool's does
 abbrev IsPlainAction : Action → Type 0
