@@ -216,11 +216,6 @@ def shortread(d: Difference) -> bool:
     return d.verb == "events" and d.made_as("open") and int(d.words[2]) < 288 and d.linux[d.at] in ("EAGAIN", "EINVAL")
 
 
-def memory(d: Difference) -> bool:
-    """The structure goes past the end of memory, which is looked at before the file."""
-    return d.words[0].startswith("ioctl") and d.here[d.at] == "EFAULT" and d.linux[d.at] in ("EINVAL", "ENODEV")
-
-
 def label(d: Difference) -> bool:
     """The label of a bank that was given none."""
     return d.verb in ("ioctl GET_CHIPINFO", "ioctl1 CHIPINFO") and d.errors("ok", "ok")
@@ -236,7 +231,7 @@ def tree(d: Difference) -> bool:
 RULES: Dict[str, Callable[[Difference], bool]] = {
     rule.__name__: rule
     for rule in (
-        strict, memory, label, v1config, v1fifo, v1poll, v1perm, ring, labels, shortread, realtime, v1edges, chipdir, keep, biasedge, period,
+        strict, label, v1config, v1fifo, v1poll, v1perm, ring, labels, shortread, realtime, v1edges, chipdir, keep, biasedge, period,
         partial, tree,
     )
 }  # fmt: skip

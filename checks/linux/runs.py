@@ -18,7 +18,7 @@ import sys
 import tempfile
 from concurrent.futures import ThreadPoolExecutor
 from pathlib import Path
-from typing import Dict, List, Optional, Tuple
+from typing import Dict, List, Optional, Set, Tuple
 
 sys.dont_write_bytecode = True
 TOP = Path(__file__).resolve().parent.parent.parent
@@ -142,11 +142,17 @@ def expected_of(way: str, linux: List[str]) -> List[str]:
     return [NOTIFIED.get(line, line) for line in linux] if way == "notify" else linux
 
 
+def results_of(one: ActionList, outcomes: List[str]) -> Set[Tuple[str, str]]:
+    """Each action of a list with threads, with each result that it has in one of the outcomes."""
+    whole = [outcome[len("outcome ") :].split("; ") for outcome in outcomes]
+    return {pair for results in whole for pair in zip(one.lines, results)}
+
+
 def differs(one: ActionList, linux: List[str], here: Optional[List[str]]) -> bool:
-    """Whether results are others than Linux's; of a list that is played several times, whether an outcome is new."""
+    """Whether results are others than Linux's; in a list with threads, whether an action has one that it never had there."""
     if here is None:
         return True
-    return not set(here) <= set(linux) if one.times else here != linux
+    return not results_of(one, here) <= results_of(one, linux) if one.times else here != linux
 
 
 def described(one: ActionList, linux: List[str], here: Optional[List[str]]) -> str:
@@ -154,7 +160,7 @@ def described(one: ActionList, linux: List[str], here: Optional[List[str]]) -> s
     if here is None:
         return "it was not played"
     if one.times:
-        return f"outcomes that Linux has not: {sorted(set(here) - set(linux))}"
+        return f"results that Linux never gave: {sorted(results_of(one, here) - results_of(one, linux))}"
     found = first_difference(one, linux, here)
     if not found:
         return f"{len(linux)} results of Linux, {len(here)} here"

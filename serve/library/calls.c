@@ -38,6 +38,17 @@ static int give_number(int file, const struct answer *answer, size_t length, voi
     return 0;
 }
 
+/* A command whose structure cannot be read: EFAULT, unless the file refuses it before. 1: the file turned out to be
+ * another one. */
+static int command_unread(const struct known *known, uint32_t number) {
+    struct question question = {.op = WIRE_IOCTL, .command = number, .ino = known->ino};
+    struct answer answer;
+    int error = ask(&question, NULL, &answer, NULL, 0, NULL, true);
+    if (error == 0 && answer.found < 0)
+        return 1;
+    return fail(error ? error : answer.error ? answer.error : EFAULT);
+}
+
 /* A command on a file of the broker's. 1: the file turned out to be another one. */
 static int command(const struct known *known, uint32_t number, void *structure) {
     struct question question = {.op = WIRE_IOCTL, .command = number, .ino = known->ino};
@@ -46,6 +57,8 @@ static int command(const struct known *known, uint32_t number, void *structure) 
     size_t length = uapi_length(number);
     question.length = (uint32_t)length;
     int error = ask(&question, structure, &answer, structure, length, &made, true);
+    if (error == EFAULT && !memory_is_readable(structure, length))
+        return command_unread(known, number);
     if (error)
         return fail(error);
     if (answer.found < 0)

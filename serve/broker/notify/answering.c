@@ -79,12 +79,9 @@ static bool command(struct broker *broker, struct call *call) {
     }
     struct question question = {
         .op = WIRE_IOCTL, .command = number, .ino = file->ino, .length = (uint32_t)call->length};
-    if (files_is_gone(file))
+    /* (without its bytes a command is EFAULT, unless the file refuses it before) */
+    if (files_is_gone(file) || !call->is_read)
         question.length = 0;
-    if (question.length > 0 && !call->is_read) {
-        call_fail(call, EFAULT);
-        return true;
-    }
     memcpy(broker->packet.data, call->bytes, question.length);
     return !call_is_waiting(call) || ask_for(broker, call, &question);
 }
