@@ -34,8 +34,6 @@ PAUSE = 1000  # microseconds behind each `close` and `put`
 AGAIN = 3  # how often a list is played again that may have been late
 AGAIN_ASLEEP = 10  # one with debounce periods
 TIMES = 20  # how often a list with several outcomes is played
-# what the kernel's notification gives in the place of the library's (docs/SERVING.md)
-NOTIFIED = {"ok ERR HUP": "ok HUP", "ok IN ERR HUP": "ok IN HUP"}
 
 REFUSED = (
     ("mkdir d", "1:1: a file of lists begins with list NAME"),
@@ -138,8 +136,15 @@ def play(player: Player, way: str, lists: List[ActionList], room: Path) -> Tuple
 
 
 def expected_of(way: str, linux: List[str]) -> List[str]:
-    """Linux's results, as this way gives them."""
-    return [NOTIFIED.get(line, line) for line in linux] if way == "notify" else linux
+    """Linux's results, as this way gives them: by notification `poll` has no ERR (docs/SERVING.md)."""
+    return [line.replace(" ERR HUP", " HUP") for line in linux] if way == "notify" else linux
+
+
+def notified(one: ActionList, outcome: str) -> str:
+    """An outcome by notification, where a read may give nothing in the place of ENODEV (docs/SERVING.md)."""
+    pairs = zip(one.lines, outcome[len("outcome ") :].split("; "))
+    results = ["ENODEV" if (line.split()[0], result) == ("events", "ok -") else result for line, result in pairs]
+    return "outcome " + "; ".join(results)
 
 
 def results_of(one: ActionList, outcomes: List[str]) -> Set[Tuple[str, str]]:
@@ -193,7 +198,7 @@ class Comparison:
         for _ in range(AGAIN_ASLEEP if is_asleep(one) else AGAIN):
             if not differs(one, linux, here) or (cause_found(one, linux, here) and not is_late(one, linux, here)):
                 break
-            here = play(self.player, self.way, [one], self.room)[0].get(one.name, here)
+            here = self.play_again(one) or here
         if not differs(one, linux, here):
             self.counts.take(one.name)
             return
@@ -205,6 +210,11 @@ class Comparison:
         else:
             self.counts.take(f"{one.name}, by {self.way}", "Linux answers otherwise, and no rule of causes.py says why")
 
+    def play_again(self, one: ActionList) -> Optional[List[str]]:
+        """The results of one more run of a list."""
+        here = play(self.player, self.way, [one], self.room)[0].get(one.name)
+        return [notified(one, outcome) for outcome in here] if here and one.times and self.way == "notify" else here
+
     def compare_file(self, results: Path) -> None:
         """Plays the lists of which a file has Linux's results."""
         path = results.with_suffix(".lists")
@@ -215,7 +225,10 @@ class Comparison:
             self.counts.take(f"{path.name}, by {self.way}", fault)
         for one in lists:
             if one.name in wanted:
-                self.compare_list(one, expected_of(self.way, wanted[one.name]), found.get(one.name))
+                here = found.get(one.name)
+                if here and one.times and self.way == "notify":
+                    here = [notified(one, outcome) for outcome in here]
+                self.compare_list(one, expected_of(self.way, wanted[one.name]), here)
 
     def compare_folder(self, folder: Path) -> None:
         """Plays all lists of a version, and prints how many there are of each kind."""
