@@ -154,6 +154,7 @@ class Maker:
         self.go_live(name)
 
     def bank(self, path: str) -> None:
+        """A bank, whose lines have names and hogs here and there."""
         count = self.random.choice((1, 2, 4, 4, 8, 8, 16, 64)) if not self.chance(0.02) else 512
         self.say(f"mkdir {path}")
         if count > 1 or self.chance(0.5):
@@ -617,6 +618,7 @@ class Maker:
     # the whole
 
     def make(self) -> List[str]:
+        """The lines of the whole list."""
         self.device("d")
         if self.chance(0.25):
             self.device("e")

@@ -198,7 +198,7 @@ class Comparison:
         for _ in range(AGAIN_ASLEEP if is_asleep(one) else AGAIN):
             if not differs(one, linux, here) or (cause_found(one, linux, here) and not is_late(one, linux, here)):
                 break
-            here = self.play_again(one) or here
+            here = self.heard(one, play(self.player, self.way, [one], self.room)[0]) or here
         if not differs(one, linux, here):
             self.counts.take(one.name)
             return
@@ -210,10 +210,10 @@ class Comparison:
         else:
             self.counts.take(f"{one.name}, by {self.way}", "Linux answers otherwise, and no rule of causes.py says why")
 
-    def play_again(self, one: ActionList) -> Optional[List[str]]:
-        """The results of one more run of a list."""
-        here = play(self.player, self.way, [one], self.room)[0].get(one.name)
-        return [notified(one, outcome) for outcome in here] if here and one.times and self.way == "notify" else here
+    def heard(self, one: ActionList, found: Dict[str, List[str]]) -> Optional[List[str]]:
+        """The results of a list, as Linux would spell them; None where it was not played."""
+        here = found.get(one.name)
+        return [notified(one, line) for line in here] if here and one.times and self.way == "notify" else here
 
     def compare_file(self, results: Path) -> None:
         """Plays the lists of which a file has Linux's results."""
@@ -225,10 +225,7 @@ class Comparison:
             self.counts.take(f"{path.name}, by {self.way}", fault)
         for one in lists:
             if one.name in wanted:
-                here = found.get(one.name)
-                if here and one.times and self.way == "notify":
-                    here = [notified(one, outcome) for outcome in here]
-                self.compare_list(one, expected_of(self.way, wanted[one.name]), here)
+                self.compare_list(one, expected_of(self.way, wanted[one.name]), self.heard(one, found))
 
     def compare_folder(self, folder: Path) -> None:
         """Plays all lists of a version, and prints how many there are of each kind."""

@@ -53,7 +53,7 @@ static void hide_names(const struct world *world, struct gpiochip_info *info) {
             memset(info->name, 0, sizeof info->name);
             memcpy(info->name, "gpiochip", 8);
         }
-        if (length && strncmp(info->label, chip->device, length) == 0 && strchr("-:", info->label[length]) &&
+        if (length > 8 && strncmp(info->label, chip->device, length) == 0 && strchr("-:", info->label[length]) &&
             info->label[length]) {
             memmove(info->label + 8, info->label + length, sizeof info->label - length);
             memset(info->label + sizeof info->label - (length - 8), 0, length - 8);
