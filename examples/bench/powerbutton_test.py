@@ -101,7 +101,7 @@ class PowerButtonTest(unittest.TestCase):
     def test_the_transcript_is_a_session(self) -> None:
         bench = self.pressed_once()
         lines = bench.transcript.read_text().splitlines()
-        self.assertEqual(lines[:2], ["session 1", "setup"])
+        self.assertEqual(lines[:2], ["session 3", "setup"])
         for line in (HERE / "board").read_text().splitlines():
             self.assertIn(line, lines)
         self.assert_in_this_order(

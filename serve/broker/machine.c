@@ -32,6 +32,7 @@ bool machine_start(
     memset(machine, 0, sizeof *machine);
     machine->record = record;
     machine->patience = patience;
+    machine->heeded = patience->signals->received;
     if (!process_pipes(in, out)) {
         report("no pipe for the served program: %s", strerror(errno));
         return false;
@@ -102,7 +103,7 @@ static bool read_some(struct machine *machine) {
  * or the time has. */
 static bool wait_for(struct machine *machine, bool sends) {
     const struct pollfd files[] = {{.fd = machine->from, .events = POLLIN}, {.fd = machine->to, .events = POLLOUT}};
-    machine->hung = patience_wait(machine->patience, files, sends ? 2 : 1);
+    machine->hung = patience_wait(machine->patience, files, sends ? 2 : 1, &machine->heeded);
     return machine->hung == PATIENCE_READY || end_of(machine);
 }
 

@@ -36,6 +36,7 @@ struct machine {
     bool ended;             /* nobody answers any more */
     bool garbled;           /* what came last is no answer */
     enum patience_end hung; /* why its answer was no longer waited for; else PATIENCE_READY */
+    unsigned heeded;        /* signals that had come when it was last seen to go on */
 };
 
 /* Starts the program with these words. What is waited for it is bounded by `patience`, which stays the caller's, as

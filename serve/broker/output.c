@@ -17,9 +17,9 @@ static void give_up(struct output *output, int error) {
 }
 
 /* Waits until there is room for bytes again. 0, or the error's number. */
-static int wait_for_room(const struct output *output) {
+static int wait_for_room(struct output *output) {
     const struct pollfd room = {.fd = output->number, .events = POLLOUT};
-    return patience_wait(output->patience, &room, 1) == PATIENCE_READY ? 0 : ETIMEDOUT;
+    return patience_wait(output->patience, &room, 1, &output->heeded) == PATIENCE_READY ? 0 : ETIMEDOUT;
 }
 
 /* Writes some of the bytes, once there is room for them. How many; or 0, when nothing is written any more. */
@@ -27,8 +27,10 @@ static size_t write_some(struct output *output, const char *bytes, size_t length
     while (output->error == 0) {
         ssize_t written = write(output->number, bytes, length);
         int error = written < 0 ? errno : ENOSPC;
-        if (written > 0)
+        if (written > 0) {
+            output->heeded = output->patience->signals->received;
             return (size_t)written;
+        }
         if (error == EAGAIN)
             error = wait_for_room(output);
         if (error != 0 && error != EINTR)

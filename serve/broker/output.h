@@ -12,7 +12,8 @@ struct output {
     const char *path;
     const struct patience *patience;
     int number;
-    int error; /* why nothing is written any more, or 0 */
+    int error;       /* why nothing is written any more, or 0 */
+    unsigned heeded; /* signals that had come when something was last written */
 };
 
 /* Opens the file at that path, emptied; NULL names none. The path and `patience` stay the caller's, and the output is

@@ -25,23 +25,32 @@ static bool look(const struct patience *patience, struct pollfd *shown, size_t c
     return ready;
 }
 
-enum patience_end patience_wait(const struct patience *patience, const struct pollfd *files, size_t count) {
+/* The limit, in nanoseconds, of a wait that has taken so long and is interrupted. */
+static uint64_t shortened(uint64_t limit, uint64_t waited) {
+    return limit - waited > LEFT * CLOCK_SECOND ? waited + LEFT * CLOCK_SECOND : limit;
+}
+
+enum patience_end patience_wait(
+    const struct patience *patience, const struct pollfd *files, size_t count, unsigned *heeded) {
     struct signals *signals = patience->signals;
     struct pollfd shown[PATIENCE_FILES + 1];
     uint64_t took, waited = 0, limit = patience->limit ? patience->limit * CLOCK_SECOND : UINT64_MAX;
     unsigned received = signals->received;
-    bool ended = signals->ended, interrupted = false;
+    bool ended = signals->ended, interrupted = received != *heeded;
     memcpy(shown, files, count * sizeof *shown);
+    if (interrupted)
+        limit = shortened(limit, waited);
     while (waited < limit) {
-        if (look(patience, shown, count, &took))
+        if (look(patience, shown, count, &took)) {
+            *heeded = signals->received;
             return PATIENCE_READY;
+        }
         waited += took;
         signals_receive(signals);
         if (interrupted || (signals->received == received && signals->ended == ended))
             continue;
         interrupted = true;
-        if (limit - waited > LEFT * CLOCK_SECOND)
-            limit = waited + LEFT * CLOCK_SECOND;
+        limit = shortened(limit, waited);
     }
     return interrupted ? PATIENCE_INTERRUPTED : PATIENCE_LIMIT;
 }

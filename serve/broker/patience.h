@@ -21,7 +21,10 @@ enum patience_end {
     PATIENCE_INTERRUPTED /* a signal or the command's end came, and none has within some seconds after that */
 };
 
-/* Waits until one of the files shows something, as poll does. Signals are handed on meanwhile. */
-enum patience_end patience_wait(const struct patience *patience, const struct pollfd *files, size_t count);
+/* Waits until one of the files shows something, as poll does. Signals are handed on meanwhile. `heeded` is how many
+ * signals had come when these files last showed something: one that came since then interrupts this wait too, since the
+ * command may wait for its end. */
+enum patience_end patience_wait(
+    const struct patience *patience, const struct pollfd *files, size_t count, unsigned *heeded);
 
 #endif

@@ -70,10 +70,11 @@ static void hand_on(const struct signals *signals, const struct signalfd_siginfo
 void signals_receive(struct signals *signals) {
     struct signalfd_siginfo signal;
     while (read(signals->number, &signal, sizeof signal) == (ssize_t)sizeof signal) {
-        if (signal.ssi_signo == SIGCHLD) {
-            reap(signals);
+        /* (a signal with a lower number is shown before SIGCHLD, however late it came: to a command that has ended it
+         * would be lost) */
+        reap(signals);
+        if (signal.ssi_signo == SIGCHLD)
             continue;
-        }
         signals->received++;
         signals->last = (int)signal.ssi_signo;
         hand_on(signals, &signal);

@@ -25,7 +25,7 @@ PAGE = os.sysconf("SC_PAGE_SIZE")
 
 # A command that asks the chip's name again and again. SIGTERM ends it with status 5, once it has printed so.
 ASKS = r"""
-import fcntl, os, signal, sys
+import fcntl, os, signal, sys, time
 def terminated(number, frame):
     os.write(1, b"terminated\n")
     os._exit(5)
@@ -37,12 +37,24 @@ while True:
         fcntl.ioctl(chip, 0x8044B401, bytes(68))
     except OSError as error:
         os.write(1, b"error %d\n" % error.errno)
-        signal.pause()
+        while True:
+            time.sleep(0.01)
+"""
+
+# A command that makes the first file named when SIGTERM comes, and asks the chip's name once the second one is there.
+ASKS_LATE = r"""
+import fcntl, os, signal, sys, time
+signal.signal(signal.SIGTERM, lambda number, frame: open(sys.argv[1], "w").close())
+chip = os.open("/dev/gpiochip0", os.O_RDWR)
+os.write(1, b"begun\n")
+while not os.path.exists(sys.argv[2]):
+    time.sleep(0.01)
+fcntl.ioctl(chip, 0x8044B401, bytes(68))
 """
 
 # What a command in Python needs to request lines and to say statements: `edges LINE`, `watch LINE`, `say TEXT`.
 ASKING = r"""
-import fcntl, os, signal, socket, struct, sys, time
+import fcntl, os, select, signal, socket, struct, sys, time
 connection = socket.socket(socket.AF_UNIX, socket.SOCK_SEQPACKET)
 connection.connect(os.environ["GPIOSERVE"] + "/socket")
 chip = os.open("/dev/gpiochip0", os.O_RDWR)
@@ -186,6 +198,18 @@ class HangingTest(BrokerTest):
         self.assertIn("the served program hangs: it did not answer when a signal came", self.said())
         self.assertIn("terminated\n", self.said())
 
+    def test_sigterm_that_came_before_a_call_ends_the_wait_for_its_answer(self) -> None:
+        came, stopped = self.folder / "came", self.folder / "stopped"
+        command = [sys.executable, "-c", ASKS_LATE, str(came), str(stopped)]
+        broker = self.start(*self.stoppable(), "--answer-timeout", "0", command=command)
+        self.begun()
+        broker.terminate()
+        self.assertTrue(wait_until(came.exists))
+        os.kill(self.number(), signal.SIGSTOP)
+        stopped.touch()
+        self.assertEqual(self.status(broker), 124)
+        self.assertIn("the served program hangs: it did not answer when a signal came", self.said())
+
     def test_a_served_program_that_was_stopped_for_a_while_goes_on(self) -> None:
         broker = self.start(*self.stoppable(), "--answer-timeout", "100")
         self.begun()
@@ -302,6 +326,7 @@ def say_end(how):
     with open(sys.argv[1], "a") as end:
         end.write(how + "\\n")
     os._exit(0)
+command = os.getpid()
 if os.fork() != 0:
     os._exit(3)
 os.setsid()
@@ -313,10 +338,17 @@ for number in range(3, 256):
     except OSError:
         pass
 signal.signal(signal.SIGTERM, lambda number, frame: say_end("terminated"))
-time.sleep(0.3)
+# (a signal that comes between Python's last look and a read would be seen after the read alone)
+woken, wakes = os.pipe()
+os.set_blocking(wakes, False)
+signal.set_wakeup_fd(wakes)
+while os.path.exists(f"/proc/{command}"):
+    time.sleep(0.01)
 try:
     chip = os.open("/dev/gpiochip0", os.O_RDWR)
-    os.read(edges(3), 48)
+    file = edges(3)
+    select.select([file, woken], [], [])
+    os.read(file, 48)
     say_end("an event")
 except OSError as error:
     while sys.argv[2] == "stays":
