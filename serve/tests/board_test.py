@@ -27,7 +27,7 @@ from gpioserve.board import OUTPUT, Line  # noqa: E402
 from gpioserve.errors import MachineError  # noqa: E402
 from gpioserve.looks import LOOKS, Meaning  # noqa: E402
 
-# Seconds that a screen may take to come: a machine may be busy.
+# Seconds that a screen may take to change: a machine may be busy.
 LIMIT = 240
 CHANGES = 10_000
 LARGE = "\n".join(f"probe chip{number} 512" for number in range(64))

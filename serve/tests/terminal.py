@@ -12,7 +12,7 @@ class Terminal:
     """A terminal in which a command of the shell runs; its status is printed at its end."""
 
     def __init__(self, command: str, columns: int, rows: int, limit: float) -> None:
-        """Starts it. `limit` has the seconds that a screen may take to come."""
+        """Starts it. `limit` has the seconds that a screen may take to change."""
         self.limit = limit
         self._folder = tempfile.TemporaryDirectory()
         self._tmux("new-session", "-d", "-x", str(columns), "-y", str(rows), f"{command}; echo status $?; sleep 3600")
@@ -31,14 +31,16 @@ class Terminal:
         return "\n".join(row.rstrip() for row in self._tmux("capture-pane", "-p", *looks).split("\n"))
 
     def until(self, pattern: str) -> str:
-        """The first screen that has a match."""
-        end = time.monotonic() + self.limit
+        """The first screen that has a match. The limit begins anew with each change of the screen."""
+        before, end = "", 0.0
         while True:
             screen = self.screen()
             if re.search(pattern, screen, re.M):
                 return screen
+            if screen != before:
+                before, end = screen, time.monotonic() + self.limit
             if time.monotonic() > end:
-                raise AssertionError(f"after {self.limit} s there is no {pattern!r} in\n{screen}")
+                raise AssertionError(f"for {self.limit} s there is no {pattern!r} in\n{screen}")
             time.sleep(0.02)
 
     def keys(self, *keys: str) -> None:
