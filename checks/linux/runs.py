@@ -27,7 +27,7 @@ sys.path.insert(0, str(LINUX))
 from causes import cause_of, first_difference  # noqa: E402
 from lists import WAYS, ActionList, Player, build_probe, read_lists, read_results  # noqa: E402
 
-SECONDS = 100  # for one run of the probe
+SECONDS = 300  # for one run of the probe, however busy the machine is
 PIECE = 60  # lists that one run plays
 PIECE_ASLEEP = 10  # of lists that sleep: these runs go on side by side
 PAUSE = 1000  # microseconds behind each `close` and `put`
